@@ -103,12 +103,11 @@ among_last old new x y e is n a = ⊎_elim (λ p. inl p) (λ q. inr (sym (only_a
 
 -- ---- different names among others are no more than these
 
-pub without : Text → List Text → List Text
+abbrev pub without : Text → List Text → List Text
 without x [] = []
 without x (y ∷ ys) = cond (bytes_eq y x) ys (y ∷ without x ys)
 
 one_less : (x : Text) (ys : List Text) → among x ys ≡ true → length ys ≡ suc (length (without x ys))
-unfolding without
 one_less x [] a = absurd (cc)
 one_less x (y ∷ ys) a = by (bytes_eq y x) refl (one_less x ys)
   where
@@ -117,7 +116,6 @@ one_less x (y ∷ ys) a = by (bytes_eq y x) refl (one_less x ys)
     by false e r = ap suc (r (sym (ap (λ b. b || among x ys) e) ∙ a) ∙ sym (ap (λ b. length (cond b ys (y ∷ without x ys))) e))
 
 pub still_among : (x z : Text) (ys : List Text) → bytes_eq x z ≡ false → among z ys ≡ true → among z (without x ys) ≡ true
-unfolding without
 still_among x z [] n a = absurd (cc)
 still_among x z (y ∷ ys) n a = by (bytes_eq y x) refl (bytes_eq y z) refl (still_among x z ys n)
   where

@@ -18,7 +18,7 @@ use Rattle.jt_chains.specs.Rules as rules
 use Rattle.jt_chains.specs.Rules.{Asks, Reaches, here, InSomeChain, is_whole, way, BadName, ExtendsCycle, ChainTooLong, DoubleBlock, RequiredNotGiven, NoSuper, IncludeCycle, MacroTwice, NoMacro, NotALibrary}
 use Rattle.jt_inherit.proofs.Among.{reflexive, or_true, or_false, both_false, among_front, among_behind}
 use Rattle.jt_inherit.proofs.Growing.{Carries, carries_up, front_carried, up_more, up_some, flat-append, on_way, on_first, on_libraries, way_more, home_more, included_more, reaches_more, reaches_next, asked_more}
-use Rattle.jt_inherit.proofs.Imported.{all_named, own_named}
+use Rattle.jt_inherit.proofs.Imported.{all_imported, own_named}
 use Rattle.jt_inherit.proofs.OnWay.{and_true}
 
 -- ---- tests of the first elements
@@ -147,11 +147,11 @@ repeated_within (skip {y} {xs} {ys} r) h = or_true (among y ys) (repeated ys) (r
 
 names_none : (xs : List (Text × Text)) → names_from [] xs ≡ []
 names_none [] = refl
-names_none (x ∷ xs) = ap (λ o. (if is_some o then x.1 ∷ [] else []) ++ names_from [] xs) (no_macro (is_private x.0)) ∙ names_none xs
+names_none (x ∷ xs) = ap (λ o. (if is_some o then x.1 ∷ [] else []) ++ names_from [] xs) (no_macro (is_private x.0) None) ∙ names_none xs
   where
-    no_macro : (b : Bool) → (if b then None else None) ≡ None
-    no_macro true = refl
-    no_macro false = refl
+    no_macro : (b : Bool) (o : Option MacroBody) → (if b then o else o) ≡ o
+    no_macro true o = refl
+    no_macro false o = refl
 
 module _ (s r : Sources) where
   in_from : (n : Text) (xs : List (Text × Text)) → ((b : Body) → s n ≡ Some b → r n ≡ Some b) → Within (names_from (macros s (a_library n)) xs) (names_from (macros r (a_library n)) xs)
@@ -287,7 +287,7 @@ module _ (s r : Sources) (e : Bool) (entry : Home) (g : (n : Text) (b : Body) �
       by : (b : Bool) → repeated (way s e (a_chain h)) ≡ b → (c : Bool) → (length (way s e (a_chain h)) == 65) ≡ c → ExtendsCycle r e entry ⊎ ChainTooLong r e entry
       by true q c f =
           let more = way_more s r e entry g (a_chain h) p in
-          inl (a_chain h, p, (h, refl, (65, ap repeated more.1 ∙ repeated_front (way s e (a_chain h)) more.0 q)))
+          inl (a_chain h, p, (h, refl, 65, ap repeated more.1 ∙ repeated_front (way s e (a_chain h)) more.0 q))
       by false q true f = inr (inl (a_chain h, p, long (a_chain h) p (and_true (length (way s e (a_chain h)) == 65) (not (repeated (way s e (a_chain h)))) f (ap not q))))
       by false q false f =
           let no : true ≡ false = sym (first (below (length (way s e (a_chain h))) (up_len s 65 (Some h)) f)) ∙ q in
@@ -296,7 +296,7 @@ module _ (s r : Sources) (e : Bool) (entry : Home) (g : (n : Text) (b : Body) �
   pub extends_cycle : ExtendsCycle s e entry → ExtendsCycle r e entry ⊎ ChainTooLong r e entry
   extends_cycle x =
       let y = x.2 in
-      cycle y.0 y.2.0 (subst (Reaches r e entry) y.1 (there x.1)) y.2.1
+      cycle y.0 y.2 (subst (Reaches r e entry) y.1 (there x.1)) y.3
 
   pub too_long : ChainTooLong s e entry → ChainTooLong r e entry
   too_long x = ⊎_elim (λ y. inl (y.0, there y.1, long y.0 (there y.1) y.2)) (λ y. inr (y.0, y.1, y.2, λ n a. there (y.3 n a))) x
@@ -361,8 +361,8 @@ module _ (s r : Sources) (e : Bool) (entry : Home) (g : (n : Text) (b : Body) �
       by (a_chain n) q t =
           let ts = templates s (a_chain n) in
           let us = templates r (a_chain n) in
-          subst (λ l. Within l (map (λ x. x.0) (imports r (a_chain n)))) (sym (all_named s ts))
-          (subst (Within (flat_map (λ (u : Template). imported_names s u.body) ts)) (sym (all_named r us ∙ ap (flat_map (λ (u : Template). imported_names r u.body)) t))
+          subst (λ l. Within l (map (λ x. x.0) (imports r (a_chain n)))) (sym (all_imported s ts))
+          (subst (Within (flat_map (λ (u : Template). imported_names s u.body) ts)) (sym (all_imported r us ∙ ap (flat_map (λ (u : Template). imported_names r u.body)) t))
           (all_imports s r ts (λ m a. on_libraries s r e entry g (a_chain n) q m (ap (λ vs. among m (flat_map (λ (u : Template). libraries_in u.body) vs)) t ∙ a))))
 
   pub macro_twice : MacroTwice s e entry → MacroTwice r e entry

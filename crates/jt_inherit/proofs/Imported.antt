@@ -197,11 +197,11 @@ imports_named s (trees.stmt (trees.include line n i c) rest) = imports_named s r
 imports_named s (trees.stmt (trees.extends line x) rest) = imports_named s rest
 imports_named s (trees.stmt (trees.block line x scoped required body) rest) = imports_named s rest
 
-pub all_named : (s : Sources) (ts : List Template) → map (λ g. g.0) (flat_map (λ t. imports_in s t.body) ts) ≡ flat_map (λ t. imported_names s t.body) ts
-all_named s [] = refl
-all_named s (t ∷ ts) =
+pub all_imported : (s : Sources) (ts : List Template) → map (λ g. g.0) (flat_map (λ t. imports_in s t.body) ts) ≡ flat_map (λ t. imported_names s t.body) ts
+all_imported s [] = refl
+all_imported s (t ∷ ts) =
     map-append (λ (g : Text × Given). g.0) (imports_in s t.body) (flat_map (λ (u : Template). imports_in s u.body) ts)
-    ∙ ap (λ l. l ++ map (λ (g : Text × Given). g.0) (flat_map (λ (u : Template). imports_in s u.body) ts)) (imports_named s t.body) ∙ ap (λ l. imported_names s t.body ++ l) (all_named s ts)
+    ∙ ap (λ l. l ++ map (λ (g : Text × Given). g.0) (flat_map (λ (u : Template). imports_in s u.body) ts)) (imports_named s t.body) ∙ ap (λ l. imported_names s t.body ++ l) (all_imported s ts)
 
 pub own_named : (h : Home) (ms : List MacroBody) → map (λ g. g.0) (own h ms) ≡ map (λ m. m.name) ms
 own_named h [] = refl

@@ -262,7 +262,7 @@ module _ (given : Given) (options : Options) (root : Text) (ts : List Template) 
         templates = ts;
         read = known.read;
         only = known.only;
-        holds = (a_chain h, r, (h, refl, (length us + 1, ap repeated up ∙ comes_again n (names us) there)));
+        holds = (a_chain h, r, (h, refl, length us + 1, ap repeated up ∙ comes_again n (names us) there));
       }
 
   pub long_breaks : (is : List ℕ) (n : Text) → IsWay ts (a_chain h) is (Some n) → length is ≡ 64 → among n (names (templates_at ts is)) ≡ false → Breaks error.ChainTooLong given root options
@@ -310,7 +310,7 @@ pub on_way : (ps qs : List Page) (is js : List ℕ) (n m : Text) (b : Bool) → 
 on_way ps qs is js n m b p q r e =
     e ∙ ap (λ (z : List Page). among m (names (templates_at (pages_view z) js))) p ∙ ap (λ (z : List ℕ). among m (names (templates_at (pages_view ps) z))) q ∙ ap (λ (z : Text). among z (names (templates_at (pages_view ps) is))) r
 
-name_of_slice : (ts : List Template) (i : ℕ) (t : Template) → slice_get ts i ≡ Some t → slice_get (names ts) i ≡ Some t.name
+pub name_of_slice : (ts : List Template) (i : ℕ) (t : Template) → slice_get ts i ≡ Some t → slice_get (names ts) i ≡ Some t.name
 name_of_slice [] i t e = absurd (cc)
 name_of_slice (u ∷ ts) zero t e =
     let h : u ≡ t = cc in

@@ -1,3 +1,4 @@
+pub mod Alone
 pub mod Among
 pub mod Carried
 pub mod Checked

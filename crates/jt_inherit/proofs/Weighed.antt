@@ -87,11 +87,10 @@ module _ (given : Given) (s : Sources) where
       by false q r = among_behind n (ascending (libraries s (a_chain m))) (imported_by hs) (r (sym (ap (λ b. b || listed (a_chain k) hs) q) ∙ e))
 
   len_both : (xs ys : List Text) → libraries_len given s (xs ++ ys) ≡ libraries_len given s xs + libraries_len given s ys
-  len_both [] ys = refl
+  len_both [] ys = omega arith
   len_both (x ∷ xs) ys = omega (arith, len_both xs ys)
 
   one_less : (x : Text) (ys : List Text) → among x ys ≡ true → libraries_len given s ys ≡ templates_len given (templates s (a_library x)) + libraries_len given s (without x ys)
-  unfolding without
   one_less x [] a = absurd cc
   one_less x (y ∷ ys) a = by (bytes_eq y x) refl (one_less x ys)
     where
@@ -125,13 +124,13 @@ module _ (given : Given) (s : Sources) where
   own_len (a_library n ∷ hs) = own_len hs
 
   split_len : (hs : List Home) → chains_len given s hs ≡ own_len hs + libraries_len given s (imported_by hs)
-  unfolding imported_by, own_len
+  unfolding imported_by own_len
   split_len [] = refl
   split_len (a_chain n ∷ hs) = omega (arith, split_len hs, len_both (ascending (libraries s (a_chain n))) (imported_by hs))
   split_len (a_library n ∷ hs) = split_len hs
 
   split_weight : (hs : List Home) → ((h : Home) → listed h hs ≡ true → templates_weight (templates s h) ≤ templates_len given (templates s h)) → chains_weight s hs ≤ own_len hs + libraries_len given s (libraries_of hs)
-  unfolding libraries_of, own_len
+  unfolding libraries_of own_len
   split_weight [] each = omega arith
   split_weight (a_chain n ∷ hs) each =
       omega (arith, each (a_chain n) (ap (λ b. b || listed (a_chain n) hs) (reflexive n)), split_weight hs (λ h a. each h (or_true (same_home (a_chain n) h) (listed h hs) a)))

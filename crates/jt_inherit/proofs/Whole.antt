@@ -1,7 +1,7 @@
 -- The chains and libraries that an entry reaches, all of them followed and checked, in an order of what they lead to.
 use Rattle.std.proofs.Common.{◌≡◌, ◌≢◌, ◌↔◌, ℕ, zero, suc, ◌+◌, ◌*◌, ◌<◌, ◌≤◌, ◌==◌, Bool, true, false, not, ◌&&◌, ◌||◌, if◌then◌else◌, nat_lt, List, [], ◌∷◌, ◌++◌, length, map, refl, sym, ap, subst, ◌∙◌, arith, inl, inr, ◌⊎◌, ⊎_elim, Option, Some, None}
 use Rattle.std.proofs.lemmas.List.{length-map, append-nil}
-use Rattle.std.specs.Prelude.{slice_get, unwrap_or}
+use Rattle.std.specs.Prelude.{slice_get, unwrap_or, flat_map}
 use Rattle.std.specs.List.{AllByRecursion, list_any}
 use Rattle.std.specs.Option.{is_some, is_none}
 use Rattle.std.specs.Str.{bytes_eq}
@@ -46,7 +46,7 @@ use Rattle.jt_inherit.proofs.Finding.{none_read, few_way, way_names, asked_way, 
 use Rattle.jt_inherit.proofs.Following.{text_among}
 use Rattle.jt_inherit.proofs.Homes as homes
 use Rattle.jt_inherit.proofs.Homes.{place_listed, chain_among}
-use Rattle.jt_inherit.proofs.Imported.{all_named, none_given, none_lacking}
+use Rattle.jt_inherit.proofs.Imported.{all_imported, none_given, none_lacking}
 use Rattle.jt_inherit.proofs.Leads.{names, few_templates, all_at_places}
 use Rattle.jt_inherit.proofs.OnWay.{never, and_false, and_true, too_few, few_names, all_named, have_sources, all_among, repeated_up, weigh, names_placed}
 use Rattle.jt_inherit.proofs.Ordered.{home_among, number_of, names_in_order, reached_in_order, no_cycle, first_in_order, named_among}
@@ -183,7 +183,7 @@ module _ (given : Given) (options : Options) (ts : List Template) {ks : List Tex
       given_names s h ∙ ap (λ vs. map (λ m. m.name) (their_macros vs) ++ map (λ g. g.0) (imports s h)) (whole_way ts h is w) ∙ ap (λ l. map (λ m. m.name) (their_macros us) ++ l) (by h w)
     where
       by : (k : Home) → IsWay ts k is None → map (λ g. g.0) (imports (sources_in ts) k) ≡ flat_map (λ t. imported_names (sources_in ts) t.body) (templates_at ts is)
-      by (a_chain n) v = all_named (sources_in ts) (templates (sources_in ts) (a_chain n)) ∙ ap (flat_map (λ (t : Template). imported_names (sources_in ts) t.body)) (whole_way ts (a_chain n) is v)
+      by (a_chain n) v = all_imported (sources_in ts) (templates (sources_in ts) (a_chain n)) ∙ ap (flat_map (λ (t : Template). imported_names (sources_in ts) t.body)) (whole_way ts (a_chain n) is v)
       by (a_library n) v =
           let l = v.leads in
           sym (ap (flat_map (λ (t : Template). imported_names (sources_in ts) t.body)) l.only ∙ append-nil (imported_names (sources_in ts) l.template.body) ∙ none_given (sources_in ts) l.template.body l.holds)
@@ -340,7 +340,7 @@ module _ (given : Given) (options : Options) (entry : Text) (ts : List Template)
           x.2.2 (all_asked given options ts f.known x.0 k.0 k.1 k.3 IsName (all_at_places (λ t. IsName t.name) ts k.0 (all_named given options ts f.known.read.each)) named_met x.2.0 x.2.1);
       extends_cycle = λ x.
           let k = way_reached x.1 in
-          never (repeated (names (templates_at ts k.0))) k.1.once (repeated_up (sources_in ts) x.2.2.0 (Some x.2.0) (templates_at ts k.0) (subst (λ h. IsWay ts h k.0 None) x.2.1 k.1).leads x.2.2.1);
+          never (repeated (names (templates_at ts k.0))) k.1.once (repeated_up (sources_in ts) x.2.2 (Some x.2.0) (templates_at ts k.0) (subst (λ h. IsWay ts h k.0 None) x.2.1 k.1).leads x.2.3);
       too_long = λ x. ⊎_elim
           (λ y.
           let k = way_reached y.1 in
@@ -408,7 +408,7 @@ module _ (given : Given) (options : Options) (entry : Text) (ts : List Template)
       λ p. ⊎_elim (λ a. a) (λ none. absurd (p.1 none)) (complete n p.0),
     )
 
-    begins : (rest : List Home) × (map (home_at hs) is ≡ a_chain entry ∷ rest)
+    pub begins : (rest : List Home) × (map (home_at hs) is ≡ a_chain entry ∷ rest)
     begins = from is in_order entry_in within
       where
         from : (js : List ℕ) → InOrder (sources_in ts) (map (home_at hs) js) → listed (a_chain entry) (map (home_at hs) js) ≡ true → AllByRecursion (λ i. i < length hs) js → (rest : List Home) × (map (home_at hs) js ≡ a_chain entry ∷ rest)
