@@ -25,7 +25,7 @@ fn macros_of<'a>(
     shelf: Shelf<'a>,
     library: &str,
 ) -> Result<Option<Vec<Macro<'a>>>, AllocError>
-    requires { AreNamed (pages_view shelf.entry.pages.now) (strings shelf.entry.names.now.keys) }
+    requires { AreNamed (pages_view shelf.pages.now) (strings shelf.names.now.keys) }
     ensures { IfOk result (λ o. IsGiven (pages_view shelf.entry.pages.now) library.now o) }
 {
     let Some(place) = find(shelf.names, library) else {
@@ -57,7 +57,7 @@ fn lacks_one(
     library: &str,
     names: &[(String, String)],
 ) -> Result<bool, AllocError>
-    requires { AreNamed (pages_view shelf.entry.pages.now) (strings shelf.entry.names.now.keys) }
+    requires { AreNamed (pages_view shelf.pages.now) (strings shelf.names.now.keys) }
     ensures { IfOk result (λ b. b ≡ rules.lacks_one (sources_in (pages_view shelf.entry.pages.now))
         library.now (given_view names.now)) }
 {
@@ -69,7 +69,7 @@ fn lacks_one(
 
 /// Whether a template asks for a macro that a library lacks.
 fn lacks_macros(alloc: Global, shelf: Shelf<'_>, body: &[Stmt]) -> Result<bool, AllocError>
-    requires { AreNamed (pages_view shelf.entry.pages.now) (strings shelf.entry.names.now.keys) }
+    requires { AreNamed (pages_view shelf.pages.now) (strings shelf.names.now.keys) }
     ensures { IfOk result (λ b. b
         ≡ rules.lacks_macros (sources_in (pages_view shelf.entry.pages.now))
         (body_view body.now)) }
@@ -90,9 +90,9 @@ pub(crate) fn any_lacks_macros(
     shelf: Shelf<'_>,
     places: &[usize],
 ) -> Result<bool, AllocError>
-    requires named { AreNamed (pages_view shelf.entry.pages.now)
-        (strings shelf.entry.names.now.keys) }
-    requires places { ArePlaces (pages_view shelf.entry.pages.now) places.now }
+    requires named { AreNamed (pages_view shelf.pages.now)
+        (strings shelf.names.now.keys) }
+    requires places { ArePlaces (pages_view shelf.pages.now) places.now }
     ensures { IfOk result (λ b. b
         ≡ spec.any_lacks_macros (sources_in (pages_view shelf.entry.pages.now))
         (templates_at (pages_view shelf.entry.pages.now) places.now)) }
@@ -130,7 +130,7 @@ fn add_given<'a>(
     names: &'a [(String, String)],
     given: &mut Vec<&'a str>,
 ) -> Result<(), AllocError>
-    requires { AreNamed (pages_view shelf.entry.pages.now) (strings shelf.entry.names.now.keys) }
+    requires { AreNamed (pages_view shelf.pages.now) (strings shelf.names.now.keys) }
     ensures { IfOk result (λ _. texts given.new.items ≡ texts given.old.items
         ++ names_from (macros (sources_in (pages_view shelf.entry.pages.now))
         (a_library library.now)) (given_view names.now)) }
@@ -148,7 +148,7 @@ fn add_imported<'a>(
     body: &'a [Stmt],
     given: &mut Vec<&'a str>,
 ) -> Result<(), AllocError>
-    requires { AreNamed (pages_view shelf.entry.pages.now) (strings shelf.entry.names.now.keys) }
+    requires { AreNamed (pages_view shelf.pages.now) (strings shelf.names.now.keys) }
     ensures { IfOk result (λ _. texts given.new.items ≡ texts given.old.items
         ++ imported_names (sources_in (pages_view shelf.entry.pages.now)) (body_view body.now)) }
 {
@@ -179,9 +179,9 @@ pub(crate) fn names_at<'a>(
     shelf: Shelf<'a>,
     places: &[usize],
 ) -> Result<Vec<&'a str>, AllocError>
-    requires named { AreNamed (pages_view shelf.entry.pages.now)
-        (strings shelf.entry.names.now.keys) }
-    requires places { ArePlaces (pages_view shelf.entry.pages.now) places.now }
+    requires named { AreNamed (pages_view shelf.pages.now)
+        (strings shelf.names.now.keys) }
+    requires places { ArePlaces (pages_view shelf.pages.now) places.now }
     ensures { IfOk result (λ ns. texts ns.items
         ≡ their_names (sources_in (pages_view shelf.entry.pages.now))
         (templates_at (pages_view shelf.entry.pages.now) places.now)) }

@@ -136,9 +136,9 @@ pub(crate) fn check_rules(
     places: &[usize],
     escaping: bool,
 ) -> Result<(), ChainError>
-    requires named { AreNamed (pages_view shelf.entry.pages.now)
-        (strings shelf.entry.names.now.keys) }
-    requires places { ArePlaces (pages_view shelf.entry.pages.now) places.now }
+    requires named { AreNamed (pages_view shelf.pages.now)
+        (strings shelf.names.now.keys) }
+    requires places { ArePlaces (pages_view shelf.pages.now) places.now }
     ensures kept { OnOk result (spec.KeepAll (sources_in (pages_view shelf.entry.pages.now))
         escaping (templates_at (pages_view shelf.entry.pages.now) places.now)) }
     ensures broken { IfErr result (spec.BreakOne (sources_in (pages_view shelf.entry.pages.now))
