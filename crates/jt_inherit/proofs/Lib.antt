@@ -8,6 +8,7 @@ pub mod Fewer
 pub mod Finding
 pub mod Following
 pub mod Growing
+pub mod HomeSets
 pub mod Homes
 pub mod Imported
 pub mod Leads

@@ -170,7 +170,11 @@ fn put_new(homes: &mut IndexSet<HomeKey>, home: HomeKey) -> Result<(), ChainErro
         × (length (chains_of (homes_view homes.old.keys)) ≡ MAX_CHAINS)
         × (key_view home ≡ a_chain (string_bytes home.name)))) }
 {
-    if !home.is_library && count_chains(homes) == MAX_CHAINS {
+    if home.is_library {
+        put_home(homes, home)?;
+        return Ok(());
+    }
+    if count_chains(homes) == MAX_CHAINS {
         return Err(ChainError::ChainTooLong);
     }
     put_home(homes, home)?;

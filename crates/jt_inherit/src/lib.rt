@@ -1,4 +1,4 @@
-//! Chains of templates: what an entry extends and includes, read from a library.
+//! Chains of templates: what an entry extends, includes and imports, read from a library.
 #![tactic(auto)]
 
 mod chaining;

@@ -11,12 +11,18 @@ use Rattle.jt_chains.specs.Includes.{InOrder, begins_with_chain}
 use Rattle.jt_chains.specs.Pages.{home_view}
 use Rattle.jt_chains.specs.Places.{home_at}
 use Rattle.jt_inherit.specs.SetView.{strings}
+use Rattle.jt_trees.specs.Texts.{repeated}
 use Rattle.jt_chains.specs.Weights.{chains_weight}
 use Rattle.jt_inherit.specs.Small.{chains_len}
 use Rattle.jt_inherit.proofs.OnWay.{all_short}
 use Rattle.jt_inherit.proofs.Settled.{no_chain, one_chain}
 use Rattle.jt_inherit.proofs.Whole.{ways_placed, next_len, closed, chain_breaks, order_breaks, in_order, begins, chained, weighs, few_homes, some_homes, all_whole, homes_named}
 use Rattle.jt_inherit.proofs.chaining.chain.Goals as goal
+
+pub check_chains-requires-clause-named : goal.check_chains-requires-clause-named
+check_chains-requires-clause-named g c =
+    let known = c.in_ok-found.ensures.found.known in
+    record { named = known.named; once = ap repeated known.named ∙ known.read.once }
 
 pub check_chains-requires-clause-places : goal.check_chains-requires-clause-places
 check_chains-requires-clause-places g c =
