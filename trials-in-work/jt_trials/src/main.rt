@@ -1,0 +1,82 @@
+//! Trials of the libraries' calls: with growths refused, over writers that fail, and on bytes and sources that strangers change. Each
+//! line of standard input names a trial and what it is of:
+//!
+//!     calls ROW                  the calls on a row; with a growth refused, one of them is want of memory, what it left is tried,
+//!                                and the others answer as ever. The image that a row gives is kept for `turns`
+//!     values                     calls on values, on texts and on the parts of an image
+//!     turns                      the events of a host with a session of each image so far
+//!     writes ROW                 runs into writers that fail once, at each of their calls
+//!     image AT STEP JSON¦HEX     each beginning and each change of an image at the places AT, AT + STEP and so on
+//!     sources AT STEP ROW        the same of the sources of a row
+//!
+//! A row is templates, a context and options with `¦` between, as rows/run.py has them. Status 6 tells that a growth was refused outside
+//! of the calls.
+#![tactic(auto)]
+
+mod calls;
+mod images;
+mod places;
+mod runs;
+mod shelf;
+mod sources;
+mod stop;
+mod turns;
+mod values;
+mod writes;
+
+use calls::row_answers;
+use images::image_answers;
+use jt_value::Context;
+use jt_verify::Verified;
+use sources::source_answers;
+use std::io;
+use std::process::ExitCode;
+use stop::Stop;
+use turns::turn_answers;
+use values::value_answers;
+use writes::write_answers;
+
+fn main(rt: HostRuntime) -> ExitCode {
+    match answers(&rt) {
+        Ok(()) => ExitCode::SUCCESS,
+        Err(Stop::NoMemory) => ExitCode::from(6),
+        Err(Stop::Other) => ExitCode::FAILURE,
+    }
+}
+
+/// Answers each line of standard input.
+fn answers(rt: &HostRuntime) -> Result<(), Stop> {
+    let lines = io::read_to_string(rt.alloc(), rt.stdin())?;
+    let mut starts = Vec::new(rt.alloc());
+    for line in lines.lines() {
+        starts = answered(rt, line, starts)?;
+    }
+    Ok(())
+}
+
+/// Answers a line; what it gives for `turns` stands behind what the lines before it gave.
+fn answered(
+    rt: &HostRuntime,
+    line: &str,
+    mut starts: Vec<(Verified, Context)>,
+) -> Result<Vec<(Verified, Context)>, Stop> {
+    let (trial, of) = line.split_once(' ').unwrap_or((line, ""));
+    match trial {
+        "calls" => {
+            if let Some(start) = row_answers(rt, of)? {
+                starts.push(start)?;
+            }
+            return Ok(starts);
+        }
+        "turns" => {
+            turn_answers(rt, starts)?;
+            return Ok(Vec::new(rt.alloc()));
+        }
+        "values" => value_answers(rt)?,
+        "writes" => write_answers(rt, of)?,
+        "image" => image_answers(rt, of)?,
+        "sources" => source_answers(rt, of)?,
+        _ => return Err(Stop::Other),
+    }
+    Ok(starts)
+}
