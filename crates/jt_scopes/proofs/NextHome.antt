@@ -11,5 +11,6 @@ moved s k h lt = record {
   each = h.each;
   all_units = h.all_units;
   chains = h.chains;
+  libraries = h.libraries;
   sources = h.sources;
 }

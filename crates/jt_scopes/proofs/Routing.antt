@@ -1,12 +1,13 @@
 -- Routines that were put behind one another.
-use Rattle.std.proofs.Common.{◌≡◌, ℕ, ◌+◌, List, [], ◌∷◌, ◌++◌, length, map, refl, sym, ap, ◌∙◌, arith, subst, max, Vec, Global, append_assoc, append-nil, length-append}
+use Rattle.std.proofs.Common.{◌≡◌, ℕ, ◌+◌, true, false, List, [], ◌∷◌, ◌++◌, length, map, refl, sym, ap, ◌∙◌, arith, subst, max, Vec, Global, append_assoc, append-nil, length-append}
 use Rattle.std.proofs.lemmas.List.{map-append}
 use Rattle.jt_value.specs.Tree.{Tree}
 use Rattle.jt_trees.specs.Expressions.{Text}
 use Rattle.jt_trees.specs.Statements.{Body}
-use Rattle.jt_chains.specs.Chain.{Home}
+use Rattle.jt_chains.specs.Chain.{Home, a_chain, a_library}
 use Rattle.jt_rules.specs.World.{World}
-use Rattle.jt_meaning.specs.Resolve.{Spot, resolved_routine}
+use Rattle.jt_meaning.specs.Programs.{entry_routines}
+use Rattle.jt_meaning.specs.Resolve.{Spot, resolved_routine, chain_routine}
 use Rattle.jt_slots.specs.Locals.{body_locals}
 use Rattle.jt_slots.specs.Pool.{Constant, body_values, routines_values, placed_body, placed_routine, placed_routines}
 use Rattle.jt_slots.specs.Slots as slots
@@ -14,6 +15,7 @@ use Rattle.jt_slots.specs.Slots.{SBody}
 use Rattle.jt_slots.specs.View.{body_view, routine_view}
 use Rattle.jt_slots.specs.declared.program.SStmt.{SStmt}
 use Rattle.jt_slots.specs.declared.program.Routine.{Routine}
+use Rattle.jt_layout.specs.Laid.{is_library}
 use Rattle.jt_scopes.specs.Routines.{IsRoutine, AreRoutines, RoutinesLead, AllLed}
 use Rattle.jt_scopes.specs.Stated.{IsBody}
 use Rattle.jt_scopes.proofs.Counted.{body_counted, max_zero}
@@ -74,6 +76,17 @@ module _ (templates : List Text) where
   routine_as world order xs ys b c sp sq r p q h e f g =
       let P : Planned → Type 0 = λ z. IsRoutine templates z r p q in
       subst P (ap (λ z. resolved_routine world order z b sp) e ∙ ap (λ z. resolved_routine world order ys z sp) f ∙ ap (resolved_routine world order ys c) g) h
+
+-- ---- a chain itself, and nothing of a library
+
+pub no_entry : (ts : List Text) (world : World) (order : List Home) (h : Home) → is_library h ≡ true → (rs : List Routine) (p : List Tree) → AllLed ts (entry_routines world order h) rs rs p p
+no_entry ts world order (a_chain n) e rs p = absurd (cc)
+no_entry ts world order (a_library n) e rs p = λ left. record { shown = refl; pooled = refl }
+
+pub one_entry : (ts : List Text) (world : World) (order : List Home) (h : Home) → is_library h ≡ false → (r : Routine) (rs ss : List Routine) (p q : List Tree) → ((n : Text) → h ≡ a_chain n → IsRoutine ts (chain_routine world order n) r p q) → ss ≡ rs ++ r ∷ []
+    → AllLed ts (entry_routines world order h) rs ss p q
+one_entry ts world order (a_chain n) e r rs ss p q made pushed = λ left. routine_lead ts (chain_routine world order n) left r rs ss p q (made n refl) pushed
+one_entry ts world order (a_library n) e r rs ss p q made pushed = absurd (cc)
 
 -- ---- the routines of all chains
 

@@ -7,7 +7,8 @@ use Rattle.jt_value.specs.Tree.{Tree}
 use Rattle.jt_value.specs.View.{view}
 use Rattle.jt_value.specs.declared.value.Value.{Value}
 use Rattle.jt_trees.specs.Expressions.{Text}
-use Rattle.jt_chains.specs.Chain.{Home, BlockBody}
+use Rattle.jt_chains.specs.Chain as chain
+use Rattle.jt_chains.specs.Chain.{Home, BlockBody, Given, given, callee}
 use Rattle.jt_chains.specs.Parts.{name_at}
 use Rattle.jt_chains.specs.Uses.{count, keywords}
 use Rattle.jt_chains.specs.Places.{home_at}
@@ -78,6 +79,13 @@ module _ (s : Scope) where
 
   abbrev pub templates_in : List Text
   templates_in = map (λ t. t.name) (chain_view s.chain.now).templates
+
+  -- the names that stand for macros and libraries, and what stands in front of the arguments of a call
+  abbrev pub given_in : List (Text × Given)
+  given_in = given world_in.sources home_in
+
+  abbrev pub callee_in : trees.Expr → chain.Callee
+  callee_in f = callee world_in.sources given_in f
 
   abbrev pub globals_in : Table
   globals_in = globals world_in order_in home_in

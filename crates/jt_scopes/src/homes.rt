@@ -1,4 +1,4 @@
-//! The routines of all chains.
+//! The routines of all chains and libraries.
 
 ghost use Rattle.std.specs.Prelude.{◌≡◌, [], IfOk, IfErr};
 ghost use Rattle.jt_layout.specs.Laid.{IsLaidOut};
@@ -14,7 +14,7 @@ use jt_slots::Routine;
 use jt_value::Value;
 use std::alloc::Global;
 
-/// Resolves the chains one after the other.
+/// Resolves the chains and libraries one after the other.
 pub(crate) fn resolve_homes(
     alloc: Global,
     mut scope: Scope<'_>,

@@ -1,8 +1,8 @@
 //! Names to slots: a chain becomes a program.
 //!
-//! `resolved` (resolving) has the chains laid out, and resolves one chain after the other (homes): its statements (routines,
-//! statements), and the expressions in them (expressions), where names stand in frames (frame, spot) and values in a pool
-//! (pool, shared). Whether the chains keep the rules is another crate's matter.
+//! `resolved` (resolving) has the chains and libraries laid out, and resolves one after the other (homes): its statements
+//! (routines, statements), and the expressions in them (expressions), where names stand in frames (frame, spot) and values in
+//! a pool (pool, shared). Whether they keep the rules is another crate's matter.
 #![tactic(auto)]
 
 mod blocks;

@@ -1,7 +1,7 @@
-//! Resolves the routines of a chain: the chain, its macros, and the bodies of its blocks.
+//! Resolves the routines of a chain or a library: the chain, its macros, and the bodies of its blocks.
 
 ghost use Rattle.std.specs.Prelude.{◌≡◌, map, IfOk, IfErr, if◌then◌else◌};
-ghost use Rattle.jt_chains.specs.Chain.{macros};
+ghost use Rattle.jt_chains.specs.Chain.{a_chain, macros};
 ghost use Rattle.jt_chains.specs.Layers.{layer_view};
 ghost use Rattle.jt_chains.specs.Parts.{name_at};
 ghost use Rattle.jt_chains.specs.View.{chain_view};
@@ -12,6 +12,7 @@ ghost use Rattle.jt_meaning.specs.Meaning.{is_set};
 ghost use Rattle.jt_meaning.specs.Programs as programs;
 ghost use Rattle.jt_meaning.specs.Resolve as resolve;
 ghost use Rattle.jt_scopes.specs.Scoped.{values, world_in, order_in, home_in, spot_in, templates_in};
+ghost use Rattle.jt_trees.specs.Expressions.{Text};
 ghost use Rattle.jt_trees.specs.StatementView.{stmt_view, body_view};
 ghost use Rattle.jt_rules.specs.declared.error.ScopeError.TheVariants as error;
 ghost use Rattle.jt_slots.specs.Slots as slots;
@@ -88,6 +89,8 @@ fn sets_names(statement: &Stmt) -> bool
         | Stmt::Autoescape(_, _, _)
         | Stmt::Macro(_, _, _, _)
         | Stmt::Include(_, _, _, _)
+        | Stmt::Import(_, _, _)
+        | Stmt::From(_, _, _)
         | Stmt::Extends(_, _)
         | Stmt::Block(_, _, _, _, _) => false,
     }
@@ -186,9 +189,11 @@ fn resolve_chain<'a>(
     pool: &mut Vec<Value>,
 ) -> Result<Routine, ScopeError>
     requires { IsLaidOut scope.now }
-    ensures made { IfOk result (λ r. IsRoutine (templates_in scope.now)
-        (resolve.chain_routine (world_in scope.now) (order_in scope.now) (home_in scope.now)) r
-        (values pool.old) (values pool.new)) }
+    ensures made { IfOk result (λ r. (n : Text)
+        → home_in scope.now ≡ a_chain n
+        → IsRoutine (templates_in scope.now)
+        (resolve.chain_routine (world_in scope.now) (order_in scope.now) n) r (values pool.old)
+        (values pool.new)) }
     ensures refused { IfErr result (λ e. e ≡ error.NoMemory) }
 {
     let layers = scope.chain.layers(alloc, scope.home)?;
@@ -202,7 +207,28 @@ fn resolve_chain<'a>(
     })
 }
 
-/// Resolves the macros of a chain, behind other routines.
+/// Resolves a chain itself, behind other routines; a library is never rendered.
+fn resolve_entry<'a>(
+    alloc: Global,
+    scope: &Scope<'a>,
+    routines: &mut Vec<Routine>,
+    pool: &mut Vec<Value>,
+) -> Result<(), ScopeError>
+    requires { IsLaidOut scope.now }
+    ensures put { IfOk result (λ u. AllLed (templates_in scope.now)
+        (programs.entry_routines (world_in scope.now) (order_in scope.now) (home_in scope.now))
+        routines.old.items routines.new.items (values pool.old) (values pool.new)) }
+    ensures refused { IfErr result (λ e. e ≡ error.NoMemory) }
+{
+    let here = &scope.homes[scope.home];
+    if here.is_library {
+        return Ok(());
+    }
+    routines.push(resolve_chain(alloc, scope, pool)?)?;
+    Ok(())
+}
+
+/// Resolves the macros of a chain or a library, behind other routines.
 fn resolve_macros<'a>(
     alloc: Global,
     scope: &Scope<'a>,
@@ -285,7 +311,7 @@ fn resolve_blocks<'a>(
     Ok(())
 }
 
-/// Resolves a chain with its macros and the bodies of its blocks, behind other routines.
+/// Resolves a chain or a library with its macros and the bodies of its blocks, behind other routines.
 pub(crate) fn resolve_home<'a>(
     alloc: Global,
     scope: &Scope<'a>,
@@ -298,7 +324,7 @@ pub(crate) fn resolve_home<'a>(
         routines.old.items routines.new.items (values pool.old) (values pool.new)) }
     ensures refused { IfErr result (λ e. e ≡ error.NoMemory) }
 {
-    routines.push(resolve_chain(alloc, scope, pool)?)?;
+    resolve_entry(alloc, scope, routines, pool)?;
     resolve_macros(alloc, scope, routines, pool)?;
     resolve_blocks(alloc, scope, routines, pool)
 }

@@ -101,6 +101,8 @@ pub(crate) fn resolve_statement<'a>(
             resolve_escaping(alloc, scope, spot, body, *escaping, done, pool)
         }
         Stmt::Macro(_, _, _, _) => Ok(()),
+        Stmt::Import(_, _, _) => Ok(()),
+        Stmt::From(_, _, _) => Ok(()),
         Stmt::Extends(_, _) => Ok(()),
         Stmt::Include(line, name, ignore_missing, with_context) => {
             put_include(

@@ -12,7 +12,7 @@ use Rattle.jt_trees.specs.declared.expression.Expr.{Expr}
 use Rattle.jt_ids.specs.FilterTable.{filter_id}
 use Rattle.jt_trees.specs.StatementView.{parameters_view}
 use Rattle.jt_chains.specs.Chain as chain
-use Rattle.jt_chains.specs.Chain.{macros, callee, a_macro, a_range, a_super, a_block, a_cycle, no_callee}
+use Rattle.jt_chains.specs.Chain.{a_macro, a_range, a_super, a_block, a_cycle, no_callee}
 use Rattle.jt_chains.specs.Uses.{count, keywords}
 use Rattle.jt_meaning.specs.Operators.{Form, range_of}
 use Rattle.jt_meaning.specs.Resolve.{operation_of, in_form, field_from, filled, filled_some, tested_by, turned_round, locals_from, invoked}
@@ -27,7 +27,7 @@ use Rattle.jt_slots.specs.declared.program.SExpr.TheVariants as e
 use Rattle.jt_slots.specs.declared.program.Maker.TheVariants as m
 use Rattle.jt_scopes.specs.Callees.{IsCallee}
 use Rattle.jt_scopes.specs.declared.callee.Callee.{Callee}
-use Rattle.jt_scopes.specs.Scoped.{values, IsPlaced, world_in, order_in, home_in, spot_in, expr_in, row_in, asides_in, entries_in, filtered_in}
+use Rattle.jt_scopes.specs.Scoped.{values, IsPlaced, world_in, order_in, callee_in, spot_in, expr_in, row_in, asides_in, entries_in, filtered_in}
 use Rattle.jt_scopes.proofs.Calling.{count_length, macro_called, cycled}
 use Rattle.jt_scopes.proofs.Depths.{call_depth, filter_depth, test_depth}
 use Rattle.jt_scopes.proofs.Filters.{named_is, parameters_are}
@@ -296,16 +296,16 @@ resolve_call-returns-in-Macro-clause-placed t c =
     let ts = exprs_view c.args.row.now in
     let ps = pairs_view c.args.pairs.now in
     let ks = locals_from spot.free (keywords ps) in
-    let k = callee (macros (world_in s).sources (home_in s)) (expr_view c.args.called.now) in
-    let Q : Callee → Type 0 = λ z. IsCallee (world_in s) (order_in s) (home_in s) z k in
+    let k = callee_in s (expr_view c.args.called.now) in
+    let Q : Callee → Type 0 = λ z. IsCallee (world_in s) (order_in s) z k in
     let m = subst Q c.in-Macro.is c.in_ok-signature.ensures.named in
     let n : count ts ≡ length c.args.row.now = count_length c.args.row.now in
     let signature = c.in-Macro.signature in
     let same : invoke signature.unit spot.escaping (row_in s ts spot (asides_in s ps spot (filled (parameters_view signature.parameters.now) (length c.args.row.now) signature.first_default ks)))
     ≡ invoked (world_in s) (order_in s) k (spot_in s spot) (λ z. row_in s ts spot z) (λ z. asides_in s ps spot z) (count ts) ks =
-    macro_called (world_in s) (order_in s) (home_in s) signature m.0 m.1.0 spot.escaping (λ z. row_in s ts spot (asides_in s ps spot z)) (length c.args.row.now) ks
-    ∙ ap (λ (i : ℕ). invoked (world_in s) (order_in s) (a_macro m.0) (spot_in s spot) (λ z. row_in s ts spot z) (λ z. asides_in s ps spot z) i ks) (sym n)
-    ∙ ap (λ z. invoked (world_in s) (order_in s) z (spot_in s spot) (λ y. row_in s ts spot y) (λ y. asides_in s ps spot y) (count ts) ks) (sym m.1.1) in
+    macro_called (world_in s) (order_in s) m.0 signature m.1 m.2.0 spot.escaping (λ z. row_in s ts spot (asides_in s ps spot z)) (length c.args.row.now) ks
+    ∙ ap (λ (i : ℕ). invoked (world_in s) (order_in s) (a_macro m.0 m.1) (spot_in s spot) (λ z. row_in s ts spot z) (λ z. asides_in s ps spot z) i ks) (sym n)
+    ∙ ap (λ z. invoked (world_in s) (order_in s) z (spot_in s spot) (λ y. row_in s ts spot y) (λ y. asides_in s ps spot y) (count ts) ks) (sym m.2.1) in
     IfOk-weaker c.resolve_macro.result _ _ (λ e h.
     let P : slots.SExpr Constant → Type 0 = λ z. IsPlaced z (coded e) (values c.args.pool.now) (values c.resolve_macro.new.pool) in
     subst P same h) c.resolve_macro.ensures.placed
@@ -317,8 +317,8 @@ resolve_call-returns-in-Range-clause-placed t c =
     let ts = exprs_view c.args.row.now in
     let ps = pairs_view c.args.pairs.now in
     let ks = locals_from spot.free (keywords ps) in
-    let k = callee (macros (world_in s).sources (home_in s)) (expr_view c.args.called.now) in
-    let Q : Callee → Type 0 = λ z. IsCallee (world_in s) (order_in s) (home_in s) z k in
+    let k = callee_in s (expr_view c.args.called.now) in
+    let Q : Callee → Type 0 = λ z. IsCallee (world_in s) (order_in s) z k in
     let is : k ≡ a_range = subst Q c.in-Range.is c.in_ok-signature.ensures.named in
     let n : count ts ≡ length c.args.row.now = count_length c.args.row.now in
     let same : slots.made (slots.operator (range_of (length c.args.row.now))) (row_in s ts spot slots.none)
@@ -336,8 +336,8 @@ resolve_call-returns-in-Cycle-clause-placed t c =
     let ts = exprs_view c.args.row.now in
     let ps = pairs_view c.args.pairs.now in
     let ks = locals_from spot.free (keywords ps) in
-    let k = callee (macros (world_in s).sources (home_in s)) (expr_view c.args.called.now) in
-    let Q : Callee → Type 0 = λ z. IsCallee (world_in s) (order_in s) (home_in s) z k in
+    let k = callee_in s (expr_view c.args.called.now) in
+    let Q : Callee → Type 0 = λ z. IsCallee (world_in s) (order_in s) z k in
     let is : k ≡ a_cycle = subst Q c.in-Cycle.is c.in_ok-signature.ensures.named in
     let n : count ts ≡ length c.args.row.now = count_length c.args.row.now in
     let same : cycled (length c.args.row.now) (row_in s ts spot slots.none)
@@ -355,8 +355,8 @@ resolve_call-returns-in-Super-clause-placed t c =
     let ts = exprs_view c.args.row.now in
     let ps = pairs_view c.args.pairs.now in
     let ks = locals_from spot.free (keywords ps) in
-    let k = callee (macros (world_in s).sources (home_in s)) (expr_view c.args.called.now) in
-    let Q : Callee → Type 0 = λ z. IsCallee (world_in s) (order_in s) (home_in s) z k in
+    let k = callee_in s (expr_view c.args.called.now) in
+    let Q : Callee → Type 0 = λ z. IsCallee (world_in s) (order_in s) z k in
     let is : k ≡ a_super = subst Q c.in-Super.is c.in_ok-signature.ensures.named in
     IfOk-weaker c.super_called.result _ _ (λ e h.
     let P : chain.Callee → Type 0 = λ z. IsPlaced (invoked (world_in s) (order_in s) z (spot_in s spot) (λ y. row_in s ts spot y) (λ y. asides_in s ps spot y) (count ts) ks) (coded e) (values c.args.pool.now) (values c.args.pool.now) in
@@ -369,8 +369,8 @@ resolve_call-returns-in-Block-clause-placed t c =
     let ts = exprs_view c.args.row.now in
     let ps = pairs_view c.args.pairs.now in
     let ks = locals_from spot.free (keywords ps) in
-    let k = callee (macros (world_in s).sources (home_in s)) (expr_view c.args.called.now) in
-    let Q : Callee → Type 0 = λ z. IsCallee (world_in s) (order_in s) (home_in s) z k in
+    let k = callee_in s (expr_view c.args.called.now) in
+    let Q : Callee → Type 0 = λ z. IsCallee (world_in s) (order_in s) z k in
     let is : k ≡ a_block c.in-Block.name.now = subst Q c.in-Block.is c.in_ok-signature.ensures.named in
     IfOk-weaker c.block_called.result _ _ (λ e h.
     let P : chain.Callee → Type 0 = λ z. IsPlaced (invoked (world_in s) (order_in s) z (spot_in s spot) (λ y. row_in s ts spot y) (λ y. asides_in s ps spot y) (count ts) ks) (coded e) (values c.args.pool.now) (values c.args.pool.now) in
@@ -383,8 +383,8 @@ resolve_call-returns-in-Unknown-clause-placed t c =
     let ts = exprs_view c.args.row.now in
     let ps = pairs_view c.args.pairs.now in
     let ks = locals_from spot.free (keywords ps) in
-    let k = callee (macros (world_in s).sources (home_in s)) (expr_view c.args.called.now) in
-    let Q : Callee → Type 0 = λ z. IsCallee (world_in s) (order_in s) (home_in s) z k in
+    let k = callee_in s (expr_view c.args.called.now) in
+    let Q : Callee → Type 0 = λ z. IsCallee (world_in s) (order_in s) z k in
     let is : k ≡ no_callee = subst Q c.in-Unknown.is c.in_ok-signature.ensures.named in
     let P : chain.Callee → Type 0 = λ z. IsPlaced (invoked (world_in s) (order_in s) z (spot_in s spot) (λ y. row_in s ts spot y) (λ y. asides_in s ps spot y) (count ts) ks) (coded c.absent.result) (values c.args.pool.now) (values c.args.pool.now) in
     subst P (sym is) (c.absent.ensures (values c.args.pool.now))

@@ -2,8 +2,9 @@ use Rattle.std.proofs.Common.{◌≡◌, refl, ℕ, ◌<◌, [], sym, ap, ◌∙
 use Rattle.std.specs.Option.{is_none}
 use Rattle.std.proofs.lemmas.Result.{IfOk-weaker}
 use Rattle.jt_slots.specs.Slots as slots
-use Rattle.jt_meaning.specs.Layout.{of_chain, first_slot, names, unit}
-use Rattle.jt_layout.specs.Laid.{IsChainAt}
+use Rattle.jt_meaning.specs.Layout.{first_slot, names}
+use Rattle.jt_chains.specs.Chain.{a_chain}
+use Rattle.jt_layout.specs.Laid.{IsHomeAt}
 use Rattle.jt_uses.specs.Names.{texts}
 use Rattle.jt_scopes.specs.Scoped.{world_in, order_in, templates_in}
 use Rattle.jt_scopes.proofs.LeadingBodies.{led_of, led_both}
@@ -16,10 +17,10 @@ returns-in_default-clause-put c =
     let x = c.args.name.now in
     let T = templates_in scope in
     let there : is_none ((world_in scope).sources x) ≡ false = sym (c.requires.sources x) ∙ ap is_none (sym c.place.ensures) ∙ ap not (c.is_none.ensures ∙ ap not c.if-is_none.false) in
-    let P : Option ℕ → Type 0 = IsChainAt (order_in scope) x in
+    let P : Option ℕ → Type 0 = IsHomeAt (order_in scope) (a_chain x) in
     let absent = subst P (sym c.place-2.ensures ∙ c.in_default.is) (c.requires.chains x) in
     IfOk-weaker c.put_run.result _ _ (λ u h p. led_of T _ _ _ _ _ _
-    (include_shown scope c.args.spot.now c.args.line x c.args.ignore_missing c.args.with_context (first_slot (world_in scope) (order_in scope) x) [] scope.units there refl (sym (absent_names (world_in scope) (order_in scope) x absent))
+    (include_shown scope c.args.spot.now c.args.line x c.args.ignore_missing c.args.with_context (first_slot (world_in scope) (order_in scope) (a_chain x)) [] scope.units there refl (sym (absent_names (world_in scope) (order_in scope) (a_chain x) absent))
     (c.requires.all_units ∙ sym (absent_unit (world_in scope) (order_in scope) x absent)))
     (h T slots.none p p (no_row _ c.new.ensures.items p))) c.put_run.ensures.put
 
@@ -33,13 +34,13 @@ returns-clause-put c =
     let i = c.in-Some.place in
     let chain = c.index-there.result.now in
     let there : is_none (world.sources x) ≡ false = sym (c.requires.sources x) ∙ ap is_none (sym c.place.ensures) ∙ ap not (c.is_none.ensures ∙ ap not c.if-is_none.false) in
-    let P : Option ℕ → Type 0 = IsChainAt order x in
+    let P : Option ℕ → Type 0 = IsHomeAt order (a_chain x) in
     let at = subst P (sym c.place-2.ensures ∙ c.in-Some.is) (c.requires.chains x) in
     let Q : ℕ → Type 0 = λ n. i < n in
     let laid = c.requires.each i chain (subst Q (sym c.requires.all_homes) at.0) c.index-there.ensures in
     IfOk-weaker c.put_run-2.result _ _ (λ u h p. led_of T _ _ _ _ _ _
     (include_shown scope c.args.spot.now c.args.line x c.args.ignore_missing c.args.with_context chain.first_slot (texts c.deref.result.now) chain.unit there (laid.from ∙ ap (first_slot world order) at.1)
-    (ap texts c.deref.ensures.value ∙ laid.named ∙ ap (names world order) at.1) (laid.chain_unit ∙ ap (λ z. unit world order (of_chain z)) at.1))
+    (ap texts c.deref.ensures.value ∙ laid.named ∙ ap (names world order) at.1) (laid.chain_unit x at.1))
     (led_both T _ _ _ _ _ _ _ _ (c.in_ok-hand_on.ensures.put p) (h T slots.none p p (no_row _ c.new-2.ensures.items p)))) c.put_run-2.ensures.put
 
 pub returns-then-is_none-clause-put : goal.returns-then-is_none-clause-put

@@ -15,7 +15,7 @@ use Rattle.jt_scopes.specs.Stated.{line_in, stmt_in, body_in, choice_in, scoped_
 use Rattle.jt_scopes.proofs.LeadingBodies.{lead_both, lead_of, lead_left, lead_same, led_of, led_both, led_begun, followed_again, choice_same, choice_other, branch_as, branch_led}
 use Rattle.jt_scopes.proofs.Placed.{place_shown}
 use Rattle.jt_trees.proofs.Left.{Branch, statements_left, branches_left}
-use Rattle.jt_trees.proofs.StatementViews.{view_Data, view_Print, view_Set, view_SetBlock, view_With, view_Autoescape, view_FilterBlock, view_Macro, view_Include, view_Extends, view_Block}
+use Rattle.jt_trees.proofs.StatementViews.{view_Data, view_Print, view_Set, view_SetBlock, view_With, view_Autoescape, view_FilterBlock, view_Macro, view_Include, view_Import, view_From, view_Extends, view_Block}
 use Rattle.jt_scopes.proofs.Smaller.{branch_smaller, other_smaller, turn_smaller, last_smaller, text_smaller, with_smaller, filtered_smaller, autoescape_smaller}
 use Rattle.jt_scopes.proofs.Stating.{stmt_as, filter_shown, if_shown, loop_shown, values_led, copies_as, scope_led, scoped_as, turn_as}
 use Rattle.jt_scopes.proofs.statements.+resolve.Goals as goal
@@ -209,6 +209,16 @@ pub resolve_statement-returns-in-Macro-clause-led : goal.resolve_statement-retur
 resolve_statement-returns-in-Macro-clause-led t c = λ left.
     let T = templates_in c.args.scope.now in
     lead_of T left _ left _ _ _ _ (sym (ap (λ z. followed (stmt_in c.args.scope.now z c.args.spot.now) left) (ap stmt_view c.in-Macro.is ∙ view_Macro c.in-Macro.field-0 c.in-Macro.field-1 c.in-Macro.field-2 c.in-Macro.field-3))) (lead_same T left _ _)
+
+pub resolve_statement-returns-in-Import-clause-led : goal.resolve_statement-returns-in-Import-clause-led
+resolve_statement-returns-in-Import-clause-led t c = λ left.
+    let T = templates_in c.args.scope.now in
+    lead_of T left _ left _ _ _ _ (sym (ap (λ z. followed (stmt_in c.args.scope.now z c.args.spot.now) left) (ap stmt_view c.in-Import.is ∙ view_Import c.in-Import.field-0 c.in-Import.field-1 c.in-Import.field-2))) (lead_same T left _ _)
+
+pub resolve_statement-returns-in-From-clause-led : goal.resolve_statement-returns-in-From-clause-led
+resolve_statement-returns-in-From-clause-led t c = λ left.
+    let T = templates_in c.args.scope.now in
+    lead_of T left _ left _ _ _ _ (sym (ap (λ z. followed (stmt_in c.args.scope.now z c.args.spot.now) left) (ap stmt_view c.in-From.is ∙ view_From c.in-From.field-0 c.in-From.field-1 c.in-From.field-2))) (lead_same T left _ _)
 
 pub resolve_statement-returns-in-Extends-clause-led : goal.resolve_statement-returns-in-Extends-clause-led
 resolve_statement-returns-in-Extends-clause-led t c = λ left.

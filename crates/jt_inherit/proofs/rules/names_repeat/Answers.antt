@@ -1,0 +1,1 @@
+use Rattle.jt_inherit.proofs.rules.names_repeat.Goals as goal
