@@ -1,5 +1,5 @@
 -- Macros that are called by the names of a chain or a library.
-use Rattle.std.proofs.Common.{◌≡◌, ℕ, zero, suc, ◌<◌, Bool, true, false, if◌then◌else◌, List, [], ◌∷◌, length, refl, sym, ap, ◌∙◌, arith, Option, Some, None, inl, inr}
+use Rattle.std.proofs.Common.{◌≡◌, ℕ, zero, suc, ◌<◌, Bool, true, false, if◌then◌else◌, List, [], ◌∷◌, length, refl, ap, ◌∙◌, arith, Option, Some, None, inl, inr}
 use Rattle.std.specs.Prelude.{codes, ◌||◌}
 use Rattle.std.specs.Str.{bytes_eq}
 use Rattle.jt_trees.specs.Expressions.{Text, Expr, name, attribute}
@@ -14,7 +14,7 @@ use Rattle.jt_meaning.proofs.Reading.{home_is, no_both}
 use Rattle.jt_layout.specs.Laid.{IsLaidOut}
 use Rattle.jt_layout.specs.declared.scope.Scope.{Scope}
 use Rattle.jt_scopes.specs.Callees.{IsLaidThere, library_of, of_home}
-use Rattle.jt_scopes.specs.Scoped.{world_in, order_in, home_in, given_in, callee_in}
+use Rattle.jt_scopes.specs.Scoped.{world_in, order_in, home_in, callee_in}
 
 -- ---- where a macro that is called is at home
 
@@ -36,8 +36,7 @@ pub called_there : (s : Scope) → IsLaidOut s → (f : Expr) (k : Home) (b : Ma
 called_there s laid f k b e =
     let ms = macros (world_in s).sources k in
     let found = called_macro (world_in s).sources (home_in s) f k b e in
-    let inside : s.home < length (order_in s) = omega (arith, laid.inside, laid.all_homes) in
-    (
+    let inside : s.home < length (order_in s) = omega (arith, laid.inside, laid.all_homes) in (
       ap (λ x. macro_of x ms) (macro_named (world_in s) (order_in s) found.0 b ms found.1) ∙ found.1,
       leads_there (world_in s) (order_in s) s.chain.now.order (home_in s) (home_listed (order_in s) s.home inside) k found.2,
     )

@@ -118,11 +118,7 @@ fn callee_given<'s>(scope: &'s Scope<'_>, given: Given<'_>) -> Result<Callee<'s>
 }
 
 /// The macro of a name of the chain or library at a place.
-fn macro_at<'s>(
-    scope: &'s Scope<'_>,
-    home: usize,
-    name: &str,
-) -> Result<Callee<'s>, ScopeError>
+fn macro_at<'s>(scope: &'s Scope<'_>, home: usize, name: &str) -> Result<Callee<'s>, ScopeError>
     requires laid { IsLaidOut scope.now }
     requires there { home < length scope.now.homes.items }
     ensures named { IfOk result (λ k. IsCallee (world_in scope.now) (order_in scope.now) k
@@ -163,11 +159,7 @@ fn library_macro<'s>(
 }
 
 /// What an attribute stands for that is called.
-fn callee_by<'s>(
-    scope: &'s Scope<'_>,
-    of: &Expr,
-    name: &'s str,
-) -> Result<Callee<'s>, ScopeError>
+fn callee_by<'s>(scope: &'s Scope<'_>, of: &Expr, name: &'s str) -> Result<Callee<'s>, ScopeError>
     requires { IsLaidOut scope.now }
     ensures named { IfOk result (λ k. IsCallee (world_in scope.now) (order_in scope.now) k
         (callee_in scope.now (trees.attribute (written.expr_view of.now) name.now))) }
@@ -180,11 +172,7 @@ fn callee_by<'s>(
 }
 
 /// A block by `self`, `cycle` of a loop, or a macro of a library.
-fn member_of<'s>(
-    scope: &'s Scope<'_>,
-    of: &str,
-    name: &'s str,
-) -> Result<Callee<'s>, ScopeError>
+fn member_of<'s>(scope: &'s Scope<'_>, of: &str, name: &'s str) -> Result<Callee<'s>, ScopeError>
     requires { IsLaidOut scope.now }
     ensures named { IfOk result (λ k. IsCallee (world_in scope.now) (order_in scope.now) k
         (callee_in scope.now (trees.attribute (trees.name of.now) name.now))) }
@@ -199,11 +187,7 @@ fn member_of<'s>(
 }
 
 /// A macro of a library by the name that the library has here: private ones are not there.
-fn imported_macro<'s>(
-    scope: &'s Scope<'_>,
-    of: &str,
-    name: &str,
-) -> Result<Callee<'s>, ScopeError>
+fn imported_macro<'s>(scope: &'s Scope<'_>, of: &str, name: &str) -> Result<Callee<'s>, ScopeError>
     requires laid { IsLaidOut scope.now }
     requires not_self { bytes_eq of.now (codes "self") ≡ false }
     requires not_loop { bytes_eq of.now (codes "loop") ≡ false }
