@@ -4,4 +4,5 @@
 mod resolving;
 
 pub use jt_rules::ScopeError;
+pub use jt_slots::Program as Resolved;
 pub use resolving::resolve;
