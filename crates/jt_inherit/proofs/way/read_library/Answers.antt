@@ -14,7 +14,7 @@ pub returns-in_err-place-clause-refused : goal.returns-in_err-place-clause-refus
 returns-in_err-place-clause-refused g c =
     let p = err_from_is_err_and c.from_residual.result c.from_residual.ensures.1 in
     rw (p.1, p.2)
-    (λ root r. alone_breaks (g.L.Library.sources c.args.library.now) c.args.options root (pages_view c.args.pages.now.items) c.requires c.args.name.now r c.in_err-place.field-0 c.in_err-place.ensures.refused)
+    (λ root r. alone_breaks (g.L.Library.sources c.args.library.now) c.args.options root (pages_view c.args.pages.now.items) c.requires c.args.name.now r c.in_err-place.field-0.0 c.in_err-place.ensures.refused)
 
 pub index-requires : goal.index-requires
 index-requires g c =
