@@ -16,7 +16,6 @@ bounds-shelf-place c = place_read c.args.shelf.pages.now (strings c.args.shelf.n
 pub offset_bounds-shelf-place : goal.offset_bounds-shelf-place
 offset_bounds-shelf-place c =
     let lt : c.in-Some.place < length c.args.shelf.pages.now = place_read c.args.shelf.pages.now (strings c.args.shelf.names.now.keys) c.requires c.args.library.now c.in-Some.place c.in-Some.ensures in
-    let h = c.well_formed in
     search rules
 
 pub returns-then-not-holds_macros : goal.returns-then-not-holds_macros

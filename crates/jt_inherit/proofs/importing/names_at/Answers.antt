@@ -1,4 +1,4 @@
-use Rattle.std.proofs.Common.{◌++◌, List, ℕ, map, get_or, sym, ap, ◌∙◌}
+use Rattle.std.proofs.Common.{◌++◌, List, ℕ, get_or, sym, ap, ◌∙◌}
 use Rattle.std.proofs.lemmas.List.{at_drop_all, append-nil}
 use Rattle.jt_trees.specs.StatementView.{body_view}
 use Rattle.jt_chains.specs.Along.{along, templates_at}

@@ -1,4 +1,4 @@
-use Rattle.std.proofs.Common.{[], get_or, sym, ap, ◌∙◌}
+use Rattle.std.proofs.Common.{[], get_or, sym, ◌∙◌}
 use Rattle.std.proofs.lemmas.List.{get_or_default}
 use denote.Ref.{Bor}
 use Rattle.jt_trees.specs.Expressions.{Text}
