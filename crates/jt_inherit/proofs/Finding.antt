@@ -1,5 +1,5 @@
 -- Chains and libraries that were followed: what is known of them stays as more is found.
-use Rattle.std.proofs.Common.{◌≡◌, ℕ, zero, suc, ◌<◌, ◌≤◌, Bool, true, false, not, cond, ◌||◌, if◌then◌else◌, List, [], ◌∷◌, ◌++◌, length, map, refl, sym, ap, subst, ◌∙◌, arith, ◌⊎◌, ⊎_elim, inr, Some, None, length-append, get_or, string_bytes, String, Vec, Global}
+use Rattle.std.proofs.Common.{◌≡◌, ℕ, zero, suc, ◌<◌, ◌≤◌, Bool, true, false, not, cond, ◌||◌, if◌then◌else◌, List, [], ◌∷◌, ◌++◌, length, map, refl, sym, ap, subst, ◌∙◌, arith, ◌⊎◌, ⊎_elim, inr, Some, None, get_or, Vec, Global}
 use Rattle.std.specs.Prelude.{slice_get, flat_map, filter, unwrap_or}
 use Rattle.std.specs.List.{AllByRecursion}
 use Rattle.std.specs.Option.{is_some, option_to_list}
@@ -9,8 +9,8 @@ use Rattle.jt_scan.specs.declared.options.Options.{Options}
 use Rattle.jt_trees.specs.Texts.{among}
 use Rattle.jt_trees.specs.Expressions.{Text}
 use Rattle.jt_chains.specs.Along.{ArePlaces, templates_at}
-use Rattle.jt_inherit.specs.Along.{includes_along, imports_along, needs_along}
-use Rattle.jt_chains.specs.Chain.{Home, a_chain, a_library, home_name, listed, Template, template, templates, library_template, libraries, libraries_in, holds_macros, sources_in}
+use Rattle.jt_inherit.specs.Along.{imports_along, needs_along}
+use Rattle.jt_chains.specs.Chain.{Home, a_chain, a_library, home_name, listed, Template, template, templates, library_template, libraries, libraries_in, sources_in}
 use Rattle.jt_inherit.specs.Chains.{Given, IsRead}
 use Rattle.jt_inherit.specs.Found.{AreNext, known_of, IsMet, IsNeedFault, IsNextFault, IsFollowed, AreFollowed, AreFound, chosen}
 use Rattle.jt_chains.specs.Includes.{included, needs_in}

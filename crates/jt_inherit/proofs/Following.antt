@@ -104,7 +104,7 @@ fault_later a b xs ys zs is e p f = ⊎_elim (λ m. inl m)
         t.1.1,
         t.1.2,
         λ n i. let h = a_chain n in
-        ⊎_elim (λ m. ⊎_elim (λ k. inl k) (λ k. inr (listed_front h xs (ys ++ zs) k)) (p.from h m)) (λ m. inr (listed_behind h xs (ys ++ zs) (listed_front h ys zs m))) (t.1.3 n i),
+            ⊎_elim (λ m. ⊎_elim (λ k. inl k) (λ k. inr (listed_front h xs (ys ++ zs) k)) (p.from h m)) (λ m. inr (listed_behind h xs (ys ++ zs) (listed_front h ys zs m))) (t.1.3 n i),
       ),
     ))
     f

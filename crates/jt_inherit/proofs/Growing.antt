@@ -1,5 +1,5 @@
 -- Chains and libraries that reach one another, and ask for names, do so when more is read.
-use Rattle.std.proofs.Common.{◌≡◌, ℕ, zero, suc, ◌≤◌, arith, ◌⊎◌, ⊎_elim, inl, inr, map, Bool, true, false, cond, ◌||◌, List, [], ◌∷◌, ◌++◌, refl, sym, ap, subst, ◌∙◌, Option, Some, None}
+use Rattle.std.proofs.Common.{◌≡◌, ℕ, zero, suc, ◌≤◌, arith, ⊎_elim, map, Bool, true, false, cond, ◌||◌, List, [], ◌∷◌, ◌++◌, refl, sym, ap, subst, ◌∙◌, Option, Some, None}
 use Rattle.std.specs.Prelude.{flat_map, filter}
 use Rattle.std.specs.Option.{is_some}
 use Rattle.std.specs.Str.{bytes_eq}
@@ -11,7 +11,6 @@ use Rattle.jt_chains.specs.Chain.{Sources, Home, a_chain, a_library, listed, Tem
 use Rattle.jt_chains.specs.Includes.{included, needs_in, with_source}
 use Rattle.jt_chains.specs.Rules.{Asks, Reaches, here, through, asked, way}
 use Rattle.jt_inherit.proofs.Among.{same, reflexive, or_true, among_front, among_behind, among_cases}
-use Rattle.jt_inherit.proofs.Homes.{listed_cases, listed_front, listed_behind}
 use Rattle.jt_inherit.proofs.Leads.{more_sources}
 
 -- ---- what is among the names that pass a test

@@ -1,5 +1,5 @@
 -- Sets of chains and libraries: where one is, and what is there when one is put.
-use Rattle.std.proofs.Common.{◌≡◌, ℕ, ◌+◌, ◌<◌, ◌≤◌, Bool, true, false, not, ◌||◌, if◌then◌else◌, List, [], ◌∷◌, ◌++◌, length, drop, get_or, refl, sym, ap, ◌∙◌, arith, Option, Some, None, string_bytes, MatchOption, length-append}
+use Rattle.std.proofs.Common.{◌≡◌, ℕ, ◌+◌, ◌<◌, ◌≤◌, Bool, true, false, ◌||◌, if◌then◌else◌, List, [], ◌∷◌, ◌++◌, length, drop, get_or, refl, sym, ap, ◌∙◌, arith, Option, Some, None, string_bytes, MatchOption, length-append, rules}
 use Rattle.std.specs.Prelude.{slice_get, position}
 use Rattle.std.specs.List.{list_any}
 use Rattle.std.specs.Option.{is_some}
@@ -8,6 +8,7 @@ use Rattle.std.proofs.lemmas.List.Quantifiers.{position-Some}
 use Rattle.jt_chains.specs.Chain.{Home, a_chain, a_library, same_home, listed}
 use Rattle.jt_inherit.specs.Found.{chains_of}
 use Rattle.jt_inherit.specs.SetView.{key_view, homes_view}
+use Rattle.jt_inherit.specs.contracts.sets.HomeKeyPartialEq.TheImpl as key
 use Rattle.jt_inherit.specs.declared.sets.HomeKey.{HomeKey}
 use Rattle.jt_inherit.proofs.Among.{map_more}
 use Rattle.jt_inherit.proofs.Homes.{same, symmetric, chains_both}
@@ -32,6 +33,10 @@ module _ (eq : HomeKey → HomeKey → Bool) (is : (x k : HomeKey) → eq x k �
 
   pub put_told : (k : HomeKey) (ks new : List HomeKey) → new ≡ (if list_any (eq k) ks then ks else ks ++ k ∷ []) → listed (key_view k) (homes_view ks) ≡ false → homes_view new ≡ homes_view ks ++ key_view k ∷ []
   put_told k ks new e fresh = ap homes_view (e ∙ ap (λ b. if b then ks else ks ++ k ∷ []) (any_home k ks ∙ fresh)) ∙ map_more key_view ks k
+
+-- keys are equal where what contracts see of them is
+pub same_key : (x k : HomeKey) → (key.eq-value).it x k ≡ same_home (key_view x) (key_view k)
+same_key x k = search rules
 
 -- ---- chains among them, one after the other
 

@@ -1,14 +1,14 @@
 -- What templates import, and that libraries import nothing.
-use Rattle.std.proofs.Common.{◌≡◌, Bool, true, false, not, cond, ◌&&◌, ◌||◌, if◌then◌else◌, List, [], ◌∷◌, ◌++◌, map, refl, sym, ap, ◌∙◌, Option, Some, None}
+use Rattle.std.proofs.Common.{◌≡◌, Bool, true, false, cond, ◌&&◌, if◌then◌else◌, List, [], ◌∷◌, ◌++◌, map, refl, sym, ap, ◌∙◌, Option, Some, None}
 use Rattle.std.specs.Prelude.{flat_map, filter}
-use Rattle.std.specs.Option.{is_some, is_none}
-use Rattle.std.specs.List.{AllByRecursion, list_any}
+use Rattle.std.specs.Option.{is_some}
+use Rattle.std.specs.List.{AllByRecursion}
 use Rattle.std.proofs.lemmas.List.{map-append}
 use Rattle.jt_trees.specs.Statements as trees
 use Rattle.jt_trees.specs.Expressions.{Text}
 use Rattle.jt_trees.specs.Statements.{Body, Branches}
 use Rattle.jt_trees.specs.Texts.{among}
-use Rattle.jt_chains.specs.Chain.{Sources, Home, a_chain, a_library, Template, holds_macros, of_a_library, is_space, libraries_in, imports_in, all_given_from, given_from, macros, MacroBody, public_macro, Given, own}
+use Rattle.jt_chains.specs.Chain.{Sources, Home, a_chain, a_library, Template, holds_macros, of_a_library, libraries_in, imports_in, all_given_from, given_from, macros, MacroBody, public_macro, Given, own}
 use Rattle.jt_chains.specs.Rules.{lacks_macros}
 use Rattle.jt_inherit.specs.Found.{known_of, chosen}
 use Rattle.jt_inherit.specs.Kept.{names_from, imported_names}

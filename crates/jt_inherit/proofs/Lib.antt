@@ -22,6 +22,7 @@ pub mod Ordered
 pub mod Raws
 pub mod Ruled
 pub mod Settled
+pub mod Shelved
 pub mod SuperIn
 pub mod Weighed
 pub mod Whole

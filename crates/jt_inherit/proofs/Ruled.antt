@@ -1,6 +1,6 @@
 -- The rules on the templates of a chain or a library, by what is found at their places.
 use Rattle.std.proofs.Common.{◌≡◌, ℕ, Bool, List, [], ◌∷◌, ◌++◌, map, refl, sym, ap, ◌∙◌, Some}
-use Rattle.std.specs.Prelude.{slice_get, flat_map}
+use Rattle.std.specs.Prelude.{slice_get}
 use Rattle.jt_chains.specs.Along.{macros_along, blocks_along, along}
 use Rattle.jt_chains.specs.Chain.{Sources, Template, MacroBody, macros_in, blocks_in}
 use Rattle.jt_inherit.specs.Checks.{lacks_body, lacks_next}
@@ -8,7 +8,6 @@ use Rattle.jt_inherit.specs.Kept.{their_blocks, their_macros, their_names, impor
 use Rattle.jt_chains.specs.Parts.{macros_view, blocks_view}
 use Rattle.jt_chains.specs.declared.parts.Block.{Block}
 use Rattle.jt_chains.specs.declared.parts.Macro.{Macro}
-use Rattle.jt_trees.specs.Expressions.{Text}
 use Rattle.jt_chains.proofs.Placed.{along_templates}
 
 macros_seen : (ts : List Template) (ms : List Macro) → map (λ (m : MacroBody). m.name) (macros_view ts ms) ≡ map (λ m. m.name.now) ms

@@ -1,14 +1,13 @@
 -- The trees of chains and libraries weigh no more than their sources, where a library's source counts for each chain that imports it.
-use Rattle.std.proofs.Common.{◌≡◌, ℕ, ◌+◌, ◌≤◌, Bool, true, false, cond, ◌||◌, ◌⊎◌, inl, inr, if◌then◌else◌, List, [], ◌∷◌, ◌++◌, map, refl, sym, ap, subst, ◌∙◌, arith}
-use Rattle.std.specs.Prelude.{filter}
+use Rattle.std.proofs.Common.{◌≡◌, ℕ, ◌+◌, ◌≤◌, Bool, true, false, cond, ◌||◌, ◌⊎◌, inl, inr, if◌then◌else◌, List, [], ◌∷◌, ◌++◌, refl, sym, ap, ◌∙◌, arith}
 use Rattle.std.specs.Option.{is_some}
 use Rattle.std.specs.Ordering.{nat_cmp, is_lt}
 use Rattle.std.specs.Cmp.Lexicographic.{slice_cmp}
 use Rattle.std.specs.Str.{bytes_eq}
 use Rattle.jt_trees.specs.Texts.{among, repeated, inserted, all_inserted, ascending}
 use Rattle.jt_trees.specs.Expressions.{Text}
-use Rattle.jt_chains.specs.Chain.{Sources, Home, a_chain, a_library, same_home, listed, Template, templates, libraries}
-use Rattle.jt_chains.specs.Includes.{with_source, included, needs_in, InOrder}
+use Rattle.jt_chains.specs.Chain.{Sources, Home, a_chain, a_library, same_home, listed, templates, libraries}
+use Rattle.jt_chains.specs.Includes.{with_source, included, InOrder}
 use Rattle.jt_chains.specs.Rules.{Reaches}
 use Rattle.jt_chains.specs.Weights.{templates_weight, chains_weight}
 use Rattle.jt_inherit.specs.Chains.{Given}

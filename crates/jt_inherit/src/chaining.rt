@@ -63,8 +63,8 @@ pub fn chain<L: Library>(
     ensures short { IfOk result (λ c. AllByRecursion
         (λ t. body_bytes t.body ≤ source_len (L.sources library.now t.name))
         (chain_view c).templates) }
-    // chains and libraries are few for the weight of their trees: each but the entry's chain has its
-    // own tag
+    // chains and libraries are few for the weight of their trees: each but the entry's chain has
+    // its own tag
     ensures few { IfOk result (λ c. 7 * length (chain_view c).order
         ≤ chains_weight (sources_of (chain_view c)) (chain_view c).order + 7) }
 {
@@ -85,7 +85,8 @@ fn check_chains(alloc: Global, found: &Found, escaping: bool) -> Result<(), Chai
     requires places { AllByRecursion (ArePlaces (found_templates found.now))
         (graph_of found.now.ways.items) }
     ensures kept { OnOk result (AllByRecursion
-        (λ way. KeepAll (sources_in (found_templates found.now)) escaping (templates_at (found_templates found.now) way))
+        (λ way. KeepAll (sources_in (found_templates found.now)) escaping
+        (templates_at (found_templates found.now) way))
         (graph_of found.now.ways.items)) }
     ensures broken { IfErr result
         (λ e. BreaksAt escaping (found_templates found.now) (graph_of found.now.ways.items) e) }

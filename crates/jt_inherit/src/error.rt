@@ -21,7 +21,8 @@ pub enum ChainError {
     /// A template extends itself, by way of others or not.
     #[error("C3 ExtendsCycle")]
     ExtendsCycle,
-    /// A chain has more than 64 templates, or the entry's chain and those that includes reach are more than 1,024.
+    /// A chain has more than 64 templates, or the entry's chain and those that includes reach are
+    /// more than 1,024.
     #[error("C4 ChainTooLong")]
     ChainTooLong,
     /// A template has two blocks of one name.

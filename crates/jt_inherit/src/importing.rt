@@ -189,7 +189,12 @@ pub(crate) fn names_at<'a>(
     let macros = macros_at(alloc, shelf.pages, places)?;
     let mut given = names_of(alloc, &macros)?;
     for place in places {
-        add_imported(alloc, shelf, shelf.pages[*place].template.body(), &mut given)?;
+        add_imported(
+            alloc,
+            shelf,
+            shelf.pages[*place].template.body(),
+            &mut given,
+        )?;
     }
     Ok(given)
 }

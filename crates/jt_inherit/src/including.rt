@@ -76,8 +76,8 @@ fn needs_at<'a>(
     Ok(found)
 }
 
-/// Reads the template that is included or imported where it wasn't read before. It is none where it is missing
-/// and may be.
+/// Reads the template that is included or imported where it wasn't read before. It is none where
+/// it is missing and may be.
 fn read_include<L: Library>(
     alloc: Global,
     names: &mut IndexSet<String>,

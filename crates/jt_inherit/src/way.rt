@@ -71,7 +71,8 @@ fn read_way<L: Library>(
         → IsTrue (among n (strings names.old.keys))
         ⊎ IsTrue
         (among n (map (λ t. t.name) (templates_at (pages_view pages.new.items) is.items)))) }
-    ensures way { IfOk result (λ is. IsWay (pages_view pages.new.items) (a_chain entry.now) is.items None) }
+    ensures way { IfOk result
+        (λ is. IsWay (pages_view pages.new.items) (a_chain entry.now) is.items None) }
     // of any chain from which this one is reached
     ensures refused { IfErr result (λ e. (root : Text)
         → Reaches (sources_in (pages_view pages.old.items)) options.autoescape (a_chain root)
@@ -118,7 +119,8 @@ fn read_library<L: Library>(
         → IsTrue (among n (strings names.old.keys))
         ⊎ IsTrue
         (among n (map (λ t. t.name) (templates_at (pages_view pages.new.items) is.items)))) }
-    ensures way { IfOk result (λ is. IsWay (pages_view pages.new.items) (a_library name.now) is.items None) }
+    ensures way { IfOk result
+        (λ is. IsWay (pages_view pages.new.items) (a_library name.now) is.items None) }
     // of any chain from which this one is reached
     ensures refused { IfErr result (λ e. (root : Text)
         → Reaches (sources_in (pages_view pages.old.items)) options.autoescape (a_chain root)
@@ -155,7 +157,8 @@ pub(crate) fn read_home<L: Library>(
         → IsTrue (among n (strings names.old.keys))
         ⊎ IsTrue
         (among n (map (λ t. t.name) (templates_at (pages_view pages.new.items) is.items)))) }
-    ensures way { IfOk result (λ is. IsWay (pages_view pages.new.items) (key_view home.now) is.items None) }
+    ensures way { IfOk result
+        (λ is. IsWay (pages_view pages.new.items) (key_view home.now) is.items None) }
     // of any chain from which this one is reached
     ensures refused { IfErr result (λ e. (root : Text)
         → Reaches (sources_in (pages_view pages.old.items)) options.autoescape (a_chain root)

@@ -1,8 +1,7 @@
-use Rattle.std.proofs.Common.{◌∷◌, [], List, sym, subst}
+use Rattle.std.proofs.Common.{◌∷◌, [], sym, subst}
 use Rattle.std.proofs.lemmas.Result.{err_from_is_err_and}
-use Rattle.jt_chains.specs.Chain.{Home}
 use Rattle.jt_inherit.specs.Found.{AreNext, IsNextFault}
-use Rattle.jt_inherit.specs.Needs.{need_view, need_home}
+use Rattle.jt_inherit.specs.Needs.{need_view}
 use Rattle.jt_inherit.specs.SetView.{strings, homes_view}
 use Rattle.jt_inherit.proofs.Following.{text_among, one_known}
 use Rattle.jt_inherit.proofs.including.add_number.Goals as goal

@@ -13,7 +13,7 @@ pub returns-in_err-put_new-clause-refused : goal.returns-in_err-put_new-clause-r
 returns-in_err-put_new-clause-refused c =
     let p = err_from_is_err_and c.from_residual.result c.from_residual.ensures.1 in
     rw (p.1, p.2)
-    (put_fault (homes_view c.args.homes.now.keys) (key_view c.args.home) (string_bytes c.args.home.name) c.in_err-put_new.field-0 c.requires.once c.in_default.ensures c.in_err-put_new.ensures.refused)
+    (put_fault (homes_view c.args.homes.now.keys) (key_view c.args.home) (string_bytes c.args.home.name) c.in_err-put_new.field-0.0 c.requires.once c.in_default.ensures c.in_err-put_new.ensures.refused)
 
 pub returns-clause-next : goal.returns-clause-next
 returns-clause-next c =
