@@ -50,7 +50,7 @@ import sys
 import tempfile
 
 HERE = pathlib.Path(__file__).resolve().parent
-FILES = ["templates.txt", "values.txt", "refusals.txt", "faults.txt", "documents.txt", "hostile.txt", "commands.txt"]
+FILES = ["templates.txt", "imports.txt", "values.txt", "refusals.txt", "faults.txt", "documents.txt", "hostile.txt", "commands.txt"]
 KINDS = ("templates", "commands")
 SECONDS = 60
 SIGNS = str.maketrans({**dict(zip("␇␈␉␤␋␌␍␠⍽␀", "\a\b\t\n\v\f\r \u00a0\0")), "⌧": "\udcff", "∅": ""})
@@ -60,7 +60,8 @@ NAMES = dict(
     F1:BadType F2:Undefined F3:Overflow F4:ZeroDivide F5:Unprintable F6:NotIterable F7:Unpack F8:Range F9:BadArgument
     S1:UnclosedTag S2:UnclosedText S3:BadCharacter S4:BadEscape S5:NumberTooLarge S6:UnclosedRaw S7:SourceTooLong
     P1:Syntax P2:TooDeep P3:UnknownFilter P4:UnknownTest
-    C1:Missing C2:BadName C3:ExtendsCycle C4:ChainTooLong C5:DoubleBlock C6:RequiredNotGiven C7:NoSuper C8:IncludeCycle C9:MacroTwice
+    C1:Missing C2:BadName C3:ExtendsCycle C4:ChainTooLong C5:DoubleBlock C6:RequiredNotGiven C7:NoSuper C8:IncludeCycle C9:MacroTwice C11:NoMacro
+    C12:NotALibrary
     V1:LoopOutside V2:MacroAsValue V3:NotCallable V4:BadArguments V5:TooManySlots
     G1:CodeTooLong G3:StackTooDeep X1:NotJson X2:NotObject X3:NotWhole X4:OutOfRange
     """.split()
@@ -109,7 +110,7 @@ def answer_of(wanted):
         return f"0 {wanted}[]"
     if wanted in SPENT:
         return f"4 [][jt: spent {wanted}\n]"
-    found = re.fullmatch(r"([A-Z][0-9])((?: in \S+)?)((?: line [0-9]+)?)", wanted)
+    found = re.fullmatch(r"([A-Z][0-9]+)((?: in \S+)?)((?: line [0-9]+)?)", wanted)
     if not found or found[1] not in NAMES:
         raise Malformed(f"nothing is wanted by {wanted[:80]!r}")
     code, where, line = found.groups()
