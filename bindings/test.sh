@@ -59,7 +59,7 @@ try 'the library' test -f "$library"
 try 'the header in C++' c++ -x c++ -Wall -Wextra -Werror -fsyntax-only "$here/c/jt.h"
 for name in example test; do
     sources=("$here/c/$name.c" "$here/c/heap.c")
-    try "$name.c" "${CC:-cc}" "${strict[@]}" -o "$room/$name" "${sources[@]}" "$library"
+    try "$name.c" "${CC:-cc}" "${strict[@]}" -pthread -o "$room/$name" "${sources[@]}" "$library"
 done
 try_writes 'the example in C' "$here/c/expected" "$room/example"
 try 'the tests in C' "$room/test"

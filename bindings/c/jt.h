@@ -1,7 +1,7 @@
 /* jt for hosts in other languages: templates to images, and images to texts. docs/embedding.md
  * shows it at work.
  *
- * Link libjt_ffi.a (crates/jt_ffi/out of a checkout where the gate ran) and heap.c, which stands
+ * Link libjt_ffi.a (crates/jt_ffi/out of a checkout in which it was built) and heap.c, which stands
  * beside this file.
  *
  * Each call does one whole thing and keeps nothing: there is no set-up and nothing to free, and
@@ -10,13 +10,13 @@
  * answer has its length, so that the caller may call again with more room.
  *
  * What a caller owes, and nothing checks:
- *   - A pointer points to as many elements as the length behind it says, and is not null, where the
- * length is 0 too.
- *   - `out` overlaps nothing else that is handed in, and nobody else reads or writes any of it
- * during the call.
- *   - No length is above PTRDIFF_MAX.
- *   - No call is made from a signal handler, or in the forked child of a process with threads.
- *   - The stack has 256 KiB left.
+ *
+ * - A pointer points to as many elements as the length behind it says, and is not null, where the
+ *   length is 0 too.
+ * - `out` overlaps nothing else that is handed in, and nobody else touches any of it in the call.
+ * - No length is above PTRDIFF_MAX.
+ * - No call is made from a signal handler, or in the forked child of a process with threads.
+ * - The stack has 1 MiB left: how much a call takes of it is tested, and not proved.
  *
  * All else is checked in each call, and told by its status: bytes from anyone are safe. */
 #ifndef JT_H
@@ -30,35 +30,37 @@ extern "C" {
 #endif
 
 enum jt_status {
-    JT_DONE = 0,  /* told: the text or the image; of jt_check nothing */
-    JT_FAULT = 1, /* a fault of the template: `code` 2 is F2, `line` is that of its tag; told: the
-                     template's name */
-    JT_USAGE = 2, /* the call is none: `code` 1 the lengths are not those of `texts`, 2 a name or a
-                     source is not UTF-8 */
-    JT_REFUSED = 3, /* no image, no context, or templates that do not compile; told: the reason, as
-                       "X1 NotJson" */
-    JT_SPENT = 4,   /* a number of the budget did not suffice: `code` is one of enum jt_spent */
+    JT_DONE = 0,    /* told: the text or the image; of jt_check nothing */
+    JT_FAULT = 1,   /* a fault of the template: `code` 2 is F2; told: the name of its template */
+    JT_USAGE = 2,   /* the call is none: `code` says why */
+    JT_REFUSED = 3, /* no image, no context, or no such template; told: why, as "X1 NotJson" */
+    JT_SPENT = 4,   /* a number of the budget did not suffice: `code` says which */
     JT_MEMORY = 6   /* a growth was refused */
 };
 
+/* why a call is none */
+enum jt_usage {
+    JT_LENGTHS = 1, /* the lengths are not those of the bytes */
+    JT_NO_TEXT = 2  /* a name or a source is not UTF-8 */
+};
+
+/* which number of a budget did not suffice */
 enum jt_spent { JT_FUEL = 1, JT_DEPTH = 2, JT_OUTPUT = 3, JT_SIZE = 4, JT_NESTING = 5 };
 
 struct jt_answer {
-    uint32_t status; /* one of enum jt_status */
-    uint32_t code;   /* of a fault, a spent budget and a call that is none; else 0 */
-    uint32_t line;   /* of a fault the line of its tag, from 1, or 0 where the image tells no place;
-                        else 0 */
+    uint32_t status;   /* one of enum jt_status */
+    uint32_t code;     /* of a fault its number; one of enum jt_usage or enum jt_spent; else 0 */
+    uint32_t line;     /* of a fault the line of its tag, from 1, or 0 where none is told; else 0 */
     uint32_t reserved; /* 0 */
     uint64_t length;   /* how many bytes are told, whether or not `out` has room for them */
 };
 
-/* How long the name of a template is, and its source, in bytes. */
+/* how long the name of a template is, and its source, in bytes */
 struct jt_lengths {
     uint64_t name, source;
 };
 
-/* How templates are read: 0 is off, any other number on. The usual options have autoescape alone.
- */
+/* How templates are read: 0 is off, any other number on. Usual is autoescape alone. */
 struct jt_options {
     uint8_t trim_blocks, lstrip_blocks, keep_trailing_newline, autoescape;
 };
@@ -80,8 +82,8 @@ struct jt_answer jt_compile(const uint8_t *texts, size_t texts_length,
                             const uint8_t *entry, size_t entry_length, struct jt_options options,
                             uint8_t *out, size_t room);
 
-/* Whether the bytes are an image that is accepted: for every context and budget it runs to a text,
- * a fault or a spent number. */
+/* Whether the bytes are an image that is accepted: one that for every context and budget runs to a
+ * text, a fault or a spent number. */
 struct jt_answer jt_check(const uint8_t *image, size_t image_length, uint8_t *out, size_t room);
 
 /* The text of an image for a context, a JSON object in UTF-8. The image is read and verified in

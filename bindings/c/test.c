@@ -1,6 +1,7 @@
-/* Tests of the calls as C makes them: bindings/test.sh runs it. It prints what failed, and its last
- * line is 'N passed, M failed'. */
+/* Tests of the calls as C makes them: bindings/test.sh runs it. It prints what failed, and its
+ * last line is 'N passed, M failed'. */
 #include "jt.h"
+#include <pthread.h>
 #include <stdio.h>
 #include <string.h>
 
@@ -62,7 +63,8 @@ static void statuses(void) {
     expect(tells(rendered("", "", 64), JT_REFUSED, 0, 0, "X1 NotJson"), "X1 of no bytes");
     expect(tells(rendered("", "{\"a\": \"\xff\"}", 64), JT_REFUSED, 0, 0, "X1 NotJson"),
            "X1 of bytes that are no text");
-    expect(tells(rendered("{{ 1 + }}", "{}", 64), JT_REFUSED, 0, 0, "P1 Syntax in t line 1"), "P1");
+    expect(tells(rendered("{{ 1 + }}", "{}", 64), JT_REFUSED, 0, 0, "P1 Syntax in t line 1"),
+           "P1");
     expect(tells(rendered("{% for i in range(100000) %}aaaaaaaaaaaaaaaa{% endfor %}", "{}", 64),
                  JT_SPENT, JT_OUTPUT, 0, ""),
            "Output");
@@ -72,13 +74,17 @@ static void misuse(void) {
     const struct jt_lengths more = {1, 9}, less = {1, 2}, much = {UINT64_MAX, UINT64_MAX},
                             pair[] = {{1, 0}, {1, 2}};
     const uint8_t *texts = bytes("tabc");
-    expect(tells(jt_compile(texts, 4, &more, 1, texts, 1, usual, out, 64), JT_USAGE, 1, 0, ""),
+    expect(tells(jt_compile(texts, 4, &more, 1, texts, 1, usual, out, 64), JT_USAGE, JT_LENGTHS,
+                 0, ""),
            "lengths beyond the bytes");
-    expect(tells(jt_compile(texts, 4, &less, 1, texts, 1, usual, out, 64), JT_USAGE, 1, 0, ""),
+    expect(tells(jt_compile(texts, 4, &less, 1, texts, 1, usual, out, 64), JT_USAGE, JT_LENGTHS,
+                 0, ""),
            "bytes beyond the lengths");
-    expect(tells(jt_compile(texts, 4, &much, 1, texts, 1, usual, out, 64), JT_USAGE, 1, 0, ""),
+    expect(tells(jt_compile(texts, 4, &much, 1, texts, 1, usual, out, 64), JT_USAGE, JT_LENGTHS,
+                 0, ""),
            "lengths of 64 bits");
-    expect(tells(jt_compile(texts, 4, &more, 0, texts, 1, usual, out, 64), JT_USAGE, 1, 0, ""),
+    expect(tells(jt_compile(texts, 4, &more, 0, texts, 1, usual, out, 64), JT_USAGE, JT_LENGTHS,
+                 0, ""),
            "bytes without lengths");
     expect(jt_compile(texts, 4, pair, 2, texts, 1, usual, out, sizeof out).status == JT_DONE,
            "a source of no bytes");
@@ -87,23 +93,23 @@ static void misuse(void) {
            "no templates");
     expect(tells(jt_compile(bytes("t\xff\xff\xff"), 4, &(struct jt_lengths){1, 3}, 1, texts, 1,
                             usual, out, 64),
-                 JT_USAGE, 2, 0, ""),
+                 JT_USAGE, JT_NO_TEXT, 0, ""),
            "a source that is no text");
     expect(tells(jt_compile(bytes("\xffxxx"), 4, &(struct jt_lengths){1, 3}, 1, texts, 1, usual,
                             out, 64),
-                 JT_USAGE, 2, 0, ""),
+                 JT_USAGE, JT_NO_TEXT, 0, ""),
            "a name that is no text");
-    expect(
-        tells(jt_compile(texts, 4, &(struct jt_lengths){1, 3}, 1, bytes("\xff"), 1, usual, out, 64),
-              JT_USAGE, 2, 0, ""),
-        "an entry that is no text");
-    expect(tells(jt_compile(bytes("ta\xc3\xa9"), 4, (struct jt_lengths[]){{1, 2}, {1, 0}}, 2, texts,
-                            1, usual, out, 64),
-                 JT_USAGE, 2, 0, ""),
+    expect(tells(jt_compile(texts, 4, &(struct jt_lengths){1, 3}, 1, bytes("\xff"), 1, usual, out,
+                            64),
+                 JT_USAGE, JT_NO_TEXT, 0, ""),
+           "an entry that is no text");
+    expect(tells(jt_compile(bytes("ta\xc3\xa9"), 4, (struct jt_lengths[]){{1, 2}, {1, 0}}, 2,
+                            texts, 1, usual, out, 64),
+                 JT_USAGE, JT_NO_TEXT, 0, ""),
            "a letter that lengths cut in two");
     const struct jt_lengths twice[] = {{1, 1}, {1, 1}};
-    expect(tells(jt_render(bytes("tatb"), 4, twice, 2, texts, 1, usual, bytes("{}"), 2, budget, out,
-                           64),
+    expect(tells(jt_render(bytes("tatb"), 4, twice, 2, texts, 1, usual, bytes("{}"), 2, budget,
+                           out, 64),
                  JT_DONE, 0, 0, "b"),
            "of a name that stands twice the last source counts");
 }
@@ -116,8 +122,8 @@ static void images(void) {
     const size_t length = answer.length;
     expect(answer.status == JT_DONE && length > 0 && length <= sizeof image, "an image");
     expect(tells(jt_check(image, length, out, 64), JT_DONE, 0, 0, ""), "an image is accepted");
-    expect(tells(jt_run(image, length, bytes("{\"n\": \"<\"}"), 10, budget, out, 64), JT_DONE, 0, 0,
-                 "&lt;"),
+    expect(tells(jt_run(image, length, bytes("{\"n\": \"<\"}"), 10, budget, out, 64), JT_DONE, 0,
+                 0, "&lt;"),
            "an image runs");
     expect(tells(jt_run(image, length, bytes("{}"), 2, (struct jt_budget){0}, out, 64), JT_SPENT,
                  JT_FUEL, 0, ""),
@@ -131,11 +137,47 @@ static void images(void) {
            "nor does it run");
 }
 
+/* Sources and contexts that nest as deep as any, and deeper. */
+static void *deep(void *unused) {
+    static char source[4096], context[4096];
+    for (int depth = 8; depth < 1000; depth += 37) {
+        const char *opens[] = {"(", "[", "-", "not ", "{% if 1 %}"};
+        for (int which = 0; which < 5; which++) {
+            char *at = source;
+            at += sprintf(at, which < 4 ? "{{ " : "");
+            for (int level = 0; level < depth && at < source + 3000; level++) {
+                at += sprintf(at, "%s", opens[which]);
+            }
+            sprintf(at, which < 4 ? "1" : "{{ 1 }}");
+            expect(rendered(source, "{}", 64).status == JT_REFUSED,
+                   "a source that is never closed");
+        }
+        memset(context, '[', sizeof context);
+        memset(context + depth, ']', sizeof context - depth);
+        memcpy(context, "{\"a\":", 5);
+        strcpy(context + 2 * depth - 5, "}");
+        const uint32_t status = rendered("{{ a | length }}", context, 64).status;
+        expect(status == JT_DONE || status == JT_SPENT || status == JT_REFUSED, "a deep context");
+    }
+    return unused;
+}
+
+/* They are read on a stack of 1 MiB. */
+static void stack(void) {
+    pthread_attr_t small;
+    pthread_t thread;
+    pthread_attr_init(&small);
+    pthread_attr_setstacksize(&small, 1 << 20);
+    const int begun = pthread_create(&thread, &small, deep, NULL);
+    expect(begun == 0 && pthread_join(thread, NULL) == 0, "a thread with a stack of 1 MiB");
+}
+
 int main(void) {
     buffers();
     statuses();
     misuse();
     images();
+    stack();
     printf("%d passed, %d failed\n", passed, failed);
     return failed != 0;
 }

@@ -20,6 +20,7 @@ const BUDGET: Budget = Budget {
 };
 
 /// Templates by their names.
+#[derive(Drop)]
 struct Shelf<'a> {
     templates: &'a [(&'a str, &'a str)],
 }
