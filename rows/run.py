@@ -26,6 +26,7 @@ A section of commands begins with the files of the room that its rows run in, ea
     file PATH = text      a file with this text
     bytes PATH = 00ff     a file with these bytes, two digits each
     zeros PATH = 1000     a file of so many zeros
+    link PATH = TO        a link, to TO beside it
     make words            what the program does in the room; it has to answer `0 [][]`
 
 A row of commands is `step ; step => wanted ; wanted`. A step is the words of a line (∅ alone is a line without words), with any of
@@ -178,12 +179,14 @@ def furnish(program, room, line):
         if found != "0 [][]":
             raise Malformed(f"{line}: {found[:200]}")
         return True
-    if word not in ("file", "bytes", "zeros"):
+    if word not in ("file", "bytes", "zeros", "link"):
         return False
     path, is_there, text = rest.partition(" = ")
     if not is_there:
         raise Malformed(f"{line}: no file")
-    if word == "zeros":
+    if word == "link":
+        os.symlink(unfolded(text), room / unfolded(path))
+    elif word == "zeros":
         put(room, path, b"")
         os.truncate(room / path, int(text))
     else:
@@ -259,7 +262,7 @@ def judged(program, place, row, kind, template):
         try:
             if not is_row:
                 raise Malformed("a row has no =>")
-            shutil.copytree(template, room, copy_function=copied)
+            shutil.copytree(template, room, symlinks=True, copy_function=copied)
             does = rendered if kind == "templates" else in_order
             found = does(program, room, asked, wanted)
         except (Malformed, OSError, ValueError, subprocess.TimeoutExpired) as error:
