@@ -61,8 +61,10 @@ for name in example test; do
     sources=("$here/c/$name.c" "$here/c/heap.c")
     try "$name.c" "${CC:-cc}" "${strict[@]}" -pthread -o "$room/$name" "${sources[@]}" "$library"
 done
+try 'memory.c' "${CC:-cc}" "${strict[@]}" -o "$room/memory" "$here/c/memory.c" "$library"
 try_writes 'the example in C' "$here/c/expected" "$room/example"
 try 'the tests in C' "$room/test"
+try 'the growths in C' "$room/memory"
 try 'the shared library' "$here/build.sh" "$library" "$room"
 try_writes 'the example in Python' "$here/python/expected" python3 "$here/python/example.py"
 try 'the tests in Python' python3 "$here/python/test_jt.py"
