@@ -7,7 +7,9 @@ ghost use Rattle.std.specs.Str.{bytes_eq};
 ghost use Rattle.jt_host.specs.Compiled.{IsCompiled};
 ghost use Rattle.jt_embedding.specs.Letters.{IsWritten, usual};
 
-use jt_host::{Budget, Library, Options, Outcome, Verified, compile, context_from_json, run, verify};
+use jt_host::{
+    Budget, Library, Options, Outcome, Verified, compile, context_from_json, run, verify,
+};
 use std::alloc::Global;
 use std::io;
 
@@ -50,7 +52,11 @@ fn main(rt: HostRuntime) -> io::Result<()> {
     let Some(letter) = accepted(rt.alloc(), "letter", &shelf) else {
         return println!(rt; "no letter");
     };
-    for json in ["{\"name\": \"Noor\"}", "{\"name\": \"<Ben>\"}", "{\"name\": []}"] {
+    for json in [
+        "{\"name\": \"Noor\"}",
+        "{\"name\": \"<Ben>\"}",
+        "{\"name\": []}",
+    ] {
         match written(rt.alloc(), &letter, json) {
             Some(Outcome::Text(text)) => println!(rt; "{text}")?,
             Some(Outcome::Fault(fault, Some(place))) => {

@@ -25,11 +25,7 @@ pub struct Answer {
 }
 
 /// Tells how a call ended.
-pub(crate) fn tell_ending(
-    alloc: Global,
-    out: &mut [u8],
-    ending: &Result<Vec<u8>, Untold>,
-) -> Answer
+pub(crate) fn tell_ending(alloc: Global, out: &mut [u8], ending: &Result<Vec<u8>, Untold>) -> Answer
     ensures { Tells ending.now out.old out.new result }
 {
     match ending {

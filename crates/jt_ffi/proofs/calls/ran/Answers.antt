@@ -4,7 +4,7 @@ use Rattle.jt_ffi.proofs.calls.ran.Goals as goal
 
 pub returns : goal.returns
 returns c = (
-      pairs_of c.in_ok-context.context,
-      c.in_ok-context.ensures,
-      (c.in_ok-text.text, ap (λ (v : Vec ℕ Global). v.items) c.into_bytes.ensures.value, c.in_ok-text.ensures),
-    )
+  pairs_of c.in_ok-context.context,
+  c.in_ok-context.ensures,
+  (c.in_ok-text.text, ap (λ (v : Vec ℕ Global). v.items) c.into_bytes.ensures.value, c.in_ok-text.ensures),
+)
