@@ -57,22 +57,17 @@ fn main(rt: HostRuntime) -> io::Result<()> {
         "{\"name\": \"<Ben>\"}",
         "{\"name\": []}",
     ] {
-        say(&rt, written(rt.alloc(), &letter, json))?;
+        match written(rt.alloc(), &letter, json) {
+            Some(Outcome::Text(text)) => println!(rt; "{text}")?,
+            Some(Outcome::Fault(fault, Some(place))) => {
+                println!(rt; "fault {fault} in {} line {}", place.template, place.line)?
+            }
+            Some(Outcome::Fault(fault, None)) => println!(rt; "fault {fault}")?,
+            Some(Outcome::Spent(spent)) => println!(rt; "spent {spent}")?,
+            None => println!(rt; "no context, or no memory")?,
+        }
     }
     Ok(())
-}
-
-/// Prints how a run ended.
-fn say(rt: &HostRuntime, outcome: Option<Outcome>) -> io::Result<()> {
-    match outcome {
-        Some(Outcome::Text(text)) => println!(rt; "{text}"),
-        Some(Outcome::Fault(fault, Some(place))) => {
-            println!(rt; "fault {fault} in {} line {}", place.template, place.line)
-        }
-        Some(Outcome::Fault(fault, None)) => println!(rt; "fault {fault}"),
-        Some(Outcome::Spent(spent)) => println!(rt; "spent {spent}"),
-        None => println!(rt; "no context, or no memory"),
-    }
 }
 
 /// The image of a template of a library, once and for all.
