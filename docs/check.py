@@ -6,7 +6,7 @@ Documents are README.md, CONTRIBUTING.md, CHANGELOG.md and those of docs/, at an
     of each link in a document     that the file is there, and the heading, where one is named
     of each `crates/..`, `rows/..` and the like     that the file or folder is there; one with capitals or a * as a name is a pattern
     of each file with a line (`runs.rt:36` and a word behind it)     that this word stands on that line
-    of each jt_.. name             that it is a crate, and of `jt_..::name` that the crate has an item of this name
+    of each jt_.. name             that it is a crate or a call of bindings/c/jt.h, and of `jt_..::name` that the crate has an item of this name
     of each `Type::call`           that a crate with a type of this name has such a call
     of each call of contracts.md   that the crate of its heading has it; of each module of definitions.md, that it is in specs/
     of each example of errors.md and from-jinja.md (a line with ` => ` in a code block or a table)     that it is a row of rows/
@@ -22,7 +22,7 @@ import sys
 ROOT = pathlib.Path(__file__).resolve().parent.parent
 MOST = 7000
 LINK = re.compile(r"(?<!!)\[[^\]]*\]\(([^)\s]+)\)")
-FOLDERS = "crates|rows|docs|bench|examples"
+FOLDERS = "crates|rows|docs|bench|examples|bindings"
 PATH = re.compile(rf"(?<![\w/.])(?:\.ci/\w+|(?:{FOLDERS})/[\w./*+-]*[\w*/])")
 PLACED = re.compile(r"((?:crates)/[\w./-]+\.rt):(\d+) `(\w+)`")
 CRATE = re.compile(r"\bjt_[a-z_]+\b")
@@ -80,6 +80,11 @@ def examples(text):
                 yield cell.replace("\\|", "|")
 
 
+def declared():
+    """The names of the header for other languages."""
+    return set(CRATE.findall((ROOT / "bindings" / "c" / "jt.h").read_text(encoding="utf-8")))
+
+
 class Checks:
     """What passed, and what is wrong."""
 
@@ -120,7 +125,7 @@ class Checks:
     def names(self, file, text, code):
         """The crates, and the calls of types and crates, that are named."""
         for crate in set(CRATE.findall(text)):
-            self.holds(crate in code, file, f"no crate: {crate}")
+            self.holds(crate in code or crate in declared(), file, f"no crate: {crate}")
         for crate, name in set(IN_CRATE.findall(text)):
             last = name.split("::")[-1]
             self.holds(re.search(ITEM.format(last), code.get(crate, "")), file, f"{crate} has no {name}")

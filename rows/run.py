@@ -26,6 +26,7 @@ A section of commands begins with the files of the room that its rows run in, ea
     file PATH = text      a file with this text
     bytes PATH = 00ff     a file with these bytes, two digits each
     zeros PATH = 1000     a file of so many zeros
+    link PATH = TO        a link, to TO beside it
     make words            what the program does in the room; it has to answer `0 [][]`
 
 A row of commands is `step ; step => wanted ; wanted`. A step is the words of a line (∅ alone is a line without words), with any of
@@ -50,7 +51,7 @@ import sys
 import tempfile
 
 HERE = pathlib.Path(__file__).resolve().parent
-FILES = ["templates.txt", "values.txt", "refusals.txt", "faults.txt", "documents.txt", "hostile.txt", "commands.txt"]
+FILES = ["templates.txt", "imports.txt", "values.txt", "refusals.txt", "faults.txt", "documents.txt", "hostile.txt", "commands.txt"]
 KINDS = ("templates", "commands")
 SECONDS = 60
 SIGNS = str.maketrans({**dict(zip("␇␈␉␤␋␌␍␠⍽␀", "\a\b\t\n\v\f\r \u00a0\0")), "⌧": "\udcff", "∅": ""})
@@ -60,7 +61,8 @@ NAMES = dict(
     F1:BadType F2:Undefined F3:Overflow F4:ZeroDivide F5:Unprintable F6:NotIterable F7:Unpack F8:Range F9:BadArgument
     S1:UnclosedTag S2:UnclosedText S3:BadCharacter S4:BadEscape S5:NumberTooLarge S6:UnclosedRaw S7:SourceTooLong
     P1:Syntax P2:TooDeep P3:UnknownFilter P4:UnknownTest
-    C1:Missing C2:BadName C3:ExtendsCycle C4:ChainTooLong C5:DoubleBlock C6:RequiredNotGiven C7:NoSuper C8:IncludeCycle C9:MacroTwice
+    C1:Missing C2:BadName C3:ExtendsCycle C4:ChainTooLong C5:DoubleBlock C6:RequiredNotGiven C7:NoSuper C8:IncludeCycle C9:MacroTwice C11:NoMacro
+    C12:NotALibrary
     V1:LoopOutside V2:MacroAsValue V3:NotCallable V4:BadArguments V5:TooManySlots
     G1:CodeTooLong G3:StackTooDeep X1:NotJson X2:NotObject X3:NotWhole X4:OutOfRange
     """.split()
@@ -109,7 +111,7 @@ def answer_of(wanted):
         return f"0 {wanted}[]"
     if wanted in SPENT:
         return f"4 [][jt: spent {wanted}\n]"
-    found = re.fullmatch(r"([A-Z][0-9])((?: in \S+)?)((?: line [0-9]+)?)", wanted)
+    found = re.fullmatch(r"([A-Z][0-9]+)((?: in \S+)?)((?: line [0-9]+)?)", wanted)
     if not found or found[1] not in NAMES:
         raise Malformed(f"nothing is wanted by {wanted[:80]!r}")
     code, where, line = found.groups()
@@ -177,12 +179,14 @@ def furnish(program, room, line):
         if found != "0 [][]":
             raise Malformed(f"{line}: {found[:200]}")
         return True
-    if word not in ("file", "bytes", "zeros"):
+    if word not in ("file", "bytes", "zeros", "link"):
         return False
     path, is_there, text = rest.partition(" = ")
     if not is_there:
         raise Malformed(f"{line}: no file")
-    if word == "zeros":
+    if word == "link":
+        os.symlink(unfolded(text), room / unfolded(path))
+    elif word == "zeros":
         put(room, path, b"")
         os.truncate(room / path, int(text))
     else:
@@ -258,7 +262,7 @@ def judged(program, place, row, kind, template):
         try:
             if not is_row:
                 raise Malformed("a row has no =>")
-            shutil.copytree(template, room, copy_function=copied)
+            shutil.copytree(template, room, symlinks=True, copy_function=copied)
             does = rendered if kind == "templates" else in_order
             found = does(program, room, asked, wanted)
         except (Malformed, OSError, ValueError, subprocess.TimeoutExpired) as error:

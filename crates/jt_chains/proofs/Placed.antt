@@ -11,9 +11,10 @@ use Rattle.jt_trees.specs.Expressions.{Text}
 use Rattle.jt_trees.specs.Statements.{Body, end}
 use Rattle.jt_trees.specs.StatementView.{body_of}
 use Rattle.jt_chains.specs.Along.{ArePlaces, body_at, along}
-use Rattle.jt_chains.specs.Chain.{Sources, Template, template, templates, names_up, sources_in}
+use Rattle.jt_chains.specs.Chain as chain
+use Rattle.jt_chains.specs.Chain.{Sources, Template, template, holds_macros, library_template, templates, max_templates, names_up, sources_in}
 use Rattle.jt_trees.specs.Texts.{among, repeated}
-use Rattle.jt_chains.specs.Pages.{page_view, pages_view, home_name, names_at, AreWhole}
+use Rattle.jt_chains.specs.Pages.{page_view, pages_view, home_view, names_at, AreWhole}
 use Rattle.jt_chains.specs.Parts.{name_at}
 use Rattle.jt_chains.specs.Places.{home_at}
 use Rattle.jt_chains.specs.declared.linked.Page.{Page}
@@ -76,8 +77,8 @@ are_places ts (i ∷ is) (u ∷ us) e =
     (slice_get_within ts i u h, are_places ts is us r)
 
 -- the name of the chain at a place
-pub name_of_home : (hs : List Home) (i : ℕ) (h : Home) → i < length hs → h ≡ get_or hs i h → home_at (map home_name hs) i ≡ home_name h
-name_of_home hs i h lt is = ap (λ o. unwrap_or o []) (map_at home_name hs i h lt is)
+pub name_of_home : (hs : List Home) (i : ℕ) (h : Home) → i < length hs → h ≡ get_or hs i h → home_at (map home_view hs) i ≡ home_view h
+name_of_home hs i h lt is = ap (λ o. unwrap_or o (chain.a_chain [])) (map_at home_view hs i h lt is)
 
 -- ---- templates by their names
 
@@ -133,8 +134,17 @@ given_along s (n ∷ ns) = by (s n) refl (given_along s ns)
     by (Some b) e r = (e, r)
 
 -- the templates of a chain are those of their names
-pub given_templates : (s : Sources) (h : Text) → Given s (templates s h)
-given_templates s h = given_along s (names_up s 16 (Some h))
+pub given_templates : (s : Sources) (h : chain.Home) → Given s (templates s h)
+given_templates s (chain.a_chain n) = given_along s (names_up s max_templates (Some n))
+given_templates s (chain.a_library n) = alone (s n) refl
+  where
+    alone : (o : Option Body) → s n ≡ o → Given s (library_template n o)
+    alone None e = tt
+    alone (Some b) e = by (holds_macros b)
+      where
+        by : (c : Bool) → Given s (if c then template n (Some b) else [])
+        by true = (e, tt)
+        by false = tt
 
 alike : (t u : Template) → t.name ≡ u.name → t.body ≡ u.body → t ≡ u
 alike t u p q =
@@ -171,29 +181,29 @@ placed_by_names ts (i ∷ is) (u ∷ us) once g e = by (slice_get ts i) refl (pl
 
 -- the templates of the chain at a place among chains
 pub whole_at : (ts : List Template) (hs : List Home) (i : ℕ) (h : Home) → i < length hs → h ≡ get_or hs i h → AreWhole ts hs
-    → names_at ts h.templates.items ≡ map (λ t. Some t.name) (templates (sources_in ts) (home_name h))
+    → names_at ts h.templates.items ≡ map (λ t. Some t.name) (templates (sources_in ts) (home_view h))
 whole_at ts [] i h lt is w = absurd (omega arith)
-whole_at ts (k ∷ hs) zero h lt is w = subst (λ (z : Home). names_at ts z.templates.items ≡ map (λ t. Some t.name) (templates (sources_in ts) (home_name z))) (sym is) w.0
+whole_at ts (k ∷ hs) zero h lt is w = subst (λ (z : Home). names_at ts z.templates.items ≡ map (λ t. Some t.name) (templates (sources_in ts) (home_view z))) (sym is) w.0
 whole_at ts (k ∷ hs) (suc i) h lt is w = whole_at ts hs i h (omega arith) is w.1
 
 pub home_templates : (ts : List Template) (hs : List Home) (i : ℕ) (h : Home) → i < length hs → h ≡ get_or hs i h → repeated (map (λ u. u.name) ts) ≡ false → AreWhole ts hs
-    → map (slice_get ts) h.templates.items ≡ map Some (templates (sources_in ts) (home_name h))
+    → map (slice_get ts) h.templates.items ≡ map Some (templates (sources_in ts) (home_view h))
 home_templates ts hs i h lt is once w =
-    placed_by_names ts h.templates.items (templates (sources_in ts) (home_name h)) once (given_templates (sources_in ts) (home_name h)) (whole_at ts hs i h lt is w)
+    placed_by_names ts h.templates.items (templates (sources_in ts) (home_view h)) once (given_templates (sources_in ts) (home_view h)) (whole_at ts hs i h lt is w)
 
 -- what the templates of a chain have
 module _ (ps qs : List Page) (hs : List Home) (i : ℕ) (h : Home) (is : List ℕ) (same_pages : qs ≡ ps) (same_places : is ≡ h.templates.items) (lt : i < length hs) (at : h ≡ get_or hs i h)
     (once : repeated (map (λ u. u.name) (pages_view ps)) ≡ false) (whole : AreWhole (pages_view ps) hs) where
-  there : map (slice_get (pages_view ps)) h.templates.items ≡ map Some (templates (sources_in (pages_view ps)) (home_name h))
+  there : map (slice_get (pages_view ps)) h.templates.items ≡ map Some (templates (sources_in (pages_view ps)) (home_view h))
   there = home_templates (pages_view ps) hs i h lt at once whole
 
   pub home_places : ArePlaces (pages_view qs) is
   home_places =
       subst (λ (z : List Page). ArePlaces (pages_view z) is) (sym same_pages)
-      (subst (ArePlaces (pages_view ps)) (sym same_places) (are_places (pages_view ps) h.templates.items (templates (sources_in (pages_view ps)) (home_name h)) there))
+      (subst (ArePlaces (pages_view ps)) (sym same_places) (are_places (pages_view ps) h.templates.items (templates (sources_in (pages_view ps)) (home_view h)) there))
 
-  pub home_along : {A : Type 0} (g : Text → Body → List A) → along (pages_view qs) g is ≡ flat_map (λ t. g t.name t.body) (templates (sources_in (pages_view ps)) (home_at (map home_name hs) i))
+  pub home_along : {A : Type 0} (g : Text → Body → List A) → along (pages_view qs) g is ≡ flat_map (λ t. g t.name t.body) (templates (sources_in (pages_view ps)) (home_at (map home_view hs) i))
   home_along g =
       ap (λ (z : List Page). along (pages_view z) g is) same_pages ∙ ap (along (pages_view ps) g) same_places
-      ∙ along_templates g (pages_view ps) h.templates.items (templates (sources_in (pages_view ps)) (home_name h)) there
+      ∙ along_templates g (pages_view ps) h.templates.items (templates (sources_in (pages_view ps)) (home_view h)) there
       ∙ ap (λ n. flat_map (λ t. g t.name t.body) (templates (sources_in (pages_view ps)) n)) (sym (name_of_home hs i h lt at))

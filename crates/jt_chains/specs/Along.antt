@@ -36,3 +36,8 @@ module _ (ts : List Template) where
   -- the templates themselves
   abbrev pub layers_along : List ℕ → List Template
   layers_along = along (λ n b. record { name = n; body = b } ∷ [])
+
+-- the statements of the first of some templates
+abbrev pub first_body : List Template → Body
+first_body [] = end
+first_body (t ∷ ts) = t.body

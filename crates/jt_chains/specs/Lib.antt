@@ -2,6 +2,7 @@ pub mod Along
 pub mod Chain
 pub mod Includes
 pub mod Layers
+pub mod Named
 pub mod Names
 pub mod Pages
 pub mod Parts

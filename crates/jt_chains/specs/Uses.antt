@@ -4,7 +4,7 @@ use Rattle.jt_trees.specs.Expressions.{Expr, constant, name, group, list_of, map
 pub use Rattle.jt_trees.specs.Expressions.{count}
 use Rattle.jt_chains.specs.Chain.{is_loop, Sources, Home, templates}
 use Rattle.jt_trees.specs.Texts.{ascending}
-use Rattle.jt_trees.specs.Statements.{Filtering, Stmt, data_of, print, choose, for_each, set, set_block, with_values, filter_block, autoescape, macro, include, extends, block, Body, end, stmt, Branches, no_branches, branch}
+use Rattle.jt_trees.specs.Statements.{Filtering, Stmt, data_of, print, choose, for_each, set, set_block, with_values, filter_block, autoescape, macro, include, import_as, import_from, extends, block, Body, end, stmt, Branches, no_branches, branch}
 
 -- the names of arguments that are given by name, or the keys of a map
 abbrev pub keywords : Pairs → List Text
@@ -61,6 +61,8 @@ abbrev mutual
   stmt_names (autoescape line on body) = body_names body
   stmt_names (macro line x ps body) = map (λ p. p.name) ps ++ body_names body
   stmt_names (include line n ignore_missing with_context) = []
+  stmt_names (import_as line n x) = []
+  stmt_names (import_from line n xs) = []
   stmt_names (extends line n) = []
   stmt_names (block line x scoped required body) = body_names body
 
@@ -112,10 +114,10 @@ abbrev mutual
   scope_names_under no_branches = []
   scope_names_under (branch line c body rest) = scope_names_in body ++ scope_names_under rest
 
--- the names of a chain's templates
+-- the names of a chain's templates, or of a library's own
 abbrev pub own_names : Sources → Home → List Text
 own_names sources h = flat_map (λ t. body_names t.body) (templates sources h)
 
--- the names that the scopes of a chain bind
+-- the names that their scopes bind
 abbrev pub scope_names : Sources → Home → List Text
 scope_names sources h = ascending (flat_map (λ t. scope_names_in t.body) (templates sources h))

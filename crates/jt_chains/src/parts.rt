@@ -50,7 +50,7 @@ fn inside<'a>(spot: Spot<'a>, escaping: bool) -> Spot<'a>
 }
 
 /// Adds the macros at the top of a template.
-fn add_macros<'a>(
+pub(crate) fn add_macros<'a>(
     pages: &'a [Page],
     template: usize,
     body: &'a [Stmt],
@@ -108,6 +108,8 @@ fn add_statement<'a>(
         | Stmt::Print(_, _)
         | Stmt::Set(_, _, _)
         | Stmt::Include(_, _, _, _)
+        | Stmt::Import(_, _, _)
+        | Stmt::From(_, _, _)
         | Stmt::Extends(_, _) => Ok(()),
         Stmt::Block(_, name, scoped, required, body) => {
             found.push(Block {
@@ -142,7 +144,7 @@ fn add_statement<'a>(
 }
 
 /// The statements of the template at a place; none where there is no template.
-fn body_of_page(pages: &[Page], place: usize) -> &[Stmt]
+pub(crate) fn body_of_page(pages: &[Page], place: usize) -> &[Stmt]
     ensures { body_view result.now ≡ body_at (pages_view pages.now) place }
 {
     match pages.get(place) {

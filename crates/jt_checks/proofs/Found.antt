@@ -15,7 +15,7 @@ use Rattle.jt_trees.specs.StatementView.{stmt_view, body_view, branches_view, na
 use Rattle.jt_trees.specs.declared.statement.Filtering.{Filtering}
 use Rattle.jt_trees.specs.declared.statement.Stmt.{Stmt}
 use Rattle.jt_trees.specs.declared.statement.Stmt.TheVariants as statement
-use Rattle.jt_chains.specs.Chain.{Home, callee, macros}
+use Rattle.jt_chains.specs.Chain.{Home, callee, given}
 use Rattle.jt_chains.specs.declared.linked.Chain.{Chain}
 use Rattle.jt_slots.specs.Filters.{Filters}
 use Rattle.jt_slots.specs.Tests.{test_named}
@@ -37,11 +37,11 @@ module _ (world : World) (home : Home) (w : rules.Within) where
   pub found_call : (x f g : Expr) (us vs : List Expr) (qs rs : List Entry) (p : Box Expr Global) (ts : Vec Expr Global) (ps : Vec Entry Global) (r1 r2 r3 r4 o1 o2 o3 : Found)
       → x ≡ e.Call p ts ps → f ≡ p.value → g ≡ p.value → us ≡ ts.items → qs ≡ ps.items → vs ≡ ts.items → rs ≡ ps.items
       → r1 ≡ rules.called_broken world home (expr_view f) w
-      → r2 ≡ rules.call_broken world home (callee (macros world.sources home) (expr_view g)) w (expr_view g) (exprs_view us) (pairs_view qs)
+      → r2 ≡ rules.call_broken world home (callee world.sources (given world.sources home) (expr_view g)) w (expr_view g) (exprs_view us) (pairs_view qs)
       → r3 ≡ rules.row_broken world home (exprs_view vs) w → r4 ≡ rules.pairs_broken world home (pairs_view rs) w
       → o1 ≡ option_or r3 r4 → o2 ≡ option_or r2 o1 → o3 ≡ option_or r1 o2 → o3 ≡ rules.broken world home (expr_view x) w
   found_call x f g us vs qs rs p ts ps r1 r2 r3 r4 o1 o2 o3 is ef eg eu eq ev er h1 h2 h3 h4 k1 k2 k3 =
-      let c = λ (z : Expr) (ys : List Expr) (zs : List Entry). rules.call_broken world home (callee (macros world.sources home) (expr_view z)) w (expr_view z) (exprs_view ys) (pairs_view zs) in
+      let c = λ (z : Expr) (ys : List Expr) (zs : List Entry). rules.call_broken world home (callee world.sources (given world.sources home) (expr_view z)) w (expr_view z) (exprs_view ys) (pairs_view zs) in
       let e1 : r1 ≡ rules.called_broken world home (expr_view p.value) w = h1 ∙ ap (λ z. rules.called_broken world home (expr_view z) w) ef in
       let e2 : r2 ≡ c p.value ts.items ps.items = h2 ∙ ap (λ z. c z us qs) eg ∙ ap (λ z. c p.value z qs) eu ∙ ap (c p.value ts.items) eq in
       let e3 : r3 ≡ rules.row_broken world home (exprs_view ts.items) w = h3 ∙ ap (λ z. rules.row_broken world home (exprs_view z) w) ev in

@@ -1,4 +1,4 @@
--- Macros and blocks of a chain, by their names.
+-- Macros, libraries and blocks of a chain, by their names.
 use Rattle.std.proofs.Common.{◌≡◌, ℕ, suc, ◌+◌, ◌<◌, Bool, true, false, cond, not, ◌||◌, if◌then◌else◌, List, [], ◌∷◌, length, map, drop, get_or, nat_lt, refl, sym, ap, ◌∙◌, arith, Option, Some, None}
 use Rattle.std.specs.Prelude.{option_map, filter}
 use Rattle.std.specs.List.{list_any}
@@ -14,27 +14,24 @@ use Rattle.std.proofs.lemmas.Map.Text.{is_eq-slice_cmp}
 use Rattle.std.proofs.lemmas.Slice.Eq.{bytes_eq-Decides}
 use denote.Ref.{Bor}
 use Rattle.jt_trees.specs.Expressions.{Text}
-use Rattle.jt_trees.specs.Statements.{Parameter}
-use Rattle.jt_trees.specs.StatementView.{parameters_view}
-use Rattle.jt_trees.specs.declared.statement.Parameter as written
-use Rattle.jt_chains.specs.Chain.{Template, MacroBody, BlockBody, macro_of}
-use Rattle.jt_chains.specs.Parts.{macro_view, block_view}
-use Rattle.jt_chains.specs.declared.parts.Macro.{Macro}
+use Rattle.jt_chains.specs.Chain as chains
+use Rattle.jt_chains.specs.Chain.{Template, BlockBody, given_to}
+use Rattle.jt_chains.specs.Named.{given_view, named_view}
+use Rattle.jt_chains.specs.Parts.{block_view}
+use Rattle.jt_chains.specs.declared.given.Named.{Named}
 use Rattle.jt_chains.specs.declared.parts.Block.{Block}
-use Rattle.jt_checks.specs.Standing.{ByName, Names, parameters_of, parameters_at, is_among}
+use Rattle.jt_checks.specs.Standing.{ByName, Names, Known, known_as, known_of, known_at, known_view, is_among}
+use Rattle.jt_checks.specs.declared.scope.Known as scope
 use Rattle.jt_checks.proofs.Sets.{name_cmp, among_added}
 
-abbrev Given : Type 0
-Given = Option (List Parameter)
+-- what is known, where this is the name
+abbrev pub if_named : Text → Known → Text → Option Known → Option Known
+if_named name k x rest = if bytes_eq name x then Some k else rest
 
--- the parameters, where this is the name
-abbrev pub if_named : Text → List Parameter → Text → Given → Given
-if_named name ps x rest = if bytes_eq name x then Some ps else rest
-
-pub first_macro : (ts : List Template) (m : Macro) (ms : List MacroBody) (x : Text) → parameters_of (macro_of x (macro_view ts m ∷ ms)) ≡ if_named m.name.now (parameters_view m.parameters.now) x (parameters_of (macro_of x ms))
-first_macro ts m ms x = by (bytes_eq m.name.now x)
+pub first_given : (ts : List Template) (h : chains.Home) (g : Named) (gs : List (Text × chains.Given)) (x : Text) → known_of (given_to x (named_view ts h g ∷ gs)) ≡ if_named g.name.now (known_as (given_view ts h g.given)) x (known_of (given_to x gs))
+first_given ts h g gs x = by (bytes_eq g.name.now x)
   where
-    by : (b : Bool) → parameters_of (if b then Some (macro_view ts m) else macro_of x ms) ≡ (if b then Some (parameters_view m.parameters.now) else parameters_of (macro_of x ms))
+    by : (b : Bool) → known_of (if b then Some (given_view ts h g.given) else given_to x gs) ≡ (if b then Some (known_as (given_view ts h g.given)) else known_of (given_to x gs))
     by true = refl
     by false = refl
 
@@ -45,42 +42,39 @@ absent : {A B : Type 0} (f : A → B) (o : Option A) → is_some o ≡ false →
 absent f (Some a) e = absurd (cc)
 absent f None e = refl
 
--- a name that is there already keeps its parameters
-pub macro_kept : (m : ByName) (name x : Text) (ps : List Parameter) (rest : Given) → is_some (sorted.get_by (λ k. slice_cmp nat_cmp name k.now) m) ≡ true
-    → option_or (parameters_at m x) rest ≡ option_or (parameters_at m x) (if_named name ps x rest)
-macro_kept m name x ps rest there = by (bytes_eq name x) refl
+-- a name that is there already stays what it is
+pub name_kept : (m : ByName) (name x : Text) (v : Known) (rest : Option Known) → is_some (sorted.get_by (λ k. slice_cmp nat_cmp name k.now) m) ≡ true
+    → option_or (known_at m x) rest ≡ option_or (known_at m x) (if_named name v x rest)
+name_kept m name x v rest there = by (bytes_eq name x) refl
   where
     some_first : {A B : Type 0} (f : A → B) (o : Option A) → is_some o ≡ true → (r s : Option B) → option_or (option_map f o) r ≡ option_or (option_map f o) s
     some_first f (Some a) e r s = refl
     some_first f None e r s = absurd (cc)
 
-    by : (b : Bool) → bytes_eq name x ≡ b → option_or (parameters_at m x) rest ≡ option_or (parameters_at m x) (if b then Some ps else rest)
+    by : (b : Bool) → bytes_eq name x ≡ b → option_or (known_at m x) rest ≡ option_or (known_at m x) (if b then Some v else rest)
     by false e = refl
     by true e =
-        some_first (λ qs. parameters_view qs.now) (sorted.get_by (λ k. slice_cmp nat_cmp x k.now) m)
-        (ap (λ z. is_some (sorted.get_by (λ k. slice_cmp nat_cmp z k.now) m)) (sym (same_name name x e)) ∙ there) rest (Some ps)
+        some_first known_view (sorted.get_by (λ k. slice_cmp nat_cmp x k.now) m)
+        (ap (λ z. is_some (sorted.get_by (λ k. slice_cmp nat_cmp z k.now) m)) (sym (same_name name x e)) ∙ there) rest (Some v)
 
--- and one that isn't there gets them
-pub macro_put : (m n : ByName) (k : Bor Text) (v : Bor (List written.Parameter)) (x : Text) (rest : Given) → is_some (sorted.get_by (λ q. slice_cmp nat_cmp k.now q.now) m) ≡ false → sorted.Updates name_cmp m n k (Some v)
-    → option_or (parameters_at n x) rest ≡ option_or (parameters_at m x) (if_named k.now (parameters_view v.now) x rest)
-macro_put m n k v x rest new u = ap (λ o. option_or (option_map shown o) rest) (u.0 (record { ref_ptr = (0, 0); now = x }) ∙ ap (λ b. cond b (Some v) (found x)) (is_eq-slice_cmp k.now x)) ∙ by (bytes_eq k.now x) refl
+-- and one that isn't there is put there
+pub name_put : (m n : ByName) (k : Bor Text) (v : scope.Known) (x : Text) (rest : Option Known) → is_some (sorted.get_by (λ q. slice_cmp nat_cmp k.now q.now) m) ≡ false → sorted.Updates name_cmp m n k (Some v)
+    → option_or (known_at n x) rest ≡ option_or (known_at m x) (if_named k.now (known_view v) x rest)
+name_put m n k v x rest new u = ap (λ o. option_or (option_map known_view o) rest) (u.0 (record { ref_ptr = (0, 0); now = x }) ∙ ap (λ b. cond b (Some v) (found x)) (is_eq-slice_cmp k.now x)) ∙ by (bytes_eq k.now x) refl
   where
-    shown : Bor (List written.Parameter) → List Parameter
-    shown qs = parameters_view qs.now
-
-    found : Text → Option (Bor (List written.Parameter))
+    found : Text → Option scope.Known
     found y = sorted.get_by (λ q. slice_cmp nat_cmp y q.now) m
 
-    by : (b : Bool) → bytes_eq k.now x ≡ b → option_or (option_map shown (cond b (Some v) (found x))) rest ≡ option_or (option_map shown (found x)) (if b then Some (shown v) else rest)
+    by : (b : Bool) → bytes_eq k.now x ≡ b → option_or (option_map known_view (cond b (Some v) (found x))) rest ≡ option_or (option_map known_view (found x)) (if b then Some (known_view v) else rest)
     by false e = refl
-    by true e = ap (λ o. option_or o (Some (shown v))) (sym (absent shown (found x) (ap (λ z. is_some (found z)) (sym (same_name k.now x e)) ∙ new)))
+    by true e = ap (λ o. option_or o (Some (known_view v))) (sym (absent known_view (found x) (ap (λ z. is_some (found z)) (sym (same_name k.now x e)) ∙ new)))
 
-pub macros_left : (ts : List Template) (ms : List Macro) (i : ℕ) (m : Macro) (x : Text) → i < length ms → m ≡ get_or ms i m
-    → parameters_of (macro_of x (map (macro_view ts) (drop i ms))) ≡ if_named m.name.now (parameters_view m.parameters.now) x (parameters_of (macro_of x (map (macro_view ts) (drop (i + 1) ms))))
-macros_left ts ms i m x lt is =
-    ap (λ (l : List Macro). parameters_of (macro_of x (map (macro_view ts) l))) (drop_more ms i m lt)
-    ∙ ap (λ (z : Macro). parameters_of (macro_of x (macro_view ts z ∷ map (macro_view ts) (drop (i + 1) ms)))) (sym is)
-    ∙ first_macro ts m (map (macro_view ts) (drop (i + 1) ms)) x
+pub names_left : (ts : List Template) (h : chains.Home) (gs : List Named) (i : ℕ) (g : Named) (x : Text) → i < length gs → g ≡ get_or gs i g
+    → known_of (given_to x (map (named_view ts h) (drop i gs))) ≡ if_named g.name.now (known_as (given_view ts h g.given)) x (known_of (given_to x (map (named_view ts h) (drop (i + 1) gs))))
+names_left ts h gs i g x lt is =
+    ap (λ (l : List Named). known_of (given_to x (map (named_view ts h) l))) (drop_more gs i g lt)
+    ∙ ap (λ (z : Named). known_of (given_to x (named_view ts h z ∷ map (named_view ts h) (drop (i + 1) gs)))) (sym is)
+    ∙ first_given ts h g (map (named_view ts h) (drop (i + 1) gs)) x
 
 -- ---- blocks
 

@@ -1,5 +1,5 @@
 -- The first rule that is broken, of what is left of lists, and of several one behind the other.
-use Rattle.std.proofs.Common.{◌≡◌, ℕ, suc, ◌+◌, ◌<◌, ◌≤◌, Bool, true, false, List, [], ◌∷◌, length, map, drop, get_or, nat_lt, nat_le, refl, sym, ap, ◌∙◌, arith, Option, Some, None, Result, Ok, Err, IfOk}
+use Rattle.std.proofs.Common.{◌≡◌, ℕ, suc, ◌+◌, ◌<◌, ◌≤◌, Bool, true, false, List, [], ◌∷◌, length, map, drop, get_or, nat_lt, nat_le, if◌then◌else◌, string_bytes, refl, sym, ap, ◌∙◌, arith, Option, Some, None, Result, Ok, Err, IfOk}
 use Rattle.std.specs.Option.{option_or}
 use Rattle.std.specs.Prelude.{IsOkAnd}
 use Rattle.std.proofs.lemmas.List.{drop_more}
@@ -10,18 +10,20 @@ use Rattle.jt_trees.specs.Expressions.{Text}
 use Rattle.jt_trees.specs.Statements.{Filtering, Body, body_bound}
 use Rattle.jt_uses.specs.Names.{texts}
 use Rattle.jt_trees.specs.StatementView.{body_view}
-use Rattle.jt_chains.specs.Chain.{Home, Template, templates}
+use Rattle.jt_chains.specs.Chain.{Home, a_chain, a_library, Template, templates, libraries}
 use Rattle.jt_chains.specs.Layers.{layer_view}
 use Rattle.jt_chains.specs.declared.layers.Layer.{Layer}
 use Rattle.jt_chains.specs.Places.{home_at}
 use Rattle.jt_chains.specs.Uses.{count, own_names}
-use Rattle.jt_chains.specs.Pages.{home_name}
+use Rattle.jt_chains.specs.Pages.{home_view}
+use Rattle.jt_chains.proofs.Placed.{name_of_home}
+use Rattle.jt_rules.specs.Rules.{libraries_counted}
 use Rattle.jt_chains.specs.declared.linked.Home as written
 use Rattle.std.proofs.lemmas.Bool.Decides.{nat_tests}
 use Rattle.jt_rules.specs.Walk as rules
 use Rattle.jt_chains.specs.View.{chain_view, sources_of}
 use Rattle.jt_chains.specs.declared.linked.Chain.{Chain}
-use Rattle.jt_checks.specs.Standing.{world_in, home_in}
+use Rattle.jt_checks.specs.Standing.{world_in, home_in, names_of}
 use Rattle.jt_rules.specs.World.{World}
 use Rattle.jt_rules.specs.declared.error.ScopeError.{ScopeError}
 use Rattle.jt_rules.specs.declared.error.ScopeError.TheVariants as error
@@ -118,8 +120,8 @@ pub its_layers : (c : Chain) (i : ℕ) (ls : List Layer) → shown_layers (chain
 unfolding world_in home_in
 its_layers c i ls h = h
 
-there : (order : List Home) (i : ℕ) → get_or order i [] ≡ home_at order i
-there order i = sym (unwrap_or-slice_get order i [])
+there : (order : List Home) (i : ℕ) → get_or order i (a_chain []) ≡ home_at order i
+there order i = sym (unwrap_or-slice_get order i (a_chain []))
 
 abbrev pub chain_broken : World → Home → Found
 chain_broken world h = rules.templates_broken world h (templates world.sources h)
@@ -127,19 +129,24 @@ chain_broken world h = rules.templates_broken world h (templates world.sources h
 pub chains_left : (world : World) (order : List Home) (i : ℕ) → i < length order
     → rules.chains_broken world (drop i order) ≡ option_or (chain_broken world (home_at order i)) (rules.chains_broken world (drop (i + 1) order))
 chains_left world order i lt =
-    ap (rules.chains_broken world) (drop_more order i [] lt) ∙ ap (λ h. option_or (chain_broken world h) (rules.chains_broken world (drop (i + 1) order))) (there order i)
+    ap (rules.chains_broken world) (drop_more order i (a_chain []) lt) ∙ ap (λ h. option_or (chain_broken world h) (rules.chains_broken world (drop (i + 1) order))) (there order i)
+
+counted_first : (world : World) (h : Home) (hs : List Home) → rules.names_counted world (h ∷ hs) ≡ names_of world h + rules.names_counted world hs
+counted_first world (a_chain n) hs = refl
+counted_first world (a_library n) hs = omega arith
 
 pub names_left : (world : World) (order : List Home) (i : ℕ) → i < length order
-    → rules.names_counted world (drop i order) ≡ length (ascending (own_names world.sources (home_at order i))) + rules.names_counted world (drop (i + 1) order)
+    → rules.names_counted world (drop i order) ≡ names_of world (home_at order i) + rules.names_counted world (drop (i + 1) order)
 names_left world order i lt =
-    ap (rules.names_counted world) (drop_more order i [] lt) ∙ ap (λ h. length (ascending (own_names world.sources h)) + rules.names_counted world (drop (i + 1) order)) (there order i)
+    ap (rules.names_counted world) (drop_more order i (a_chain []) lt) ∙ counted_first world (get_or order i (a_chain [])) (drop (i + 1) order)
+    ∙ ap (λ h. names_of world h + rules.names_counted world (drop (i + 1) order)) (there order i)
 
 -- the rule that is found is broken
 pub texts_length : (ks : List (Bor Text)) → length (texts ks) ≡ length ks
 texts_length [] = refl
 texts_length (k ∷ ks) = ap suc (texts_length ks)
 
-pub homes_length : (hs : List written.Home) → length (map home_name hs) ≡ length hs
+pub homes_length : (hs : List written.Home) → length (map home_view hs) ≡ length hs
 homes_length [] = refl
 homes_length (h ∷ hs) = ap suc (homes_length hs)
 
@@ -154,3 +161,21 @@ few_enough b n m e h = grind (arith, nat_tests)
 
 pub over : (b : Bool) (n m : ℕ) → b ≡ nat_le n m → b ≡ false → m < n
 over b n m e h = grind (arith, nat_tests)
+
+-- ---- what chains and libraries count
+
+pub home_seen : (c : Chain) (i : ℕ) (h : written.Home) → i < length c.homes.items → h ≡ get_or c.homes.items i h → home_in c i ≡ home_view h
+unfolding home_in
+home_seen c i h lt is = name_of_home c.homes.items i h lt is
+
+pub library_free : (world : World) (h : written.Home) → h.is_library ≡ true → names_of world (home_view h) ≡ 0
+library_free world h e = ap (λ b. names_of world (if b then a_library (string_bytes h.name) else a_chain (string_bytes h.name))) e
+
+pub chain_counted : (world : World) (h : written.Home) → h.is_library ≡ false
+    → names_of world (home_view h) ≡ length (ascending (own_names world.sources (home_view h))) + libraries_counted world (ascending (libraries world.sources (home_view h)))
+chain_counted world h e = by h.is_library e
+  where
+    by : (b : Bool) → b ≡ false → names_of world (if b then a_library (string_bytes h.name) else a_chain (string_bytes h.name))
+        ≡ length (ascending (own_names world.sources (if b then a_library (string_bytes h.name) else a_chain (string_bytes h.name)))) + libraries_counted world (ascending (libraries world.sources (if b then a_library (string_bytes h.name) else a_chain (string_bytes h.name))))
+    by true e = absurd (cc)
+    by false e = refl

@@ -1,5 +1,5 @@
--- What only private clauses cite: what is known of a chain by name: the parameters of its macros, and the names of its blocks.
-use Rattle.std.specs.Prelude.{◌≡◌, ◌⊎◌, ℕ, ℤ, Bool, not, nat_lt, List, length, Option, Some, None, option_map}
+-- What only private clauses cite: what is known of a chain by name: the parameters of macros, libraries, and the names of its blocks.
+use Rattle.std.specs.Prelude.{◌≡◌, ◌⊎◌, ℕ, ◌+◌, ℤ, Bool, not, nat_lt, List, length, Option, Some, None, option_map}
 use mathlib.Core.Path.{refl}
 use mathlib.Core.Logic.{inl, inr}
 use Rattle.std.specs.Coded.{Coded, Coded-set, coded_ℕ, coded_ℤ, coded_bool, coded_list, coded_option, coded×, coded⊎, code_by, Π_prop}
@@ -12,25 +12,40 @@ use Rattle.std.specs.BTreeSet.{BTreeSet}
 use denote.Ref.{Bor}
 use Rattle.jt_trees.specs.Expressions.{Literal, number, text, truth, nothing, Text}
 use Rattle.jt_trees.specs.Statements as trees
+use Rattle.jt_trees.specs.Texts.{ascending}
 use Rattle.jt_trees.specs.StatementView.{parameters_view}
-use Rattle.jt_trees.specs.declared.statement.Parameter.{Parameter}
-use Rattle.jt_chains.specs.Chain.{Home, MacroBody, macros, macro_of, bodies}
+use Rattle.jt_chains.specs.Chain.{Home, a_chain, a_library, Given, one_macro, library, given, given_to, bodies, libraries}
+use Rattle.jt_chains.specs.Uses.{own_names}
 use Rattle.jt_chains.specs.Places.{home_at}
 use Rattle.jt_chains.specs.View.{chain_view}
 use Rattle.jt_chains.specs.declared.linked.Chain.{Chain}
 pub use Rattle.jt_uses.specs.Names.{texts}
 use Rattle.jt_rules.specs.World.{World, world_of}
+use Rattle.jt_rules.specs.Rules.{libraries_counted}
+use Rattle.jt_checks.specs.declared.scope.Known as scope
+use Rattle.jt_checks.specs.declared.scope.Known.TheVariants as variant
 
--- the parameters of a macro, if there is one
-abbrev pub parameters_of : Option MacroBody → Option (List trees.Parameter)
-parameters_of None = None
-parameters_of (Some m) = Some m.parameters
+-- what a name is known as: a macro with these parameters, or a library
+abbrev pub Known : Type 0
+Known = List trees.Parameter ⊎ Text
+
+abbrev pub known_as : Given → Known
+known_as (one_macro h m) = inl m.parameters
+known_as (library n) = inr n
+
+abbrev pub known_of : Option Given → Option Known
+known_of None = None
+known_of (Some g) = Some (known_as g)
+
+abbrev pub known_view : scope.Known → Known
+known_view (variant.Macro ps) = inl (parameters_view ps.now)
+known_view (variant.Library n) = inr n.now
 
 abbrev pub ByName : Type 0
-ByName = BTreeMap (Bor Text) (Bor (List Parameter))
+ByName = BTreeMap (Bor Text) scope.Known
 
-abbrev pub parameters_at : ByName → Text → Option (List trees.Parameter)
-parameters_at m x = option_map (λ ps. parameters_view ps.now) (sorted.get_by (λ k. slice_cmp nat_cmp x k.now) m)
+abbrev pub known_at : ByName → Text → Option Known
+known_at m x = option_map known_view (sorted.get_by (λ k. slice_cmp nat_cmp x k.now) m)
 
 abbrev pub Names : Type 0
 Names = BTreeSet (Bor Text)
@@ -47,9 +62,14 @@ home_in c i = home_at (chain_view c).order i
 abbrev pub is_block : World → Home → Text → Bool
 is_block world home x = not (nat_lt (length (bodies world.sources world.escaping home x)) 1)
 
--- a map has the parameters of each macro of a chain
-abbrev pub KnowsMacros : Chain → ℕ → ByName → Type 0
-KnowsMacros c i m = (x : Text) → parameters_at m x ≡ parameters_of (macro_of x (macros (world_in c).sources (home_in c i)))
+-- how many names a chain reads or binds, with those of the libraries that it imports; a library's count there alone
+abbrev pub names_of : World → Home → ℕ
+names_of world (a_chain n) = length (ascending (own_names world.sources (a_chain n))) + libraries_counted world (ascending (libraries world.sources (a_chain n)))
+names_of world (a_library n) = 0
+
+-- a map has each name of a chain that stands for a macro or a library
+abbrev pub KnowsGiven : Chain → ℕ → ByName → Type 0
+KnowsGiven c i m = (x : Text) → known_at m x ≡ known_of (given_to x (given (world_in c).sources (home_in c i)))
 
 -- a set has the name of each block of a chain
 abbrev pub KnowsBlocks : Chain → ℕ → Names → Type 0
@@ -84,8 +104,8 @@ coded_literal = code_by (ℤ ⊎ (Text ⊎ Option Bool)) (coded⊎ coded_ℤ (co
 coded_parameter : Coded trees.Parameter
 coded_parameter = code_by (Text × Option Literal) (coded× coded_text (coded_option coded_literal)) (λ p. (p.name, p.default)) (λ c. record { name = c.0; default = c.1 }) (λ p. refl)
 
-pub KnowsMacros-prop : (c : Chain) (i : ℕ) (m : ByName) → IsProp (KnowsMacros c i m)
-KnowsMacros-prop c i m = Π_prop (λ x. Coded-set (coded_option (coded_list coded_parameter)) (parameters_at m x) (parameters_of (macro_of x (macros (world_in c).sources (home_in c i)))))
+pub KnowsGiven-prop : (c : Chain) (i : ℕ) (m : ByName) → IsProp (KnowsGiven c i m)
+KnowsGiven-prop c i m = Π_prop (λ x. Coded-set (coded_option (coded⊎ (coded_list coded_parameter) coded_text)) (known_at m x) (known_of (given_to x (given (world_in c).sources (home_in c i)))))
 
 pub KnowsBlocks-prop : (c : Chain) (i : ℕ) (s : Names) → IsProp (KnowsBlocks c i s)
 KnowsBlocks-prop c i s = Π_prop (λ x. Coded-set coded_bool (is_among s x) (is_block (world_in c) (home_in c i) x))

@@ -30,7 +30,12 @@ fn bound_by(statement: &Stmt) -> usize
         Stmt::Autoescape(_, _, inside) => bound_in(inside),
         Stmt::Macro(_, _, parameters, inside) => parameters.len().saturating_add(bound_in(inside)),
         Stmt::Block(_, _, _, _, inside) => bound_in(inside),
-        Stmt::Data(_) | Stmt::Print(..) | Stmt::Include(..) | Stmt::Extends(..) => 0,
+        Stmt::Data(_)
+        | Stmt::Print(..)
+        | Stmt::Include(..)
+        | Stmt::Import(..)
+        | Stmt::From(..)
+        | Stmt::Extends(..) => 0,
     }
 }
 

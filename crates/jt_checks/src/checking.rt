@@ -1,17 +1,18 @@
 //! Whether chains keep the static rules of names and calls.
 
-ghost use Rattle.std.specs.Prelude.{◌≡◌, ◌<◌, nat_lt, nat_le, false, length, IfOk, OnOk, IfErr};
+ghost use Rattle.std.specs.Prelude.{◌≡◌, ◌<◌, nat_lt, nat_le, ◌^◌, ◌-◌, min, false, length, IfOk, OnOk, IfErr};
 ghost use Rattle.std.specs.Option.{option_or};
 ghost use Rattle.jt_trees.specs.Texts.{ascending};
 ghost use Rattle.jt_trees.specs.Statements.{body_bound};
 ghost use Rattle.jt_trees.specs.StatementView.{body_view};
-ghost use Rattle.jt_chains.specs.Chain.{templates};
+ghost use Rattle.jt_chains.specs.Chain.{templates, libraries, a_library};
 ghost use Rattle.jt_chains.specs.Uses.{own_names};
 ghost use Rattle.jt_chains.specs.View.{chain_view};
+ghost use Rattle.jt_uses.specs.Names.{texts};
 ghost use Rattle.jt_rules.specs.Walk as rules;
-ghost use Rattle.jt_rules.specs.Rules.{KeepsRules, Breaks, max_bindings, max_names};
+ghost use Rattle.jt_rules.specs.Rules.{KeepsRules, Breaks, libraries_counted, max_bindings, max_names};
 ghost use Rattle.jt_checks.specs.ScopeView.{its_world, its_home};
-ghost use Rattle.jt_checks.specs.Standing.{world_in, home_in};
+ghost use Rattle.jt_checks.specs.Standing.{world_in, home_in, names_of};
 ghost use Rattle.jt_rules.specs.World.{world_of};
 ghost use Rattle.jt_rules.specs.declared.error.ScopeError.TheVariants as error;
 
@@ -22,8 +23,9 @@ use crate::statements::body_broken;
 use jt_chains::Chain;
 use jt_rules::ScopeError;
 use jt_trees::Stmt;
-use jt_uses::own_names;
+use jt_uses::{in_order, library_names, own_names};
 use std::alloc::{AllocError, Global};
+use std::collections::BTreeSet;
 
 /// The greatest number of names that a template binds, as often as written.
 const MAX_BINDINGS: usize = 4_096;
@@ -116,11 +118,64 @@ fn has_few_names(alloc: Global, chain: &Chain) -> Result<bool, AllocError>
     Ok(true)
 }
 
-/// How many different names a chain reads or binds.
-fn count_names(alloc: Global, chain: &Chain, home: usize) -> Result<usize, AllocError>
+/// The names of a set, in ascending order.
+fn list_of<'a>(alloc: Global, names: BTreeSet<&'a str>) -> Result<Vec<&'a str>, AllocError>
+    ensures { IfOk result (λ ns. ns.items ≡ names.entry.keys) }
+{
+    names.into_iter().collect(alloc)
+}
+
+/// The libraries that a chain imports, each once.
+fn libraries(alloc: Global, chain: &Chain, home: usize) -> Result<Vec<&str>, AllocError>
+    requires { home < length chain.now.homes.items }
+    ensures { IfOk result (λ ns. texts ns.items
+        ≡ ascending (libraries (world_in chain.now).sources (home_in chain.now home))) }
+{
+    let found = chain.libraries(alloc, home)?;
+    list_of(alloc, in_order(alloc, &found)?)
+}
+
+/// How many different names libraries read or bind; the greatest number where it is more.
+fn count_in_libraries(alloc: Global, chain: &Chain, libraries: &[&str]) -> Result<usize, AllocError>
+    ensures { IfOk result (λ n.
+        n ≡ min (libraries_counted (world_in chain.now) (texts libraries.now)) (2 ^ 64 - 1)) }
+{
+    let mut count = 0usize;
+    for library in libraries {
+        count = count.saturating_add(count_in_library(alloc, chain, library)?);
+    }
+    Ok(count)
+}
+
+/// How many different names a library reads or binds.
+fn count_in_library(alloc: Global, chain: &Chain, library: &str) -> Result<usize, AllocError>
+    ensures { IfOk result (λ n.
+        n ≡ length (ascending (own_names (world_in chain.now).sources (a_library library.now)))) }
+{
+    Ok(library_names(alloc, chain, library)?.len())
+}
+
+/// How many different names a chain itself reads or binds.
+fn count_own(alloc: Global, chain: &Chain, home: usize) -> Result<usize, AllocError>
     requires { home < length chain.now.homes.items }
     ensures { IfOk result (λ n.
         n ≡ length (ascending (own_names (world_in chain.now).sources (home_in chain.now home)))) }
 {
     Ok(own_names(alloc, chain, home)?.len())
+}
+
+/// How many different names a chain reads or binds, with those of the libraries that it imports; the
+/// greatest number where it is more. A library's own count there alone.
+fn count_names(alloc: Global, chain: &Chain, home: usize) -> Result<usize, AllocError>
+    requires { home < length chain.now.homes.items }
+    ensures { IfOk result (λ n.
+        n ≡ min (names_of (world_in chain.now) (home_in chain.now home)) (2 ^ 64 - 1)) }
+{
+    if chain.homes[home].is_library {
+        return Ok(0);
+    }
+    let own = count_own(alloc, chain, home)?;
+    let imported = libraries(alloc, chain, home)?;
+    let others = count_in_libraries(alloc, chain, &imported)?;
+    Ok(own.saturating_add(others))
 }

@@ -4,17 +4,18 @@ ghost use Rattle.std.specs.Prelude.{◌≡◌, ◌&&◌, ◌==◌, nat_lt, not, 
 ghost use Rattle.std.specs.Option.{option_or};
 ghost use Rattle.jt_trees.specs.Expressions as trees;
 ghost use Rattle.jt_trees.specs.ExpressionView.{expr_view, exprs_view, pairs_view};
-ghost use Rattle.jt_chains.specs.Chain.{callee, macros, named_alone, named_in, macro_of, is_loop};
+ghost use Rattle.jt_chains.specs.Chain.{callee, given, given_to, Home, named_form, named_alone, named_in, in_library, is_loop};
 ghost use Rattle.jt_chains.specs.Uses.{count};
 ghost use Rattle.jt_trees.specs.Expressions.{Text};
 ghost use Rattle.jt_slots.specs.Loops.{field_named};
 ghost use Rattle.jt_rules.specs.Walk as rules;
+ghost use Rattle.jt_rules.specs.World.{World};
 ghost use Rattle.jt_checks.specs.Standing.{texts, is_block};
 ghost use Rattle.jt_checks.specs.ScopeView.{its_world, its_home, within_view, name_in};
 ghost use Rattle.jt_rules.specs.declared.error.ScopeError.TheVariants as error;
 
 use crate::arguments::{filter_broken, fits, range_broken, refused, test_broken, unless};
-use crate::scope::{Scope, Within};
+use crate::scope::{Known, Scope, Within};
 use jt_rules::ScopeError;
 use jt_trees::Expr;
 use std::alloc::AllocError;
@@ -77,6 +78,24 @@ pub(crate) fn names_loop(expr: &Expr) -> bool
     }
 }
 
+/// What a call of `range` or `super` breaks by itself; no other name can be called.
+fn form_call_broken(
+    within: Within,
+    name: &str,
+    row: &[Expr],
+    pairs: &[(String, Expr)],
+) -> Option<ScopeError>
+    ensures { (world : World) (home : Home) → result
+        ≡ rules.call_broken world home (named_form name.now) (within_view within)
+        (trees.name name.now) (exprs_view row.now) (pairs_view pairs.now) }
+{
+    match name {
+        "range" => range_broken(row, pairs),
+        "super" => super_broken(within, row, pairs),
+        _ => Some(ScopeError::NotCallable),
+    }
+}
+
 /// What a call of a bare name breaks by itself.
 fn name_call_broken(
     scope: &Scope<'_>,
@@ -86,18 +105,15 @@ fn name_call_broken(
     pairs: &[(String, Expr)],
 ) -> Result<Option<ScopeError>, AllocError>
     ensures { IfOk result (λ o. o
-        ≡ rules.call_broken (its_world scope.now) (its_home scope.now) (named_alone
-        (macro_of name.now (macros (its_world scope.now).sources (its_home scope.now))) name.now)
+        ≡ rules.call_broken (its_world scope.now) (its_home scope.now) (named_alone (its_world scope.now).sources
+        (given_to name.now (given (its_world scope.now).sources (its_home scope.now))) name.now)
         (within_view within) (trees.name name.now) (exprs_view row.now) (pairs_view pairs.now)) }
 {
-    if let Some(parameters) = scope.parameters_of(name) {
-        return Ok(unless(fits(scope.alloc, parameters, row, pairs)?));
+    match scope.known(name) {
+        Some(Known::Macro(parameters)) => Ok(unless(fits(scope.alloc, parameters, row, pairs)?)),
+        Some(Known::Library(_)) => Ok(Some(ScopeError::NotCallable)),
+        None => Ok(form_call_broken(within, name, row, pairs)),
     }
-    Ok(match name {
-        "range" => range_broken(row, pairs),
-        "super" => super_broken(within, row, pairs),
-        _ => Some(ScopeError::NotCallable),
-    })
 }
 
 /// What a call of `super` breaks.
@@ -143,7 +159,32 @@ fn cycle_broken(within: Within, row: &[Expr], pairs: &[(String, Expr)]) -> Optio
     outside.or(unless(0 < given && pairs.is_empty()))
 }
 
-/// What a call breaks by itself that goes by an attribute: `self.b` and `loop.cycle`.
+/// What a call of a library's macro breaks by itself.
+fn library_call_broken(
+    scope: &Scope<'_>,
+    within: Within,
+    of: &str,
+    field: &str,
+    row: &[Expr],
+    pairs: &[(String, Expr)],
+) -> Result<Option<ScopeError>, AllocError>
+    ensures { IfOk result (λ o. o
+        ≡ rules.call_broken (its_world scope.now) (its_home scope.now)
+        (in_library (its_world scope.now).sources
+        (given_to of.now (given (its_world scope.now).sources (its_home scope.now))) field.now)
+        (within_view within) (trees.name of.now) (exprs_view row.now) (pairs_view pairs.now)) }
+{
+    let Some(Known::Library(library)) = scope.known(of) else {
+        return Ok(Some(ScopeError::NotCallable));
+    };
+    match scope.chain.library_macro(scope.alloc, library, field)? {
+        Some(found) => Ok(unless(fits(scope.alloc, found.parameters, row, pairs)?)),
+        None => Ok(Some(ScopeError::NotCallable)),
+    }
+}
+
+/// What a call breaks by itself that goes by an attribute: `self.b`, `loop.cycle`, and a macro of a
+/// library.
 #[tactic(auto, using(crate::proofs::Known::not_not))]
 fn field_call_broken(
     scope: &Scope<'_>,
@@ -152,15 +193,19 @@ fn field_call_broken(
     field: &str,
     row: &[Expr],
     pairs: &[(String, Expr)],
-) -> Option<ScopeError>
-    ensures { result
-        ≡ rules.call_broken (its_world scope.now) (its_home scope.now) (named_in of.now field.now)
-        (within_view within) (trees.name of.now) (exprs_view row.now) (pairs_view pairs.now) }
+) -> Result<Option<ScopeError>, AllocError>
+    ensures { IfOk result (λ o. o
+        ≡ rules.call_broken (its_world scope.now) (its_home scope.now)
+        (named_in (its_world scope.now).sources
+        (given_to of.now (given (its_world scope.now).sources (its_home scope.now))) of.now
+        field.now) (within_view within) (trees.name of.now) (exprs_view row.now)
+        (pairs_view pairs.now)) }
 {
     match (of, field) {
-        ("self", _) => self_broken(scope, field, row, pairs),
-        ("loop", "cycle") => cycle_broken(within, row, pairs),
-        _ => Some(ScopeError::NotCallable),
+        ("self", _) => Ok(self_broken(scope, field, row, pairs)),
+        ("loop", "cycle") => Ok(cycle_broken(within, row, pairs)),
+        ("loop", _) => Ok(Some(ScopeError::NotCallable)),
+        _ => library_call_broken(scope, within, of, field, row, pairs),
     }
 }
 
@@ -175,13 +220,14 @@ fn call_broken(
 ) -> Result<Option<ScopeError>, AllocError>
     ensures { IfOk result (λ o. o
         ≡ rules.call_broken (its_world scope.now) (its_home scope.now)
-        (callee (macros (its_world scope.now).sources (its_home scope.now)) (expr_view called.now))
+        (callee (its_world scope.now).sources
+        (given (its_world scope.now).sources (its_home scope.now)) (expr_view called.now))
         (within_view within) (expr_view called.now) (exprs_view row.now) (pairs_view pairs.now)) }
 {
     match called {
         Expr::Name(name) => name_call_broken(scope, within, name, row, pairs),
         Expr::Attribute(value, field) => match name_of(value) {
-            Some(of) => Ok(field_call_broken(scope, within, of, field, row, pairs)),
+            Some(of) => field_call_broken(scope, within, of, field, row, pairs),
             None => Ok(Some(ScopeError::NotCallable)),
         },
         _ => Ok(Some(ScopeError::NotCallable)),

@@ -4,12 +4,13 @@ ghost use Rattle.std.specs.Prelude.{◌≡◌, ◌<◌, List, length, map, optio
 ghost use Rattle.std.specs.List.{list_any};
 ghost use Rattle.std.specs.Str.{bytes_eq};
 ghost use Rattle.jt_trees.specs.Expressions.{Text};
-ghost use Rattle.jt_trees.specs.StatementView.{parameters_view};
-ghost use Rattle.jt_chains.specs.Chain.{Template, macros, macro_of};
-ghost use Rattle.jt_chains.specs.Parts.{macro_view, block_view};
-ghost use Rattle.jt_checks.specs.Standing.{KnowsMacros, KnowsMacros-prop, KnowsBlocks, KnowsBlocks-prop, parameters_of, parameters_at, is_among, is_block};
+ghost use Rattle.jt_chains.specs.Chain as chains;
+ghost use Rattle.jt_chains.specs.Chain.{Template, given, given_to};
+ghost use Rattle.jt_chains.specs.Named.{given_view, named_view};
+ghost use Rattle.jt_chains.specs.Parts.{block_view};
+ghost use Rattle.jt_checks.specs.Standing.{KnowsGiven, KnowsGiven-prop, KnowsBlocks, KnowsBlocks-prop, known_as, known_of, known_at, known_view, is_among, is_block};
 
-use jt_chains::{Block, Chain, Macro};
+use jt_chains::{Block, Chain, Given, Named};
 use jt_trees::Parameter;
 use std::alloc::{AllocError, Global};
 use std::collections::{BTreeMap, BTreeSet};
@@ -22,19 +23,26 @@ pub(crate) struct Within {
     pub(crate) in_block: bool,
 }
 
+/// What a name is known as: a macro with these parameters, or a library.
+#[derive(Clone, Copy)]
+pub(crate) enum Known<'a> {
+    Macro(&'a [Parameter]),
+    Library(&'a str),
+}
+
 /// A chain among those that were read, and what can be called in it.
 #[derive(Drop)]
 pub(crate) struct Scope<'a> {
     pub(crate) alloc: Global,
     pub(crate) chain: &'a Chain,
     pub(crate) home: usize,
-    /// The parameters of each macro.
-    macros: BTreeMap<&'a str, &'a [Parameter]>,
+    /// The names that stand for macros and libraries.
+    names: BTreeMap<&'a str, Known<'a>>,
     /// The names of blocks.
     blocks: BTreeSet<&'a str>,
     ghost stands: { home < length chain.now.homes.items },
-    ghost knows_macros: { KnowsMacros chain.now home
-        macros } by { KnowsMacros-prop chain.now home macros },
+    ghost knows_given: { KnowsGiven chain.now home
+        names } by { KnowsGiven-prop chain.now home names },
     ghost knows_blocks: { KnowsBlocks chain.now home
         blocks } by { KnowsBlocks-prop chain.now home blocks },
 }
@@ -49,34 +57,34 @@ impl<'a> Scope<'a> {
         ensures same_chain { IfOk result (λ s. s.chain.now ≡ chain.now) }
         ensures same_home { IfOk result (λ s. s.home ≡ home) }
     {
-        let parts = chain.macros(alloc, home)?;
-        let macros = macros_by_name(alloc, &parts)?;
+        let parts = chain.given(alloc, home)?;
+        let names = known_by_name(alloc, &parts)?;
         let bodies = chain.blocks(alloc, home)?;
         let blocks = block_names(alloc, &bodies)?;
         Ok(Scope {
             alloc,
             chain,
             home,
-            macros,
+            names,
             blocks,
         })
     }
 
-    /// Whether a macro has the name.
+    /// Whether a macro or a library has the name.
     pub(crate) fn is_macro(&self, name: &str) -> bool
         ensures { result ≡ rules.is_macro (its_world self.now) (its_home self.now) name.now }
     {
-        self.macros.contains_key(name)
+        self.names.contains_key(name)
     }
 
-    /// The parameters of the macro of a name.
-    pub(crate) fn parameters_of(&self, name: &str) -> Option<&'a [Parameter]>
-        ensures { option_map (λ ps. parameters_view ps.now) result
-            ≡ parameters_of
-            (macro_of name.now (macros (its_world self.now).sources (its_home self.now))) }
+    /// What the name is known as.
+    pub(crate) fn known(&self, name: &str) -> Option<Known<'a>>
+        ensures { option_map known_view result
+            ≡ known_of
+            (given_to name.now (given (its_world self.now).sources (its_home self.now))) }
     {
-        match self.macros.get(name) {
-            Some(parameters) => Some(*parameters),
+        match self.names.get(name) {
+            Some(known) => Some(*known),
             None => None,
         }
     }
@@ -89,18 +97,31 @@ impl<'a> Scope<'a> {
     }
 }
 
-/// The parameters of macros by their names; the first macro of a name counts.
-fn macros_by_name<'a>(
+/// What is known of what a name is given to.
+fn known_as<'a>(given: Given<'a>) -> Known<'a>
+    ensures { (ts : List Template) (h : chains.Home)
+        → known_view result ≡ known_as (given_view ts h given.entry) }
+{
+    match given {
+        Given::Own(found) => Known::Macro(found.parameters),
+        Given::Imported(_, found) => Known::Macro(found.parameters),
+        Given::Library(name) => Known::Library(name),
+    }
+}
+
+/// What is known by names; the first of a name counts.
+fn known_by_name<'a>(
     alloc: Global,
-    macros: &[Macro<'a>],
-) -> Result<BTreeMap<&'a str, &'a [Parameter]>, AllocError>
-    ensures { IfOk result (λ m. (ts : List Template) (x : Text)
-        → parameters_at m x ≡ parameters_of (macro_of x (map (macro_view ts) macros.now))) }
+    names: &[Named<'a>],
+) -> Result<BTreeMap<&'a str, Known<'a>>, AllocError>
+    ensures { IfOk result (λ m. (ts : List Template) (h : chains.Home) (x : Text)
+        → known_at m x ≡ known_of (given_to x (map (named_view ts h) names.now))) }
 {
     let mut by_name = BTreeMap::new(alloc);
-    for entry in macros {
+    for entry in names {
+        let known = known_as(entry.given);
         if !by_name.contains_key(entry.name) {
-            by_name.insert(entry.name, entry.parameters)?;
+            by_name.insert(entry.name, known)?;
         }
     }
     Ok(by_name)

@@ -3,8 +3,10 @@
 ghost use Rattle.std.specs.Prelude.{◌≡◌, ◌∷◌, [], option_map, true, IfOk};
 ghost use Rattle.std.specs.Option.{option_or};
 ghost use Rattle.jt_trees.specs.ExpressionView.{expr_view, pairs_view};
-ghost use Rattle.jt_trees.specs.StatementView.{stmt_view, body_view, branches_view, names_view, filtering_view, filterings_view, parameters_view};
+ghost use Rattle.jt_trees.specs.StatementView.{stmt_view, body_view, branches_view, names_view, filtering_view, filterings_view, parameters_view, given_view};
+ghost use Rattle.jt_chains.specs.Chain.{Home};
 ghost use Rattle.jt_chains.specs.Uses.{keywords};
+ghost use Rattle.jt_rules.specs.World.{World};
 ghost use Rattle.jt_rules.specs.Walk as rules;
 ghost use Rattle.jt_checks.specs.ScopeView.{its_world, its_home, within_view};
 
@@ -185,6 +187,19 @@ fn macro_broken(
     Ok(own.or(again.or(many)))
 }
 
+/// The first rule that the names break that `from` gives.
+fn imports_broken(names: &[(String, String)]) -> Option<ScopeError>
+    ensures { (world : World) (home : Home)
+        → result ≡ rules.imports_broken world home (given_view names.now) }
+{
+    for (_, given) in names {
+        if let Some(rule) = read_alone(given) {
+            return Some(rule);
+        }
+    }
+    None
+}
+
 /// The first rule that a choice breaks.
 #[cycle(body)]
 fn choice_broken(
@@ -256,6 +271,8 @@ fn statement_broken(
 {
     match statement {
         Stmt::Data(_) | Stmt::Include(..) | Stmt::Extends(..) => Ok(None),
+        Stmt::Import(_, _, name) => Ok(read_alone(name)),
+        Stmt::From(_, _, names) => Ok(imports_broken(names)),
         Stmt::Print(_, expr) => broken(scope, within, expr),
         Stmt::If(branches, other) => choice_broken(scope, within, branches, other),
         Stmt::For(_, targets, items, condition, inside, other) => {

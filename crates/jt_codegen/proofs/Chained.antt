@@ -5,7 +5,7 @@ use Rattle.jt_scan.specs.declared.options.Options.{Options}
 use Rattle.jt_image.specs.IsCode.{IsCode}
 use Rattle.jt_parse.specs.Names.{body_unknown}
 use Rattle.jt_trees.specs.Expressions.{Text}
-use Rattle.jt_chains.specs.Chain.{Home, Template}
+use Rattle.jt_chains.specs.Chain.{Home, a_chain, Template}
 use Rattle.jt_inherit.specs.Chains.{Given, IsRead, IsChain}
 use Rattle.jt_chains.specs.Includes.{InOrder}
 use Rattle.jt_chains.specs.Rules.{Reaches}
@@ -47,13 +47,13 @@ module _ (low : LowLaws) (programs : ProgramLaws) (given : Given) (entry : Text)
   world = world_of c
 
   abbrev order : List Home
-  order = entry ∷ is.included
+  order = a_chain entry ∷ is.included
 
   ordered : InOrder world.sources order
   ordered = subst (InOrder (sources_of c)) is.begins is.order
 
-  reached : AllByRecursion (Reaches world.sources world.escaping entry) order
-  reached = subst (AllByRecursion (Reaches (sources_of c) c.escaping entry)) is.begins is.reached
+  reached : AllByRecursion (Reaches world.sources world.escaping (a_chain entry)) order
+  reached = subst (AllByRecursion (Reaches (sources_of c) c.escaping (a_chain entry))) is.begins is.reached
 
   keeps : KeepsRules world order
   keeps = subst (KeepsRules world) is.begins kept
@@ -62,10 +62,10 @@ module _ (low : LowLaws) (programs : ProgramLaws) (given : Given) (entry : Text)
   known = chains_known world filter_there c.templates (λ m. refl) (read_known given options c.templates is.read.each) order
 
   abbrev p : Program
-  p = program world order entry
+  p = program world order (a_chain entry)
 
   pub fits : AreLow (routines world order) → ProgramFits p
-  fits few = low.fits (names world order entry) (count_globals world order order) (shared world order) (routines world order) (program_lawful world entry is.included (programs.takes world entry is.included ordered reached is.rules keeps known)) few
+  fits few = low.fits (names world order (a_chain entry)) (count_globals world order order) (shared world order) (routines world order) (program_lawful world entry is.included ordered (programs.takes world (a_chain entry) is.included ordered reached is.rules keeps known)) few
 
   pub image_compiled : AreLow (routines world order) → IsCode (compiled p) → IsCompiled given entry options (compiled p)
   image_compiled few whole =
@@ -85,8 +85,8 @@ module _ (low : LowLaws) (programs : ProgramLaws) (given : Given) (entry : Text)
         };
       }
 
-pub by_order : LowLaws → ProgramLaws → (given : Given) (entry : Text) (options : Options) (c : Seen) (the : IsOnlyChain given entry options c) → KeepsRules (world_of c) c.order → AreLow (routines (world_of c) c.order) → IsCode (compiled (program (world_of c) c.order entry))
-    → IsCompiled given entry options (compiled (program (world_of c) c.order entry))
+pub by_order : LowLaws → ProgramLaws → (given : Given) (entry : Text) (options : Options) (c : Seen) (the : IsOnlyChain given entry options c) → KeepsRules (world_of c) c.order → AreLow (routines (world_of c) c.order) → IsCode (compiled (program (world_of c) c.order (a_chain entry)))
+    → IsCompiled given entry options (compiled (program (world_of c) c.order (a_chain entry)))
 by_order low programs given entry options c the kept few whole =
-    subst (λ (o : List Home). IsCompiled given entry options (compiled (program (world_of c) o entry))) (sym the.is.begins)
-    (image_compiled low programs given entry options c the kept (subst (λ (o : List Home). AreLow (routines (world_of c) o)) the.is.begins few) (subst (λ (o : List Home). IsCode (compiled (program (world_of c) o entry))) the.is.begins whole))
+    subst (λ (o : List Home). IsCompiled given entry options (compiled (program (world_of c) o (a_chain entry)))) (sym the.is.begins)
+    (image_compiled low programs given entry options c the kept (subst (λ (o : List Home). AreLow (routines (world_of c) o)) the.is.begins few) (subst (λ (o : List Home). IsCode (compiled (program (world_of c) o (a_chain entry)))) the.is.begins whole))

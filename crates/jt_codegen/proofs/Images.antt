@@ -11,12 +11,14 @@ use Rattle.jt_image.specs.Parts.{HasTables}
 use Rattle.jt_image.specs.Laws.{CodeLaws}
 use Rattle.jt_trees.specs.Sizes.{body_bytes}
 use Rattle.jt_trees.specs.Expressions.{Text}
-use Rattle.jt_chains.specs.Chain.{Home}
+use Rattle.jt_chains.specs.Chain.{Home, a_chain, templates}
 use Rattle.jt_inherit.specs.Chains.{Given, IsChain}
+use Rattle.jt_chains.specs.Includes.{InOrder}
 use Rattle.jt_chains.specs.Places.{home_at}
+use Rattle.jt_chains.specs.Rules.{Reaches}
 use Rattle.jt_inherit.specs.Refusals as inherit
 use Rattle.jt_chains.specs.Weights.{chains_weight}
-use Rattle.jt_inherit.specs.Small.{chains_len, source_len, IsSmall}
+use Rattle.jt_inherit.specs.Small.{chains_len, source_len, templates_len, IsSmall}
 use Rattle.jt_chains.specs.Uses.{body_names}
 use Rattle.jt_chains.specs.View.{Seen, sources_of}
 use Rattle.jt_inherit.specs.declared.error.ChainError.{ChainError}
@@ -47,8 +49,9 @@ use Rattle.jt_codegen.specs.Units.{FitsImage, RefusesCode}
 use Rattle.jt_codegen.specs.declared.emission.EmitError.{EmitError}
 use Rattle.jt_codegen.specs.declared.emission.EmitError.TheVariants as emit_error
 use Rattle.jt_codegen.proofs.Chained.{fits, by_order}
+use Rattle.jt_codegen.proofs.Importing.{all_count}
 use Rattle.jt_codegen.proofs.Lawful.{few_globals}
-use Rattle.jt_codegen.proofs.Read.{names_all, own_all, all_short}
+use Rattle.jt_codegen.proofs.Read.{all_each, names_all, own_all, all_short}
 use Rattle.jt_codegen.proofs.Routines.{parameters_few}
 use Rattle.jt_codegen.proofs.Spelled.{read_named}
 use Rattle.jt_codegen.proofs.Small.{small_low, small_fits}
@@ -106,6 +109,8 @@ chain_refused given entry options chain_error.RequiredNotGiven b none = (λ e. c
 chain_refused given entry options chain_error.NoSuper b none = (λ e. cc, b, λ c is. let no = none c is in absurd cc)
 chain_refused given entry options chain_error.IncludeCycle b none = (λ e. cc, b, λ c is. let no = none c is in absurd cc)
 chain_refused given entry options chain_error.MacroTwice b none = (λ e. cc, b, λ c is. let no = none c is in absurd cc)
+chain_refused given entry options chain_error.NoMacro b none = (λ e. cc, b, λ c is. let no = none c is in absurd cc)
+chain_refused given entry options chain_error.NotALibrary b none = (λ e. cc, b, λ c is. let no = none c is in absurd cc)
 chain_refused given entry options (chain_error.Scan n f) b none = (λ e. cc, b, λ c is. let no = none c is in absurd cc)
 chain_refused given entry options (chain_error.Parse n f) b none = (λ e. cc, b, λ c is. let no = none c is in absurd cc)
 chain_refused given entry options chain_error.NoMemory b none = tt
@@ -127,20 +132,20 @@ module _ (code : CodeLaws) (low : LowLaws) (programs : ProgramLaws) (given : Giv
   world = world_of c
 
   abbrev order : List Home
-  order = entry ∷ is.included
+  order = a_chain entry ∷ is.included
 
   abbrev p : Program
-  p = program world order entry
+  p = program world order (a_chain entry)
 
   -- the program is that of the chain
   abbrev IsOf : Program → Type 0
   IsOf q = q ≡ program world c.order (home_at c.order 0)
 
-  of_entry : (q : Program) → IsOf q → q ≡ program world c.order entry
+  of_entry : (q : Program) → IsOf q → q ≡ program world c.order (a_chain entry)
   of_entry q same = same ∙ ap (λ (o : List Home). program world c.order (home_at o 0)) is.begins
 
-  begun : program world c.order entry ≡ p
-  begun = ap (λ (o : List Home). program world o entry) is.begins
+  begun : program world c.order (a_chain entry) ≡ p
+  begun = ap (λ (o : List Home). program world o (a_chain entry)) is.begins
 
   -- ---- its image
 
@@ -153,19 +158,19 @@ module _ (code : CodeLaws) (low : LowLaws) (programs : ProgramLaws) (given : Giv
   named = names_of (sources_of c) order
 
   tags : AllByRecursion (OnTag (IsTag named)) (places_of p)
-  tags = program_placed (IsTag named) IsLine first_line world order entry (homes_tagged given options c.templates is.read.each order)
+  tags = program_placed (IsTag named) IsLine first_line world order (a_chain entry) (homes_tagged given options c.templates is.read.each order)
 
   pub tables_of : (q : Program) → IsOf q → HasTables (compiled q)
   tables_of q same =
       subst (λ (r : Program). HasTables (compiled r)) (sym (of_entry q same ∙ begun))
-      (tables world entry is.included named tags (names_all (λ x. 0 < length x) world (own_all (λ x. 0 < length x) c.templates some) order entry) (programs.ascends world order entry) (omega (arith, few_globals world order entry)))
+      (tables world entry is.included named tags (names_all (λ x. 0 < length x) world (own_all (λ x. 0 < length x) c.templates some) order (a_chain entry)) (programs.ascends world order (a_chain entry)) (omega (arith, few_globals world order (a_chain entry))))
 
   lows : (q : Program) → IsOf q → Low q → AreLow (routines world c.order)
   lows q same h = low.low (routines world c.order) (length (shared world c.order)) (subst Low (of_entry q same) h)
 
   pub image_compiled : (q : Program) (k : Code) → IsOf q → Low q → k ≡ compiled q → IsCode k → IsCompiled given entry options k
   image_compiled q k same few held whole =
-      let one : compiled (program world c.order entry) ≡ k = ap compiled (sym (of_entry q same)) ∙ sym held in
+      let one : compiled (program world c.order (a_chain entry)) ≡ k = ap compiled (sym (of_entry q same)) ∙ sym held in
       subst (IsCompiled given entry options) one (by_order low programs given entry options c the kept (lows q same few) (subst IsCode (sym one) whole))
 
   -- ---- refusals hold
@@ -187,17 +192,30 @@ module _ (code : CodeLaws) (low : LowLaws) (programs : ProgramLaws) (given : Giv
     weight = subst (λ (o : List Home). chains_weight (sources_of c) o ≤ 2000) is.begins (omega (arith, weighs, small.bytes c is))
 
     are_few : AreFew world order
-    are_few = subst (AreFew world) is.begins (programs.few c (small.names c is) kept)
+    are_few = subst (AreFew world) is.begins (programs.few c is.order (small.names c is) kept)
+
+    ordered : InOrder (sources_of c) order
+    ordered = subst (InOrder (sources_of c)) is.begins is.order
 
     sized : IsSized world order p
-    sized = programs.sized world entry is.included are_few
+    sized = programs.sized world (a_chain entry) is.included ordered are_few
 
     pub low_small : (q : Program) → IsOf q → Low q
     low_small q same = subst Low (sym (of_entry q same ∙ begun)) (small_low code low world order p sized weight)
 
+    -- the sources of each chain and library
+    counted : AllByRecursion (λ h. templates_len given (templates (sources_of c) h) ≤ 2000) order
+    counted =
+        let bytes : chains_len given (sources_of c) order ≤ 2000 = subst (λ (o : List Home). chains_len given (sources_of c) o ≤ 2000) is.begins (small.bytes c is) in
+        let reached : AllByRecursion (Reaches (sources_of c) c.escaping (a_chain entry)) order = subst (AllByRecursion (Reaches (sources_of c) c.escaping (a_chain entry))) is.begins is.reached in
+        all_each (λ h. templates_len given (templates (sources_of c) h) ≤ chains_len given (sources_of c) order) (λ h. templates_len given (templates (sources_of c) h) ≤ 2000) (λ h le. omega (arith, le, bytes)) order
+        (all_count given (sources_of c) c.escaping entry is.included ordered reached)
+
     module _ (short : AllByRecursion (λ t. body_bytes t.body ≤ source_len (given t.name)) c.templates) (few : 7 * length c.order ≤ chains_weight (sources_of c) c.order + 7) where
       texts : IsShort 2000 p
-      texts = subst (IsShort 2000) begun (programs.short c entry is.included 2000 is.begins (all_short given 2000 c.templates short c.order (small.bytes c is)))
+      texts =
+          subst (IsShort 2000) begun
+          (programs.short c (a_chain entry) is.included 2000 is.begins (subst (λ (o : List Home). AllByRecursion (λ h. AllByRecursion (λ t. body_bytes t.body ≤ 2000) (templates (sources_of c) h)) o) (sym is.begins) (all_short given 2000 c.templates short order counted)))
 
       few_chains : 7 * length order ≤ chains_weight (sources_of c) order + 7
       few_chains = subst (λ (o : List Home). 7 * length o ≤ chains_weight (sources_of c) o + 7) is.begins few
@@ -208,7 +226,7 @@ module _ (code : CodeLaws) (low : LowLaws) (programs : ProgramLaws) (given : Giv
       pub fits_small : (q : Program) → IsOf q → FitsImage (compiled q)
       fits_small q same =
           subst (λ (r : Program). FitsImage (compiled r)) (sym (of_entry q same ∙ begun))
-          (small_fits code low world order p sized weight texts few_chains named (few_names (sources_of c) order) tags fitting (parameters_few world entry is.included (length (shared world order)) are_few))
+          (small_fits code low world order p sized weight texts few_chains named (few_names (sources_of c) order) tags fitting (parameters_few world (a_chain entry) is.included (length (shared world order)) are_few))
 
   pub stack_not_small : (q : Program) → IsOf q → ¬ (Low q) → chains_weight (sources_of c) c.order ≤ chains_len given (sources_of c) c.order → ¬ (IsSmall given entry options)
   stack_not_small q same n weighs = λ small. n (low_small weighs small q same)

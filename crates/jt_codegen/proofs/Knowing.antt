@@ -14,8 +14,8 @@ use Rattle.jt_ids.specs.declared.filter_id.FilterId.TheVariants as which
 use Rattle.jt_trees.specs.Expressions as written
 use Rattle.jt_trees.specs.Expressions.{Expr, constant, name, group, list_of, map_of, attribute, item, filter, test, unary, binary, when, choice, Exprs, no_exprs, expr, Pairs, no_pairs, pair, Text}
 use Rattle.jt_parse.specs.Names.{blamed, unknown_in, condition_unknown, filtering_unknown, filterings_unknown, stmt_unknown, body_unknown, branch_unknown}
-use Rattle.jt_trees.specs.Statements.{Filtering, Stmt, data_of, print, choose, for_each, set, set_block, with_values, filter_block, autoescape, macro, include, extends, block, Body, end, stmt, Branches, no_branches, branch}
-use Rattle.jt_chains.specs.Chain.{Sources, Home, Template, sources_in, template, names_up}
+use Rattle.jt_trees.specs.Statements.{Filtering, Stmt, data_of, print, choose, for_each, set, set_block, with_values, filter_block, autoescape, macro, include, import_as, import_from, extends, block, Body, end, stmt, Branches, no_branches, branch}
+use Rattle.jt_chains.specs.Chain.{Sources, Home, a_chain, a_library, Template, sources_in, template, holds_macros, library_template, templates, max_templates, names_up}
 use Rattle.jt_slots.specs.Filters.{Filters}
 use Rattle.jt_slots.specs.Tests.{test_named}
 use Rattle.jt_slots.specs.TheFilters.{the_filters}
@@ -217,6 +217,8 @@ module _ (fs : Filters) (named : (x : Text) (ts : Exprs) (ps : Pairs) → is_fil
     stmt_known (autoescape line on body) h = body_known body h
     stmt_known (macro line x ps body) h = body_known body h
     stmt_known (include line m missing context) h = tt
+    stmt_known (import_as line m x) h = tt
+    stmt_known (import_from line m xs) h = tt
     stmt_known (extends line m) h = tt
     stmt_known (block line x scoped required body) h = body_known body h
 
@@ -257,7 +259,19 @@ module _ (fs : Filters) (named : (x : Text) (ts : Exprs) (ps : Pairs) → is_fil
       by None h = tt
       by (Some b) h = (h, tt)
 
+  library_known : (n : Text) (o : Option Body) → Fine o → TemplatesKnown fs (library_template n o)
+  library_known n None h = tt
+  library_known n (Some b) h = by (holds_macros b)
+    where
+      by : (c : Bool) → TemplatesKnown fs (if c then template n (Some b) else [])
+      by true = (h, tt)
+      by false = tt
+
+  templates_known : (sources : Sources) → ((m : Text) → Fine (sources m)) → (h : Home) → TemplatesKnown fs (templates sources h)
+  templates_known sources k (a_chain n) = named_known sources k (names_up sources max_templates (Some n))
+  templates_known sources k (a_library n) = library_known n (sources n) (k n)
+
 pub chains_known : (world : World) → ((x : Text) (us : Exprs) (ps : Pairs) → is_filter x ≡ true → IsThere (world.filters.named x us ps)) → (ts : List Template) → ((m : Text) → world.sources m ≡ sources_in ts m) → AllByRecursion (λ t. body_unknown t.body ≡ None) ts → (hs : List Home) → ChainsKnown world hs
 chains_known world named ts same a [] = tt
 chains_known world named ts same a (h ∷ hs) =
-    (named_known world.filters named world.sources (λ m. subst (Fine world.filters named) (sym (same m)) (source_known world.filters named ts a m)) (names_up world.sources 16 (Some h)), chains_known world named ts same a hs)
+    (templates_known world.filters named world.sources (λ m. subst (Fine world.filters named) (sym (same m)) (source_known world.filters named ts a m)) h, chains_known world named ts same a hs)

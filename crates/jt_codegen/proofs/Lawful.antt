@@ -1,11 +1,10 @@
 -- What is resolved is lawful: its slots are globals that there are, and its constants values that have a place.
-use Rattle.std.proofs.Common.{◌≡◌, ℕ, zero, suc, ◌+◌, ◌<◌, ◌≤◌, Bool, true, false, if◌then◌else◌, List, [], ◌∷◌, ◌++◌, length, Option, Some, None, arith, refl, sym, ap, ◌∙◌, length-append}
+use Rattle.std.proofs.Common.{◌≡◌, ℕ, zero, suc, ◌+◌, ◌<◌, ◌≤◌, Bool, true, false, if◌then◌else◌, List, [], ◌∷◌, ◌++◌, length, Option, Some, None, inl, inr, arith, refl, ap, ◌∙◌, length-append}
 use Rattle.std.specs.Option.{is_none}
 use Rattle.std.specs.List.{AllByRecursion}
 use Rattle.std.specs.Str.{bytes_eq}
 use Rattle.std.specs.Prelude as prelude
-use Rattle.std.specs.Prelude.{map, flat_map, codes, ◌||◌}
-use Rattle.std.proofs.lemmas.Slice.Eq.{bytes_eq-Decides}
+use Rattle.std.specs.Prelude.{map, flat_map, ◌||◌}
 use Rattle.std.proofs.lemmas.List.{length-map}
 use Rattle.jt_value.specs.Tree as tree
 use Rattle.jt_value.specs.Tree.{Tree}
@@ -18,17 +17,17 @@ use Rattle.jt_value.specs.Place.{Place}
 use Rattle.jt_slots.specs.Tests.{test_named}
 use Rattle.jt_slots.specs.Values.{literal}
 use Rattle.jt_chains.specs.Uses.{count, keywords, set_in, own_names}
-use Rattle.jt_chains.specs.Includes.{included}
-use Rattle.jt_trees.specs.Statements.{Parameter, Filtering, Stmt, data_of, print, choose, for_each, set, set_block, with_values, filter_block, autoescape, macro, include, extends, block, Body, end, stmt, Branches, no_branches, branch}
-use Rattle.jt_chains.specs.Chain.{Home, Template, templates, BlockBody, MacroBody, macros, macro_of, Callee, a_macro, a_range, a_super, a_block, a_cycle, no_callee, named_alone, named_in, callee, is_loop}
+use Rattle.jt_chains.specs.Includes.{included, InOrder}
+use Rattle.jt_trees.specs.Statements.{Parameter, Filtering, Stmt, data_of, print, choose, for_each, set, set_block, with_values, filter_block, autoescape, macro, include, import_as, import_from, extends, block, Body, end, stmt, Branches, no_branches, branch}
+use Rattle.jt_chains.specs.Chain.{Home, a_chain, a_library, same_home, listed, Template, templates, BlockBody, MacroBody, macros, macro_of, given, Callee, a_macro, a_range, a_super, a_block, a_cycle, no_callee, callee, is_loop}
 use Rattle.jt_slots.specs.Loops.{Field, field_named}
 use Rattle.jt_slots.specs.Filters.{default_value, some_given}
 use Rattle.jt_trees.specs.Texts.{among, ascending}
 use Rattle.jt_rules.specs.World.{World}
 use Rattle.jt_meaning.specs.Expressions.{filter_parameters}
-use Rattle.jt_meaning.specs.Layout.{Table, slot_in, globals_from, defaults_of, first_default, names_in, names, first_in, numbered_bodies, numbered_of, globals, block_parameters, shared, default_in, default_place, first_slot, unit, of_chain}
+use Rattle.jt_meaning.specs.Layout.{Table, slot_in, globals_from, in_globals, defaults_of, first_default, names_in, names, first_in, numbered_bodies, numbered_of, globals, block_parameters, shared, default_in, default_place, first_slot, unit, of_chain}
 use Rattle.jt_meaning.specs.Meaning.{is_set}
-use Rattle.jt_meaning.specs.Programs.{body_routines, chain_routines, routines, count_globals, program}
+use Rattle.jt_meaning.specs.Programs.{body_routines, entry_routines, chain_routines, routines, count_globals, program}
 use Rattle.jt_slots.specs.Slots as slots
 use Rattle.jt_slots.specs.Slots.{Slot, local, SExpr, SRow, SBody, variable, run, Routine}
 use Rattle.jt_slots.specs.Takes.{BodyTakes}
@@ -37,6 +36,10 @@ use Rattle.jt_slots.specs.Pool.{Constant, own, known}
 use Rattle.jt_meaning.specs.Resolve.{value_or, read_from, turned_round, tested_by, filtered_by, in_form, field_from, followed, locals_from, fresh, fresh_targets, kept_slots, slot_of, set_targets, filled, filled_some, first_locals, reads, handed_on, Part, Spot, place, left_out, grown, bound_table, bound_all, copied, scoped, next_given, first_body, invoked_body, invoked_super, invoked, resolved, resolved_row, resolved_asides, resolved_entries, resolved_condition, resolved_filters, resolved_values, placed_body, resolved_stmt, resolved_body, resolved_choice, top_spot, resolved_sets, resolved_chain, resolved_routine, chain_routine, macro_routine}
 use Rattle.jt_lower.specs.Fits.{IsBare, IsPooled}
 use Rattle.jt_lower.specs.Lawful.{ConstantLawful, SlotLawful, ExprLawful, RowLawful, SomeLawful, SlotsLawful, TargetsLawful, ConditionLawful, BodyLawful, RoutineLawful, AreLawful}
+use Rattle.jt_meaning.proofs.Finding.{macro_named}
+use Rattle.jt_meaning.proofs.Givens.{LeadsTo, called_macro}
+use Rattle.jt_meaning.proofs.Ordering.{libraries_stand}
+use Rattle.jt_meaning.proofs.Reading.{home_same, home_is}
 use Rattle.jt_lower.proofs.Fitting.{all_append}
 
 literal_pooled : (l : Literal) → IsPooled (literal l)
@@ -201,7 +204,7 @@ module _ (front globals_count : ℕ) (some : 0 < front) where
 
   -- globals of each chain are there, and so are the defaults of its macros
   module _ (world : World) (order : List Home) (few : (h : Home) → first_slot world order h + length (names world order h) ≤ globals_count)
-      (laid : (h : Home) → among h order ≡ true → (f : Expr) (m : MacroBody) → callee (macros world.sources h) f ≡ a_macro m → default_place world order h m.name + length m.parameters ≤ front) where
+      (laid : (h : Home) → listed h order ≡ true → (f : Expr) (k : Home) (m : MacroBody) → callee world.sources (given world.sources h) f ≡ a_macro k m → default_place world order k m.name + length m.parameters ≤ front) where
     body_fined : (h : Home) (on : Bool) (i : Option ℕ) (es : SRow Constant) → R es → E (invoked_body world order h on i es)
     body_fined h on None es k = tt
     body_fined h on (Some i) es k = k
@@ -213,10 +216,10 @@ module _ (front globals_count : ℕ) (some : 0 < front) where
     globals_of_fine : (h : Home) → Fine (globals world order h)
     globals_of_fine h = globals_fine (first_slot world order h) (names world order h) (few h)
 
-    invoked_fined : (c : Callee) (f : Expr) (sp : Spot) (row asides : SRow Constant → SRow Constant) (m : ℕ) (ks : Table) → among sp.home order ≡ true → callee (macros world.sources sp.home) f ≡ c → Fine ks → Front row → Front asides → E (invoked world order c sp row asides m ks)
-    invoked_fined (a_macro x) f sp row asides m ks i e h r a =
-        let rest = filled x.parameters m (default_place world order sp.home x.name) ks in
-        r (asides rest) (a rest (filled_fine x.parameters m (default_place world order sp.home x.name) ks (laid sp.home i f x e) h))
+    invoked_fined : (c : Callee) (f : Expr) (sp : Spot) (row asides : SRow Constant → SRow Constant) (m : ℕ) (ks : Table) → listed sp.home order ≡ true → callee world.sources (given world.sources sp.home) f ≡ c → Fine ks → Front row → Front asides → E (invoked world order c sp row asides m ks)
+    invoked_fined (a_macro k x) f sp row asides m ks i e h r a =
+        let rest = filled x.parameters m (default_place world order k x.name) ks in
+        r (asides rest) (a rest (filled_fine x.parameters m (default_place world order k x.name) ks (laid sp.home i f k x e) h))
     invoked_fined a_range f sp row asides m ks i e h r a = r slots.none tt
     invoked_fined a_super f sp row asides m ks i e h r a = super_fined sp sp.part
     invoked_fined (a_block x) f sp row asides m ks i e h r a =
@@ -227,7 +230,7 @@ module _ (front globals_count : ℕ) (some : 0 < front) where
     invoked_fined no_callee f sp row asides m ks i e h r a = tt
 
     mutual
-      pub fined : (e : Expr) (sp : Spot) → among sp.home order ≡ true → Fine sp.table → E (resolved world order e sp)
+      pub fined : (e : Expr) (sp : Spot) → listed sp.home order ≡ true → Fine sp.table → E (resolved world order e sp)
       fined (constant l) sp i t = literal_pooled l
       fined (name x) sp i t = read_fine (slot_in x sp.table) (slot_fine sp.table x t)
       fined (group a) sp i t = fined a sp i t
@@ -238,7 +241,7 @@ module _ (front globals_count : ℕ) (some : 0 < front) where
           (field_fine (field_named x)) (fined a sp i t, (tt, tt))
       fined (item a b) sp i t = (fined a sp i t, (fined b sp i t, tt))
       fined (call f ts ps) sp i t =
-          invoked_fined (callee (macros world.sources sp.home) f) f sp (resolved_row world order ts sp) (resolved_asides world order ps sp) (count ts) (locals_from sp.free (keywords ps)) i refl
+          invoked_fined (callee world.sources (given world.sources sp.home) f) f sp (resolved_row world order ts sp) (resolved_asides world order ps sp) (count ts) (locals_from sp.free (keywords ps)) i refl
           (from_fine sp.free (keywords ps)) (λ b h. row_fined ts sp i t b h) (λ b h. asides_fined ps sp i t b h)
       fined (filter a x ts ps) sp i t =
           let f = world.filters.named x ts ps in
@@ -254,23 +257,23 @@ module _ (front globals_count : ℕ) (some : 0 < front) where
       fined (when c a) sp i t = (fined c sp i t, fined a sp i t, some)
       fined (choice c a b) sp i t = (fined c sp i t, fined a sp i t, fined b sp i t)
 
-      pub row_fined : (ts : Exprs) (sp : Spot) → among sp.home order ≡ true → Fine sp.table → (b : SRow Constant) → R b → R (resolved_row world order ts sp b)
+      pub row_fined : (ts : Exprs) (sp : Spot) → listed sp.home order ≡ true → Fine sp.table → (b : SRow Constant) → R b → R (resolved_row world order ts sp b)
       row_fined no_exprs sp i t b h = h
       row_fined (expr a ts) sp i t b h = (fined a sp i t, row_fined ts sp i t b h)
 
-      pub asides_fined : (ps : Pairs) (sp : Spot) → among sp.home order ≡ true → Fine sp.table → (b : SRow Constant) → R b → R (resolved_asides world order ps sp b)
+      pub asides_fined : (ps : Pairs) (sp : Spot) → listed sp.home order ≡ true → Fine sp.table → (b : SRow Constant) → R b → R (resolved_asides world order ps sp b)
       asides_fined no_pairs sp i t b h = h
       asides_fined (pair x a ps) sp i t b h = (fined a sp i t, asides_fined ps (grown sp) i t b h)
 
-      entries_fined : (ps : Pairs) (sp : Spot) → among sp.home order ≡ true → Fine sp.table → R (resolved_entries world order ps sp)
+      entries_fined : (ps : Pairs) (sp : Spot) → listed sp.home order ≡ true → Fine sp.table → R (resolved_entries world order ps sp)
       entries_fined no_pairs sp i t = tt
       entries_fined (pair x a ps) sp i t = (tt, (fined a sp i t, entries_fined ps sp i t))
 
-    condition_fined : (c : Option Expr) (sp : Spot) → among sp.home order ≡ true → Fine sp.table → ConditionLawful front globals_count (resolved_condition world order c sp)
+    condition_fined : (c : Option Expr) (sp : Spot) → listed sp.home order ≡ true → Fine sp.table → ConditionLawful front globals_count (resolved_condition world order c sp)
     condition_fined None sp i t = tt
     condition_fined (Some c) sp i t = fined c sp i t
 
-    filters_fined : (fs : List Filtering) (sp : Spot) (e : SExpr Constant) → among sp.home order ≡ true → Fine sp.table → E e → E (resolved_filters world order fs sp e)
+    filters_fined : (fs : List Filtering) (sp : Spot) (e : SExpr Constant) → listed sp.home order ≡ true → Fine sp.table → E e → E (resolved_filters world order fs sp e)
     filters_fined [] sp e i t h = h
     filters_fined (f ∷ fs) sp e i t h =
         let n = world.filters.named f.name f.arguments f.keywords in
@@ -282,7 +285,7 @@ module _ (front globals_count : ℕ) (some : 0 < front) where
           row_fined f.arguments sp i t (resolved_asides world order f.keywords sp rest) (asides_fined f.keywords sp i t rest (some_fine (filter_parameters world.filters n) (count f.arguments) (keywords f.keywords) ks (from_fine sp.free (keywords f.keywords)))),
         ))
 
-    values_fined : (ps : Pairs) (sp : Spot) (line : ℕ) (b : SBody Constant) → among sp.home order ≡ true → Fine sp.table → B b → B (resolved_values world order ps sp line b)
+    values_fined : (ps : Pairs) (sp : Spot) (line : ℕ) (b : SBody Constant) → listed sp.home order ≡ true → Fine sp.table → B b → B (resolved_values world order ps sp line b)
     values_fined no_pairs sp line b i t h = h
     values_fined (pair x e ps) sp line b i t h = ((tt, fined e sp i t), values_fined ps (grown sp) line b i t h)
 
@@ -299,18 +302,18 @@ module _ (front globals_count : ℕ) (some : 0 < front) where
     seen_fine false t h = tt
 
     include_fined : (sp : Spot) (line : ℕ) (m : Text) (missing c : Bool) (b : Bool) → Fine sp.table
-        → B (if b then left_out sp line missing else followed (handed_on (place sp line) (if c then sp.table else []) (first_slot world order m) (names world order m)) (slots.stmt (run (unit world order (of_chain m)) slots.none) slots.end))
+        → B (if b then left_out sp line missing else followed (handed_on (place sp line) (if c then sp.table else []) (first_slot world order (a_chain m)) (names world order (a_chain m))) (slots.stmt (run (unit world order (of_chain m)) slots.none) slots.end))
     include_fined sp line m true c true t = tt
     include_fined sp line m false c true t = (tt, tt)
     include_fined sp line m missing c false t =
-        followed_fine (handed_on (place sp line) (if c then sp.table else []) (first_slot world order m) (names world order m)) (slots.stmt (run (unit world order (of_chain m)) slots.none) slots.end)
-        (handed_fine (place sp line) (if c then sp.table else []) (first_slot world order m) (names world order m) (few m) (seen_fine c sp.table t)) ((tt, tt), tt)
+        followed_fine (handed_on (place sp line) (if c then sp.table else []) (first_slot world order (a_chain m)) (names world order (a_chain m))) (slots.stmt (run (unit world order (of_chain m)) slots.none) slots.end)
+        (handed_fine (place sp line) (if c then sp.table else []) (first_slot world order (a_chain m)) (names world order (a_chain m)) (few (a_chain m)) (seen_fine c sp.table t)) ((tt, tt), tt)
 
     pub scope_fined : (b : Body) (sp : Spot) → Fine sp.table → B (resolved_body world order b (bound_all (set_in b) sp)) → B (scoped (set_in b) sp (resolved_body world order b))
     scope_fined b sp t h = copied_fine (place sp 1) sp.table sp.free (set_in b) (resolved_body world order b (bound_all (set_in b) sp)) t h
 
     mutual
-      pub stmt_fined : (s : Stmt) (sp : Spot) → among sp.home order ≡ true → Fine sp.table → B (resolved_stmt world order s sp)
+      pub stmt_fined : (s : Stmt) (sp : Spot) → listed sp.home order ≡ true → Fine sp.table → B (resolved_stmt world order s sp)
       stmt_fined (data_of x) sp i t = (tt, tt)
       stmt_fined (print line e) sp i t = (fined e sp i t, tt)
       stmt_fined (choose bs other) sp i t = choice_fined bs sp i t (resolved_body world order other sp) (all_fined other sp i t)
@@ -340,25 +343,21 @@ module _ (front globals_count : ℕ) (some : 0 < front) where
           scope_fined body inner t (all_fined body (bound_all (set_in body) inner) i (bound_fine (set_in body) sp.free sp.table t))
       stmt_fined (macro line x ps body) sp i t = tt
       stmt_fined (include line m missing with_context) sp i t = include_fined sp line m missing with_context (is_none (world.sources m)) t
+      stmt_fined (import_as line m x) sp i t = tt
+      stmt_fined (import_from line m xs) sp i t = tt
       stmt_fined (extends line m) sp i t = tt
       stmt_fined (block line x is required body) sp i t =
           placed_fined sp (first_body (numbered_of world sp.home x)) x (if is then sp.table else globals world order sp.home) (table_fine is sp t)
 
-      pub all_fined : (b : Body) (sp : Spot) → among sp.home order ≡ true → Fine sp.table → B (resolved_body world order b sp)
+      pub all_fined : (b : Body) (sp : Spot) → listed sp.home order ≡ true → Fine sp.table → B (resolved_body world order b sp)
       all_fined end sp i t = tt
       all_fined (stmt s rest) sp i t = followed_fine (resolved_stmt world order s sp) (resolved_body world order rest sp) (stmt_fined s sp i t) (all_fined rest sp i t)
 
-      choice_fined : (bs : Branches) (sp : Spot) → among sp.home order ≡ true → Fine sp.table → (other : SBody Constant) → B other → B (resolved_choice world order bs sp other)
+      choice_fined : (bs : Branches) (sp : Spot) → listed sp.home order ≡ true → Fine sp.table → (other : SBody Constant) → B other → B (resolved_choice world order bs sp other)
       choice_fined no_branches sp i t other h = h
       choice_fined (branch line c body rest) sp i t other h = ((fined c sp i t, all_fined body sp i t, choice_fined rest sp i t other h), tt)
 
--- ---- routines, in an order of chains
-
-same_is : (x : Text) → bytes_eq x x ≡ true
-same_is x = (bytes_eq-Decides x x).1 refl
-
-same_text : (x y : Text) → bytes_eq x y ≡ true → x ≡ y
-same_text x y e = (bytes_eq-Decides x y).0 e
+-- ---- routines, in an order of chains and libraries
 
 module _ (world : World) (order : List Home) where
   abbrev front_count : ℕ
@@ -368,45 +367,37 @@ module _ (world : World) (order : List Home) where
 
   first_le : (ks : List Home) (h : Home) → first_in world order ks h ≤ count_globals world order ks
   first_le [] h = omega arith
-  first_le (k ∷ ks) h = through (bytes_eq k h) (first_le ks h)
+  first_le (k ∷ ks) h = through (same_home k h) (first_le ks h)
     where
       through : (b : Bool) → first_in world order ks h ≤ count_globals world order ks → (if b then 0 else length (names world order k) + first_in world order ks h) ≤ length (names world order k) + count_globals world order ks
       through true l = omega arith
       through false l = omega (arith, l)
 
-  first_few : (ks : List Home) (h : Home) → among h ks ≡ true → first_in world order ks h + length (names world order h) ≤ count_globals world order ks
+  first_few : (ks : List Home) (h : Home) → listed h ks ≡ true → first_in world order ks h + length (names world order h) ≤ count_globals world order ks
   first_few [] h e = absurd (let none : false ≡ true = e in cc)
-  first_few (k ∷ ks) h e = through (bytes_eq k h) refl e (first_few ks h)
+  first_few (k ∷ ks) h e = through (same_home k h) refl e (first_few ks h)
     where
-      through : (b : Bool) → bytes_eq k h ≡ b → (b || among h ks) ≡ true → (among h ks ≡ true → first_in world order ks h + length (names world order h) ≤ count_globals world order ks)
+      through : (b : Bool) → same_home k h ≡ b → (b || listed h ks) ≡ true → (listed h ks ≡ true → first_in world order ks h + length (names world order h) ≤ count_globals world order ks)
           → (if b then 0 else length (names world order k) + first_in world order ks h) + length (names world order h) ≤ length (names world order k) + count_globals world order ks
-      through true p e f = let same : length (names world order k) ≡ length (names world order h) = ap (λ x. length (names world order x)) (same_text k h p) in omega (arith, same)
+      through true p e f = let same : length (names world order k) ≡ length (names world order h) = ap (λ x. length (names world order x)) (home_same k h p) in omega (arith, same)
       through false p e f = let l = f e in omega (arith, l)
 
-  names_none : (ks : List Home) (h : Home) → among h ks ≡ false → names_in world ks h ≡ []
+  names_none : (ks : List Home) (h : Home) → listed h ks ≡ false → names_in world ks h ≡ []
   names_none [] h e = refl
-  names_none (k ∷ ks) h e = through (bytes_eq k h) e (names_none ks h)
+  names_none (k ∷ ks) h e = through (same_home k h) e (names_none ks h)
     where
-      through : (b : Bool) → (b || among h ks) ≡ false → (among h ks ≡ false → names_in world ks h ≡ []) → (if b then ascending (own_names world.sources h ++ flat_map (names_in world ks) (included world.sources h)) else names_in world ks h) ≡ []
+      through : (b : Bool) → (b || listed h ks) ≡ false → (listed h ks ≡ false → names_in world ks h ≡ []) → (if b then in_globals h (ascending (own_names world.sources h ++ flat_map (names_in world ks) (included world.sources h))) else names_in world ks h) ≡ []
       through true e f = absurd (let none : true ≡ false = e in cc)
       through false e f = f e
 
   pub few_globals : (h : Home) → first_slot world order h + length (names world order h) ≤ count_globals world order order
-  few_globals h = through (among h order) refl
+  few_globals h = through (listed h order) refl
     where
-      through : (b : Bool) → among h order ≡ b → first_slot world order h + length (names world order h) ≤ count_globals world order order
+      through : (b : Bool) → listed h order ≡ b → first_slot world order h + length (names world order h) ≤ count_globals world order order
       through true e = first_few order h e
       through false e = let none : length (names world order h) ≡ 0 = ap length (names_none order h e) in omega (arith, first_le order h, none)
 
   -- ---- defaults
-
-  named_so : (x : Text) (b : MacroBody) (ms : List MacroBody) → macro_of x ms ≡ Some b → b.name ≡ x
-  named_so x b [] e = absurd (let none : None ≡ Some b = e in cc)
-  named_so x b (m ∷ ms) e = through (bytes_eq m.name x) refl e (named_so x b ms)
-    where
-      through : (c : Bool) → bytes_eq m.name x ≡ c → (if c then Some m else macro_of x ms) ≡ Some b → (macro_of x ms ≡ Some b → b.name ≡ x) → b.name ≡ x
-      through true p e f = let same : m ≡ b = (let s : Some m ≡ Some b = e in cc) in ap (λ z. z.name) (sym same) ∙ same_text m.name x p
-      through false p e f = f e
 
   first_defaults : (x : Text) (b : MacroBody) (ms : List MacroBody) → macro_of x ms ≡ Some b → first_default x ms + length b.parameters ≤ length (defaults_of ms)
   first_defaults x b [] e = absurd (let none : None ≡ Some b = e in cc)
@@ -420,9 +411,9 @@ module _ (world : World) (order : List Home) where
       through true e f = let same : length m.parameters ≡ length b.parameters = (let s : Some m ≡ Some b = e in let is : m ≡ b = cc in ap (λ z. length z.parameters) is) in omega (arith, same, counted)
       through false e f = omega (arith, f e, counted)
 
-  defaults_in : (ks : List Home) (h : Home) (x : Text) (b : MacroBody) → among h ks ≡ true → macro_of x (macros world.sources h) ≡ Some b → default_in world order ks h x + length b.parameters ≤ length (flat_map (λ g. defaults_of (macros world.sources g)) ks)
+  defaults_in : (ks : List Home) (h : Home) (x : Text) (b : MacroBody) → listed h ks ≡ true → macro_of x (macros world.sources h) ≡ Some b → default_in world order ks h x + length b.parameters ≤ length (flat_map (λ g. defaults_of (macros world.sources g)) ks)
   defaults_in [] h x b e m = absurd (let none : false ≡ true = e in cc)
-  defaults_in (k ∷ ks) h x b e m = through (bytes_eq k h) refl e (λ f. defaults_in ks h x b f m)
+  defaults_in (k ∷ ks) h x b e m = through (same_home k h) refl e (λ f. defaults_in ks h x b f m)
     where
       behind : List Tree
       behind = flat_map (λ g. defaults_of (macros world.sources g)) ks
@@ -430,41 +421,25 @@ module _ (world : World) (order : List Home) where
       counted : length (defaults_of (macros world.sources k) ++ behind) ≡ length (defaults_of (macros world.sources k)) + length behind
       counted = length-append (defaults_of (macros world.sources k)) behind
 
-      through : (c : Bool) → bytes_eq k h ≡ c → (c || among h ks) ≡ true → (among h ks ≡ true → default_in world order ks h x + length b.parameters ≤ length behind)
+      through : (c : Bool) → same_home k h ≡ c → (c || listed h ks) ≡ true → (listed h ks ≡ true → default_in world order ks h x + length b.parameters ≤ length behind)
           → (if c then first_default x (macros world.sources h) else length (defaults_of (macros world.sources k)) + default_in world order ks h x) + length b.parameters ≤ length (defaults_of (macros world.sources k) ++ behind)
       through true p e f =
-          let same : length (defaults_of (macros world.sources k)) ≡ length (defaults_of (macros world.sources h)) = ap (λ z. length (defaults_of (macros world.sources z))) (same_text k h p) in
+          let same : length (defaults_of (macros world.sources k)) ≡ length (defaults_of (macros world.sources h)) = ap (λ z. length (defaults_of (macros world.sources z))) (home_same k h p) in
           omega (arith, first_defaults x b (macros world.sources h) m, same, counted)
       through false p e f = omega (arith, f e, counted)
 
-  range_is : (x : Text) (m : MacroBody) (o : Option MacroBody) → named_alone o x ≡ a_macro m → o ≡ Some m
-  range_is x m None e = absurd (by (bytes_eq x (codes "range")) (bytes_eq x (codes "super")) e)
-    where
-      by : (a b : Bool) → (if a then a_range else if b then a_super else no_callee) ≡ a_macro m → ⊥
-      by true b e = (let s : a_range ≡ a_macro m = e in cc)
-      by false true e = (let s : a_super ≡ a_macro m = e in cc)
-      by false false e = (let s : no_callee ≡ a_macro m = e in cc)
-  range_is x m (Some n) e = let same : n ≡ m = (let s : a_macro n ≡ a_macro m = e in cc) in ap Some same
+  -- a macro that is called is at home in the order
+  leads_there : InOrder world.sources order → (h : Home) → listed h order ≡ true → (k : Home) → LeadsTo world.sources h k → listed k order ≡ true
+  leads_there ordered h i k (inl e) = ap (λ z. listed z order) e ∙ i
+  leads_there ordered h i k (inr r) = ap (λ z. listed z order) r.1 ∙ (libraries_stand world order ordered h i r.0 r.2).known
 
-  in_none : (y x : Text) (m : MacroBody) → named_in y x ≡ a_macro m → ⊥
-  in_none y x m e = by (bytes_eq y (codes "self")) (bytes_eq y (codes "loop")) (bytes_eq x (codes "cycle")) e
-    where
-      by : (a b c : Bool) → (if a then a_block x else if b then (if c then a_cycle else no_callee) else no_callee) ≡ a_macro m → ⊥
-      by true b c e = (let s : a_block x ≡ a_macro m = e in cc)
-      by false true true e = (let s : a_cycle ≡ a_macro m = e in cc)
-      by false true false e = (let s : no_callee ≡ a_macro m = e in cc)
-      by false false c e = (let s : no_callee ≡ a_macro m = e in cc)
-
-  callee_macro : (ms : List MacroBody) (f : Expr) (m : MacroBody) → callee ms f ≡ a_macro m → (x : Text) × (macro_of x ms ≡ Some m)
-  callee_macro ms (name x) m e = (x, range_is x m (macro_of x ms) e)
-  callee_macro ms (attribute (name y) x) m e = absurd (in_none y x m e)
-  callee_macro ms f m e = absurd cc
-
-  laid_defaults : (h : Home) → among h order ≡ true → (f : Expr) (m : MacroBody) → callee (macros world.sources h) f ≡ a_macro m → default_place world order h m.name + length m.parameters ≤ front_count
-  laid_defaults h i f m e =
-      let r = callee_macro (macros world.sources h) f m e in
-      let same : macro_of m.name (macros world.sources h) ≡ Some m = ap (λ x. macro_of x (macros world.sources h)) (named_so r.0 m (macros world.sources h) r.1) ∙ r.1 in
-      omega (arith, defaults_in order h m.name m i same)
+  laid_defaults : InOrder world.sources order → (h : Home) → listed h order ≡ true → (f : Expr) (k : Home) (m : MacroBody) → callee world.sources (given world.sources h) f ≡ a_macro k m
+      → default_place world order k m.name + length m.parameters ≤ front_count
+  laid_defaults ordered h i f k m e =
+      let ms = macros world.sources k in
+      let r = called_macro world.sources h f k m e in
+      let same : macro_of m.name ms ≡ Some m = ap (λ x. macro_of x ms) (macro_named world order r.0 m ms r.1) ∙ r.1 in
+      omega (arith, defaults_in order k m.name m (leads_there ordered h i k r.2) same)
 
   some_front : 0 < front_count
   some_front = omega arith
@@ -477,66 +452,72 @@ module _ (world : World) (order : List Home) where
   at_top : (h : Home) → Fine front_count (count_globals world order order) some_front (globals world order h)
   at_top h = globals_fine front_count (count_globals world order order) some_front (first_slot world order h) (names world order h) (few_globals h)
 
-  body_lawful : (b : Body) (sp : Spot) → among sp.home order ≡ true → Fine front_count (count_globals world order order) some_front sp.table → L (resolved_body world order b sp)
-  body_lawful b sp i t = all_fined front_count (count_globals world order order) some_front world order few_globals laid_defaults b sp i t
+  module _ (ordered : InOrder world.sources order) where
+    body_lawful : (b : Body) (sp : Spot) → listed sp.home order ≡ true → Fine front_count (count_globals world order order) some_front sp.table → L (resolved_body world order b sp)
+    body_lawful b sp i t = all_fined front_count (count_globals world order order) some_front world order few_globals (laid_defaults ordered) b sp i t
 
-  sets_lawful : (h : Home) → among h order ≡ true → (b : Body) (t : Text) → L (resolved_sets world order b (top_spot world order h t))
-  sets_lawful h i end t = tt
-  sets_lawful h i (stmt s rest) t = which (is_set s) (sets_lawful h i rest t)
-    where
-      sp : Spot
-      sp = top_spot world order h t
+    sets_lawful : (h : Home) → listed h order ≡ true → (b : Body) (t : Text) → L (resolved_sets world order b (top_spot world order h t))
+    sets_lawful h i end t = tt
+    sets_lawful h i (stmt s rest) t = which (is_set s) (sets_lawful h i rest t)
+      where
+        sp : Spot
+        sp = top_spot world order h t
 
-      which : (b : Bool) → L (resolved_sets world order rest sp) → L (if b then followed (resolved_stmt world order s sp) (resolved_sets world order rest sp) else resolved_sets world order rest sp)
-      which false r = r
-      which true r = followed_fine front_count (count_globals world order order) some_front (resolved_stmt world order s sp) (resolved_sets world order rest sp)
-          (stmt_fined front_count (count_globals world order order) some_front world order few_globals laid_defaults s sp i (at_top h)) r
+        which : (b : Bool) → L (resolved_sets world order rest sp) → L (if b then followed (resolved_stmt world order s sp) (resolved_sets world order rest sp) else resolved_sets world order rest sp)
+        which false r = r
+        which true r = followed_fine front_count (count_globals world order order) some_front (resolved_stmt world order s sp) (resolved_sets world order rest sp)
+            (stmt_fined front_count (count_globals world order order) some_front world order few_globals (laid_defaults ordered) s sp i (at_top h)) r
 
-  chain_lawful : (h : Home) → among h order ≡ true → (ts : List Template) → L (resolved_chain world order h ts)
-  chain_lawful h i [] = tt
-  chain_lawful h i (t ∷ []) = body_lawful t.body (top_spot world order h t.name) i (at_top h)
-  chain_lawful h i (t ∷ u ∷ us) = followed_fine front_count (count_globals world order order) some_front (resolved_sets world order t.body (top_spot world order h t.name)) (resolved_chain world order h (u ∷ us)) (sets_lawful h i t.body t.name) (chain_lawful h i (u ∷ us))
+    chain_lawful : (h : Home) → listed h order ≡ true → (ts : List Template) → L (resolved_chain world order h ts)
+    chain_lawful h i [] = tt
+    chain_lawful h i (t ∷ []) = body_lawful t.body (top_spot world order h t.name) i (at_top h)
+    chain_lawful h i (t ∷ u ∷ us) = followed_fine front_count (count_globals world order order) some_front (resolved_sets world order t.body (top_spot world order h t.name)) (resolved_chain world order h (u ∷ us)) (sets_lawful h i t.body t.name) (chain_lawful h i (u ∷ us))
 
-  abbrev Good : Routine Constant → Type 0
-  Good r = RoutineLawful front_count (count_globals world order order) r
+    abbrev Good : Routine Constant → Type 0
+    Good r = RoutineLawful front_count (count_globals world order order) r
 
-  -- a body in a scope of its own, with parameters
-  routine_lawful : (ps : List Text) (b : Body) (sp : Spot) → among sp.home order ≡ true → Fine front_count (count_globals world order order) some_front sp.table → Good (resolved_routine world order ps b sp)
-  routine_lawful ps b sp i t =
-      let inner = bound_all ps sp in
-      let ft = bound_fine front_count (count_globals world order order) some_front ps sp.free sp.table t in
-      let whole = scoped (set_in b) inner (resolved_body world order b) in
-      record {
-        body = scope_fined front_count (count_globals world order order) some_front world order few_globals laid_defaults b inner ft
-            (body_lawful b (bound_all (set_in b) inner) i (bound_fine front_count (count_globals world order order) some_front (set_in b) (sp.free + length ps) (bound_table ps sp.free sp.table) ft));
-        locals = omega arith;
-      }
+    -- a body in a scope of its own, with parameters
+    routine_lawful : (ps : List Text) (b : Body) (sp : Spot) → listed sp.home order ≡ true → Fine front_count (count_globals world order order) some_front sp.table → Good (resolved_routine world order ps b sp)
+    routine_lawful ps b sp i t =
+        let inner = bound_all ps sp in
+        let ft = bound_fine front_count (count_globals world order order) some_front ps sp.free sp.table t in
+        let whole = scoped (set_in b) inner (resolved_body world order b) in
+        record {
+          body = scope_fined front_count (count_globals world order order) some_front world order few_globals (laid_defaults ordered) b inner ft
+              (body_lawful b (bound_all (set_in b) inner) i (bound_fine front_count (count_globals world order order) some_front (set_in b) (sp.free + length ps) (bound_table ps sp.free sp.table) ft));
+          locals = omega arith;
+        }
 
-  macros_lawful : (h : Home) → among h order ≡ true → (ms : List MacroBody) → AllByRecursion Good (map (macro_routine world order h) ms)
-  macros_lawful h i [] = tt
-  macros_lawful h i (m ∷ ms) = (routine_lawful (map (λ p. p.name) m.parameters) m.body (top_spot world order h m.template) i (at_top h), macros_lawful h i ms)
+    macros_lawful : (h : Home) → listed h order ≡ true → (ms : List MacroBody) → AllByRecursion Good (map (macro_routine world order h) ms)
+    macros_lawful h i [] = tt
+    macros_lawful h i (m ∷ ms) = (routine_lawful (map (λ p. p.name) m.parameters) m.body (top_spot world order h m.template) i (at_top h), macros_lawful h i ms)
 
-  bodies_lawful : (h : Home) → among h order ≡ true → (bs : List (ℕ × BlockBody)) → AllByRecursion Good (body_routines world order h bs)
-  bodies_lawful h i [] = tt
-  bodies_lawful h i (b ∷ bs) = (
-    routine_lawful (block_parameters world order h b.1.name) b.1.body
-        (record (top_spot world order h b.1.template) { escaping = b.1.escaping; part = Some (record { name = b.1.name; behind = prelude.filter (λ c. bytes_eq c.1.name b.1.name) bs }) }) i (at_top h),
-    bodies_lawful h i bs,
-  )
+    bodies_lawful : (h : Home) → listed h order ≡ true → (bs : List (ℕ × BlockBody)) → AllByRecursion Good (body_routines world order h bs)
+    bodies_lawful h i [] = tt
+    bodies_lawful h i (b ∷ bs) = (
+      routine_lawful (block_parameters world order h b.1.name) b.1.body
+          (record (top_spot world order h b.1.template) { escaping = b.1.escaping; part = Some (record { name = b.1.name; behind = prelude.filter (λ c. bytes_eq c.1.name b.1.name) bs }) }) i (at_top h),
+      bodies_lawful h i bs,
+    )
 
-  routines_of : (hs : List Home) → ((h : Home) → among h hs ≡ true → among h order ≡ true) → AllByRecursion Good (flat_map (chain_routines world order) hs)
-  routines_of [] i = tt
-  routines_of (h ∷ hs) i =
-      let here = i h (ap (λ b. b || among h hs) (same_is h)) in
-      all_append Good (chain_routines world order h) (flat_map (chain_routines world order) hs) (
-        record { body = chain_lawful h here (templates world.sources h); locals = omega arith },
-        all_append Good (map (macro_routine world order h) (macros world.sources h)) (body_routines world order h (numbered_bodies world h)) (macros_lawful h here (macros world.sources h)) (bodies_lawful h here (numbered_bodies world h)),
-      )
-      (routines_of hs (λ g j. i g (later (bytes_eq h g) (among g hs) j)))
-    where
-      later : (a b : Bool) → b ≡ true → (a || b) ≡ true
-      later true b e = refl
-      later false b e = e
+    -- a chain itself
+    entry_lawful : (h : Home) → listed h order ≡ true → AllByRecursion Good (entry_routines world order h)
+    entry_lawful (a_chain n) i = (record { body = chain_lawful (a_chain n) i (templates world.sources (a_chain n)); locals = omega arith }, tt)
+    entry_lawful (a_library n) i = tt
+
+    routines_of : (hs : List Home) → ((h : Home) → listed h hs ≡ true → listed h order ≡ true) → AllByRecursion Good (flat_map (chain_routines world order) hs)
+    routines_of [] i = tt
+    routines_of (h ∷ hs) i =
+        let here = i h (ap (λ b. b || listed h hs) (home_is h)) in
+        let ms = map (macro_routine world order h) (macros world.sources h) in
+        let bs = body_routines world order h (numbered_bodies world h) in
+        all_append Good (chain_routines world order h) (flat_map (chain_routines world order) hs)
+        (all_append Good (entry_routines world order h) (ms ++ bs) (entry_lawful h here) (all_append Good ms bs (macros_lawful h here (macros world.sources h)) (bodies_lawful h here (numbered_bodies world h))))
+        (routines_of hs (λ g j. i g (later (same_home h g) (listed g hs) j)))
+      where
+        later : (a b : Bool) → b ≡ true → (a || b) ≡ true
+        later true b e = refl
+        later false b e = e
 
   defaults_pooled : (ms : List MacroBody) → AllByRecursion IsPooled (defaults_of ms)
   defaults_pooled [] = tt
@@ -550,15 +531,17 @@ module _ (world : World) (order : List Home) where
   front_pooled [] = tt
   front_pooled (h ∷ hs) = all_append IsPooled (defaults_of (macros world.sources h)) (flat_map (λ g. defaults_of (macros world.sources g)) hs) (defaults_pooled (macros world.sources h)) (front_pooled hs)
 
--- the program of chains in order, each operation of which gets as many values as it takes, is lawful
-pub program_lawful : (world : World) (entry : Home) (rest : List Home)
-    → AllByRecursion (λ r. BodyTakes the_filters (program world (entry ∷ rest) entry).routines false r.body) (program world (entry ∷ rest) entry).routines
-    → AreLawful (names world (entry ∷ rest) entry) (count_globals world (entry ∷ rest) (entry ∷ rest)) (shared world (entry ∷ rest)) (routines world (entry ∷ rest))
-program_lawful world entry rest takes = record {
-  few = omega (arith, few_globals world (entry ∷ rest) entry);
-  pooled = (tt, front_pooled world (entry ∷ rest) (entry ∷ rest));
-  routines = routines_of world (entry ∷ rest) (entry ∷ rest) (λ h e. e);
-  takes = takes;
-  entry = chain_routine world (entry ∷ rest) entry;
-  is_entry = refl;
-}
+-- the program of chains and libraries in order, each operation of which gets as many values as it takes, is lawful
+pub program_lawful : (world : World) (entry : Text) (rest : List Home) → InOrder world.sources (a_chain entry ∷ rest)
+    → AllByRecursion (λ r. BodyTakes the_filters (program world (a_chain entry ∷ rest) (a_chain entry)).routines false r.body) (program world (a_chain entry ∷ rest) (a_chain entry)).routines
+    → AreLawful (names world (a_chain entry ∷ rest) (a_chain entry)) (count_globals world (a_chain entry ∷ rest) (a_chain entry ∷ rest)) (shared world (a_chain entry ∷ rest)) (routines world (a_chain entry ∷ rest))
+program_lawful world entry rest ordered takes =
+    let order = a_chain entry ∷ rest in
+    record {
+      few = omega (arith, few_globals world order (a_chain entry));
+      pooled = (tt, front_pooled world order order);
+      routines = routines_of world order ordered order (λ h e. e);
+      takes = takes;
+      entry = chain_routine world order entry;
+      is_entry = refl;
+    }

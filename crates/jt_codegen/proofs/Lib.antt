@@ -11,6 +11,7 @@ pub mod Read
 pub mod Routines
 pub mod Ordered
 pub mod Small
+pub mod Importing
 pub mod Spelled
 pub mod Images
 pub mod Telling

@@ -120,6 +120,8 @@ says_lined (tags.says_filter d) l = tt
 says_lined (tags.says_autoescape on) l = tt
 says_lined (tags.says_macro r d) l = tt
 says_lined (tags.says_include missing c) l = l
+says_lined (tags.says_import said r) l = tt
+says_lined (tags.says_from said d) l = tt
 says_lined tags.says_extends l = tt
 says_lined (tags.says_block scoped required r) l = tt
 

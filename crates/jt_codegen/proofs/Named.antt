@@ -1,5 +1,5 @@
 -- The templates and spots of the code of chains: they are in order, and where chains are few, so are their templates.
-use Rattle.std.proofs.Common.{◌≡◌, ℕ, zero, suc, ◌+◌, ◌*◌, ◌<◌, ◌≤◌, List, [], ◌∷◌, ◌++◌, length, map, Option, Some, None, refl, sym, ap, arith, length-append, ⊎_elim, inl, inr}
+use Rattle.std.proofs.Common.{◌≡◌, ℕ, zero, suc, ◌+◌, ◌*◌, ◌<◌, ◌≤◌, Bool, true, false, if◌then◌else◌, List, [], ◌∷◌, ◌++◌, length, map, Option, Some, None, refl, sym, ap, arith, length-append, ⊎_elim, inl, inr}
 use Rattle.std.proofs.lemmas.List.{length-map}
 use Rattle.std.specs.Prelude.{flat_map}
 use Rattle.std.specs.Int.{w16, to_le_bytes}
@@ -9,7 +9,7 @@ use Rattle.jt_value.specs.Place.{Place}
 use Rattle.jt_scan.specs.declared.options.Options.{Options}
 use Rattle.jt_trees.specs.Expressions.{Text}
 use Rattle.jt_trees.specs.Statements.{Body}
-use Rattle.jt_chains.specs.Chain.{Sources, Home, Template, parent_of, names_up, sources_in, template, templates}
+use Rattle.jt_chains.specs.Chain.{Sources, Home, a_chain, a_library, Template, parent_of, names_up, sources_in, template, holds_macros, library_template, templates, max_templates}
 use Rattle.jt_chains.specs.Names.{IsName}
 use Rattle.jt_inherit.specs.Chains.{Given, IsRead}
 use Rattle.jt_image.specs.Code.{Spot}
@@ -99,10 +99,22 @@ module _ (sources : Sources) where
       by None l = omega (arith, l)
       by (Some b) l = omega (arith, l)
 
-  pub few_names : (hs : List Home) → length (names_of hs) ≤ 16 * length hs
+  few_library : (n : Text) (o : Option Body) → length (library_template n o) ≤ 1
+  few_library n None = omega arith
+  few_library n (Some b) = by (holds_macros b)
+    where
+      by : (c : Bool) → length (if c then template n (Some b) else []) ≤ 1
+      by true = omega arith
+      by false = omega arith
+
+  few_templates_in : (h : Home) → length (templates sources h) ≤ 64
+  few_templates_in (a_chain n) = few_up max_templates (Some n)
+  few_templates_in (a_library n) = omega (arith, few_library n (sources n))
+
+  pub few_names : (hs : List Home) → length (names_of hs) ≤ 64 * length hs
   few_names [] = omega arith
   few_names (h ∷ hs) =
-      omega (arith, few_up 16 (Some h), few_names hs, length-append (map (λ t. t.name) (templates sources h)) (names_of hs), length-map (templates sources h) (λ (t : Template). t.name))
+      omega (arith, few_templates_in h, few_names hs, length-append (map (λ t. t.name) (templates sources h)) (names_of hs), length-map (templates sources h) (λ (t : Template). t.name))
 
   among_left : (x : Text) (xs ys : List Text) → Among x xs → Among x (xs ++ ys)
   among_left x [] ys i = absurd i

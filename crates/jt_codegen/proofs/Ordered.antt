@@ -5,7 +5,7 @@ use Rattle.std.proofs.lemmas.List.{length-map}
 use Rattle.jt_image.specs.IsCode.{Ascend, AreDistinct}
 use Rattle.jt_image.specs.Parts.{IsUnitInOrder, HasTables}
 use Rattle.jt_trees.specs.Expressions.{Text}
-use Rattle.jt_chains.specs.Chain.{Home}
+use Rattle.jt_chains.specs.Chain.{Home, a_chain}
 use Rattle.jt_rules.specs.World.{World}
 use Rattle.jt_meaning.specs.Ascends.{Above, Ascends}
 use Rattle.jt_meaning.specs.Layout.{names, shared}
@@ -50,11 +50,11 @@ emitting [] h = tt
 emitting (r ∷ rs) h = ((omega arith, h.0), emitting rs h.1)
 
 -- wherever each place is that of a tag, no name is empty, names ascend, and there is a global for each
-pub tables : (world : World) (entry : Home) (rest : List Home) (ns : List Text) → AllByRecursion (OnTag (IsTag ns)) (places_of (program world (entry ∷ rest) entry)) → AllByRecursion (λ x. 0 < length x) (names world (entry ∷ rest) entry) → Ascends (names world (entry ∷ rest) entry) → length (names world (entry ∷ rest) entry) ≤ (program world (entry ∷ rest) entry).globals
-    → HasTables (compiled (program world (entry ∷ rest) entry))
+pub tables : (world : World) (entry : Text) (rest : List Home) (ns : List Text) → AllByRecursion (OnTag (IsTag ns)) (places_of (program world (a_chain entry ∷ rest) (a_chain entry))) → AllByRecursion (λ x. 0 < length x) (names world (a_chain entry ∷ rest) (a_chain entry)) → Ascends (names world (a_chain entry ∷ rest) (a_chain entry))
+    → length (names world (a_chain entry ∷ rest) (a_chain entry)) ≤ (program world (a_chain entry ∷ rest) (a_chain entry)).globals → HasTables (compiled (program world (a_chain entry ∷ rest) (a_chain entry)))
 tables world entry rest ns tags some ascends few =
-    let order = entry ∷ rest in
-    let p = program world order entry in
+    let order = a_chain entry ∷ rest in
+    let p = program world order (a_chain entry) in
     record {
       names = record {
         slots = numbered_slots 0 p.globals p.names (omega (arith, few));

@@ -11,13 +11,13 @@ use Rattle.jt_trees.specs.Sizes.{body_bytes}
 use Rattle.jt_trees.specs.Texts.{inserted, all_inserted, ascending}
 use Rattle.jt_trees.specs.Expressions.{Text}
 use Rattle.jt_trees.specs.Statements.{Body}
-use Rattle.jt_chains.specs.Chain.{Sources, Home, Template, sources_in, template, templates, names_up}
+use Rattle.jt_chains.specs.Chain.{Sources, Home, a_chain, a_library, same_home, Template, sources_in, template, holds_macros, library_template, templates, max_templates, names_up}
 use Rattle.jt_inherit.specs.Chains.{Given}
-use Rattle.jt_inherit.specs.Small.{source_len, templates_len, chains_len}
+use Rattle.jt_inherit.specs.Small.{source_len, templates_len}
 use Rattle.jt_chains.specs.Includes.{included}
 use Rattle.jt_chains.specs.Uses.{body_names, own_names}
 use Rattle.jt_rules.specs.World.{World}
-use Rattle.jt_meaning.specs.Layout.{names_in}
+use Rattle.jt_meaning.specs.Layout.{in_globals, names_in}
 use Rattle.jt_lower.proofs.Fitting.{all_append}
 
 pub all_flat : {A B : Type 0} (P : B → Type 0) (f : A → List B) (xs : List A) → AllByRecursion (λ x. AllByRecursion P (f x)) xs → AllByRecursion P (flat_map f xs)
@@ -51,20 +51,29 @@ module _ (P : Text → Body → Type 0) where
       by None h = tt
       by (Some b) h = (h, tt)
 
-  pub chain_has : (ts : List Template) → AllByRecursion (λ t. P t.name t.body) ts → (h : Home) → AllByRecursion (λ t. P t.name t.body) (templates (sources_in ts) h)
-  chain_has ts a h = named_have (sources_in ts) (source_has ts a) (names_up (sources_in ts) 16 (Some h))
+  library_has : (n : Text) (o : Option Body) → Has n o → AllByRecursion (λ t. P t.name t.body) (library_template n o)
+  library_has n None h = tt
+  library_has n (Some b) h = by (holds_macros b)
+    where
+      by : (c : Bool) → AllByRecursion (λ t. P t.name t.body) (if c then template n (Some b) else [])
+      by true = (h, tt)
+      by false = tt
 
--- ---- bytes: what is no longer than its source is no longer than all sources together
+  pub chain_has : (ts : List Template) → AllByRecursion (λ t. P t.name t.body) ts → (h : Home) → AllByRecursion (λ t. P t.name t.body) (templates (sources_in ts) h)
+  chain_has ts a (a_chain n) = named_have (sources_in ts) (source_has ts a) (names_up (sources_in ts) max_templates (Some n))
+  chain_has ts a (a_library n) = library_has n (sources_in ts n) (source_has ts a n)
+
+-- ---- bytes: what is no longer than its source is no longer than all sources of its chain or library together
 
 module _ (given : Given) (n : ℕ) where
   summed : (ts : List Template) → AllByRecursion (λ t. body_bytes t.body ≤ source_len (given t.name)) ts → templates_len given ts ≤ n → AllByRecursion (λ t. body_bytes t.body ≤ n) ts
   summed [] a le = tt
   summed (t ∷ ts) a le = (omega (arith, a.0, le), summed ts a.1 (omega (arith, le)))
 
-  pub all_short : (ts : List Template) → AllByRecursion (λ t. body_bytes t.body ≤ source_len (given t.name)) ts → (hs : List Home) → chains_len given (sources_in ts) hs ≤ n
+  pub all_short : (ts : List Template) → AllByRecursion (λ t. body_bytes t.body ≤ source_len (given t.name)) ts → (hs : List Home) → AllByRecursion (λ h. templates_len given (templates (sources_in ts) h) ≤ n) hs
       → AllByRecursion (λ h. AllByRecursion (λ t. body_bytes t.body ≤ n) (templates (sources_in ts) h)) hs
   all_short ts a [] le = tt
-  all_short ts a (h ∷ hs) le = (summed (templates (sources_in ts) h) (chain_has (λ m b. body_bytes b ≤ source_len (given m)) ts a h) (omega (arith, le)), all_short ts a hs (omega (arith, le)))
+  all_short ts a (h ∷ hs) le = (summed (templates (sources_in ts) h) (chain_has (λ m b. body_bytes b ≤ source_len (given m)) ts a h) le.0, all_short ts a hs le.1)
 
 -- ---- names
 
@@ -86,14 +95,18 @@ module _ (P : Text → Type 0) where
   handed_all f g [] = tt
   handed_all f g (m ∷ ms) = all_append P (f m) (flat_map f ms) (g m) (handed_all f g ms)
 
-  own_or_later : (b : Bool) (own later behind : List Text) → AllByRecursion P own → AllByRecursion P later → AllByRecursion P behind → AllByRecursion P (if b then ascending (own ++ later) else behind)
-  own_or_later true own later behind h g k = all_inserted_all (own ++ later) [] (all_append P own later h g) tt
-  own_or_later false own later behind h g k = k
+  globals_all : (h : Home) (xs : List Text) → AllByRecursion P xs → AllByRecursion P (in_globals h xs)
+  globals_all (a_chain n) xs a = a
+  globals_all (a_library n) xs a = tt
+
+  own_or_later : (b : Bool) (at : Home) (own later behind : List Text) → AllByRecursion P own → AllByRecursion P later → AllByRecursion P behind → AllByRecursion P (if b then in_globals at (ascending (own ++ later)) else behind)
+  own_or_later true at own later behind h g k = globals_all at (ascending (own ++ later)) (all_inserted_all (own ++ later) [] (all_append P own later h g) tt)
+  own_or_later false at own later behind h g k = k
 
   pub names_all : (world : World) → ((h : Home) → AllByRecursion P (own_names world.sources h)) → (hs : List Home) (h : Home) → AllByRecursion P (names_in world hs h)
   names_all world own [] h = tt
   names_all world own (k ∷ ks) h =
-      own_or_later (bytes_eq k h) (own_names world.sources h) (flat_map (names_in world ks) (included world.sources h)) (names_in world ks h) (own h)
+      own_or_later (same_home k h) h (own_names world.sources h) (flat_map (names_in world ks) (included world.sources h)) (names_in world ks h) (own h)
       (handed_all (names_in world ks) (λ m. names_all world own ks m) (included world.sources h)) (names_all world own ks h)
 
   -- where each name of each template that was read is so

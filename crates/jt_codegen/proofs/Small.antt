@@ -89,7 +89,7 @@ module _ (laws : CodeLaws) (low : LowLaws) (world : World) (order : List Home) (
   pub small_low : AllByRecursion (λ r. body_height r.body ≤ max_entries) p.routines
   small_low = all_each (λ (r : Routine ℕ). 2 * body_height r.body ≤ max 2 (chains_weight world.sources order)) (λ r. body_height r.body ≤ max_entries) (λ r h. omega (arith, h, weight)) p.routines sized.entries
 
-  module _ (short : IsShort 2000 p) (few : 7 * length order ≤ chains_weight world.sources order + 7) (ns : List Text) (named : length ns ≤ 16 * length order) (tags : AllByRecursion (OnTag (IsTag ns)) (places_of p)) where
+  module _ (short : IsShort 2000 p) (few : 7 * length order ≤ chains_weight world.sources order + 7) (ns : List Text) (named : length ns ≤ 64 * length order) (tags : AllByRecursion (OnTag (IsTag ns)) (places_of p)) where
     -- the templates that are named, and a spot for each instruction
     abbrev ts : List Text
     ts = templates_of (places_of p)
@@ -100,7 +100,7 @@ module _ (laws : CodeLaws) (low : LowLaws) (world : World) (order : List Home) (
     count_spots : length ss ≡ total_len (compiled p).units
     count_spots = length-map (places_of p) (spot_of ts) ∙ places_len p.routines
 
-    count_templates : length ts ≤ 5000
+    count_templates : length ts ≤ 20000
     count_templates = omega (arith, few_templates ns (places_of p) tags, named, few, weight)
 
     spelled : length (place_bytes version.Two ts ss) ≡ 2 + length (flat_map template_bytes ts) + length (flat_map spot_bytes ss)

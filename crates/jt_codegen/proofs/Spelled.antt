@@ -273,6 +273,8 @@ says_named (tags.says_filter d) h = filters_named d h.1
 says_named (tags.says_autoescape on) h = tt
 says_named (tags.says_macro r d) h = parameters_named d h.1.1.1
 says_named (tags.says_include missing c) h = tt
+says_named (tags.says_import said r) h = tt
+says_named (tags.says_from said d) h = tt
 says_named tags.says_extends h = tt
 says_named (tags.says_block scoped required r) h = tt
 

@@ -6,13 +6,13 @@ use Rattle.std.specs.List.{AllByRecursion}
 use Rattle.std.specs.Option.{is_none}
 use Rattle.jt_value.specs.Place.{Place}
 use Rattle.jt_trees.specs.Expressions.{Text, Pairs, no_pairs, pair}
-use Rattle.jt_trees.specs.Statements.{Stmt, data_of, print, choose, for_each, set, set_block, with_values, filter_block, autoescape, macro, include, extends, block, Body, end, stmt, Branches, no_branches, branch}
-use Rattle.jt_chains.specs.Chain.{Home, Template, templates, BlockBody, blocks_of, blocks_in, blocks_under, MacroBody, macros_in, macros}
+use Rattle.jt_trees.specs.Statements.{Stmt, data_of, print, choose, for_each, set, set_block, with_values, filter_block, autoescape, macro, include, import_as, import_from, extends, block, Body, end, stmt, Branches, no_branches, branch}
+use Rattle.jt_chains.specs.Chain.{Home, a_chain, a_library, Template, templates, BlockBody, blocks_of, blocks_in, blocks_under, MacroBody, macros_in, macros}
 use Rattle.jt_chains.specs.Uses.{keywords, set_in}
 use Rattle.jt_rules.specs.World.{World}
 use Rattle.jt_meaning.specs.Meaning.{is_set}
 use Rattle.jt_meaning.specs.Layout.{Table, counted_from, numbered_bodies, numbered_of, globals, names, first_slot, block_parameters, of_chain, unit}
-use Rattle.jt_meaning.specs.Programs.{body_routines, chain_routines, routines, program}
+use Rattle.jt_meaning.specs.Programs.{body_routines, entry_routines, chain_routines, routines, program}
 use Rattle.jt_meaning.specs.Resolve.{Spot, place, left_out, grown, bound_all, copied, scoped, handed_on, followed, first_body, resolved_values, placed_body, resolved_stmt, resolved_body, resolved_choice, resolved_sets, top_spot, resolved_chain, macro_routine}
 use Rattle.jt_slots.specs.Slots as slots
 use Rattle.jt_slots.specs.Slots.{SExpr, SRow, Targets, SStmt, SBody, Routine, Slot}
@@ -37,6 +37,8 @@ module _ (L : ℕ → Type 0) where
     StmtLines (autoescape line on body) = BodyLines body
     StmtLines (macro line x ps body) = BodyLines body
     StmtLines (include line n ignore_missing with_context) = L line
+    StmtLines (import_as line n x) = Unit {0}
+    StmtLines (import_from line n xs) = Unit {0}
     StmtLines (extends line n) = Unit {0}
     StmtLines (block line x is_scoped required body) = BodyLines body
 
@@ -203,10 +205,10 @@ module _ (P : Place → Type 0) where
       block_placed sp (Some i) x table h = (tt, tt)
 
       include_placed : (sp : Spot) (line : ℕ) (m : Text) (u : ℕ) (missing with_context none : Bool) → P (place sp line)
-          → B (if none then left_out sp line missing else followed (handed_on (place sp line) (if with_context then sp.table else []) (first_slot world order m) (names world order m)) (slots.stmt (slots.run u slots.none) slots.end))
+          → B (if none then left_out sp line missing else followed (handed_on (place sp line) (if with_context then sp.table else []) (first_slot world order (a_chain m)) (names world order (a_chain m))) (slots.stmt (slots.run u slots.none) slots.end))
       include_placed sp line m u missing with_context true h = left_placed sp line missing h
       include_placed sp line m u missing with_context false h =
-          followed_placed (handed_on (place sp line) (if with_context then sp.table else []) (first_slot world order m) (names world order m)) (slots.stmt (slots.run u slots.none) slots.end) (handed_placed (place sp line) (if with_context then sp.table else []) (first_slot world order m) (names world order m) h) (tt, tt)
+          followed_placed (handed_on (place sp line) (if with_context then sp.table else []) (first_slot world order (a_chain m)) (names world order (a_chain m))) (slots.stmt (slots.run u slots.none) slots.end) (handed_placed (place sp line) (if with_context then sp.table else []) (first_slot world order (a_chain m)) (names world order (a_chain m)) h) (tt, tt)
 
       mutual
         stmt_placed : (s : Stmt) (sp : Spot) → IsHere sp.template → StmtLines L s → B (resolved_stmt world order s sp)
@@ -233,6 +235,8 @@ module _ (P : Place → Type 0) where
             scope_placed (set_in body) inner (resolved_body world order body) h (body_placed body (bound_all (set_in body) inner) h l)
         stmt_placed (macro line x ps body) sp h l = tt
         stmt_placed (include line m missing with_context) sp h l = include_placed sp line m (unit world order (of_chain m)) missing with_context (is_none (world.sources m)) (h line l)
+        stmt_placed (import_as line m x) sp h l = tt
+        stmt_placed (import_from line m xs) sp h l = tt
         stmt_placed (extends line m) sp h l = tt
         stmt_placed (block line x is required body) sp h l = block_placed sp (first_body (numbered_of world sp.home x)) x (if is then sp.table else globals world order sp.home) h
 
@@ -291,6 +295,8 @@ module _ (P : Place → Type 0) where
       macros_tagged t h (stmt (filter_block line fs body) rest) l = macros_tagged t h rest l.1
       macros_tagged t h (stmt (autoescape line on body) rest) l = macros_tagged t h rest l.1
       macros_tagged t h (stmt (include line m missing with_context) rest) l = macros_tagged t h rest l.1
+      macros_tagged t h (stmt (import_as line m x) rest) l = macros_tagged t h rest l.1
+      macros_tagged t h (stmt (import_from line m xs) rest) l = macros_tagged t h rest l.1
       macros_tagged t h (stmt (extends line m) rest) l = macros_tagged t h rest l.1
       macros_tagged t h (stmt (block line x is required body) rest) l = macros_tagged t h rest l.1
 
@@ -314,6 +320,8 @@ module _ (P : Place → Type 0) where
         blocks_tagged t h (print line e) on l = tt
         blocks_tagged t h (set line xs e) on l = tt
         blocks_tagged t h (include line m missing with_context) on l = tt
+        blocks_tagged t h (import_as line m x) on l = tt
+        blocks_tagged t h (import_from line m xs) on l = tt
         blocks_tagged t h (extends line m) on l = tt
 
         inner_tagged : (t : Text) → IsHere t → (b : Body) (on : Bool) → BodyLines L b → Blocks (blocks_in t b on)
@@ -336,15 +344,19 @@ module _ (P : Place → Type 0) where
       counted_tagged n [] g = tt
       counted_tagged n (b ∷ bs) g = (g.0, counted_tagged (suc n) bs g.1)
 
+      entry_placed : (h : Home) → AllByRecursion (λ t. IsTagged t.name t.body) (templates world.sources h) → AllByRecursion Good (entry_routines world order h)
+      entry_placed (a_chain n) g = (chain_placed (a_chain n) (templates world.sources (a_chain n)) g, tt)
+      entry_placed (a_library n) g = tt
+
       routines_placed : (hs : List Home) → AllByRecursion (λ h. AllByRecursion (λ t. IsTagged t.name t.body) (templates world.sources h)) hs → AllByRecursion Good (flat_map (chain_routines world order) hs)
       routines_placed [] g = tt
       routines_placed (h ∷ hs) g =
           let ts = templates world.sources h in
-          all_append Good (chain_routines world order h) (flat_map (chain_routines world order) hs) (
-            chain_placed h ts g.0,
-            all_append Good (map (macro_routine world order h) (macros world.sources h)) (body_routines world order h (numbered_bodies world h)) (macros_placed h (macros world.sources h) (all_macros ts g.0))
-                (bodies_placed h (numbered_bodies world h) (counted_tagged 0 (flat_map (λ t. blocks_in t.name t.body world.escaping) ts) (all_blocks world.escaping ts g.0))),
-          )
+          let ms = map (macro_routine world order h) (macros world.sources h) in
+          let bs = body_routines world order h (numbered_bodies world h) in
+          let all = counted_tagged 0 (flat_map (λ t. blocks_in t.name t.body world.escaping) ts) (all_blocks world.escaping ts g.0) in
+          all_append Good (chain_routines world order h) (flat_map (chain_routines world order) hs)
+          (all_append Good (entry_routines world order h) (ms ++ bs) (entry_placed h g.0) (all_append Good ms bs (macros_placed h (macros world.sources h) (all_macros ts g.0)) (bodies_placed h (numbered_bodies world h) all)))
           (routines_placed hs g.1)
 
       -- the places of the code of the chains' program

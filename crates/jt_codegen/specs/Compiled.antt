@@ -12,7 +12,6 @@ use Rattle.jt_image.specs.Enough.{Enough}
 use Rattle.jt_value.specs.Place.{Place}
 use Rattle.jt_slots.specs.Got.{gives, fails}
 use Rattle.jt_trees.specs.Expressions.{Text}
-use Rattle.jt_chains.specs.Chain.{Home}
 use Rattle.jt_inherit.specs.Chains.{Given, IsChain}
 use Rattle.jt_chains.specs.View.{Seen}
 use Rattle.jt_rules.specs.Rules.{KeepsRules}
@@ -21,7 +20,7 @@ use Rattle.jt_meaning.specs.Meaning.{mean}
 
 -- A text, or a fault with its place, that the code ends with for a context under a budget is what the entry means, where calls go at
 -- most so many deep; and what the entry means, some budget is enough for.
-pub record DoesChain (world : World) (entry : Home) (k : Code) : Type 0 where
+pub record DoesChain (world : World) (entry : Text) (k : Code) : Type 0 where
   pub texts : (x : Pairs) (b : Budget) (t : Text) → Run k x b (config.text t) → (n : ℕ) × (mean world entry x n ≡ gives t)
   pub faults : (x : Pairs) (b : Budget) (f : Fault) (q : Option Place) → Run k x b (config.fault f q) → (n : ℕ) × (mean world entry x n ≡ fails f q)
   pub enough_text : (x : Pairs) (n : ℕ) (t : Text) → mean world entry x n ≡ gives t → Enough k x (config.text t)

@@ -3,6 +3,7 @@ use Rattle.std.specs.Prelude.{◌≢◌}
 use Rattle.jt_scan.specs.declared.options.Options.{Options}
 use Rattle.jt_trees.specs.Expressions.{Text}
 use Rattle.jt_inherit.specs.Chains.{Given, IsChain}
+use Rattle.jt_chains.specs.Chain.{a_chain}
 use Rattle.jt_chains.specs.View.{Seen}
 use Rattle.jt_inherit.specs.Refusals as inherit
 use Rattle.jt_inherit.specs.declared.error.ChainError.{ChainError}
@@ -54,7 +55,7 @@ module _ (given : Given) (entry : Text) (options : Options) where
     pub chain : Seen
     pub is : IsOnlyChain given entry options chain
     pub lawful : KeepsRules (world_of chain) chain.order
-    pub fact : Fact (program (world_of chain) chain.order entry)
+    pub fact : Fact (program (world_of chain) chain.order (a_chain entry))
 
   -- the refusal holds; want of memory is no claim
   abbrev pub Breaks : CompileError → Type 0

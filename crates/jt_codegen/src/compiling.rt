@@ -12,8 +12,8 @@ use jt_image::{Image, MAX_ENTRIES, code_laws};
 use jt_inherit::{Library, chain};
 use jt_lower::low_laws;
 use jt_meaning::program_laws;
-use jt_resolve::resolve;
 use jt_scan::Options;
+use jt_scopes::resolve;
 use std::alloc::Global;
 
 /// The image of the entry, which stands in the library with all templates that it reaches.

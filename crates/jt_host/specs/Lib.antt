@@ -1,1 +1,16 @@
 pub mod Rendering
+-- what clauses of the calls cite that this crate hands on, and what an embedder's own clauses may want
+pub use Rattle.jt_codegen.specs.Compiled
+pub use Rattle.jt_codegen.specs.Refusals
+pub use Rattle.jt_contexts.specs.Json
+pub use Rattle.jt_image.specs.Code
+pub use Rattle.jt_image.specs.Reading
+pub use Rattle.jt_image.specs.Run
+pub use Rattle.jt_image.specs.Spelling
+pub use Rattle.jt_image.specs.Typed
+pub use Rattle.jt_inherit.specs.Chains
+pub use Rattle.jt_inherit.specs.Small
+pub use Rattle.jt_machine.specs.View
+pub use Rattle.jt_value.specs.ContextView
+pub use Rattle.jt_value.specs.Pairs
+pub use Rattle.jt_verify.specs.Refusing

@@ -1,5 +1,5 @@
 -- Names among others.
-use Rattle.std.proofs.Common.{◌≡◌, Bool, true, false, ◌||◌, List, [], ◌∷◌, ◌++◌, map, refl, sym, ap, subst, ◌∙◌, ◌⊎◌, ⊎_elim, inl, inr}
+use Rattle.std.proofs.Common.{◌≡◌, suc, ◌≤◌, Bool, true, false, cond, ◌||◌, List, [], ◌∷◌, ◌++◌, length, map, refl, sym, ap, subst, ◌∙◌, arith, ◌⊎◌, ⊎_elim, inl, inr}
 use Rattle.std.proofs.lemmas.Cmp.{nat_list_eq_equiv}
 use Rattle.std.proofs.lemmas.Slice.Eq.{bytes_eq-Decides}
 use Rattle.std.specs.List.{AllByRecursion}
@@ -100,3 +100,44 @@ only_among x y a = by (bytes_eq x y) refl a
 -- where one name is put behind others
 pub among_last : (old new : List Text) (x y : Text) → new ≡ old ++ x ∷ [] → x ≡ y → (n : Text) → among n new ≡ true → (among n old ≡ true) ⊎ (n ≡ y)
 among_last old new x y e is n a = ⊎_elim (λ p. inl p) (λ q. inr (sym (only_among x n q) ∙ is)) (among_cases n old (x ∷ []) (sym (ap (among n) e) ∙ a))
+
+-- ---- different names among others are no more than these
+
+abbrev pub without : Text → List Text → List Text
+without x [] = []
+without x (y ∷ ys) = cond (bytes_eq y x) ys (y ∷ without x ys)
+
+one_less : (x : Text) (ys : List Text) → among x ys ≡ true → length ys ≡ suc (length (without x ys))
+one_less x [] a = absurd (cc)
+one_less x (y ∷ ys) a = by (bytes_eq y x) refl (one_less x ys)
+  where
+    by : (b : Bool) → bytes_eq y x ≡ b → (among x ys ≡ true → length ys ≡ suc (length (without x ys))) → suc (length ys) ≡ suc (length (cond (bytes_eq y x) ys (y ∷ without x ys)))
+    by true e r = ap suc (sym (ap (λ b. length (cond b ys (y ∷ without x ys))) e))
+    by false e r = ap suc (r (sym (ap (λ b. b || among x ys) e) ∙ a) ∙ sym (ap (λ b. length (cond b ys (y ∷ without x ys))) e))
+
+pub still_among : (x z : Text) (ys : List Text) → bytes_eq x z ≡ false → among z ys ≡ true → among z (without x ys) ≡ true
+still_among x z [] n a = absurd (cc)
+still_among x z (y ∷ ys) n a = by (bytes_eq y x) refl (bytes_eq y z) refl (still_among x z ys n)
+  where
+    by : (b : Bool) → bytes_eq y x ≡ b → (c : Bool) → bytes_eq y z ≡ c → (among z ys ≡ true → among z (without x ys) ≡ true) → among z (cond (bytes_eq y x) ys (y ∷ without x ys)) ≡ true
+    by true e true f r =
+        let p : y ≡ x = same y x e in
+        let q : bytes_eq x z ≡ true = ap (λ w. bytes_eq w z) (sym p) ∙ f in
+        absurd (cc)
+    by true e false f r = ap (λ b. among z (cond b ys (y ∷ without x ys))) e ∙ (sym (ap (λ b. b || among z ys) f) ∙ a)
+    by false e true f r = ap (λ b. among z (cond b ys (y ∷ without x ys))) e ∙ ap (λ b. b || among z (without x ys)) f
+    by false e false f r = ap (λ b. among z (cond b ys (y ∷ without x ys))) e ∙ or_true (bytes_eq y z) (among z (without x ys)) (r (sym (ap (λ b. b || among z ys) f) ∙ a))
+
+pub no_more : (xs ys : List Text) → repeated xs ≡ false → ((x : Text) → among x xs ≡ true → among x ys ≡ true) → length xs ≤ length ys
+no_more [] ys once f = omega arith
+no_more (x ∷ xs) ys once f =
+    let k = or_false (among x xs) (repeated xs) once in
+    let len = one_less x ys (f x (ap (λ b. b || among x xs) (reflexive x))) in
+    let rest = no_more xs (without x ys) k.1 (λ z a. still_among x z ys (apart z (bytes_eq x z) refl k.0 a) (f z (or_true (bytes_eq x z) (among z xs) a))) in
+    omega (arith, len, rest)
+  where
+    apart : (z : Text) (b : Bool) → bytes_eq x z ≡ b → among x xs ≡ false → among z xs ≡ true → bytes_eq x z ≡ false
+    apart z true e n a =
+        let m : among x xs ≡ true = ap (λ w. among w xs) (same x z e) ∙ a in
+        absurd (cc)
+    apart z false e n a = e

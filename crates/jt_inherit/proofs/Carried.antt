@@ -1,21 +1,24 @@
 -- A rule that is broken by what was read is broken by the whole chain.
-use Rattle.std.proofs.Common.{◌≡◌, ℕ, zero, suc, ◌<◌, ◌≤◌, ◌==◌, Bool, true, false, not, ◌&&◌, ◌||◌, nat_lt, List, [], ◌∷◌, ◌++◌, length, map, refl, sym, ap, ◌∙◌, arith, inl, inr, ◌⊎◌, ⊎_elim, Option, Some, None, length-append}
+use Rattle.std.proofs.Common.{◌≡◌, ℕ, zero, suc, ◌<◌, ◌≤◌, ◌==◌, Bool, true, false, not, ◌&&◌, ◌||◌, nat_lt, List, [], ◌∷◌, ◌++◌, length, map, refl, sym, ap, subst, ◌∙◌, if◌then◌else◌, arith, inl, inr, ◌⊎◌, ⊎_elim, Option, Some, None, length-append}
 use Rattle.std.specs.Prelude.{flat_map}
 use Rattle.std.specs.List.{list_any}
-use Rattle.std.specs.Option.{is_none}
+use Rattle.std.specs.Option.{is_some, is_none}
 use Rattle.std.specs.Str.{bytes_eq}
-use Rattle.std.proofs.lemmas.List.{append-nil}
+use Rattle.std.proofs.lemmas.List.{append-nil, map-append}
 use Rattle.std.proofs.lemmas.Bool.{cases_lt}
 use Rattle.std.proofs.lemmas.Bool.Decides.{nat_tests}
 use Rattle.jt_trees.specs.Texts.{among, repeated}
 use Rattle.jt_trees.specs.Expressions.{Text}
+use Rattle.jt_trees.specs.Statements as trees
 use Rattle.jt_trees.specs.Statements.{Body}
-use Rattle.jt_chains.specs.Chain.{Sources, Template, template, templates, extends_of, parent_of, names_up, blocks_in}
+use Rattle.jt_chains.specs.Chain.{Sources, Home, a_chain, a_library, Template, template, templates, library_template, is_a_library, is_private, extends_of, parent_of, names_up, blocks_in, MacroBody, Given, macros, macros_in, public_macro, given, own, imports, libraries_in}
 use Rattle.jt_inherit.specs.Checks.{lacks_body, lacks_next}
-use Rattle.jt_inherit.specs.Kept.{their_blocks, their_macros, any_double}
-use Rattle.jt_chains.specs.Rules.{Asks, Reaches, here, InSomeChain, is_whole, way, BadName, ExtendsCycle, ChainTooLong, DoubleBlock, RequiredNotGiven, NoSuper, IncludeCycle, MacroTwice}
-use Rattle.jt_inherit.proofs.Among.{reflexive, or_true, or_false, both_false, among_front}
-use Rattle.jt_inherit.proofs.Growing.{Carries, carries_up, front_carried, names_more, templates_more, up_more, up_some, on_way, on_first, included_more, reaches_more, reaches_next, asked_more}
+use Rattle.jt_inherit.specs.Kept.{their_blocks, their_macros, any_double, any_lacks_macros, names_from, imported_names}
+use Rattle.jt_chains.specs.Rules as rules
+use Rattle.jt_chains.specs.Rules.{Asks, Reaches, here, InSomeChain, is_whole, way, BadName, ExtendsCycle, ChainTooLong, DoubleBlock, RequiredNotGiven, NoSuper, IncludeCycle, MacroTwice, NoMacro, NotALibrary}
+use Rattle.jt_inherit.proofs.Among.{reflexive, or_true, or_false, both_false, among_front, among_behind}
+use Rattle.jt_inherit.proofs.Growing.{Carries, carries_up, front_carried, up_more, up_some, flat-append, on_way, on_first, on_libraries, way_more, home_more, included_more, reaches_more, reaches_next, asked_more}
+use Rattle.jt_inherit.proofs.Imported.{all_imported, own_named}
 use Rattle.jt_inherit.proofs.OnWay.{and_true}
 
 -- ---- tests of the first elements
@@ -50,10 +53,10 @@ not_true : (b : Bool) → not b ≡ true → b ≡ false
 not_true true e = absurd (cc)
 not_true false e = refl
 
-seventeen : (n : ℕ) → (n == 17) ≡ true → n ≡ 17
-seventeen n q = grind (arith, nat_tests)
+sixty_five : (n : ℕ) → (n == 65) ≡ true → n ≡ 65
+sixty_five n q = grind (arith, nat_tests)
 
-below : (n : ℕ) → n ≤ 17 → (n == 17) ≡ false → n < 17
+below : (n : ℕ) → n ≤ 65 → (n == 65) ≡ false → n < 65
 below n le q = grind (arith, nat_tests)
 
 -- ---- names on the way
@@ -102,78 +105,235 @@ still_none s r (x ∷ xs) g h =
     by None e q = absurd (cc)
     by (Some b) e q = ap is_none (g x (ap (λ c. c || among x xs) (reflexive x)) b e)
 
+-- ---- some of the names, in their order
+
+pub data Within : List Text → List Text → Type 0 where
+  none : Within [] []
+  keep : {x : Text} {xs ys : List Text} → Within xs ys → Within (x ∷ xs) (x ∷ ys)
+  skip : {y : Text} {xs ys : List Text} → Within xs ys → Within xs (y ∷ ys)
+
+within_same : (xs : List Text) → Within xs xs
+within_same [] = none
+within_same (x ∷ xs) = keep (within_same xs)
+
+within_both : {xs ys us vs : List Text} → Within xs ys → Within us vs → Within (xs ++ us) (ys ++ vs)
+within_both none b = b
+within_both (keep a) b = keep (within_both a b)
+within_both (skip a) b = skip (within_both a b)
+
+within_any : (ys : List Text) → Within [] ys
+within_any [] = none
+within_any (y ∷ ys) = skip (within_any ys)
+
+among_within : {xs ys : List Text} → Within xs ys → (z : Text) → among z xs ≡ true → among z ys ≡ true
+among_within none z a = a
+among_within (keep {x} {xs} {ys} r) z a = by (bytes_eq x z) refl (among_within r z)
+  where
+    by : (b : Bool) → bytes_eq x z ≡ b → (among z xs ≡ true → among z ys ≡ true) → among z (x ∷ ys) ≡ true
+    by true e f = ap (λ b. b || among z ys) e
+    by false e f = or_true (bytes_eq x z) (among z ys) (f (sym (ap (λ b. b || among z xs) e) ∙ a))
+among_within (skip {y} {xs} {ys} r) z a = or_true (bytes_eq y z) (among z ys) (among_within r z a)
+
+repeated_within : {xs ys : List Text} → Within xs ys → repeated xs ≡ true → repeated ys ≡ true
+repeated_within none h = h
+repeated_within (keep {x} {xs} {ys} r) h = by (among x xs) refl (repeated_within r)
+  where
+    by : (b : Bool) → among x xs ≡ b → (repeated xs ≡ true → repeated ys ≡ true) → (among x ys || repeated ys) ≡ true
+    by true e f = ap (λ b. b || repeated ys) (among_within r x e)
+    by false e f = or_true (among x ys) (repeated ys) (f (sym (ap (λ b. b || repeated xs) e) ∙ h))
+repeated_within (skip {y} {xs} {ys} r) h = or_true (among y ys) (repeated ys) (repeated_within r h)
+
+-- ---- the macros of libraries, where those that are imported have the same source
+
+names_none : (xs : List (Text × Text)) → names_from [] xs ≡ []
+names_none [] = refl
+names_none (x ∷ xs) = ap (λ o. (if is_some o then x.1 ∷ [] else []) ++ names_from [] xs) (no_macro (is_private x.0) None) ∙ names_none xs
+  where
+    no_macro : (b : Bool) (o : Option MacroBody) → (if b then o else o) ≡ o
+    no_macro true o = refl
+    no_macro false o = refl
+
+module _ (s r : Sources) where
+  in_from : (n : Text) (xs : List (Text × Text)) → ((b : Body) → s n ≡ Some b → r n ≡ Some b) → Within (names_from (macros s (a_library n)) xs) (names_from (macros r (a_library n)) xs)
+  in_from n xs g = by (s n) refl
+    where
+      by : (o : Option Body) → s n ≡ o → Within (names_from (macros s (a_library n)) xs) (names_from (macros r (a_library n)) xs)
+      by None e =
+          let none_there : names_from (macros s (a_library n)) xs ≡ [] = ap (λ o. names_from (flat_map (λ (t : Template). macros_in t.name t.body) (library_template n o)) xs) e ∙ names_none xs in
+          subst (λ l. Within l (names_from (macros r (a_library n)) xs)) (sym none_there) (within_any (names_from (macros r (a_library n)) xs))
+      by (Some b) e =
+          let one : names_from (macros s (a_library n)) xs ≡ names_from (macros r (a_library n)) xs = ap (λ o. names_from (flat_map (λ (t : Template). macros_in t.name t.body) (library_template n o)) xs) (e ∙ sym (g b e)) in
+          subst (λ l. Within (names_from (macros s (a_library n)) xs) l) one (within_same (names_from (macros s (a_library n)) xs))
+
+  lacking_from : (n : Text) (xs : List (Text × Text)) → ((b : Body) → s n ≡ Some b → r n ≡ Some b) → rules.lacks_one s n xs ≡ true → rules.lacks_one r n xs ≡ true
+  lacking_from n xs g h = by (s n) refl
+    where
+      never_one : (ys : List (Text × Text)) → s n ≡ None → rules.lacks_one s n ys ≡ false
+      never_one [] e = refl
+      never_one (y ∷ ys) e = ap (λ o. (is_a_library o && is_none (public_macro y.0 (macros s (a_library n)))) || rules.lacks_one s n ys) e ∙ never_one ys e
+
+      one : (ys : List (Text × Text)) → s n ≡ r n → rules.lacks_one r n ys ≡ rules.lacks_one s n ys
+      one [] e = refl
+      one (y ∷ ys) e =
+          ap (λ o. (is_a_library o && is_none (public_macro y.0 (flat_map (λ (t : Template). macros_in t.name t.body) (library_template n o)))) || rules.lacks_one r n ys) (sym e)
+          ∙ ap (λ b. (is_a_library (s n) && is_none (public_macro y.0 (macros s (a_library n)))) || b) (one ys e)
+
+      by : (o : Option Body) → s n ≡ o → rules.lacks_one r n xs ≡ true
+      by None e =
+          let no : false ≡ true = sym (never_one xs e) ∙ h in
+          absurd (cc)
+      by (Some b) e = one xs (e ∙ sym (g b e)) ∙ h
+
+  in_imports : (b : Body) → Carries s r (libraries_in b) → Within (imported_names s b) (imported_names r b)
+  in_imports trees.end g = none
+  in_imports (trees.stmt (trees.import_as line n x) rest) g = keep (in_imports rest (λ m a. g m (or_true (bytes_eq n m) (among m (libraries_in rest)) a)))
+  in_imports (trees.stmt (trees.import_from line n xs) rest) g =
+      within_both (in_from n xs (g n (ap (λ c. c || among n (libraries_in rest)) (reflexive n)))) (in_imports rest (λ m a. g m (or_true (bytes_eq n m) (among m (libraries_in rest)) a)))
+  in_imports (trees.stmt (trees.data_of t) rest) g = in_imports rest g
+  in_imports (trees.stmt (trees.print line e) rest) g = in_imports rest g
+  in_imports (trees.stmt (trees.choose bs other) rest) g = in_imports rest g
+  in_imports (trees.stmt (trees.for_each line xs e c body other) rest) g = in_imports rest g
+  in_imports (trees.stmt (trees.set line xs e) rest) g = in_imports rest g
+  in_imports (trees.stmt (trees.set_block line x body) rest) g = in_imports rest g
+  in_imports (trees.stmt (trees.with_values line ps body) rest) g = in_imports rest g
+  in_imports (trees.stmt (trees.filter_block line fs body) rest) g = in_imports rest g
+  in_imports (trees.stmt (trees.autoescape line on body) rest) g = in_imports rest g
+  in_imports (trees.stmt (trees.macro line x ps body) rest) g = in_imports rest g
+  in_imports (trees.stmt (trees.include line n i c) rest) g = in_imports rest g
+  in_imports (trees.stmt (trees.extends line x) rest) g = in_imports rest g
+  in_imports (trees.stmt (trees.block line x scoped required body) rest) g = in_imports rest g
+
+  lacking : (b : Body) → Carries s r (libraries_in b) → rules.lacks_macros s b ≡ true → rules.lacks_macros r b ≡ true
+  lacking trees.end g h = h
+  lacking (trees.stmt (trees.import_from line n xs) rest) g h = by (rules.lacks_one s n xs) refl (lacking rest (λ m a. g m (or_true (bytes_eq n m) (among m (libraries_in rest)) a)))
+    where
+      by : (c : Bool) → rules.lacks_one s n xs ≡ c → (rules.lacks_macros s rest ≡ true → rules.lacks_macros r rest ≡ true) → (rules.lacks_one r n xs || rules.lacks_macros r rest) ≡ true
+      by true e f = ap (λ c. c || rules.lacks_macros r rest) (lacking_from n xs (g n (ap (λ c. c || among n (libraries_in rest)) (reflexive n))) e)
+      by false e f = or_true (rules.lacks_one r n xs) (rules.lacks_macros r rest) (f (sym (ap (λ c. c || rules.lacks_macros s rest) e) ∙ h))
+  lacking (trees.stmt (trees.import_as line n x) rest) g h = lacking rest (λ m a. g m (or_true (bytes_eq n m) (among m (libraries_in rest)) a)) h
+  lacking (trees.stmt (trees.data_of t) rest) g h = lacking rest g h
+  lacking (trees.stmt (trees.print line e) rest) g h = lacking rest g h
+  lacking (trees.stmt (trees.choose bs other) rest) g h = lacking rest g h
+  lacking (trees.stmt (trees.for_each line xs e c body other) rest) g h = lacking rest g h
+  lacking (trees.stmt (trees.set line xs e) rest) g h = lacking rest g h
+  lacking (trees.stmt (trees.set_block line x body) rest) g h = lacking rest g h
+  lacking (trees.stmt (trees.with_values line ps body) rest) g h = lacking rest g h
+  lacking (trees.stmt (trees.filter_block line fs body) rest) g h = lacking rest g h
+  lacking (trees.stmt (trees.autoescape line on body) rest) g h = lacking rest g h
+  lacking (trees.stmt (trees.macro line x ps body) rest) g h = lacking rest g h
+  lacking (trees.stmt (trees.include line n i c) rest) g h = lacking rest g h
+  lacking (trees.stmt (trees.extends line x) rest) g h = lacking rest g h
+  lacking (trees.stmt (trees.block line x scoped required body) rest) g h = lacking rest g h
+
+  all_imports : (ts : List Template) → Carries s r (flat_map (λ t. libraries_in t.body) ts) → Within (flat_map (λ t. imported_names s t.body) ts) (flat_map (λ t. imported_names r t.body) ts)
+  all_imports [] g = none
+  all_imports (t ∷ ts) g = within_both
+      (in_imports t.body (λ m a. g m (among_front m (libraries_in t.body) (flat_map (λ u. libraries_in u.body) ts) a)))
+      (all_imports ts (λ m a. g m (among_behind m (libraries_in t.body) (flat_map (λ u. libraries_in u.body) ts) a)))
+
+  all_lacking : (ts : List Template) → Carries s r (flat_map (λ t. libraries_in t.body) ts) → any_lacks_macros s ts ≡ true → any_lacks_macros r ts ≡ true
+  all_lacking [] g h = h
+  all_lacking (t ∷ ts) g h = by (rules.lacks_macros s t.body) refl (all_lacking ts (λ m a. g m (among_behind m (libraries_in t.body) (flat_map (λ u. libraries_in u.body) ts) a)))
+    where
+      by : (c : Bool) → rules.lacks_macros s t.body ≡ c → (any_lacks_macros s ts ≡ true → any_lacks_macros r ts ≡ true) → (rules.lacks_macros r t.body || any_lacks_macros r ts) ≡ true
+      by true e f = ap (λ c. c || any_lacks_macros r ts) (lacking t.body (λ m a. g m (among_front m (libraries_in t.body) (flat_map (λ u. libraries_in u.body) ts) a)) e)
+      by false e f = or_true (rules.lacks_macros r t.body) (any_lacks_macros r ts) (f (sym (ap (λ c. c || any_lacks_macros s ts) e) ∙ h))
+
+-- the names that are given
+pub given_names : (s : Sources) (h : Home) → map (λ g. g.0) (given s h) ≡ map (λ m. m.name) (macros s h) ++ map (λ g. g.0) (imports s h)
+given_names s h = map-append (λ (g : Text × Given). g.0) (own h (macros s h)) (imports s h) ∙ ap (λ l. l ++ map (λ (g : Text × Given). g.0) (imports s h)) (own_named h (macros s h))
+
 -- ---- the rules
 
-module _ (s r : Sources) (e : Bool) (entry : Text) (g : (n : Text) (b : Body) → Asks r e entry n → s n ≡ Some b → r n ≡ Some b) where
-  there : {h : Text} → Reaches s e entry h → Reaches r e entry h
+module _ (s r : Sources) (e : Bool) (entry : Home) (g : (n : Text) (b : Body) → Asks r e entry n → s n ≡ Some b → r n ≡ Some b) where
+  there : {h : Home} → Reaches s e entry h → Reaches r e entry h
   there p = reaches_more s r e entry g here p
 
   pub bad_name : BadName s e entry → BadName r e entry
   bad_name x = (x.0, there x.1, (x.2.0, asked_more s r e entry g true x.0 (there x.1) x.2.0 x.2.1, x.2.2))
 
-  -- 17 names that differ are all
-  full : (h : Text) → Reaches r e entry h → length (way s e h) ≡ 17 → way r e h ≡ way s e h
+  -- 65 names that differ are all
+  full : (h : Home) → Reaches r e entry h → length (way s e h) ≡ 65 → way r e h ≡ way s e h
   full h p len =
-      let more = names_more s r 17 (Some h) (on_way s r e entry g h p) in
-      more.1 ∙ ap (λ l. way s e h ++ l) (none more.0 (omega (arith, len, up_len r 17 (Some h), ap length more.1, length-append (way s e h) more.0))) ∙ append-nil (way s e h)
+      let more = way_more s r e entry g h p in
+      more.1 ∙ ap (λ l. way s e h ++ l) (no_more more.0 (omega (arith, len, most h, ap length more.1, length-append (way s e h) more.0))) ∙ append-nil (way s e h)
     where
-      none : (l : List Text) → length l ≤ 0 → l ≡ []
-      none [] le = refl
-      none (x ∷ l) le = absurd (omega arith)
+      no_more : (l : List Text) → length l ≤ 0 → l ≡ []
+      no_more [] le = refl
+      no_more (x ∷ l) le = absurd (omega arith)
 
-  long : (h : Text) → Reaches r e entry h → ((length (way s e h) == 17) && not (repeated (way s e h))) ≡ true → ((length (way r e h) == 17) && not (repeated (way r e h))) ≡ true
+      most : (k : Home) → length (way r e k) ≤ 65
+      most (a_chain n) = up_len r 65 (Some n)
+      most (a_library n) = omega arith
+
+  long : (h : Home) → Reaches r e entry h → ((length (way s e h) == 65) && not (repeated (way s e h))) ≡ true → ((length (way r e h) == 65) && not (repeated (way r e h))) ≡ true
   long h p t =
-      let k = both_true (length (way s e h) == 17) (not (repeated (way s e h))) t in
-      ap (λ l. (length l == 17) && not (repeated l)) (full h p (seventeen (length (way s e h)) k.0)) ∙ t
+      let k = both_true (length (way s e h) == 65) (not (repeated (way s e h))) t in
+      ap (λ l. (length l == 65) && not (repeated l)) (full h p (sixty_five (length (way s e h)) k.0)) ∙ t
 
-  -- a name that comes again does so among the first 17, or these differ
-  cycle : (h : Text) (k : ℕ) → Reaches r e entry h → repeated (names_up s k (Some h)) ≡ true → ExtendsCycle r e entry ⊎ ChainTooLong r e entry
-  cycle h k p again = by (repeated (way s e h)) refl (length (way s e h) == 17) refl
+  -- a name that comes again does so among the first 65, or these differ
+  cycle : (h : Text) (k : ℕ) → Reaches r e entry (a_chain h) → repeated (names_up s k (Some h)) ≡ true → ExtendsCycle r e entry ⊎ ChainTooLong r e entry
+  cycle h k p again = by (repeated (way s e (a_chain h))) refl (length (way s e (a_chain h)) == 65) refl
     where
-      first : length (way s e h) < 17 → repeated (way s e h) ≡ true
+      first : length (way s e (a_chain h)) < 65 → repeated (way s e (a_chain h)) ≡ true
       first lt = ⊎_elim
-          (λ (c : k < 17).
-          let more = up_more s 17 k (Some h) (omega (arith, c)) in
+          (λ (c : k < 65).
+          let more = up_more s 65 k (Some h) (omega (arith, c)) in
           ap repeated more.1 ∙ repeated_front (names_up s k (Some h)) more.0 again)
-          (λ (c : 17 ≤ k).
-          ap repeated (sym (up_ends s k 17 (Some h) c lt)) ∙ again)
-          (cases_lt k 17)
+          (λ (c : 65 ≤ k).
+          ap repeated (sym (up_ends s k 65 (Some h) c lt)) ∙ again)
+          (cases_lt k 65)
 
-      by : (b : Bool) → repeated (way s e h) ≡ b → (c : Bool) → (length (way s e h) == 17) ≡ c → ExtendsCycle r e entry ⊎ ChainTooLong r e entry
+      by : (b : Bool) → repeated (way s e (a_chain h)) ≡ b → (c : Bool) → (length (way s e (a_chain h)) == 65) ≡ c → ExtendsCycle r e entry ⊎ ChainTooLong r e entry
       by true q c f =
-          let more = names_more s r 17 (Some h) (on_way s r e entry g h p) in
-          inl (h, p, (17, ap repeated more.1 ∙ repeated_front (way s e h) more.0 q))
-      by false q true f = inr (inl (h, p, long h p (and_true (length (way s e h) == 17) (not (repeated (way s e h))) f (ap not q))))
+          let more = way_more s r e entry g (a_chain h) p in
+          inl (a_chain h, p, (h, refl, 65, ap repeated more.1 ∙ repeated_front (way s e (a_chain h)) more.0 q))
+      by false q true f = inr (inl (a_chain h, p, long (a_chain h) p (and_true (length (way s e (a_chain h)) == 65) (not (repeated (way s e (a_chain h)))) f (ap not q))))
       by false q false f =
-          let no : true ≡ false = sym (first (below (length (way s e h)) (up_len s 17 (Some h)) f)) ∙ q in
+          let no : true ≡ false = sym (first (below (length (way s e (a_chain h))) (up_len s 65 (Some h)) f)) ∙ q in
           absurd (cc)
 
   pub extends_cycle : ExtendsCycle s e entry → ExtendsCycle r e entry ⊎ ChainTooLong r e entry
-  extends_cycle x = cycle x.0 x.2.0 (there x.1) x.2.1
+  extends_cycle x =
+      let y = x.2 in
+      cycle y.0 y.2 (subst (Reaches r e entry) y.1 (there x.1)) y.3
 
   pub too_long : ChainTooLong s e entry → ChainTooLong r e entry
-  too_long x = ⊎_elim (λ y. inl (y.0, there y.1, long y.0 (there y.1) y.2)) (λ y. inr (y.0, y.1, y.2, λ h a. there (y.3 h a))) x
+  too_long x = ⊎_elim (λ y. inl (y.0, there y.1, long y.0 (there y.1) y.2)) (λ y. inr (y.0, y.1, y.2, λ n a. there (y.3 n a))) x
 
   pub double_block : DoubleBlock s e entry → DoubleBlock r e entry
   double_block x =
       let p = there x.1 in
-      let more = templates_more s r 16 (Some x.0) (on_first s r e entry g x.0 p) in
+      let more = home_more s r e entry g x.0 p in
       (x.0, p, ap (any_double e) more.1 ∙ any_front (λ t. repeated (map (λ b. b.name) (blocks_in t.name t.body e))) (templates s x.0) more.0 x.2)
 
-  -- a whole chain is the same
-  whole_same : (h : Text) → Reaches r e entry h → is_whole s e h ≡ true → (templates r h ≡ templates s h) × (is_whole r e h ≡ true)
+  -- a whole chain is the same, and so is a library
+  whole_same : (h : Home) → Reaches r e entry h → is_whole s e h ≡ true → (templates r h ≡ templates s h) × (is_whole r e h ≡ true)
   whole_same h p w =
-      let w1 = both_true (not (repeated (way s e h))) (nat_lt (length (way s e h)) 17 && not (list_any (λ n. is_none (s n)) (way s e h))) w in
-      let w2 = both_true (nat_lt (length (way s e h)) 17) (not (list_any (λ n. is_none (s n)) (way s e h))) w1.1 in
+      let w1 = both_true (not (repeated (way s e h))) (nat_lt (length (way s e h)) 65 && not (list_any (λ n. is_none (s n)) (way s e h))) w in
+      let w2 = both_true (nat_lt (length (way s e h)) 65) (not (list_any (λ n. is_none (s n)) (way s e h))) w1.1 in
       let sources : list_any (λ n. is_none (s n)) (way s e h) ≡ false = not_true (list_any (λ n. is_none (s n)) (way s e h)) w2.1 in
-      let more = up_more s 17 16 (Some h) (omega arith) in
-      let same_way = (up_same s r 17 (Some h) (on_way s r e entry g h p) sources).0 in
-      let still = still_none s r (way s e h) (λ n a. on_way s r e entry g h p n (ap (among n) same_way ∙ a)) sources in (
-        (up_same s r 16 (Some h) (on_first s r e entry g h p) (none_front (λ n. is_none (s n)) (names_up s 16 (Some h)) more.0 (ap (list_any (λ n. is_none (s n))) (sym more.1) ∙ sources))).1,
-        ap (λ l. not (repeated l) && (nat_lt (length l) 17 && not (list_any (λ n. is_none (r n)) l))) same_way
-            ∙ and_true (not (repeated (way s e h))) (nat_lt (length (way s e h)) 17 && not (list_any (λ n. is_none (r n)) (way s e h))) w1.0
-            (and_true (nat_lt (length (way s e h)) 17) (not (list_any (λ n. is_none (r n)) (way s e h))) w2.0 (ap not still)),
+      let one = same_home_way h p sources in
+      let still = still_none s r (way s e h) (λ n a. on_way s r e entry g h p n (ap (among n) one.0 ∙ a)) sources in (
+        one.1,
+        ap (λ l. not (repeated l) && (nat_lt (length l) 65 && not (list_any (λ n. is_none (r n)) l))) one.0
+            ∙ and_true (not (repeated (way s e h))) (nat_lt (length (way s e h)) 65 && not (list_any (λ n. is_none (r n)) (way s e h))) w1.0
+            (and_true (nat_lt (length (way s e h)) 65) (not (list_any (λ n. is_none (r n)) (way s e h))) w2.0 (ap not still)),
       )
+    where
+      same_home_way : (k : Home) → Reaches r e entry k → list_any (λ n. is_none (s n)) (way s e k) ≡ false → (way r e k ≡ way s e k) × (templates r k ≡ templates s k)
+      same_home_way (a_chain n) q sources =
+          let more = up_more s 65 64 (Some n) (omega arith) in (
+            (up_same s r 65 (Some n) (on_way s r e entry g (a_chain n) q) sources).0,
+            (up_same s r 64 (Some n) (on_first s r e entry g n q) (none_front (λ m. is_none (s m)) (names_up s 64 (Some n)) more.0 (ap (list_any (λ m. is_none (s m))) (sym more.1) ∙ sources))).1,
+          )
+      same_home_way (a_library n) q sources = (refl, ap (library_template n) (by (s n) refl))
+        where
+          by : (o : Option Body) → s n ≡ o → r n ≡ s n
+          by None f =
+              let no : false ≡ true = sym sources ∙ ap (λ o. is_none o || false) f in
+              absurd (cc)
+          by (Some b) f = on_way s r e entry g (a_library n) q n (ap (λ c. c || false) (reflexive n)) b f ∙ sym f
 
   in_chain : (f : List Template → Bool) → InSomeChain s e entry (λ h. f (templates s h)) → InSomeChain r e entry (λ h. f (templates r h))
   in_chain f x =
@@ -188,8 +348,56 @@ module _ (s r : Sources) (e : Bool) (entry : Text) (g : (n : Text) (b : Body) �
   pub no_super : NoSuper s e entry → NoSuper r e entry
   no_super = in_chain (λ us. lacks_next (their_blocks e us))
 
+  -- the names that are given are among those where more is read
+  names_kept : (h : Home) → Reaches r e entry h → templates r h ≡ templates s h → Within (map (λ x. x.0) (given s h)) (map (λ x. x.0) (given r h))
+  names_kept h p same_templates =
+      subst (λ l. Within l (map (λ x. x.0) (given r h))) (sym (given_names s h))
+      (subst (Within (map (λ m. m.name) (macros s h) ++ map (λ x. x.0) (imports s h))) (sym (given_names r h))
+      (within_both
+      (subst (λ (l : List MacroBody). Within (map (λ m. m.name) (macros s h)) (map (λ m. m.name) l)) (sym (ap their_macros same_templates)) (within_same (map (λ m. m.name) (macros s h)))) (by h p same_templates)))
+    where
+      by : (k : Home) → Reaches r e entry k → templates r k ≡ templates s k → Within (map (λ x. x.0) (imports s k)) (map (λ x. x.0) (imports r k))
+      by (a_library n) q t = none
+      by (a_chain n) q t =
+          let ts = templates s (a_chain n) in
+          let us = templates r (a_chain n) in
+          subst (λ l. Within l (map (λ x. x.0) (imports r (a_chain n)))) (sym (all_imported s ts))
+          (subst (Within (flat_map (λ (u : Template). imported_names s u.body) ts)) (sym (all_imported r us ∙ ap (flat_map (λ (u : Template). imported_names r u.body)) t))
+          (all_imports s r ts (λ m a. on_libraries s r e entry g (a_chain n) q m (ap (λ vs. among m (flat_map (λ (u : Template). libraries_in u.body) vs)) t ∙ a))))
+
   pub macro_twice : MacroTwice s e entry → MacroTwice r e entry
-  macro_twice = in_chain (λ us. repeated (map (λ m. m.name) (their_macros e us)))
+  macro_twice x =
+      let p = there x.1 in
+      let k = both_true (is_whole s e x.0) (repeated (map (λ y. y.0) (given s x.0))) x.2 in
+      let w = whole_same x.0 p k.0 in
+      (x.0, p, and_true (is_whole r e x.0) (repeated (map (λ y. y.0) (given r x.0))) w.1 (repeated_within (names_kept x.0 p w.0) k.1))
+
+  pub no_macro : NoMacro s e entry → NoMacro r e entry
+  no_macro x =
+      let p = there x.1 in
+      (x.0, p, (x.2.0, x.2.1, by x.0 p (x.2.0) x.2.1 x.2.2))
+    where
+      by : (h : Home) → Reaches r e entry h → (n : Text) → h ≡ a_chain n → any_lacks_macros s (templates s h) ≡ true → any_lacks_macros r (templates r h) ≡ true
+      by (a_library m) p n is t = absurd (cc)
+      by (a_chain m) p n is t =
+          let h = a_chain m in
+          let more = home_more s r e entry g h p in
+          let f : Template → List Text = λ u. libraries_in u.body in
+          ap (any_lacks_macros r) more.1
+          ∙ any_front (λ u. rules.lacks_macros r u.body) (templates s h) more.0
+          (all_lacking s r (templates s h) (λ k a. on_libraries s r e entry g h p k (ap (λ vs. among k (flat_map f vs)) more.1 ∙ ap (among k) (flat-append f (templates s h) more.0) ∙ among_front k (flat_map f (templates s h)) (flat_map f more.0) a)) t)
+
+  pub not_a_library : NotALibrary s e entry → NotALibrary r e entry
+  not_a_library x =
+      let p = there x.1 in
+      let n = x.2.0 in
+      (x.0, p, (n, x.2.1, by n (subst (Reaches r e entry) x.2.1 p) (s n) refl x.2.2))
+    where
+      by : (n : Text) → Reaches r e entry (a_library n) → (o : Option Body) → s n ≡ o → (is_some (s n) && not (is_a_library (s n))) ≡ true → (is_some (r n) && not (is_a_library (r n))) ≡ true
+      by n p None f t =
+          let no : false ≡ true = sym (ap (λ o. is_some o && not (is_a_library o)) f) ∙ t in
+          absurd (cc)
+      by n p (Some b) f t = ap (λ o. is_some o && not (is_a_library o)) (on_way s r e entry g (a_library n) p n (ap (λ c. c || false) (reflexive n)) b f ∙ sym f) ∙ t
 
   pub include_cycle : IncludeCycle s e entry → IncludeCycle r e entry
   include_cycle x =

@@ -90,6 +90,8 @@ module _ (options : Options) (given : Text) (s : Held) (is : s ≡ record { text
   unspelled name e error.NoSuper c h r none p = absurd p
   unspelled name e error.IncludeCycle c h r none p = absurd p
   unspelled name e error.MacroTwice c h r none p = absurd p
+  unspelled name e error.NoMacro c h r none p = absurd p
+  unspelled name e error.NotALibrary c h r none p = absurd p
 
 -- ---- a source that isn't cut
 
@@ -107,6 +109,8 @@ unscanned options given name e error.RequiredNotGiven r p = absurd p
 unscanned options given name e error.NoSuper r p = absurd p
 unscanned options given name e error.IncludeCycle r p = absurd p
 unscanned options given name e error.MacroTwice r p = absurd p
+unscanned options given name e error.NoMacro r p = absurd p
+unscanned options given name e error.NotALibrary r p = absurd p
 
 pub too_long : (options : Options) (given : Text) (e : ScanError) → (max_source_len < length given → e ≡ scan_error.SourceTooLong 1) → (length given ≤ max_source_len → e ≡ scan_error.NoMemory) → (e ≡ scan_error.NoMemory → ⊥) → IsUncut e options given × HasNoTree options given
 too_long options given e long short f = ⊎_elim

@@ -1,17 +1,18 @@
--- Chains are few for the weight of their trees: each but the entry's has its own include tag, which weighs 7.
+-- Chains and libraries are few for the weight of their trees: each but the entry's chain has its own tag, an include or an import, which
+-- weighs at least 7.
 use Rattle.std.proofs.Common.{◌≡◌, suc, ◌+◌, ◌*◌, ◌≤◌, Bool, true, false, ◌||◌, ◌⊎◌, inl, inr, if◌then◌else◌, List, [], ◌∷◌, ◌++◌, length, refl, sym, ap, ◌∙◌, subst, arith, length-append}
-use Rattle.std.specs.Prelude.{not, flat_map, filter, IsTrue}
+use Rattle.std.specs.Prelude.{not, flat_map, filter, IsTrue, map}
+use Rattle.std.proofs.lemmas.List.{length-map}
 use Rattle.std.specs.Option.{is_some}
-use Rattle.std.specs.Str.{bytes_eq}
-use Rattle.jt_trees.specs.Texts.{among, repeated}
 use Rattle.jt_trees.specs.Expressions.{Text}
-use Rattle.jt_trees.specs.Statements.{Stmt, data_of, print, choose, for_each, set, set_block, with_values, filter_block, autoescape, macro, include, extends, block, Body, end, stmt, Branches, no_branches, branch, stmt_weight, body_weight, branch_weight}
-use Rattle.jt_chains.specs.Chain.{Sources, Home, Template, templates}
-use Rattle.jt_chains.specs.Includes.{needs_by, needs_in, needs_under, included, AllIn, InOrder}
+use Rattle.jt_trees.specs.Statements.{Stmt, data_of, print, choose, for_each, set, set_block, with_values, filter_block, autoescape, macro, include, import_as, import_from, extends, block, Body, end, stmt, Branches, no_branches, branch, stmt_weight, body_weight, branch_weight}
+use Rattle.jt_chains.specs.Chain.{Sources, Home, a_chain, a_library, same_home, listed, Template, templates, libraries, libraries_in}
+use Rattle.jt_chains.specs.Includes.{needs_by, needs_in, needs_under, with_source, included, AllIn, InOrder}
 use Rattle.jt_chains.specs.Rules.{Reaches, here, through}
 use Rattle.jt_chains.specs.Weights.{templates_weight, chains_weight}
-use Rattle.jt_inherit.proofs.Among.{same, reflexive, both_false, among_front, among_behind}
-use Rattle.jt_inherit.proofs.Ordered.{no_more}
+use Rattle.jt_inherit.specs.Found.{twice}
+use Rattle.jt_inherit.proofs.Among.{both_false}
+use Rattle.jt_inherit.proofs.Homes.{same, reflexive, listed_front, listed_behind, no_more}
 
 -- ---- tags
 
@@ -28,6 +29,8 @@ mutual
   stmt_needs (autoescape line on body) = omega (arith, body_needs body)
   stmt_needs (macro line x ps body) = omega (arith, body_needs body)
   stmt_needs (include line n ignore_missing with_context) = omega arith
+  stmt_needs (import_as line n x) = omega arith
+  stmt_needs (import_from line n xs) = omega arith
   stmt_needs (extends line n) = omega arith
   stmt_needs (block line x scoped required body) = omega (arith, body_needs body)
 
@@ -39,11 +42,32 @@ mutual
   branch_needs no_branches = omega arith
   branch_needs (branch line c body rest) = omega (arith, length-append (needs_in true body) (needs_under true rest), body_needs body, branch_needs rest)
 
--- ---- chains
+-- ---- imports, which stand beside the includes
 
-templates_needs : (ts : List Template) → 7 * length (flat_map (λ t. needs_in true t.body) ts) ≤ templates_weight ts
-templates_needs [] = omega arith
-templates_needs (t ∷ ts) = omega (arith, length-append (needs_in true t.body) (flat_map (λ u. needs_in true u.body) ts), body_needs t.body, templates_needs ts)
+body_leads : (b : Body) → 7 * (length (needs_in true b) + length (libraries_in b)) ≤ body_weight b
+body_leads end = omega arith
+body_leads (stmt (import_as line n x) rest) = omega (arith, body_leads rest)
+body_leads (stmt (import_from line n xs) rest) = omega (arith, body_leads rest)
+body_leads (stmt (data_of t) rest) = omega (arith, length-append (needs_by true (data_of t)) (needs_in true rest), stmt_needs (data_of t), body_leads rest)
+body_leads (stmt (print line e) rest) = omega (arith, length-append (needs_by true (print line e)) (needs_in true rest), stmt_needs (print line e), body_leads rest)
+body_leads (stmt (choose bs other) rest) = omega (arith, length-append (needs_by true (choose bs other)) (needs_in true rest), stmt_needs (choose bs other), body_leads rest)
+body_leads (stmt (for_each line xs e c body other) rest) = omega (arith, length-append (needs_by true (for_each line xs e c body other)) (needs_in true rest), stmt_needs (for_each line xs e c body other), body_leads rest)
+body_leads (stmt (set line xs e) rest) = omega (arith, length-append (needs_by true (set line xs e)) (needs_in true rest), stmt_needs (set line xs e), body_leads rest)
+body_leads (stmt (set_block line x body) rest) = omega (arith, length-append (needs_by true (set_block line x body)) (needs_in true rest), stmt_needs (set_block line x body), body_leads rest)
+body_leads (stmt (with_values line ps body) rest) = omega (arith, length-append (needs_by true (with_values line ps body)) (needs_in true rest), stmt_needs (with_values line ps body), body_leads rest)
+body_leads (stmt (filter_block line fs body) rest) = omega (arith, length-append (needs_by true (filter_block line fs body)) (needs_in true rest), stmt_needs (filter_block line fs body), body_leads rest)
+body_leads (stmt (autoescape line on body) rest) = omega (arith, length-append (needs_by true (autoescape line on body)) (needs_in true rest), stmt_needs (autoescape line on body), body_leads rest)
+body_leads (stmt (macro line x ps body) rest) = omega (arith, length-append (needs_by true (macro line x ps body)) (needs_in true rest), stmt_needs (macro line x ps body), body_leads rest)
+body_leads (stmt (include line n i c) rest) = omega (arith, length-append (needs_by true (include line n i c)) (needs_in true rest), stmt_needs (include line n i c), body_leads rest)
+body_leads (stmt (extends line x) rest) = omega (arith, length-append (needs_by true (extends line x)) (needs_in true rest), stmt_needs (extends line x), body_leads rest)
+body_leads (stmt (block line x scoped required body) rest) = omega (arith, length-append (needs_by true (block line x scoped required body)) (needs_in true rest), stmt_needs (block line x scoped required body), body_leads rest)
+
+-- ---- chains and libraries
+
+templates_lead : (ts : List Template) → 7 * (length (flat_map (λ t. needs_in true t.body) ts) + length (flat_map (λ t. libraries_in t.body) ts)) ≤ templates_weight ts
+templates_lead [] = omega arith
+templates_lead (t ∷ ts) =
+    omega (arith, length-append (needs_in true t.body) (flat_map (λ u. needs_in true u.body) ts), length-append (libraries_in t.body) (flat_map (λ u. libraries_in u.body) ts), body_leads t.body, templates_lead ts)
 
 filtered_le : (p : Text → Bool) (xs : List Text) → length (filter p xs) ≤ length xs
 filtered_le p [] = omega arith
@@ -54,73 +78,89 @@ filtered_le p (x ∷ xs) = by (p x) (filtered_le p xs)
     by false h = omega (arith, h)
 
 module _ (sources : Sources) where
-  abbrev needed : Home → List Text
+  abbrev pub needed : Home → List Text
   needed h = flat_map (λ t. needs_in true t.body) (templates sources h)
+
+  few_libraries : (h : Home) → length (libraries sources h) ≤ length (flat_map (λ t. libraries_in t.body) (templates sources h))
+  few_libraries (a_chain n) = omega arith
+  few_libraries (a_library n) = omega arith
+
+  home_weighs : (h : Home) → 7 * length (included sources h) ≤ templates_weight (templates sources h)
+  home_weighs h =
+      omega (
+        arith,
+        length-append (map a_chain (with_source sources (needed h))) (map a_library (with_source sources (libraries sources h))),
+        length-map (with_source sources (needed h)) a_chain,
+        length-map (with_source sources (libraries sources h)) a_library,
+        filtered_le (λ m. is_some (sources m)) (needed h),
+        filtered_le (λ m. is_some (sources m)) (libraries sources h),
+        few_libraries h,
+        templates_lead (templates sources h),
+      )
 
   includes_weigh : (hs : List Home) → 7 * length (flat_map (included sources) hs) ≤ chains_weight sources hs
   includes_weigh [] = omega arith
-  includes_weigh (h ∷ hs) =
-      omega (arith, length-append (included sources h) (flat_map (included sources) hs), filtered_le (λ m. is_some (sources m)) (needed h), templates_needs (templates sources h), includes_weigh hs)
+  includes_weigh (h ∷ hs) = omega (arith, length-append (included sources h) (flat_map (included sources) hs), home_weighs h, includes_weigh hs)
 
-  -- what a chain includes is in the order, where it is
-  later : (m : Text) (b : Bool) (hs : List Home) → among m hs ≡ true → (b || among m hs) ≡ true
+  -- what one leads to is in the order, where it is
+  later : (m : Home) (b : Bool) (hs : List Home) → listed m hs ≡ true → (b || listed m hs) ≡ true
   later m true hs e = refl
   later m false hs e = e
 
-  all_among : (m : Text) (ms hs : List Home) → AllIn ms hs → among m ms ≡ true → among m hs ≡ true
-  all_among m [] hs a e = absurd cc
-  all_among m (n ∷ ms) hs a e = by (bytes_eq n m) refl e (all_among m ms hs a.1)
+  all_listed : (m : Home) (ms hs : List Home) → AllIn ms hs → listed m ms ≡ true → listed m hs ≡ true
+  all_listed m [] hs a e = absurd cc
+  all_listed m (n ∷ ms) hs a e = by (same_home n m) refl e (all_listed m ms hs a.1)
     where
-      by : (b : Bool) → bytes_eq n m ≡ b → (b || among m ms) ≡ true → (among m ms ≡ true → among m hs ≡ true) → among m hs ≡ true
-      by true is f g = subst (λ x. among x hs ≡ true) (same n m is) a.0
+      by : (b : Bool) → same_home n m ≡ b → (b || listed m ms) ≡ true → (listed m ms ≡ true → listed m hs ≡ true) → listed m hs ≡ true
+      by true is f g = subst (λ x. listed x hs ≡ true) (same n m is) a.0
       by false is f g = g f
 
-  closed_in : (hs : List Home) → InOrder sources hs → (k m : Text) → among k hs ≡ true → among m (included sources k) ≡ true → among m hs ≡ true
+  closed_in : (hs : List Home) → InOrder sources hs → (k m : Home) → listed k hs ≡ true → listed m (included sources k) ≡ true → listed m hs ≡ true
   closed_in [] o k m e i = absurd cc
-  closed_in (h ∷ hs) o k m e i = by (bytes_eq h k) refl e (λ f. closed_in hs o.1.1 k m f i)
+  closed_in (h ∷ hs) o k m e i = by (same_home h k) refl e (λ f. closed_in hs o.1.1 k m f i)
     where
-      by : (b : Bool) → bytes_eq h k ≡ b → (b || among k hs) ≡ true → (among k hs ≡ true → among m hs ≡ true) → (bytes_eq h m || among m hs) ≡ true
-      by true is f g = later m (bytes_eq h m) hs (all_among m (included sources h) hs o.1.0 (subst (λ x. among m (included sources x) ≡ true) (sym (same h k is)) i))
-      by false is f g = later m (bytes_eq h m) hs (g f)
+      by : (b : Bool) → same_home h k ≡ b → (b || listed k hs) ≡ true → (listed k hs ≡ true → listed m hs ≡ true) → (same_home h m || listed m hs) ≡ true
+      by true is f g = later m (same_home h m) hs (all_listed m (included sources h) hs o.1.0 (subst (λ x. listed m (included sources x) ≡ true) (sym (same h k is)) i))
+      by false is f g = later m (same_home h m) hs (g f)
 
-  -- each that is reached is the first one, or included by one of the order
-  abbrev HasTag : List Home → Home → Type 0
-  HasTag order h = (k : Home) × (among k order ≡ true) × (among h (included sources k) ≡ true)
+  -- each that is reached is the first one, or one of the order leads to it
+  abbrev pub HasTag : List Home → Home → Type 0
+  HasTag order h = (k : Home) × (listed k order ≡ true) × (listed h (included sources k) ≡ true)
 
-  tagged : (escaping : Bool) (order : List Home) → InOrder sources order → {g h : Home} → Reaches sources escaping g h → among g order ≡ true → (h ≡ g) ⊎ HasTag order h
+  pub tagged : (escaping : Bool) (order : List Home) → InOrder sources order → {g h : Home} → Reaches sources escaping g h → listed g order ≡ true → (h ≡ g) ⊎ HasTag order h
   tagged escaping order o here e = inl refl
   tagged escaping order o (through {h = g} {m = m} {k = h} i r) e = by (tagged escaping order o r (closed_in order o g m e i))
     where
       by : (h ≡ m) ⊎ HasTag order h → (h ≡ g) ⊎ HasTag order h
-      by (inl is) = inr (g, e, subst (λ x. among x (included sources g) ≡ true) (sym is) i)
+      by (inl is) = inr (g, e, subst (λ x. listed x (included sources g) ≡ true) (sym is) i)
       by (inr t) = inr t
 
-  among_flat : (h k : Text) (order : List Home) → among k order ≡ true → among h (included sources k) ≡ true → among h (flat_map (included sources) order) ≡ true
-  among_flat h k [] e i = absurd cc
-  among_flat h k (g ∷ gs) e i = by (bytes_eq g k) refl e (λ f. among_flat h k gs f i)
+  listed_flat : (h k : Home) (order : List Home) → listed k order ≡ true → listed h (included sources k) ≡ true → listed h (flat_map (included sources) order) ≡ true
+  listed_flat h k [] e i = absurd cc
+  listed_flat h k (g ∷ gs) e i = by (same_home g k) refl e (λ f. listed_flat h k gs f i)
     where
-      by : (b : Bool) → bytes_eq g k ≡ b → (b || among k gs) ≡ true → (among k gs ≡ true → among h (flat_map (included sources) gs) ≡ true) → among h (included sources g ++ flat_map (included sources) gs) ≡ true
-      by true is f later = among_front h (included sources g) (flat_map (included sources) gs) (subst (λ x. among h (included sources x) ≡ true) (sym (same g k is)) i)
-      by false is f later = among_behind h (included sources g) (flat_map (included sources) gs) (later f)
+      by : (b : Bool) → same_home g k ≡ b → (b || listed k gs) ≡ true → (listed k gs ≡ true → listed h (flat_map (included sources) gs) ≡ true) → listed h (included sources g ++ flat_map (included sources) gs) ≡ true
+      by true is f later = listed_front h (included sources g) (flat_map (included sources) gs) (subst (λ x. listed h (included sources x) ≡ true) (sym (same g k is)) i)
+      by false is f later = listed_behind h (included sources g) (flat_map (included sources) gs) (later f)
 
 -- ---- the whole
 
-not_false : (b : Bool) → IsTrue (not b) → b ≡ false
+pub not_false : (b : Bool) → IsTrue (not b) → b ≡ false
 not_false true h = absurd (let no : false ≡ true = h in cc)
 not_false false h = refl
 
-once_in_order : (sources : Sources) (hs : List Home) → InOrder sources hs → repeated hs ≡ false
+once_in_order : (sources : Sources) (hs : List Home) → InOrder sources hs → twice hs ≡ false
 once_in_order sources [] o = refl
-once_in_order sources (h ∷ hs) o = both_false (among h hs) (repeated hs) (not_false (among h hs) o.0) (once_in_order sources hs o.1.1)
+once_in_order sources (h ∷ hs) o = both_false (listed h hs) (twice hs) (not_false (listed h hs) o.0) (once_in_order sources hs o.1.1)
 
--- where each chain of the order is reached from the entry
-pub few_chains : (sources : Sources) (escaping : Bool) (entry : Home) (rest : List Home) → InOrder sources (entry ∷ rest) → ((h : Home) → among h (entry ∷ rest) ≡ true → Reaches sources escaping entry h)
+-- where each of the order is reached from the entry
+pub few_chains : (sources : Sources) (escaping : Bool) (entry : Home) (rest : List Home) → InOrder sources (entry ∷ rest) → ((h : Home) → listed h (entry ∷ rest) ≡ true → Reaches sources escaping entry h)
     → 7 * length (entry ∷ rest) ≤ chains_weight sources (entry ∷ rest) + 7
 few_chains sources escaping entry rest o reached =
     let order = entry ∷ rest in
-    let fewer = no_more rest (flat_map (included sources) order) (once_in_order sources rest o.1.1) (λ h e. placed h e (tagged sources escaping order o (reached h (later sources h (bytes_eq entry h) rest e)) (ap (λ b. b || among entry rest) (reflexive entry)))) in
+    let fewer = no_more rest (flat_map (included sources) order) (once_in_order sources rest o.1.1) (λ h e. placed h e (tagged sources escaping order o (reached h (later sources h (same_home entry h) rest e)) (ap (λ b. b || listed entry rest) (reflexive entry)))) in
     omega (arith, fewer, includes_weigh sources order)
   where
-    placed : (h : Text) → among h rest ≡ true → (h ≡ entry) ⊎ HasTag sources (entry ∷ rest) h → among h (flat_map (included sources) (entry ∷ rest)) ≡ true
-    placed h e (inl is) = (let no : true ≡ false = sym e ∙ ap (λ w. among w rest) is ∙ not_false (among entry rest) o.0 in absurd cc)
-    placed h e (inr t) = among_flat sources h t.0 (entry ∷ rest) t.1 t.2
+    placed : (h : Home) → listed h rest ≡ true → (h ≡ entry) ⊎ HasTag sources (entry ∷ rest) h → listed h (flat_map (included sources) (entry ∷ rest)) ≡ true
+    placed h e (inl is) = (let no : true ≡ false = sym e ∙ ap (λ w. listed w rest) is ∙ not_false (listed entry rest) o.0 in absurd cc)
+    placed h e (inr t) = listed_flat sources h t.0 (entry ∷ rest) t.1 t.2

@@ -1,35 +1,38 @@
--- Chains that were followed: what is known of them stays as more is found.
-use Rattle.std.proofs.Common.{◌≡◌, ℕ, zero, suc, ◌<◌, ◌≤◌, Bool, true, false, not, cond, ◌||◌, if◌then◌else◌, List, [], ◌∷◌, ◌++◌, length, map, refl, sym, ap, subst, ◌∙◌, arith, ◌⊎◌, ⊎_elim, inr, Some, None, length-append, get_or, string_bytes, String, Vec, Global}
-use Rattle.std.specs.Prelude.{slice_get, flat_map, filter}
+-- Chains and libraries that were followed: what is known of them stays as more is found.
+use Rattle.std.proofs.Common.{◌≡◌, ℕ, zero, suc, ◌<◌, ◌≤◌, Bool, true, false, not, cond, ◌||◌, if◌then◌else◌, List, [], ◌∷◌, ◌++◌, length, map, refl, sym, ap, subst, ◌∙◌, arith, ◌⊎◌, ⊎_elim, inr, Some, None, get_or, Vec, Global}
+use Rattle.std.specs.Prelude.{slice_get, flat_map, filter, unwrap_or}
 use Rattle.std.specs.List.{AllByRecursion}
 use Rattle.std.specs.Option.{is_some, option_to_list}
 use Rattle.std.specs.Str.{bytes_eq}
-use Rattle.std.proofs.lemmas.List.{append_assoc, length-map}
+use Rattle.std.proofs.lemmas.List.{append-nil, append_assoc, length-map}
 use Rattle.jt_scan.specs.declared.options.Options.{Options}
 use Rattle.jt_trees.specs.Texts.{among}
 use Rattle.jt_trees.specs.Expressions.{Text}
 use Rattle.jt_chains.specs.Along.{ArePlaces, templates_at}
-use Rattle.jt_inherit.specs.Along.{includes_along}
-use Rattle.jt_chains.specs.Chain.{Template, templates, sources_in}
+use Rattle.jt_inherit.specs.Along.{imports_along, needs_along}
+use Rattle.jt_chains.specs.Chain.{Home, a_chain, a_library, home_name, listed, Template, template, templates, library_template, libraries, libraries_in, sources_in}
 use Rattle.jt_inherit.specs.Chains.{Given, IsRead}
-use Rattle.jt_inherit.specs.Found.{AreNext, IsMet, IsNeedFault, IsNextFault, IsFollowed, AreFollowed, AreFound, chosen}
+use Rattle.jt_inherit.specs.Found.{AreNext, known_of, IsMet, IsNeedFault, IsNextFault, IsFollowed, AreFollowed, AreFound, chosen}
 use Rattle.jt_chains.specs.Includes.{included, needs_in}
-use Rattle.jt_inherit.specs.Needs.{Need, needed, includes_in}
+use Rattle.jt_inherit.specs.Needs.{Need, needed, need_home, library_need, includes_in, imports_in}
 use Rattle.jt_chains.specs.Places.{home_at}
 use Rattle.jt_inherit.specs.Refusals.{Breaks}
 use Rattle.jt_chains.specs.Rules.{Asks, Reaches, here, asked, way}
 use Rattle.jt_inherit.specs.Ways.{AreKnown, IsWay}
 use Rattle.jt_inherit.specs.declared.error.ChainError.{ChainError}
 use Rattle.jt_inherit.specs.declared.error.ChainError.TheVariants as error
-use Rattle.jt_inherit.proofs.Among.{same, both_false, among_front, among_behind, only_among}
-use Rattle.jt_inherit.proofs.Following.{met_grows, numbers_grow, text_among}
+use Rattle.jt_inherit.proofs.Among.{same, both_false, among_front, among_behind}
+use Rattle.jt_inherit.proofs.Homes.{only_listed, place_listed}
+use Rattle.jt_inherit.proofs.Imported.{all_imports, imports_needed, imports_chosen, all_includes, includes_chosen, none_imported}
+use Rattle.jt_inherit.proofs.Following.{met_grows, numbers_grow, chosen-append}
 use Rattle.jt_inherit.proofs.Growing.{reach_more, ask_more, reaches_next}
 use Rattle.jt_inherit.proofs.Leads.{names, names_to_root, templates_grow, way_grows, few_templates, templates_to_root, asked_breaks}
-use Rattle.jt_inherit.proofs.Needed.{by_templates}
+use Rattle.jt_inherit.proofs.Needed.{by_templates, needed-append}
 use Rattle.jt_chains.proofs.Placed.{along_templates, map_at}
 use Rattle.jt_order.specs.View.{graph_of}
 use Rattle.jt_chains.specs.Pages.{page_view, pages_view}
-use Rattle.jt_inherit.specs.SetView.{strings}
+use Rattle.jt_inherit.specs.SetView.{key_view, homes_view}
+use Rattle.jt_inherit.specs.declared.sets.HomeKey.{HomeKey}
 use Rattle.jt_chains.specs.declared.linked.Page.{Page}
 
 -- ---- templates at places
@@ -47,11 +50,15 @@ placed_templates ts (i ∷ is) a =
     ap (λ o. o ∷ map (slice_get ts) is) e ∙ ap (λ l. Some p.0 ∷ l) (placed_templates ts is a.1)
     ∙ sym (ap (λ o. map Some (option_to_list o ++ templates_at ts is)) e)
 
-pub includes_told : (ts : List Template) (is : List ℕ) → ArePlaces ts is → includes_along ts is ≡ flat_map (λ t. includes_in t.body) (templates_at ts is)
-includes_told ts is a = along_templates (λ n b. includes_in b) ts is (templates_at ts is) (placed_templates ts is a)
+pub includes_told : (ts : List Template) (is : List ℕ) → ArePlaces ts is → needs_along ts is ≡ flat_map (λ t. includes_in t.body) (templates_at ts is) ++ map library_need (flat_map (λ t. libraries_in t.body) (templates_at ts is))
+includes_told ts is a =
+    let us = templates_at ts is in
+    ap (λ l. l ++ imports_along ts is) (along_templates (λ n b. includes_in b) ts is us (placed_templates ts is a))
+    ∙ ap (λ l. flat_map (λ (t : Template). includes_in t.body) us ++ l) (along_templates (λ n b. imports_in b) ts is us (placed_templates ts is a) ∙ all_imports us)
 
-pub includes_grow : (ts us : List Template) (is : List ℕ) → ArePlaces ts is → ArePlaces (ts ++ us) is → includes_along (ts ++ us) is ≡ includes_along ts is
-includes_grow ts us is a b = includes_told (ts ++ us) is b ∙ ap (flat_map (λ t. includes_in t.body)) (templates_grow ts us is a) ∙ sym (includes_told ts is a)
+pub includes_grow : (ts us : List Template) (is : List ℕ) → ArePlaces ts is → ArePlaces (ts ++ us) is → needs_along (ts ++ us) is ≡ needs_along ts is
+includes_grow ts us is a b =
+    includes_told (ts ++ us) is b ∙ ap (λ vs. flat_map (λ (t : Template). includes_in t.body) vs ++ map library_need (flat_map (λ (t : Template). libraries_in t.body) vs)) (templates_grow ts us is a) ∙ sym (includes_told ts is a)
 
 -- ---- what has a source
 
@@ -67,36 +74,67 @@ filter_same : (p q : Text → Bool) → ((m : Text) → p m ≡ q m) → (xs : L
 filter_same p q e [] = refl
 filter_same p q e (x ∷ xs) = ap (λ b. cond b (x ∷ filter p xs) (filter p xs)) (e x) ∙ ap (λ l. cond (q x) (x ∷ l) l) (filter_same p q e xs)
 
-pub whole_way : (ts : List Template) (h : Text) (is : List ℕ) → IsWay ts h is None → templates (sources_in ts) h ≡ templates_at ts is
-whole_way ts h is w = templates_to_root (sources_in ts) h (templates_at ts is) (omega (arith, few_templates ts is, w.few)) w.leads
+pub whole_way : (ts : List Template) (h : Home) (is : List ℕ) → IsWay ts h is None → templates (sources_in ts) h ≡ templates_at ts is
+whole_way ts (a_chain n) is w = templates_to_root (sources_in ts) n (templates_at ts is) (omega (arith, few_templates ts is, w.few)) w.leads
+whole_way ts (a_library n) is w =
+    let l = w.leads in
+    let t = l.template in
+    ap (library_template n) l.source ∙ ap (λ c. if c then template n (Some t.body) else []) l.holds ∙ ap (λ m. template m (Some t.body)) (sym l.named) ∙ sym l.only
 
--- what a chain includes
-pub included_is : (ts : List Template) (h : Text) (is : List ℕ) → IsWay ts h is None → included (sources_in ts) h ≡ chosen (names ts) (includes_along ts is)
+-- what it imports
+pub libraries_way : (ts : List Template) (h : Home) (is : List ℕ) → IsWay ts h is None → libraries (sources_in ts) h ≡ flat_map (λ t. libraries_in t.body) (templates_at ts is)
+libraries_way ts (a_chain n) is w = ap (flat_map (λ (t : Template). libraries_in t.body)) (whole_way ts (a_chain n) is w)
+libraries_way ts (a_library n) is w =
+    let l = w.leads in
+    sym (ap (flat_map (λ (t : Template). libraries_in t.body)) l.only ∙ append-nil (libraries_in l.template.body) ∙ none_imported l.template.body l.holds)
+
+-- what it leads to
+pub included_is : (ts : List Template) (h : Home) (is : List ℕ) → IsWay ts h is None → included (sources_in ts) h ≡ chosen (names ts) (needs_along ts is)
 included_is ts h is w =
-    ap (λ us. filter (λ m. is_some (sources_in ts m)) (flat_map (λ t. needs_in true t.body) us)) (whole_way ts h is w)
-    ∙ ap (filter (λ m. is_some (sources_in ts m))) (sym (by_templates true (templates_at ts is)) ∙ ap (needed true) (sym (includes_told ts is w.places)))
-    ∙ filter_same (λ m. is_some (sources_in ts m)) (λ m. among m (names ts)) (some_source ts) (needed true (includes_along ts is))
+    let s = sources_in ts in
+    let us = templates_at ts is in
+    let ks = names ts in
+    let ns = flat_map (λ (t : Template). includes_in t.body) us in
+    let ls = flat_map (λ (t : Template). libraries_in t.body) us in
+    let chains : filter (λ m. is_some (s m)) (flat_map (λ t. needs_in true t.body) (templates s h)) ≡ filter (λ m. among m ks) (needed true ns) =
+    ap (λ vs. filter (λ m. is_some (s m)) (flat_map (λ (t : Template). needs_in true t.body) vs)) (whole_way ts h is w) ∙ ap (filter (λ m. is_some (s m))) (sym (by_templates true us))
+    ∙ filter_same (λ m. is_some (s m)) (λ m. among m ks) (some_source ts) (needed true ns) in
+    let theirs : filter (λ m. is_some (s m)) (libraries s h) ≡ filter (λ m. among m ks) ls =
+    ap (filter (λ m. is_some (s m))) (libraries_way ts h is w) ∙ filter_same (λ m. is_some (s m)) (λ m. among m ks) (some_source ts) ls in
+    ap (λ l. map a_chain l ++ map a_library (filter (λ m. is_some (s m)) (libraries s h))) chains ∙ ap (λ l. map a_chain (filter (λ m. among m ks) (needed true ns)) ++ map a_library l) theirs
+    ∙ sym (ap (chosen ks) (includes_told ts is w.places) ∙ chosen-append ks ns (map library_need ls) ∙ ap (λ l. l ++ chosen ks (map library_need ls)) (includes_chosen ks ns (all_includes us))
+    ∙ ap (λ l. map a_chain (filter (λ m. among m ks) (needed true ns)) ++ l) (imports_chosen ks ls))
 
--- the way of a chain, and what it asks for
-module _ (ts : List Template) (e : Bool) (h : Text) (is : List ℕ) (w : IsWay ts h is None) where
-  pub few_way : length (templates_at ts is) ≤ 16
+-- the way of a chain or a library, and what it asks for
+module _ (ts : List Template) (e : Bool) (h : Home) (is : List ℕ) (w : IsWay ts h is None) where
+  pub few_way : length (templates_at ts is) ≤ 64
   few_way = omega (arith, few_templates ts is, w.few)
 
   pub way_names : way (sources_in ts) e h ≡ names (templates_at ts is)
-  way_names = names_to_root (sources_in ts) 17 (Some h) (templates_at ts is) (omega (arith, few_way)) w.leads
+  way_names = by h w
+    where
+      by : (k : Home) → IsWay ts k is None → way (sources_in ts) e k ≡ names (templates_at ts is)
+      by (a_chain n) v = names_to_root (sources_in ts) 65 (Some n) (templates_at ts is) (omega (arith, few_way)) v.leads
+      by (a_library n) v = ap (λ m. m ∷ []) (sym v.leads.named) ∙ sym (ap names v.leads.only)
 
-  pub asked_way : (all : Bool) → asked (sources_in ts) e all h ≡ names (templates_at ts is) ++ needed all (includes_along ts is)
+  pub asked_way : (all : Bool) → asked (sources_in ts) e all h ≡ names (templates_at ts is) ++ needed all (needs_along ts is)
   asked_way all =
-      ap (λ xs. xs ++ flat_map (λ t. needs_in all t.body) (templates (sources_in ts) h)) way_names
-      ∙ ap (λ us. names (templates_at ts is) ++ flat_map (λ t. needs_in all t.body) us) (whole_way ts h is w)
-      ∙ ap (λ xs. names (templates_at ts is) ++ xs) (sym (by_templates all (templates_at ts is)) ∙ ap (needed all) (sym (includes_told ts is w.places)))
+      let s = sources_in ts in
+      let us = templates_at ts is in
+      let ns = flat_map (λ (t : Template). includes_in t.body) us in
+      let ls = flat_map (λ (t : Template). libraries_in t.body) us in
+      ap (λ xs. xs ++ (flat_map (λ t. needs_in all t.body) (templates s h) ++ libraries s h)) way_names
+      ∙ ap (λ vs. names us ++ (flat_map (λ (t : Template). needs_in all t.body) vs ++ libraries s h)) (whole_way ts h is w)
+      ∙ ap (λ l. names us ++ (flat_map (λ (t : Template). needs_in all t.body) us ++ l)) (libraries_way ts h is w)
+      ∙ ap (λ xs. names us ++ xs)
+      (ap (λ l. l ++ ls) (sym (by_templates all us)) ∙ ap (λ l. needed all ns ++ l) (sym (imports_needed all ls)) ∙ sym (needed-append all ns (map library_need ls)) ∙ ap (needed all) (sym (includes_told ts is w.places)))
 
-  -- each template on the way, and each that is included
+  -- each template on the way, and each that is included or imported
   pub asks_way : (n : Text) → among n (names (templates_at ts is)) ≡ true → among n (asked (sources_in ts) e true h) ≡ true
-  asks_way n a = ap (among n) (asked_way true) ∙ among_front n (names (templates_at ts is)) (needed true (includes_along ts is)) a
+  asks_way n a = ap (among n) (asked_way true) ∙ among_front n (names (templates_at ts is)) (needed true (needs_along ts is)) a
 
-  pub asks_needed : (all : Bool) (n : Text) → among n (needed all (includes_along ts is)) ≡ true → among n (asked (sources_in ts) e all h) ≡ true
-  asks_needed all n a = ap (among n) (asked_way all) ∙ among_behind n (names (templates_at ts is)) (needed all (includes_along ts is)) a
+  pub asks_needed : (all : Bool) (n : Text) → among n (needed all (needs_along ts is)) ≡ true → among n (asked (sources_in ts) e all h) ≡ true
+  asks_needed all n a = ap (among n) (asked_way all) ∙ among_behind n (names (templates_at ts is)) (needed all (needs_along ts is)) a
 
 pub none_read : (given : Given) (options : Options) (ts : List Template) (n : Text) → AllByRecursion (IsRead given options) ts → given n ≡ None → among n (names ts) ≡ false
 none_read given options [] n a e = refl
@@ -125,12 +163,15 @@ chosen_same given ks ms absent (n ∷ ns) a = ⊎_elim
 
     step : (b : Bool) → among n.name (ks ++ ms) ≡ b → among n.name ks ≡ b → chosen (ks ++ ms) ns ≡ chosen ks ns → chosen (ks ++ ms) (n ∷ ns) ≡ chosen ks (n ∷ ns)
     step b p q r =
-        ap (λ z. cond z (n.name ∷ chosen (ks ++ ms) ns) (chosen (ks ++ ms) ns)) (p ∙ sym q)
-        ∙ ap (λ l. cond (among n.name ks) (n.name ∷ l) l) r
+        ap (λ z. map need_home (cond z (n ∷ known_of (ks ++ ms) ns) (known_of (ks ++ ms) ns))) p ∙ one b r ∙ sym (ap (λ z. map need_home (cond z (n ∷ known_of ks ns) (known_of ks ns))) q)
+      where
+        one : (z : Bool) → chosen (ks ++ ms) ns ≡ chosen ks ns → map need_home (cond z (n ∷ known_of (ks ++ ms) ns) (known_of (ks ++ ms) ns)) ≡ map need_home (cond z (n ∷ known_of ks ns) (known_of ks ns))
+        one true r = ap (λ l. need_home n ∷ l) r
+        one false r = r
 
--- ---- chains that were followed
+-- ---- those that were followed
 
-module _ (given : Given) (options : Options) (ts us : List Template) (hs ms : List Text) (read : AllByRecursion (IsRead given options) (ts ++ us)) where
+module _ (given : Given) (options : Options) (ts us : List Template) (hs ms : List Home) (read : AllByRecursion (IsRead given options) (ts ++ us)) where
   more_names : names (ts ++ us) ≡ names ts ++ names us
   more_names = both_names ts
     where
@@ -138,35 +179,35 @@ module _ (given : Given) (options : Options) (ts us : List Template) (hs ms : Li
       both_names [] = refl
       both_names (v ∷ vs) = ap (λ l. v.name ∷ l) (both_names vs)
 
-  followed_grows : (h : Text) (w n : List ℕ) → IsFollowed given ts hs h w n → IsFollowed given (ts ++ us) (hs ++ ms) h w n
+  followed_grows : (h : Home) (w n : List ℕ) → IsFollowed given ts hs h w n → IsFollowed given (ts ++ us) (hs ++ ms) h w n
   followed_grows h w n f =
       let grown = way_grows ts us h w None f.led in
       let needs = includes_grow ts us w f.led.places grown.places in
-      let same_chosen : chosen (names (ts ++ us)) (includes_along (ts ++ us) w) ≡ chosen (names ts) (includes_along ts w) =
-      ap (λ ks. chosen ks (includes_along (ts ++ us) w)) more_names ∙ ap (chosen (names ts ++ names us)) needs
-      ∙ chosen_same given (names ts) (names us) (λ x e. sym (ap (among x) more_names) ∙ none_read given options (ts ++ us) x read e) (includes_along ts w) f.met in
+      let same_chosen : chosen (names (ts ++ us)) (needs_along (ts ++ us) w) ≡ chosen (names ts) (needs_along ts w) =
+      ap (λ ks. chosen ks (needs_along (ts ++ us) w)) more_names ∙ ap (chosen (names ts ++ names us)) needs
+      ∙ chosen_same given (names ts) (names us) (λ x e. sym (ap (among x) more_names) ∙ none_read given options (ts ++ us) x read e) (needs_along ts w) f.met in
       record {
         led = grown;
         met = subst (λ l. AllByRecursion (IsMet given (names (ts ++ us))) l) (sym needs)
-            (subst (λ ks. AllByRecursion (IsMet given ks) (includes_along ts w)) (sym more_names) (met_grows given (names ts) (names us) (includes_along ts w) f.met));
-        numbered = subst (λ l. map (slice_get (hs ++ ms)) n ≡ map Some l) (sym same_chosen) (numbers_grow hs ms n (chosen (names ts) (includes_along ts w)) f.numbered);
+            (subst (λ ks. AllByRecursion (IsMet given ks) (needs_along ts w)) (sym more_names) (met_grows given (names ts) (names us) (needs_along ts w) f.met));
+        numbered = subst (λ l. map (slice_get (hs ++ ms)) n ≡ map Some l) (sym same_chosen) (numbers_grow hs ms n (chosen (names ts) (needs_along ts w)) f.numbered);
       }
 
-  all_grow : (gs : List Text) (ws ns : List (List ℕ)) → AreFollowed given ts hs gs ws ns → AreFollowed given (ts ++ us) (hs ++ ms) gs ws ns
+  all_grow : (gs : List Home) (ws ns : List (List ℕ)) → AreFollowed given ts hs gs ws ns → AreFollowed given (ts ++ us) (hs ++ ms) gs ws ns
   all_grow gs [] [] a = tt
   all_grow gs [] (n ∷ ns) a = absurd a
   all_grow gs (w ∷ ws) [] a = absurd a
   all_grow [] (w ∷ ws) (n ∷ ns) a = absurd a
   all_grow (g ∷ gs) (w ∷ ws) (n ∷ ns) a = (followed_grows g w n a.0, all_grow gs ws ns a.1)
 
-followed_longer : (given : Given) (ts : List Template) (hs gs fs : List Text) (ws ns : List (List ℕ)) → AreFollowed given ts hs gs ws ns → AreFollowed given ts hs (gs ++ fs) ws ns
+followed_longer : (given : Given) (ts : List Template) (hs gs fs : List Home) (ws ns : List (List ℕ)) → AreFollowed given ts hs gs ws ns → AreFollowed given ts hs (gs ++ fs) ws ns
 followed_longer given ts hs gs fs [] [] a = tt
 followed_longer given ts hs gs fs [] (n ∷ ns) a = absurd a
 followed_longer given ts hs gs fs (w ∷ ws) [] a = absurd a
 followed_longer given ts hs [] fs (w ∷ ws) (n ∷ ns) a = absurd a
 followed_longer given ts hs (g ∷ gs) fs (w ∷ ws) (n ∷ ns) a = (a.0, followed_longer given ts hs gs fs ws ns a.1)
 
-followed_next : (given : Given) (ts : List Template) (hs gs : List Text) (ws ns : List (List ℕ)) (h : Text) (w n : List ℕ) → AreFollowed given ts hs gs ws ns → slice_get gs (length ws) ≡ Some h → IsFollowed given ts hs h w n
+followed_next : (given : Given) (ts : List Template) (hs gs : List Home) (ws ns : List (List ℕ)) (h : Home) (w n : List ℕ) → AreFollowed given ts hs gs ws ns → slice_get gs (length ws) ≡ Some h → IsFollowed given ts hs h w n
     → AreFollowed given ts hs gs (ws ++ w ∷ []) (ns ++ n ∷ [])
 followed_next given ts hs [] [] [] h w n a at f = absurd (cc)
 followed_next given ts hs (g ∷ gs) [] [] h w n a at f =
@@ -177,84 +218,79 @@ followed_next given ts hs gs (v ∷ ws) [] h w n a at f = absurd a
 followed_next given ts hs [] (v ∷ ws) (m ∷ ns) h w n a at f = absurd a
 followed_next given ts hs (g ∷ gs) (v ∷ ws) (m ∷ ns) h w n a at f = (a.0, followed_next given ts hs gs ws ns h w n a.1 at f)
 
-first_stays : (hs ms : List Text) → 0 < length hs → home_at (hs ++ ms) 0 ≡ home_at hs 0
-first_stays [] ms lt = absurd (omega arith)
-first_stays (h ∷ hs) ms lt = refl
-
-at_front : (xs ys : List Text) (i : ℕ) (x : Text) → slice_get xs i ≡ Some x → slice_get (xs ++ ys) i ≡ Some x
+at_front : (xs ys : List Home) (i : ℕ) (x : Home) → slice_get xs i ≡ Some x → slice_get (xs ++ ys) i ≡ Some x
 at_front [] ys i x e = absurd (cc)
 at_front (y ∷ xs) ys zero x e = e
 at_front (y ∷ xs) ys (suc i) x e = at_front xs ys i x e
 
--- one chain more was followed
-module _ (given : Given) (options : Options) (ts0 : List Template) (ks0 hs : List Text) (ws ns : List (List ℕ)) (f : AreFound given options ts0 ks0 hs ws ns) (h : Text) (at : slice_get hs (length ws) ≡ Some h)
+-- one more was followed
+module _ (given : Given) (options : Options) (root : Text) (ts0 : List Template) (ks0 : List Text) (hs : List Home) (ws ns : List (List ℕ)) (f : AreFound given options root ts0 ks0 hs ws ns) (h : Home) (at : slice_get hs (length ws) ≡ Some h)
     (ts1 m1 : List Template) (e1 : ts1 ≡ ts0 ++ m1) (is : List ℕ) (w : IsWay ts1 h is None) where
-  pub reached_here : Reaches (sources_in ts1) options.autoescape (home_at hs 0) h
-  reached_here = reach_more ts0 ts1 m1 options.autoescape (home_at hs 0) h e1 (f.reached h (text_among hs (length ws) h at))
+  pub reached_here : Reaches (sources_in ts1) options.autoescape (a_chain root) h
+  reached_here = reach_more ts0 ts1 m1 options.autoescape (a_chain root) h e1 (f.reached h (place_listed hs (length ws) h at))
 
-  -- a refusal of what it includes
-  pub need_breaks : AreKnown given options ts1 (names ts1) → (e : ChainError) → (e ≡ error.NoMemory) ⊎ IsNeedFault given options (includes_along ts1 is) e → Breaks e given (home_at hs 0) options
+  -- a refusal of what it includes or imports
+  pub need_breaks : AreKnown given options ts1 (names ts1) → (e : ChainError) → (e ≡ error.NoMemory) ⊎ IsNeedFault given options (needs_along ts1 is) e → Breaks e given root options
   need_breaks known e fault = ⊎_elim
-      (λ m. subst (λ z. Breaks z given (home_at hs 0) options) (sym m) tt)
-      (λ n. asked_breaks given options (home_at hs 0) ts1 known h reached_here n.name e (asks_needed ts1 options.autoescape h is w true n.name n.asked) (λ q. asks_needed ts1 options.autoescape h is w false n.name (n.must q)) n.fault)
+      (λ m. subst (λ z. Breaks z given root options) (sym m) tt)
+      (λ n. asked_breaks given options root ts1 known h reached_here n.name e (asks_needed ts1 options.autoescape h is w true n.name n.asked) (λ q. asks_needed ts1 options.autoescape h is w false n.name (n.must q)) n.fault)
       fault
 
   module _ (ts2 m2 : List Template) (e2 : ts2 ≡ ts1 ++ m2) (ks2 : List Text) (known : AreKnown given options ts2 ks2) where
     pub way_there : IsWay ts2 h is None
     way_there = subst (λ vs. IsWay vs h is None) (sym e2) (way_grows ts1 m2 h is None w)
 
-    needs_there : includes_along ts2 is ≡ includes_along ts1 is
-    needs_there = ap (λ vs. includes_along vs is) e2 ∙ includes_grow ts1 m2 is w.places (subst (λ vs. ArePlaces vs is) e2 way_there.places)
+    needs_there : needs_along ts2 is ≡ needs_along ts1 is
+    needs_there = ap (λ vs. needs_along vs is) e2 ∙ includes_grow ts1 m2 is w.places (subst (λ vs. ArePlaces vs is) e2 way_there.places)
 
-    chosen_there : included (sources_in ts2) h ≡ chosen ks2 (includes_along ts2 is)
-    chosen_there = included_is ts2 h is way_there ∙ ap (λ ks. chosen ks (includes_along ts2 is)) (sym known.named)
+    chosen_there : included (sources_in ts2) h ≡ chosen ks2 (needs_along ts2 is)
+    chosen_there = included_is ts2 h is way_there ∙ ap (λ ks. chosen ks (needs_along ts2 is)) (sym known.named)
 
     all_more : ts2 ≡ ts0 ++ (m1 ++ m2)
     all_more = e2 ∙ ap (λ l. l ++ m2) e1 ∙ append_assoc ts0 m1 m2
 
-    reached_from : (x : Text) → (among x hs ≡ true) ⊎ (among x (chosen ks2 (includes_along ts2 is)) ≡ true) → Reaches (sources_in ts2) options.autoescape (home_at hs 0) x
+    reached_from : (x : Home) → (listed x hs ≡ true) ⊎ (listed x (chosen ks2 (needs_along ts2 is)) ≡ true) → Reaches (sources_in ts2) options.autoescape (a_chain root) x
     reached_from x c = ⊎_elim
-        (λ a. reach_more ts0 ts2 (m1 ++ m2) options.autoescape (home_at hs 0) x all_more (f.reached x a))
-        (λ a. reaches_next (reach_more ts1 ts2 m2 options.autoescape (home_at hs 0) h e2 reached_here) (ap (among x) chosen_there ∙ a))
+        (λ a. reach_more ts0 ts2 (m1 ++ m2) options.autoescape (a_chain root) x all_more (f.reached x a))
+        (λ a. reaches_next (reach_more ts1 ts2 m2 options.autoescape (a_chain root) h e2 reached_here) (ap (listed x) chosen_there ∙ a))
         c
 
-    pub next_breaks : (e : ChainError) → IsNextFault hs (chosen ks2 (includes_along ts2 is)) e → Breaks e given (home_at hs 0) options
+    pub next_breaks : (e : ChainError) → IsNextFault hs (chosen ks2 (needs_along ts2 is)) e → Breaks e given root options
     next_breaks e fault = ⊎_elim
-        (λ m. subst (λ z. Breaks z given (home_at hs 0) options) (sym m) tt)
-        (λ t. subst (λ z. Breaks z given (home_at hs 0) options) (sym t.0)
-        (record { templates = ts2; read = known.read; only = known.only; holds = inr (t.1.0, t.1.1, ap not t.1.2, λ x a. reached_from x (t.1.3 x a)) }))
+        (λ m. subst (λ z. Breaks z given root options) (sym m) tt)
+        (λ t. subst (λ z. Breaks z given root options) (sym t.0)
+        (record { templates = ts2; read = known.read; only = known.only; holds = inr (t.1.0, t.1.1, ap not t.1.2, λ x a. reached_from (a_chain x) (t.1.3 x a)) }))
         fault
 
     -- what is known is asked for
     asks_more : (ks1 : List Text) → ((n : Text) → among n ks1 ≡ true → (among n ks0 ≡ true) ⊎ (among n (names (templates_at ts1 is)) ≡ true))
-        → ((n : Text) → among n ks2 ≡ true → (among n ks1 ≡ true) ⊎ (among n (needed true (includes_along ts1 is)) ≡ true)) → (n : Text) → among n ks2 ≡ true → Asks (sources_in ts2) options.autoescape (home_at hs 0) n
+        → ((n : Text) → among n ks2 ≡ true → (among n ks1 ≡ true) ⊎ (among n (needed true (needs_along ts1 is)) ≡ true)) → (n : Text) → among n ks2 ≡ true → Asks (sources_in ts2) options.autoescape (a_chain root) n
     asks_more ks1 on_way needs n a = ⊎_elim
         (λ p. ⊎_elim
-        (λ q. ask_more ts0 ts2 (m1 ++ m2) options.autoescape (home_at hs 0) n all_more (f.asked n q))
-        (λ q. ask_more ts1 ts2 m2 options.autoescape (home_at hs 0) n e2 (h, reached_here, asks_way ts1 options.autoescape h is w n q))
+        (λ q. ask_more ts0 ts2 (m1 ++ m2) options.autoescape (a_chain root) n all_more (f.asked n q))
+        (λ q. ask_more ts1 ts2 m2 options.autoescape (a_chain root) n e2 (h, reached_here, asks_way ts1 options.autoescape h is w n q))
         (on_way n p))
-        (λ p. ask_more ts1 ts2 m2 options.autoescape (home_at hs 0) n e2 (h, reached_here, asks_needed ts1 options.autoescape h is w true n p))
+        (λ p. ask_more ts1 ts2 m2 options.autoescape (a_chain root) n e2 (h, reached_here, asks_needed ts1 options.autoescape h is w true n p))
         (needs n a)
 
     pub found_more : (ks1 : List Text) → ((n : Text) → among n ks1 ≡ true → (among n ks0 ≡ true) ⊎ (among n (names (templates_at ts1 is)) ≡ true))
-        → ((n : Text) → among n ks2 ≡ true → (among n ks1 ≡ true) ⊎ (among n (needed true (includes_along ts1 is)) ≡ true)) → AllByRecursion (IsMet given ks2) (includes_along ts1 is) → (hs2 : List Text) (next : List ℕ) → AreNext hs hs2 (chosen ks2 (includes_along ts2 is)) next
-        → AreFound given options ts2 ks2 hs2 (ws ++ is ∷ []) (ns ++ next ∷ [])
+        → ((n : Text) → among n ks2 ≡ true → (among n ks1 ≡ true) ⊎ (among n (needed true (needs_along ts1 is)) ≡ true)) → AllByRecursion (IsMet given ks2) (needs_along ts1 is) → (hs2 : List Home) (next : List ℕ) → AreNext hs hs2 (chosen ks2 (needs_along ts2 is)) next
+        → AreFound given options root ts2 ks2 hs2 (ws ++ is ∷ []) (ns ++ next ∷ [])
     found_more ks1 on_way needs met hs2 next n =
-        let first : home_at hs2 0 ≡ home_at hs 0 = ap (λ l. home_at l 0) n.grown ∙ first_stays hs n.more f.some in
         let read = subst (AllByRecursion (IsRead given options)) all_more known.read.each in
         let old : AreFollowed given (ts0 ++ (m1 ++ m2)) (hs ++ n.more) hs ws ns = all_grow given options ts0 (m1 ++ m2) hs n.more read hs ws ns f.followed in
         let here_followed : IsFollowed given ts2 hs2 h is next = (record {
           led = way_there;
-          met = subst (λ l. AllByRecursion (IsMet given (names ts2)) l) (sym needs_there) (subst (λ ks. AllByRecursion (IsMet given ks) (includes_along ts1 is)) known.named met);
-          numbered = subst (λ ks. map (slice_get hs2) next ≡ map Some (chosen ks (includes_along ts2 is))) known.named n.numbered;
+          met = subst (λ l. AllByRecursion (IsMet given (names ts2)) l) (sym needs_there) (subst (λ ks. AllByRecursion (IsMet given ks) (needs_along ts1 is)) known.named met);
+          numbered = subst (λ ks. map (slice_get hs2) next ≡ map Some (chosen ks (needs_along ts2 is))) known.named n.numbered;
         }) in
         record {
           known = known;
-          asked = λ x a. subst (λ z. Asks (sources_in ts2) options.autoescape z x) (sym first) (asks_more ks1 on_way needs x a);
-          some = omega (arith, ap length n.grown, length-append hs n.more, f.some);
+          asked = asks_more ks1 on_way needs;
+          first = subst (λ l. slice_get l 0 ≡ Some (a_chain root)) (sym n.grown) (at_front hs n.more 0 (a_chain root) f.first);
           once = n.once;
           few = n.few;
-          reached = λ x a. subst (λ z. Reaches (sources_in ts2) options.autoescape z x) (sym first) (reached_from x (n.from x a));
+          reached = λ x a. reached_from x (n.from x a);
           followed = followed_next given ts2 hs2 hs2 ws ns h is next
               (subst (λ vs. AreFollowed given vs hs2 hs2 ws ns) (sym all_more)
               (subst (λ l. AreFollowed given (ts0 ++ (m1 ++ m2)) l l ws ns) (sym n.grown)
@@ -262,42 +298,42 @@ module _ (given : Given) (options : Options) (ts0 : List Template) (ks0 hs : Lis
               (subst (λ l. slice_get l (length ws) ≡ Some h) (sym n.grown) (at_front hs n.more (length ws) h at)) here_followed;
         }
 
-    pub first_same : (hs2 : List Text) (next : List ℕ) → AreNext hs hs2 (chosen ks2 (includes_along ts2 is)) next → home_at hs2 0 ≡ home_at hs 0
-    first_same hs2 next n = ap (λ l. home_at l 0) n.grown ∙ first_stays hs n.more f.some
+    pub first_same : (hs2 : List Home) (next : List ℕ) → AreNext hs hs2 (chosen ks2 (needs_along ts2 is)) next → home_name (home_at hs2 0) ≡ root
+    first_same hs2 next n = ap (λ o. home_name (unwrap_or o (a_chain []))) (ap (λ l. slice_get l 0) n.grown ∙ at_front hs n.more 0 (a_chain root) f.first)
 
 -- the entry alone is found
-pub found_first : (given : Given) (options : Options) (entry : Text) (ts : List Template) (ks hs : List Text) (ws ns : List (List ℕ)) → hs ≡ entry ∷ [] → ts ≡ [] → ks ≡ [] → ws ≡ [] → ns ≡ []
-    → AreFound given options ts ks hs ws ns
-found_first given options entry ts ks hs ws ns eh et ek ew en =
-    subst (λ z. AreFound given options ts ks z ws ns) (sym eh)
-    (subst (λ z. AreFound given options z ks (entry ∷ []) ws ns) (sym et)
-    (subst (λ z. AreFound given options [] z (entry ∷ []) ws ns) (sym ek)
-    (subst (λ z. AreFound given options [] [] (entry ∷ []) z ns) (sym ew)
-    (subst (λ z. AreFound given options [] [] (entry ∷ []) [] z) (sym en)
+pub found_first : (given : Given) (options : Options) (entry root : Text) (ts : List Template) (ks : List Text) (hs : List Home) (ws ns : List (List ℕ)) → hs ≡ a_chain entry ∷ [] → root ≡ entry → ts ≡ [] → ks ≡ [] → ws ≡ [] → ns ≡ []
+    → AreFound given options root ts ks hs ws ns
+found_first given options entry root ts ks hs ws ns eh er et ek ew en =
+    subst (λ r. AreFound given options r ts ks hs ws ns) (sym er)
+    (subst (λ z. AreFound given options entry ts ks z ws ns) (sym eh)
+    (subst (λ z. AreFound given options entry z ks (a_chain entry ∷ []) ws ns) (sym et)
+    (subst (λ z. AreFound given options entry [] z (a_chain entry ∷ []) ws ns) (sym ek)
+    (subst (λ z. AreFound given options entry [] [] (a_chain entry ∷ []) z ns) (sym ew)
+    (subst (λ z. AreFound given options entry [] [] (a_chain entry ∷ []) [] z) (sym en)
     (record {
       known = record { read = record { each = tt; once = refl }; only = tt; within = tt; named = refl };
       asked = λ n a. absurd (cc);
-      some = omega arith;
+      first = refl;
       once = refl;
       few = omega arith;
-      reached = λ x a. subst (λ z. Reaches (sources_in []) options.autoescape entry z) (only_among entry x a) here;
+      reached = λ x a. subst (λ z. Reaches (sources_in []) options.autoescape (a_chain entry) z) (only_listed (a_chain entry) x a) here;
       followed = tt;
-    })))))
+    }))))))
 
--- no more ways than chains
-pub followed_len : (given : Given) (ts : List Template) (hs gs : List Text) (ws ns : List (List ℕ)) → AreFollowed given ts hs gs ws ns → length ws ≤ length gs
+-- no more ways than homes
+pub followed_len : (given : Given) (ts : List Template) (hs gs : List Home) (ws ns : List (List ℕ)) → AreFollowed given ts hs gs ws ns → length ws ≤ length gs
 followed_len given ts hs gs [] [] a = omega arith
 followed_len given ts hs gs [] (n ∷ ns) a = absurd a
 followed_len given ts hs gs (w ∷ ws) [] a = absurd a
 followed_len given ts hs [] (w ∷ ws) (n ∷ ns) a = absurd a
 followed_len given ts hs (g ∷ gs) (w ∷ ws) (n ∷ ns) a = omega (arith, followed_len given ts hs gs ws ns a.1)
 
--- the chain that is next
-pub home_number : (keys ks : List (String Global)) (ws : List (Vec ℕ Global)) (k : String Global) (i : ℕ) (h : Text) → ks ≡ keys → i ≡ length ws → i < length ks → k ≡ get_or ks i k → h ≡ string_bytes k
-    → slice_get (strings keys) (length (graph_of ws)) ≡ Some h
-home_number keys ks ws k i h e at lt is named =
+-- the one that is next
+pub home_number : (keys ks : List HomeKey) (ws : List (Vec ℕ Global)) (k : HomeKey) (i : ℕ) → ks ≡ keys → i ≡ length ws → i < length ks → k ≡ get_or ks i k → slice_get (homes_view keys) (length (graph_of ws)) ≡ Some (key_view k)
+home_number keys ks ws k i e at lt is =
     let len : length (graph_of ws) ≡ i = length-map ws (λ (v : Vec ℕ Global). v.items) ∙ sym at in
-    ap (λ z. slice_get (strings z) (length (graph_of ws))) (sym e) ∙ ap (slice_get (strings ks)) len ∙ map_at string_bytes ks i k lt is ∙ ap (λ (x : Text). Some x) (sym named)
+    ap (λ z. slice_get (homes_view z) (length (graph_of ws))) (sym e) ∙ ap (slice_get (homes_view ks)) len ∙ map_at key_view ks i k lt is
 
 pub known_names : (given : Given) (options : Options) (ts : List Template) (ks : List Text) → AreKnown given options ts ks → AreKnown given options ts (names ts)
 known_names given options ts ks k = record { read = k.read; only = k.only; within = k.within; named = refl }

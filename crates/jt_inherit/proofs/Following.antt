@@ -1,4 +1,4 @@
--- What is found where a chain is followed: the numbers of the chains that it includes.
+-- What is found where a chain or a library is followed: the numbers of what it leads to.
 use Rattle.std.proofs.Common.{◌≡◌, ℕ, zero, suc, ◌+◌, ◌<◌, ◌≤◌, Bool, true, false, not, cond, ◌||◌, if◌then◌else◌, List, [], ◌∷◌, ◌++◌, length, map, take, drop, get_or, refl, sym, ap, subst, ◌∙◌, arith, inl, inr, ◌⊎◌, ⊎_elim, Some, length-append}
 use Rattle.std.specs.Prelude.{slice_get}
 use Rattle.std.specs.List.{AllByRecursion}
@@ -8,12 +8,15 @@ use Rattle.jt_scan.specs.declared.options.Options.{Options}
 use Rattle.jt_trees.specs.Texts.{among, repeated}
 use Rattle.jt_trees.specs.Expressions.{Text}
 use Rattle.jt_inherit.specs.Chains.{Given}
-use Rattle.jt_inherit.specs.Found.{AreNext, AddsNext, TooMany, IsNextFault, IsMet, IsFaultAt, IsNeedFault, known_of, chosen}
-use Rattle.jt_inherit.specs.Needs.{Need, needed, need_view, needs_view}
+use Rattle.jt_chains.specs.Chain.{Home, a_chain, a_library, listed}
+use Rattle.jt_inherit.specs.Found.{AreNext, AddsNext, TooMany, IsNextFault, IsMet, IsFaultAt, IsNeedFault, known_of, chosen, chains_of, twice}
+use Rattle.jt_inherit.specs.Needs.{Need, needed, need_home, need_view, needs_view}
 use Rattle.jt_inherit.specs.declared.error.ChainError.{ChainError}
 use Rattle.jt_inherit.specs.declared.error.ChainError.TheVariants as error
 use Rattle.jt_inherit.specs.declared.statements.Include.{Include}
-use Rattle.jt_inherit.proofs.Among.{reflexive, or_true, once_more, among_front, among_behind, among_cases}
+use Rattle.jt_inherit.proofs.Among as names
+use Rattle.jt_inherit.proofs.Among.{reflexive, or_true, or_false, both_false, among_front, among_behind, among_cases, only_among}
+use Rattle.jt_inherit.proofs.Homes.{once_more, listed_front, listed_behind, listed_cases, chain_among}
 
 -- ---- names among others
 
@@ -26,57 +29,51 @@ text_among (y ∷ xs) (suc i) x e = or_true (bytes_eq y x) (among x xs) (text_am
 
 -- ---- those that are known
 
-pub known-append : (ks xs ys : List Text) → known_of ks (xs ++ ys) ≡ known_of ks xs ++ known_of ks ys
-known-append ks [] ys = refl
-known-append ks (x ∷ xs) ys = by (among x ks) refl (known-append ks xs ys)
+pub known-append : (ks : List Text) (ns ms : List Need) → known_of ks (ns ++ ms) ≡ known_of ks ns ++ known_of ks ms
+known-append ks [] ms = refl
+known-append ks (n ∷ ns) ms = by (among n.name ks) (known-append ks ns ms)
   where
-    by : (b : Bool) → among x ks ≡ b → known_of ks (xs ++ ys) ≡ known_of ks xs ++ known_of ks ys
-        → cond (among x ks) (x ∷ known_of ks (xs ++ ys)) (known_of ks (xs ++ ys)) ≡ cond (among x ks) (x ∷ known_of ks xs) (known_of ks xs) ++ known_of ks ys
-    by true e r = ap (λ b. cond b (x ∷ known_of ks (xs ++ ys)) (known_of ks (xs ++ ys))) e ∙ ap (λ l. x ∷ l) r ∙ sym (ap (λ b. cond b (x ∷ known_of ks xs) (known_of ks xs) ++ known_of ks ys) e)
-    by false e r = ap (λ b. cond b (x ∷ known_of ks (xs ++ ys)) (known_of ks (xs ++ ys))) e ∙ r ∙ sym (ap (λ b. cond b (x ∷ known_of ks xs) (known_of ks xs) ++ known_of ks ys) e)
+    by : (b : Bool) → known_of ks (ns ++ ms) ≡ known_of ks ns ++ known_of ks ms
+        → cond b (n ∷ known_of ks (ns ++ ms)) (known_of ks (ns ++ ms)) ≡ cond b (n ∷ known_of ks ns) (known_of ks ns) ++ known_of ks ms
+    by true r = ap (λ l. n ∷ l) r
+    by false r = r
 
-pub one_known : (ks : List Text) (x : Text) → among x ks ≡ true → known_of ks (x ∷ []) ≡ x ∷ []
-one_known ks x e = ap (λ b. cond b (x ∷ []) []) e
+pub one_known : (ks : List Text) (n : Need) → among n.name ks ≡ true → chosen ks (n ∷ []) ≡ need_home n ∷ []
+one_known ks n e = ap (λ b. map need_home (cond b (n ∷ []) [])) e
 
-pub none_known : (ks : List Text) (x : Text) → among x ks ≡ false → known_of ks (x ∷ []) ≡ []
-none_known ks x e = ap (λ b. cond b (x ∷ []) []) e
+pub none_known : (ks : List Text) (n : Need) → among n.name ks ≡ false → chosen ks (n ∷ []) ≡ []
+none_known ks n e = ap (λ b. map need_home (cond b (n ∷ []) [])) e
 
--- ---- numbers of chains
+-- ---- numbers of homes
 
-pub next_none : (hs : List Text) → repeated hs ≡ false → length hs ≤ 1024 → AreNext hs hs [] []
+last_at : (xs : List Home) (x : Home) → slice_get (xs ++ x ∷ []) (length xs) ≡ Some x
+last_at [] x = refl
+last_at (y ∷ xs) x = last_at xs x
+
+pub next_none : (hs : List Home) → twice hs ≡ false → length (chains_of hs) ≤ 1024 → AreNext hs hs [] []
 next_none hs once few = record { more = []; grown = sym (append-nil hs); once = once; few = few; from = λ h a. inl a; numbered = refl }
 
-pub next_one : (old new : List Text) (x : Text) (i : ℕ) → new ≡ (if among x old then old else old ++ x ∷ []) → repeated old ≡ false → length new ≤ 1024 → slice_get new i ≡ Some x → AreNext old new (x ∷ []) (i ∷ [])
-next_one old new x i e once few at = by (among x old) refl
-  where
-    by : (b : Bool) → among x old ≡ b → AreNext old new (x ∷ []) (i ∷ [])
-    by true h =
-        let is : new ≡ old = e ∙ ap (λ b. if b then old else old ++ x ∷ []) h in
-        record {
-          more = [];
-          grown = is ∙ sym (append-nil old);
-          once = ap repeated is ∙ once;
-          few = few;
-          from = λ y a. inl (sym (ap (among y) is) ∙ a);
-          numbered = ap (λ o. o ∷ []) at;
-        }
-    by false h =
-        let is : new ≡ old ++ x ∷ [] = e ∙ ap (λ b. if b then old else old ++ x ∷ []) h in
-        record {
-          more = x ∷ [];
-          grown = is;
-          once = ap repeated is ∙ once_more x old once h;
-          few = few;
-          from = λ y a. among_cases y old (x ∷ []) (sym (ap (among y) is) ∙ a);
-          numbered = ap (λ o. o ∷ []) at;
-        }
+-- one that is there
+pub next_there : (hs : List Home) (x : Home) (i : ℕ) → twice hs ≡ false → length (chains_of hs) ≤ 1024 → slice_get hs i ≡ Some x → AreNext hs hs (x ∷ []) (i ∷ [])
+next_there hs x i once few at = record { more = []; grown = sym (append-nil hs); once = once; few = few; from = λ h a. inl a; numbered = ap (λ o. o ∷ []) at }
 
-at_front : (xs ys : List Text) (i : ℕ) (x : Text) → slice_get xs i ≡ Some x → slice_get (xs ++ ys) i ≡ Some x
+-- one that is new
+pub next_new : (old new : List Home) (x : Home) (i : ℕ) → new ≡ old ++ x ∷ [] → twice old ≡ false → listed x old ≡ false → length (chains_of new) ≤ 1024 → i ≡ length old → AreNext old new (x ∷ []) (i ∷ [])
+next_new old new x i is once h few at = record {
+  more = x ∷ [];
+  grown = is;
+  once = ap twice is ∙ once_more x old once h;
+  few = few;
+  from = λ y a. listed_cases y old (x ∷ []) (sym (ap (listed y) is) ∙ a);
+  numbered = ap (λ o. o ∷ []) (ap (λ l. slice_get l i) is ∙ ap (slice_get (old ++ x ∷ [])) at ∙ last_at old x);
+}
+
+at_front : (xs ys : List Home) (i : ℕ) (x : Home) → slice_get xs i ≡ Some x → slice_get (xs ++ ys) i ≡ Some x
 at_front [] ys i x e = absurd (cc)
 at_front (y ∷ xs) ys zero x e = e
 at_front (y ∷ xs) ys (suc i) x e = at_front xs ys i x e
 
-pub numbers_grow : (xs ys : List Text) (is : List ℕ) (ns : List Text) → map (slice_get xs) is ≡ map Some ns → map (slice_get (xs ++ ys)) is ≡ map Some ns
+pub numbers_grow : (xs ys : List Home) (is : List ℕ) (ns : List Home) → map (slice_get xs) is ≡ map Some ns → map (slice_get (xs ++ ys)) is ≡ map Some ns
 numbers_grow xs ys [] [] e = refl
 numbers_grow xs ys [] (n ∷ ns) e = absurd (cc)
 numbers_grow xs ys (i ∷ is) [] e = absurd (cc)
@@ -85,20 +82,20 @@ numbers_grow xs ys (i ∷ is) (n ∷ ns) e =
     let r : map (slice_get xs) is ≡ map Some ns = cc in
     ap (λ o. o ∷ map (slice_get (xs ++ ys)) is) (at_front xs ys i n h) ∙ ap (λ l. Some n ∷ l) (numbers_grow xs ys is ns r)
 
-pub next_both : (a b c xs ys : List Text) (is js : List ℕ) → AreNext a b xs is → AreNext b c ys js → AreNext a c (xs ++ ys) (is ++ js)
+pub next_both : (a b c xs ys : List Home) (is js : List ℕ) → AreNext a b xs is → AreNext b c ys js → AreNext a c (xs ++ ys) (is ++ js)
 next_both a b c xs ys is js p q = record {
   more = p.more ++ q.more;
   grown = q.grown ∙ ap (λ l. l ++ q.more) p.grown ∙ append_assoc a p.more q.more;
   once = q.once;
   few = q.few;
-  from = λ h i. ⊎_elim (λ m. ⊎_elim (λ k. inl k) (λ k. inr (among_front h xs ys k)) (p.from h m)) (λ m. inr (among_behind h xs ys m)) (q.from h i);
+  from = λ h i. ⊎_elim (λ m. ⊎_elim (λ k. inl k) (λ k. inr (listed_front h xs ys k)) (p.from h m)) (λ m. inr (listed_behind h xs ys m)) (q.from h i);
   numbered = map-append (slice_get c) is js
       ∙ ap (λ l. l ++ map (slice_get c) js) (subst (λ z. map (slice_get z) is ≡ map Some xs) (sym q.grown) (numbers_grow b q.more is xs p.numbered))
       ∙ ap (λ l. map Some xs ++ l) q.numbered ∙ sym (map-append Some xs ys);
 }
 
 -- a refusal at a name is one of all names
-pub fault_later : (a b xs ys zs : List Text) (is : List ℕ) (e : ChainError) → AreNext a b xs is → IsNextFault b ys e → IsNextFault a (xs ++ (ys ++ zs)) e
+pub fault_later : (a b xs ys zs : List Home) (is : List ℕ) (e : ChainError) → AreNext a b xs is → IsNextFault b ys e → IsNextFault a (xs ++ (ys ++ zs)) e
 fault_later a b xs ys zs is e p f = ⊎_elim (λ m. inl m)
     (λ t. inr (
       t.0,
@@ -106,28 +103,43 @@ fault_later a b xs ys zs is e p f = ⊎_elim (λ m. inl m)
         t.1.0,
         t.1.1,
         t.1.2,
-        λ h i. ⊎_elim (λ m. ⊎_elim (λ k. inl k) (λ k. inr (among_front h xs (ys ++ zs) k)) (p.from h m)) (λ m. inr (among_behind h xs (ys ++ zs) (among_front h ys zs m))) (t.1.3 h i),
+        λ n i. let h = a_chain n in
+            ⊎_elim (λ m. ⊎_elim (λ k. inl k) (λ k. inr (listed_front h xs (ys ++ zs) k)) (p.from h m)) (λ m. inr (listed_behind h xs (ys ++ zs) (listed_front h ys zs m))) (t.1.3 n i),
       ),
     ))
     f
 
-pub too_many : (old : List Text) (x : Text) → repeated old ≡ false → length old ≡ 1024 → among x old ≡ false → TooMany old (x ∷ [])
-too_many old x once len new = (old ++ x ∷ [], omega (arith, length-append old (x ∷ []), len), once_more x old once new, λ h a. among_cases h old (x ∷ []) a)
+pub too_many : (old : List Home) (n : Text) → twice old ≡ false → length (chains_of old) ≡ 1024 → listed (a_chain n) old ≡ false → TooMany old (a_chain n ∷ [])
+too_many old n once len new = (
+  chains_of old ++ n ∷ [],
+  omega (arith, length-append (chains_of old) (n ∷ []), len),
+  names.once_more n (chains_of old) (chains_once old once) (sym (chain_among n old) ∙ new),
+  λ m a. ⊎_elim (λ p. inl (chain_among m old ∙ p)) (λ q. inr (ap (λ b. b || false) (ap (λ z. bytes_eq z m) (only_among n m q) ∙ names.reflexive m))) (among_cases m (chains_of old) (n ∷ []) a),
+)
+  where
+    chains_once : (hs : List Home) → twice hs ≡ false → repeated (chains_of hs) ≡ false
+    chains_once [] o = refl
+    chains_once (a_chain m ∷ hs) o =
+        let k = or_false (listed (a_chain m) hs) (twice hs) o in
+        both_false (among m (chains_of hs)) (repeated (chains_of hs)) (sym (chain_among m hs) ∙ k.0) (chains_once hs k.1)
+    chains_once (a_library m ∷ hs) o = chains_once hs (or_false (listed (a_library m) hs) (twice hs) o).1
 
--- ---- includes one after the other
+pub put_fault : (old : List Home) (x : Home) (n : Text) (e : ChainError) → twice old ≡ false → listed x old ≡ false → (e ≡ error.NoMemory) ⊎ ((e ≡ error.ChainTooLong) × (length (chains_of old) ≡ 1024) × (x ≡ a_chain n))
+    → IsNextFault old (x ∷ []) e
+put_fault old x n e once new f = ⊎_elim (λ m. inl m)
+    (λ t. inr (t.0, subst (λ y. TooMany old (y ∷ [])) (sym t.2) (too_many old n once t.1 (ap (λ y. listed y old) (sym t.2) ∙ new)))) f
 
-chosen_one : (ks : List Text) (n : Include) → chosen ks (needs_view (n ∷ [])) ≡ known_of ks (n.name.now ∷ [])
-chosen_one ks n = refl
+-- ---- includes and imports one after the other
 
-needed_names : (ns ms : List Include) → needed true (needs_view (ns ++ ms)) ≡ needed true (needs_view ns) ++ needed true (needs_view ms)
-needed_names [] ms = refl
-needed_names (n ∷ ns) ms = ap (λ l. n.name.now ∷ l) (needed_names ns ms)
+pub chosen-append : (ks : List Text) (ns ms : List Need) → chosen ks (ns ++ ms) ≡ chosen ks ns ++ chosen ks ms
+chosen-append ks ns ms = ap (map need_home) (known-append ks ns ms) ∙ map-append need_home (known_of ks ns) (known_of ks ms)
 
-pub chosen-append : (ks : List Text) (ns ms : List Include) → chosen ks (needs_view (ns ++ ms)) ≡ chosen ks (needs_view ns) ++ chosen ks (needs_view ms)
-chosen-append ks ns ms = ap (known_of ks) (needed_names ns ms) ∙ known-append ks (needed true (needs_view ns)) (needed true (needs_view ms))
+views-append : (ns ms : List Include) → needs_view (ns ++ ms) ≡ needs_view ns ++ needs_view ms
+views-append ns ms = map-append need_view ns ms
 
-pub chosen_turn : (ks : List Text) (ns : List Include) (k : ℕ) (d : Include) → k < length ns → chosen ks (needs_view (take (k + 1) ns)) ≡ chosen ks (needs_view (take k ns)) ++ known_of ks ((get_or ns k d).name.now ∷ [])
-chosen_turn ks ns k d lt = ap (λ (l : List Include). chosen ks (needs_view l)) (take_more ns k d lt) ∙ chosen-append ks (take k ns) (get_or ns k d ∷ [])
+pub chosen_turn : (ks : List Text) (ns : List Include) (k : ℕ) (d : Include) → k < length ns → chosen ks (needs_view (take (k + 1) ns)) ≡ chosen ks (needs_view (take k ns)) ++ chosen ks (need_view (get_or ns k d) ∷ [])
+chosen_turn ks ns k d lt =
+    ap (λ (l : List Include). chosen ks (needs_view l)) (take_more ns k d lt) ∙ ap (chosen ks) (views-append (take k ns) (get_or ns k d ∷ [])) ∙ chosen-append ks (needs_view (take k ns)) (need_view (get_or ns k d) ∷ [])
 
 split : {X : Type 0} (xs : List X) (k : ℕ) → take k xs ++ drop k xs ≡ xs
 split [] zero = refl
@@ -136,10 +148,11 @@ split (x ∷ xs) zero = refl
 split (x ∷ xs) (suc k) = ap (λ l. x ∷ l) (split xs k)
 
 pub chosen_all : (ks : List Text) (ns : List Include) (k : ℕ) (d : Include) → k < length ns
-    → chosen ks (needs_view ns) ≡ chosen ks (needs_view (take k ns)) ++ (known_of ks ((get_or ns k d).name.now ∷ []) ++ chosen ks (needs_view (drop (k + 1) ns)))
+    → chosen ks (needs_view ns) ≡ chosen ks (needs_view (take k ns)) ++ (chosen ks (need_view (get_or ns k d) ∷ []) ++ chosen ks (needs_view (drop (k + 1) ns)))
 chosen_all ks ns k d lt =
-    ap (λ (l : List Include). chosen ks (needs_view l)) (sym (split ns k)) ∙ chosen-append ks (take k ns) (drop k ns)
-    ∙ ap (λ l. chosen ks (needs_view (take k ns)) ++ l) (ap (λ (l : List Include). chosen ks (needs_view l)) (drop_more ns k d lt) ∙ chosen-append ks (get_or ns k d ∷ []) (drop (k + 1) ns))
+    let n = get_or ns k d in
+    ap (λ (l : List Include). chosen ks (needs_view l)) (sym (split ns k)) ∙ ap (chosen ks) (views-append (take k ns) (drop k ns)) ∙ chosen-append ks (needs_view (take k ns)) (needs_view (drop k ns))
+    ∙ ap (λ l. chosen ks (needs_view (take k ns)) ++ l) (ap (λ (l : List Include). chosen ks (needs_view l)) (drop_more ns k d lt) ∙ chosen-append ks (need_view n ∷ []) (needs_view (drop (k + 1) ns)))
 
 -- ---- what is met
 
@@ -154,22 +167,17 @@ met_turn P ns k d lt a p = subst (λ (l : List Include). AllByRecursion P (needs
     more [] b = (p, tt)
     more (m ∷ ms) b = (b.0, more ms b.1)
 
-pub next_turn : (old mid new ks : List Text) (ns : List Include) (k : ℕ) (d : Include) (is js : List ℕ) → k < length ns → AreNext old mid (chosen ks (needs_view (take k ns))) is
-    → AddsNext mid new (known_of ks ((get_or ns k d).name.now ∷ [])) is js → AreNext old new (chosen ks (needs_view (take (k + 1) ns))) js
+pub next_turn : (old mid new : List Home) (ks : List Text) (ns : List Include) (k : ℕ) (d : Include) (is js : List ℕ) → k < length ns → AreNext old mid (chosen ks (needs_view (take k ns))) is
+    → AddsNext mid new (chosen ks (need_view (get_or ns k d) ∷ [])) is js → AreNext old new (chosen ks (needs_view (take (k + 1) ns))) js
 next_turn old mid new ks ns k d is js lt p q =
     subst (AreNext old new (chosen ks (needs_view (take (k + 1) ns)))) (sym q.1)
-    (subst (λ l. AreNext old new l (is ++ q.0)) (sym (chosen_turn ks ns k d lt)) (next_both old mid new (chosen ks (needs_view (take k ns))) (known_of ks ((get_or ns k d).name.now ∷ [])) is q.0 p q.2))
+    (subst (λ l. AreNext old new l (is ++ q.0)) (sym (chosen_turn ks ns k d lt)) (next_both old mid new (chosen ks (needs_view (take k ns))) (chosen ks (need_view (get_or ns k d) ∷ [])) is q.0 p q.2))
 
-pub fault_turn : (old mid ks : List Text) (ns : List Include) (k : ℕ) (d : Include) (is : List ℕ) (e : ChainError) → k < length ns → AreNext old mid (chosen ks (needs_view (take k ns))) is
-    → IsNextFault mid (known_of ks ((get_or ns k d).name.now ∷ [])) e → IsNextFault old (chosen ks (needs_view ns)) e
+pub fault_turn : (old mid : List Home) (ks : List Text) (ns : List Include) (k : ℕ) (d : Include) (is : List ℕ) (e : ChainError) → k < length ns → AreNext old mid (chosen ks (needs_view (take k ns))) is
+    → IsNextFault mid (chosen ks (need_view (get_or ns k d) ∷ [])) e → IsNextFault old (chosen ks (needs_view ns)) e
 fault_turn old mid ks ns k d is e lt p f =
     subst (λ l. IsNextFault old l e) (sym (chosen_all ks ns k d lt))
-    (fault_later old mid (chosen ks (needs_view (take k ns))) (known_of ks ((get_or ns k d).name.now ∷ [])) (chosen ks (needs_view (drop (k + 1) ns))) is e p f)
-
-pub number_fault : (old ks : List Text) (x : Text) (e : ChainError) → among x ks ≡ true → repeated old ≡ false → (e ≡ error.NoMemory) ⊎ ((e ≡ error.ChainTooLong) × (length old ≡ 1024) × (among x old ≡ false))
-    → IsNextFault old (known_of ks (x ∷ [])) e
-number_fault old ks x e a once f =
-    ⊎_elim (λ m. inl m) (λ t. inr (t.0, subst (TooMany old) (sym (one_known ks x a)) (too_many old x once t.1 t.2))) f
+    (fault_later old mid (chosen ks (needs_view (take k ns))) (chosen ks (need_view (get_or ns k d) ∷ [])) (chosen ks (needs_view (drop (k + 1) ns))) is e p f)
 
 -- ---- a refusal where a template is included
 

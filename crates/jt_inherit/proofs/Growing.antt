@@ -1,14 +1,14 @@
--- Chains that reach one another, and ask for names, do so when more is read.
-use Rattle.std.proofs.Common.{◌≡◌, ℕ, zero, suc, ◌≤◌, arith, ⊎_elim, Bool, true, false, cond, ◌||◌, List, [], ◌∷◌, ◌++◌, refl, sym, ap, subst, ◌∙◌, Option, Some, None}
+-- Chains and libraries that reach one another, and ask for names, do so when more is read.
+use Rattle.std.proofs.Common.{◌≡◌, ℕ, zero, suc, ◌≤◌, arith, ⊎_elim, map, Bool, true, false, cond, ◌||◌, List, [], ◌∷◌, ◌++◌, refl, sym, ap, subst, ◌∙◌, Option, Some, None}
 use Rattle.std.specs.Prelude.{flat_map, filter}
 use Rattle.std.specs.Option.{is_some}
 use Rattle.std.specs.Str.{bytes_eq}
-use Rattle.std.proofs.lemmas.List.{append_assoc}
+use Rattle.std.proofs.lemmas.List.{append-nil, append_assoc}
 use Rattle.jt_trees.specs.Texts.{among}
 use Rattle.jt_trees.specs.Expressions.{Text}
 use Rattle.jt_trees.specs.Statements.{Body}
-use Rattle.jt_chains.specs.Chain.{Sources, Template, template, templates, extends_of, parent_of, names_up, sources_in}
-use Rattle.jt_chains.specs.Includes.{included, needs_in}
+use Rattle.jt_chains.specs.Chain.{Sources, Home, a_chain, a_library, listed, Template, template, templates, library_template, libraries, libraries_in, extends_of, parent_of, names_up, sources_in}
+use Rattle.jt_chains.specs.Includes.{included, needs_in, with_source}
 use Rattle.jt_chains.specs.Rules.{Asks, Reaches, here, through, asked, way}
 use Rattle.jt_inherit.proofs.Among.{same, reflexive, or_true, among_front, among_behind, among_cases}
 use Rattle.jt_inherit.proofs.Leads.{more_sources}
@@ -103,55 +103,122 @@ pub flat-append : {X Y : Type 0} (f : X → List Y) (xs ys : List X) → flat_ma
 flat-append f [] ys = refl
 flat-append f (x ∷ xs) ys = ap (λ l. f x ++ l) (flat-append f xs ys) ∙ sym (append_assoc (f x) (flat_map f xs) (flat_map f ys))
 
--- ---- ways of chains, one behind the other
+-- ---- homes of some names
 
-pub reaches_then : {s : Sources} {e : Bool} {h k m : Text} → Reaches s e h k → Reaches s e k m → Reaches s e h m
+pub chains_listed : (n : Text) (xs ys : List Text) → listed (a_chain n) (map a_chain xs ++ map a_library ys) ≡ among n xs
+chains_listed n [] ys = none ys
+  where
+    none : (zs : List Text) → listed (a_chain n) (map a_library zs) ≡ false
+    none [] = refl
+    none (z ∷ zs) = none zs
+chains_listed n (x ∷ xs) ys = ap (λ b. bytes_eq x n || b) (chains_listed n xs ys)
+
+pub libraries_listed : (n : Text) (xs ys : List Text) → listed (a_library n) (map a_chain xs ++ map a_library ys) ≡ among n ys
+libraries_listed n [] ys = theirs ys
+  where
+    theirs : (zs : List Text) → listed (a_library n) (map a_library zs) ≡ among n zs
+    theirs [] = refl
+    theirs (z ∷ zs) = ap (λ b. bytes_eq z n || b) (theirs zs)
+libraries_listed n (x ∷ xs) ys = libraries_listed n xs ys
+
+-- where these names are among those
+pub homes_among : (m : Home) (xs ys us vs : List Text) → ((n : Text) → among n xs ≡ true → among n us ≡ true) → ((n : Text) → among n ys ≡ true → among n vs ≡ true)
+    → listed m (map a_chain xs ++ map a_library ys) ≡ true → listed m (map a_chain us ++ map a_library vs) ≡ true
+homes_among (a_chain n) xs ys us vs f g a = chains_listed n us vs ∙ f n (sym (chains_listed n xs ys) ∙ a)
+homes_among (a_library n) xs ys us vs f g a = libraries_listed n us vs ∙ g n (sym (libraries_listed n xs ys) ∙ a)
+
+-- ---- ways of homes, one behind the other
+
+pub reaches_then : {s : Sources} {e : Bool} {h k m : Home} → Reaches s e h k → Reaches s e k m → Reaches s e h m
 reaches_then here b = b
 reaches_then (through a r) b = through a (reaches_then r b)
 
-pub reaches_next : {s : Sources} {e : Bool} {h k m : Text} → Reaches s e h k → among m (included s k) ≡ true → Reaches s e h m
+pub reaches_next : {s : Sources} {e : Bool} {h k m : Home} → Reaches s e h k → listed m (included s k) ≡ true → Reaches s e h m
 reaches_next here a = through a here
 reaches_next (through b r) a = through b (reaches_next r a)
 
 -- ---- what is reached, and asked for, where what is asked for there has the same source
 
-module _ (s r : Sources) (e : Bool) (entry : Text) (g : (n : Text) (b : Body) → Asks r e entry n → s n ≡ Some b → r n ≡ Some b) where
-  pub on_way : (h : Text) → Reaches r e entry h → Carries s r (way r e h)
-  on_way h p n a b = g n b (h, p, among_front n (way r e h) (flat_map (λ t. needs_in true t.body) (templates r h)) a)
+library_more : (s r : Sources) (n : Text) → Carries s r (n ∷ []) → (rest : List Template) × (library_template n (r n) ≡ library_template n (s n) ++ rest)
+library_more s r n g = by (s n) refl
+  where
+    by : (o : Option Body) → s n ≡ o → (rest : List Template) × (library_template n (r n) ≡ library_template n (s n) ++ rest)
+    by None e = (library_template n (r n), sym (ap (λ o. library_template n o ++ library_template n (r n)) e))
+    by (Some b) e = ([], ap (library_template n) (g n (ap (λ c. c || false) (reflexive n)) b e) ∙ sym (ap (library_template n) e) ∙ sym (append-nil (library_template n (s n))))
 
-  -- the first 16 names are among the first 17
-  pub on_first : (h : Text) → Reaches r e entry h → Carries s r (names_up r 16 (Some h))
+module _ (s r : Sources) (e : Bool) (entry : Home) (g : (n : Text) (b : Body) → Asks r e entry n → s n ≡ Some b → r n ≡ Some b) where
+  pub on_way : (h : Home) → Reaches r e entry h → Carries s r (way r e h)
+  on_way h p n a b = g n b (h, p, among_front n (way r e h) (flat_map (λ t. needs_in true t.body) (templates r h) ++ libraries r h) a)
+
+  -- the first 64 names are among the first 65
+  pub on_first : (h : Text) → Reaches r e entry (a_chain h) → Carries s r (names_up r 64 (Some h))
   on_first h p n a b =
-      let more = up_more r 17 16 (Some h) (omega arith) in
-      on_way h p n (ap (among n) more.1 ∙ among_front n (names_up r 16 (Some h)) more.0 a) b
+      let more = up_more r 65 64 (Some h) (omega arith) in
+      on_way (a_chain h) p n (ap (among n) more.1 ∙ among_front n (names_up r 64 (Some h)) more.0 a) b
 
-  pub needs_more : (all : Bool) (h : Text) → Reaches r e entry h → (n : Text) → among n (flat_map (λ t. needs_in all t.body) (templates s h)) ≡ true → among n (flat_map (λ t. needs_in all t.body) (templates r h)) ≡ true
+  -- the libraries of a home
+  pub on_libraries : (h : Home) → Reaches r e entry h → Carries s r (libraries r h)
+  on_libraries h p n a b = g n b (h, p, among_behind n (way r e h) (flat_map (λ t. needs_in true t.body) (templates r h) ++ libraries r h) (among_behind n (flat_map (λ t. needs_in true t.body) (templates r h)) (libraries r h) a))
+
+  -- its way and its templates are the first ones
+  pub way_more : (h : Home) → Reaches r e entry h → (rest : List Text) × (way r e h ≡ way s e h ++ rest)
+  way_more (a_chain n) p = names_more s r 65 (Some n) (on_way (a_chain n) p)
+  way_more (a_library n) p = ([], refl)
+
+  pub home_more : (h : Home) → Reaches r e entry h → (rest : List Template) × (templates r h ≡ templates s h ++ rest)
+  home_more (a_chain n) p = templates_more s r 64 (Some n) (on_first n p)
+  home_more (a_library n) p = library_more s r n (on_way (a_library n) p)
+
+  pub libraries_more : (h : Home) → Reaches r e entry h → (rest : List Text) × (libraries r h ≡ libraries s h ++ rest)
+  libraries_more (a_chain n) p =
+      let f : Template → List Text = λ t. libraries_in t.body in
+      let more = home_more (a_chain n) p in
+      (flat_map f more.0, ap (flat_map f) more.1 ∙ flat-append f (templates s (a_chain n)) more.0)
+  libraries_more (a_library n) p = ([], refl)
+
+  pub needs_more : (all : Bool) (h : Home) → Reaches r e entry h → (n : Text) → among n (flat_map (λ t. needs_in all t.body) (templates s h)) ≡ true → among n (flat_map (λ t. needs_in all t.body) (templates r h)) ≡ true
   needs_more all h p n a =
       let f : Template → List Text = λ t. needs_in all t.body in
-      let more = templates_more s r 16 (Some h) (on_first h p) in
+      let more = home_more h p in
       ap (among n) (ap (flat_map f) more.1 ∙ flat-append f (templates s h) more.0) ∙ among_front n (flat_map f (templates s h)) (flat_map f more.0) a
 
-  pub asked_more : (all : Bool) (h : Text) → Reaches r e entry h → (n : Text) → among n (asked s e all h) ≡ true → among n (asked r e all h) ≡ true
+  pub imports_more : (h : Home) → Reaches r e entry h → (n : Text) → among n (libraries s h) ≡ true → among n (libraries r h) ≡ true
+  imports_more h p n a =
+      let more = libraries_more h p in
+      ap (among n) more.1 ∙ among_front n (libraries s h) more.0 a
+
+  pub asked_more : (all : Bool) (h : Home) → Reaches r e entry h → (n : Text) → among n (asked s e all h) ≡ true → among n (asked r e all h) ≡ true
   asked_more all h p n a =
-      let theirs = flat_map (λ t. needs_in all t.body) (templates r h) in
-      let more = names_more s r 17 (Some h) (on_way h p) in
+      let ours = flat_map (λ t. needs_in all t.body) (templates r h) in
+      let more = way_more h p in
       ⊎_elim
-      (λ q. among_front n (way r e h) theirs (ap (among n) more.1 ∙ among_front n (way s e h) more.0 q))
-      (λ q. among_behind n (way r e h) theirs (needs_more all h p n q))
-      (among_cases n (way s e h) (flat_map (λ t. needs_in all t.body) (templates s h)) a)
+      (λ q. among_front n (way r e h) (ours ++ libraries r h) (ap (among n) more.1 ∙ among_front n (way s e h) more.0 q))
+      (λ q. among_behind n (way r e h) (ours ++ libraries r h)
+      (⊎_elim
+      (λ k. among_front n ours (libraries r h) (needs_more all h p n k))
+      (λ k. among_behind n ours (libraries r h) (imports_more h p n k))
+      (among_cases n (flat_map (λ t. needs_in all t.body) (templates s h)) (libraries s h) q)))
+      (among_cases n (way s e h) (flat_map (λ t. needs_in all t.body) (templates s h) ++ libraries s h) a)
 
-  pub included_more : (h : Text) → Reaches r e entry h → (m : Text) → among m (included s h) ≡ true → among m (included r h) ≡ true
-  included_more h p m a =
-      let k = among_passes (λ n. is_some (s n)) m (flat_map (λ t. needs_in true t.body) (templates s h)) a in
-      let needed = needs_more true h p m k.0 in
-      passes_among (λ n. is_some (r n)) m (flat_map (λ t. needs_in true t.body) (templates r h)) needed
-      (by (s m) refl k.1 (h, p, among_behind m (way r e h) (flat_map (λ t. needs_in true t.body) (templates r h)) needed))
+  -- those of them that have a source
+  sourced : (h : Home) → Reaches r e entry h → (xs ys : List Text) → ((n : Text) → among n xs ≡ true → among n ys ≡ true) → ((n : Text) → among n ys ≡ true → Asks r e entry n) → (n : Text) → among n (with_source s xs) ≡ true → among n (with_source r ys) ≡ true
+  sourced h p xs ys f asks n a =
+      let k = among_passes (λ m. is_some (s m)) n xs a in
+      passes_among (λ m. is_some (r m)) n ys (f n k.0) (by (s n) refl k.1 (asks n (f n k.0)))
     where
-      by : (o : Option Body) → s m ≡ o → is_some o ≡ true → Asks r e entry m → is_some (r m) ≡ true
+      by : (o : Option Body) → s n ≡ o → is_some o ≡ true → Asks r e entry n → is_some (r n) ≡ true
       by None q t i = absurd (cc)
-      by (Some b) q t i = ap is_some (g m b i q)
+      by (Some b) q t i = ap is_some (g n b i q)
 
-  pub reaches_more : {h k : Text} → Reaches r e entry h → Reaches s e h k → Reaches r e h k
+  pub included_more : (h : Home) → Reaches r e entry h → (m : Home) → listed m (included s h) ≡ true → listed m (included r h) ≡ true
+  included_more h p m a =
+      let mine = flat_map (λ t. needs_in true t.body) (templates s h) in
+      let ours = flat_map (λ t. needs_in true t.body) (templates r h) in
+      homes_among m (with_source s mine) (with_source s (libraries s h)) (with_source r ours) (with_source r (libraries r h))
+      (sourced h p mine ours (needs_more true h p) (λ n q. (h, p, among_behind n (way r e h) (ours ++ libraries r h) (among_front n ours (libraries r h) q))))
+      (sourced h p (libraries s h) (libraries r h) (imports_more h p) (λ n q. (h, p, among_behind n (way r e h) (ours ++ libraries r h) (among_behind n ours (libraries r h) q)))) a
+
+  pub reaches_more : {h k : Home} → Reaches r e entry h → Reaches s e h k → Reaches r e h k
   reaches_more p here = here
   reaches_more p (through {h} {m} a rest) = through (included_more h p m a) (reaches_more (reaches_next p (included_more h p m a)) rest)
 
@@ -160,10 +227,10 @@ module _ (s r : Sources) (e : Bool) (entry : Text) (g : (n : Text) (b : Body) �
       let p = reaches_more here x.1 in
       (x.0, p, asked_more true x.0 p n x.2)
 
-pub reach_more : (ts us more : List Template) (e : Bool) (h k : Text) → us ≡ ts ++ more → Reaches (sources_in ts) e h k → Reaches (sources_in us) e h k
+pub reach_more : (ts us more : List Template) (e : Bool) (h k : Home) → us ≡ ts ++ more → Reaches (sources_in ts) e h k → Reaches (sources_in us) e h k
 reach_more ts us more e h k grown r =
     subst (λ vs. Reaches (sources_in vs) e h k) (sym grown) (reaches_more (sources_in ts) (sources_in (ts ++ more)) e h (λ n b i. more_sources ts more n b) here r)
 
-pub ask_more : (ts us more : List Template) (e : Bool) (h n : Text) → us ≡ ts ++ more → Asks (sources_in ts) e h n → Asks (sources_in us) e h n
+pub ask_more : (ts us more : List Template) (e : Bool) (h : Home) (n : Text) → us ≡ ts ++ more → Asks (sources_in ts) e h n → Asks (sources_in us) e h n
 ask_more ts us more e h n grown i =
     subst (λ vs. Asks (sources_in vs) e h n) (sym grown) (asks_more (sources_in ts) (sources_in (ts ++ more)) e h (λ m b k. more_sources ts more m b) n i)

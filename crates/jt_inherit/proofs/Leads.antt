@@ -11,7 +11,7 @@ use Rattle.jt_trees.specs.Texts.{among, repeated}
 use Rattle.jt_trees.specs.Expressions.{Text}
 use Rattle.jt_trees.specs.Statements.{Body, end}
 use Rattle.jt_chains.specs.Along.{ArePlaces, templates_at}
-use Rattle.jt_chains.specs.Chain.{Sources, Template, template, templates, extends_of, parent_of, names_up, sources_in}
+use Rattle.jt_chains.specs.Chain.{Sources, Home, a_chain, a_library, Template, template, templates, libraries, extends_of, parent_of, names_up, sources_in}
 use Rattle.jt_inherit.specs.Chains.{Given, IsRead, IsOnly}
 use Rattle.jt_inherit.specs.Faults.{IsFaultOf}
 use Rattle.jt_chains.specs.Includes.{needs_in}
@@ -19,7 +19,7 @@ use Rattle.jt_chains.specs.Pages.{page_view, pages_view}
 use Rattle.jt_chains.specs.declared.linked.Page.{Page}
 use Rattle.jt_inherit.specs.Refusals.{Breaks}
 use Rattle.jt_chains.specs.Rules.{Reaches, asked, way}
-use Rattle.jt_inherit.specs.Ways.{Leads, AreKnown, IsWay, IsWithin}
+use Rattle.jt_inherit.specs.Ways.{Leads, LeadsFrom, AreKnown, IsWay, IsWithin}
 use Rattle.jt_inherit.specs.declared.error.ChainError.{ChainError}
 use Rattle.jt_inherit.specs.declared.error.ChainError.TheVariants as error
 use Rattle.jt_inherit.proofs.Among.{reflexive, or_false, among_front, among_next, once_more, comes_again, map_more, all_more}
@@ -90,15 +90,15 @@ templates_lead s None (t ∷ ts) p l = absurd l
 templates_lead s (Some n) (t ∷ ts) p l =
     ap (λ b. template t.name b ++ flat_map (λ m. template m (s m)) (names ts)) (ap s l.0 ∙ l.1) ∙ ap (λ xs. t ∷ xs) (templates_lead s (extends_of t.body) ts p l.2)
 
-pub templates_to_root : (s : Sources) (h : Text) (ts : List Template) → length ts ≤ 16 → Leads s (Some h) ts None → templates s h ≡ ts
-templates_to_root s h ts le l = ap (flat_map (λ n. template n (s n))) (names_to_root s 16 (Some h) ts le l) ∙ templates_lead s (Some h) ts None l
+pub templates_to_root : (s : Sources) (h : Text) (ts : List Template) → length ts ≤ 64 → Leads s (Some h) ts None → templates s (a_chain h) ≡ ts
+templates_to_root s h ts le l = ap (flat_map (λ n. template n (s n))) (names_to_root s 64 (Some h) ts le l) ∙ templates_lead s (Some h) ts None l
 
 -- the next name is asked for
-pub next_asked : (s : Sources) (e all : Bool) (h : Text) (ts : List Template) (n : Text) → length ts ≤ 16 → Leads s (Some h) ts (Some n) → among n (asked s e all h) ≡ true
+pub next_asked : (s : Sources) (e all : Bool) (h : Text) (ts : List Template) (n : Text) → length ts ≤ 64 → Leads s (Some h) ts (Some n) → among n (asked s e all (a_chain h)) ≡ true
 next_asked s e all h ts n le l =
-    let k = 16 - length ts in
-    let up : way s e h ≡ names ts ++ names_up s (suc k) (Some n) = names_lead s 17 (suc k) (Some h) ts (Some n) (omega arith) l in
-    among_front n (way s e h) (flat_map (λ t. needs_in all t.body) (templates s h))
+    let k = 64 - length ts in
+    let up : way s e (a_chain h) ≡ names ts ++ names_up s (suc k) (Some n) = names_lead s 65 (suc k) (Some h) ts (Some n) (omega arith) l in
+    among_front n (way s e (a_chain h)) (flat_map (λ t. needs_in all t.body) (templates s (a_chain h)) ++ libraries s (a_chain h))
     (subst (λ xs. among n xs ≡ true) (sym up) (among_next n (names ts) (names_up s k (parent_of (s n)))))
 
 -- ---- templates at places, as more are read
@@ -186,21 +186,25 @@ template_named (t ∷ ts) (suc i) n e = template_named ts i n e
 
 -- ---- ways
 
-pub way_begins : (ts : List Template) (h n : Text) → h ≡ n → IsWay ts h [] (Some n)
+pub way_begins : (ts : List Template) (h n : Text) → h ≡ n → IsWay ts (a_chain h) [] (Some n)
 way_begins ts h n e = record { places = tt; leads = ap Some e; once = refl; few = omega arith }
 
-pub way_grows : (ts us : List Template) (h : Text) (is : List ℕ) (p : Option Text) → IsWay ts h is p → IsWay (ts ++ us) h is p
+from_grows : (s r : Sources) → Grows s r → (h : Home) (ts : List Template) (p : Option Text) → LeadsFrom s h ts p → LeadsFrom r h ts p
+from_grows s r g (a_chain n) ts p l = leads_grow s r g (Some n) ts p l
+from_grows s r g (a_library n) ts p l = record { template = l.template; only = l.only; named = l.named; source = g n l.template.body l.source; holds = l.holds; last = l.last }
+
+pub way_grows : (ts us : List Template) (h : Home) (is : List ℕ) (p : Option Text) → IsWay ts h is p → IsWay (ts ++ us) h is p
 way_grows ts us h is p w =
     let e = sym (templates_grow ts us is w.places) in
     record {
       places = places_grow ts us is w.places;
-      leads = subst (λ vs. Leads (sources_in (ts ++ us)) (Some h) vs p) e (leads_grow (sources_in ts) (sources_in (ts ++ us)) (more_sources ts us) (Some h) (templates_at ts is) p w.leads);
+      leads = subst (λ vs. LeadsFrom (sources_in (ts ++ us)) h vs p) e (from_grows (sources_in ts) (sources_in (ts ++ us)) (more_sources ts us) h (templates_at ts is) p w.leads);
       once = subst (λ vs. repeated (names vs) ≡ false) e w.once;
       few = w.few;
     }
 
-pub way_next : (ts : List Template) (h : Text) (is : List ℕ) (i : ℕ) (t : Template) (n : Text) → IsWay ts h is (Some n) → slice_get ts i ≡ Some t → t.name ≡ n → among n (names (templates_at ts is)) ≡ false
-    → repeated (names ts) ≡ false → length is < 16 → IsWay ts h (is ++ i ∷ []) (extends_of t.body)
+pub way_next : (ts : List Template) (h : Text) (is : List ℕ) (i : ℕ) (t : Template) (n : Text) → IsWay ts (a_chain h) is (Some n) → slice_get ts i ≡ Some t → t.name ≡ n → among n (names (templates_at ts is)) ≡ false
+    → repeated (names ts) ≡ false → length is < 64 → IsWay ts (a_chain h) (is ++ i ∷ []) (extends_of t.body)
 way_next ts h is i t n w at is_named new once lt =
     let e = sym (templates_more ts is i t at) in
     let us = templates_at ts is in
@@ -215,38 +219,8 @@ way_next ts h is i t n w at is_named new once lt =
 
 -- ---- a chain that is reached, and what is wrong on its way
 
-module _ (given : Given) (options : Options) (root : Text) (ts : List Template) {ks : List Text} (known : AreKnown given options ts ks) (h : Text) (r : Reaches (sources_in ts) options.autoescape root h) where
-  pub cycle_breaks : (is : List ℕ) (n : Text) → IsWay ts h is (Some n) → among n (names (templates_at ts is)) ≡ true → Breaks error.ExtendsCycle given root options
-  cycle_breaks is n w there =
-      let s = sources_in ts in
-      let us = templates_at ts is in
-      let up : names_up s (length us + 1) (Some h) ≡ names us ++ n ∷ [] = names_lead s (length us + 1) 1 (Some h) us (Some n) refl w.leads in
-      record {
-        templates = ts;
-        read = known.read;
-        only = known.only;
-        holds = (h, r, (length us + 1, ap repeated up ∙ comes_again n (names us) there));
-      }
-
-  pub long_breaks : (is : List ℕ) (n : Text) → IsWay ts h is (Some n) → length is ≡ 16 → among n (names (templates_at ts is)) ≡ false → Breaks error.ChainTooLong given root options
-  long_breaks is n w full new =
-      let s = sources_in ts in
-      let us = templates_at ts is in
-      let len : length us ≡ 16 = all_templates ts is w.places ∙ full in
-      let up : way s options.autoescape h ≡ names us ++ n ∷ [] = names_lead s 17 1 (Some h) us (Some n) (omega (arith, len)) w.leads in
-      record {
-        templates = ts;
-        read = known.read;
-        only = known.only;
-        holds = inl (h, r, subst (λ xs. ((length xs == 17) && not (repeated xs)) ≡ true) (sym up) (seventeen n us len (once_more n (names us) w.once new)));
-      }
-    where
-      seventeen : (n : Text) (us : List Template) → length us ≡ 16 → repeated (names us ++ n ∷ []) ≡ false → ((length (names us ++ n ∷ []) == 17) && not (repeated (names us ++ n ∷ []))) ≡ true
-      seventeen n us len o =
-          let count : length (names us ++ n ∷ []) ≡ 17 = length-append (names us) (n ∷ []) ∙ ap (λ k. k + 1) (length-map us (λ (u : Template). u.name) ∙ len) in
-          ap (λ k. (k == 17) && not (repeated (names us ++ n ∷ []))) count ∙ ap not o
-
-  -- a refusal of a template that the chain asks for
+module _ (given : Given) (options : Options) (root : Text) (ts : List Template) {ks : List Text} (known : AreKnown given options ts ks) (h : Home) (r : Reaches (sources_in ts) options.autoescape (a_chain root) h) where
+  -- a refusal of a template that a chain or a library asks for
   pub asked_breaks : (n : Text) (e : ChainError) → among n (asked (sources_in ts) options.autoescape true h) ≡ true → (e ≡ error.Missing → among n (asked (sources_in ts) options.autoescape false h) ≡ true)
       → IsFaultOf e given n options → Breaks e given root options
   asked_breaks n error.Missing a must f = record { name = n; reached = record { templates = ts; read = known.read; only = known.only; holds = (h, r, must refl) }; found = f }
@@ -275,11 +249,44 @@ module _ (given : Given) (options : Options) (root : Text) (ts : List Template) 
   asked_breaks n error.NoSuper a must f = absurd f
   asked_breaks n error.IncludeCycle a must f = absurd f
   asked_breaks n error.MacroTwice a must f = absurd f
+  asked_breaks n error.NoMacro a must f = absurd f
+  asked_breaks n error.NotALibrary a must f = absurd f
 
-  pub fault_breaks : (is : List ℕ) (n : Text) → IsWay ts h is (Some n) → (e : ChainError) → IsFaultOf e given n options → Breaks e given root options
+module _ (given : Given) (options : Options) (root : Text) (ts : List Template) {ks : List Text} (known : AreKnown given options ts ks) (h : Text) (r : Reaches (sources_in ts) options.autoescape (a_chain root) (a_chain h)) where
+  pub cycle_breaks : (is : List ℕ) (n : Text) → IsWay ts (a_chain h) is (Some n) → among n (names (templates_at ts is)) ≡ true → Breaks error.ExtendsCycle given root options
+  cycle_breaks is n w there =
+      let s = sources_in ts in
+      let us = templates_at ts is in
+      let up : names_up s (length us + 1) (Some h) ≡ names us ++ n ∷ [] = names_lead s (length us + 1) 1 (Some h) us (Some n) refl w.leads in
+      record {
+        templates = ts;
+        read = known.read;
+        only = known.only;
+        holds = (a_chain h, r, (h, refl, length us + 1, ap repeated up ∙ comes_again n (names us) there));
+      }
+
+  pub long_breaks : (is : List ℕ) (n : Text) → IsWay ts (a_chain h) is (Some n) → length is ≡ 64 → among n (names (templates_at ts is)) ≡ false → Breaks error.ChainTooLong given root options
+  long_breaks is n w full new =
+      let s = sources_in ts in
+      let us = templates_at ts is in
+      let len : length us ≡ 64 = all_templates ts is w.places ∙ full in
+      let up : way s options.autoescape (a_chain h) ≡ names us ++ n ∷ [] = names_lead s 65 1 (Some h) us (Some n) (omega (arith, len)) w.leads in
+      record {
+        templates = ts;
+        read = known.read;
+        only = known.only;
+        holds = inl (a_chain h, r, subst (λ xs. ((length xs == 65) && not (repeated xs)) ≡ true) (sym up) (sixty_five n us len (once_more n (names us) w.once new)));
+      }
+    where
+      sixty_five : (n : Text) (us : List Template) → length us ≡ 64 → repeated (names us ++ n ∷ []) ≡ false → ((length (names us ++ n ∷ []) == 65) && not (repeated (names us ++ n ∷ []))) ≡ true
+      sixty_five n us len o =
+          let count : length (names us ++ n ∷ []) ≡ 65 = length-append (names us) (n ∷ []) ∙ ap (λ k. k + 1) (length-map us (λ (u : Template). u.name) ∙ len) in
+          ap (λ k. (k == 65) && not (repeated (names us ++ n ∷ []))) count ∙ ap not o
+
+  pub fault_breaks : (is : List ℕ) (n : Text) → IsWay ts (a_chain h) is (Some n) → (e : ChainError) → IsFaultOf e given n options → Breaks e given root options
   fault_breaks is n w e f =
-      let few : length (templates_at ts is) ≤ 16 = omega (arith, few_templates ts is, w.few) in
-      asked_breaks n e (next_asked (sources_in ts) options.autoescape true h (templates_at ts is) n few w.leads)
+      let few : length (templates_at ts is) ≤ 64 = omega (arith, few_templates ts is, w.few) in
+      asked_breaks given options root ts known (a_chain h) r n e (next_asked (sources_in ts) options.autoescape true h (templates_at ts is) n few w.leads)
       (λ q. next_asked (sources_in ts) options.autoescape false h (templates_at ts is) n few w.leads) f
 
 -- ---- pages, one more
@@ -303,22 +310,22 @@ pub on_way : (ps qs : List Page) (is js : List ℕ) (n m : Text) (b : Bool) → 
 on_way ps qs is js n m b p q r e =
     e ∙ ap (λ (z : List Page). among m (names (templates_at (pages_view z) js))) p ∙ ap (λ (z : List ℕ). among m (names (templates_at (pages_view ps) z))) q ∙ ap (λ (z : Text). among z (names (templates_at (pages_view ps) is))) r
 
-name_of_slice : (ts : List Template) (i : ℕ) (t : Template) → slice_get ts i ≡ Some t → slice_get (names ts) i ≡ Some t.name
+pub name_of_slice : (ts : List Template) (i : ℕ) (t : Template) → slice_get ts i ≡ Some t → slice_get (names ts) i ≡ Some t.name
 name_of_slice [] i t e = absurd (cc)
 name_of_slice (u ∷ ts) zero t e =
     let h : u ≡ t = cc in
     ap (λ (z : Template). Some z.name) h
 name_of_slice (u ∷ ts) (suc i) t e = name_of_slice ts i t e
 
-pub way_turn : (ts us more : List Template) → us ≡ ts ++ more → (h : Text) (is js : List ℕ) (i : ℕ) (n m : Text) (o : Option Text) (t : Template) → IsWay ts h is (Some n) → among n (names (templates_at ts is)) ≡ false
-    → length is < 16 → repeated (names us) ≡ false → slice_get (names us) i ≡ Some m → m ≡ n → js ≡ is ++ i ∷ [] → slice_get us i ≡ Some t → o ≡ extends_of t.body → IsWay us h js o
+pub way_turn : (ts us more : List Template) → us ≡ ts ++ more → (h : Text) (is js : List ℕ) (i : ℕ) (n m : Text) (o : Option Text) (t : Template) → IsWay ts (a_chain h) is (Some n) → among n (names (templates_at ts is)) ≡ false
+    → length is < 64 → repeated (names us) ≡ false → slice_get (names us) i ≡ Some m → m ≡ n → js ≡ is ++ i ∷ [] → slice_get us i ≡ Some t → o ≡ extends_of t.body → IsWay us (a_chain h) js o
 way_turn ts us more e h is js i n m o t w new lt once at same_name longer there ext =
-    let grown : IsWay us h is (Some n) = subst (λ vs. IsWay vs h is (Some n)) (sym e) (way_grows ts more h is (Some n) w) in
+    let grown : IsWay us (a_chain h) is (Some n) = subst (λ vs. IsWay vs (a_chain h) is (Some n)) (sym e) (way_grows ts more (a_chain h) is (Some n) w) in
     let fresh : among n (names (templates_at us is)) ≡ false = ap (λ vs. among n (names (templates_at vs is))) e ∙ ap (λ vs. among n (names vs)) (templates_grow ts more is w.places) ∙ new in
     let told : Some t.name ≡ Some m = sym (name_of_slice us i t there) ∙ at in
     let named : t.name ≡ m = cc in
     let next = way_next us h is i t n grown there (named ∙ same_name) fresh once lt in
-    subst (λ z. IsWay us h z o) (sym longer) (subst (IsWay us h (is ++ i ∷ [])) (sym ext) next)
+    subst (λ z. IsWay us (a_chain h) z o) (sym longer) (subst (IsWay us (a_chain h) (is ++ i ∷ [])) (sym ext) next)
 
 -- what was new before, and the template that is put on the way
 pub way_from : (ts us more : List Template) → us ≡ ts ++ more → (is js : List ℕ) (i : ℕ) (n m : Text) (t : Template) → ArePlaces ts is → slice_get (names us) i ≡ Some m → m ≡ n → js ≡ is ++ i ∷ [] → slice_get us i ≡ Some t → (k0 k1 k2 : List Text)

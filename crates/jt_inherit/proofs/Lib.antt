@@ -1,3 +1,4 @@
+pub mod Alone
 pub mod Among
 pub mod Carried
 pub mod Checked
@@ -7,6 +8,9 @@ pub mod Fewer
 pub mod Finding
 pub mod Following
 pub mod Growing
+pub mod HomeSets
+pub mod Homes
+pub mod Imported
 pub mod Leads
 pub mod Lengths
 pub mod Listed
@@ -18,5 +22,7 @@ pub mod Ordered
 pub mod Raws
 pub mod Ruled
 pub mod Settled
+pub mod Shelved
 pub mod SuperIn
+pub mod Weighed
 pub mod Whole

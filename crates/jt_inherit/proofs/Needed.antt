@@ -32,6 +32,8 @@ mutual
   by_statement all (trees.data_of x) = refl
   by_statement all (trees.print line e) = refl
   by_statement all (trees.set line xs e) = refl
+  by_statement all (trees.import_as line n x) = refl
+  by_statement all (trees.import_from line n xs) = refl
   by_statement all (trees.extends line x) = refl
 
   pub by_body : (all : Bool) (b : Body) → needed all (includes_in b) ≡ needs_in all b
@@ -45,7 +47,3 @@ mutual
 pub by_templates : (all : Bool) (ts : List Template) → needed all (flat_map (λ t. includes_in t.body) ts) ≡ flat_map (λ t. needs_in all t.body) ts
 by_templates all [] = refl
 by_templates all (t ∷ ts) = both all (includes_in t.body) (flat_map (λ u. includes_in u.body) ts) (needs_in all t.body) (flat_map (λ u. needs_in all u.body) ts) (by_body all t.body) (by_templates all ts)
-
--- without includes they need none
-pub need_none : (ts : List Template) → flat_map (λ t. includes_in t.body) ts ≡ [] → (all : Bool) → flat_map (λ t. needs_in all t.body) ts ≡ []
-need_none ts e all = sym (by_templates all ts) ∙ ap (needed all) e

@@ -7,7 +7,7 @@ use Rattle.jt_scan.specs.declared.options.Options.{Options}
 use Rattle.jt_trees.specs.Texts.{among}
 use Rattle.jt_trees.specs.Expressions.{Text}
 use Rattle.jt_trees.specs.Statements.{Body}
-use Rattle.jt_chains.specs.Chain.{Sources, Template, sources_in}
+use Rattle.jt_chains.specs.Chain.{Sources, a_chain, Template, sources_in}
 use Rattle.jt_inherit.specs.Chains.{Given, IsTree, IsRead, IsOnly, IsChain}
 use Rattle.jt_inherit.specs.Refusals.{Breaks, Shows, HasFault, IsUncut, IsUnspelled}
 use Rattle.jt_chains.specs.Rules as rules
@@ -58,15 +58,15 @@ module _ (given : Given) (options : Options) where
       λ none. let no : None ≡ Some r.source = sym none ∙ r.found in absurd (cc)
 
   module _ (entry : Text) (d : Seen) (is : IsChain given entry options d) where
-    d_asked : (n : Text) → (among n (names d.templates) ≡ true) ↔ (Asks (sources_of d) options.autoescape entry n × (given n ≢ None))
-    d_asked = subst (λ e. (n : Text) → (among n (names d.templates) ≡ true) ↔ (Asks (sources_of d) e entry n × (given n ≢ None))) is.escaping is.asked
+    d_asked : (n : Text) → (among n (names d.templates) ≡ true) ↔ (Asks (sources_of d) options.autoescape (a_chain entry) n × (given n ≢ None))
+    d_asked = subst (λ e. (n : Text) → (among n (names d.templates) ≡ true) ↔ (Asks (sources_of d) e (a_chain entry) n × (given n ≢ None))) is.escaping is.asked
 
-    d_keeps : KeepsRules (sources_of d) options.autoescape entry
-    d_keeps = subst (λ e. KeepsRules (sources_of d) e entry) is.escaping is.rules
+    d_keeps : KeepsRules (sources_of d) options.autoescape (a_chain entry)
+    d_keeps = subst (λ e. KeepsRules (sources_of d) e (a_chain entry)) is.escaping is.rules
 
     -- what the chain asks for and was read in the only way has the same tree in it
     module _ (ts : List Template) (read : AllByRecursion (IsRead given options) ts) (only : AllByRecursion (IsOnly given options) ts) where
-      pub into : (n : Text) (b : Body) → Asks (sources_of d) options.autoescape entry n → sources_in ts n ≡ Some b → sources_of d n ≡ Some b
+      pub into : (n : Text) (b : Body) → Asks (sources_of d) options.autoescape (a_chain entry) n → sources_in ts n ≡ Some b → sources_of d n ≡ Some b
       into n b i e =
           let c = named_source d.templates n ((d_asked n).1 (i, has_source ts n b read e)) in
           let one = source_read (IsOnly given options) ts n b only e c.0 (source_read (IsRead given options) d.templates n c.0 is.read.each c.1) in
@@ -75,14 +75,14 @@ module _ (given : Given) (options : Options) where
     -- ---- a broken rule
 
     -- nothing that is shown of what was read may be false of the chain
-    shown : (P : Sources → Type 0) → ((s : Sources) → ((n : Text) (b : Body) → Asks (sources_of d) options.autoescape entry n → s n ≡ Some b → sources_of d n ≡ Some b) → P s → ⊥) → Shows given options P → ⊥
+    shown : (P : Sources → Type 0) → ((s : Sources) → ((n : Text) (b : Body) → Asks (sources_of d) options.autoescape (a_chain entry) n → s n ≡ Some b → sources_of d n ≡ Some b) → P s → ⊥) → Shows given options P → ⊥
     shown P none x = none (sources_in x.templates) (into x.templates x.read.each x.only) x.holds
 
     -- a name that is asked for has a tree or no source
     no_fault : (n : Text) (P : Text → Type 0) → HasFault given entry options n P → ⊥
     no_fault n P x =
         let s = sources_in x.reached.templates in
-        let i = asks_more s (sources_of d) options.autoescape entry (into x.reached.templates x.reached.read.each x.reached.only) n x.reached.holds in
+        let i = asks_more s (sources_of d) options.autoescape (a_chain entry) (into x.reached.templates x.reached.read.each x.reached.only) n x.reached.holds in
         let c = named_source d.templates n ((d_asked n).1 (i, λ none. let no : None ≡ Some x.source = sym none ∙ x.found in absurd (cc))) in
         let r = source_read (IsRead given options) d.templates n c.0 is.read.each c.1 in
         let told : Some r.source ≡ Some x.source = sym r.found ∙ x.found in
@@ -94,8 +94,8 @@ module _ (given : Given) (options : Options) where
         let s = sources_in x.reached.templates in
         let g = into x.reached.templates x.reached.read.each x.reached.only in
         let h = x.reached.holds in
-        let p = reaches_more s (sources_of d) options.autoescape entry g here h.1 in
-        absurd (d_keeps.missing (h.0, p, any_at (λ n. is_none (sources_of d n)) x.name (asked (sources_of d) options.autoescape false h.0) (asked_more s (sources_of d) options.autoescape entry g false h.0 p x.name h.2) (unread x.name x.found)))
+        let p = reaches_more s (sources_of d) options.autoescape (a_chain entry) g here h.1 in
+        absurd (d_keeps.missing (h.0, p, any_at (λ n. is_none (sources_of d n)) x.name (asked (sources_of d) options.autoescape false h.0) (asked_more s (sources_of d) options.autoescape (a_chain entry) g false h.0 p x.name h.2) (unread x.name x.found)))
       where
         unread : (n : Text) → given n ≡ None → is_none (sources_of d n) ≡ true
         unread n none = by (sources_of d n) refl
@@ -103,15 +103,17 @@ module _ (given : Given) (options : Options) where
             by : (o : Option Body) → sources_of d n ≡ o → is_none o ≡ true
             by None e = refl
             by (Some b) e = absurd (has_source d.templates n b is.read.each e none)
-    no_chain error.BadName x = absurd (shown (λ s. rules.BadName s options.autoescape entry) (λ s g b. d_keeps.bad_name (carried.bad_name s (sources_of d) options.autoescape entry g b)) x)
+    no_chain error.BadName x = absurd (shown (λ s. rules.BadName s options.autoescape (a_chain entry)) (λ s g b. d_keeps.bad_name (carried.bad_name s (sources_of d) options.autoescape (a_chain entry) g b)) x)
     no_chain error.ExtendsCycle x =
-        absurd (shown (λ s. rules.ExtendsCycle s options.autoescape entry) (λ s g b. ⊎_elim d_keeps.extends_cycle d_keeps.too_long (carried.extends_cycle s (sources_of d) options.autoescape entry g b)) x)
-    no_chain error.ChainTooLong x = absurd (shown (λ s. rules.ChainTooLong s options.autoescape entry) (λ s g b. d_keeps.too_long (carried.too_long s (sources_of d) options.autoescape entry g b)) x)
-    no_chain error.DoubleBlock x = absurd (shown (λ s. rules.DoubleBlock s options.autoescape entry) (λ s g b. d_keeps.double_block (carried.double_block s (sources_of d) options.autoescape entry g b)) x)
-    no_chain error.RequiredNotGiven x = absurd (shown (λ s. rules.RequiredNotGiven s options.autoescape entry) (λ s g b. d_keeps.required_not_given (carried.required_not_given s (sources_of d) options.autoescape entry g b)) x)
-    no_chain error.NoSuper x = absurd (shown (λ s. rules.NoSuper s options.autoescape entry) (λ s g b. d_keeps.no_super (carried.no_super s (sources_of d) options.autoescape entry g b)) x)
-    no_chain error.IncludeCycle x = absurd (shown (λ s. rules.IncludeCycle s options.autoescape entry) (λ s g b. d_keeps.include_cycle (carried.include_cycle s (sources_of d) options.autoescape entry g b)) x)
-    no_chain error.MacroTwice x = absurd (shown (λ s. rules.MacroTwice s options.autoescape entry) (λ s g b. d_keeps.macro_twice (carried.macro_twice s (sources_of d) options.autoescape entry g b)) x)
+        absurd (shown (λ s. rules.ExtendsCycle s options.autoescape (a_chain entry)) (λ s g b. ⊎_elim d_keeps.extends_cycle d_keeps.too_long (carried.extends_cycle s (sources_of d) options.autoescape (a_chain entry) g b)) x)
+    no_chain error.ChainTooLong x = absurd (shown (λ s. rules.ChainTooLong s options.autoescape (a_chain entry)) (λ s g b. d_keeps.too_long (carried.too_long s (sources_of d) options.autoescape (a_chain entry) g b)) x)
+    no_chain error.DoubleBlock x = absurd (shown (λ s. rules.DoubleBlock s options.autoescape (a_chain entry)) (λ s g b. d_keeps.double_block (carried.double_block s (sources_of d) options.autoescape (a_chain entry) g b)) x)
+    no_chain error.RequiredNotGiven x = absurd (shown (λ s. rules.RequiredNotGiven s options.autoescape (a_chain entry)) (λ s g b. d_keeps.required_not_given (carried.required_not_given s (sources_of d) options.autoescape (a_chain entry) g b)) x)
+    no_chain error.NoSuper x = absurd (shown (λ s. rules.NoSuper s options.autoescape (a_chain entry)) (λ s g b. d_keeps.no_super (carried.no_super s (sources_of d) options.autoescape (a_chain entry) g b)) x)
+    no_chain error.IncludeCycle x = absurd (shown (λ s. rules.IncludeCycle s options.autoescape (a_chain entry)) (λ s g b. d_keeps.include_cycle (carried.include_cycle s (sources_of d) options.autoescape (a_chain entry) g b)) x)
+    no_chain error.MacroTwice x = absurd (shown (λ s. rules.MacroTwice s options.autoescape (a_chain entry)) (λ s g b. d_keeps.macro_twice (carried.macro_twice s (sources_of d) options.autoescape (a_chain entry) g b)) x)
+    no_chain error.NoMacro x = absurd (shown (λ s. rules.NoMacro s options.autoescape (a_chain entry)) (λ s g b. d_keeps.no_macro (carried.no_macro s (sources_of d) options.autoescape (a_chain entry) g b)) x)
+    no_chain error.NotALibrary x = absurd (shown (λ s. rules.NotALibrary s options.autoescape (a_chain entry)) (λ s g b. d_keeps.not_a_library (carried.not_a_library s (sources_of d) options.autoescape (a_chain entry) g b)) x)
     no_chain error.NoMemory x = refl
     no_chain (error.Scan n e) x = absurd (no_fault (string_bytes n) (IsUncut e options) x)
     no_chain (error.Parse n e) x = absurd (no_fault (string_bytes n) (IsUnspelled e options) x)
@@ -120,7 +122,7 @@ module _ (given : Given) (options : Options) where
 
   module _ (entry : Text) (c d : Seen) (ic : IsChain given entry options c) (id : IsChain given entry options d) (only : AllByRecursion (IsOnly given options) c.templates) where
     -- what the other chain asks for has the same tree in this one
-    back : (n : Text) (b : Body) → Asks (sources_of c) options.autoescape entry n → sources_of d n ≡ Some b → sources_of c n ≡ Some b
+    back : (n : Text) (b : Body) → Asks (sources_of c) options.autoescape (a_chain entry) n → sources_of d n ≡ Some b → sources_of c n ≡ Some b
     back n b i e =
         let f = named_source c.templates n ((d_asked entry c ic n).1 (i, has_source d.templates n b id.read.each e)) in
         let one = source_read (IsOnly given options) c.templates n f.0 only f.1 b (source_read (IsRead given options) d.templates n b id.read.each e) in
@@ -131,10 +133,10 @@ module _ (given : Given) (options : Options) where
       where
         by : (o : Option Body) → sources_of c n ≡ o → (q : Option Body) → sources_of d n ≡ q → sources_of c n ≡ sources_of d n
         by (Some b) e q f =
-            let i = asks_more (sources_of c) (sources_of d) options.autoescape entry (into entry d id c.templates ic.read.each only) n ((d_asked entry c ic n).0 (source_named c.templates n b e)).0 in
+            let i = asks_more (sources_of c) (sources_of d) options.autoescape (a_chain entry) (into entry d id c.templates ic.read.each only) n ((d_asked entry c ic n).0 (source_named c.templates n b e)).0 in
             e ∙ sym (into entry d id c.templates ic.read.each only n b i e)
         by None e (Some b) f =
-            let i = asks_more (sources_of d) (sources_of c) options.autoescape entry back n ((d_asked entry d id n).0 (source_named d.templates n b f)).0 in
+            let i = asks_more (sources_of d) (sources_of c) options.autoescape (a_chain entry) back n ((d_asked entry d id n).0 (source_named d.templates n b f)).0 in
             let no : None ≡ Some b = sym e ∙ back n b i f in
             absurd (cc)
         by None e None f = e ∙ sym f

@@ -1,7 +1,7 @@
--- The chains that an entry reaches, all of them followed and checked, in an order of what they include.
+-- The chains and libraries that an entry reaches, all of them followed and checked, in an order of what they lead to.
 use Rattle.std.proofs.Common.{◌≡◌, ◌≢◌, ◌↔◌, ℕ, zero, suc, ◌+◌, ◌*◌, ◌<◌, ◌≤◌, ◌==◌, Bool, true, false, not, ◌&&◌, ◌||◌, if◌then◌else◌, nat_lt, List, [], ◌∷◌, ◌++◌, length, map, refl, sym, ap, subst, ◌∙◌, arith, inl, inr, ◌⊎◌, ⊎_elim, Option, Some, None}
-use Rattle.std.proofs.lemmas.List.{length-map}
-use Rattle.std.specs.Prelude.{slice_get, unwrap_or}
+use Rattle.std.proofs.lemmas.List.{length-map, append-nil}
+use Rattle.std.specs.Prelude.{slice_get, unwrap_or, flat_map}
 use Rattle.std.specs.List.{AllByRecursion, list_any}
 use Rattle.std.specs.Option.{is_some, is_none}
 use Rattle.std.specs.Str.{bytes_eq}
@@ -16,16 +16,17 @@ use Rattle.jt_trees.specs.Texts.{among, repeated}
 use Rattle.jt_trees.specs.Expressions.{Text}
 use Rattle.jt_trees.specs.Statements.{Body}
 use Rattle.jt_chains.specs.Along.{ArePlaces, templates_at}
-use Rattle.jt_inherit.specs.Along.{includes_along}
-use Rattle.jt_chains.specs.Chain.{Template, templates, sources_in, macros, all_bodies}
+use Rattle.jt_inherit.specs.Along.{needs_along}
+use Rattle.jt_chains.specs.Chain.{Home, a_chain, a_library, same_home, listed, is_a_library, Template, templates, sources_in, imports, all_bodies}
+use Rattle.jt_chains.specs.Chain.{given as given_in}
 use Rattle.jt_inherit.specs.Chains.{Given, IsChain}
 use Rattle.jt_inherit.specs.Checks.{lacks_body, lacks_next}
-use Rattle.jt_inherit.specs.Found.{AreFound, IsFollowed, AreFollowed, IsMet, BreaksAt, HasHomes, chosen}
+use Rattle.jt_inherit.specs.Found.{chains_of, AreFound, IsFollowed, AreFollowed, IsMet, BreaksAt, HasHomes, chosen}
 use Rattle.jt_chains.specs.Includes.{included, InOrder}
-use Rattle.jt_inherit.specs.Kept.{KeepAll, BreakOne, their_blocks, their_macros, any_double}
+use Rattle.jt_inherit.specs.Kept.{KeepAll, BreakOne, their_blocks, their_macros, their_names, any_double, any_lacks_macros, imported_names}
 use Rattle.jt_chains.specs.Names.{IsName}
 use Rattle.jt_inherit.specs.Needs.{Need, needed}
-use Rattle.jt_chains.specs.Pages.{home_name, names_at, AreWhole}
+use Rattle.jt_chains.specs.Pages.{home_view, names_at, AreWhole}
 use Rattle.jt_chains.specs.Places.{home_at}
 use Rattle.jt_inherit.specs.Refusals.{Breaks}
 use Rattle.jt_inherit.specs.Refused.{gives}
@@ -37,14 +38,19 @@ use Rattle.jt_chains.specs.View.{Seen}
 use Rattle.jt_inherit.specs.Ways.{AreKnown, IsWay, IsWithin}
 use Rattle.jt_inherit.specs.declared.error.ChainError.{ChainError}
 use Rattle.jt_inherit.specs.declared.error.ChainError.TheVariants as error
-use Rattle.jt_chains.specs.declared.linked.Home.{Home}
-use Rattle.jt_inherit.proofs.Among.{same, both_false, or_true, or_false, among_cases}
+use Rattle.jt_chains.specs.declared.linked.Home as linked
+use Rattle.jt_inherit.proofs.Among.{same, both_false, or_true, or_false, among_cases, no_more}
+use Rattle.jt_inherit.proofs.Carried.{given_names}
 use Rattle.jt_inherit.proofs.Fewer.{few_chains}
 use Rattle.jt_inherit.proofs.Finding.{none_read, few_way, way_names, asked_way, placed_templates, included_is, whole_way, some_source}
 use Rattle.jt_inherit.proofs.Following.{text_among}
+use Rattle.jt_inherit.proofs.Homes as homes
+use Rattle.jt_inherit.proofs.Homes.{place_listed, chain_among}
+use Rattle.jt_inherit.proofs.Imported.{all_imported, none_given, none_lacking}
 use Rattle.jt_inherit.proofs.Leads.{names, few_templates, all_at_places}
 use Rattle.jt_inherit.proofs.OnWay.{never, and_false, and_true, too_few, few_names, all_named, have_sources, all_among, repeated_up, weigh, names_placed}
-use Rattle.jt_inherit.proofs.Ordered.{home_among, number_of, names_in_order, reached_in_order, no_cycle, first_in_order, no_more, named_among}
+use Rattle.jt_inherit.proofs.Ordered.{home_among, number_of, names_in_order, reached_in_order, no_cycle, first_in_order, named_among}
+use Rattle.jt_inherit.proofs.Weighed.{all_weigh}
 use Rattle.jt_chains.proofs.Placed.{given_templates}
 
 -- ---- chains by their numbers
@@ -54,34 +60,34 @@ at_number P [] i lt a = absurd (omega arith)
 at_number P (w ∷ ws) zero lt a = a.0
 at_number P (w ∷ ws) (suc i) lt a = at_number P ws i (omega arith) a.1
 
-followed_number : (given : Given) (ts : List Template) (hs gs : List Text) (ws ns : Graph) (i : ℕ) → i < length ws → AreFollowed given ts hs gs ws ns → IsFollowed given ts hs (home_at gs i) (next_of ws i) (next_of ns i)
+followed_number : (given : Given) (ts : List Template) (hs gs : List Home) (ws ns : Graph) (i : ℕ) → i < length ws → AreFollowed given ts hs gs ws ns → IsFollowed given ts hs (home_at gs i) (next_of ws i) (next_of ns i)
 followed_number given ts hs gs [] ns i lt a = absurd (omega arith)
 followed_number given ts hs gs (w ∷ ws) [] i lt a = absurd a
 followed_number given ts hs [] (w ∷ ws) (n ∷ ns) i lt a = absurd a
 followed_number given ts hs (g ∷ gs) (w ∷ ws) (n ∷ ns) zero lt a = a.0
 followed_number given ts hs (g ∷ gs) (w ∷ ws) (n ∷ ns) (suc i) lt a = followed_number given ts hs gs ws ns i (omega arith) a.1
 
-pub next_len : (given : Given) (ts : List Template) (hs gs : List Text) (ws ns : Graph) → AreFollowed given ts hs gs ws ns → length ns ≡ length ws
+pub next_len : (given : Given) (ts : List Template) (hs gs : List Home) (ws ns : Graph) → AreFollowed given ts hs gs ws ns → length ns ≡ length ws
 next_len given ts hs gs [] [] a = refl
 next_len given ts hs gs [] (n ∷ ns) a = absurd a
 next_len given ts hs gs (w ∷ ws) [] a = absurd a
 next_len given ts hs [] (w ∷ ws) (n ∷ ns) a = absurd a
 next_len given ts hs (g ∷ gs) (w ∷ ws) (n ∷ ns) a = ap suc (next_len given ts hs gs ws ns a.1)
 
-pub ways_placed : (given : Given) (ts : List Template) (hs gs : List Text) (ws ns : Graph) → AreFollowed given ts hs gs ws ns → AllByRecursion (ArePlaces ts) ws
+pub ways_placed : (given : Given) (ts : List Template) (hs gs : List Home) (ws ns : Graph) → AreFollowed given ts hs gs ws ns → AllByRecursion (ArePlaces ts) ws
 ways_placed given ts hs gs [] ns a = tt
 ways_placed given ts hs gs (w ∷ ws) [] a = absurd a
 ways_placed given ts hs [] (w ∷ ws) (n ∷ ns) a = absurd a
 ways_placed given ts hs (g ∷ gs) (w ∷ ws) (n ∷ ns) a = (a.0.led.places, ways_placed given ts hs gs ws ns a.1)
 
-some_within : (hs : List Text) (j : ℕ) (n : Text) → slice_get hs j ≡ Some n → j < length hs
+some_within : (hs : List Home) (j : ℕ) (n : Home) → slice_get hs j ≡ Some n → j < length hs
 some_within [] j n e = absurd (cc)
 some_within (h ∷ hs) zero n e = omega arith
 some_within (h ∷ hs) (suc j) n e =
     let r = some_within hs j n e in
     omega arith
 
-numbers_within : (hs : List Text) (js : List ℕ) (ns : List Text) → map (slice_get hs) js ≡ map Some ns → AllByRecursion (λ j. j < length hs) js
+numbers_within : (hs : List Home) (js : List ℕ) (ns : List Home) → map (slice_get hs) js ≡ map Some ns → AllByRecursion (λ j. j < length hs) js
 numbers_within hs [] ns e = tt
 numbers_within hs (j ∷ js) [] e = absurd (cc)
 numbers_within hs (j ∷ js) (n ∷ ns) e =
@@ -89,15 +95,15 @@ numbers_within hs (j ∷ js) (n ∷ ns) e =
     let r : map (slice_get hs) js ≡ map Some ns = cc in
     (some_within hs j n h, numbers_within hs js ns r)
 
-next_within : (given : Given) (ts : List Template) (hs gs : List Text) (ws ns : Graph) → AreFollowed given ts hs gs ws ns → AllByRecursion (λ js. AllByRecursion (λ j. j < length hs) js) ns
+next_within : (given : Given) (ts : List Template) (hs gs : List Home) (ws ns : Graph) → AreFollowed given ts hs gs ws ns → AllByRecursion (λ js. AllByRecursion (λ j. j < length hs) js) ns
 next_within given ts hs gs [] [] a = tt
 next_within given ts hs gs [] (n ∷ ns) a = absurd a
 next_within given ts hs gs (w ∷ ws) [] a = absurd a
 next_within given ts hs [] (w ∷ ws) (n ∷ ns) a = absurd a
 next_within given ts hs (g ∷ gs) (w ∷ ws) (n ∷ ns) a =
-    (numbers_within hs n (chosen (names ts) (includes_along ts w)) a.0.numbered, next_within given ts hs gs ws ns a.1)
+    (numbers_within hs n (chosen (names ts) (needs_along ts w)) a.0.numbered, next_within given ts hs gs ws ns a.1)
 
-numbered_among : (hs : List Text) (j : ℕ) (js : List ℕ) (ns : List Text) → map (slice_get hs) js ≡ map Some ns → graph.among j js ≡ true → among (home_at hs j) ns ≡ true
+numbered_among : (hs : List Home) (j : ℕ) (js : List ℕ) (ns : List Home) → map (slice_get hs) js ≡ map Some ns → graph.among j js ≡ true → listed (home_at hs j) ns ≡ true
 numbered_among hs j [] ns e a = absurd (cc)
 numbered_among hs j (k ∷ js) [] e a = absurd (cc)
 numbered_among hs j (k ∷ js) (n ∷ ns) e a =
@@ -105,12 +111,12 @@ numbered_among hs j (k ∷ js) (n ∷ ns) e a =
     let r : map (slice_get hs) js ≡ map Some ns = cc in
     by (k == j) refl h (numbered_among hs j js ns r)
   where
-    by : (b : Bool) → (k == j) ≡ b → slice_get hs k ≡ Some n → (graph.among j js ≡ true → among (home_at hs j) ns ≡ true) → among (home_at hs j) (n ∷ ns) ≡ true
+    by : (b : Bool) → (k == j) ≡ b → slice_get hs k ≡ Some n → (graph.among j js ≡ true → listed (home_at hs j) ns ≡ true) → listed (home_at hs j) (n ∷ ns) ≡ true
     by true q h f =
         let i : k ≡ j = grind (arith, nat_tests) in
-        let name : home_at hs j ≡ n = ap (λ o. unwrap_or o []) (ap (slice_get hs) (sym i) ∙ h) in
-        ap (λ x. among x (n ∷ ns)) name ∙ text_among (n ∷ ns) 0 n refl
-    by false q h f = or_true (bytes_eq n (home_at hs j)) (among (home_at hs j) ns) (f (sym (ap (λ b. b || graph.among j js) q) ∙ a))
+        let name : home_at hs j ≡ n = ap (λ o. unwrap_or o (a_chain [])) (ap (slice_get hs) (sym i) ∙ h) in
+        ap (λ x. listed x (n ∷ ns)) name ∙ place_listed (n ∷ ns) 0 n refl
+    by false q h f = or_true (same_home n (home_at hs j)) (listed (home_at hs j) ns) (f (sym (ap (λ b. b || graph.among j js) q) ∙ a))
 
 none_next : (ns : Graph) (i j : ℕ) → length ns ≤ i → graph.among j (next_of ns i) ≡ true → ⊥
 none_next [] i j le a = cc
@@ -156,7 +162,7 @@ module _ (given : Given) (ts : List Template) where
 
 -- ---- a chain that was followed
 
-module _ (given : Given) (options : Options) (ts : List Template) {ks : List Text} (known : AreKnown given options ts ks) (h : Text) (is : List ℕ) (w : IsWay ts h is None) where
+module _ (given : Given) (options : Options) (ts : List Template) {ks : List Text} (known : AreKnown given options ts ks) (h : Home) (is : List ℕ) (w : IsWay ts h is None) where
   held : AllByRecursion (λ t. sources_in ts t.name ≡ Some t.body) (templates_at ts is)
   held = subst (AllByRecursion (λ t. sources_in ts t.name ≡ Some t.body)) (whole_way ts h is w) (given_templates (sources_in ts) h)
 
@@ -164,13 +170,37 @@ module _ (given : Given) (options : Options) (ts : List Template) {ks : List Tex
   is_one =
       let us = templates_at ts is in
       let s = sources_in ts in
-      subst (λ xs. (not (repeated xs) && (nat_lt (length xs) 17 && not (list_any (λ n. is_none (s n)) xs))) ≡ true) (sym (way_names ts options.autoescape h is w))
-      (and_true (not (repeated (names us))) (nat_lt (length (names us)) 17 && not (list_any (λ n. is_none (s n)) (names us))) (ap not w.once)
-      (and_true (nat_lt (length (names us)) 17) (not (list_any (λ n. is_none (s n)) (names us))) (few_names (length (names us)) (omega (arith, few_way ts options.autoescape h is w, length-map us (λ (t : Template). t.name))))
+      subst (λ xs. (not (repeated xs) && (nat_lt (length xs) 65 && not (list_any (λ n. is_none (s n)) xs))) ≡ true) (sym (way_names ts options.autoescape h is w))
+      (and_true (not (repeated (names us))) (nat_lt (length (names us)) 65 && not (list_any (λ n. is_none (s n)) (names us))) (ap not w.once)
+      (and_true (nat_lt (length (names us)) 65) (not (list_any (λ n. is_none (s n)) (names us))) (few_names (length (names us)) (omega (arith, few_way ts options.autoescape h is w, length-map us (λ (t : Template). t.name))))
       (ap not (have_sources s us held))))
 
-  -- a rule on blocks or macros that is broken
-  pub one_breaks : (root : Text) → Reaches (sources_in ts) options.autoescape root h → (e : ChainError) → BreakOne options.autoescape (templates_at ts is) e → Breaks e given root options
+  -- the names that are given
+  pub names_told : map (λ g. g.0) (given_in (sources_in ts) h) ≡ their_names (sources_in ts) (templates_at ts is)
+  names_told =
+      let s = sources_in ts in
+      let us = templates_at ts is in
+      given_names s h ∙ ap (λ vs. map (λ m. m.name) (their_macros vs) ++ map (λ g. g.0) (imports s h)) (whole_way ts h is w) ∙ ap (λ l. map (λ m. m.name) (their_macros us) ++ l) (by h w)
+    where
+      by : (k : Home) → IsWay ts k is None → map (λ g. g.0) (imports (sources_in ts) k) ≡ flat_map (λ t. imported_names (sources_in ts) t.body) (templates_at ts is)
+      by (a_chain n) v = all_imported (sources_in ts) (templates (sources_in ts) (a_chain n)) ∙ ap (flat_map (λ (t : Template). imported_names (sources_in ts) t.body)) (whole_way ts (a_chain n) is v)
+      by (a_library n) v =
+          let l = v.leads in
+          sym (ap (flat_map (λ (t : Template). imported_names (sources_in ts) t.body)) l.only ∙ append-nil (imported_names (sources_in ts) l.template.body) ∙ none_given (sources_in ts) l.template.body l.holds)
+
+  -- a library lacks nothing that it imports
+  chain_alone : any_lacks_macros (sources_in ts) (templates_at ts is) ≡ true → (n : Text) × (h ≡ a_chain n)
+  chain_alone b = by h w
+    where
+      by : (k : Home) → IsWay ts k is None → (n : Text) × (k ≡ a_chain n)
+      by (a_chain n) v = (n, refl)
+      by (a_library n) v =
+          let l = v.leads in
+          let no : false ≡ true = sym (ap (λ us. any_lacks_macros (sources_in ts) us) l.only ∙ ap (λ c. c || false) (none_lacking (sources_in ts) l.template.body l.holds)) ∙ b in
+          absurd (cc)
+
+  -- a rule on blocks, macros or imports that is broken
+  pub one_breaks : (root : Text) → Reaches (sources_in ts) options.autoescape (a_chain root) h → (e : ChainError) → BreakOne (sources_in ts) options.autoescape (templates_at ts is) e → Breaks e given root options
   one_breaks root r error.DoubleBlock b =
       record { templates = ts; read = known.read; only = known.only; holds = (h, r, subst (λ us. any_double options.autoescape us ≡ true) (sym (whole_way ts h is w)) b) }
   one_breaks root r error.RequiredNotGiven b =
@@ -178,31 +208,35 @@ module _ (given : Given) (options : Options) (ts : List Template) {ks : List Tex
   one_breaks root r error.NoSuper b =
       record { templates = ts; read = known.read; only = known.only; holds = (h, r, and_true (is_whole (sources_in ts) options.autoescape h) (lacks_next (all_bodies (sources_in ts) options.autoescape h)) is_one (subst (λ us. lacks_next (their_blocks options.autoescape us) ≡ true) (sym (whole_way ts h is w)) b)) }
   one_breaks root r error.MacroTwice b =
-      record { templates = ts; read = known.read; only = known.only; holds = (h, r, and_true (is_whole (sources_in ts) options.autoescape h) (repeated (map (λ m. m.name) (macros (sources_in ts) h))) is_one (subst (λ us. repeated (map (λ m. m.name) (their_macros options.autoescape us)) ≡ true) (sym (whole_way ts h is w)) b)) }
+      record { templates = ts; read = known.read; only = known.only; holds = (h, r, and_true (is_whole (sources_in ts) options.autoescape h) (repeated (map (λ g. g.0) (given_in (sources_in ts) h))) is_one (ap repeated names_told ∙ b)) }
+  one_breaks root r error.NoMacro b =
+      let k = chain_alone b in
+      record { templates = ts; read = known.read; only = known.only; holds = (h, r, (k.0, k.1, ap (any_lacks_macros (sources_in ts)) (whole_way ts h is w) ∙ b)) }
   one_breaks root r error.NoMemory b = tt
   one_breaks root r error.Missing b = absurd b
   one_breaks root r error.BadName b = absurd b
   one_breaks root r error.ExtendsCycle b = absurd b
   one_breaks root r error.ChainTooLong b = absurd b
   one_breaks root r error.IncludeCycle b = absurd b
+  one_breaks root r error.NotALibrary b = absurd b
   one_breaks root r (error.Scan n e) b = absurd b
   one_breaks root r (error.Parse n e) b = absurd b
 
-  module _ (met : AllByRecursion (IsMet given (names ts)) (includes_along ts is)) where
+  module _ (met : AllByRecursion (IsMet given (names ts)) (needs_along ts is)) where
     pub none_missing : list_any (λ n. is_none (sources_in ts n)) (asked (sources_in ts) options.autoescape false h) ≡ false
     none_missing =
         ap (list_any (λ n. is_none (sources_in ts n))) (asked_way ts options.autoescape h is w false)
-        ∙ any_both (λ n. is_none (sources_in ts n)) (names (templates_at ts is)) (needed false (includes_along ts is)) (have_sources (sources_in ts) (templates_at ts is) held) (needs_sources given ts (includes_along ts is) met)
+        ∙ any_both (λ n. is_none (sources_in ts n)) (names (templates_at ts is)) (needed false (needs_along ts is)) (have_sources (sources_in ts) (templates_at ts is) held) (needs_sources given ts (needs_along ts is) met)
 
     pub all_asked : (P : Text → Type 0) → AllByRecursion (λ t. P t.name) (templates_at ts is) → ((n : Need) → IsMet given (names ts) n → P n.name) → (x : Text) → among x (asked (sources_in ts) options.autoescape true h) ≡ true → P x
     all_asked P a f x i = ⊎_elim
         (λ p. all_among P (templates_at ts is) x a p)
-        (λ q. needs_met given ts P f (includes_along ts is) met x q)
-        (among_cases x (names (templates_at ts is)) (needed true (includes_along ts is)) (sym (ap (among x) (asked_way ts options.autoescape h is w true)) ∙ i))
+        (λ q. needs_met given ts P f (needs_along ts is) met x q)
+        (among_cases x (names (templates_at ts is)) (needed true (needs_along ts is)) (sym (ap (among x) (asked_way ts options.autoescape h is w true)) ∙ i))
 
--- ---- all chains
+-- ---- all chains and libraries
 
-module _ (given : Given) (options : Options) (entry : Text) (ts : List Template) (ks hs : List Text) (ws ns : Graph) (f : AreFound given options ts ks hs ws ns) (root : home_at hs 0 ≡ entry) (all : length ws ≡ length hs) where
+module _ (given : Given) (options : Options) (entry : Text) (ts : List Template) (ks : List Text) (hs : List Home) (ws ns : Graph) (f : AreFound given options entry ts ks hs ws ns) (all : length ws ≡ length hs) where
   number : (i : ℕ) → i < length hs → IsFollowed given ts hs (home_at hs i) (next_of ws i) (next_of ns i)
   number i lt = followed_number given ts hs hs ws ns i (omega (arith, all)) f.followed
 
@@ -212,8 +246,14 @@ module _ (given : Given) (options : Options) (entry : Text) (ts : List Template)
   pub closed : IsClosed ns
   closed = subst (λ n. AllByRecursion (λ js. AllByRecursion (λ j. j < n) js) ns) (sym lens) (next_within given ts hs hs ws ns f.followed)
 
-  reached : (h : Text) → among h hs ≡ true → Reaches (sources_in ts) options.autoescape entry h
-  reached h a = subst (λ z. Reaches (sources_in ts) options.autoescape z h) root (f.reached h a)
+  reached : (h : Home) → listed h hs ≡ true → Reaches (sources_in ts) options.autoescape (a_chain entry) h
+  reached = f.reached
+
+  some : 0 < length hs
+  some = some_within hs 0 (a_chain entry) f.first
+
+  first_home : home_at hs 0 ≡ a_chain entry
+  first_home = ap (λ o. unwrap_or o (a_chain [])) f.first
 
   includes_next : (i : ℕ) → i < length hs → map (slice_get hs) (next_of ns i) ≡ map Some (included (sources_in ts) (home_at hs i))
   includes_next i lt = (number i lt).numbered ∙ ap (map Some) (sym (included_is ts (home_at hs i) (next_of ws i) (number i lt).led))
@@ -226,10 +266,10 @@ module _ (given : Given) (options : Options) (entry : Text) (ts : List Template)
 
   -- ---- a cycle of numbers is one of chains
 
-  edge : (i j : ℕ) → graph.among j (next_of ns i) ≡ true → (i < length hs) × (among (home_at hs j) (included (sources_in ts) (home_at hs i)) ≡ true)
+  edge : (i j : ℕ) → graph.among j (next_of ns i) ≡ true → (i < length hs) × (listed (home_at hs j) (included (sources_in ts) (home_at hs i)) ≡ true)
   edge i j a = ⊎_elim (λ (lt : i < length hs). (lt, numbered_among hs j (next_of ns i) (included (sources_in ts) (home_at hs i)) (includes_next i lt) a)) (λ (le : length hs ≤ i). absurd (none_next ns i j (omega (arith, lens, le)) a)) (cases_lt i (length hs))
 
-  along : {i j : ℕ} → graph.Reaches ns i j → (m : Text) × (among m (included (sources_in ts) (home_at hs i)) ≡ true) × Reaches (sources_in ts) options.autoescape m (home_at hs j)
+  along : {i j : ℕ} → graph.Reaches ns i j → (m : Home) × (listed m (included (sources_in ts) (home_at hs i)) ≡ true) × Reaches (sources_in ts) options.autoescape m (home_at hs j)
   along (graph.step {i} {j} a) = (home_at hs j, (edge i j a).1, here)
   along (graph.further {i} {j} a r) =
       let k = along r in
@@ -253,44 +293,44 @@ module _ (given : Given) (options : Options) (entry : Text) (ts : List Template)
 
   -- ---- in an order of what they include
 
-  module _ (kept : AllByRecursion (λ w. KeepAll options.autoescape (templates_at ts w)) ws) (is : List ℕ) (o : IsOrder ns is) where
+  module _ (kept : AllByRecursion (λ w. KeepAll (sources_in ts) options.autoescape (templates_at ts w)) ws) (is : List ℕ) (o : IsOrder ns is) where
     within : AllByRecursion (λ i. i < length hs) is
     within = subst (λ n. AllByRecursion (λ i. i < n) is) lens o.within
 
     pub in_order : InOrder (sources_in ts) (map (home_at hs) is)
     in_order = names_in_order (sources_in ts) hs ns is f.once within includes_next o.ordered
 
-    entry_in : among entry (map (home_at hs) is) ≡ true
-    entry_in = subst (λ x. among x (map (home_at hs) is) ≡ true) root (named_among hs 0 is (o.all 0 (omega (arith, lens, f.some))))
+    entry_in : listed (a_chain entry) (map (home_at hs) is) ≡ true
+    entry_in = subst (λ x. listed x (map (home_at hs) is) ≡ true) first_home (named_among hs 0 is (o.all 0 (omega (arith, lens, some))))
 
-    in_homes : (x : Text) → among x (map (home_at hs) is) ≡ true → among x hs ≡ true
+    in_homes : (x : Home) → listed x (map (home_at hs) is) ≡ true → listed x hs ≡ true
     in_homes x a = from is within a
       where
-        from : (js : List ℕ) → AllByRecursion (λ i. i < length hs) js → among x (map (home_at hs) js) ≡ true → among x hs ≡ true
+        from : (js : List ℕ) → AllByRecursion (λ i. i < length hs) js → listed x (map (home_at hs) js) ≡ true → listed x hs ≡ true
         from [] w a = absurd (cc)
-        from (j ∷ js) w a = by (bytes_eq (home_at hs j) x) refl (from js w.1)
+        from (j ∷ js) w a = by (same_home (home_at hs j) x) refl (from js w.1)
           where
-            by : (b : Bool) → bytes_eq (home_at hs j) x ≡ b → (among x (map (home_at hs) js) ≡ true → among x hs ≡ true) → among x hs ≡ true
-            by true e r = ap (λ y. among y hs) (sym (same (home_at hs j) x e)) ∙ home_among hs j w.0
-            by false e r = r (sym (ap (λ b. b || among x (map (home_at hs) js)) e) ∙ a)
+            by : (b : Bool) → same_home (home_at hs j) x ≡ b → (listed x (map (home_at hs) js) ≡ true → listed x hs ≡ true) → listed x hs ≡ true
+            by true e r = ap (λ y. listed y hs) (sym (homes.same (home_at hs j) x e)) ∙ home_among hs j w.0
+            by false e r = r (sym (ap (λ b. b || listed x (map (home_at hs) js)) e) ∙ a)
 
-    ordered : {h : Text} → Reaches (sources_in ts) options.autoescape entry h → among h (map (home_at hs) is) ≡ true
+    ordered : {h : Home} → Reaches (sources_in ts) options.autoescape (a_chain entry) h → listed h (map (home_at hs) is) ≡ true
     ordered r = reached_in_order (sources_in ts) options.autoescape (map (home_at hs) is) in_order r entry_in
 
-    -- the chain of a name
-    way_of : (h : Text) → among h hs ≡ true → (w : List ℕ) × IsWay ts h w None × KeepAll options.autoescape (templates_at ts w) × AllByRecursion (IsMet given (names ts)) (includes_along ts w)
+    -- the way of a home
+    way_of : (h : Home) → listed h hs ≡ true → (w : List ℕ) × IsWay ts h w None × KeepAll (sources_in ts) options.autoescape (templates_at ts w) × AllByRecursion (IsMet given (names ts)) (needs_along ts w)
     way_of h a =
         let k = number_of hs h a in
         let n = number k.0 k.1 in
-        (next_of ws k.0, subst (λ x. IsWay ts x (next_of ws k.0) None) k.2 n.led, at_number (λ w. KeepAll options.autoescape (templates_at ts w)) ws k.0 (omega (arith, k.1, all)) kept, n.met)
+        (next_of ws k.0, subst (λ x. IsWay ts x (next_of ws k.0) None) k.2 n.led, at_number (λ w. KeepAll (sources_in ts) options.autoescape (templates_at ts w)) ws k.0 (omega (arith, k.1, all)) kept, n.met)
 
-    way_reached : {h : Text} → Reaches (sources_in ts) options.autoescape entry h → (w : List ℕ) × IsWay ts h w None × KeepAll options.autoescape (templates_at ts w) × AllByRecursion (IsMet given (names ts)) (includes_along ts w)
+    way_reached : {h : Home} → Reaches (sources_in ts) options.autoescape (a_chain entry) h → (w : List ℕ) × IsWay ts h w None × KeepAll (sources_in ts) options.autoescape (templates_at ts w) × AllByRecursion (IsMet given (names ts)) (needs_along ts w)
     way_reached {h} r = way_of h (in_homes h (ordered r))
 
     named_met : (n : Need) → IsMet given (names ts) n → IsName n.name
     named_met n m = ⊎_elim (λ p. all_among IsName ts n.name (all_named given options ts f.known.read.each) p) (λ q. q.1) m
 
-    keeps : KeepsRules (sources_in ts) options.autoescape entry
+    keeps : KeepsRules (sources_in ts) options.autoescape (a_chain entry)
     keeps = record {
       missing = λ x.
           let k = way_reached x.1 in
@@ -300,16 +340,16 @@ module _ (given : Given) (options : Options) (entry : Text) (ts : List Template)
           x.2.2 (all_asked given options ts f.known x.0 k.0 k.1 k.3 IsName (all_at_places (λ t. IsName t.name) ts k.0 (all_named given options ts f.known.read.each)) named_met x.2.0 x.2.1);
       extends_cycle = λ x.
           let k = way_reached x.1 in
-          never (repeated (names (templates_at ts k.0))) k.1.once (repeated_up (sources_in ts) x.2.0 (Some x.0) (templates_at ts k.0) k.1.leads x.2.1);
+          never (repeated (names (templates_at ts k.0))) k.1.once (repeated_up (sources_in ts) x.2.2 (Some x.2.0) (templates_at ts k.0) (subst (λ h. IsWay ts h k.0 None) x.2.1 k.1).leads x.2.3);
       too_long = λ x. ⊎_elim
           (λ y.
           let k = way_reached y.1 in
           let us = templates_at ts k.0 in
-          let le : length us ≤ 16 = omega (arith, few_templates ts k.0, k.1.few) in
-          never ((length (way (sources_in ts) options.autoescape y.0) == 17) && not (repeated (way (sources_in ts) options.autoescape y.0)))
-          (ap (λ xs. (length xs == 17) && not (repeated xs)) (way_names ts options.autoescape y.0 k.0 k.1) ∙ too_few (length (names us)) (not (repeated (names us))) (omega (arith, le, length-map us (λ (t : Template). t.name)))) y.2)
+          let le : length us ≤ 64 = omega (arith, few_templates ts k.0, k.1.few) in
+          never ((length (way (sources_in ts) options.autoescape y.0) == 65) && not (repeated (way (sources_in ts) options.autoescape y.0)))
+          (ap (λ xs. (length xs == 65) && not (repeated xs)) (way_names ts options.autoescape y.0 k.0 k.1) ∙ too_few (length (names us)) (not (repeated (names us))) (omega (arith, le, length-map us (λ (t : Template). t.name)))) y.2)
           (λ y.
-          let le = no_more y.0 hs (not_true (repeated y.0) y.2) (λ h a. in_homes h (ordered (y.3 h a))) in
+          let le = no_more y.0 (chains_of hs) (not_true (repeated y.0) y.2) (λ n a. sym (chain_among n hs) ∙ in_homes (a_chain n) (ordered (y.3 n a))) in
           let gt : 1024 < length y.0 = y.1 in
           let most = f.few in
           omega (arith, le, gt, most))
@@ -328,8 +368,15 @@ module _ (given : Given) (options : Options) (entry : Text) (ts : List Template)
       include_cycle = λ x. no_cycle (sources_in ts) options.autoescape (map (home_at hs) is) in_order x.0 x.2.0 (ordered x.1) x.2.1 x.2.2;
       macro_twice = λ x.
           let k = way_reached x.1 in
-          never (is_whole (sources_in ts) options.autoescape x.0 && repeated (map (λ m. m.name) (macros (sources_in ts) x.0)))
-          (and_false (is_whole (sources_in ts) options.autoescape x.0) (repeated (map (λ m. m.name) (macros (sources_in ts) x.0))) (ap (λ us. repeated (map (λ m. m.name) (their_macros options.autoescape us))) (whole_way ts x.0 k.0 k.1) ∙ k.2.macros)) x.2;
+          never (is_whole (sources_in ts) options.autoescape x.0 && repeated (map (λ g. g.0) (given_in (sources_in ts) x.0)))
+          (and_false (is_whole (sources_in ts) options.autoescape x.0) (repeated (map (λ g. g.0) (given_in (sources_in ts) x.0))) (ap repeated (names_told given options ts f.known x.0 k.0 k.1) ∙ k.2.names)) x.2;
+      no_macro = λ x.
+          let k = way_reached x.1 in
+          never (any_lacks_macros (sources_in ts) (templates (sources_in ts) x.0)) (ap (any_lacks_macros (sources_in ts)) (whole_way ts x.0 k.0 k.1) ∙ k.2.macros_there) x.2.2;
+      not_a_library = λ x.
+          let k = way_reached x.1 in
+          let l = (subst (λ h. IsWay ts h k.0 None) x.2.1 k.1).leads in
+          never (is_some (sources_in ts x.2.0) && not (is_a_library (sources_in ts x.2.0))) (and_false (is_some (sources_in ts x.2.0)) (not (is_a_library (sources_in ts x.2.0))) (ap not (ap is_a_library l.source ∙ l.holds))) x.2.2;
     }
       where
         not_true : (b : Bool) → not b ≡ true → b ≡ false
@@ -340,7 +387,7 @@ module _ (given : Given) (options : Options) (entry : Text) (ts : List Template)
     chain = record { templates = ts; order = map (home_at hs) is; escaping = options.autoescape }
 
     -- what is asked for is read, or has no source
-    complete : (n : Text) → Asks (sources_in ts) options.autoescape entry n → (among n (names ts) ≡ true) ⊎ (given n ≡ None)
+    complete : (n : Text) → Asks (sources_in ts) options.autoescape (a_chain entry) n → (among n (names ts) ≡ true) ⊎ (given n ≡ None)
     complete n x =
         let k = way_reached x.1 in
         all_asked given options ts f.known x.0 k.0 k.1 k.3 (λ x. (among x (names ts) ≡ true) ⊎ (given x ≡ None))
@@ -352,25 +399,25 @@ module _ (given : Given) (options : Options) (entry : Text) (ts : List Template)
         each_known (u ∷ us) g = (inl (g u.name (text_among (names (u ∷ us)) 0 u.name refl)), each_known us (λ x p. g x (or_true (bytes_eq u.name x) (among x (names us)) p)))
 
     -- the templates are those that are asked for and that the library has
-    templates_asked : (n : Text) → (among n (names ts) ≡ true) ↔ (Asks (sources_in ts) options.autoescape entry n × (given n ≢ None))
+    templates_asked : (n : Text) → (among n (names ts) ≡ true) ↔ (Asks (sources_in ts) options.autoescape (a_chain entry) n × (given n ≢ None))
     templates_asked n = (
       λ a. (
-        subst (λ z. Asks (sources_in ts) options.autoescape z n) root (f.asked n (ap (among n) f.known.named ∙ a)),
+        f.asked n (ap (among n) f.known.named ∙ a),
         λ none. let no : true ≡ false = sym a ∙ none_read given options ts n f.known.read.each none in absurd (cc),
       ),
       λ p. ⊎_elim (λ a. a) (λ none. absurd (p.1 none)) (complete n p.0),
     )
 
-    begins : (rest : List Text) × (map (home_at hs) is ≡ entry ∷ rest)
+    pub begins : (rest : List Home) × (map (home_at hs) is ≡ a_chain entry ∷ rest)
     begins = from is in_order entry_in within
       where
-        from : (js : List ℕ) → InOrder (sources_in ts) (map (home_at hs) js) → among entry (map (home_at hs) js) ≡ true → AllByRecursion (λ i. i < length hs) js → (rest : List Text) × (map (home_at hs) js ≡ entry ∷ rest)
+        from : (js : List ℕ) → InOrder (sources_in ts) (map (home_at hs) js) → listed (a_chain entry) (map (home_at hs) js) ≡ true → AllByRecursion (λ i. i < length hs) js → (rest : List Home) × (map (home_at hs) js ≡ a_chain entry ∷ rest)
         from [] p a w = absurd (cc)
         from (j ∷ js) p a w =
-            let e = first_in_order (sources_in ts) options.autoescape (home_at hs j) (map (home_at hs) js) entry p a (reached (home_at hs j) (home_among hs j w.0)) in
+            let e = first_in_order (sources_in ts) options.autoescape (home_at hs j) (map (home_at hs) js) (a_chain entry) p a (reached (home_at hs j) (home_among hs j w.0)) in
             (map (home_at hs) js, ap (λ x. x ∷ map (home_at hs) js) e)
 
-    all_reached : (js : List ℕ) → AllByRecursion (λ i. i < length hs) js → AllByRecursion (λ h. Reaches (sources_in ts) options.autoescape entry h) (map (home_at hs) js)
+    all_reached : (js : List ℕ) → AllByRecursion (λ i. i < length hs) js → AllByRecursion (λ h. Reaches (sources_in ts) options.autoescape (a_chain entry) h) (map (home_at hs) js)
     all_reached [] w = tt
     all_reached (j ∷ js) w = (reached (home_at hs j) (home_among hs j w.0), all_reached js w.1)
 
@@ -386,34 +433,35 @@ module _ (given : Given) (options : Options) (entry : Text) (ts : List Template)
       rules = keeps;
     }
 
-    weighs_along : (js : List ℕ) → AllByRecursion (λ i. i < length hs) js → chains_weight (sources_in ts) (map (home_at hs) js) ≤ chains_len given (sources_in ts) (map (home_at hs) js)
-    weighs_along [] w = omega arith
-    weighs_along (j ∷ js) w =
-        let k = way_of (home_at hs j) (home_among hs j w.0) in
-        let us = templates_at ts k.0 in
-        let one : templates_weight us ≤ templates_len given us = weigh given us (all_at_places (IsWithin given) ts k.0 f.known.within) in
-        let a : templates_weight (templates (sources_in ts) (home_at hs j)) ≡ templates_weight us = ap templates_weight (whole_way ts (home_at hs j) k.0 k.1) in
-        let b : templates_len given (templates (sources_in ts) (home_at hs j)) ≡ templates_len given us = ap (templates_len given) (whole_way ts (home_at hs j) k.0 k.1) in
-        omega (arith, one, a, b, weighs_along js w.1)
+    -- the templates of a home weigh no more than their sources
+    one_weighs : (h : Home) → listed h hs ≡ true → templates_weight (templates (sources_in ts) h) ≤ templates_len given (templates (sources_in ts) h)
+    one_weighs h a =
+        let k = way_of h a in
+        subst (λ us. templates_weight us ≤ templates_len given us) (sym (whole_way ts h k.0 k.1)) (weigh given (templates_at ts k.0) (all_at_places (IsWithin given) ts k.0 f.known.within))
 
     pub weighs : chains_weight (sources_in ts) (map (home_at hs) is) ≤ chains_len given (sources_in ts) (map (home_at hs) is)
-    weighs = weighs_along is within
+    weighs =
+        let b = begins in
+        subst (λ os. chains_weight (sources_in ts) os ≤ chains_len given (sources_in ts) os) (sym b.1)
+        (all_weigh given (sources_in ts) options.autoescape entry b.0 (subst (InOrder (sources_in ts)) b.1 in_order)
+        (λ h a. one_weighs h (in_homes h (subst (λ os. listed h os ≡ true) (sym b.1) a)))
+        (λ h a. reached h (in_homes h (subst (λ os. listed h os ≡ true) (sym b.1) a))))
 
     pub few_homes : 7 * length (map (home_at hs) is) ≤ chains_weight (sources_in ts) (map (home_at hs) is) + 7
     few_homes =
         let b = begins in
         subst (λ os. 7 * length os ≤ chains_weight (sources_in ts) os + 7) (sym b.1)
-        (few_chains (sources_in ts) options.autoescape entry b.0 (subst (InOrder (sources_in ts)) b.1 in_order)
-        (λ h a. reached h (in_homes h (subst (λ os. among h os ≡ true) (sym b.1) a))))
+        (few_chains (sources_in ts) options.autoescape (a_chain entry) b.0 (subst (InOrder (sources_in ts)) b.1 in_order)
+        (λ h a. reached h (in_homes h (subst (λ os. listed h os ≡ true) (sym b.1) a))))
 
     pub some_homes : 0 < length is
-    some_homes = from is (o.all 0 (omega (arith, lens, f.some)))
+    some_homes = from is (o.all 0 (omega (arith, lens, some)))
       where
         from : (js : List ℕ) → graph.among 0 js ≡ true → 0 < length js
         from [] a = absurd (cc)
         from (j ∷ js) a = omega arith
 
-    whole_along : (js : List ℕ) (homes : List Home) → AllByRecursion (λ i. i < length hs) js → HasHomes hs ws js homes → AreWhole ts homes
+    whole_along : (js : List ℕ) (homes : List linked.Home) → AllByRecursion (λ i. i < length hs) js → HasHomes hs ws js homes → AreWhole ts homes
     whole_along [] [] w a = tt
     whole_along [] (k ∷ homes) w a = absurd a
     whole_along (j ∷ js) [] w a = absurd a
@@ -425,11 +473,11 @@ module _ (given : Given) (options : Options) (entry : Text) (ts : List Template)
           whole_along js homes w.1 a.1,
         )
 
-    pub all_whole : (homes : List Home) → HasHomes hs ws is homes → AreWhole ts homes
+    pub all_whole : (homes : List linked.Home) → HasHomes hs ws is homes → AreWhole ts homes
     all_whole homes a = whole_along is homes within a
 
-pub homes_named : (hs : List Text) (ws : Graph) (is : List ℕ) (homes : List Home) → HasHomes hs ws is homes → map home_name homes ≡ map (home_at hs) is
+pub homes_named : (hs : List Home) (ws : Graph) (is : List ℕ) (homes : List linked.Home) → HasHomes hs ws is homes → map home_view homes ≡ map (home_at hs) is
 homes_named hs ws [] [] a = refl
 homes_named hs ws [] (k ∷ homes) a = absurd a
 homes_named hs ws (i ∷ is) [] a = absurd a
-homes_named hs ws (i ∷ is) (k ∷ homes) a = ap (λ x. x ∷ map home_name homes) a.0.0 ∙ ap (λ l. home_at hs i ∷ l) (homes_named hs ws is homes a.1)
+homes_named hs ws (i ∷ is) (k ∷ homes) a = ap (λ x. x ∷ map home_view homes) a.0.0 ∙ ap (λ l. home_at hs i ∷ l) (homes_named hs ws is homes a.1)

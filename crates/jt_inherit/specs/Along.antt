@@ -1,8 +1,15 @@
--- What only private clauses cite: the includes of the templates at some places, in this order.
-use Rattle.std.specs.Prelude.{ℕ, List}
+-- What only private clauses cite: what the templates at some places include and import, in this order.
+use Rattle.std.specs.Prelude.{ℕ, List, ◌++◌}
 use Rattle.jt_chains.specs.Along.{along}
 use Rattle.jt_chains.specs.Chain.{Template}
-use Rattle.jt_inherit.specs.Needs.{Need, includes_in}
+use Rattle.jt_inherit.specs.Needs.{Need, includes_in, imports_in}
 
 abbrev pub includes_along : List Template → List ℕ → List Need
 includes_along ts = along ts (λ n b. includes_in b)
+
+abbrev pub imports_along : List Template → List ℕ → List Need
+imports_along ts = along ts (λ n b. imports_in b)
+
+-- the includes come first
+abbrev pub needs_along : List Template → List ℕ → List Need
+needs_along ts is = includes_along ts is ++ imports_along ts is

@@ -12,7 +12,7 @@ use Rattle.jt_parse.specs.Refusals.{max_levels}
 use Rattle.jt_trees.specs.Texts.{among, repeated}
 use Rattle.jt_trees.specs.Expressions.{Text}
 use Rattle.jt_trees.specs.Statements.{Body, body_levels}
-use Rattle.jt_chains.specs.Chain.{Home, Template}
+use Rattle.jt_chains.specs.Chain.{Home, a_chain, Template}
 use Rattle.jt_chains.specs.Includes.{InOrder}
 use Rattle.jt_chains.specs.Names.{IsName}
 use Rattle.jt_chains.specs.Rules.{Asks, Reaches, KeepsRules}
@@ -56,14 +56,14 @@ pub record AreRead (given : Given) (options : Options) (ts : List Template) : Ty
   pub each : AllByRecursion (IsRead given options) ts
   pub once : repeated (map (λ t. t.name) ts) ≡ false
 
--- The chain of an entry, with those that its includes reach: it breaks no rule of chains. Its templates are those that are asked for and
--- that the library has, and its chains those that are reached.
+-- The chain of an entry, with the chains and libraries that its includes and imports reach: it breaks no rule of chains. Its templates are
+-- those that are asked for and that the sources have, and its chains and libraries those that are reached.
 pub record IsChain (given : Given) (entry : Text) (options : Options) (c : Seen) : Type 0 where
   pub escaping : c.escaping ≡ options.autoescape
   pub read : AreRead given options c.templates
-  pub asked : (n : Text) → IsTrue (among n (map (λ t. t.name) c.templates)) ↔ (Asks (sources_of c) c.escaping entry n × (given n ≢ None))
+  pub asked : (n : Text) → IsTrue (among n (map (λ t. t.name) c.templates)) ↔ (Asks (sources_of c) c.escaping (a_chain entry) n × (given n ≢ None))
   pub included : List Home
-  pub begins : c.order ≡ entry ∷ included
-  pub reached : AllByRecursion (λ h. Reaches (sources_of c) c.escaping entry h) c.order
+  pub begins : c.order ≡ a_chain entry ∷ included
+  pub reached : AllByRecursion (λ h. Reaches (sources_of c) c.escaping (a_chain entry) h) c.order
   pub order : InOrder (sources_of c) c.order
-  pub rules : KeepsRules (sources_of c) c.escaping entry
+  pub rules : KeepsRules (sources_of c) c.escaping (a_chain entry)

@@ -5,7 +5,6 @@ use Rattle.std.specs.Str.{bytes_eq}
 use Rattle.jt_trees.specs.Expressions.{Text}
 use Rattle.jt_chains.specs.Chain.{BlockBody}
 use Rattle.jt_chains.specs.Rules.{is_required, lacks_super}
-use Rattle.jt_chains.specs.declared.parts.Macro.{Macro}
 use Rattle.jt_chains.specs.declared.parts.Block.{Block}
 
 -- those of one block
@@ -22,6 +21,3 @@ lacks_next bs = list_any (λ b. lacks_super (named b.name bs)) bs
 
 abbrev pub block_names : List Block → List Text
 block_names bs = map (λ b. b.name.now) bs
-
-abbrev pub macro_names : List Macro → List Text
-macro_names ms = map (λ m. m.name.now) ms

@@ -3,6 +3,7 @@ pub mod Chains
 pub mod Checks
 pub mod Faults
 pub mod Found
+pub mod Given
 pub mod Kept
 pub mod Lines
 pub mod Needs

@@ -1,5 +1,5 @@
 -- What a refusal says of a library and an entry. What has been read shows the broken rule: templates that are not read count as names
--- without a source, which breaks no rule but the one that a source is missing.
+-- without a source, which breaks no rule but the one that a source is missing: a library that isn't read lacks no macro and holds nothing else.
 use Rattle.std.specs.Prelude.{◌≡◌, ◌≢◌, ◌<◌, false, IsTrue, List, Some, None, length, map, string_bytes}
 use Rattle.std.specs.List.{AllByRecursion}
 use Rattle.jt_scan.specs.Cut.{Segment, IsCut}
@@ -14,7 +14,7 @@ use Rattle.jt_trees.specs.Texts.{among}
 use Rattle.jt_trees.specs.Expressions.{Text}
 use Rattle.jt_parse.specs.declared.error.ParseError.{ParseError}
 use Rattle.jt_parse.specs.declared.error.ParseError.TheVariants as parse_error
-use Rattle.jt_chains.specs.Chain.{Sources, Template, sources_in}
+use Rattle.jt_chains.specs.Chain.{Sources, a_chain, Template, sources_in}
 use Rattle.jt_inherit.specs.Chains.{Given, scanned, HasNoTree, AreRead, IsOnly}
 use Rattle.jt_chains.specs.Rules as rules
 use Rattle.jt_chains.specs.Rules.{Somewhere, asked}
@@ -43,7 +43,7 @@ pub record Shows (given : Given) (options : Options) (P : Sources → Type 0) : 
 
 -- a name that is asked for has a source with the fault, which spells no tree
 pub record HasFault (given : Given) (entry : Text) (options : Options) (n : Text) (P : Text → Type 0) : Type 0 where
-  pub reached : Shows given options (λ s. rules.Asks s options.autoescape entry n)
+  pub reached : Shows given options (λ s. rules.Asks s options.autoescape (a_chain entry) n)
   pub source : Text
   pub found : given n ≡ Some source
   pub fault : P source
@@ -52,20 +52,22 @@ pub record HasFault (given : Given) (entry : Text) (options : Options) (n : Text
 -- a name that is asked for, and may not be missing, has no source
 pub record IsMissing (given : Given) (entry : Text) (options : Options) : Type 0 where
   pub name : Text
-  pub reached : Shows given options (λ sources. Somewhere sources options.autoescape entry (λ h. IsTrue (among name (asked sources options.autoescape false h))))
+  pub reached : Shows given options (λ sources. Somewhere sources options.autoescape (a_chain entry) (λ h. IsTrue (among name (asked sources options.autoescape false h))))
   pub found : given name ≡ None
 
 -- the refusal holds; want of memory is no claim
 abbrev pub Breaks : ChainError → Given → Text → Options → Type 0
 Breaks error.Missing given entry options = IsMissing given entry options
-Breaks error.BadName given entry options = Shows given options (λ s. rules.BadName s options.autoescape entry)
-Breaks error.ExtendsCycle given entry options = Shows given options (λ s. rules.ExtendsCycle s options.autoescape entry)
-Breaks error.ChainTooLong given entry options = Shows given options (λ s. rules.ChainTooLong s options.autoescape entry)
-Breaks error.DoubleBlock given entry options = Shows given options (λ s. rules.DoubleBlock s options.autoescape entry)
-Breaks error.RequiredNotGiven given entry options = Shows given options (λ s. rules.RequiredNotGiven s options.autoescape entry)
-Breaks error.NoSuper given entry options = Shows given options (λ s. rules.NoSuper s options.autoescape entry)
-Breaks error.IncludeCycle given entry options = Shows given options (λ s. rules.IncludeCycle s options.autoescape entry)
-Breaks error.MacroTwice given entry options = Shows given options (λ s. rules.MacroTwice s options.autoescape entry)
+Breaks error.BadName given entry options = Shows given options (λ s. rules.BadName s options.autoescape (a_chain entry))
+Breaks error.ExtendsCycle given entry options = Shows given options (λ s. rules.ExtendsCycle s options.autoescape (a_chain entry))
+Breaks error.ChainTooLong given entry options = Shows given options (λ s. rules.ChainTooLong s options.autoescape (a_chain entry))
+Breaks error.DoubleBlock given entry options = Shows given options (λ s. rules.DoubleBlock s options.autoescape (a_chain entry))
+Breaks error.RequiredNotGiven given entry options = Shows given options (λ s. rules.RequiredNotGiven s options.autoescape (a_chain entry))
+Breaks error.NoSuper given entry options = Shows given options (λ s. rules.NoSuper s options.autoescape (a_chain entry))
+Breaks error.IncludeCycle given entry options = Shows given options (λ s. rules.IncludeCycle s options.autoescape (a_chain entry))
+Breaks error.MacroTwice given entry options = Shows given options (λ s. rules.MacroTwice s options.autoescape (a_chain entry))
 Breaks error.NoMemory given entry options = Unit {0}
+Breaks error.NoMacro given entry options = Shows given options (λ s. rules.NoMacro s options.autoescape (a_chain entry))
+Breaks error.NotALibrary given entry options = Shows given options (λ s. rules.NotALibrary s options.autoescape (a_chain entry))
 Breaks (error.Scan n e) given entry options = HasFault given entry options (string_bytes n) (IsUncut e options)
 Breaks (error.Parse n e) given entry options = HasFault given entry options (string_bytes n) (IsUnspelled e options)

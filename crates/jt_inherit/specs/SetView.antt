@@ -1,12 +1,20 @@
--- What only private clauses cite: what contracts see of sets of texts.
-use Rattle.std.specs.Prelude.{List, map, string_bytes}
+-- What only private clauses cite: what contracts see of sets of texts and of homes.
+use Rattle.std.specs.Prelude.{List, map, string_bytes, if◌then◌else◌}
 use Rattle.std.specs.declared.string.String.{String}
 use Rattle.std.specs.declared.alloc.Global.{Global}
 use denote.Ref.{Bor}
 use Rattle.jt_trees.specs.Expressions.{Text}
+use Rattle.jt_chains.specs.Chain.{Home, a_chain, a_library}
+use Rattle.jt_inherit.specs.declared.sets.HomeKey.{HomeKey}
 
 abbrev pub texts : List (Bor Text) → List Text
 texts ks = map (λ k. k.now) ks
 
 abbrev pub strings : List (String Global) → List Text
 strings ks = map string_bytes ks
+
+abbrev pub key_view : HomeKey → Home
+key_view k = if k.is_library then a_library (string_bytes k.name) else a_chain (string_bytes k.name)
+
+abbrev pub homes_view : List HomeKey → List Home
+homes_view = map key_view

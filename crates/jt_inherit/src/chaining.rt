@@ -10,10 +10,13 @@ ghost use Rattle.jt_chains.specs.Along.{ArePlaces, templates_at};
 ghost use Rattle.jt_inherit.specs.Chains.{IsChain};
 ghost use Rattle.jt_inherit.specs.Found.{BreaksAt, HasHomes, found_homes, found_templates};
 ghost use Rattle.jt_inherit.specs.Kept.{KeepAll};
-ghost use Rattle.jt_chains.specs.Pages.{home_name};
+ghost use Rattle.jt_chains.specs.Chain.{sources_in};
+ghost use Rattle.jt_chains.specs.Pages.{home_view};
 ghost use Rattle.jt_chains.specs.Places.{home_at};
 ghost use Rattle.jt_inherit.specs.Refusals.{Breaks};
 ghost use Rattle.jt_chains.specs.Weights.{chains_weight};
+ghost use Rattle.jt_inherit.specs.SetView.{strings};
+ghost use Rattle.jt_inherit.specs.Ways.{AreNamed};
 ghost use Rattle.jt_inherit.specs.Small.{chains_len, source_len};
 ghost use Rattle.jt_chains.specs.View.{Seen, chain_view, sources_of};
 
@@ -21,13 +24,14 @@ use crate::discovery::{Found, discover};
 use crate::error::ChainError;
 use crate::library::Library;
 use crate::rules::check_rules;
+use crate::shelf::Shelf;
 use jt_chains::{Chain, Home};
 use jt_order::order;
 use jt_scan::Options;
 use std::alloc::{AllocError, Global};
 
 /// The chain that the entry begins: its templates up to the root, read from the library, and the
-/// chains that their includes reach.
+/// chains and libraries that their includes and imports reach.
 ///
 /// # Errors
 ///
@@ -50,7 +54,8 @@ pub fn chain<L: Library>(
         (λ e. e ≡ ChainError.NoMemory) }
     // the rule that is named is broken
     ensures refused { IfErr result (λ e. Breaks e (L.sources library.now) entry.now options) }
-    // the trees weigh no more than their sources have bytes, each counted once for each chain
+    // the trees weigh no more than their sources have bytes, each counted once for each chain, and
+    // a library once for each chain that imports it
     ensures weighs { IfOk result (λ c. chains_weight (sources_of (chain_view c))
         (chain_view c).order
         ≤ chains_len (L.sources library.now) (sources_of (chain_view c)) (chain_view c).order) }
@@ -58,7 +63,8 @@ pub fn chain<L: Library>(
     ensures short { IfOk result (λ c. AllByRecursion
         (λ t. body_bytes t.body ≤ source_len (L.sources library.now t.name))
         (chain_view c).templates) }
-    // chains are few for the weight of their trees: each but the entry's has its own tag
+    // chains and libraries are few for the weight of their trees: each but the entry's chain has
+    // its own tag
     ensures few { IfOk result (λ c. 7 * length (chain_view c).order
         ≤ chains_weight (sources_of (chain_view c)) (chain_view c).order + 7) }
 {
@@ -73,23 +79,29 @@ pub fn chain<L: Library>(
     })
 }
 
-/// Refuses the chains where the blocks or macros of one break a rule.
+/// Refuses the chains and libraries where the blocks, macros or imports of one break a rule.
 fn check_chains(alloc: Global, found: &Found, escaping: bool) -> Result<(), ChainError>
-    requires { AllByRecursion (ArePlaces (found_templates found.now))
+    requires named { AreNamed (found_templates found.now) (strings found.now.names.keys) }
+    requires places { AllByRecursion (ArePlaces (found_templates found.now))
         (graph_of found.now.ways.items) }
     ensures kept { OnOk result (AllByRecursion
-        (λ way. KeepAll escaping (templates_at (found_templates found.now) way))
+        (λ way. KeepAll (sources_in (found_templates found.now)) escaping
+        (templates_at (found_templates found.now) way))
         (graph_of found.now.ways.items)) }
     ensures broken { IfErr result
         (λ e. BreaksAt escaping (found_templates found.now) (graph_of found.now.ways.items) e) }
 {
     for way in &found.ways {
-        check_rules(alloc, &found.pages, way, escaping)?;
+        let shelf = Shelf {
+            names: &found.names,
+            pages: &found.pages,
+        };
+        check_rules(alloc, shelf, way, escaping)?;
     }
     Ok(())
 }
 
-/// The chains of these numbers.
+/// The chains and libraries of these numbers.
 fn homes_in(alloc: Global, found: &Found, order: &[usize]) -> Result<Vec<Home>, AllocError>
     requires all { length found.now.ways.items ≡ length (found_homes found.now) }
     requires within { AllByRecursion (λ i. i < length found.now.ways.items) order.now }
@@ -103,16 +115,18 @@ fn homes_in(alloc: Global, found: &Found, order: &[usize]) -> Result<Vec<Home>, 
     Ok(homes)
 }
 
-/// The chain of a number.
+/// The chain or the library of a number.
 fn home_of(alloc: Global, found: &Found, number: usize) -> Result<Home, AllocError>
     requires all { length found.now.ways.items ≡ length (found_homes found.now) }
     requires within { number < length found.now.ways.items }
-    ensures name { IfOk result (λ h. home_name h ≡ home_at (found_homes found.now) number) }
+    ensures home { IfOk result (λ h. home_view h ≡ home_at (found_homes found.now) number) }
     ensures templates { IfOk result
         (λ h. h.templates.items ≡ next_of (graph_of found.now.ways.items) number) }
 {
+    let home = &found.homes.as_slice()[number];
     Ok(Home {
-        name: String::from_str(alloc, &found.homes.as_slice()[number])?,
+        name: String::from_str(alloc, &home.name)?,
+        is_library: home.is_library,
         templates: Vec::from_slice(alloc, &found.ways[number])?,
     })
 }

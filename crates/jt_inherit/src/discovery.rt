@@ -1,14 +1,14 @@
-//! The chains that an entry reaches, in the order in which they are found.
+//! The chains and libraries that an entry reaches, in the order in which they are found.
 
 ghost use Rattle.std.specs.Prelude.{◌≡◌, ◌+◌, ◌<◌, length, OnOk, IfOk, IfErr};
 ghost use Rattle.jt_inherit.specs.Found.{IsFirst, IsFound, found_homes, root_of};
 ghost use Rattle.jt_inherit.specs.Refusals.{Breaks};
 
 use crate::error::ChainError;
-use crate::including::{next_chains, read_includes};
+use crate::including::{next_homes, read_includes};
 use crate::library::Library;
-use crate::sets::put;
-use crate::way::read_way;
+use crate::sets::{HomeKey, put_home};
+use crate::way::read_home;
 use indexmap::IndexSet;
 use jt_chains::Page;
 use jt_scan::Options;
@@ -21,11 +21,11 @@ pub(crate) struct Found {
     pub(crate) names: IndexSet<String>,
     /// These templates, each once.
     pub(crate) pages: Vec<Page>,
-    /// The chains by the names of their entries.
-    pub(crate) homes: IndexSet<String>,
-    /// Of each chain that was followed the places of its templates.
+    /// The chains and libraries, each once.
+    pub(crate) homes: IndexSet<HomeKey>,
+    /// Of each that was followed the places of its templates.
     pub(crate) ways: Vec<Vec<usize>>,
-    /// Of each chain that was followed the numbers of those that it includes.
+    /// Of each that was followed the numbers of those that it includes or imports.
     pub(crate) next: Vec<Vec<usize>>,
 }
 
@@ -34,7 +34,14 @@ fn begin(alloc: Global, entry: &str) -> Result<Found, AllocError>
     ensures { IfOk result (λ f. IsFirst entry.now f) }
 {
     let mut homes = IndexSet::new(alloc);
-    put(alloc, &mut homes, entry)?;
+    let name = String::from_str(alloc, entry)?;
+    put_home(
+        &mut homes,
+        HomeKey {
+            name,
+            is_library: false,
+        },
+    )?;
     Ok(Found {
         names: IndexSet::new(alloc),
         pages: Vec::new(alloc),
@@ -44,7 +51,7 @@ fn begin(alloc: Global, entry: &str) -> Result<Found, AllocError>
     })
 }
 
-/// Follows the next chain: reads its templates and what they include.
+/// Follows the next chain or library: reads its templates and what they include and import.
 fn follow<L: Library>(
     alloc: Global,
     found: &mut Found,
@@ -61,7 +68,7 @@ fn follow<L: Library>(
 {
     let homes = found.homes.as_slice();
     let home = &homes[found.ways.len()];
-    let way = read_way(
+    let way = read_home(
         alloc,
         &mut found.names,
         &mut found.pages,
@@ -78,13 +85,13 @@ fn follow<L: Library>(
         options,
     )?;
     found.pages.append(&mut fresh)?;
-    let next = next_chains(alloc, &found.names, &mut found.homes, &found.pages, &way)?;
+    let next = next_homes(alloc, &found.names, &mut found.homes, &found.pages, &way)?;
     found.ways.push(way)?;
     found.next.push(next)?;
     Ok(())
 }
 
-/// Finds the chains that an entry reaches.
+/// Finds the chains and libraries that an entry reaches.
 pub(crate) fn discover<L: Library>(
     alloc: Global,
     entry: &str,

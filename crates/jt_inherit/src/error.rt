@@ -21,7 +21,8 @@ pub enum ChainError {
     /// A template extends itself, by way of others or not.
     #[error("C3 ExtendsCycle")]
     ExtendsCycle,
-    /// A chain has more than 16 templates, or the entry's chain and those that includes reach are more than 1,024.
+    /// A chain has more than 64 templates, or the entry's chain and those that includes reach are
+    /// more than 1,024.
     #[error("C4 ChainTooLong")]
     ChainTooLong,
     /// A template has two blocks of one name.
@@ -36,12 +37,18 @@ pub enum ChainError {
     /// A chain includes itself, by way of others or not.
     #[error("C8 IncludeCycle")]
     IncludeCycle,
-    /// A chain has two macros of one name.
+    /// A chain or a library has a name twice, of its macros and of those that imports give.
     #[error("C9 MacroTwice")]
     MacroTwice,
     /// A growth was refused.
     #[error("C10 NoMemory")]
     NoMemory,
+    /// `from` names a macro that the library doesn't have.
+    #[error("C11 NoMacro")]
+    NoMacro,
+    /// An imported template holds something else than macros.
+    #[error("C12 NotALibrary")]
+    NotALibrary,
     /// The source of the template of this name has no cut.
     #[error("{1} in {0} line {line}", line = scan_line(.1))]
     Scan(String, ScanError),

@@ -1,24 +1,25 @@
-//! What the templates of a chain include: the templates, and the chains that begin there.
+//! What the templates of a chain include and import: the templates, and the chains and libraries
+//! that they are.
 
-ghost use Rattle.std.specs.Prelude.{◌≡◌, ◌≤◌, ◌++◌, ◌∷◌, [], ◌⊎◌, true, false, List, length, slice_get, Some, OnOk, IfOk, IfErr, IsTrue, if◌then◌else◌};
+ghost use Rattle.std.specs.Prelude.{◌≡◌, ◌≤◌, ◌++◌, ◌∷◌, [], ◌⊎◌, true, false, List, length, OnOk, IfOk, IfErr, IsTrue, string_bytes};
 ghost use Rattle.std.specs.List.{AllByRecursion};
-ghost use Rattle.jt_trees.specs.Texts.{among, repeated};
+ghost use Rattle.jt_trees.specs.Texts.{among};
 ghost use Rattle.jt_trees.specs.Expressions.{Text};
 ghost use Rattle.jt_chains.specs.Along.{ArePlaces};
-ghost use Rattle.jt_inherit.specs.Along.{includes_along};
-ghost use Rattle.jt_chains.specs.Chain.{Template};
-ghost use Rattle.jt_inherit.specs.Found.{IsMet, IsFaultAt, IsNeedFault, AreNext, AddsNext, IsNextFault, known_of, chosen};
-ghost use Rattle.jt_inherit.specs.Needs.{need_view, needed, needs_view};
+ghost use Rattle.jt_inherit.specs.Along.{includes_along, imports_along, needs_along};
+ghost use Rattle.jt_chains.specs.Chain.{Template, a_chain, listed};
+ghost use Rattle.jt_inherit.specs.Found.{IsMet, IsFaultAt, IsNeedFault, AreNext, AddsNext, IsNextFault, chosen, chains_of, twice};
+ghost use Rattle.jt_inherit.specs.Needs.{need_home, need_view, needed, needs_view};
 ghost use Rattle.jt_chains.specs.Pages.{pages_view};
-ghost use Rattle.jt_inherit.specs.SetView.{strings};
+ghost use Rattle.jt_inherit.specs.SetView.{key_view, homes_view, strings};
 ghost use Rattle.jt_inherit.specs.Ways.{AreKnown};
 
 use crate::error::ChainError;
 use crate::library::Library;
 use crate::reading::read_page;
-use crate::sets::{find, put};
+use crate::sets::{HomeKey, count_chains, find, find_home, put_home};
 use crate::shelf::add_page;
-use crate::statements::{Include, add_includes};
+use crate::statements::{Include, add_imports, add_includes};
 use indexmap::IndexSet;
 use jt_chains::Page;
 use jt_scan::Options;
@@ -44,8 +45,39 @@ fn includes_at<'a>(
     Ok(found)
 }
 
-/// Reads the template that is included where it wasn't read before. It is none where it is missing
-/// and may be.
+/// Adds the imports of the templates at these places.
+fn add_imports_at<'a>(
+    pages: &'a [Page],
+    places: &[usize],
+    found: &mut Vec<Include<'a>>,
+) -> Result<(), AllocError>
+    requires { ArePlaces (pages_view pages.now) places.now }
+    ensures { IfOk result (λ _. needs_view found.new.items
+        ≡ needs_view found.old.items ++ imports_along (pages_view pages.now) places.now) }
+{
+    for place in places {
+        add_imports(found, pages[*place].template.body())?;
+    }
+    Ok(())
+}
+
+/// The includes and imports of the templates at these places.
+fn needs_at<'a>(
+    alloc: Global,
+    pages: &'a [Page],
+    places: &[usize],
+) -> Result<Vec<Include<'a>>, AllocError>
+    requires { ArePlaces (pages_view pages.now) places.now }
+    ensures { IfOk result
+        (λ found. needs_view found.items ≡ needs_along (pages_view pages.now) places.now) }
+{
+    let mut found = includes_at(alloc, pages, places)?;
+    add_imports_at(pages, places, &mut found)?;
+    Ok(found)
+}
+
+/// Reads the template that is included or imported where it wasn't read before. It is none where
+/// it is missing and may be.
 fn read_include<L: Library>(
     alloc: Global,
     names: &mut IndexSet<String>,
@@ -82,7 +114,7 @@ fn read_include<L: Library>(
     }
 }
 
-/// Reads the templates that are included and that weren't read before.
+/// Reads the templates that are included or imported and that weren't read before.
 pub(crate) fn read_includes<L: Library>(
     alloc: Global,
     names: &mut IndexSet<String>,
@@ -96,19 +128,19 @@ pub(crate) fn read_includes<L: Library>(
     requires places { ArePlaces (pages_view pages.now) way.now }
     ensures known { IfOk result (λ fresh. AreKnown (L.sources library.now) options
         (pages_view pages.now ++ pages_view fresh.items) (strings names.new.keys)) }
-    // what is new is included
+    // what is new is included or imported
     ensures from { OnOk result ((n : Text)
         → IsTrue (among n (strings names.new.keys))
         → IsTrue (among n (strings names.old.keys))
-        ⊎ IsTrue (among n (needed true (includes_along (pages_view pages.now) way.now)))) }
+        ⊎ IsTrue (among n (needed true (needs_along (pages_view pages.now) way.now)))) }
     ensures met { OnOk result (AllByRecursion
         (IsMet (L.sources library.now) (strings names.new.keys))
-        (includes_along (pages_view pages.now) way.now)) }
+        (needs_along (pages_view pages.now) way.now)) }
     ensures refused { IfErr result (λ e. (e ≡ ChainError.NoMemory)
         ⊎ IsNeedFault (L.sources library.now) options
-        (includes_along (pages_view pages.now) way.now) e) }
+        (needs_along (pages_view pages.now) way.now) e) }
 {
-    let found = includes_at(alloc, pages, way)?;
+    let found = needs_at(alloc, pages, way)?;
     let mut fresh = Vec::new(alloc);
     for include in &found {
         read_include(alloc, names, &mut fresh, *include, library, options)?;
@@ -116,77 +148,104 @@ pub(crate) fn read_includes<L: Library>(
     Ok(fresh)
 }
 
-/// The number of the chain of a name, which is put behind the others where it is new.
-fn number_of(alloc: Global, homes: &mut IndexSet<String>, name: &str) -> Result<usize, ChainError>
-    requires { length (strings homes.old.keys) ≤ MAX_CHAINS }
-    ensures number { IfOk result (λ i. slice_get (strings homes.new.keys) i ≡ Some name.now) }
-    ensures put { OnOk result (strings homes.new.keys
-        ≡ (if among name.now (strings homes.old.keys) then strings homes.old.keys else strings
-        homes.old.keys
-        ++ name.now
-        ∷ [])) }
-    ensures few { OnOk result (length (strings homes.new.keys) ≤ MAX_CHAINS) }
+/// The chain that begins with what is included, or the library that is imported.
+fn home_of(alloc: Global, include: Include<'_>) -> Result<HomeKey, AllocError>
+    ensures { IfOk result (λ k. key_view k ≡ need_home (need_view include.entry)) }
+{
+    Ok(HomeKey {
+        name: String::from_str(alloc, include.name)?,
+        is_library: include.is_library,
+    })
+}
+
+/// Puts a chain or a library, which is new, behind the others.
+fn put_new(homes: &mut IndexSet<HomeKey>, home: HomeKey) -> Result<(), ChainError>
+    requires new { listed (key_view home) (homes_view homes.old.keys) ≡ false }
+    requires few { length (chains_of (homes_view homes.old.keys)) ≤ MAX_CHAINS }
+    ensures put { OnOk result
+        (homes_view homes.new.keys ≡ homes_view homes.old.keys ++ key_view home ∷ []) }
+    ensures few { OnOk result (length (chains_of (homes_view homes.new.keys)) ≤ MAX_CHAINS) }
     ensures refused { IfErr result (λ e. (e ≡ ChainError.NoMemory)
         ⊎ ((e ≡ ChainError.ChainTooLong)
-        × (length (strings homes.old.keys) ≡ MAX_CHAINS)
-        × (among name.now (strings homes.old.keys) ≡ false))) }
+        × (length (chains_of (homes_view homes.old.keys)) ≡ MAX_CHAINS)
+        × (key_view home ≡ a_chain (string_bytes home.name)))) }
 {
-    if let Some(number) = find(homes, name) {
+    if home.is_library {
+        put_home(homes, home)?;
+        return Ok(());
+    }
+    if count_chains(homes) == MAX_CHAINS {
+        return Err(ChainError::ChainTooLong);
+    }
+    put_home(homes, home)?;
+    Ok(())
+}
+
+/// The number of a chain or a library, which is put behind the others where it is new.
+fn number_of(homes: &mut IndexSet<HomeKey>, home: HomeKey) -> Result<usize, ChainError>
+    requires once { twice (homes_view homes.old.keys) ≡ false }
+    requires few { length (chains_of (homes_view homes.old.keys)) ≤ MAX_CHAINS }
+    ensures next { IfOk result (λ i. AreNext (homes_view homes.old.keys)
+        (homes_view homes.new.keys) (key_view home ∷ []) (i ∷ [])) }
+    ensures refused { IfErr result
+        (λ e. IsNextFault (homes_view homes.old.keys) (key_view home ∷ []) e) }
+{
+    if let Some(number) = find_home(homes, &home) {
         return Ok(number);
     }
     let number = homes.len();
-    if number == MAX_CHAINS {
-        return Err(ChainError::ChainTooLong);
-    }
-    put(alloc, homes, name)?;
+    put_new(homes, home)?;
     Ok(number)
 }
 
-/// Adds the number of the chain of a name, where there is a template of the name.
+/// Adds the number of what is included or imported, where there is a template of the name.
 fn add_number(
     alloc: Global,
     names: &IndexSet<String>,
-    homes: &mut IndexSet<String>,
+    homes: &mut IndexSet<HomeKey>,
     numbers: &mut Vec<usize>,
-    name: &str,
+    include: Include<'_>,
 ) -> Result<(), ChainError>
-    requires once { repeated (strings homes.old.keys) ≡ false }
-    requires few { length (strings homes.old.keys) ≤ MAX_CHAINS }
-    ensures next { OnOk result (AddsNext (strings homes.old.keys) (strings homes.new.keys)
-        (known_of (strings names.now.keys) (name.now ∷ [])) numbers.old.items numbers.new.items) }
-    ensures refused { IfErr result (λ e. IsNextFault (strings homes.old.keys)
-        (known_of (strings names.now.keys) (name.now ∷ [])) e) }
+    requires once { twice (homes_view homes.old.keys) ≡ false }
+    requires few { length (chains_of (homes_view homes.old.keys)) ≤ MAX_CHAINS }
+    ensures next { OnOk result (AddsNext (homes_view homes.old.keys) (homes_view homes.new.keys)
+        (chosen (strings names.now.keys) (need_view include.entry ∷ []))
+        numbers.old.items numbers.new.items) }
+    ensures refused { IfErr result (λ e. IsNextFault (homes_view homes.old.keys)
+        (chosen (strings names.now.keys) (need_view include.entry ∷ [])) e) }
 {
-    let Some(_place) = find(names, name) else {
+    let Some(_place) = find(names, include.name) else {
         return Ok(());
     };
-    let number = number_of(alloc, homes, name)?;
+    let home = home_of(alloc, include)?;
+    let number = number_of(homes, home)?;
     numbers.push(number)?;
     Ok(())
 }
 
-/// The numbers of the chains that a chain with these templates includes; new ones are put behind
-/// the others.
-pub(crate) fn next_chains(
+/// The numbers of the chains and libraries that one with these templates leads to; new ones are
+/// put behind the others.
+pub(crate) fn next_homes(
     alloc: Global,
     names: &IndexSet<String>,
-    homes: &mut IndexSet<String>,
+    homes: &mut IndexSet<HomeKey>,
     pages: &[Page],
     way: &[usize],
 ) -> Result<Vec<usize>, ChainError>
     requires places { ArePlaces (pages_view pages.now) way.now }
-    requires once { repeated (strings homes.old.keys) ≡ false }
-    requires few { length (strings homes.old.keys) ≤ MAX_CHAINS }
-    ensures next { IfOk result (λ numbers. AreNext (strings homes.old.keys) (strings homes.new.keys)
-        (chosen (strings names.now.keys) (includes_along (pages_view pages.now) way.now))
+    requires once { twice (homes_view homes.old.keys) ≡ false }
+    requires few { length (chains_of (homes_view homes.old.keys)) ≤ MAX_CHAINS }
+    ensures next { IfOk result (λ numbers. AreNext (homes_view homes.old.keys)
+        (homes_view homes.new.keys)
+        (chosen (strings names.now.keys) (needs_along (pages_view pages.now) way.now))
         numbers.items) }
-    ensures refused { IfErr result (λ e. IsNextFault (strings homes.old.keys)
-        (chosen (strings names.now.keys) (includes_along (pages_view pages.now) way.now)) e) }
+    ensures refused { IfErr result (λ e. IsNextFault (homes_view homes.old.keys)
+        (chosen (strings names.now.keys) (needs_along (pages_view pages.now) way.now)) e) }
 {
-    let found = includes_at(alloc, pages, way)?;
+    let found = needs_at(alloc, pages, way)?;
     let mut numbers = Vec::new(alloc);
     for include in &found {
-        add_number(alloc, names, homes, &mut numbers, include.name)?;
+        add_number(alloc, names, homes, &mut numbers, *include)?;
     }
     Ok(numbers)
 }

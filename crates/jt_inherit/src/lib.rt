@@ -1,9 +1,10 @@
-//! Chains of templates: what an entry extends and includes, read from a library.
+//! Chains of templates: what an entry extends, includes and imports, read from a library.
 #![tactic(auto)]
 
 mod chaining;
 mod discovery;
 mod error;
+mod importing;
 mod including;
 mod library;
 mod names;

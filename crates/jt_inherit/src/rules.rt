@@ -1,21 +1,24 @@
-//! The rules that a whole chain keeps.
+//! The rules that a whole chain keeps, or a library.
 
 ghost use Rattle.std.specs.Prelude.{◌≡◌, ◌&&◌, ◌||◌, ◌++◌, ◌∷◌, [], List, not, IfOk, IfErr, OnOk, if◌then◌else◌};
 ghost use Rattle.std.specs.Str.{bytes_eq};
 ghost use Rattle.jt_trees.specs.Texts.{among, repeated};
 ghost use Rattle.jt_trees.specs.Expressions.{Text};
 ghost use Rattle.jt_chains.specs.Along.{ArePlaces, templates_at};
-ghost use Rattle.jt_chains.specs.Chain.{Template};
-ghost use Rattle.jt_inherit.specs.Checks.{lacks_body, lacks_next, block_names, macro_names};
+ghost use Rattle.jt_chains.specs.Chain.{Template, sources_in};
+ghost use Rattle.jt_inherit.specs.Checks.{lacks_body, lacks_next, block_names};
 ghost use Rattle.jt_inherit.specs.Kept as spec;
 ghost use Rattle.jt_chains.specs.Pages.{pages_view};
 ghost use Rattle.jt_chains.specs.Parts.{blocks_view};
-ghost use Rattle.jt_inherit.specs.SetView.{texts};
+ghost use Rattle.jt_inherit.specs.SetView.{strings, texts};
+ghost use Rattle.jt_inherit.specs.Ways.{AreNamed};
 
 use crate::error::ChainError;
+use crate::importing::{any_lacks_macros, names_at};
+use crate::shelf::Shelf;
 use crate::supers::calls_super;
 use indexmap::IndexSet;
-use jt_chains::{Block, Macro, Page, blocks_at, blocks_of_page, macros_at};
+use jt_chains::{Block, Page, blocks_at, blocks_of_page};
 use std::alloc::{AllocError, Global};
 
 /// Adds a name; whether it was there before.
@@ -41,13 +44,13 @@ pub(crate) fn blocks_repeat(alloc: Global, blocks: &[Block<'_>]) -> Result<bool,
     Ok(false)
 }
 
-/// Whether two of the macros have one name.
-pub(crate) fn macros_repeat(alloc: Global, macros: &[Macro<'_>]) -> Result<bool, AllocError>
-    ensures { IfOk result (λ found. found ≡ repeated (macro_names macros.now)) }
+/// Whether two of the names are one.
+fn names_repeat(alloc: Global, given: &[&str]) -> Result<bool, AllocError>
+    ensures { IfOk result (λ found. found ≡ repeated (texts given.now)) }
 {
     let mut names = IndexSet::new(alloc);
-    for found in macros {
-        if note(&mut names, found.name)? {
+    for name in given {
+        if note(&mut names, *name)? {
             return Ok(true);
         }
     }
@@ -125,27 +128,32 @@ fn any_double(
     Ok(false)
 }
 
-/// Refuses a chain of the templates at these places where its blocks or macros break a rule.
+/// Refuses a chain or a library of the templates at these places where its blocks, macros or
+/// imports break a rule.
 pub(crate) fn check_rules(
     alloc: Global,
-    pages: &[Page],
+    shelf: Shelf<'_>,
     places: &[usize],
     escaping: bool,
 ) -> Result<(), ChainError>
-    requires { ArePlaces (pages_view pages.now) places.now }
-    ensures kept { OnOk result
-        (spec.KeepAll escaping (templates_at (pages_view pages.now) places.now)) }
-    ensures broken { IfErr result
-        (spec.BreakOne escaping (templates_at (pages_view pages.now) places.now)) }
+    requires named { AreNamed (pages_view shelf.pages.now)
+        (strings shelf.names.now.keys) }
+    requires places { ArePlaces (pages_view shelf.pages.now) places.now }
+    ensures kept { OnOk result (spec.KeepAll (sources_in (pages_view shelf.entry.pages.now))
+        escaping (templates_at (pages_view shelf.entry.pages.now) places.now)) }
+    ensures broken { IfErr result (spec.BreakOne (sources_in (pages_view shelf.entry.pages.now))
+        escaping (templates_at (pages_view shelf.entry.pages.now) places.now)) }
 {
-    if any_double(alloc, pages, places, escaping)? {
+    if any_double(alloc, shelf.pages, places, escaping)? {
         return Err(ChainError::DoubleBlock);
     }
-    let macros = macros_at(alloc, pages, places)?;
-    if macros_repeat(alloc, &macros)? {
+    if any_lacks_macros(alloc, shelf, places)? {
+        return Err(ChainError::NoMacro);
+    }
+    if names_repeat(alloc, &names_at(alloc, shelf, places)?)? {
         return Err(ChainError::MacroTwice);
     }
-    let blocks = blocks_at(alloc, pages, places, escaping)?;
+    let blocks = blocks_at(alloc, shelf.pages, places, escaping)?;
     if any_lacks_body(alloc, &blocks)? {
         return Err(ChainError::RequiredNotGiven);
     }

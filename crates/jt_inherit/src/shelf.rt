@@ -18,6 +18,13 @@ use jt_chains::Page;
 use jt_scan::Options;
 use std::alloc::{AllocError, Global};
 
+/// The templates that were read, each once, with their names beside them.
+#[derive(Clone, Copy)]
+pub(crate) struct Shelf<'a> {
+    pub(crate) names: &'a IndexSet<String>,
+    pub(crate) pages: &'a [Page],
+}
+
 /// Puts a template, whose name is new, behind the others.
 pub(crate) fn add_page(
     alloc: Global,

@@ -1,19 +1,21 @@
 //! What the statements of a template name: the template that it extends, and those that it
-//! includes.
+//! includes or imports.
 
 ghost use Rattle.std.specs.Prelude.{◌≡◌, ◌++◌, option_map, IfOk};
 ghost use Rattle.jt_trees.specs.StatementView.{stmt_view, body_view};
 ghost use Rattle.jt_chains.specs.Chain.{extends_of};
-ghost use Rattle.jt_inherit.specs.Needs.{includes_of, includes_in, needs_view};
+ghost use Rattle.jt_inherit.specs.Needs.{includes_of, includes_in, imports_in, library_need, need_view, needs_view};
 
 use jt_trees::Stmt;
 use std::alloc::AllocError;
 
-/// An include: the template's name, and whether it may be missing.
+/// An include or an import: the template's name, whether it may be missing, and whether it is
+/// a library.
 #[derive(Clone, Copy)]
 pub struct Include<'a> {
     pub name: &'a str,
     pub ignoring: bool,
+    pub is_library: bool,
 }
 
 /// The name of the template that statements extend.
@@ -50,11 +52,17 @@ fn add_statement<'a>(found: &mut Vec<Include<'a>>, statement: &'a Stmt) -> Resul
         ≡ needs_view found.old.items ++ includes_of (stmt_view statement.now)) }
 {
     match statement {
-        Stmt::Data(_) | Stmt::Print(_, _) | Stmt::Set(_, _, _) | Stmt::Extends(_, _) => Ok(()),
+        Stmt::Data(_)
+        | Stmt::Print(_, _)
+        | Stmt::Set(_, _, _)
+        | Stmt::Import(_, _, _)
+        | Stmt::From(_, _, _)
+        | Stmt::Extends(_, _) => Ok(()),
         Stmt::Include(_, name, ignoring, _) => {
             found.push(Include {
                 name: name.as_str(),
                 ignoring: *ignoring,
+                is_library: false,
             })?;
             Ok(())
         }
@@ -77,4 +85,33 @@ fn add_statement<'a>(found: &mut Vec<Include<'a>>, statement: &'a Stmt) -> Resul
         | Stmt::Macro(_, _, _, body)
         | Stmt::Block(_, _, _, _, body) => add_includes(found, body),
     }
+}
+
+/// A library that is imported.
+fn imported(name: &str) -> Include<'_>
+    ensures { need_view result ≡ library_need name.now }
+{
+    Include {
+        name,
+        ignoring: false,
+        is_library: true,
+    }
+}
+
+/// Adds the imports of a template, in the order of the source.
+pub(crate) fn add_imports<'a>(
+    found: &mut Vec<Include<'a>>,
+    body: &'a [Stmt],
+) -> Result<(), AllocError>
+    ensures { IfOk result (λ _. needs_view found.new.items
+        ≡ needs_view found.old.items ++ imports_in (body_view body.now)) }
+{
+    for statement in body {
+        match statement {
+            Stmt::Import(_, library, _) => found.push(imported(library))?,
+            Stmt::From(_, library, _) => found.push(imported(library))?,
+            _ => {}
+        }
+    }
+    Ok(())
 }

@@ -115,6 +115,8 @@ fn statement_super(statement: &Stmt) -> bool
         Stmt::Data(_)
         | Stmt::Macro(_, _, _, _)
         | Stmt::Include(_, _, _, _)
+        | Stmt::Import(_, _, _)
+        | Stmt::From(_, _, _)
         | Stmt::Extends(_, _)
         | Stmt::Block(_, _, _, _, _) => false,
         Stmt::Print(_, expr) | Stmt::Set(_, _, expr) => has_super(expr),

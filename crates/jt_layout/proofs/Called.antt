@@ -9,7 +9,7 @@ use Rattle.jt_chains.specs.Parts.{macro_view}
 use Rattle.jt_chains.specs.declared.parts.Macro.{Macro}
 use Rattle.jt_meaning.specs.Layout.{Key, of_macro, place_of, first_default}
 use Rattle.jt_layout.specs.Places.{first_of, defaults_from}
-use Rattle.jt_layout.proofs.Firsts.{reflexive}
+use Rattle.jt_layout.proofs.Homes.{itself}
 
 module _ (ts : List Template) (x : Text) where
   -- what the first macro of the name is, at its place
@@ -46,7 +46,7 @@ module _ (ts : List Template) (x : Text) where
               named = q;
               meant = ap (λ c. if c then Some (macro_view ts m) else macro_of x (map (macro_view ts) ms)) q;
               default = λ d. (let z : d ≡ d + 0 = omega arith in ap Some z) ∙ ap (λ c. Some (d + (if c then 0 else size + front))) (sym q);
-              unit = λ h ks. ap (λ a. if a && bytes_eq m.name.now x then 0 else suc (place_of (of_macro h x) (map (λ k. of_macro h k.name) (map (macro_view ts) ms) ++ ks))) (reflexive h)
+              unit = λ h ks. ap (λ a. if a && bytes_eq m.name.now x then 0 else suc (place_of (of_macro h x) (map (λ k. of_macro h k.name) (map (macro_view ts) ms) ++ ks))) (itself h)
                   ∙ ap (λ a. if a then 0 else suc (place_of (of_macro h x) (map (λ k. of_macro h k.name) (map (macro_view ts) ms) ++ ks))) q;
             },
           )
@@ -60,7 +60,7 @@ module _ (ts : List Template) (x : Text) where
               named = r.2.named;
               meant = ap (λ c. if c then Some (macro_view ts m) else macro_of x (map (macro_view ts) ms)) q ∙ r.2.meant;
               default = λ d. r.2.default (d + size) ∙ (let z : (d + size) + front ≡ d + (size + front) = omega arith in ap Some z) ∙ ap (λ c. Some (d + (if c then 0 else size + front))) (sym q);
-              unit = λ h ks. ap (λ a. if a && bytes_eq m.name.now x then 0 else suc (place_of (of_macro h x) (map (λ k. of_macro h k.name) (map (macro_view ts) ms) ++ ks))) (reflexive h)
+              unit = λ h ks. ap (λ a. if a && bytes_eq m.name.now x then 0 else suc (place_of (of_macro h x) (map (λ k. of_macro h k.name) (map (macro_view ts) ms) ++ ks))) (itself h)
                   ∙ ap (λ a. if a then 0 else suc (place_of (of_macro h x) (map (λ k. of_macro h k.name) (map (macro_view ts) ms) ++ ks))) q
                   ∙ ap suc (r.2.unit h ks);
             },

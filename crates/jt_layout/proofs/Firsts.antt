@@ -3,26 +3,18 @@ use Rattle.std.proofs.Common.{◌≡◌, ℕ, zero, suc, ◌+◌, ◌<◌, Bool,
 use Rattle.std.specs.Prelude.{option_map, filter}
 use Rattle.std.specs.Option.{is_none}
 use Rattle.std.proofs.lemmas.List.{drop_more}
-use Rattle.std.proofs.lemmas.Cmp.{nat_list_eq_equiv}
-use Rattle.std.proofs.lemmas.Slice.Eq.{bytes_eq-Decides}
 use Rattle.std.specs.Str.{bytes_eq}
 use denote.Ref.{Bor}
-use Rattle.jt_trees.specs.Texts.{among}
 use Rattle.jt_trees.specs.Expressions.{Text}
-use Rattle.jt_chains.specs.Chain.{Home, Template, BlockBody, sources_in}
+use Rattle.jt_chains.specs.Chain.{Home, a_chain, same_home, listed, Template, BlockBody, sources_in}
 use Rattle.jt_chains.specs.Places.{home_at}
 use Rattle.jt_slots.specs.Slots.{global}
 use Rattle.jt_meaning.specs.Layout.{slot_in, globals_from, counted_from}
 use Rattle.jt_meaning.specs.Resolve.{first_body}
 use Rattle.jt_uses.specs.Names.{texts}
-use Rattle.jt_layout.specs.Laid.{IsChainAt}
-use Rattle.jt_layout.specs.Places.{first_of}
-
-pub same : (x y : Text) → bytes_eq x y ≡ true → x ≡ y
-same x y = (bytes_eq-Decides x y).0
-
-pub reflexive : (x : Text) → bytes_eq x x ≡ true
-reflexive x = nat_list_eq_equiv.refl x
+use Rattle.jt_layout.specs.Laid.{IsHomeAt}
+use Rattle.jt_layout.specs.Places.{first_of, first_home}
+use Rattle.jt_layout.proofs.Homes.{same_is}
 
 pub or_right : (a b : Bool) → b ≡ true → (a || b) ≡ true
 or_right true b h = refl
@@ -69,36 +61,36 @@ of_sources x n (t ∷ ts) = by (bytes_eq t.name x) (of_sources x (suc n) ts)
     by true h = refl
     by false h = h
 
--- chains
-abbrev IsFrom : List Home → Text → ℕ → Option ℕ → Type 0
-IsFrom hs x n None = among x hs ≡ false
-IsFrom hs x n (Some i) = (j : ℕ) × (i ≡ n + j) × (j < length hs) × (home_at hs j ≡ x)
+-- chains and libraries
+abbrev IsFrom : List Home → Home → ℕ → Option ℕ → Type 0
+IsFrom hs h n None = listed h hs ≡ false
+IsFrom hs h n (Some i) = (j : ℕ) × (i ≡ n + j) × (j < length hs) × (home_at hs j ≡ h)
 
-from : (x : Text) (n : ℕ) (hs : List Home) → IsFrom hs x n (first_of x n hs)
-from x n [] = refl
-from x n (h ∷ hs) = by (bytes_eq h x) refl (from x (suc n) hs)
+from : (h : Home) (n : ℕ) (hs : List Home) → IsFrom hs h n (first_home h n hs)
+from h n [] = refl
+from h n (k ∷ hs) = by (same_home k h) refl (from h (suc n) hs)
   where
-    later : (o : Option ℕ) → bytes_eq h x ≡ false → IsFrom hs x (suc n) o → IsFrom (h ∷ hs) x n o
-    later None e r = ap (λ b. b || among x hs) e ∙ r
+    later : (o : Option ℕ) → same_home k h ≡ false → IsFrom hs h (suc n) o → IsFrom (k ∷ hs) h n o
+    later None e r = ap (λ b. b || listed h hs) e ∙ r
     later (Some i) e r = (suc r.0, omega (arith, r.1), omega (arith, r.2), r.3)
 
-    by : (b : Bool) → bytes_eq h x ≡ b → IsFrom hs x (suc n) (first_of x (suc n) hs) → IsFrom (h ∷ hs) x n (if b then Some n else first_of x (suc n) hs)
-    by true e r = (0, omega arith, omega arith, same h x e)
-    by false e r = later (first_of x (suc n) hs) e r
+    by : (b : Bool) → same_home k h ≡ b → IsFrom hs h (suc n) (first_home h (suc n) hs) → IsFrom (k ∷ hs) h n (if b then Some n else first_home h (suc n) hs)
+    by true e r = (0, omega arith, omega arith, same_is k h e)
+    by false e r = later (first_home h (suc n) hs) e r
 
-pub is_chain : (x : Text) (order : List Home) (o : Option ℕ) → o ≡ first_of x 0 order → IsChainAt order x o
-is_chain x order None e = subst (IsFrom order x 0) (sym e) (from x 0 order)
-is_chain x order (Some i) e =
-    let r : IsFrom order x 0 (Some i) = subst (IsFrom order x 0) (sym e) (from x 0 order) in
+pub is_home : (h : Home) (order : List Home) (o : Option ℕ) → o ≡ first_home h 0 order → IsHomeAt order h o
+is_home h order None e = subst (IsFrom order h 0) (sym e) (from h 0 order)
+is_home h order (Some i) e =
+    let r : IsFrom order h 0 (Some i) = subst (IsFrom order h 0) (sym e) (from h 0 order) in
     let is : i ≡ r.0 = omega (arith, r.1) in
     (omega (arith, r.2), ap (home_at order) is ∙ r.3)
 
--- ---- chains by their places
+-- ---- chains and libraries by their places
 
-pub home_get : (hs : List Home) (i : ℕ) → get_or hs i [] ≡ home_at hs i
+pub home_get : (hs : List Home) (i : ℕ) → get_or hs i (a_chain []) ≡ home_at hs i
 home_get [] i = refl
 home_get (h ∷ hs) zero = refl
 home_get (h ∷ hs) (suc i) = home_get hs i
 
 pub homes_left : (hs : List Home) (i : ℕ) → i < length hs → drop i hs ≡ home_at hs i ∷ drop (i + 1) hs
-homes_left hs i lt = drop_more hs i [] lt ∙ ap (λ h. h ∷ drop (i + 1) hs) (home_get hs i)
+homes_left hs i lt = drop_more hs i (a_chain []) lt ∙ ap (λ h. h ∷ drop (i + 1) hs) (home_get hs i)

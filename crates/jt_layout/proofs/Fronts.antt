@@ -1,42 +1,42 @@
--- What is in front of a chain, one chain more.
+-- What is in front of a chain or a library, one more of them.
 use Rattle.std.proofs.Common.{◌≡◌, ℕ, zero, suc, ◌+◌, ◌<◌, ◌==◌, Bool, true, false, not, ◌&&◌, ◌||◌, List, [], ◌∷◌, ◌++◌, length, map, refl, sym, ap, ◌∙◌, if◌then◌else◌, arith, length-append, append_assoc, rules}
 use Rattle.std.proofs.lemmas.List.{length-map}
 use Rattle.std.specs.Prelude.{flat_map}
 use Rattle.std.specs.Str.{bytes_eq}
-use Rattle.jt_trees.specs.Texts.{among}
 use Rattle.jt_trees.specs.Expressions.{Text}
-use Rattle.jt_chains.specs.Chain.{Home, BlockBody, MacroBody, macros, all_bodies}
+use Rattle.jt_chains.specs.Chain.{Home, a_chain, a_library, same_home, listed, BlockBody, MacroBody, macros, all_bodies}
 use Rattle.jt_rules.specs.World.{World}
-use Rattle.jt_meaning.specs.Layout.{Key, of_chain, of_macro, of_body, same_key, place_of, chain_keys, unit, names, counted_from, numbered_bodies, first_in, first_slot, default_in, default_place, defaults_of, first_default}
+use Rattle.jt_meaning.specs.Layout.{Key, of_chain, of_macro, of_body, same_key, place_of, entry_keys, chain_keys, unit, names, counted_from, numbered_bodies, first_in, first_slot, default_in, default_place, defaults_of, first_default}
 use Rattle.jt_layout.specs.Front.{home_of, Stands}
 use Rattle.jt_layout.specs.declared.front.Front.{Front}
 use Rattle.jt_layout.proofs.Bodied.{length-counted}
-use Rattle.jt_layout.proofs.Firsts.{same, reflexive, or_right}
+use Rattle.jt_layout.proofs.Firsts.{or_right}
+use Rattle.jt_layout.proofs.Homes.{reflexive, same_is, itself}
 
--- a chain that is behind another has another name
-pub apart : (h : Home) (hs : List Home) → not (among h hs) ≡ true → (k : Home) → among k hs ≡ true → bytes_eq h k ≡ false
-apart h hs n k a = by (bytes_eq h k) refl
+-- what is behind another is another one
+pub apart : (h : Home) (hs : List Home) → not (listed h hs) ≡ true → (k : Home) → listed k hs ≡ true → same_home h k ≡ false
+apart h hs n k a = by (same_home h k) refl
   where
-    by : (b : Bool) → bytes_eq h k ≡ b → b ≡ false
+    by : (b : Bool) → same_home h k ≡ b → b ≡ false
     by false e = refl
     by true e =
-        let there : among h hs ≡ true = ap (λ x. among x hs) (same h k e) ∙ a in
+        let there : listed h hs ≡ true = ap (λ x. listed x hs) (same_is h k e) ∙ a in
         let false_is : not true ≡ true = sym (ap not there) ∙ n in
         absurd (cc)
 
 -- ---- keys of another chain
 
-chain_apart : (h : Home) (k : Key) → bytes_eq h (home_of k) ≡ false → same_key (of_chain h) k ≡ false
-chain_apart h (of_chain a) e = e
-chain_apart h (of_macro a x) e = refl
-chain_apart h (of_body a i) e = refl
+chain_apart : (n : Text) (k : Key) → same_home (a_chain n) (home_of k) ≡ false → same_key (of_chain n) k ≡ false
+chain_apart n (of_chain a) e = e
+chain_apart n (of_macro a x) e = refl
+chain_apart n (of_body a i) e = refl
 
-macro_apart : (h : Home) (x : Text) (k : Key) → bytes_eq h (home_of k) ≡ false → same_key (of_macro h x) k ≡ false
+macro_apart : (h : Home) (x : Text) (k : Key) → same_home h (home_of k) ≡ false → same_key (of_macro h x) k ≡ false
 macro_apart h x (of_chain a) e = refl
 macro_apart h x (of_macro a y) e = ap (λ b. b && bytes_eq x y) e
 macro_apart h x (of_body a i) e = refl
 
-body_apart : (h : Home) (n : ℕ) (k : Key) → bytes_eq h (home_of k) ≡ false → same_key (of_body h n) k ≡ false
+body_apart : (h : Home) (n : ℕ) (k : Key) → same_home h (home_of k) ≡ false → same_key (of_body h n) k ≡ false
 body_apart h n (of_chain a) e = refl
 body_apart h n (of_macro a y) e = refl
 body_apart h n (of_body a i) e = ap (λ b. b && (n == i)) e
@@ -44,7 +44,11 @@ body_apart h n (of_body a i) e = ap (λ b. b && (n == i)) e
 passed : (j k : Key) (ks : List Key) → same_key j k ≡ false → place_of k (j ∷ ks) ≡ suc (place_of k ks)
 passed j k ks e = ap (λ b. if b then 0 else suc (place_of k ks)) e
 
-module _ (h : Home) (k : Key) (e : bytes_eq h (home_of k) ≡ false) where
+entries_passed : (w : World) (h : Home) (k : Key) → same_home h (home_of k) ≡ false → (rest : List Key) → place_of k (entry_keys w h ++ rest) ≡ length (entry_keys w h) + place_of k rest
+entries_passed w (a_chain n) k e rest = passed (of_chain n) k rest (chain_apart n k e) ∙ omega arith
+entries_passed w (a_library n) k e rest = omega arith
+
+module _ (h : Home) (k : Key) (e : same_home h (home_of k) ≡ false) where
   macros_passed : (ms : List MacroBody) (rest : List Key) → place_of k (map (λ m. of_macro h m.name) ms ++ rest) ≡ length ms + place_of k rest
   macros_passed [] rest = omega arith
   macros_passed (m ∷ ms) rest =
@@ -56,6 +60,15 @@ module _ (h : Home) (k : Key) (e : bytes_eq h (home_of k) ≡ false) where
       passed (of_body h b.0) k (map (λ b. of_body h b.0) bs ++ rest) (body_apart h b.0 k e) ∙ omega (arith, bodies_passed bs rest)
 
 -- ---- keys of the chain itself
+
+-- macros and bodies have other keys than chains
+entries_before_macro : (w : World) (g h : Home) (x : Text) (rest : List Key) → place_of (of_macro h x) (entry_keys w g ++ rest) ≡ length (entry_keys w g) + place_of (of_macro h x) rest
+entries_before_macro w (a_chain n) h x rest = omega arith
+entries_before_macro w (a_library n) h x rest = omega arith
+
+entries_before_body : (w : World) (g h : Home) (i : ℕ) (rest : List Key) → place_of (of_body h i) (entry_keys w g ++ rest) ≡ length (entry_keys w g) + place_of (of_body h i) rest
+entries_before_body w (a_chain n) h i rest = omega arith
+entries_before_body w (a_library n) h i rest = omega arith
 
 -- macros have other keys than bodies
 macros_before : (h : Home) (i : ℕ) (ms : List MacroBody) (rest : List Key) → place_of (of_body h i) (map (λ m. of_macro h m.name) ms ++ rest) ≡ length ms + place_of (of_body h i) rest
@@ -73,12 +86,12 @@ body_at h n i [] rest lt = absurd (omega arith)
 body_at h n zero (b ∷ bs) rest lt =
     let later = map (λ (c : ℕ × BlockBody). of_body h c.0) (counted_from (suc n) bs) ++ rest in
     let is : n ≡ n + 0 = omega arith in
-    ap (λ a. if a && (n == (n + 0)) then 0 else suc (place_of (of_body h (n + 0)) later)) (reflexive h)
+    ap (λ a. if a && (n == (n + 0)) then 0 else suc (place_of (of_body h (n + 0)) later)) (itself h)
     ∙ ap (λ a. if a then 0 else suc (place_of (of_body h (n + 0)) later)) (equal_numbers n (n + 0) is)
 body_at h n (suc i) (b ∷ bs) rest lt =
     let later = map (λ (c : ℕ × BlockBody). of_body h c.0) (counted_from (suc n) bs) ++ rest in
     let is : n + suc i ≡ suc n + i = omega arith in
-    ap (λ a. if a && (n == (n + suc i)) then 0 else suc (place_of (of_body h (n + suc i)) later)) (reflexive h)
+    ap (λ a. if a && (n == (n + suc i)) then 0 else suc (place_of (of_body h (n + suc i)) later)) (itself h)
     ∙ ap (λ a. if a then 0 else suc (place_of (of_body h (n + suc i)) later)) (different_numbers n i)
     ∙ ap suc (ap (λ m. place_of (of_body h m) later) is ∙ body_at h (suc n) i bs rest (omega arith))
 
@@ -95,39 +108,43 @@ module _ (world : World) (h : Home) where
   abbrev pub body_keys : List Key
   body_keys = map (λ b. of_body h b.0) (numbered_bodies world h)
 
-  -- the keys of a chain, and how many they are
-  in_parts : (rest : List Key) → chain_keys world h ++ rest ≡ of_chain h ∷ (macro_keys ++ (body_keys ++ rest))
-  in_parts rest = ap (λ l. of_chain h ∷ l) (append_assoc macro_keys body_keys rest)
+  -- the keys of a chain or a library, and how many they are
+  in_parts : (rest : List Key) → chain_keys world h ++ rest ≡ entry_keys world h ++ (macro_keys ++ (body_keys ++ rest))
+  in_parts rest = append_assoc (entry_keys world h) (macro_keys ++ body_keys) rest ∙ ap (λ l. entry_keys world h ++ l) (append_assoc macro_keys body_keys rest)
 
-  pub count_keys : length (chain_keys world h) ≡ suc (length ms + length bs)
+  pub count_keys : length (chain_keys world h) ≡ length (entry_keys world h) + (length ms + length bs)
   count_keys =
+      let whole = length-append (entry_keys world h) (macro_keys ++ body_keys) in
       let all = length-append macro_keys body_keys in
       let first = length-map ms (λ (m : MacroBody). of_macro h m.name) in
       let second = length-map (numbered_bodies world h) (λ (b : ℕ × BlockBody). of_body h b.0) in
       let third = length-counted 0 bs in
-      omega (arith, all, first, second, third)
+      omega (arith, whole, all, first, second, third)
 
-  -- keys of another chain are behind them
-  pub others : (k : Key) (rest : List Key) → bytes_eq h (home_of k) ≡ false → place_of k (chain_keys world h ++ rest) ≡ length (chain_keys world h) + place_of k rest
+  -- keys of another one are behind them
+  pub others : (k : Key) (rest : List Key) → same_home h (home_of k) ≡ false → place_of k (chain_keys world h ++ rest) ≡ length (chain_keys world h) + place_of k rest
   others k rest e =
-      let first = passed (of_chain h) k (macro_keys ++ (body_keys ++ rest)) (chain_apart h k e) in
+      let first = entries_passed world h k e (macro_keys ++ (body_keys ++ rest)) in
       let second = macros_passed h k e ms (body_keys ++ rest) in
       let third = bodies_passed h k e (numbered_bodies world h) rest in
       ap (place_of k) (in_parts rest) ∙ omega (arith, first, second, third, count_keys, length-counted 0 bs)
 
-  pub chain_key : (rest : List Key) → place_of (of_chain h) (chain_keys world h ++ rest) ≡ 0
-  chain_key rest = ap (λ b. if b then 0 else suc (place_of (of_chain h) ((macro_keys ++ body_keys) ++ rest))) (reflexive h)
+  pub macro_key : (x : Text) (j : ℕ) (rest : List Key) → ((ks : List Key) → place_of (of_macro h x) (macro_keys ++ ks) ≡ j) → place_of (of_macro h x) (chain_keys world h ++ rest) ≡ length (entry_keys world h) + j
+  macro_key x j rest f =
+      ap (place_of (of_macro h x)) (in_parts rest) ∙ entries_before_macro world h h x (macro_keys ++ (body_keys ++ rest)) ∙ ap (λ n. length (entry_keys world h) + n) (f (body_keys ++ rest))
 
-  pub macro_key : (x : Text) (j : ℕ) (rest : List Key) → ((ks : List Key) → place_of (of_macro h x) (macro_keys ++ ks) ≡ j) → place_of (of_macro h x) (chain_keys world h ++ rest) ≡ suc j
-  macro_key x j rest f = ap (place_of (of_macro h x)) (in_parts rest) ∙ ap suc (f (body_keys ++ rest))
-
-  pub body_key : (i : ℕ) (rest : List Key) → i < length bs → place_of (of_body h i) (chain_keys world h ++ rest) ≡ suc (length ms + i)
+  pub body_key : (i : ℕ) (rest : List Key) → i < length bs → place_of (of_body h i) (chain_keys world h ++ rest) ≡ length (entry_keys world h) + (length ms + i)
   body_key i rest lt =
       let is : i ≡ 0 + i = omega arith in
-      ap (place_of (of_body h i)) (in_parts rest)
-      ∙ ap suc (macros_before h i ms (body_keys ++ rest) ∙ ap (λ n. length ms + n) (ap (λ n. place_of (of_body h n) (body_keys ++ rest)) is ∙ body_at h 0 i bs rest lt))
+      ap (place_of (of_body h i)) (in_parts rest) ∙ entries_before_body world h h i (macro_keys ++ (body_keys ++ rest))
+      ∙ ap (λ n. length (entry_keys world h) + n)
+      (macros_before h i ms (body_keys ++ rest) ∙ ap (λ n. length ms + n) (ap (λ n. place_of (of_body h n) (body_keys ++ rest)) is ∙ body_at h 0 i bs rest lt))
 
--- ---- the first of the chains that are left
+pub chain_key : (world : World) (n : Text) (rest : List Key) → place_of (of_chain n) (chain_keys world (a_chain n) ++ rest) ≡ 0
+chain_key world n rest =
+    ap (λ b. if b then 0 else suc (place_of (of_chain n) ((macro_keys world (a_chain n) ++ body_keys world (a_chain n)) ++ rest))) (reflexive n)
+
+-- ---- the first of those that are left
 
 module _ (world : World) (order : List Home) where
   -- nothing is in front of the first chain; the place 0 of the pool is the undefined value
@@ -143,48 +160,51 @@ module _ (world : World) (order : List Home) where
     abbrev behind : List Key
     behind = flat_map (chain_keys world) rest
 
-    here : among h (h ∷ rest) ≡ true
-    here = ap (λ b. b || among h rest) (reflexive h)
+    here : listed h (h ∷ rest) ≡ true
+    here = ap (λ b. b || listed h rest) (itself h)
 
     pub slot_here : first_slot world order h ≡ f.slot
     slot_here =
-        let first : first_in world order (h ∷ rest) h ≡ 0 = ap (λ b. if b then 0 else length (names world order h) + first_in world order rest h) (reflexive h) in
+        let first : first_in world order (h ∷ rest) h ≡ 0 = ap (λ b. if b then 0 else length (names world order h) + first_in world order rest h) (itself h) in
         omega (arith, s.slots h here, first)
 
-    pub chain_unit : unit world order (of_chain h) ≡ f.unit
-    chain_unit = omega (arith, s.units (of_chain h) here, chain_key world h behind)
+    pub chain_unit : (n : Text) → h ≡ a_chain n → unit world order (of_chain n) ≡ f.unit
+    chain_unit n e =
+        let there : listed (a_chain n) (h ∷ rest) ≡ true = ap (λ k. listed k (h ∷ rest)) (sym e) ∙ here in
+        let first : place_of (of_chain n) (chain_keys world h ++ behind) ≡ 0 = ap (λ k. place_of (of_chain n) (chain_keys world k ++ behind)) e ∙ chain_key world n behind in
+        omega (arith, s.units (of_chain n) there, first)
 
-    pub macro_unit : (x : Text) (j : ℕ) → ((ks : List Key) → place_of (of_macro h x) (macro_keys world h ++ ks) ≡ j) → unit world order (of_macro h x) ≡ f.unit + suc j
+    pub macro_unit : (x : Text) (j : ℕ) → ((ks : List Key) → place_of (of_macro h x) (macro_keys world h ++ ks) ≡ j) → unit world order (of_macro h x) ≡ f.unit + (length (entry_keys world h) + j)
     macro_unit x j g = omega (arith, s.units (of_macro h x) here, macro_key world h x j behind g)
 
-    pub body_unit : (i : ℕ) → i < length (all_bodies world.sources world.escaping h) → unit world order (of_body h i) ≡ f.unit + suc (length (macros world.sources h) + i)
+    pub body_unit : (i : ℕ) → i < length (all_bodies world.sources world.escaping h) → unit world order (of_body h i) ≡ f.unit + (length (entry_keys world h) + (length (macros world.sources h) + i))
     body_unit i lt = omega (arith, s.units (of_body h i) here, body_key world h i behind lt)
 
     pub default_here : (x : Text) → default_place world order h x ≡ f.default + first_default x (macros world.sources h)
     default_here x =
         let first : default_in world order (h ∷ rest) h x ≡ first_default x (macros world.sources h) =
-        ap (λ b. if b then first_default x (macros world.sources h) else length (defaults_of (macros world.sources h)) + default_in world order rest h x) (reflexive h) in
+        ap (λ b. if b then first_default x (macros world.sources h) else length (defaults_of (macros world.sources h)) + default_in world order rest h x) (itself h) in
         s.defaults h x here ∙ ap (λ n. f.default + n) first
 
     -- and the next one
-    module _ (new : not (among h rest) ≡ true) (g : Front) where
+    module _ (new : not (listed h rest) ≡ true) (g : Front) where
       pub front_turn : g.slot ≡ f.slot + length (names world order h) → g.unit ≡ f.unit + length (chain_keys world h) → g.default ≡ f.default + length (defaults_of (macros world.sources h))
           → Stands world order rest g
       front_turn p q r = record {
         slots = λ k a.
             let e = apart h rest new k a in
-            let before = s.slots k (or_right (bytes_eq h k) (among k rest) a) in
+            let before = s.slots k (or_right (same_home h k) (listed k rest) a) in
             let next : first_in world order (h ∷ rest) k ≡ length (names world order h) + first_in world order rest k =
             ap (λ b. if b then 0 else length (names world order h) + first_in world order rest k) e in
             omega (arith, before, next, p);
         units = λ k a.
             let e = apart h rest new (home_of k) a in
-            let before = s.units k (or_right (bytes_eq h (home_of k)) (among (home_of k) rest) a) in
+            let before = s.units k (or_right (same_home h (home_of k)) (listed (home_of k) rest) a) in
             let next = others world h k behind e in
             omega (arith, before, next, q);
         defaults = λ k x a.
             let e = apart h rest new k a in
-            let before = s.defaults k x (or_right (bytes_eq h k) (among k rest) a) in
+            let before = s.defaults k x (or_right (same_home h k) (listed k rest) a) in
             let next : default_in world order (h ∷ rest) k x ≡ length (defaults_of (macros world.sources h)) + default_in world order rest k x =
             ap (λ b. if b then first_default x (macros world.sources k) else length (defaults_of (macros world.sources h)) + default_in world order rest k x) e in
             omega (arith, before, next, r);

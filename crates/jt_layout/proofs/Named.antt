@@ -1,22 +1,23 @@
 -- Names that are put in order, and names of chains.
-use Rattle.std.proofs.Common.{◌≡◌, ℕ, ◌+◌, ◌<◌, Bool, true, false, cond, length, drop, get_or, Vec, Global, if◌then◌else◌, List, [], ◌∷◌, ◌++◌, refl, sym, ap, ◌∙◌, Option, Some, None}
+use Rattle.std.proofs.Common.{◌≡◌, ℕ, ◌+◌, ◌<◌, Bool, true, false, cond, length, drop, get_or, Vec, Global, if◌then◌else◌, List, [], ◌∷◌, ◌++◌, map, refl, sym, ap, ◌∙◌, Option, Some, None, append_assoc}
 use Rattle.std.specs.Prelude.{flat_map, filter}
 use Rattle.std.specs.Option.{is_some, is_none}
 use Rattle.std.specs.Str.{bytes_eq}
 use Rattle.std.specs.BTreeSet.{insert_key}
-use Rattle.std.proofs.lemmas.List.{drop_more}
+use Rattle.std.proofs.lemmas.List.{drop_more, append-nil}
 use denote.Ref.{Bor}
 use Rattle.jt_trees.specs.Expressions.{Text}
 use Rattle.jt_trees.specs.Texts.{all_inserted, ascending}
-use Rattle.jt_chains.specs.Chain.{Home, Sources}
-use Rattle.jt_chains.specs.Includes.{included}
+use Rattle.jt_chains.specs.Chain.{Home, a_chain, a_library, same_home, Sources, templates, libraries}
+use Rattle.jt_chains.specs.Includes.{included, needs_in, with_source}
 use Rattle.jt_chains.specs.Places.{home_at}
 use Rattle.jt_chains.specs.Uses.{own_names}
 use Rattle.jt_rules.specs.World.{World}
-use Rattle.jt_meaning.specs.Layout.{names_in}
+use Rattle.jt_meaning.specs.Layout.{in_globals, names_in}
 use Rattle.jt_uses.specs.Names.{texts}
-use Rattle.jt_layout.specs.Places.{texts_of}
-use Rattle.jt_layout.proofs.Firsts.{same, reflexive, homes_left}
+use Rattle.jt_layout.specs.Places.{all_names, texts_of}
+use Rattle.jt_layout.proofs.Firsts.{homes_left}
+use Rattle.jt_layout.proofs.Homes.{same}
 use Rattle.jt_uses.proofs.Inserted.{inserted_both, name_cmp, key_inserted}
 
 -- one name more goes into a set
@@ -66,6 +67,41 @@ module _ (N : Text → List Text) (sources : Sources) (ks : List (Bor Text)) (i 
       let rest = filter (λ m. is_some (sources m)) (texts (drop (i + 1) ks)) in
       ap (λ l. all_inserted l old) (sym (here ∙ ap (λ b. flat_map N (cond b (k.now ∷ rest) rest)) there))
 
+-- ---- the names of a chain and of those that it leads to
+
+flat_map-append : {A B : Type 0} (f : A → List B) (xs ys : List A) → flat_map f (xs ++ ys) ≡ flat_map f xs ++ flat_map f ys
+flat_map-append f [] ys = refl
+flat_map-append f (x ∷ xs) ys = ap (λ l. f x ++ l) (flat_map-append f xs ys) ∙ sym (append_assoc (f x) (flat_map f xs) (flat_map f ys))
+
+flat_map-map : {A B C : Type 0} (f : B → List C) (g : A → B) (xs : List A) → flat_map f (map g xs) ≡ flat_map (λ x. f (g x)) xs
+flat_map-map f g [] = refl
+flat_map-map f g (x ∷ xs) = ap (λ l. f (g x) ++ l) (flat_map-map f g xs)
+
+-- a library has no globals
+pub no_names : (world : World) (hs : List Home) (n : Text) → names_in world hs (a_library n) ≡ []
+no_names world [] n = refl
+no_names world (k ∷ hs) n = by (same_home k (a_library n)) (no_names world hs n)
+  where
+    by : (b : Bool) → names_in world hs (a_library n) ≡ [] → (if b then [] else names_in world hs (a_library n)) ≡ []
+    by true r = refl
+    by false r = r
+
+no_names_of : (world : World) (hs : List Home) (ns : List Text) → flat_map (names_in world hs) (map a_library ns) ≡ []
+no_names_of world hs [] = refl
+no_names_of world hs (n ∷ ns) = ap (λ l. l ++ flat_map (names_in world hs) (map a_library ns)) (no_names world hs n) ∙ no_names_of world hs ns
+
+-- the included chains' names are those of all that a chain leads to
+names_of_included : (world : World) (hs : List Home) (h : Home)
+    → flat_map (names_in world hs) (included world.sources h)
+    ≡ flat_map (λ x. names_in world hs (a_chain x)) (with_source world.sources (flat_map (λ t. needs_in true t.body) (templates world.sources h)))
+names_of_included world hs h =
+    let cs : List Text = with_source world.sources (flat_map (λ t. needs_in true t.body) (templates world.sources h)) in
+    let ls : List Text = with_source world.sources (libraries world.sources h) in
+    flat_map-append (names_in world hs) (map a_chain cs) (map a_library ls)
+    ∙ ap (λ l. flat_map (names_in world hs) (map a_chain cs) ++ l) (no_names_of world hs ls)
+    ∙ append-nil (flat_map (names_in world hs) (map a_chain cs))
+    ∙ flat_map-map (names_in world hs) a_chain cs
+
 module _ (world : World) (order : List Home) (i : ℕ) (lt : i < length order) where
   abbrev h : Home
   h = home_at order i
@@ -74,22 +110,28 @@ module _ (world : World) (order : List Home) (i : ℕ) (lt : i < length order) w
   behind = drop (i + 1) order
 
   -- the names of the first chain of those that are left
-  pub names_here : (ns : List Text) → ns ≡ all_inserted (flat_map (names_in world behind) (included world.sources h)) (ascending (own_names world.sources h)) → ns ≡ names_in world (drop i order) h
+  pub names_here : (ns : List Text)
+      → ns ≡ all_inserted (flat_map (λ x. names_in world behind (a_chain x)) (with_source world.sources (flat_map (λ t. needs_in true t.body) (templates world.sources h)))) (ascending (own_names world.sources h))
+      → ns ≡ all_names world behind h
   names_here ns e =
       let own = own_names world.sources h in
-      let others = flat_map (names_in world behind) (included world.sources h) in
-      e ∙ sym (inserted_both own others [])
-      ∙ ap (λ b. if b then ascending (own ++ others) else names_in world behind h) (sym (reflexive h))
-      ∙ ap (λ l. names_in world l h) (sym (homes_left order i lt))
+      let others = flat_map (λ x. names_in world behind (a_chain x)) (with_source world.sources (flat_map (λ t. needs_in true t.body) (templates world.sources h))) in
+      e ∙ sym (inserted_both own others []) ∙ ap (λ l. ascending (own ++ l)) (sym (names_of_included world behind h))
+
+  in_front : (k x : Home) → h ≡ k → (if same_home k x then in_globals x (all_names world behind x) else names_in world behind x) ≡ names_in world (drop i order) x
+  in_front k x e =
+      ap (λ z. if same_home z x then in_globals x (all_names world behind x) else names_in world behind x) (sym e)
+      ∙ ap (λ l. names_in world l x) (sym (homes_left order i lt))
 
   -- and those of any chain
-  pub names_turn : (ns : List Text) (old : List Text) (x : Text) → ns ≡ names_in world (drop i order) h → old ≡ names_in world behind x
-      → (if bytes_eq h x then ns else old) ≡ names_in world (drop i order) x
-  names_turn ns old x e g = by (bytes_eq h x) refl
+  pub names_turn : (ns old : List Text) (n x : Text) → h ≡ a_chain n → ns ≡ all_names world behind h → old ≡ names_in world behind (a_chain x)
+      → (if bytes_eq n x then ns else old) ≡ names_in world (drop i order) (a_chain x)
+  names_turn ns old n x is e g = by (bytes_eq n x) refl ∙ in_front (a_chain n) (a_chain x) is
     where
-      others : List Text
-      others = ascending (own_names world.sources x ++ flat_map (names_in world behind) (included world.sources x))
+      by : (b : Bool) → bytes_eq n x ≡ b → (if b then ns else old) ≡ (if b then all_names world behind (a_chain x) else names_in world behind (a_chain x))
+      by true q = e ∙ ap (all_names world behind) (is ∙ ap a_chain (same n x q))
+      by false q = g
 
-      by : (b : Bool) → bytes_eq h x ≡ b → (if b then ns else old) ≡ names_in world (drop i order) x
-      by true q = e ∙ ap (names_in world (drop i order)) (same h x q)
-      by false q = g ∙ ap (λ b. if b then others else names_in world behind x) (sym q) ∙ ap (λ l. names_in world l x) (sym (homes_left order i lt))
+  -- where a library stands
+  pub names_kept : (old : List Text) (n x : Text) → h ≡ a_library n → old ≡ names_in world behind (a_chain x) → old ≡ names_in world (drop i order) (a_chain x)
+  names_kept old n x is g = g ∙ in_front (a_library n) (a_chain x) is

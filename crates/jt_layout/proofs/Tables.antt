@@ -1,14 +1,13 @@
--- The table of a chain.
-use Rattle.std.proofs.Common.{◌≡◌, ℕ, zero, suc, ◌+◌, ◌<◌, true, false, not, ◌||◌, List, [], ◌∷◌, ◌++◌, length, map, drop, get_or, refl, sym, ap, subst, ◌∙◌, Option, Some, None, if◌then◌else◌, arith, add-one, string_bytes}
+-- The table of a chain or a library.
+use Rattle.std.proofs.Common.{◌≡◌, ℕ, zero, suc, ◌+◌, ◌<◌, Bool, true, false, not, ◌||◌, List, [], ◌∷◌, ◌++◌, length, map, drop, get_or, refl, sym, ap, subst, ◌∙◌, Option, Some, None, if◌then◌else◌, arith, add-one, string_bytes}
 use Rattle.std.proofs.lemmas.List.{length-map}
 use Rattle.std.specs.Prelude.{slice_get, option_map}
 use Rattle.std.specs.Option.{is_some, is_none}
-use Rattle.std.specs.Str.{bytes_eq}
-use Rattle.jt_trees.specs.Texts.{among}
 use Rattle.jt_trees.specs.Expressions.{Text}
-use Rattle.jt_chains.specs.Chain.{Home, Sources, Template, BlockBody, MacroBody, macros, macro_of, all_bodies, sources_in}
+use Rattle.jt_chains.specs.Chain.{Home, a_chain, same_home, listed, Sources, Template, BlockBody, MacroBody, macros, macro_of, given, given_to, all_bodies, sources_in}
 use Rattle.jt_chains.specs.Includes.{InOrder}
-use Rattle.jt_chains.specs.Pages.{home_name, page_view, pages_view}
+use Rattle.jt_chains.specs.Named.{names_view}
+use Rattle.jt_chains.specs.Pages.{home_view, page_view, pages_view}
 use Rattle.jt_chains.specs.Parts.{macro_view, block_view}
 use Rattle.jt_chains.specs.Places.{home_at}
 use Rattle.jt_chains.specs.Uses as uses
@@ -18,29 +17,32 @@ use Rattle.jt_chains.specs.declared.linked.Page.{Page}
 use Rattle.jt_chains.specs.declared.parts.Block.{Block}
 use Rattle.jt_rules.specs.World.{World}
 use Rattle.jt_slots.specs.Slots.{global}
-use Rattle.jt_meaning.specs.Layout.{slot_in, globals_from, counted_from, of_macro, of_body, place_of, first_default, default_place, numbered_of, names, scopes, block_parameters, is_scoped, unit, defaults_of}
+use Rattle.jt_meaning.specs.Layout.{in_globals, slot_in, globals_from, counted_from, of_macro, of_body, entry_keys, place_of, first_default, default_place, numbered_of, names, scopes, block_parameters, is_scoped, unit, defaults_of}
 use Rattle.jt_meaning.specs.Resolve.{first_body}
 use Rattle.jt_layout.specs.Front.{Stands, its_world, its_order, its_home}
-use Rattle.jt_layout.specs.Laid.{IsCalled}
-use Rattle.jt_layout.specs.Places.{first_of, defaults_from, nexts}
+use Rattle.jt_layout.specs.Laid.{is_library, IsCalled, IsGiven}
+use Rattle.jt_layout.specs.Places.{home_named, first_of, defaults_from, nexts}
 use Rattle.jt_layout.specs.declared.front.Front.{Front}
 use Rattle.jt_layout.specs.declared.laid.Laid.{Laid}
 use Rattle.jt_layout.proofs.Bodied.{length-counted, length-nexts}
 use Rattle.jt_layout.proofs.Called.{first_macro, no_macro}
-use Rattle.jt_layout.proofs.Firsts.{same, reflexive, or_right, in_slots, first_bodies, homes_left, of_sources}
+use Rattle.jt_layout.proofs.Firsts.{or_right, in_slots, first_bodies, homes_left, of_sources}
+use Rattle.jt_layout.proofs.FirstGiven.{first_given, nothing_given}
+use Rattle.jt_layout.proofs.Homes.{same, itself}
+use Rattle.jt_layout.proofs.Named.{no_names}
 use Rattle.jt_layout.proofs.Fronts.{apart, macro_unit, body_unit, default_here, front_turn, count_keys}
 
 map_both : {A B C : Type 0} (f : B → C) (g : A → B) (xs : List A) → map (λ x. f (g x)) xs ≡ map f (map g xs)
 map_both f g [] = refl
 map_both f g (x ∷ xs) = ap (λ l. f (g x) ∷ l) (map_both f g xs)
 
--- a chain is among the chains, and not among those behind it
-among_at : (hs : List Home) (i : ℕ) → i < length hs → among (home_at hs i) hs ≡ true
-among_at [] i lt = absurd (omega arith)
-among_at (h ∷ hs) zero lt = ap (λ b. b || among h hs) (reflexive h)
-among_at (h ∷ hs) (suc i) lt = or_right (bytes_eq h (home_at hs i)) (among (home_at hs i) hs) (among_at hs i (omega arith))
+-- each is listed, and not among those behind it
+listed_at : (hs : List Home) (i : ℕ) → i < length hs → listed (home_at hs i) hs ≡ true
+listed_at [] i lt = absurd (omega arith)
+listed_at (h ∷ hs) zero lt = ap (λ b. b || listed h hs) (itself h)
+listed_at (h ∷ hs) (suc i) lt = or_right (same_home h (home_at hs i)) (listed (home_at hs i) hs) (listed_at hs i (omega arith))
 
-new_at : (s : Sources) (hs : List Home) (i : ℕ) → i < length hs → InOrder s hs → not (among (home_at hs i) (drop (suc i) hs)) ≡ true
+new_at : (s : Sources) (hs : List Home) (i : ℕ) → i < length hs → InOrder s hs → not (listed (home_at hs i) (drop (suc i) hs)) ≡ true
 new_at s [] i lt o = absurd (omega arith)
 new_at s (h ∷ hs) zero lt o = o.0
 new_at s (h ∷ hs) (suc i) lt o = new_at s hs i (omega arith) o.1.1
@@ -62,7 +64,7 @@ module _ (c : Chain) (i : ℕ) (lt : i < length c.homes.items) (f : Front) where
   rest = drop (i + 1) O
 
   within : i < length O
-  within = omega (arith, lt, length-map c.homes.items home_name)
+  within = omega (arith, lt, length-map c.homes.items home_view)
 
   abbrev Here : Type 0
   Here = Stands W O (h ∷ rest) f
@@ -74,7 +76,7 @@ module _ (c : Chain) (i : ℕ) (lt : i < length c.homes.items) (f : Front) where
     pub slots_laid : (ns : List Text) (x : Text) (p : Option ℕ) → ns ≡ names W O h → p ≡ first_of x f.slot ns → option_map global p ≡ slot_in x (globals_from (f.slot) (names W O h))
     slots_laid ns x p e q = ap (option_map global) q ∙ in_slots x f.slot ns ∙ ap (λ l. slot_in x (globals_from f.slot l)) e
 
-    module _ (l : Laid) (all : map (macro_view ts) l.macros.items ≡ macros W.sources h) (defaults : l.defaults.items ≡ defaults_from f.default (macros W.sources h)) (units : l.macro_unit ≡ f.unit + 1) where
+    module _ (l : Laid) (all : map (macro_view ts) l.macros.items ≡ macros W.sources h) (defaults : l.defaults.items ≡ defaults_from f.default (macros W.sources h)) (units : l.macro_unit ≡ f.unit + length (entry_keys W h)) where
       pub is_called : (x : Text) (o : Option ℕ) → o ≡ first_of x 0 (map (λ m. m.name.now) l.macros.items) → IsCalled W O ts h l x o
       is_called x None e = ap (macro_of x) (sym all) ∙ no_macro ts x l.macros.items 0 (sym e)
       is_called x (Some k) e =
@@ -89,15 +91,22 @@ module _ (c : Chain) (i : ℕ) (lt : i < length c.homes.items) (f : Front) where
             meant = ap (macro_of x) (sym all) ∙ a.meant;
             first_default = ap (λ ds. slice_get ds k) defaults ∙ ap (λ ms. slice_get (defaults_from f.default ms) k) (sym all) ∙ ap (slice_get (defaults_from f.default (map (macro_view ts) l.macros.items))) is ∙ a.default f.default
                 ∙ ap (λ ms. Some (f.default + first_default x ms)) all ∙ ap Some (sym (default_here W O h rest f s x)) ∙ ap (λ y. Some (default_place W O h y)) name;
-            macro_unit = (let sum : l.macro_unit + k ≡ f.unit + suc r.0 = omega (arith, units, is) in sum) ∙ sym keyed ∙ ap (λ y. unit W O (of_macro h y)) name;
+            macro_unit = (let sum : l.macro_unit + k ≡ f.unit + (length (entry_keys W h) + r.0) = omega (arith, units, is) in sum) ∙ sym keyed ∙ ap (λ y. unit W O (of_macro h y)) name;
           }
+
+    pub is_given : (l : Laid) → names_view ts h l.given.items ≡ given W.sources h → (x : Text) (o : Option ℕ) → o ≡ first_of x 0 (map (λ g. g.name.now) l.given.items) → IsGiven W O ts h l x o
+    is_given l all x None e = ap (given_to x) (sym all) ∙ nothing_given ts h x l.given.items 0 (sym e)
+    is_given l all x (Some k) e =
+        let r = first_given ts h x l.given.items 0 k (sym e) in
+        let is : k ≡ r.0 = omega (arith, r.1) in
+        record { code = r.2.code; found = ap (slice_get l.given.items) is ∙ r.2.found; meant = ap (given_to x) (sym all) ∙ r.2.meant }
 
     -- the bodies
     module _ (bs : List Block) (all : map (block_view ts) bs ≡ all_bodies W.sources W.escaping h) where
       pub count_blocks : length bs ≡ length (all_bodies W.sources W.escaping h)
       count_blocks = sym (length-map bs (block_view ts)) ∙ ap length all
 
-      pub body_units : (u m k : ℕ) → u ≡ m + length (macros W.sources h) → m ≡ f.unit + 1 → k < length bs → u + k ≡ unit W O (of_body h k)
+      pub body_units : (u m k : ℕ) → u ≡ m + length (macros W.sources h) → m ≡ f.unit + length (entry_keys W h) → k < length bs → u + k ≡ unit W O (of_body h k)
       body_units u m k e g lt' =
           let there : k < length (all_bodies W.sources W.escaping h) = omega (arith, lt', count_blocks) in
           omega (arith, e, g, body_unit W O h rest f s k there)
@@ -111,17 +120,17 @@ module _ (c : Chain) (i : ℕ) (lt : i < length c.homes.items) (f : Front) where
 
     pub scoped_laid : (x : Text) (p : Option ℕ) (ns : List Text) → is_some p ≡ is_scoped W h x → ns ≡ uses.scope_names W.sources h → block_parameters W O h x ≡ (if is_some p then ns else [])
     scoped_laid x p ns e g =
-        let bound : scopes W O h ≡ ns = ap (λ b. if b then uses.scope_names W.sources h else []) (among_at O i within) ∙ sym g in
+        let bound : scopes W O h ≡ ns = ap (λ b. if b then uses.scope_names W.sources h else []) (listed_at O i within) ∙ sym g in
         ap (λ b. if b then scopes W O h else []) (sym e) ∙ ap (λ l. if is_some p then l else []) bound
 
     -- what is in front of the next chain
-    pub behind : (g : Front) (n ms bs : ℕ) → g.slot ≡ f.slot + n → n ≡ length (names W O h) → g.unit ≡ (f.unit + 1) + ms + bs → ms ≡ length (macros W.sources h)
+    pub behind : (g : Front) (n ms bs : ℕ) → g.slot ≡ f.slot + n → n ≡ length (names W O h) → g.unit ≡ (f.unit + length (entry_keys W h)) + ms + bs → ms ≡ length (macros W.sources h)
         → bs ≡ length (all_bodies W.sources W.escaping h) → g.default ≡ f.default + length (defaults_of (macros W.sources h)) → Stands W O rest g
     behind g n ms bs p q u a b d =
-        let new : not (among h rest) ≡ true = ap (λ k. not (among h (drop k O))) (add-one i) ∙ new_at W.sources O i within c.order in
+        let new : not (listed h rest) ≡ true = ap (λ k. not (listed h (drop k O))) (add-one i) ∙ new_at W.sources O i within c.order in
         front_turn W O h rest f s new g (omega (arith, p, q)) (omega (arith, u, a, b, count_keys W h)) d
 
--- ---- the chains one by one
+-- ---- one by one
 
 -- what holds of each of some tables, with one more behind them
 pub each_more : {A : Type 0} (P : ℕ → A → Type 0) (xs : List A) (y : A) → ((i : ℕ) (t : A) → i < length xs → t ≡ get_or xs i t → P i t) → P (length xs) y
@@ -133,17 +142,27 @@ each_more P (x ∷ xs) y all last (suc i) t lt is = each_more (λ j. P (suc j)) 
 
 module _ (c : Chain) (i : ℕ) (lt : i < length c.homes.items) where
   inside : i < length (its_order c)
-  inside = omega (arith, lt, length-map c.homes.items home_name)
+  inside = omega (arith, lt, length-map c.homes.items home_view)
 
-  pub among_left : among (its_home c i) (drop i (its_order c)) ≡ true
-  among_left = ap (among (its_home c i)) (homes_left (its_order c) i inside) ∙ ap (λ b. b || among (its_home c i) (drop (i + 1) (its_order c))) (reflexive (its_home c i))
+  pub listed_left : listed (its_home c i) (drop i (its_order c)) ≡ true
+  listed_left = ap (listed (its_home c i)) (homes_left (its_order c) i inside) ∙ ap (λ b. b || listed (its_home c i) (drop (i + 1) (its_order c))) (itself (its_home c i))
 
-  -- a chain behind it is another one
-  pub left_turn : (x : Home) → among x (drop (i + 1) (its_order c)) ≡ true → (bytes_eq (its_home c i) x ≡ false) × (among x (drop i (its_order c)) ≡ true)
+  -- what is behind it is another one
+  pub left_turn : (x : Home) → listed x (drop (i + 1) (its_order c)) ≡ true → (same_home (its_home c i) x ≡ false) × (listed x (drop i (its_order c)) ≡ true)
   left_turn x a = (
-    apart (its_home c i) (drop (i + 1) (its_order c)) (ap (λ k. not (among (its_home c i) (drop k (its_order c)))) (add-one i) ∙ new_at (sources_of (chain_view c)) (its_order c) i inside c.order) x a,
-    ap (among x) (homes_left (its_order c) i inside) ∙ or_right (bytes_eq (its_home c i) x) (among x (drop (i + 1) (its_order c))) a,
+    apart (its_home c i) (drop (i + 1) (its_order c)) (ap (λ k. not (listed (its_home c i) (drop k (its_order c)))) (add-one i) ∙ new_at (sources_of (chain_view c)) (its_order c) i inside c.order) x a,
+    ap (listed x) (homes_left (its_order c) i inside) ∙ or_right (same_home (its_home c i) x) (listed x (drop (i + 1) (its_order c))) a,
   )
+
+-- the names that are handed out for a chain or a library
+pub names_handed : (world : World) (order : List Home) (b : Bool) (n : Text) (k : Home) (old : Text → List Text) → k ≡ home_named b n
+    → ((x : Text) → k ≡ a_chain x → old x ≡ names world order (a_chain x)) → in_globals (home_named b n) (old n) ≡ names world order k
+names_handed world order true n k old e f = sym (no_names world order n) ∙ ap (names world order) (sym e)
+names_handed world order false n k old e f = f n e ∙ ap (names world order) (sym e)
+
+pub kind_named : (b : Bool) (n : Text) → b ≡ is_library (home_named b n)
+kind_named true n = refl
+kind_named false n = refl
 
 -- the templates that were read
 pub sources_laid : (ps : List Page) (x : Text) (p : Option ℕ) → p ≡ first_of x 0 (map (λ q. string_bytes q.name) ps) → is_none p ≡ is_none (sources_in (pages_view ps) x)

@@ -1,29 +1,31 @@
 //! The names of chains, from the last one to the first.
 
-ghost use Rattle.std.specs.Prelude.{◌≡◌, ◌<◌, ◌+◌, false, [], length, drop, IfOk, IfErr, if◌then◌else◌};
+ghost use Rattle.std.specs.Prelude.{◌≡◌, ◌<◌, ◌+◌, false, [], length, drop, IfOk, IfErr, if◌then◌else◌, string_bytes};
 ghost use Rattle.std.specs.Option.{is_none};
 ghost use Rattle.std.specs.Str.{bytes_eq};
 ghost use Rattle.jt_trees.specs.Texts.{all_inserted};
 ghost use Rattle.jt_trees.specs.Expressions.{Text};
+ghost use Rattle.jt_chains.specs.Chain.{a_chain, same_home};
+ghost use Rattle.jt_chains.specs.Pages.{home_view};
 ghost use Rattle.jt_chains.specs.Places.{home_at};
 ghost use Rattle.jt_chains.specs.View.{chain_view, sources_of};
 ghost use Rattle.jt_rules.specs.World.{world_of};
 ghost use Rattle.jt_rules.specs.declared.error.ScopeError.TheVariants as error;
-ghost use Rattle.jt_meaning.specs.Layout.{names_in};
+ghost use Rattle.jt_meaning.specs.Layout.{in_globals, names_in};
 ghost use Rattle.jt_uses.specs.Names.{texts};
 ghost use Rattle.jt_layout.specs.Names.{place_in};
-ghost use Rattle.jt_layout.specs.Places.{names_at};
+ghost use Rattle.jt_layout.specs.Places.{all_names, names_at};
 
 use crate::includes::included_names;
 use crate::index::Index;
 use crate::lists::list_of;
-use jt_chains::Chain;
+use jt_chains::{Chain, Home};
 use jt_rules::ScopeError;
 use jt_uses::own_names;
 use std::alloc::{AllocError, Global};
 use std::collections::{BTreeMap, BTreeSet};
 
-/// The names of chains, by the names of the chains.
+/// The names of chains, by the names of the chains. Libraries have no globals.
 #[derive(Drop)]
 pub(crate) struct Gathered<'a> {
     pub(crate) names: BTreeMap<&'a str, Vec<&'a str>>,
@@ -62,14 +64,18 @@ impl<'a> Gathered<'a> {
         }
     }
 
-    /// Hands out the names of a chain; none for one that isn't there.
-    pub(crate) fn take(&mut self, alloc: Global, chain: &str) -> Vec<&'a str>
-        ensures taken { texts result.items ≡ names_at self.old.names chain.now }
+    /// Hands out the names of a chain; none for one that isn't there, and none for a library.
+    pub(crate) fn take(&mut self, alloc: Global, home: &Home) -> Vec<&'a str>
+        ensures taken { texts result.items ≡ in_globals (home_view home.now)
+            (names_at self.old.names (string_bytes home.now.name)) }
         ensures others { (x : Text)
-            → bytes_eq chain.now x ≡ false
+            → same_home (home_view home.now) (a_chain x) ≡ false
             → names_at self.new.names x ≡ names_at self.old.names x }
     {
-        match self.names.remove(chain) {
+        if home.is_library {
+            return Vec::new(alloc);
+        }
+        match self.names.remove(home.name.as_str()) {
             Some(names) => names,
             None => Vec::new(alloc),
         }
@@ -87,7 +93,8 @@ fn add_names<'a>(names: &mut BTreeSet<&'a str>, others: &[&'a str]) -> Result<()
     Ok(())
 }
 
-/// The names of a chain and of those that it includes, where the names of the chains behind it are there.
+/// The names of a chain and of those that it includes, where the names of the chains behind it are
+/// there.
 fn names_of_chain<'a>(
     alloc: Global,
     chain: &'a Chain,
@@ -101,9 +108,9 @@ fn names_of_chain<'a>(
     requires behind { (x : Text)
         → names_at behind.now.names x
         ≡ names_in (world_of (chain_view chain.now)) (drop (home + 1) (chain_view chain.now).order)
-        x }
-    ensures { IfOk result (λ ns. texts ns.items
-        ≡ names_in (world_of (chain_view chain.now)) (drop home (chain_view chain.now).order)
+        (a_chain x) }
+    ensures { IfOk result (λ ns. texts ns.items ≡ all_names (world_of (chain_view chain.now))
+        (drop (home + 1) (chain_view chain.now).order)
         (home_at (chain_view chain.now).order home)) }
 {
     let mut names = own_names(alloc, chain, home)?;
@@ -127,15 +134,19 @@ pub(crate) fn gather<'a>(
         → is_none (place_in sources.now.places x) ≡ is_none (sources_of (chain_view chain.now) x) }
     ensures gathered { IfOk result (λ g. (x : Text)
         → names_at g.names x
-        ≡ names_in (world_of (chain_view chain.now)) (chain_view chain.now).order x) }
+        ≡ names_in (world_of (chain_view chain.now)) (chain_view chain.now).order (a_chain x)) }
     ensures refused { IfErr result (λ e. e ≡ error.NoMemory) }
 {
     let mut gathered = Gathered::new(alloc);
     let mut left = chain.homes.len();
     while left > 0 {
         left -= 1;
+        let itself = &chain.homes[left];
+        if itself.is_library {
+            continue;
+        }
         let names = names_of_chain(alloc, chain, left, sources, &gathered)?;
-        gathered.put(chain.homes[left].name.as_str(), names)?;
+        gathered.put(itself.name.as_str(), names)?;
     }
     Ok(gathered)
 }

@@ -31,7 +31,12 @@ fn add_statement<'a>(found: &mut Vec<&'a str>, statement: &'a Stmt) -> Result<()
         texts found.new.items ≡ texts found.old.items ++ needs_by true (stmt_view statement.now)) }
 {
     match statement {
-        Stmt::Data(_) | Stmt::Print(_, _) | Stmt::Set(_, _, _) | Stmt::Extends(_, _) => Ok(()),
+        Stmt::Data(_)
+        | Stmt::Print(_, _)
+        | Stmt::Set(_, _, _)
+        | Stmt::Import(_, _, _)
+        | Stmt::From(_, _, _)
+        | Stmt::Extends(_, _) => Ok(()),
         Stmt::Include(_, name, _, _) => {
             found.push(name.as_str())?;
             Ok(())

@@ -1,11 +1,13 @@
-//! How one chain is laid out.
+//! How one chain or library is laid out.
 
 use crate::index::Index;
-use jt_chains::{Block, Macro};
+use jt_chains::{Block, Macro, Named};
 
-/// How one chain is laid out: its names in slots of globals, its macros and its bodies as units.
+/// How one chain or library is laid out: its names in slots of globals, its macros and its bodies as
+/// units. A library has no globals, and no unit of its own.
 #[derive(Drop)]
 pub struct Laid<'a> {
+    pub is_library: bool,
     /// Its names and those of the chains that it includes, by their slots from the first one on.
     pub names: Vec<&'a str>,
     pub slots: Index<'a>,
@@ -18,6 +20,9 @@ pub struct Laid<'a> {
     pub macros: Vec<Macro<'a>>,
     pub called: Index<'a>,
     pub defaults: Vec<usize>,
+    /// The names that stand for macros and libraries, and their places by themselves.
+    pub given: Vec<Named<'a>>,
+    pub given_places: Index<'a>,
     /// The bodies of its blocks, the first ones by the blocks' names, and the next one of each that
     /// is not required.
     pub blocks: Vec<Block<'a>>,

@@ -1,9 +1,12 @@
-//! Lays out the chains that an entry's includes reach.
+//! Lays out the chains and libraries that an entry's includes and imports reach.
 
 ghost use Rattle.std.specs.Prelude.{◌≡◌, ◌<◌, ◌+◌, ℕ, true, false, length, drop, IfOk, IfErr, get_or};
 ghost use Rattle.std.specs.Option.{is_none};
 ghost use Rattle.jt_trees.specs.Expressions.{Text};
+ghost use Rattle.jt_chains.specs.Chain.{a_chain};
+ghost use Rattle.jt_chains.specs.Pages.{home_view};
 ghost use Rattle.jt_chains.specs.View.{chain_view};
+ghost use Rattle.jt_rules.specs.World.{World};
 ghost use Rattle.jt_rules.specs.declared.error.ScopeError.TheVariants as error;
 ghost use Rattle.jt_meaning.specs.Layout as layout;
 ghost use Rattle.jt_uses.specs.Names.{texts};
@@ -16,20 +19,31 @@ use crate::bodies::bodies_of;
 use crate::count::more;
 use crate::front::Front;
 use crate::gathered::{Gathered, gather};
+use crate::given::given_by_name;
 use crate::index::Index;
 use crate::laid::Laid;
-use crate::lists::{chain_names, template_names};
+use crate::lists::template_names;
 use crate::macros::macros_of;
+use crate::places::home_places;
 use crate::scope::Scope;
-use jt_chains::Chain;
+use jt_chains::{Chain, Home};
 use jt_rules::ScopeError;
 use std::alloc::Global;
 
-/// The table of a chain, and what is in front of the next one.
+/// The table of a chain or a library, and what is in front of the next one.
 #[derive(Drop)]
 struct Placed<'a> {
     laid: Laid<'a>,
     behind: Front,
+}
+
+/// How many units a chain has in front of its macros, and how many names, macros and bodies.
+#[derive(Clone, Copy)]
+struct Counts {
+    entries: usize,
+    names: usize,
+    macros: usize,
+    bodies: usize,
 }
 
 /// The units of a chain's first macro and of its first body, and what is in front of the next one.
@@ -40,25 +54,26 @@ struct Places {
     behind: Front,
 }
 
-/// The places of a chain with so many names, macros and bodies, and with this end of its defaults.
-fn places_of(
-    front: Front,
-    names: usize,
-    macros: usize,
-    bodies: usize,
-    end: usize,
-) -> Result<Places, ScopeError>
-    ensures macro_unit { IfOk result (λ p. p.macro_unit ≡ front.unit + 1) }
-    ensures body_unit { IfOk result (λ p. p.body_unit ≡ p.macro_unit + macros) }
-    ensures slot { IfOk result (λ p. p.behind.slot ≡ front.slot + names) }
-    ensures unit { IfOk result (λ p. p.behind.unit ≡ p.body_unit + bodies) }
+/// A chain itself is one unit; a library is never rendered.
+fn entries_of(home: &Home) -> usize
+    ensures { (w : World) → result ≡ length (layout.entry_keys w (home_view home.now)) }
+{
+    if home.is_library { 0 } else { 1 }
+}
+
+/// The places of a chain with these counts, and with this end of its defaults.
+fn places_of(front: Front, counts: Counts, end: usize) -> Result<Places, ScopeError>
+    ensures macro_unit { IfOk result (λ p. p.macro_unit ≡ front.unit + counts.entries) }
+    ensures body_unit { IfOk result (λ p. p.body_unit ≡ p.macro_unit + counts.macros) }
+    ensures slot { IfOk result (λ p. p.behind.slot ≡ front.slot + counts.names) }
+    ensures unit { IfOk result (λ p. p.behind.unit ≡ p.body_unit + counts.bodies) }
     ensures default { IfOk result (λ p. p.behind.default ≡ end) }
     ensures refused { IfErr result (λ e. e ≡ error.NoMemory) }
 {
-    let macro_unit = more(front.unit, 1)?;
-    let body_unit = more(macro_unit, macros)?;
-    let slot = more(front.slot, names)?;
-    let unit = more(body_unit, bodies)?;
+    let macro_unit = more(front.unit, counts.entries)?;
+    let body_unit = more(macro_unit, counts.macros)?;
+    let slot = more(front.slot, counts.names)?;
+    let unit = more(body_unit, counts.bodies)?;
     Ok(Places {
         macro_unit,
         body_unit,
@@ -70,7 +85,7 @@ fn places_of(
     })
 }
 
-/// Lays out one chain.
+/// Lays out one chain or library.
 fn lay_chain<'a>(
     alloc: Global,
     chain: &'a Chain,
@@ -89,12 +104,20 @@ fn lay_chain<'a>(
         (drop (home + 1) (its_order chain.now)) p.behind) }
     ensures refused { IfErr result (λ e. e ≡ error.NoMemory) }
 {
+    let itself = &chain.homes[home];
     let slots = Index::of(alloc, &names, front.slot)?;
     let macros = macros_of(alloc, chain, home, front.default)?;
+    let given = given_by_name(alloc, chain, home)?;
     let bodies = bodies_of(alloc, chain, home)?;
-    let end = macros.defaults.end;
-    let places = places_of(front, names.len(), macros.all.len(), bodies.all.len(), end)?;
+    let counts = Counts {
+        entries: entries_of(itself),
+        names: names.len(),
+        macros: macros.all.len(),
+        bodies: bodies.all.len(),
+    };
+    let places = places_of(front, counts, macros.defaults.end)?;
     let laid = Laid {
+        is_library: itself.is_library,
         names,
         slots,
         first_slot: front.slot,
@@ -104,6 +127,8 @@ fn lay_chain<'a>(
         macros: macros.all,
         called: macros.called,
         defaults: macros.defaults.places,
+        given: given.all,
+        given_places: given.places,
         blocks: bodies.all,
         first_bodies: bodies.firsts,
         next_bodies: bodies.nexts,
@@ -116,21 +141,22 @@ fn lay_chain<'a>(
     })
 }
 
-/// The tables of all chains, and how many units they have.
+/// The tables of all chains and libraries, and how many units they have.
 #[derive(Drop)]
 struct Tables<'a> {
     homes: Vec<Laid<'a>>,
     units: usize,
 }
 
-/// Lays out one chain after the other.
+/// Lays out one chain or library after the other.
 fn lay_chains<'a>(
     alloc: Global,
     chain: &'a Chain,
     mut gathered: Gathered<'a>,
 ) -> Result<Tables<'a>, ScopeError>
     requires { (x : Text)
-        → names_at gathered.names x ≡ layout.names (its_world chain.now) (its_order chain.now) x }
+        → names_at gathered.names x
+        ≡ layout.names (its_world chain.now) (its_order chain.now) (a_chain x) }
     ensures each { IfOk result (λ t. (i : ℕ) (l : Laid)
         → i < length t.homes.items
         → l ≡ get_or t.homes.items i l
@@ -148,7 +174,7 @@ fn lay_chains<'a>(
         default: 1,
     };
     for home in 0..chain.homes.len() {
-        let names = gathered.take(alloc, chain.homes[home].name.as_str());
+        let names = gathered.take(alloc, &chain.homes[home]);
         let placed = lay_chain(alloc, chain, home, names, front)?;
         homes.push(placed.laid)?;
         front = placed.behind;
@@ -159,7 +185,7 @@ fn lay_chains<'a>(
     })
 }
 
-/// Lays out the chains, and begins with the entry's.
+/// Lays out the chains and libraries, and begins with the entry's chain.
 ///
 /// # Errors
 ///
@@ -172,13 +198,15 @@ pub fn lay_out(alloc: Global, chain: &Chain) -> Result<Scope<'_>, ScopeError>
     ensures refused { IfErr result (λ e. e ≡ error.NoMemory) }
 {
     let sources = Index::of(alloc, &template_names(alloc, &chain.templates)?, 0)?;
-    let places = Index::of(alloc, &chain_names(alloc, &chain.homes)?, 0)?;
+    let places = home_places(alloc, &chain.homes, false)?;
+    let libraries = home_places(alloc, &chain.homes, true)?;
     let gathered = gather(alloc, chain, &sources)?;
     let tables = lay_chains(alloc, chain, gathered)?;
     Ok(Scope {
         chain,
         homes: tables.homes,
         places,
+        libraries,
         sources,
         units: tables.units,
         home: 0,

@@ -1,16 +1,19 @@
-//! How the names, macros and bodies of chains are laid out: names in slots of globals, macros and bodies as units.
+//! How the names, macros and bodies of chains and libraries are laid out: names in slots of globals,
+//! macros and bodies as units.
 #![tactic(auto)]
 
 mod bodies;
 mod count;
 mod front;
 mod gathered;
+mod given;
 mod includes;
 mod index;
 mod laid;
 mod laying;
 mod lists;
 mod macros;
+mod places;
 mod scope;
 
 pub use index::Index;

@@ -1,10 +1,9 @@
-//! The names of templates, chains, macros and blocks, in their order.
+//! The names of templates, macros, blocks and what is given, in their order.
 
 ghost use Rattle.std.specs.Prelude.{◌≡◌, map, IfOk, string_bytes};
-ghost use Rattle.jt_chains.specs.Pages.{home_name};
 ghost use Rattle.jt_uses.specs.Names.{texts};
 
-use jt_chains::{Block, Home, Macro, Page};
+use jt_chains::{Block, Macro, Named, Page};
 use std::alloc::{AllocError, Global};
 use std::collections::BTreeSet;
 
@@ -29,13 +28,16 @@ pub(crate) fn template_names(alloc: Global, pages: &[Page]) -> Result<Vec<&str>,
     Ok(names)
 }
 
-/// The names of chains.
-pub(crate) fn chain_names(alloc: Global, homes: &[Home]) -> Result<Vec<&str>, AllocError>
-    ensures { IfOk result (λ ns. texts ns.items ≡ map home_name homes.now) }
+/// The names that stand for macros and libraries.
+pub(crate) fn given_names<'a>(
+    alloc: Global,
+    given: &[Named<'a>],
+) -> Result<Vec<&'a str>, AllocError>
+    ensures { IfOk result (λ ns. texts ns.items ≡ map (λ g. g.name.now) given.now) }
 {
-    let mut names = Vec::with_capacity(alloc, homes.len())?;
-    for home in homes {
-        names.push(home.name.as_str())?;
+    let mut names = Vec::with_capacity(alloc, given.len())?;
+    for entry in given {
+        names.push(entry.name)?;
     }
     Ok(names)
 }

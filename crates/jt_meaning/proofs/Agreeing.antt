@@ -1,17 +1,23 @@
 -- When an environment and a memory agree, and what keeps that.
-use Rattle.std.proofs.Common.{◌≡◌, ℕ, suc, ◌+◌, ◌<◌, ◌≤◌, Bool, true, false, if◌then◌else◌, List, [], ◌∷◌, length, map, Some, None, refl, sym, ap, ◌∙◌, subst, arith, inl, inr}
+use Rattle.std.proofs.Common.{◌≡◌, ℕ, suc, ◌+◌, ◌<◌, ◌≤◌, Bool, true, false, if◌then◌else◌, List, [], ◌∷◌, ◌++◌, length, map, Option, Some, None, refl, sym, ap, ◌∙◌, subst, arith, inl, inr}
+use Rattle.std.specs.Prelude.{flat_map}
 use Rattle.std.specs.Str.{bytes_eq}
+use Rattle.jt_value.specs.Tree as tree
 use Rattle.jt_value.specs.Tree.{Tree}
 use Rattle.jt_value.specs.Pairs.{Pairs}
 use Rattle.jt_trees.specs.Expressions.{Text}
+use Rattle.jt_trees.specs.Texts.{ascending}
 use Rattle.jt_meaning.specs.Env.{Env, read, bound, all_bound}
 use Rattle.jt_slots.specs.Values.{value_in}
-use Rattle.jt_chains.specs.Chain.{Home}
+use Rattle.jt_chains.specs.Chain.{Home, a_chain, a_library, same_home}
+use Rattle.jt_chains.specs.Uses.{own_names}
+use Rattle.jt_chains.specs.Includes.{included}
 use Rattle.jt_slots.specs.Loops.{tree_at}
 use Rattle.jt_rules.specs.World.{World}
 use Rattle.jt_slots.specs.Slots.{Slot, local, global, Memory, load, put_at, store}
-use Rattle.jt_meaning.specs.Layout.{Table, slot_in, globals_from, names, first_slot, globals}
+use Rattle.jt_meaning.specs.Layout.{Table, slot_in, globals_from, names_in, names, first_slot, globals}
 use Rattle.jt_meaning.specs.Resolve.{bound_table}
+use Rattle.jt_meaning.specs.Expressions.{seen_by}
 use Rattle.jt_meaning.proofs.Reading.{same_text, is_same, no_both, read_bound, IsInner, inner_bound, inner_globals, held, put_elsewhere}
 use Rattle.jt_meaning.specs.Layout.{scopes}
 use Rattle.jt_meaning.proofs.Among.{Among, AllAmong}
@@ -113,9 +119,29 @@ globals_apart n (z ∷ zs) x y s e f = through (bytes_eq z x) (bytes_eq z y) ref
     through false true p q e f r = absurd (clash x (first f) e)
     through false false p q e f r = r e f
 
+-- what the slot of a global holds
+abbrev pub global_held : Option Slot → List Tree → Tree
+global_held None ts = tree.undefined
+global_held (Some (local i)) ts = tree.undefined
+global_held (Some (global i)) ts = tree_at ts i
+
+pub global_reads : (n : ℕ) (ns : List Text) (x : Text) (m : Memory) → held (slot_in x (globals_from n ns)) m ≡ global_held (slot_in x (globals_from n ns)) m.globals
+global_reads n [] x m = refl
+global_reads n (y ∷ ys) x m = through (bytes_eq y x) (global_reads (suc n) ys x m)
+  where
+    through : (b : Bool) → held (slot_in x (globals_from (suc n) ys)) m ≡ global_held (slot_in x (globals_from (suc n) ys)) m.globals
+        → held (if b then Some (global n) else slot_in x (globals_from (suc n) ys)) m ≡ global_held (if b then Some (global n) else slot_in x (globals_from (suc n) ys)) m.globals
+    through true e = refl
+    through false e = e
+
 -- ---- agreement
 
 module _ (world : World) (order : List Home) where
+  -- the names that are read or bound: a chain's have slots of globals; a library's have none
+  abbrev pub read_names : Home → List Text
+  read_names (a_chain n) = names world order (a_chain n)
+  read_names (a_library n) = ascending (own_names world.sources (a_library n) ++ flat_map (names world order) (included world.sources (a_library n)))
+
   -- the first slot behind a chain's globals
   abbrev pub limit : Home → ℕ
   limit h = first_slot world order h + length (names world order h)
@@ -124,38 +150,72 @@ module _ (world : World) (order : List Home) where
   Below k g (local i) = i < k
   Below k g (global i) = i < g
 
-  -- each name of the chain has a slot of its own in the table,
-  -- below the first free local or among the chain's globals; one that no scope binds has its global
+  -- each slot of the table is one name's own, below the first free local or among the chain's globals; a name that no scope binds has its global
   pub record Fits (h : Home) (table : Table) (k : ℕ) : Type 0 where
-    pub slotted : (x : Text) → Among x (names world order h) → (s : Slot) × (slot_in x table ≡ Some s) × Below k (limit h) s
-    pub apart : (x y : Text) (s : Slot) → Among x (names world order h) → Among y (names world order h) → slot_in x table ≡ Some s → slot_in y table ≡ Some s → x ≡ y
+    pub slotted : (x : Text) (s : Slot) → slot_in x table ≡ Some s → Below k (limit h) s
+    pub apart : (x y : Text) (s : Slot) → slot_in x table ≡ Some s → slot_in y table ≡ Some s → x ≡ y
     pub outer : (x : Text) → (Among x (scopes world order h) → ⊥) → slot_in x table ≡ slot_in x (globals world order h)
-    pub few : AllAmong (scopes world order h) (names world order h)
+    pub few : AllAmong (scopes world order h) (read_names h)
 
-  -- the globals of a chain
+  -- the globals of a chain; a library has none, so that each of its names is undefined outside its macros
   abbrev pub GlobalsAgree : Home → Pairs → List Tree → Type 0
-  GlobalsAgree h gs ts = (x : Text) → Among x (names world order h) → (i : ℕ) → slot_in x (globals world order h) ≡ Some (global i) → value_in gs x ≡ tree_at ts i
+  GlobalsAgree h gs ts = (x : Text) → Among x (read_names h) → value_in gs x ≡ global_held (slot_in x (globals world order h)) ts
 
   -- each name reads what its slot holds, and so do the globals
   pub record Agrees (h : Home) (table : Table) (env : Env) (m : Memory) : Type 0 where
-    pub names : (x : Text) → Among x (names world order h) → read env x ≡ held (slot_in x table) m
+    pub names : (x : Text) → Among x (read_names h) → read env x ≡ held (slot_in x table) m
     pub globals : GlobalsAgree h env.globals m.globals
+
+  -- a library has no globals
+  pub names_library : (n : Text) → names world order (a_library n) ≡ []
+  names_library n = by order
+    where
+      by : (hs : List Home) → names_in world hs (a_library n) ≡ []
+      by [] = refl
+      by (k ∷ ks) = through (same_home k (a_library n)) (by ks)
+        where
+          through : (b : Bool) → names_in world ks (a_library n) ≡ [] → (if b then [] else names_in world ks (a_library n)) ≡ []
+          through true e = refl
+          through false e = e
+
+  pub library_agrees : (n : Text) (ts : List Tree) → GlobalsAgree (a_library n) [] ts
+  library_agrees n ts x i = ap (λ xs. global_held (slot_in x (globals_from (first_slot world order (a_library n)) xs)) ts) (sym (names_library n))
+
+  pub seen_agree : (h : Home) (gs : Pairs) (ts : List Tree) → GlobalsAgree h gs ts → GlobalsAgree h (seen_by h gs) ts
+  seen_agree (a_chain n) gs ts a = a
+  seen_agree (a_library n) gs ts a = library_agrees n ts
 
   load_kept : (k g : ℕ) (m n : Memory) (s : Slot) → Below k g s → Kept k g m n → load s n ≡ load s m
   load_kept k g m n (local i) l u = u.locals i l
   load_kept k g m n (global i) l u = u.globals i l
 
+  held_kept_in : {h : Home} {table : Table} {k : ℕ} {m n : Memory} → Fits h table k → Kept k (limit h) m n → (x : Text) → held (slot_in x table) n ≡ held (slot_in x table) m
+  held_kept_in {h = h} {table = table} {k = k} {m = m} {n = n} fits u x = by (slot_in x table) refl
+    where
+      by : (o : Option Slot) → slot_in x table ≡ o → held o n ≡ held o m
+      by None e = refl
+      by (Some s) e = load_kept k (limit h) m n s (fits.slotted x s e) u
+
+  -- globals that are kept hold what they held
+  pub global_kept : (h : Home) {k : ℕ} {m n : Memory} → Kept k (limit h) m n → (x : Text) → global_held (slot_in x (globals world order h)) n.globals ≡ global_held (slot_in x (globals world order h)) m.globals
+  global_kept h {m = m} {n = n} u x = by (slot_in x (globals world order h)) refl
+    where
+      by : (o : Option Slot) → slot_in x (globals world order h) ≡ o → global_held o n.globals ≡ global_held o m.globals
+      by None e = refl
+      by (Some (local i)) e = refl
+      by (Some (global i)) e = u.globals i (global_slot (first_slot world order h) (names world order h) x i e).1
+
   pub agrees_kept : {h : Home} {table : Table} {k : ℕ} {env : Env} {m n : Memory} → Fits h table k → Agrees h table env m → Kept k (limit h) m n → Agrees h table env n
-  agrees_kept {h = h} {table = table} {k = k} {env = env} {m = m} {n = n} fits a u = record {
-    names = λ x i. let s = fits.slotted x i in a.names x i ∙ ap (λ o. held o m) s.1 ∙ sym (load_kept k (limit h) m n s.0 s.2 u) ∙ sym (ap (λ o. held o n) s.1);
-    globals = λ x i j e. a.globals x i j e ∙ sym (u.globals j (global_slot (first_slot world order h) (names world order h) x j e).1);
+  agrees_kept {h = h} fits a u = record {
+    names = λ x i. a.names x i ∙ sym (held_kept_in fits u x);
+    globals = λ x i. a.globals x i ∙ sym (global_kept h u x);
   }
 
   -- a local of its own for one name more
   pub fits_one : {h : Home} {table : Table} {k : ℕ} (x : Text) → Among x (scopes world order h) → Fits h table k → Fits h ((x, local k) ∷ table) (suc k)
   fits_one {h = h} {table = table} {k = k} x bound_in fits = record {
-    slotted = λ y i. in_it y (bytes_eq x y) (fits.slotted y i);
-    apart = λ y z s i j e f. part y z s (bytes_eq x y) (bytes_eq x z) refl refl i j e f;
+    slotted = λ y s e. in_it y s (bytes_eq x y) e (λ f. fits.slotted y s f);
+    apart = λ y z s e f. part y z s (bytes_eq x y) (bytes_eq x z) refl refl e f;
     outer = λ y n. around y (bytes_eq x y) refl n (fits.outer y n);
     few = fits.few;
   }
@@ -164,25 +224,22 @@ module _ (world : World) (order : List Home) where
       more (local i) l = omega (arith, l)
       more (global i) l = l
 
-      in_it : (y : Text) (b : Bool) → (s : Slot) × (slot_in y table ≡ Some s) × Below k (limit h) s → (s : Slot) × ((if b then Some (local k) else slot_in y table) ≡ Some s) × Below (suc k) (limit h) s
-      in_it y true t = (local k, refl, omega arith)
-      in_it y false t = (t.0, t.1, more t.0 t.2)
-
       first : {s : Slot} → Some (local k) ≡ Some s → s ≡ local k
       first q = cc
 
-      inside_some : {s t : Slot} → Some s ≡ Some t → s ≡ t
-      inside_some q = cc
+      in_it : (y : Text) (s : Slot) (b : Bool) → (if b then Some (local k) else slot_in y table) ≡ Some s → (slot_in y table ≡ Some s → Below k (limit h) s) → Below (suc k) (limit h) s
+      in_it y s true e f = subst (λ t. Below (suc k) (limit h) t) (sym (first e)) (let l : k < suc k = omega arith in l)
+      in_it y s false e f = more s (f e)
 
-      clash : (y : Text) (s : Slot) → Among y (names world order h) → s ≡ local k → slot_in y table ≡ Some s → ⊥
-      clash y s i q r = let t = fits.slotted y i in let e : t.0 ≡ local k = inside_some (sym t.1 ∙ r) ∙ q in let l : k < k = subst (λ u. Below k (limit h) u) e t.2 in omega (arith, l)
+      clash : (y : Text) (s : Slot) → s ≡ local k → slot_in y table ≡ Some s → ⊥
+      clash y s q r = let l : k < k = subst (λ t. Below k (limit h) t) q (fits.slotted y s r) in omega (arith, l)
 
-      part : (y z : Text) (s : Slot) (b c : Bool) → bytes_eq x y ≡ b → bytes_eq x z ≡ c → Among y (names world order h) → Among z (names world order h)
+      part : (y z : Text) (s : Slot) (b c : Bool) → bytes_eq x y ≡ b → bytes_eq x z ≡ c
           → (if b then Some (local k) else slot_in y table) ≡ Some s → (if c then Some (local k) else slot_in z table) ≡ Some s → y ≡ z
-      part y z s true true p q i j e f = sym (same_text x y p) ∙ same_text x z q
-      part y z s true false p q i j e f = absurd (clash z s j (first e) f)
-      part y z s false true p q i j e f = absurd (clash y s i (first f) e)
-      part y z s false false p q i j e f = fits.apart y z s i j e f
+      part y z s true true p q e f = sym (same_text x y p) ∙ same_text x z q
+      part y z s true false p q e f = absurd (clash z s (first e) f)
+      part y z s false true p q e f = absurd (clash y s (first f) e)
+      part y z s false false p q e f = fits.apart y z s e f
 
       around : (y : Text) (b : Bool) → bytes_eq x y ≡ b → (Among y (scopes world order h) → ⊥) → slot_in y table ≡ slot_in y (globals world order h) → (if b then Some (local k) else slot_in y table) ≡ slot_in y (globals world order h)
       around y true p n e = absurd (n (subst (λ z. Among z (scopes world order h)) (same_text x y p) bound_in))
@@ -190,7 +247,7 @@ module _ (world : World) (order : List Home) where
 
   -- a local free for nothing in particular
   pub fits_more : {h : Home} {table : Table} {k : ℕ} → Fits h table k → Fits h table (suc k)
-  fits_more {h = h} {table = table} {k = k} fits = record { slotted = λ y i. let s = fits.slotted y i in (s.0, s.1, more s.0 s.2); apart = fits.apart; outer = fits.outer; few = fits.few }
+  fits_more {h = h} {table = table} {k = k} fits = record { slotted = λ y s e. more s (fits.slotted y s e); apart = fits.apart; outer = fits.outer; few = fits.few }
     where
       more : (s : Slot) → Below k (limit h) s → Below (suc k) (limit h) s
       more (local i) l = omega (arith, l)
@@ -200,7 +257,7 @@ module _ (world : World) (order : List Home) where
   pub bind_held : {h : Home} {table : Table} {env : Env} {n : Memory} (x : Text) (v : Tree) (k : ℕ) → IsInner env → tree_at n.locals k ≡ v → Agrees h table env n → Agrees h ((x, local k) ∷ table) (bound env x v) n
   bind_held {h = h} {table = table} {env = env} {n = n} x v k inner e a = record {
     names = λ y i. read_bound env x y v ∙ through y (bytes_eq x y) (a.names y i);
-    globals = λ y i j f. ap (λ g. value_in g y) (inner_globals env x v inner) ∙ a.globals y i j f;
+    globals = λ y i. ap (λ g. value_in g y) (inner_globals env x v inner) ∙ a.globals y i;
   }
     where
       through : (y : Text) (b : Bool) → read env y ≡ held (slot_in y table) n → (if b then v else read env y) ≡ held (if b then Some (local k) else slot_in y table) n

@@ -13,11 +13,11 @@ use Rattle.jt_trees.specs.Texts.{among}
 use Rattle.jt_rules.specs.World.{World}
 use Rattle.jt_meaning.specs.Meaning.{each_target, targets}
 use Rattle.jt_slots.specs.Slots.{Slot, local, global, Memory, load, store, store_if, store_each, take}
-use Rattle.jt_meaning.specs.Layout.{Table, slot_in, names, first_slot, globals}
+use Rattle.jt_meaning.specs.Layout.{Table, slot_in}
 use Rattle.jt_meaning.specs.Resolve.{fresh, fresh_targets, kept_slots, slot_of, set_targets}
 use Rattle.jt_meaning.proofs.Both.{Both, both, fault, bind_both, by_right, checked_both}
 use Rattle.jt_meaning.proofs.Reading.{same_text, same_is, is_same, no_both, read_bound, held, put_here, put_elsewhere}
-use Rattle.jt_meaning.proofs.Agreeing.{Kept, kept_same, kept_then, kept_less, kept_store, Held, held_put, limit, Below, Fits}
+use Rattle.jt_meaning.proofs.Agreeing.{Kept, kept_same, kept_then, kept_less, kept_store, Held, held_put, read_names, Fits}
 use Rattle.jt_meaning.proofs.Among.{Among, AllAmong}
 
 -- ---- fresh targets
@@ -117,17 +117,18 @@ store_out (local i) v m = refl
 store_out (global i) v m = refl
 
 module _ (world : World) (order : List Home) (h : Home) (table : Table) (k : ℕ) (fits : Fits world order h table k) (S : List Text) (m : Memory) (T : Memory → Type 0) (first : T m)
-    (next : (x : Text) (s : Slot) (v : Tree) (n : Memory) → Among x S → Among x (names world order h) → slot_in x table ≡ Some s → T n → T (store s v n)) where
+    (next : (x : Text) (s : Slot) (v : Tree) (n : Memory) → Among x S → Among x (read_names world order h) → slot_in x table ≡ Some s → T n → T (store s v n))
+    (there : (x : Text) → Among x S → Among x (read_names world order h) → (s : Slot) × (slot_in x table ≡ Some s)) where
   -- names that are set: each reads what its slot holds, as before the others do
   pub record Set (xs : List Text) (s : Pairs) (n : Memory) : Type 0 where
     pub names : map (λ p. p.0) s ≡ xs
-    pub reads : (env : Env) → ((y : Text) → Among y (Rattle.jt_meaning.specs.Layout.names world order h) → read env y ≡ held (slot_in y table) m)
-        → (y : Text) → Among y (Rattle.jt_meaning.specs.Layout.names world order h) → read (all_bound env s) y ≡ held (slot_in y table) n
+    pub reads : (env : Env) → ((y : Text) → Among y (read_names world order h) → read env y ≡ held (slot_in y table) m)
+        → (y : Text) → Among y (read_names world order h) → read (all_bound env s) y ≡ held (slot_in y table) n
     pub touched : T n
     pub out : n.out ≡ m.out
 
   -- one name more, in front
-  set_more : (x : Text) (v : Tree) (xs : List Text) (s : Pairs) (n : Memory) → Among x S → Among x (names world order h) → Set xs s n → Set (x ∷ xs) ((x, v) ∷ s) (store_if (if among x xs then None else slot_in x table) v n)
+  set_more : (x : Text) (v : Tree) (xs : List Text) (s : Pairs) (n : Memory) → Among x S → Among x (read_names world order h) → Set xs s n → Set (x ∷ xs) ((x, v) ∷ s) (store_if (if among x xs then None else slot_in x table) v n)
   set_more x v xs s n inS inN w = through (among x xs) refl
     where
       shadowed : Among x xs → (env : Env) (y : Text) → read (all_bound (bound env x v) s) y ≡ read (all_bound env s) y
@@ -137,11 +138,11 @@ module _ (world : World) (order : List Home) (h : Home) (table : Table) (k : ℕ
           which true e = reads_bound s (bound env x v) env y (subst (λ zs. Among y zs) (sym w.names) (subst (λ z. Among z xs) (same_text x y e) i))
           which false e = reads_all s (bound env x v) env y (read_bound env x y v ∙ ap (λ b. if b then v else read env y) e)
 
-      slotted : (t : Slot) × (slot_in x table ≡ Some t) × Below world order k (limit world order h) t
-      slotted = fits.slotted x inN
+      slotted : (t : Slot) × (slot_in x table ≡ Some t)
+      slotted = there x inS inN
 
-      set_here : (t : Slot) → slot_in x table ≡ Some t → (among x xs ≡ false) → (env : Env) → ((y : Text) → Among y (names world order h) → read env y ≡ held (slot_in y table) m)
-          → (y : Text) → Among y (names world order h) → read (all_bound (bound env x v) s) y ≡ held (slot_in y table) (store t v n)
+      set_here : (t : Slot) → slot_in x table ≡ Some t → (among x xs ≡ false) → (env : Env) → ((y : Text) → Among y (read_names world order h) → read env y ≡ held (slot_in y table) m)
+          → (y : Text) → Among y (read_names world order h) → read (all_bound (bound env x v) s) y ≡ held (slot_in y table) (store t v n)
       set_here t e f env a y i = which (bytes_eq x y) refl
         where
           not_there : Among x (map (λ p. p.0) s) → ⊥
@@ -154,10 +155,12 @@ module _ (world : World) (order : List Home) (h : Home) (table : Table) (k : ℕ
               ∙ reads_not s (bound env x v) x not_there ∙ read_bound env x x v ∙ ap (λ b. if b then v else read env x) (same_is x) ∙ sym (load_here t v n) ∙ sym (ap (λ o. held o (store t v n)) e)
               ∙ ap (λ z. held (slot_in z table) (store t v n)) p
           which false c =
-              let u = fits.slotted y i in
-              let differ : t ≡ u.0 → ⊥ = λ r. no_both (is_same x y (fits.apart x y t inN i e (u.1 ∙ ap Some (sym r)))) c in
               reads_all s (bound env x v) env y (read_bound env x y v ∙ ap (λ b. if b then v else read env y) c)
-              ∙ w.reads env a y i ∙ ap (λ o. held o n) u.1 ∙ sym (load_elsewhere t u.0 v n differ) ∙ sym (ap (λ o. held o (store t v n)) u.1)
+              ∙ w.reads env a y i ∙ elsewhere (slot_in y table) refl
+            where
+              elsewhere : (o : Option Slot) → slot_in y table ≡ o → held o n ≡ held o (store t v n)
+              elsewhere None d = refl
+              elsewhere (Some z) d = sym (load_elsewhere t z v n (λ r. no_both (is_same x y (fits.apart x y t e (d ∙ ap Some (sym r)))) c))
 
       at_slot : (o : Option Slot) → slot_in x table ≡ o → among x xs ≡ false → Set (x ∷ xs) ((x, v) ∷ s) (store_if o v n)
       at_slot None e f = absurd (nothing (sym e ∙ slotted.1))
@@ -183,23 +186,23 @@ module _ (world : World) (order : List Home) (h : Home) (table : Table) (k : ℕ
   nothing_set : Set [] [] m
   nothing_set = record { names = refl; reads = λ env a y i. a y i; touched = first; out = refl }
 
-  each_set : (xs : List Text) (vs : List Tree) → AllAmong xs S → AllAmong xs (names world order h) → Both (Set xs) (each_target xs vs) (store_each (kept_slots table xs) vs m)
+  each_set : (xs : List Text) (vs : List Tree) → AllAmong xs S → AllAmong xs (read_names world order h) → Both (Set xs) (each_target xs vs) (store_each (kept_slots table xs) vs m)
   each_set [] [] a b = both nothing_set
   each_set [] (v ∷ vs) a b = fault
   each_set (x ∷ xs) [] a b = fault
   each_set (x ∷ xs) (v ∷ vs) a b = bind_both (each_set xs vs a.1 b.1) (λ s n w. both (set_more x v xs s n a.0 b.0 w))
 
-  several_set : (xs : List Text) (v : Tree) → AllAmong xs S → AllAmong xs (names world order h)
+  several_set : (xs : List Text) (v : Tree) → AllAmong xs S → AllAmong xs (read_names world order h)
       → Both (Set xs) (bind (checked (items_of_value v)) (each_target xs)) (bind (checked (items_of_value v)) (λ vs. store_each (kept_slots table xs) vs m))
   several_set xs v a b = bind_both (checked_both (items_of_value v)) (λ vs ws e. by_right (ap (λ z. store_each (kept_slots table xs) z m) e) (each_set xs vs a b))
 
   -- one name
-  pub one_set : (x : Text) (v : Tree) → Among x S → Among x (names world order h) → Set (x ∷ []) ((x, v) ∷ []) (store (slot_of x table) v m)
+  pub one_set : (x : Text) (v : Tree) → Among x S → Among x (read_names world order h) → Set (x ∷ []) ((x, v) ∷ []) (store (slot_of x table) v m)
   one_set x v inS inN =
-      let s = fits.slotted x inN in
+      let s = there x inS inN in
       subst (λ n. Set (x ∷ []) ((x, v) ∷ []) n) (ap (λ o. store_if o v m) s.1 ∙ ap (λ t. store t v m) (sym (slot_there x table s.0 s.1))) (set_more x v [] [] m inS inN nothing_set)
 
-  pub all_set : (xs : List Text) (v : Tree) → AllAmong xs S → AllAmong xs (names world order h) → Both (Set xs) (targets xs v) (take (set_targets table xs) v m)
+  pub all_set : (xs : List Text) (v : Tree) → AllAmong xs S → AllAmong xs (read_names world order h) → Both (Set xs) (targets xs v) (take (set_targets table xs) v m)
   all_set [] v a b = several_set [] v a b
   all_set (x ∷ []) v a b = both (one_set x v a.0 b.0)
   all_set (x ∷ y ∷ ys) v a b = several_set (x ∷ y ∷ ys) v a b

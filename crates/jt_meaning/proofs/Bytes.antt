@@ -12,8 +12,8 @@ use Rattle.jt_meaning.specs.Operators.{Form, operation, negation, conjunction, d
 use Rattle.jt_value.specs.Place.{Place}
 use Rattle.jt_slots.specs.Tests.{test_named}
 use Rattle.jt_chains.specs.Uses.{count, keywords, set_in}
-use Rattle.jt_trees.specs.Statements.{Parameter, Filtering, Stmt, data_of, print, choose, for_each, set, set_block, with_values, filter_block, autoescape, macro, include, extends, block, Body, end, stmt, Branches, no_branches, branch}
-use Rattle.jt_chains.specs.Chain.{Home, macros, Callee, a_macro, a_range, a_super, a_block, a_cycle, no_callee, callee, is_loop}
+use Rattle.jt_trees.specs.Statements.{Parameter, Filtering, Stmt, data_of, print, choose, for_each, set, set_block, with_values, filter_block, autoescape, macro, include, import_as, import_from, extends, block, Body, end, stmt, Branches, no_branches, branch}
+use Rattle.jt_chains.specs.Chain.{Home, a_chain, given, Callee, a_macro, a_range, a_super, a_block, a_cycle, no_callee, callee, is_loop}
 use Rattle.jt_slots.specs.Loops.{Field, index0, field_named}
 use Rattle.jt_slots.specs.Filters.{default_value, some_given}
 use Rattle.jt_rules.specs.World.{World}
@@ -154,9 +154,9 @@ module _ (world : World) (order : List Home) where
 
   invoked_counted : (c : Callee) (sp : Spot) (row asides : SRow Constant → SRow Constant) (n : ℕ) (ks : Table) (w v : ℕ) → Front w row → Front v asides
       → expr_count (invoked world order c sp row asides n ks) ≤ w + v
-  invoked_counted (a_macro m) sp row asides n ks w v r a =
-      let rest = filled m.parameters n (default_place world order sp.home m.name) ks in
-      omega (arith, r (asides rest), a rest, filled_count m.parameters n (default_place world order sp.home m.name) ks)
+  invoked_counted (a_macro z m) sp row asides n ks w v r a =
+      let rest = filled m.parameters n (default_place world order z m.name) ks in
+      omega (arith, r (asides rest), a rest, filled_count m.parameters n (default_place world order z m.name) ks)
   invoked_counted a_range sp row asides n ks w v r a = omega (arith, r slots.none)
   invoked_counted a_super sp row asides n ks w v r a = omega (arith, super_counted sp sp.part)
   invoked_counted (a_block x) sp row asides n ks w v r a =
@@ -189,7 +189,7 @@ module _ (world : World) (order : List Home) where
     counted (call f ts ps) sp k =
         omega (
           arith,
-          invoked_counted (callee (macros world.sources sp.home) f) sp (resolved_row world order ts sp) (resolved_asides world order ps sp) (count ts) (locals_from sp.free (keywords ps))
+          invoked_counted (callee world.sources (given world.sources sp.home) f) sp (resolved_row world order ts sp) (resolved_asides world order ps sp) (count ts) (locals_from sp.free (keywords ps))
               (exprs_bytes ts) (pairs_bytes ps) (λ b. row_counted ts sp k b) (λ b. omega (arith, asides_counted ps sp k b)),
         )
     counted (filter a x ts ps) sp k =
@@ -268,13 +268,13 @@ module _ (world : World) (order : List Home) where
       omega (arith, reads_count t xs, bytes_append (row_values (reads t xs)) [])
 
   include_counted : (sp : Spot) (line : ℕ) (n : Text) (missing c : Bool) (b : Bool)
-      → body_count (if b then left_out sp line missing else followed (handed_on (place sp line) (if c then sp.table else []) (first_slot world order n) (names world order n)) (slots.stmt (run (unit world order (of_chain n)) slots.none) slots.end)) ≡ 0
+      → body_count (if b then left_out sp line missing else followed (handed_on (place sp line) (if c then sp.table else []) (first_slot world order (a_chain n)) (names world order (a_chain n))) (slots.stmt (run (unit world order (of_chain n)) slots.none) slots.end)) ≡ 0
   include_counted sp line n true c true = refl
   include_counted sp line n false c true = refl
   include_counted sp line n missing c false =
-      let xs = names world order n in
-      let hs = handed_on (place sp line) (if c then sp.table else []) (first_slot world order n) xs in
-      omega (arith, followed_count hs (slots.stmt (run (unit world order (of_chain n)) slots.none) slots.end), handed_count (place sp line) (if c then sp.table else []) (first_slot world order n) xs)
+      let xs = names world order (a_chain n) in
+      let hs = handed_on (place sp line) (if c then sp.table else []) (first_slot world order (a_chain n)) xs in
+      omega (arith, followed_count hs (slots.stmt (run (unit world order (of_chain n)) slots.none) slots.end), handed_count (place sp line) (if c then sp.table else []) (first_slot world order (a_chain n)) xs)
 
   pub scope_counted : (b : Body) (sp : Spot) → body_count (resolved_body world order b (bound_all (set_in b) sp)) ≤ body_bytes b → body_count (scoped (set_in b) sp (resolved_body world order b)) ≤ body_bytes b
   scope_counted b sp h = omega (arith, h, copied_count (place sp 1) sp.table sp.free (set_in b) (resolved_body world order b (bound_all (set_in b) sp)))
@@ -316,6 +316,8 @@ module _ (world : World) (order : List Home) where
         omega (arith, scope_counted body inner (all_counted body (bound_all (set_in body) inner) k))
     stmt_counted (macro line x ps body) sp k = omega arith
     stmt_counted (include line n missing with_context) sp k = omega (arith, include_counted sp line n missing with_context (is_none (world.sources n)))
+    stmt_counted (import_as line n new) sp k = omega arith
+    stmt_counted (import_from line n news) sp k = omega arith
     stmt_counted (extends line n) sp k = omega arith
     stmt_counted (block line x is required body) sp k =
         omega (arith, placed_counted sp (first_body (numbered_of world sp.home x)) x (if is then sp.table else globals world order sp.home))

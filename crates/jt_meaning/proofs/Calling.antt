@@ -7,18 +7,18 @@ use Rattle.jt_value.specs.Pairs.{Pairs}
 use Rattle.jt_trees.specs.Expressions.{Text}
 use Rattle.jt_trees.specs.Statements.{Parameter}
 use Rattle.jt_meaning.specs.Env.{Env, read}
-use Rattle.jt_chains.specs.Chain.{Home, BlockBody, MacroBody, macros, macro_of}
-use Rattle.jt_trees.specs.Texts.{among}
+use Rattle.jt_chains.specs.Chain.{Home, a_chain, a_library, listed, BlockBody, MacroBody, macros, macro_of, libraries}
+use Rattle.jt_chains.specs.Includes.{with_source}
 use Rattle.jt_slots.specs.Filters.{default_value}
 use Rattle.jt_slots.specs.Loops.{Loop, tree_at}
 use Rattle.jt_rules.specs.World.{World}
 use Rattle.jt_meaning.specs.Around.{Placement, Around, Called, the_macro, the_block, the_chain, Calls}
-use Rattle.jt_slots.specs.Slots.{global, Memory, Valued, Listed, Written, SCalls}
+use Rattle.jt_slots.specs.Slots.{Memory, Valued, Listed, Written, SCalls}
 use Rattle.jt_meaning.specs.Layout.{Table, slot_in, Key, of_chain, of_macro, of_body, names, first_slot, globals, block_parameters, is_scoped, numbered_of, unit, default_place}
 use Rattle.jt_meaning.specs.Programs.{pool}
 use Rattle.jt_meaning.specs.Resolve.{Spot, Part, grown}
 use Rattle.jt_meaning.proofs.Both.{Both}
-use Rattle.jt_meaning.proofs.Agreeing.{Kept, Held, held_kept, global_slot, limit, Fits, GlobalsAgree, Agrees, agrees_kept, fits_more}
+use Rattle.jt_meaning.proofs.Agreeing.{Kept, Held, held_kept, global_held, limit, read_names, Fits, GlobalsAgree, Agrees, global_kept, agrees_kept, fits_more}
 use Rattle.jt_meaning.proofs.Among.{Among}
 
 -- a value, and what it was computed from is kept
@@ -34,13 +34,13 @@ pub record Rowed (k g : ℕ) (m : Memory) (vs : List Tree) (r : Listed) : Type 0
 
 module _ (world : World) (order : List Home) where
   abbrev pub Known : Home → Type 0
-  Known h = IsTrue (among h order)
+  Known h = IsTrue (listed h order)
 
   -- what a block's body is given: the arguments for its parameters, and the globals, which all other names of the chain read
   pub record Sees (h : Home) (x : Text) (env : Env) (vs gs : List Tree) : Type 0 where
     pub arguments : vs ≡ map (read env) (block_parameters world order h x)
     pub globals : GlobalsAgree world order h env.globals gs
-    pub others : (y : Text) → Among y (names world order h) → (Among y (block_parameters world order h x) → ⊥) → (i : ℕ) → slot_in y (Rattle.jt_meaning.specs.Layout.globals world order h) ≡ Some (global i) → read env y ≡ tree_at gs i
+    pub others : (y : Text) → Among y (read_names world order h) → (Among y (block_parameters world order h x) → ⊥) → read env y ≡ global_held (slot_in y (Rattle.jt_meaning.specs.Layout.globals world order h)) gs
 
   -- these bodies are the last ones of the block's
   abbrev pub Tail : Home → Text → List (ℕ × BlockBody) → Type 0
@@ -61,13 +61,13 @@ module _ (world : World) (order : List Home) where
   PartHolds h (Some p) (Some q) k m = PartHeld h p q k m
 
   pub globals_kept : (h : Home) (gs : Pairs) {k : ℕ} {m n : Memory} → Kept k (limit world order h) m n → GlobalsAgree world order h gs m.globals → GlobalsAgree world order h gs n.globals
-  globals_kept h gs u a x i j e = a x i j e ∙ sym (u.globals j (global_slot (first_slot world order h) (names world order h) x j e).1)
+  globals_kept h gs u a x i = a x i ∙ sym (global_kept world order h u x)
 
   sees_kept : {h : Home} {x : Text} {env : Env} {vs : List Tree} {k : ℕ} {m n : Memory} → Kept k (limit world order h) m n → Sees h x env vs m.globals → Sees h x env vs n.globals
   sees_kept {h = h} {env = env} u s = record {
     arguments = s.arguments;
     globals = globals_kept h env.globals u s.globals;
-    others = λ y i n j e. s.others y i n j e ∙ sym (u.globals j (global_slot (first_slot world order h) (names world order h) y j e).1);
+    others = λ y i n. s.others y i n ∙ sym (global_kept world order h u y);
   }
 
   pub part_kept : (h : Home) (p : Option Part) (q : Option Placement) (k : ℕ) (m n : Memory) → Kept k (limit world order h) m n → PartHolds h p q k m → PartHolds h p q k n
@@ -136,7 +136,7 @@ module _ (world : World) (order : List Home) where
         → Held vs 0 (map (λ p. p.1) ps) → GlobalsAgree world order h gs ts → CallSame calls scall (the_macro h b ps gs) (unit world order (of_macro h b.name)) vs ts (limit world order h)
     pub block_means : (h : Home) → Known h → (x : Text) (i : ℕ) (b : BlockBody) (behind : List (ℕ × BlockBody)) → Tail h x ((i, b) ∷ behind) → (env : Env) (vs ts : List Tree) → Sees h x env vs ts
         → CallSame calls scall (the_block h b (map (λ c. c.1) behind) env) (unit world order (of_body h i)) vs ts (limit world order h)
-    pub chain_means : (h : Home) → Known h → (gs : Pairs) (ts : List Tree) → GlobalsAgree world order h gs ts → CallSame calls scall (the_chain h gs) (unit world order (of_chain h)) [] ts (first_slot world order h)
+    pub chain_means : (n : Text) → Known (a_chain n) → (gs : Pairs) (ts : List Tree) → GlobalsAgree world order (a_chain n) gs ts → CallSame calls scall (the_chain n gs) (unit world order (of_chain n)) [] ts (first_slot world order (a_chain n))
 
   -- the defaults of parameters stand in front of the pool, from a place on
   abbrev pub DefaultsAt : ℕ → List Parameter → Type 0
@@ -147,11 +147,25 @@ module _ (world : World) (order : List Home) where
   abbrev pub DefaultsLaid : Type 0
   DefaultsLaid = (h : Home) → Known h → (x : Text) (b : MacroBody) → macro_of x (macros world.sources h) ≡ Some b → DefaultsAt (default_place world order h b.name) b.parameters
 
-  -- a chain that another includes: it stands behind in the order, and the other has all its names
-  pub record Hands (h n : Home) : Type 0 where
-    pub known : Known n
-    pub behind : limit world order h ≤ first_slot world order n
-    pub names : (x : Text) → Among x (Rattle.jt_meaning.specs.Layout.names world order n) → Among x (Rattle.jt_meaning.specs.Layout.names world order h)
+  -- a chain or library that a home leads to: it stands behind in the order
+  pub record Behind (h k : Home) : Type 0 where
+    pub known : Known k
+    pub behind : limit world order h ≤ first_slot world order k
+
+  -- each library that a chain imports does
+  abbrev pub LibrariesBehind : Type 0
+  LibrariesBehind = (h : Home) → Known h → (n : Text) → Among n (with_source world.sources (libraries world.sources h)) → Behind h (a_library n)
+
+  -- how macros are laid out
+  pub record Laid : Type 0 where
+    pub defaults : DefaultsLaid
+    pub libraries : LibrariesBehind
+
+  -- a chain that is included: it stands behind in the order, and all its names are known
+  pub record Hands (h : Home) (n : Text) : Type 0 where
+    pub known : Known (a_chain n)
+    pub behind : limit world order h ≤ first_slot world order (a_chain n)
+    pub names : (x : Text) → Among x (Rattle.jt_meaning.specs.Layout.names world order (a_chain n)) → Among x (read_names world order h)
 
   abbrev pub Included : Home → Text → Type 0
   Included h n = (is_none (world.sources n) ≡ true) ⊎ Hands h n

@@ -8,7 +8,7 @@ use Rattle.std.proofs.lemmas.Bool.Decides.{nat_tests}
 use Rattle.std.proofs.lemmas.List.Folds.{list_any-append}
 use Rattle.jt_trees.specs.Texts.{repeated}
 use Rattle.jt_trees.specs.Expressions.{Text}
-use Rattle.jt_chains.specs.Chain.{Sources, Home, Template, parent_of, names_up, max_templates, templates, BlockBody, all_bodies, bodies, from_given}
+use Rattle.jt_chains.specs.Chain.{Sources, Home, a_chain, a_library, parent_of, names_up, max_templates, templates, BlockBody, all_bodies, bodies, from_given, libraries}
 use Rattle.jt_chains.specs.Includes.{needs_in}
 use Rattle.jt_chains.specs.Rules.{is_empty, lacks_super, way, asked, Reaches, is_whole, KeepsRules}
 use Rattle.jt_chains.specs.Supers.{calls_super}
@@ -56,11 +56,14 @@ module _ (sources : Sources) (escaping : Bool) (entry h : Home) (reached : Reach
   abbrev needed : List Text
   needed = flat_map (λ t. needs_in false t.body) (templates sources h)
 
+  abbrev asked_behind : List Text
+  asked_behind = needed ++ libraries sources h
+
   none_missing : list_any is_missing (asked sources escaping false h) ≡ false
   none_missing = not_so (list_any is_missing (asked sources escaping false h)) (λ e. kept.missing (h, reached, e))
 
   on_way : list_any is_missing (way sources escaping h) ≡ false
-  on_way = left_false (list_any is_missing (way sources escaping h)) (list_any is_missing needed) (sym (list_any-append is_missing (way sources escaping h) needed) ∙ none_missing)
+  on_way = left_false (list_any is_missing (way sources escaping h)) (list_any is_missing asked_behind) (sym (list_any-append is_missing (way sources escaping h) asked_behind) ∙ none_missing)
 
   each_there : (ns : List Text) → list_any is_missing ns ≡ false → Each (λ n. is_missing n ≡ false) ns
   each_there [] e = tt
@@ -68,19 +71,29 @@ module _ (sources : Sources) (escaping : Bool) (entry h : Home) (reached : Reach
 
   -- each name that its templates include and that may not be missing has a source
   pub needed_there : Each (λ n. is_none (sources n) ≡ false) (flat_map (λ t. needs_in false t.body) (templates sources h))
-  needed_there = each_there needed (right_false (list_any is_missing (way sources escaping h)) (list_any is_missing needed) (sym (list_any-append is_missing (way sources escaping h) needed) ∙ none_missing))
+  needed_there =
+      each_there needed (left_false (list_any is_missing needed) (list_any is_missing (libraries sources h)) (sym (list_any-append is_missing needed (libraries sources h))
+      ∙ right_false (list_any is_missing (way sources escaping h)) (list_any is_missing asked_behind) (sym (list_any-append is_missing (way sources escaping h) asked_behind) ∙ none_missing)))
 
   names_few : (k : ℕ) (o : Option Text) → length (names_up sources k o) ≤ k
   names_few zero o = omega arith
   names_few (suc k) None = omega arith
   names_few (suc k) (Some n) = let e = names_few k (parent_of (sources n)) in omega (arith, e)
 
+  once_of : (k : Home) → k ≡ h → repeated (way sources escaping k) ≡ false
+  once_of (a_chain n) e = not_so (repeated (way sources escaping (a_chain n))) (λ r. kept.extends_cycle (h, reached, (n, sym e, suc max_templates, r)))
+  once_of (a_library n) e = refl
+
   once : repeated (way sources escaping h) ≡ false
-  once = not_so (repeated (way sources escaping h)) (λ e. kept.extends_cycle (h, reached, (suc max_templates, e)))
+  once = once_of h refl
+
+  way_few : (k : Home) → length (way sources escaping k) ≤ suc max_templates
+  way_few (a_chain n) = names_few (suc max_templates) (Some n)
+  way_few (a_library n) = omega arith
 
   short : nat_lt (length (way sources escaping h)) (suc max_templates) ≡ true
   short =
-      below (length (way sources escaping h)) (suc max_templates) (names_few (suc max_templates) (Some h))
+      below (length (way sources escaping h)) (suc max_templates) (way_few h)
       (not_so (length (way sources escaping h) == suc max_templates) (λ e. kept.too_long (inl (h, reached, both_true (length (way sources escaping h) == suc max_templates) (not (repeated (way sources escaping h))) e (ap not once)))))
 
   whole : is_whole sources escaping h ≡ true

@@ -12,9 +12,9 @@ use Rattle.std.proofs.lemmas.Cmp.{nat_list_cmp_total}
 use Rattle.std.proofs.lemmas.Map.Text.{is_eq-slice_cmp}
 use Rattle.jt_trees.specs.Texts.{among, repeated, inserted, all_inserted, ascending}
 use Rattle.jt_trees.specs.Expressions.{Text}
-use Rattle.jt_trees.specs.Statements.{Parameter, data_of, print, choose, for_each, set, set_block, with_values, filter_block, autoescape, macro, include, extends, block, Body, end, stmt}
-use Rattle.jt_chains.specs.Chain.{Home, Template, templates, MacroBody, macros_in}
-use Rattle.jt_chains.specs.Includes.{included}
+use Rattle.jt_trees.specs.Statements.{Parameter, data_of, print, choose, for_each, set, set_block, with_values, filter_block, autoescape, macro, include, import_as, import_from, extends, block, Body, end, stmt}
+use Rattle.jt_chains.specs.Chain.{Home, a_chain, a_library, same_home, listed, Template, templates, MacroBody, macros_in, macros}
+use Rattle.jt_chains.specs.Includes.{included, InOrder}
 use Rattle.jt_chains.specs.Weights.{NamesFew}
 use Rattle.jt_chains.specs.Uses.{stmt_names, body_names, own_names, scope_names_in, scope_names}
 use Rattle.jt_chains.specs.View.{Seen, sources_of}
@@ -26,10 +26,12 @@ use Rattle.jt_rules.specs.Walk.{Within, parameter_names, body_broken, stmt_broke
 use Rattle.jt_rules.specs.declared.error.ScopeError.{ScopeError}
 use Rattle.jt_rules.specs.declared.error.ScopeError.TheVariants as error
 use Rattle.jt_meaning.specs.Ascends.{IsBefore, Above, Ascends}
-use Rattle.jt_meaning.specs.Layout.{names_in, names}
+use Rattle.jt_meaning.specs.Layout.{in_globals, names_in, names}
+use Rattle.jt_meaning.proofs.Givens.{given_all}
+use Rattle.jt_meaning.proofs.Ordering.{libraries_stand}
 use Rattle.jt_meaning.specs.Measure.{HasFewNames, IsFew, AreFew}
 use Rattle.jt_meaning.proofs.Among.{Among, AllAmong}
-use Rattle.jt_meaning.proofs.Reading.{same_text, is_same, no_both, among_front, among_back, each_among}
+use Rattle.jt_meaning.proofs.Reading.{home_same, home_is, same_text, is_same, no_both, among_front, among_back, each_among}
 use Rattle.jt_meaning.proofs.Scopes.{ascending_among, all_among, templates_bind}
 use Rattle.jt_meaning.proofs.Free.{all_append}
 
@@ -73,10 +75,14 @@ ascending_ascends xs = all_ascend xs [] tt
 
 pub names_ascend : (world : World) (hs : List Home) (h : Home) → Ascends (names_in world hs h)
 names_ascend world [] h = tt
-names_ascend world (k ∷ ks) h = through (bytes_eq k h) (names_ascend world ks h)
+names_ascend world (k ∷ ks) h = through (same_home k h) (names_ascend world ks h)
   where
-    through : (b : Bool) → Ascends (names_in world ks h) → Ascends (if b then ascending (own_names world.sources h ++ flat_map (names_in world ks) (included world.sources h)) else names_in world ks h)
-    through true e = ascending_ascends (own_names world.sources h ++ flat_map (names_in world ks) (included world.sources h))
+    kept : (g : Home) (xs : List Text) → Ascends xs → Ascends (in_globals g xs)
+    kept (a_chain n) xs a = a
+    kept (a_library n) xs a = tt
+
+    through : (b : Bool) → Ascends (names_in world ks h) → Ascends (if b then in_globals h (ascending (own_names world.sources h ++ flat_map (names_in world ks) (included world.sources h))) else names_in world ks h)
+    through true e = kept h _ (ascending_ascends (own_names world.sources h ++ flat_map (names_in world ks) (included world.sources h)))
     through false e = e
 
 -- ---- texts that differ, all among others, are no more than those
@@ -172,13 +178,18 @@ flat_from g (m ∷ ms) ns h = both_among (g m) (flat_map g ms) ns (h m) (flat_fr
 
 pub names_from : (world : World) (ns : List Text) (hs : List Home) → AllByRecursion (λ h. AllAmong (own_names world.sources h) ns) hs → (h : Home) → AllAmong (names_in world hs h) ns
 names_from world ns [] a h = tt
-names_from world ns (k ∷ ks) a h = through (bytes_eq k h) refl (λ m. names_from world ns ks a.1 m)
+names_from world ns (k ∷ ks) a h = through (same_home k h) refl (λ m. names_from world ns ks a.1 m)
   where
-    through : (b : Bool) → bytes_eq k h ≡ b → ((m : Home) → AllAmong (names_in world ks m) ns) → AllAmong (if b then ascending (own_names world.sources h ++ flat_map (names_in world ks) (included world.sources h)) else names_in world ks h) ns
+    kept : (g : Home) (xs : List Text) → AllAmong xs ns → AllAmong (in_globals g xs) ns
+    kept (a_chain n) xs b = b
+    kept (a_library n) xs b = tt
+
+    through : (b : Bool) → same_home k h ≡ b → ((m : Home) → AllAmong (names_in world ks m) ns)
+        → AllAmong (if b then in_globals h (ascending (own_names world.sources h ++ flat_map (names_in world ks) (included world.sources h))) else names_in world ks h) ns
     through true e r =
-        ascending_among (own_names world.sources h ++ flat_map (names_in world ks) (included world.sources h)) ns
-        (both_among (own_names world.sources h) (flat_map (names_in world ks) (included world.sources h)) ns (subst (λ z. AllAmong (own_names world.sources z) ns) (same_text k h e) a.0)
-        (flat_from (names_in world ks) (included world.sources h) ns r))
+        kept h _ (ascending_among (own_names world.sources h ++ flat_map (names_in world ks) (included world.sources h)) ns
+        (both_among (own_names world.sources h) (flat_map (names_in world ks) (included world.sources h)) ns (subst (λ z. AllAmong (own_names world.sources z) ns) (home_same k h e) a.0)
+        (flat_from (names_in world ks) (included world.sources h) ns r)))
     through false e r = r h
 
 -- ---- macros have parameters that differ
@@ -251,6 +262,8 @@ module _ (world : World) (h : Home) where
   macros_named t (stmt (filter_block line fs body) rest) e = macros_named t rest (none_second (stmt_broken world h (filter_block line fs body) at_top) (body_broken world h rest at_top) e)
   macros_named t (stmt (autoescape line on body) rest) e = macros_named t rest (none_second (stmt_broken world h (autoescape line on body) at_top) (body_broken world h rest at_top) e)
   macros_named t (stmt (include line n i w) rest) e = macros_named t rest (none_second (stmt_broken world h (include line n i w) at_top) (body_broken world h rest at_top) e)
+  macros_named t (stmt (import_as line n new) rest) e = macros_named t rest (none_second (stmt_broken world h (import_as line n new) at_top) (body_broken world h rest at_top) e)
+  macros_named t (stmt (import_from line n news) rest) e = macros_named t rest (none_second (stmt_broken world h (import_from line n news) at_top) (body_broken world h rest at_top) e)
   macros_named t (stmt (extends line n) rest) e = macros_named t rest (none_second (stmt_broken world h (extends line n) at_top) (body_broken world h rest at_top) e)
   macros_named t (stmt (block line x s r body) rest) e = macros_named t rest (none_second (stmt_broken world h (block line x s r body) at_top) (body_broken world h rest at_top) e)
 
@@ -280,6 +293,8 @@ module _ (world : World) (h : Home) where
     body_few t (stmt (filter_block line fs body) rest) a o = body_few t rest (among_back (stmt_names (filter_block line fs body)) (body_names rest) ns a) o
     body_few t (stmt (autoescape line on body) rest) a o = body_few t rest (among_back (stmt_names (autoescape line on body)) (body_names rest) ns a) o
     body_few t (stmt (include line n i w) rest) a o = body_few t rest a o
+    body_few t (stmt (import_as line n new) rest) a o = body_few t rest a o
+    body_few t (stmt (import_from line n news) rest) a o = body_few t rest a o
     body_few t (stmt (extends line n) rest) a o = body_few t rest a o
     body_few t (stmt (block line x s r body) rest) a o = body_few t rest (among_back (stmt_names (block line x s r body)) (body_names rest) ns a) o
 
@@ -311,36 +326,58 @@ filters_few n = through (filter_of n)
 
 -- ---- all chains
 
-chains_few : (c : Seen) (ns : List Text) → length ns ≤ 200 → ((k : Home) → AllAmong (names (world_of c) c.order k) ns) → (hs : List Home) → AllByRecursion (λ h. AllAmong (own_names (sources_of c) h) ns) hs → chains_broken (world_of c) hs ≡ None → ((k : Home) → HasFewNames (world_of c) c.order k)
-    → AllByRecursion (IsFew (world_of c) c.order) hs
-chains_few c ns l from [] a e n = tt
-chains_few c ns l from (h ∷ hs) a e n = (
-  record { names = n; macros = macros_few (world_of c) h ns l (templates (sources_of c) h) a.0 (none_first (templates_broken (world_of c) h (templates (sources_of c) h)) (chains_broken (world_of c) hs) e); filters = filters_few },
-  chains_few c ns l from hs a.1 (none_second (templates_broken (world_of c) h (templates (sources_of c) h)) (chains_broken (world_of c) hs) e) n,
-)
+-- the macros of each chain and library of these have few parameters
+homes_few : (c : Seen) (ns : List Text) → length ns ≤ 200 → (hs : List Home) → AllByRecursion (λ h. AllAmong (own_names (sources_of c) h) ns) hs → chains_broken (world_of c) hs ≡ None
+    → (h : Home) → listed h hs ≡ true → AllByRecursion (λ m. length m.parameters ≤ 200) (macros (sources_of c) h)
+homes_few c ns l [] a e h i = absurd (no_both i refl)
+homes_few c ns l (k ∷ ks) a e h i = through (same_home k h) refl i (λ j. homes_few c ns l ks a.1 (none_second (templates_broken (world_of c) k (templates (sources_of c) k)) (chains_broken (world_of c) ks) e) h j)
+  where
+    here : AllByRecursion (λ m. length m.parameters ≤ 200) (macros (sources_of c) k)
+    here = macros_few (world_of c) k ns l (templates (sources_of c) k) a.0 (none_first (templates_broken (world_of c) k (templates (sources_of c) k)) (chains_broken (world_of c) ks) e)
 
-pub few_by : (c : Seen) → NamesFew c → chains_broken (world_of c) c.order ≡ None → AreFew (world_of c) c.order
-few_by c n e =
+    through : (b : Bool) → same_home k h ≡ b → (b || listed h ks) ≡ true → (listed h ks ≡ true → AllByRecursion (λ m. length m.parameters ≤ 200) (macros (sources_of c) h)) → AllByRecursion (λ m. length m.parameters ≤ 200) (macros (sources_of c) h)
+    through true p q f = subst (λ z. AllByRecursion (λ m. length m.parameters ≤ 200) (macros (sources_of c) z)) (home_same k h p) here
+    through false p q f = f q
+
+chains_few : (c : Seen) → InOrder (sources_of c) c.order → ((h : Home) → listed h c.order ≡ true → AllByRecursion (λ m. length m.parameters ≤ 200) (macros (sources_of c) h)) → ((k : Home) → HasFewNames (world_of c) c.order k)
+    → (hs : List Home) → ((h : Home) → listed h hs ≡ true → listed h c.order ≡ true) → AllByRecursion (IsFew (world_of c) c.order) hs
+chains_few c o each n [] i = tt
+chains_few c o each n (h ∷ hs) i =
+    let known = i h (ap (λ b. b || listed h hs) (home_is h)) in (
+      record {
+        names = n;
+        macros = given_all (sources_of c) (λ m. length m.parameters ≤ 200) h (each h known) (λ l j. each (a_library l) (libraries_stand (world_of c) c.order o h known l j).known);
+        filters = filters_few;
+      },
+      chains_few c o each n hs (λ g j. i g (later g (same_home h g) j)),
+    )
+  where
+    later : (g : Home) (b : Bool) → listed g hs ≡ true → (b || listed g hs) ≡ true
+    later g true j = refl
+    later g false j = j
+
+pub few_by : (c : Seen) → InOrder (sources_of c) c.order → NamesFew c → chains_broken (world_of c) c.order ≡ None → AreFew (world_of c) c.order
+few_by c o n e =
     let each = all_own c.order n.all in
     let from = λ (k : Home). names_from (world_of c) n.names c.order each k in
-    chains_few c n.names n.few from c.order each e (λ k. (
+    chains_few c o (homes_few c n.names n.few c.order each e) (λ k. (
       (let l = no_more (names (world_of c) c.order k) n.names (ascends_differs (names (world_of c) c.order k) (names_ascend (world_of c) c.order k)) (from k) in let f = n.few in omega (arith, l, f)),
-      scopes_few k (among k c.order) refl,
-    ))
+      scopes_few k (listed k c.order) refl,
+    )) c.order (λ h i. i)
   where
     all_own : (hs : List Home) → AllByRecursion (λ h. AllByRecursion (λ x. Contains n.names x) (own_names (sources_of c) h)) hs → AllByRecursion (λ h. AllAmong (own_names (sources_of c) h) n.names) hs
     all_own [] a = tt
     all_own (h ∷ hs) a = (all_contained n.names (own_names (sources_of c) h) a.0, all_own hs a.1)
 
-    own_of : (k : Home) (hs : List Home) → among k hs ≡ true → AllByRecursion (λ h. AllAmong (own_names (sources_of c) h) n.names) hs → AllAmong (own_names (sources_of c) k) n.names
+    own_of : (k : Home) (hs : List Home) → listed k hs ≡ true → AllByRecursion (λ h. AllAmong (own_names (sources_of c) h) n.names) hs → AllAmong (own_names (sources_of c) k) n.names
     own_of k [] e a = absurd (no_both e refl)
-    own_of k (h ∷ hs) e a = through (bytes_eq h k) refl e (λ f. own_of k hs f a.1)
+    own_of k (h ∷ hs) e a = through (same_home h k) refl e (λ f. own_of k hs f a.1)
       where
-        through : (b : Bool) → bytes_eq h k ≡ b → (b || among k hs) ≡ true → (among k hs ≡ true → AllAmong (own_names (sources_of c) k) n.names) → AllAmong (own_names (sources_of c) k) n.names
-        through true p e f = subst (λ z. AllAmong (own_names (sources_of c) z) n.names) (same_text h k p) a.0
+        through : (b : Bool) → same_home h k ≡ b → (b || listed k hs) ≡ true → (listed k hs ≡ true → AllAmong (own_names (sources_of c) k) n.names) → AllAmong (own_names (sources_of c) k) n.names
+        through true p e f = subst (λ z. AllAmong (own_names (sources_of c) z) n.names) (home_same h k p) a.0
         through false p e f = f e
 
-    scopes_few : (k : Home) (b : Bool) → among k c.order ≡ b → length (if b then scope_names (sources_of c) k else []) ≤ 200
+    scopes_few : (k : Home) (b : Bool) → listed k c.order ≡ b → length (if b then scope_names (sources_of c) k else []) ≤ 200
     scopes_few k true p =
         let bs = flat_map (λ t. scope_names_in t.body) (templates (sources_of c) k) in
         let a = ascending_among bs n.names (templates_bind (templates (sources_of c) k) n.names (own_of k c.order p (all_own c.order n.all))) in

@@ -4,16 +4,15 @@ use Rattle.std.proofs.lemmas.List.{map-append}
 use Rattle.std.specs.Prelude.{◌&&◌, ◌||◌, ◌==◌, flat_map, filter, slice_get}
 use Rattle.std.specs.Str.{bytes_eq}
 use Rattle.jt_trees.specs.Expressions.{Text}
-use Rattle.jt_chains.specs.Chain.{Home, BlockBody, all_bodies, MacroBody, macros, macro_of}
-use Rattle.jt_trees.specs.Texts.{among}
+use Rattle.jt_chains.specs.Chain.{Home, a_chain, a_library, same_home, listed, BlockBody, all_bodies, MacroBody, macros, macro_of}
 use Rattle.jt_rules.specs.World.{World}
 use Rattle.jt_slots.specs.Slots.{Routine}
-use Rattle.jt_meaning.specs.Layout.{Key, of_chain, of_macro, of_body, same_key, place_of, counted_from, numbered_bodies, numbered_of, chain_keys, unit}
+use Rattle.jt_meaning.specs.Layout.{Key, of_chain, of_macro, of_body, same_key, place_of, counted_from, numbered_bodies, numbered_of, entry_keys, chain_keys, unit}
 use Rattle.jt_slots.specs.Pool.{Constant}
 use Rattle.jt_meaning.specs.Resolve.{chain_routine, macro_routine, body_routine}
-use Rattle.jt_meaning.specs.Programs.{body_routines, chain_routines, routines}
+use Rattle.jt_meaning.specs.Programs.{body_routines, entry_routines, chain_routines, routines}
 use Rattle.std.proofs.lemmas.Bool.Decides.{Decides-eqb}
-use Rattle.jt_meaning.proofs.Reading.{same_text, same_is, no_both}
+use Rattle.jt_meaning.proofs.Reading.{same_text, home_same, home_is, no_both}
 
 abbrev assoc : {A : Type 0} → Key → List (Key × A) → Option A
 assoc k [] = None
@@ -60,8 +59,12 @@ module _ (world : World) (order : List Home) where
   abbrev macros_keyed : Home → List MacroBody → List (Key × Routine Constant)
   macros_keyed h ms = map (λ m. (of_macro h m.name, macro_routine world order h m)) ms
 
+  abbrev entry_keyed : Home → List (Key × Routine Constant)
+  entry_keyed (a_chain n) = (of_chain n, chain_routine world order n) ∷ []
+  entry_keyed (a_library n) = []
+
   abbrev keyed : Home → List (Key × Routine Constant)
-  keyed h = (of_chain h, chain_routine world order h) ∷ (macros_keyed h (macros world.sources h) ++ bodies_keyed h (numbered_bodies world h))
+  keyed h = entry_keyed h ++ (macros_keyed h (macros world.sources h) ++ bodies_keyed h (numbered_bodies world h))
 
   body_keys : (h : Home) (bs : List (ℕ × BlockBody)) → map (λ p. p.0) (bodies_keyed h bs) ≡ map (λ b. of_body h b.0) bs
   body_keys h [] = refl
@@ -79,15 +82,27 @@ module _ (world : World) (order : List Home) where
   macro_routines_are h [] = refl
   macro_routines_are h (m ∷ ms) = ap (λ rs. macro_routine world order h m ∷ rs) (macro_routines_are h ms)
 
+  entry_keys_are : (h : Home) → map (λ p. p.0) (entry_keyed h) ≡ entry_keys world h
+  entry_keys_are (a_chain n) = refl
+  entry_keys_are (a_library n) = refl
+
+  entry_routines_are : (h : Home) → map (λ p. p.1) (entry_keyed h) ≡ entry_routines world order h
+  entry_routines_are (a_chain n) = refl
+  entry_routines_are (a_library n) = refl
+
   chain_keys_are : (h : Home) → map (λ p. p.0) (keyed h) ≡ chain_keys world h
   chain_keys_are h =
-      ap (λ ks. of_chain h ∷ ks) (map-append (λ p. p.0) (macros_keyed h (macros world.sources h)) (bodies_keyed h (numbered_bodies world h))
+      map-append (λ p. p.0) (entry_keyed h) (macros_keyed h (macros world.sources h) ++ bodies_keyed h (numbered_bodies world h))
+      ∙ ap (λ ks. ks ++ map (λ p. p.0) (macros_keyed h (macros world.sources h) ++ bodies_keyed h (numbered_bodies world h))) (entry_keys_are h)
+      ∙ ap (λ ks. entry_keys world h ++ ks) (map-append (λ p. p.0) (macros_keyed h (macros world.sources h)) (bodies_keyed h (numbered_bodies world h))
       ∙ ap (λ ks. ks ++ map (λ p. p.0) (bodies_keyed h (numbered_bodies world h))) (macro_keys h (macros world.sources h))
       ∙ ap (λ ks. map (λ m. of_macro h m.name) (macros world.sources h) ++ ks) (body_keys h (numbered_bodies world h)))
 
   chain_routines_are : (h : Home) → map (λ p. p.1) (keyed h) ≡ chain_routines world order h
   chain_routines_are h =
-      ap (λ rs. chain_routine world order h ∷ rs) (map-append (λ p. p.1) (macros_keyed h (macros world.sources h)) (bodies_keyed h (numbered_bodies world h))
+      map-append (λ p. p.1) (entry_keyed h) (macros_keyed h (macros world.sources h) ++ bodies_keyed h (numbered_bodies world h))
+      ∙ ap (λ rs. rs ++ map (λ p. p.1) (macros_keyed h (macros world.sources h) ++ bodies_keyed h (numbered_bodies world h))) (entry_routines_are h)
+      ∙ ap (λ rs. entry_routines world order h ++ rs) (map-append (λ p. p.1) (macros_keyed h (macros world.sources h)) (bodies_keyed h (numbered_bodies world h))
       ∙ ap (λ rs. rs ++ map (λ p. p.1) (bodies_keyed h (numbered_bodies world h))) (macro_routines_are h (macros world.sources h))
       ∙ ap (λ rs. map (macro_routine world order h) (macros world.sources h) ++ rs) (body_routines_are h (numbered_bodies world h)))
 
@@ -106,24 +121,19 @@ module _ (world : World) (order : List Home) where
       sym (ap (λ rs. slice_get rs (unit world order k)) (all_routines_are order)) ∙ sym (ap (λ ks. slice_get (map (λ p. p.1) (flat_map keyed order)) (place_of k ks)) (all_keys_are order)) ∙ place_finds k (flat_map keyed order) ∙ e
 
   -- the keys of other chains are passed over
-  abbrev home_of : Key → Home
-  home_of (of_chain h) = h
-  home_of (of_macro h x) = h
-  home_of (of_body h i) = h
-
-  macros_pass : (h g : Home) (x : Text) (ms : List MacroBody) → bytes_eq h g ≡ false → Passes (of_macro g x) (macros_keyed h ms)
+  macros_pass : (h g : Home) (x : Text) (ms : List MacroBody) → same_home h g ≡ false → Passes (of_macro g x) (macros_keyed h ms)
   macros_pass h g x [] e = tt
   macros_pass h g x (m ∷ ms) e = (ap (λ b. b && bytes_eq m.name x) e, macros_pass h g x ms e)
 
-  bodies_pass : (h g : Home) (i : ℕ) (bs : List (ℕ × BlockBody)) → bytes_eq h g ≡ false → Passes (of_body g i) (bodies_keyed h bs)
+  bodies_pass : (h g : Home) (i : ℕ) (bs : List (ℕ × BlockBody)) → same_home h g ≡ false → Passes (of_body g i) (bodies_keyed h bs)
   bodies_pass h g i [] e = tt
   bodies_pass h g i (b ∷ bs) e = (ap (λ c. c && (b.0 == i)) e, bodies_pass h g i bs e)
 
-  macros_no_chain : (h g : Home) (ms : List MacroBody) → Passes (of_chain g) (macros_keyed h ms)
+  macros_no_chain : (h : Home) (g : Text) (ms : List MacroBody) → Passes (of_chain g) (macros_keyed h ms)
   macros_no_chain h g [] = tt
   macros_no_chain h g (m ∷ ms) = (refl, macros_no_chain h g ms)
 
-  bodies_no_chain : (h g : Home) (bs : List (ℕ × BlockBody)) → Passes (of_chain g) (bodies_keyed h bs)
+  bodies_no_chain : (h : Home) (g : Text) (bs : List (ℕ × BlockBody)) → Passes (of_chain g) (bodies_keyed h bs)
   bodies_no_chain h g [] = tt
   bodies_no_chain h g (b ∷ bs) = (refl, bodies_no_chain h g bs)
 
@@ -135,18 +145,35 @@ module _ (world : World) (order : List Home) where
   bodies_no_macro h g x [] = tt
   bodies_no_macro h g x (b ∷ bs) = (refl, bodies_no_macro h g x bs)
 
-  chain_found : (h : Home) (hs : List Home) → among h hs ≡ true → assoc (of_chain h) (flat_map keyed hs) ≡ Some (chain_routine world order h)
-  chain_found h [] e = absurd (no_both e refl)
-  chain_found h (g ∷ gs) e = through (bytes_eq g h) refl e (λ f. chain_found h gs f)
-    where
-      rest : assoc (of_chain h) ((macros_keyed g (macros world.sources g) ++ bodies_keyed g (numbered_bodies world g)) ++ flat_map keyed gs) ≡ assoc (of_chain h) (flat_map keyed gs)
-      rest =
-          passed (of_chain h) (macros_keyed g (macros world.sources g) ++ bodies_keyed g (numbered_bodies world g)) (flat_map keyed gs)
-          (passes_append (of_chain h) (macros_keyed g (macros world.sources g)) (bodies_keyed g (numbered_bodies world g)) (macros_no_chain g h (macros world.sources g)) (bodies_no_chain g h (numbered_bodies world g)))
+  entry_no_macro : (h g : Home) (x : Text) → Passes (of_macro g x) (entry_keyed h)
+  entry_no_macro (a_chain n) g x = (refl, tt)
+  entry_no_macro (a_library n) g x = tt
 
-      through : (b : Bool) → bytes_eq g h ≡ b → (b || among h gs) ≡ true → (among h gs ≡ true → assoc (of_chain h) (flat_map keyed gs) ≡ Some (chain_routine world order h))
-          → (if b then Some (chain_routine world order g) else assoc (of_chain h) ((macros_keyed g (macros world.sources g) ++ bodies_keyed g (numbered_bodies world g)) ++ flat_map keyed gs)) ≡ Some (chain_routine world order h)
-      through true p e f = ap (λ z. Some (chain_routine world order z)) (same_text g h p)
+  entry_no_body : (h g : Home) (i : ℕ) → Passes (of_body g i) (entry_keyed h)
+  entry_no_body (a_chain n) g i = (refl, tt)
+  entry_no_body (a_library n) g i = tt
+
+  chain_found : (n : Text) (hs : List Home) → listed (a_chain n) hs ≡ true → assoc (of_chain n) (flat_map keyed hs) ≡ Some (chain_routine world order n)
+  chain_found n [] e = absurd (no_both e refl)
+  chain_found n (a_library m ∷ gs) e = rest (a_library m) gs ∙ chain_found n gs e
+    where
+      rest : (g : Home) (hs : List Home) → assoc (of_chain n) ((macros_keyed g (macros world.sources g) ++ bodies_keyed g (numbered_bodies world g)) ++ flat_map keyed hs) ≡ assoc (of_chain n) (flat_map keyed hs)
+      rest g hs =
+          passed (of_chain n) (macros_keyed g (macros world.sources g) ++ bodies_keyed g (numbered_bodies world g)) (flat_map keyed hs)
+          (passes_append (of_chain n) (macros_keyed g (macros world.sources g)) (bodies_keyed g (numbered_bodies world g)) (macros_no_chain g n (macros world.sources g)) (bodies_no_chain g n (numbered_bodies world g)))
+  chain_found n (a_chain m ∷ gs) e = through (bytes_eq m n) refl e (λ f. chain_found n gs f)
+    where
+      g : Home
+      g = a_chain m
+
+      rest : assoc (of_chain n) ((macros_keyed g (macros world.sources g) ++ bodies_keyed g (numbered_bodies world g)) ++ flat_map keyed gs) ≡ assoc (of_chain n) (flat_map keyed gs)
+      rest =
+          passed (of_chain n) (macros_keyed g (macros world.sources g) ++ bodies_keyed g (numbered_bodies world g)) (flat_map keyed gs)
+          (passes_append (of_chain n) (macros_keyed g (macros world.sources g)) (bodies_keyed g (numbered_bodies world g)) (macros_no_chain g n (macros world.sources g)) (bodies_no_chain g n (numbered_bodies world g)))
+
+      through : (b : Bool) → bytes_eq m n ≡ b → (b || listed (a_chain n) gs) ≡ true → (listed (a_chain n) gs ≡ true → assoc (of_chain n) (flat_map keyed gs) ≡ Some (chain_routine world order n))
+          → (if b then Some (chain_routine world order m) else assoc (of_chain n) ((macros_keyed g (macros world.sources g) ++ bodies_keyed g (numbered_bodies world g)) ++ flat_map keyed gs)) ≡ Some (chain_routine world order n)
+      through true p e f = ap (λ z. Some (chain_routine world order z)) (same_text m n p)
       through false p e f = rest ∙ f e
 
   macro_found_in : (h : Home) (x : Text) (b : MacroBody) (ms : List MacroBody) → macro_of x ms ≡ Some b → assoc (of_macro h x) (macros_keyed h ms) ≡ Some (macro_routine world order h b)
@@ -154,7 +181,7 @@ module _ (world : World) (order : List Home) where
     where
       nothing : None ≡ Some b → ⊥
       nothing q = cc
-  macro_found_in h x b (m ∷ ms) e = ap (λ c. if c && bytes_eq m.name x then Some (macro_routine world order h m) else assoc (of_macro h x) (macros_keyed h ms)) (same_is h) ∙ through (bytes_eq m.name x) e (λ f. macro_found_in h x b ms f)
+  macro_found_in h x b (m ∷ ms) e = ap (λ c. if c && bytes_eq m.name x then Some (macro_routine world order h m) else assoc (of_macro h x) (macros_keyed h ms)) (home_is h) ∙ through (bytes_eq m.name x) e (λ f. macro_found_in h x b ms f)
     where
       is_it : Some m ≡ Some b → m ≡ b
       is_it q = cc
@@ -164,19 +191,21 @@ module _ (world : World) (order : List Home) where
       through true e f = ap (λ z. Some (macro_routine world order h z)) (is_it e)
       through false e f = f e
 
-  macro_found : (h : Home) (x : Text) (b : MacroBody) (hs : List Home) → among h hs ≡ true → macro_of x (macros world.sources h) ≡ Some b → assoc (of_macro h x) (flat_map keyed hs) ≡ Some (macro_routine world order h b)
+  macro_found : (h : Home) (x : Text) (b : MacroBody) (hs : List Home) → listed h hs ≡ true → macro_of x (macros world.sources h) ≡ Some b → assoc (of_macro h x) (flat_map keyed hs) ≡ Some (macro_routine world order h b)
   macro_found h x b [] e m = absurd (no_both e refl)
-  macro_found h x b (g ∷ gs) e m = through (bytes_eq g h) refl e (λ f. macro_found h x b gs f m)
+  macro_found h x b (g ∷ gs) e m = through (same_home g h) refl e (λ f. macro_found h x b gs f m)
     where
-      through : (c : Bool) → bytes_eq g h ≡ c → (c || among h gs) ≡ true → (among h gs ≡ true → assoc (of_macro h x) (flat_map keyed gs) ≡ Some (macro_routine world order h b))
-          → assoc (of_macro h x) ((macros_keyed g (macros world.sources g) ++ bodies_keyed g (numbered_bodies world g)) ++ flat_map keyed gs) ≡ Some (macro_routine world order h b)
+      through : (c : Bool) → same_home g h ≡ c → (c || listed h gs) ≡ true → (listed h gs ≡ true → assoc (of_macro h x) (flat_map keyed gs) ≡ Some (macro_routine world order h b))
+          → assoc (of_macro h x) ((entry_keyed g ++ (macros_keyed g (macros world.sources g) ++ bodies_keyed g (numbered_bodies world g))) ++ flat_map keyed gs) ≡ Some (macro_routine world order h b)
       through true p e f =
-          subst (λ z. assoc (of_macro h x) ((macros_keyed z (macros world.sources z) ++ bodies_keyed z (numbered_bodies world z)) ++ flat_map keyed gs) ≡ Some (macro_routine world order h b)) (sym (same_text g h p))
-          (found_front (of_macro h x) (macros_keyed h (macros world.sources h) ++ bodies_keyed h (numbered_bodies world h)) (flat_map keyed gs) (macro_routine world order h b)
-          (found_front (of_macro h x) (macros_keyed h (macros world.sources h)) (bodies_keyed h (numbered_bodies world h)) (macro_routine world order h b) (macro_found_in h x b (macros world.sources h) m)))
+          subst (λ z. assoc (of_macro h x) ((entry_keyed z ++ (macros_keyed z (macros world.sources z) ++ bodies_keyed z (numbered_bodies world z))) ++ flat_map keyed gs) ≡ Some (macro_routine world order h b)) (sym (home_same g h p))
+          (found_front (of_macro h x) (entry_keyed h ++ (macros_keyed h (macros world.sources h) ++ bodies_keyed h (numbered_bodies world h))) (flat_map keyed gs) (macro_routine world order h b)
+          (passed (of_macro h x) (entry_keyed h) (macros_keyed h (macros world.sources h) ++ bodies_keyed h (numbered_bodies world h)) (entry_no_macro h h x)
+          ∙ found_front (of_macro h x) (macros_keyed h (macros world.sources h)) (bodies_keyed h (numbered_bodies world h)) (macro_routine world order h b) (macro_found_in h x b (macros world.sources h) m)))
       through false p e f =
-          passed (of_macro h x) (macros_keyed g (macros world.sources g) ++ bodies_keyed g (numbered_bodies world g)) (flat_map keyed gs)
-          (passes_append (of_macro h x) (macros_keyed g (macros world.sources g)) (bodies_keyed g (numbered_bodies world g)) (macros_pass g h x (macros world.sources g) p) (bodies_no_macro g h x (numbered_bodies world g)))
+          passed (of_macro h x) (entry_keyed g ++ (macros_keyed g (macros world.sources g) ++ bodies_keyed g (numbered_bodies world g))) (flat_map keyed gs)
+          (passes_append (of_macro h x) (entry_keyed g) (macros_keyed g (macros world.sources g) ++ bodies_keyed g (numbered_bodies world g)) (entry_no_macro g h x)
+          (passes_append (of_macro h x) (macros_keyed g (macros world.sources g)) (bodies_keyed g (numbered_bodies world g)) (macros_pass g h x (macros world.sources g) p) (bodies_no_macro g h x (numbered_bodies world g))))
           ∙ f e
 
   tail_of : {A : Type 0} {x y : A} {xs ys : List A} → x ∷ xs ≡ y ∷ ys → xs ≡ ys
@@ -221,29 +250,31 @@ module _ (world : World) (order : List Home) where
   body_found_in h n (x ∷ xs) [] post i c e =
       let head : (n, x) ≡ (i, c) = head_of e in
       let number : n ≡ i = ap (λ p. p.0) head in
-      ap (λ b. if b && (n == i) then Some (body_routine world order h x (filter (λ d. bytes_eq d.1.name x.name) (counted_from (suc n) xs))) else assoc (of_body h i) (bodies_keyed h (counted_from (suc n) xs))) (same_is h)
+      ap (λ b. if b && (n == i) then Some (body_routine world order h x (filter (λ d. bytes_eq d.1.name x.name) (counted_from (suc n) xs))) else assoc (of_body h i) (bodies_keyed h (counted_from (suc n) xs))) (home_is h)
       ∙ ap (λ b. if b then Some (body_routine world order h x (filter (λ d. bytes_eq d.1.name x.name) (counted_from (suc n) xs))) else assoc (of_body h i) (bodies_keyed h (counted_from (suc n) xs))) (ap (λ j. n == j) (sym number) ∙ same_number n)
       ∙ ap (λ z. Some (body_routine world order h z (filter (λ d. bytes_eq d.1.name z.name) (counted_from (suc n) xs)))) (ap (λ p. p.1) head)
       ∙ ap (λ ps. Some (body_routine world order h c (filter (λ d. bytes_eq d.1.name c.name) ps))) (tail_of e)
   body_found_in h n (x ∷ xs) (p ∷ pre) post i c e =
-      ap (λ b. if b && (n == i) then Some (body_routine world order h x (filter (λ d. bytes_eq d.1.name x.name) (counted_from (suc n) xs))) else assoc (of_body h i) (bodies_keyed h (counted_from (suc n) xs))) (same_is h)
+      ap (λ b. if b && (n == i) then Some (body_routine world order h x (filter (λ d. bytes_eq d.1.name x.name) (counted_from (suc n) xs))) else assoc (of_body h i) (bodies_keyed h (counted_from (suc n) xs))) (home_is h)
       ∙ ap (λ b. if b then Some (body_routine world order h x (filter (λ d. bytes_eq d.1.name x.name) (counted_from (suc n) xs))) else assoc (of_body h i) (bodies_keyed h (counted_from (suc n) xs))) (differ n i (place_reached (suc n) xs pre post i c (tail_of e)))
       ∙ body_found_in h (suc n) xs pre post i c (tail_of e)
 
-  body_found : (h : Home) (pre post : List (ℕ × BlockBody)) (i : ℕ) (c : BlockBody) (hs : List Home) → among h hs ≡ true → numbered_bodies world h ≡ pre ++ ((i, c) ∷ post)
+  body_found : (h : Home) (pre post : List (ℕ × BlockBody)) (i : ℕ) (c : BlockBody) (hs : List Home) → listed h hs ≡ true → numbered_bodies world h ≡ pre ++ ((i, c) ∷ post)
       → assoc (of_body h i) (flat_map keyed hs) ≡ Some (body_routine world order h c (filter (λ d. bytes_eq d.1.name c.name) post))
   body_found h pre post i c [] e m = absurd (no_both e refl)
-  body_found h pre post i c (g ∷ gs) e m = through (bytes_eq g h) refl e (λ f. body_found h pre post i c gs f m)
+  body_found h pre post i c (g ∷ gs) e m = through (same_home g h) refl e (λ f. body_found h pre post i c gs f m)
     where
-      through : (b : Bool) → bytes_eq g h ≡ b → (b || among h gs) ≡ true → (among h gs ≡ true → assoc (of_body h i) (flat_map keyed gs) ≡ Some (body_routine world order h c (filter (λ d. bytes_eq d.1.name c.name) post)))
-          → assoc (of_body h i) ((macros_keyed g (macros world.sources g) ++ bodies_keyed g (numbered_bodies world g)) ++ flat_map keyed gs) ≡ Some (body_routine world order h c (filter (λ d. bytes_eq d.1.name c.name) post))
+      through : (b : Bool) → same_home g h ≡ b → (b || listed h gs) ≡ true → (listed h gs ≡ true → assoc (of_body h i) (flat_map keyed gs) ≡ Some (body_routine world order h c (filter (λ d. bytes_eq d.1.name c.name) post)))
+          → assoc (of_body h i) ((entry_keyed g ++ (macros_keyed g (macros world.sources g) ++ bodies_keyed g (numbered_bodies world g))) ++ flat_map keyed gs) ≡ Some (body_routine world order h c (filter (λ d. bytes_eq d.1.name c.name) post))
       through true p e f =
-          subst (λ z. assoc (of_body h i) ((macros_keyed z (macros world.sources z) ++ bodies_keyed z (numbered_bodies world z)) ++ flat_map keyed gs) ≡ Some (body_routine world order h c (filter (λ d. bytes_eq d.1.name c.name) post))) (sym (same_text g h p))
-          (found_front (of_body h i) (macros_keyed h (macros world.sources h) ++ bodies_keyed h (numbered_bodies world h)) (flat_map keyed gs) (body_routine world order h c (filter (λ d. bytes_eq d.1.name c.name) post))
-          (passed (of_body h i) (macros_keyed h (macros world.sources h)) (bodies_keyed h (numbered_bodies world h)) (macros_no_body h h i (macros world.sources h)) ∙ body_found_in h 0 (all_bodies world.sources world.escaping h) pre post i c m))
+          subst (λ z. assoc (of_body h i) ((entry_keyed z ++ (macros_keyed z (macros world.sources z) ++ bodies_keyed z (numbered_bodies world z))) ++ flat_map keyed gs) ≡ Some (body_routine world order h c (filter (λ d. bytes_eq d.1.name c.name) post))) (sym (home_same g h p))
+          (found_front (of_body h i) (entry_keyed h ++ (macros_keyed h (macros world.sources h) ++ bodies_keyed h (numbered_bodies world h))) (flat_map keyed gs) (body_routine world order h c (filter (λ d. bytes_eq d.1.name c.name) post))
+          (passed (of_body h i) (entry_keyed h) (macros_keyed h (macros world.sources h) ++ bodies_keyed h (numbered_bodies world h)) (entry_no_body h h i)
+          ∙ passed (of_body h i) (macros_keyed h (macros world.sources h)) (bodies_keyed h (numbered_bodies world h)) (macros_no_body h h i (macros world.sources h)) ∙ body_found_in h 0 (all_bodies world.sources world.escaping h) pre post i c m))
       through false p e f =
-          passed (of_body h i) (macros_keyed g (macros world.sources g) ++ bodies_keyed g (numbered_bodies world g)) (flat_map keyed gs)
-          (passes_append (of_body h i) (macros_keyed g (macros world.sources g)) (bodies_keyed g (numbered_bodies world g)) (macros_no_body g h i (macros world.sources g)) (bodies_pass g h i (numbered_bodies world g) p))
+          passed (of_body h i) (entry_keyed g ++ (macros_keyed g (macros world.sources g) ++ bodies_keyed g (numbered_bodies world g))) (flat_map keyed gs)
+          (passes_append (of_body h i) (entry_keyed g) (macros_keyed g (macros world.sources g) ++ bodies_keyed g (numbered_bodies world g)) (entry_no_body g h i)
+          (passes_append (of_body h i) (macros_keyed g (macros world.sources g)) (bodies_keyed g (numbered_bodies world g)) (macros_no_body g h i (macros world.sources g)) (bodies_pass g h i (numbered_bodies world g) p)))
           ∙ f e
 
   -- a body among those of a block, and what is behind it
@@ -277,8 +308,8 @@ module _ (world : World) (order : List Home) where
 
   -- ---- the routines of a chain, of its macros and of its blocks' bodies
 
-  pub chain_is : (h : Home) → among h order ≡ true → slice_get (routines world order) (unit world order (of_chain h)) ≡ Some (chain_routine world order h)
-  chain_is h e = unit_finds (of_chain h) (chain_routine world order h) (chain_found h order e)
+  pub chain_is : (n : Text) → listed (a_chain n) order ≡ true → slice_get (routines world order) (unit world order (of_chain n)) ≡ Some (chain_routine world order n)
+  chain_is n e = unit_finds (of_chain n) (chain_routine world order n) (chain_found n order e)
 
   pub macro_named : (x : Text) (b : MacroBody) (ms : List MacroBody) → macro_of x ms ≡ Some b → b.name ≡ x
   macro_named x b [] e = absurd (nothing e)
@@ -294,12 +325,12 @@ module _ (world : World) (order : List Home) where
       through true p e f = ap (λ z. z.name) (sym (is_it e)) ∙ same_text m.name x p
       through false p e f = f e
 
-  pub macro_is : (h : Home) (x : Text) (b : MacroBody) → among h order ≡ true → macro_of x (macros world.sources h) ≡ Some b → slice_get (routines world order) (unit world order (of_macro h b.name)) ≡ Some (macro_routine world order h b)
+  pub macro_is : (h : Home) (x : Text) (b : MacroBody) → listed h order ≡ true → macro_of x (macros world.sources h) ≡ Some b → slice_get (routines world order) (unit world order (of_macro h b.name)) ≡ Some (macro_routine world order h b)
   macro_is h x b e m =
       let n = macro_named x b (macros world.sources h) m in
       unit_finds (of_macro h b.name) (macro_routine world order h b) (macro_found h b.name b order e (ap (λ z. macro_of z (macros world.sources h)) n ∙ m))
 
-  pub body_is : (h : Home) (x : Text) (i : ℕ) (c : BlockBody) (before behind : List (ℕ × BlockBody)) → among h order ≡ true → numbered_of world h x ≡ before ++ ((i, c) ∷ behind)
+  pub body_is : (h : Home) (x : Text) (i : ℕ) (c : BlockBody) (before behind : List (ℕ × BlockBody)) → listed h order ≡ true → numbered_of world h x ≡ before ++ ((i, c) ∷ behind)
       → (slice_get (routines world order) (unit world order (of_body h i)) ≡ Some (body_routine world order h c behind)) × (c.name ≡ x)
       × ((pre post : List (ℕ × BlockBody)) × (numbered_bodies world h ≡ pre ++ ((i, c) ∷ post)))
   body_is h x i c before behind e t =

@@ -9,7 +9,7 @@ use Rattle.std.specs.Cmp.Lexicographic.{slice_cmp}
 use Rattle.std.specs.Str.{bytes_eq}
 use Rattle.jt_trees.specs.Expressions.{Pairs, no_pairs, pair, weight, pairs_weight, Text}
 use Rattle.jt_trees.specs.Texts.{inserted, all_inserted, ascending}
-use Rattle.jt_trees.specs.Statements.{Parameter, parameters_weight, condition_weight, filtering_weight, Stmt, data_of, print, choose, for_each, set, set_block, with_values, filter_block, autoescape, macro, include, extends, block, stmt_weight, stmt_bound, Body, end, stmt, body_weight, body_bound, Branches, no_branches, branch, branch_weight, branch_bound, pairs_count}
+use Rattle.jt_trees.specs.Statements.{Parameter, parameters_weight, condition_weight, filtering_weight, Stmt, data_of, print, choose, for_each, set, set_block, with_values, filter_block, autoescape, macro, include, import_as, import_from, extends, block, stmt_weight, stmt_bound, Body, end, stmt, body_weight, body_bound, Branches, no_branches, branch, branch_weight, branch_bound, pairs_count}
 use Rattle.jt_chains.specs.Chain.{Template, BlockBody, blocks_of, blocks_in, blocks_under, MacroBody, macros_in}
 use Rattle.jt_chains.specs.Weights.{templates_weight}
 use Rattle.jt_chains.specs.Uses.{keywords, set_by, set_in, set_under, scope_names_by, scope_names_in, scope_names_under}
@@ -27,6 +27,8 @@ abbrev mutual
   stmt_free (autoescape line on body) = 11 + body_free body
   stmt_free (macro line x ps body) = 0
   stmt_free (include line n ignore_missing with_context) = 7
+  stmt_free (import_as line n new) = 9
+  stmt_free (import_from line n news) = 7 + 2 * length news
   stmt_free (extends line n) = 7
   stmt_free (block line x scoped required body) = 9
 
@@ -61,6 +63,8 @@ mutual
   stmt_paid (autoescape line on body) = omega (arith, body_paid body)
   stmt_paid (macro line x ps body) = omega (arith, parameters_bound ps, body_paid body)
   stmt_paid (include line n ignore_missing with_context) = omega arith
+  stmt_paid (import_as line n new) = omega arith
+  stmt_paid (import_from line n news) = omega arith
   stmt_paid (extends line n) = omega arith
   stmt_paid (block line x scoped required body) = omega (arith, body_paid body)
 
@@ -91,11 +95,11 @@ MacrosPaid w n ms = AllByRecursion (PaidMacro w n) ms
 paid_more : (w n v m : ℕ) → n ≤ m → w + 2 * m ≤ v + 2 * n → (b : Body) → Paid w n b → Paid v m b
 paid_more w n v m l e b p = let f = p.free in let g = p.bound in record { free = omega (arith, l, e, f); bound = omega (arith, l, g) }
 
-all_more : (w n v m : ℕ) → n ≤ m → w + 2 * m ≤ v + 2 * n → (bs : List BlockBody) → AllPaid w n bs → AllPaid v m bs
+pub all_more : (w n v m : ℕ) → n ≤ m → w + 2 * m ≤ v + 2 * n → (bs : List BlockBody) → AllPaid w n bs → AllPaid v m bs
 all_more w n v m l e [] p = tt
 all_more w n v m l e (b ∷ bs) p = (paid_more w n v m l e b.body p.0, all_more w n v m l e bs p.1)
 
-macros_more : (w n v m : ℕ) → n ≤ m → w + 2 * m ≤ v + 2 * n → (ms : List MacroBody) → MacrosPaid w n ms → MacrosPaid v m ms
+pub macros_more : (w n v m : ℕ) → n ≤ m → w + 2 * m ≤ v + 2 * n → (ms : List MacroBody) → MacrosPaid w n ms → MacrosPaid v m ms
 macros_more w n v m l e [] p = tt
 macros_more w n v m l e (b ∷ bs) p = (record { body = paid_more w n v m l e b.body p.0.body; parameters = let f = p.0.parameters in omega (arith, l, f) }, macros_more w n v m l e bs p.1)
 
@@ -137,6 +141,8 @@ module _ (t : Text) where
     stmt_blocks (print line e) on = tt
     stmt_blocks (set line xs e) on = tt
     stmt_blocks (include line n missing with_context) on = tt
+    stmt_blocks (import_as line n new) on = tt
+    stmt_blocks (import_from line n news) on = tt
     stmt_blocks (extends line n) on = tt
 
     pub body_blocks : (b : Body) (on : Bool) → AllPaid (body_weight b) (body_bound b) (blocks_in t b on)
@@ -173,6 +179,8 @@ module _ (t : Text) where
   top_macros (stmt (filter_block line fs body) rest) = behind (filter_block line fs body) rest (top_macros rest)
   top_macros (stmt (autoescape line on body) rest) = behind (autoescape line on body) rest (top_macros rest)
   top_macros (stmt (include line n missing with_context) rest) = behind (include line n missing with_context) rest (top_macros rest)
+  top_macros (stmt (import_as line n new) rest) = behind (import_as line n new) rest (top_macros rest)
+  top_macros (stmt (import_from line n news) rest) = behind (import_from line n news) rest (top_macros rest)
   top_macros (stmt (extends line n) rest) = behind (extends line n) rest (top_macros rest)
   top_macros (stmt (block line x scoped required body) rest) = behind (block line x scoped required body) rest (top_macros rest)
 
@@ -220,6 +228,8 @@ mutual
   stmt_scopes (data_of d) = omega arith
   stmt_scopes (print line e) = omega arith
   stmt_scopes (include line n i w) = omega arith
+  stmt_scopes (import_as line n new) = omega arith
+  stmt_scopes (import_from line n news) = omega arith
   stmt_scopes (extends line n) = omega arith
 
   body_scopes : (b : Body) → length (set_in b) + length (scope_names_in b) ≤ body_bound b

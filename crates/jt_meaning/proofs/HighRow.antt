@@ -7,6 +7,7 @@ use Rattle.std.specs.Prelude.{map, codes}
 use Rattle.jt_trees.specs.Expressions as e
 use Rattle.jt_trees.specs.Expressions.{Expr, Exprs, no_exprs, expr, Text}
 use Rattle.jt_trees.specs.Statements.{Body, body_weight}
+use Rattle.jt_chains.specs.Chain.{a_chain}
 use Rattle.jt_rules.specs.World.{World}
 use Rattle.jt_meaning.specs.Layout.{names}
 use Rattle.jt_meaning.specs.Resolve.{chain_routine}
@@ -36,11 +37,11 @@ high n =
 abbrev high_world : ℕ → World
 high_world n = w.world ((codes "t", high n) ∷ [])
 
-few : length (names (high_world 704) (codes "t" ∷ []) (codes "t")) ≡ 200
+few : length (names (high_world 704) (a_chain (codes "t") ∷ []) (a_chain (codes "t"))) ≡ 200
 few = refl
 
 weighs : body_weight (high 704) ≡ 1830
 weighs = refl
 
-pub high_enough : body_height (chain_routine (high_world 704) (codes "t" ∷ []) (codes "t")).body ≡ 905
+pub high_enough : body_height (chain_routine (high_world 704) (a_chain (codes "t") ∷ []) (codes "t")).body ≡ 905
 high_enough = refl

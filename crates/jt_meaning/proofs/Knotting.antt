@@ -7,33 +7,32 @@ use Rattle.jt_value.specs.Tree as tree
 use Rattle.jt_value.specs.Tree.{Tree}
 use Rattle.jt_value.specs.Pairs.{Pairs}
 use Rattle.jt_slots.specs.Got.{gives, bind}
-use Rattle.jt_slots.specs.Slots.{with_locals, local, global, Memory, SCalls, Routine, smeanings, sperformed, scalls}
+use Rattle.jt_slots.specs.Slots.{with_locals, Slot, local, global, Memory, SCalls, Routine, smeanings, sperformed, scalls}
 use Rattle.jt_trees.specs.Expressions.{Text}
 use Rattle.jt_trees.specs.Statements.{Parameter, Body, end, stmt}
 use Rattle.jt_meaning.specs.Env.{Env, read, inside, top}
-use Rattle.jt_chains.specs.Chain.{Home, Template, templates, BlockBody, MacroBody, macros, macro_of}
+use Rattle.jt_chains.specs.Chain.{Home, a_chain, same_home, listed, Template, templates, BlockBody, MacroBody, macros, macro_of}
 use Rattle.jt_slots.specs.Loops.{tree_at}
-use Rattle.jt_trees.specs.Texts.{among}
 use Rattle.jt_slots.specs.Filters.{default_value}
 use Rattle.jt_rules.specs.World.{World}
 use Rattle.jt_meaning.specs.Around.{Placement, State, the_macro, the_block, the_chain, Calls}
 use Rattle.jt_meaning.specs.Meaning.{is_set, meaning, meanings, sets, rendered, performed, calls_below, mean}
 use Rattle.jt_chains.specs.Uses.{stmt_names, body_names, set_in}
 use Rattle.jt_chains.specs.Includes.{needs_by, needs_in, InOrder}
-use Rattle.jt_meaning.specs.Layout.{Table, slot_in, of_macro, of_body, names, first_slot, globals, block_parameters, is_scoped, unit, defaults_of, first_default, default_in, default_place}
+use Rattle.jt_meaning.specs.Layout.{Table, slot_in, globals_from, of_macro, of_body, names, first_slot, globals, block_parameters, is_scoped, unit, defaults_of, first_default, default_in, default_place}
 use Rattle.jt_slots.specs.Pool.{Constant, constant_in, routines_values}
 use Rattle.jt_meaning.specs.Resolve.{followed, Spot, Part, bound_table, bound_all, scoped, resolved_stmt, resolved_body, resolved_sets, top_spot, resolved_chain, chain_routine, macro_routine, body_routine}
 use Rattle.jt_slots.specs.Locals.{body_locals}
 use Rattle.jt_meaning.specs.Programs.{routines, pool}
 use Rattle.jt_meaning.proofs.Both.{Both, both, deep, bind_both, weaken, by_right}
-use Rattle.jt_meaning.proofs.Reading.{same_text, is_same, no_both, among_front, among_back, IsInner, held}
-use Rattle.jt_meaning.proofs.Agreeing.{Kept, kept_same, kept_then, Held, global_slot, global_given, globals_apart, limit, Fits, GlobalsAgree, fits_all}
-use Rattle.jt_meaning.proofs.Calling.{Sees, Tail, Good, around_of, Wrote, CallsMean, DefaultsAt, DefaultsLaid, Included}
+use Rattle.jt_meaning.proofs.Reading.{same_text, home_same, is_same, no_both, among_front, among_back, IsInner, held}
+use Rattle.jt_meaning.proofs.Agreeing.{Kept, kept_same, kept_then, Held, global_slot, globals_apart, global_held, global_reads, limit, Below, read_names, Fits, GlobalsAgree, fits_all}
+use Rattle.jt_meaning.proofs.Calling.{Sees, Tail, Good, around_of, Wrote, CallsMean, DefaultsAt, DefaultsLaid, Laid, Included}
 use Rattle.jt_meaning.proofs.Stating.{set_among, in_among, Each, each_front, each_back, scoped_by, scoped_in, Proper, followed_same, Owns, of_top, of_scope, Here, scope_both, good_bound, inside_inner, stmt_same, body_same}
 use Rattle.jt_meaning.proofs.Finding.{chain_is, macro_named, macro_is, body_is}
 use Rattle.jt_meaning.specs.Layout.{scopes}
 use Rattle.jt_meaning.proofs.Scopes.{among_or_not}
-use Rattle.jt_meaning.proofs.Ordering.{Every, Belongs, templates_belong, scopes_known, macro_belongs, body_belongs}
+use Rattle.jt_meaning.proofs.Ordering.{Every, Belongs, libraries_stand, templates_belong, scopes_known, macro_belongs, body_belongs}
 use Rattle.jt_meaning.proofs.Among.{Among, AllAmong}
 
 -- ---- locals at the start of a routine
@@ -91,19 +90,19 @@ defaults_in x b (m ∷ ms) ts e = subst (λ us. Held us (first_default x (m ∷ 
         (held_after (map (λ p. default_value p.default) m.parameters) (defaults_of ms ++ ts) (first_default x ms) (map (λ p. default_value p.default) b.parameters) (f e))
 
 module _ (world : World) (order : List Home) where
-  defaults_among : (h : Home) (x : Text) (b : MacroBody) (hs : List Home) (ts : List Tree) → among h hs ≡ true → macro_of x (macros world.sources h) ≡ Some b
+  defaults_among : (h : Home) (x : Text) (b : MacroBody) (hs : List Home) (ts : List Tree) → listed h hs ≡ true → macro_of x (macros world.sources h) ≡ Some b
       → Held (flat_map (λ g. defaults_of (macros world.sources g)) hs ++ ts) (default_in world order hs h x) (map (λ p. default_value p.default) b.parameters)
   unfolding default_row
   defaults_among h x b [] ts e m = absurd (no_both e refl)
   defaults_among h x b (g ∷ gs) ts e m =
       subst (λ us. Held us (default_in world order (g ∷ gs) h x) (map (λ p. default_value p.default) b.parameters)) (sym (append_assoc (defaults_of (macros world.sources g)) (flat_map (λ k. defaults_of (macros world.sources k)) gs) ts))
-      (through (bytes_eq g h) refl e (λ f. defaults_among h x b gs ts f m))
+      (through (same_home g h) refl e (λ f. defaults_among h x b gs ts f m))
     where
-      through : (c : Bool) → bytes_eq g h ≡ c → ((c || among h gs) ≡ true)
-          → (among h gs ≡ true → Held (flat_map (λ k. defaults_of (macros world.sources k)) gs ++ ts) (default_in world order gs h x) (map (λ p. default_value p.default) b.parameters))
+      through : (c : Bool) → same_home g h ≡ c → ((c || listed h gs) ≡ true)
+          → (listed h gs ≡ true → Held (flat_map (λ k. defaults_of (macros world.sources k)) gs ++ ts) (default_in world order gs h x) (map (λ p. default_value p.default) b.parameters))
           → Held (defaults_of (macros world.sources g) ++ (flat_map (λ k. defaults_of (macros world.sources k)) gs ++ ts)) (if c then first_default x (macros world.sources h) else length (defaults_of (macros world.sources g)) + default_in world order gs h x) (map (λ p. default_value p.default) b.parameters)
       through true p e f =
-          subst (λ z. Held (defaults_of (macros world.sources z) ++ (flat_map (λ k. defaults_of (macros world.sources k)) gs ++ ts)) (first_default x (macros world.sources h)) (map (λ p. default_value p.default) b.parameters)) (sym (same_text g h p))
+          subst (λ z. Held (defaults_of (macros world.sources z) ++ (flat_map (λ k. defaults_of (macros world.sources k)) gs ++ ts)) (first_default x (macros world.sources h)) (map (λ p. default_value p.default) b.parameters)) (sym (home_same g h p))
           (defaults_in x b (macros world.sources h) (flat_map (λ k. defaults_of (macros world.sources k)) gs ++ ts) m)
       through false p e f = held_after (defaults_of (macros world.sources g)) (flat_map (λ k. defaults_of (macros world.sources k)) gs ++ ts) (default_in world order gs h x) (map (λ p. default_value p.default) b.parameters) (f e)
 
@@ -121,23 +120,35 @@ module _ (world : World) (order : List Home) where
   abbrev lim : Home → ℕ
   lim h = limit world order h
 
-  fits_top : (h : Home) → AllAmong (scopes world order h) (names world order h) → Fits world order h (globals world order h) 0
+  in_range : (h : Home) (k : ℕ) (x : Text) (s : Slot) → slot_in x (globals world order h) ≡ Some s → Below world order k (lim h) s
+  in_range h k x (local i) e = absurd (no_local (first_slot world order h) (names world order h) e)
+    where
+      different : (n : ℕ) → Some (global n) ≡ Some (local i) → ⊥
+      different n q = cc
+
+      no_local : (n : ℕ) (ns : List Text) → slot_in x (globals_from n ns) ≡ Some (local i) → ⊥
+      no_local n [] q = cc
+      no_local n (y ∷ ys) q = through (bytes_eq y x) q (no_local (suc n) ys)
+        where
+          through : (b : Bool) → (if b then Some (global n) else slot_in x (globals_from (suc n) ys)) ≡ Some (local i) → (slot_in x (globals_from (suc n) ys) ≡ Some (local i) → ⊥) → ⊥
+          through true r f = different n r
+          through false r f = f r
+  in_range h k x (global i) e = let l = (global_slot (first_slot world order h) (names world order h) x i e).1 in l
+
+  fits_top : (h : Home) → AllAmong (scopes world order h) (read_names world order h) → Fits world order h (globals world order h) 0
   fits_top h few = record {
-    slotted = λ x i. let s = global_given (first_slot world order h) (names world order h) x i in (global s.0, s.1, (global_slot (first_slot world order h) (names world order h) x s.0 s.1).1);
-    apart = λ x y s i j e f. globals_apart (first_slot world order h) (names world order h) x y s e f;
+    slotted = λ x s e. in_range h 0 x s e;
+    apart = λ x y s e f. globals_apart (first_slot world order h) (names world order h) x y s e f;
     outer = λ x n. refl;
     few = few;
   }
 
   -- at the top of a template of the chain
-  good_top : (h : Home) (t : Text) (gs : Pairs) (m : Memory) → among h order ≡ true → AllAmong (scopes world order h) (names world order h) → GlobalsAgree world order h gs m.globals → Good world order (top_spot world order h t) None (top gs) m
+  good_top : (h : Home) (t : Text) (gs : Pairs) (m : Memory) → listed h order ≡ true → AllAmong (scopes world order h) (read_names world order h) → GlobalsAgree world order h gs m.globals → Good world order (top_spot world order h t) None (top gs) m
   good_top h t gs m e few a = record {
     known = e;
     fits = fits_top h few;
-    agrees = record {
-      names = λ x i. let s = global_given (first_slot world order h) (names world order h) x i in a x i s.0 s.1 ∙ sym (ap (λ o. held o m) s.1);
-      globals = a;
-    };
+    agrees = record { names = λ x i. a x i ∙ sym (global_reads (first_slot world order h) (names world order h) x m); globals = a };
     part = tt;
   }
 
@@ -160,15 +171,18 @@ module _ (world : World) (order : List Home) where
   left_max : (a b : ℕ) → a ≤ max a b
   left_max a b = omega arith
 
+  laid_out : InOrder world.sources order → Laid world order
+  laid_out ordered = record { defaults = defaults_laid; libraries = λ h e n i. libraries_stand world order ordered h e n i }
+
   -- the text of a routine's body
-  routine_both : (n : ℕ) (calls : Calls) (scall : SCalls) (mean : CallsMean world order calls scall) (ordered : InOrder world.sources order) (h : Home) (e : among h order ≡ true) (body : Body) (sp : Spot) (q : Option Placement) (env : Env) (m : Memory)
-      → sp.home ≡ h → Good world order sp q env m → IsInner env → m.out ≡ [] → AllAmong (body_names body) (names world order sp.home) → Each (Included world order sp.home) (needs_in true body) → Each (Proper world order sp.home) (scoped_in body) → AllAmong (set_in body) (scopes world order sp.home)
+  routine_both : (n : ℕ) (calls : Calls) (scall : SCalls) (mean : CallsMean world order calls scall) (ordered : InOrder world.sources order) (h : Home) (e : listed h order ≡ true) (body : Body) (sp : Spot) (q : Option Placement) (env : Env) (m : Memory)
+      → sp.home ≡ h → Good world order sp q env m → IsInner env → m.out ≡ [] → AllAmong (body_names body) (read_names world order sp.home) → Each (Included world order sp.home) (needs_in true body) → Each (Proper world order sp.home) (scoped_in body) → AllAmong (set_in body) (scopes world order sp.home)
       → Both (Wrote world order (limit world order sp.home) m.globals)
       (bind (meanings world calls body (around_of world order sp None q) (record { env = env; out = [] })) (λ st. gives st.out))
       (bind (smeanings world.filters (constant_in (pool world order)) scall (scoped (set_in body) sp (resolved_body world order body)) None m) (λ z. gives (record { text = z.out; globals = z.globals })))
   routine_both n calls scall mean ordered h e body sp q env m is_h good inner out names_in includes scopes own =
-      bind_both (scope_both world order calls scall mean defaults_laid body sp None q env [] m good inner out names_in own
-      (λ b g S st o here sets. body_same world order calls scall mean defaults_laid body (bound_all (set_in body) sp) None q b g S st o here names_in sets includes scopes))
+      bind_both (scope_both world order calls scall mean (laid_out ordered) body sp None q env [] m good inner out names_in own
+      (λ b g S st o here sets. body_same world order calls scall mean (laid_out ordered) body (bound_all (set_in body) sp) None q b g S st o here names_in sets includes scopes))
       (λ st o left. both (record { text = left.out; globals = left.kept.globals }))
 
   module _ (ordered : InOrder world.sources order) where
@@ -179,7 +193,7 @@ module _ (world : World) (order : List Home) where
     cs = constant_in (pool world order)
 
     module _ (calls : Calls) (scall : SCalls) (mean : CallsMean world order calls scall) where
-      macro_knot : (h : Home) → among h order ≡ true → (x : Text) (b : MacroBody) → macro_of x (macros world.sources h) ≡ Some b → (ps gs : Pairs) (vs ts : List Tree) → map (λ p. p.0) ps ≡ map (λ p. p.name) b.parameters
+      macro_knot : (h : Home) → listed h order ≡ true → (x : Text) (b : MacroBody) → macro_of x (macros world.sources h) ≡ Some b → (ps gs : Pairs) (vs ts : List Tree) → map (λ p. p.0) ps ≡ map (λ p. p.name) b.parameters
           → Held vs 0 (map (λ p. p.1) ps) → GlobalsAgree world order h gs ts → Both (Wrote world order (lim h) ts) (performed world calls (the_macro h b ps gs)) (sperformed world.filters cs scall (slice_get rs (unit world order (of_macro h b.name))) vs ts)
       macro_knot h e x b m ps gs vs ts nm hv ga =
           let sp = top_spot world order h b.template in
@@ -192,10 +206,10 @@ module _ (world : World) (order : List Home) where
           let bel = macro_belongs world order ordered h e x b m in
           by_right (ap (λ o. sperformed world.filters cs scall o vs ts) (macro_is world order h x b e m))
           (routine_both 0 calls scall mean ordered h e b.body (bound_all pn sp) None (inside ps (top gs)) start_memory refl
-          (good_bound world order calls scall mean defaults_laid sp None ps pn nm bel.parameters (good_top h b.template gs start_memory e (scopes_known world order ordered h e) ga) (kept_same 0 (lim h) start_memory) (held_locals r.locals vs 0 (map (λ p. p.1) ps) fit hv))
-          (inside_inner world order calls scall mean defaults_laid (top gs) ps) refl bel.body.belongs.names bel.body.belongs.included bel.body.belongs.scoped bel.body.own)
+          (good_bound world order calls scall mean (laid_out ordered) sp None ps pn nm bel.parameters (good_top h b.template gs start_memory e (scopes_known world order ordered h e) ga) (kept_same 0 (lim h) start_memory) (held_locals r.locals vs 0 (map (λ p. p.1) ps) fit hv))
+          (inside_inner world order calls scall mean (laid_out ordered) (top gs) ps) refl bel.body.belongs.names bel.body.belongs.included bel.body.belongs.scoped bel.body.own)
 
-      block_knot : (h : Home) → among h order ≡ true → (x : Text) (i : ℕ) (c : BlockBody) (behind : List (ℕ × BlockBody)) → Tail world order h x ((i, c) ∷ behind) → (env : Env) (vs ts : List Tree) → Sees world order h x env vs ts
+      block_knot : (h : Home) → listed h order ≡ true → (x : Text) (i : ℕ) (c : BlockBody) (behind : List (ℕ × BlockBody)) → Tail world order h x ((i, c) ∷ behind) → (env : Env) (vs ts : List Tree) → Sees world order h x env vs ts
           → Both (Wrote world order (lim h) ts) (performed world calls (the_block h c (map (λ d. d.1) behind) env)) (sperformed world.filters cs scall (slice_get rs (unit world order (of_body h i))) vs ts)
       block_knot h e x i c behind tail env vs ts sees =
           let found = body_is world order h x i c tail.0 behind e tail.1 in
@@ -228,7 +242,7 @@ module _ (world : World) (order : List Home) where
             };
           } in
           by_right (ap (λ o. sperformed world.filters cs scall o vs ts) found.0)
-          (routine_both 0 calls scall mean ordered h e c.body (bound_all ps sp) (Some q) (inside [] env) start_memory refl good (inside_inner world order calls scall mean defaults_laid env []) refl bel.belongs.names bel.belongs.included bel.belongs.scoped bel.own)
+          (routine_both 0 calls scall mean ordered h e c.body (bound_all ps sp) (Some q) (inside [] env) start_memory refl good (inside_inner world order calls scall mean (laid_out ordered) env []) refl bel.belongs.names bel.belongs.included bel.belongs.scoped bel.own)
         where
           append_empty : (us : List Tree) → us ++ [] ≡ us
           append_empty [] = refl
@@ -245,18 +259,17 @@ module _ (world : World) (order : List Home) where
           of_scopes true = all_of (scopes world order h)
           of_scopes false = tt
 
-          which : Sees world order h c.name env vs ts → (m : Memory) → m.globals ≡ ts → (y : Text) → Among y (names world order h)
+          which : Sees world order h c.name env vs ts → (m : Memory) → m.globals ≡ ts → (y : Text) → Among y (read_names world order h)
               → Among y (block_parameters world order h c.name) ⊎ (Among y (block_parameters world order h c.name) → ⊥)
               → Among y (block_parameters world order h c.name) ⊎ (read env y ≡ held (slot_in y (globals world order h)) m)
           which seen m g y j (inl i) = inl i
           which seen m g y j (inr n) =
-              let s = global_given (first_slot world order h) (names world order h) y j in
-              inr (seen.others y j n s.0 s.1 ∙ ap (λ zs. tree_at zs s.0) (sym g) ∙ sym (ap (λ o. held o m) s.1))
+              inr (seen.others y j n ∙ ap (global_held (slot_in y (globals world order h))) (sym g) ∙ sym (global_reads (first_slot world order h) (names world order h) y m))
 
       -- ---- a chain from its first template on
 
       at_top : (h : Home) → Template → State → Memory → Type 0
-      at_top h t st m = Here world order calls scall mean defaults_laid (top_spot world order h t.name) None 0 (first_slot world order h) (names world order h) st m
+      at_top h t st m = Here world order calls scall mean (laid_out ordered) (top_spot world order h t.name) None 0 (first_slot world order h) (read_names world order h) st m
 
       -- another template of the same chain
       other_top : (h : Home) (t u : Template) (st : State) (m : Memory) → at_top h t st m → at_top h u st m
@@ -267,18 +280,18 @@ module _ (world : World) (order : List Home) where
         out = here.out;
       }
         where
-          turned : Owns world order calls scall mean defaults_laid (top_spot world order h t.name) None 0 (first_slot world order h) (names world order h) st.env
-              → Owns world order calls scall mean defaults_laid (top_spot world order h u.name) None 0 (first_slot world order h) (names world order h) st.env
-          turned (of_top r t l e p) = of_top r t l e p
+          turned : Owns world order calls scall mean (laid_out ordered) (top_spot world order h t.name) None 0 (first_slot world order h) (read_names world order h) st.env
+              → Owns world order calls scall mean (laid_out ordered) (top_spot world order h u.name) None 0 (first_slot world order h) (read_names world order h) st.env
+          turned (of_top r t l e p c) = of_top r t l e p c
           turned (of_scope r l i s f) = of_scope r l i s f
 
-      sets_same : (h : Home) (t : Template) (c : Body) (st : State) (m : Memory) → at_top h t st m → AllAmong (body_names c) (names world order h) → Each (Included world order h) (needs_in true c) → Each (Proper world order h) (scoped_in c)
+      sets_same : (h : Home) (t : Template) (c : Body) (st : State) (m : Memory) → at_top h t st m → AllAmong (body_names c) (read_names world order h) → Each (Included world order h) (needs_in true c) → Each (Proper world order h) (scoped_in c)
           → Both (λ st' n. at_top h t st' n × Kept 0 (first_slot world order h) m n) (sets world calls c (around_of world order (top_spot world order h t.name) None None) st)
           (smeanings world.filters cs scall (resolved_sets world order c (top_spot world order h t.name)) None m)
       unfolding at_top
       sets_same h t end st m here i n d = both (here, kept_same 0 (first_slot world order h) m)
       sets_same h t (stmt s rest) st m here i n d =
-          through (is_set s) (λ st' m' here'. sets_same h t rest st' m' here' (among_back (stmt_names s) (body_names rest) (names world order h) i) (each_back (Included world order h) (needs_by true s) (needs_in true rest) n)
+          through (is_set s) (λ st' m' here'. sets_same h t rest st' m' here' (among_back (stmt_names s) (body_names rest) (read_names world order h) i) (each_back (Included world order h) (needs_by true s) (needs_in true rest) n)
           (each_back (Proper world order h) (scoped_by s) (scoped_in rest) d))
         where
           sp : Spot
@@ -292,39 +305,40 @@ module _ (world : World) (order : List Home) where
               (smeanings world.filters cs scall (if b then followed (resolved_stmt world order s (top_spot world order h t.name)) (resolved_sets world order rest (top_spot world order h t.name)) else resolved_sets world order rest (top_spot world order h t.name)) None m)
           through false f = f st m here
           through true f =
-              by_right (followed_same world order calls scall mean defaults_laid (resolved_stmt world order s (top_spot world order h t.name)) (resolved_sets world order rest (top_spot world order h t.name)) None m)
-              (bind_both (stmt_same world order calls scall mean defaults_laid s (top_spot world order h t.name) None None 0 (first_slot world order h) (names world order h) st m here (among_front (stmt_names s) (body_names rest) (names world order h) i)
-              (set_among s (names world order h) (among_front (stmt_names s) (body_names rest) (names world order h) i)) (each_front (Included world order h) (needs_by true s) (needs_in true rest) n)
+              by_right (followed_same world order calls scall mean (laid_out ordered) (resolved_stmt world order s (top_spot world order h t.name)) (resolved_sets world order rest (top_spot world order h t.name)) None m)
+              (bind_both (stmt_same world order calls scall mean (laid_out ordered) s (top_spot world order h t.name) None None 0 (first_slot world order h) (read_names world order h) st m here (among_front (stmt_names s) (body_names rest) (read_names world order h) i)
+              (set_among s (read_names world order h) (among_front (stmt_names s) (body_names rest) (read_names world order h) i)) (each_front (Included world order h) (needs_by true s) (needs_in true rest) n)
               (each_front (Proper world order h) (scoped_by s) (scoped_in rest) d)) (λ st' m' a. weaken (λ st'' n' y. (y.0, kept_then a.kept y.1)) (f st' m' a.here)))
 
-      chain_same : (h : Home) (e : among h order ≡ true) (ts : List Template) (t : Template) (st : State) (m : Memory) → at_top h t st m → Every (λ u. Belongs world order ordered h e u.body) ts
+      chain_same : (h : Home) (e : listed h order ≡ true) (ts : List Template) (t : Template) (st : State) (m : Memory) → at_top h t st m → Every (λ u. Belongs world order ordered h e u.body) ts
           → Both (λ st' n. (n.out ≡ st'.out) × Kept 0 (first_slot world order h) m n) (rendered world calls h ts st) (smeanings world.filters cs scall (resolved_chain world order h ts) None m)
       unfolding at_top
       chain_same h e [] t st m here all = both (here.out, kept_same 0 (first_slot world order h) m)
       chain_same h e (u ∷ []) t st m here all =
           let there : at_top h u st m = other_top h t u st m here in
           weaken (λ st' n a. (a.here.out, a.kept))
-          (body_same world order calls scall mean defaults_laid u.body (top_spot world order h u.name) None None 0 (first_slot world order h) (names world order h) st m there all.0.names
-          (in_among u.body (names world order h) all.0.names) all.0.included all.0.scoped)
+          (body_same world order calls scall mean (laid_out ordered) u.body (top_spot world order h u.name) None None 0 (first_slot world order h) (read_names world order h) st m there all.0.names
+          (in_among u.body (read_names world order h) all.0.names) all.0.included all.0.scoped)
       chain_same h e (u ∷ v ∷ vs) t st m here all =
-          by_right (followed_same world order calls scall mean defaults_laid (resolved_sets world order u.body (top_spot world order h u.name)) (resolved_chain world order h (v ∷ vs)) None m)
+          by_right (followed_same world order calls scall mean (laid_out ordered) (resolved_sets world order u.body (top_spot world order h u.name)) (resolved_chain world order h (v ∷ vs)) None m)
           (bind_both (sets_same h u u.body st m (other_top h t u st m here) all.0.names all.0.included all.0.scoped) (λ st' n a.
           weaken (λ st'' o y. (y.0, kept_then a.1 y.1)) (chain_same h e (v ∷ vs) u st' n a.0 all.1)))
 
-      pub chain_knot : (h : Home) → among h order ≡ true → (gs : Pairs) (ts : List Tree) → GlobalsAgree world order h gs ts
-          → Both (Wrote world order (first_slot world order h) ts) (performed world calls (the_chain h gs)) (sperformed world.filters cs scall (Some (chain_routine world order h)) [] ts)
+      pub chain_knot : (n : Text) → listed (a_chain n) order ≡ true → (gs : Pairs) (ts : List Tree) → GlobalsAgree world order (a_chain n) gs ts
+          → Both (Wrote world order (first_slot world order (a_chain n)) ts) (performed world calls (the_chain n gs)) (sperformed world.filters cs scall (Some (chain_routine world order n)) [] ts)
       unfolding at_top
-      chain_knot h e gs ts ga =
-          let r = chain_routine world order h in
+      chain_knot n e gs ts ga =
+          let h : Home = a_chain n in
+          let r = chain_routine world order n in
           let start_memory : Memory = record { locals = with_locals r.locals []; globals = ts; out = [] } in
-          let t : Template = record { name = h; body = end } in
+          let t : Template = record { name = n; body = end } in
           let here : at_top h t (record { env = top gs; out = [] }) start_memory = record {
-            good = good_top h h gs start_memory e (scopes_known world order ordered h e) ga;
-            owns = of_top (let f : 0 ≤ 0 = omega arith in f) refl (let f : first_slot world order h ≤ first_slot world order h = omega arith in f) refl refl;
+            good = good_top h n gs start_memory e (scopes_known world order ordered h e) ga;
+            owns = of_top (let f : 0 ≤ 0 = omega arith in f) refl (let f : first_slot world order h ≤ first_slot world order h = omega arith in f) refl refl refl;
             out = refl;
           } in
           bind_both (chain_same h e (templates world.sources h) t (record { env = top gs; out = [] }) start_memory here (templates_belong world order ordered h e))
-          (λ st n a. both (record { text = a.0; globals = a.1.globals }))
+          (λ st o a. both (record { text = a.0; globals = a.1.globals }))
 
     -- ---- the knot
 
@@ -332,10 +346,10 @@ module _ (world : World) (order : List Home) where
     calls_mean zero = record {
       macro_means = λ h e x b m ps gs vs ts nm hv ga. deep;
       block_means = λ h e x i c behind tail env vs ts sees. deep;
-      chain_means = λ h e gs ts ga. deep;
+      chain_means = λ m e gs ts ga. deep;
     }
     calls_mean (suc n) = record {
       macro_means = λ h e x b m ps gs vs ts nm hv ga. macro_knot (calls_below world n) (scalls world.filters cs rs n) (calls_mean n) h e x b m ps gs vs ts nm hv ga;
       block_means = λ h e x i c behind tail env vs ts sees. block_knot (calls_below world n) (scalls world.filters cs rs n) (calls_mean n) h e x i c behind tail env vs ts sees;
-      chain_means = λ h e gs ts ga. by_right (ap (λ o. sperformed world.filters cs (scalls world.filters cs rs n) o [] ts) (chain_is world order h e)) (chain_knot (calls_below world n) (scalls world.filters cs rs n) (calls_mean n) h e gs ts ga);
+      chain_means = λ m e gs ts ga. by_right (ap (λ o. sperformed world.filters cs (scalls world.filters cs rs n) o [] ts) (chain_is world order m e)) (chain_knot (calls_below world n) (scalls world.filters cs rs n) (calls_mean n) m e gs ts ga);
     }

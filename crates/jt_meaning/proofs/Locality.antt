@@ -11,8 +11,8 @@ use Rattle.jt_meaning.specs.Operators.{Form, operation, negation, conjunction, d
 use Rattle.jt_value.specs.Place.{Place}
 use Rattle.jt_slots.specs.Tests.{test_named}
 use Rattle.jt_chains.specs.Uses.{count, keywords, set_by, set_in, set_under}
-use Rattle.jt_trees.specs.Statements.{Parameter, Filtering, Stmt, data_of, print, choose, for_each, set, set_block, with_values, filter_block, autoescape, macro, include, extends, block, Body, end, stmt, Branches, no_branches, branch, condition_weight, filtering_weight}
-use Rattle.jt_chains.specs.Chain.{Home, macros, Callee, a_macro, a_range, a_super, a_block, a_cycle, no_callee, callee, is_loop}
+use Rattle.jt_trees.specs.Statements.{Parameter, Filtering, Stmt, data_of, print, choose, for_each, set, set_block, with_values, filter_block, autoescape, macro, include, import_as, import_from, extends, block, Body, end, stmt, Branches, no_branches, branch, condition_weight, filtering_weight}
+use Rattle.jt_chains.specs.Chain.{Home, a_chain, given, Callee, a_macro, a_range, a_super, a_block, a_cycle, no_callee, callee, is_loop}
 use Rattle.jt_slots.specs.Loops.{Field, field_named}
 use Rattle.jt_slots.specs.Filters.{default_value, some_given}
 use Rattle.jt_trees.specs.Texts.{among}
@@ -44,6 +44,8 @@ mutual
   by_few (autoescape line on body) = omega arith
   by_few (macro line x ps body) = omega arith
   by_few (include line m missing with_context) = omega arith
+  by_few (import_as line m new) = omega arith
+  by_few (import_from line m news) = omega arith
   by_few (extends line m) = omega arith
   by_few (block line x is required body) = omega arith
 
@@ -197,9 +199,9 @@ module _ (n : ℕ) (some : 1 ≤ n) where
         body_localed sp.home sp.escaping (next_given p.behind) (first_locals 0 xs) (first_local 0 xs (omega (arith, few sp.home p.name)))
 
     invoked_localed : (c : Callee) (sp : Spot) (row asides : SRow Constant → SRow Constant) (m : ℕ) (ks : Table) → Below ks → Front row → Front asides → expr_locals (invoked world order c sp row asides m ks) ≤ n
-    invoked_localed (a_macro x) sp row asides m ks h r a =
-        let rest = filled x.parameters m (default_place world order sp.home x.name) ks in
-        r (asides rest) (a rest (filled_local x.parameters m (default_place world order sp.home x.name) ks h))
+    invoked_localed (a_macro z x) sp row asides m ks h r a =
+        let rest = filled x.parameters m (default_place world order z x.name) ks in
+        r (asides rest) (a rest (filled_local x.parameters m (default_place world order z x.name) ks h))
     invoked_localed a_range sp row asides m ks h r a = r slots.none (omega arith)
     invoked_localed a_super sp row asides m ks h r a = super_localed sp sp.part
     invoked_localed (a_block x) sp row asides m ks h r a =
@@ -221,7 +223,7 @@ module _ (n : ℕ) (some : 1 ≤ n) where
           (omega (arith, field_local (field_named x))) (omega (arith, localed a sp t (omega (arith, k))))
       localed (item a b) sp t k = omega (arith, localed a sp t (omega (arith, k)), localed b sp t (omega (arith, k)))
       localed (call f ts ps) sp t k =
-          invoked_localed (callee (macros world.sources sp.home) f) sp (resolved_row world order ts sp) (resolved_asides world order ps sp) (count ts) (locals_from sp.free (keywords ps))
+          invoked_localed (callee world.sources (given world.sources sp.home) f) sp (resolved_row world order ts sp) (resolved_asides world order ps sp) (count ts) (locals_from sp.free (keywords ps))
           (from_below sp.free (keywords ps) (omega (arith, k, names_few ps))) (λ b h. row_localed ts sp t (omega (arith, k)) b h) (λ b h. asides_localed ps sp t (omega (arith, k)) b h)
       localed (filter a x ts ps) sp t k =
           let f = world.filters.named x ts ps in
@@ -294,13 +296,13 @@ module _ (n : ℕ) (some : 1 ≤ n) where
     seen_below false t h = tt
 
     include_localed : (sp : Spot) (line : ℕ) (m : Text) (missing c : Bool) (b : Bool) → Below sp.table
-        → body_locals (if b then left_out sp line missing else followed (handed_on (place sp line) (if c then sp.table else []) (first_slot world order m) (names world order m)) (slots.stmt (run (unit world order (of_chain m)) slots.none) slots.end)) ≤ n
+        → body_locals (if b then left_out sp line missing else followed (handed_on (place sp line) (if c then sp.table else []) (first_slot world order (a_chain m)) (names world order (a_chain m))) (slots.stmt (run (unit world order (of_chain m)) slots.none) slots.end)) ≤ n
     include_localed sp line m true c true t = omega arith
     include_localed sp line m false c true t = omega arith
     include_localed sp line m missing c false t =
-        let xs = names world order m in
-        let hs = handed_on (place sp line) (if c then sp.table else []) (first_slot world order m) xs in
-        omega (arith, followed_local hs (slots.stmt (run (unit world order (of_chain m)) slots.none) slots.end), handed_local (place sp line) (if c then sp.table else []) (first_slot world order m) xs (seen_below c sp.table t))
+        let xs = names world order (a_chain m) in
+        let hs = handed_on (place sp line) (if c then sp.table else []) (first_slot world order (a_chain m)) xs in
+        omega (arith, followed_local hs (slots.stmt (run (unit world order (of_chain m)) slots.none) slots.end), handed_local (place sp line) (if c then sp.table else []) (first_slot world order (a_chain m)) xs (seen_below c sp.table t))
 
     pub scope_localed : (b : Body) (sp : Spot) → Below sp.table → sp.free + body_own b ≤ n → body_locals (resolved_body world order b (bound_all (set_in b) sp)) ≤ n → body_locals (scoped (set_in b) sp (resolved_body world order b)) ≤ n
     scope_localed b sp t k h = copied_local (place sp 1) sp.table sp.free (set_in b) (resolved_body world order b (bound_all (set_in b) sp)) (omega (arith, k, in_few b)) t h
@@ -334,6 +336,8 @@ module _ (n : ℕ) (some : 1 ≤ n) where
           scope_localed body inner (t) (omega (arith, k)) (all_localed body (bound_all (set_in body) inner) (bound_below (set_in body) (sp.free) (sp.table) (omega (arith, k, in_few body)) (t)) (omega (arith, k)))
       stmt_localed (macro line x ps body) sp t k = omega arith
       stmt_localed (include line m missing with_context) sp t k = include_localed sp line m missing with_context (is_none (world.sources m)) t
+      stmt_localed (import_as line m new) sp t k = omega arith
+      stmt_localed (import_from line m news) sp t k = omega arith
       stmt_localed (extends line m) sp t k = omega arith
       stmt_localed (block line x is required body) sp t k =
           placed_localed sp (first_body (numbered_of world sp.home x)) x (if is then sp.table else globals world order sp.home) (table_below is sp t)

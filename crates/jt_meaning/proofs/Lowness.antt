@@ -12,8 +12,8 @@ use Rattle.jt_meaning.specs.Operators.{Form, operation, negation, conjunction, d
 use Rattle.jt_value.specs.Place.{Place}
 use Rattle.jt_slots.specs.Tests.{test_named}
 use Rattle.jt_chains.specs.Uses.{count, keywords, set_in}
-use Rattle.jt_trees.specs.Statements.{Parameter, Filtering, Stmt, data_of, print, choose, for_each, set, set_block, with_values, filter_block, autoescape, macro, include, extends, block, Body, end, stmt, Branches, no_branches, branch, condition_weight, filtering_weight, stmt_bound, body_bound, branch_bound}
-use Rattle.jt_chains.specs.Chain.{Home, MacroBody, macros, macro_of, Callee, a_macro, a_range, a_super, a_block, a_cycle, no_callee, named_alone, named_in, callee, is_loop}
+use Rattle.jt_trees.specs.Statements.{Parameter, Filtering, Stmt, data_of, print, choose, for_each, set, set_block, with_values, filter_block, autoescape, macro, include, import_as, import_from, extends, block, Body, end, stmt, Branches, no_branches, branch, condition_weight, filtering_weight, stmt_bound, body_bound, branch_bound}
+use Rattle.jt_chains.specs.Chain.{Sources, Home, a_chain, a_library, MacroBody, macros, macro_of, is_private, public_macro, Given, one_macro, library, given, given_to, Callee, a_macro, a_range, a_super, a_block, a_cycle, no_callee, named_alone, of_library, in_library, named_in, callee, is_loop}
 use Rattle.jt_slots.specs.Loops.{Field, field_named}
 use Rattle.jt_slots.specs.Filters.{default_value, some_given}
 use Rattle.jt_rules.specs.World.{World}
@@ -24,7 +24,7 @@ use Rattle.jt_slots.specs.Slots.{Slot, local, SExpr, SRow, Targets, one, several
 use Rattle.jt_slots.specs.Pool.{Constant, own, known}
 use Rattle.jt_meaning.specs.Resolve.{value_or, turned_round, tested_by, filtered_by, in_form, field_from, followed, locals_from, fresh_targets, set_targets, filled, filled_some, first_locals, reads, handed_on, Part, Spot, place, grown, bound_all, copied, scoped, next_given, first_body, invoked_body, invoked_super, invoked, resolved, resolved_row, resolved_asides, resolved_entries, resolved_condition, resolved_filters, resolved_values, placed_body, resolved_stmt, resolved_body, resolved_choice, left_out}
 use Rattle.jt_slots.specs.Size.{targets_height, expr_height, row_height, condition_height, body_height}
-use Rattle.jt_meaning.specs.Measure.{HasAtMost}
+use Rattle.jt_meaning.specs.Measure.{GivenFew, HasAtMost}
 use Rattle.jt_meaning.proofs.Free.{stmt_free, body_free, branch_free}
 use Rattle.jt_meaning.proofs.Sizing.{expr_some, operator_some, is_some_weight, kept_len, fresh_len}
 
@@ -126,61 +126,95 @@ handed_low p t n (x ∷ xs) = omega (arith, value_low (slot_in x t) (known 0), h
 -- ---- what is called: its parameters are few, and `loop.cycle` has three tokens
 
 abbrev CalleeLow : ℕ → ℕ → Callee → Type 0
-CalleeLow q w (a_macro m) = length m.parameters ≤ q
+CalleeLow q w (a_macro k m) = length m.parameters ≤ q
 CalleeLow q w a_cycle = 3 ≤ w
 CalleeLow q w _ = Unit {0}
 
 module _ (q : ℕ) where
-  macro_low : (ms : List MacroBody) (x : Text) → AllByRecursion (λ m. length m.parameters ≤ q) ms → CalleeLow q 1 (named_alone (macro_of x ms) x)
-  macro_low [] x h = by_range (bytes_eq x (codes "range")) (bytes_eq x (codes "super"))
+  abbrev AllGivenLow : Sources → List (Text × Given) → Type 0
+  AllGivenLow sources gs = AllByRecursion (λ g. GivenFew sources q g.1) gs
+
+  given_low : (sources : Sources) (gs : List (Text × Given)) (x : Text) → AllGivenLow sources gs → CalleeLow q 1 (named_alone sources (given_to x gs) x)
+  given_low sources [] x h = by_range (bytes_eq x (codes "range")) (bytes_eq x (codes "super"))
     where
       by_range : (a b : Bool) → CalleeLow q 1 (if a then a_range else if b then a_super else no_callee)
       by_range true b = tt
       by_range false true = tt
       by_range false false = tt
-  macro_low (m ∷ ms) x h = through (bytes_eq m.name x) (macro_low ms x h.1)
+  given_low sources (g ∷ gs) x h = through (bytes_eq g.0 x) (given_low sources gs x h.1)
     where
-      through : (b : Bool) → CalleeLow q 1 (named_alone (macro_of x ms) x) → CalleeLow q 1 (named_alone (if b then Some m else macro_of x ms) x)
-      through true g = h.0
-      through false g = g
+      one : (o : Given) → GivenFew sources q o → CalleeLow q 1 (named_alone sources (Some o) x)
+      one (one_macro k m) f = f
+      one (library n) f = tt
 
-  in_low : (of x : Text) → CalleeLow q 3 (named_in of x)
-  in_low of x = through (bytes_eq of (codes "self")) (bytes_eq of (codes "loop")) (bytes_eq x (codes "cycle"))
+      through : (b : Bool) → CalleeLow q 1 (named_alone sources (given_to x gs) x) → CalleeLow q 1 (named_alone sources (if b then Some g.1 else given_to x gs) x)
+      through true r = one g.1 h.0
+      through false r = r
+
+  of_low : (sources : Sources) (n x : Text) (ms : List MacroBody) → AllByRecursion (λ m. length m.parameters ≤ q) ms → CalleeLow q 3 (of_library sources n (public_macro x ms))
+  of_low sources n x ms h = by (is_private x) (looked ms h)
     where
-      through : (a b c : Bool) → CalleeLow q 3 (if a then a_block x else if b then (if c then a_cycle else no_callee) else no_callee)
+      looked : (ns : List MacroBody) → AllByRecursion (λ m. length m.parameters ≤ q) ns → CalleeLow q 3 (of_library sources n (macro_of x ns))
+      looked [] f = tt
+      looked (m ∷ ns) f = through (bytes_eq m.name x) (looked ns f.1)
+        where
+          through : (b : Bool) → CalleeLow q 3 (of_library sources n (macro_of x ns)) → CalleeLow q 3 (of_library sources n (if b then Some m else macro_of x ns))
+          through true r = f.0
+          through false r = r
+
+      by : (b : Bool) → CalleeLow q 3 (of_library sources n (macro_of x ms)) → CalleeLow q 3 (of_library sources n (if b then None else macro_of x ms))
+      by true r = tt
+      by false r = r
+
+  library_low : (sources : Sources) (gs : List (Text × Given)) (of x : Text) → AllGivenLow sources gs → CalleeLow q 3 (in_library sources (given_to of gs) x)
+  library_low sources [] of x h = tt
+  library_low sources (g ∷ gs) of x h = through (bytes_eq g.0 of) (library_low sources gs of x h.1)
+    where
+      one : (o : Given) → GivenFew sources q o → CalleeLow q 3 (in_library sources (Some o) x)
+      one (one_macro k m) f = tt
+      one (library n) f = of_low sources n x (macros sources (a_library n)) f
+
+      through : (b : Bool) → CalleeLow q 3 (in_library sources (given_to of gs) x) → CalleeLow q 3 (in_library sources (if b then Some g.1 else given_to of gs) x)
+      through true r = one g.1 h.0
+      through false r = r
+
+  in_low : (sources : Sources) (gs : List (Text × Given)) (of x : Text) → AllGivenLow sources gs → CalleeLow q 3 (named_in sources (given_to of gs) of x)
+  in_low sources gs of x h = through (bytes_eq of (codes "self")) (bytes_eq of (codes "loop")) (bytes_eq x (codes "cycle"))
+    where
+      through : (a b c : Bool) → CalleeLow q 3 (if a then a_block x else if b then (if c then a_cycle else no_callee) else in_library sources (given_to of gs) x)
       through true b c = tt
       through false true true = omega arith
       through false true false = tt
-      through false false c = tt
+      through false false c = library_low sources gs of x h
 
-  callee_low : (ms : List MacroBody) (e : Expr) → AllByRecursion (λ m. length m.parameters ≤ q) ms → CalleeLow q (weight e) (callee ms e)
-  callee_low ms (name x) h = macro_low ms x h
-  callee_low ms (attribute (name of) x) h = in_low of x
-  callee_low ms (attribute (constant l) x) h = tt
-  callee_low ms (attribute (group a) x) h = tt
-  callee_low ms (attribute (list_of ts) x) h = tt
-  callee_low ms (attribute (map_of ps) x) h = tt
-  callee_low ms (attribute (attribute a k) x) h = tt
-  callee_low ms (attribute (item a b) x) h = tt
-  callee_low ms (attribute (call a ts ps) x) h = tt
-  callee_low ms (attribute (filter a y ts ps) x) h = tt
-  callee_low ms (attribute (test a n y ts ps) x) h = tt
-  callee_low ms (attribute (unary o a) x) h = tt
-  callee_low ms (attribute (binary o a b) x) h = tt
-  callee_low ms (attribute (when c a) x) h = tt
-  callee_low ms (attribute (choice c a b) x) h = tt
-  callee_low ms (constant l) h = tt
-  callee_low ms (group a) h = tt
-  callee_low ms (list_of ts) h = tt
-  callee_low ms (map_of ps) h = tt
-  callee_low ms (item a b) h = tt
-  callee_low ms (call a ts ps) h = tt
-  callee_low ms (filter a y ts ps) h = tt
-  callee_low ms (test a n y ts ps) h = tt
-  callee_low ms (unary o a) h = tt
-  callee_low ms (binary o a b) h = tt
-  callee_low ms (when c a) h = tt
-  callee_low ms (choice c a b) h = tt
+  callee_low : (sources : Sources) (ms : List (Text × Given)) (e : Expr) → AllGivenLow sources ms → CalleeLow q (weight e) (callee sources ms e)
+  callee_low sources ms (name x) h = given_low sources ms x h
+  callee_low sources ms (attribute (name of) x) h = in_low sources ms of x h
+  callee_low sources ms (attribute (constant l) x) h = tt
+  callee_low sources ms (attribute (group a) x) h = tt
+  callee_low sources ms (attribute (list_of ts) x) h = tt
+  callee_low sources ms (attribute (map_of ps) x) h = tt
+  callee_low sources ms (attribute (attribute a k) x) h = tt
+  callee_low sources ms (attribute (item a b) x) h = tt
+  callee_low sources ms (attribute (call a ts ps) x) h = tt
+  callee_low sources ms (attribute (filter a y ts ps) x) h = tt
+  callee_low sources ms (attribute (test a n y ts ps) x) h = tt
+  callee_low sources ms (attribute (unary o a) x) h = tt
+  callee_low sources ms (attribute (binary o a b) x) h = tt
+  callee_low sources ms (attribute (when c a) x) h = tt
+  callee_low sources ms (attribute (choice c a b) x) h = tt
+  callee_low sources ms (constant l) h = tt
+  callee_low sources ms (group a) h = tt
+  callee_low sources ms (list_of ts) h = tt
+  callee_low sources ms (map_of ps) h = tt
+  callee_low sources ms (item a b) h = tt
+  callee_low sources ms (call a ts ps) h = tt
+  callee_low sources ms (filter a y ts ps) h = tt
+  callee_low sources ms (test a n y ts ps) h = tt
+  callee_low sources ms (unary o a) h = tt
+  callee_low sources ms (binary o a b) h = tt
+  callee_low sources ms (when c a) h = tt
+  callee_low sources ms (choice c a b) h = tt
 
 module _ (world : World) (order : List Home) (q : ℕ) where
   body_low : (h : Home) (on : Bool) (i : Option ℕ) (es : SRow Constant) → row_height es ≤ q → expr_height (invoked_body world order h on i es) ≤ 1 + q
@@ -202,9 +236,9 @@ module _ (world : World) (order : List Home) (q : ℕ) where
 
   invoked_low : (c : Callee) (sp : Spot) (row asides : SRow Constant → SRow Constant) (n : ℕ) (ks : Table) (u w v : ℕ) → 1 ≤ u → CalleeLow q u c → ((x : Text) → length (block_parameters world order sp.home x) ≤ q) → RowLow w row → AsidesLow v asides
       → 2 * expr_height (invoked world order c sp row asides n ks) ≤ u + enclosed (w + v) + 1 + 2 * q
-  invoked_low (a_macro m) sp row asides n ks u w v some f k r a =
-      let rest = filled m.parameters n (default_place world order sp.home m.name) ks in
-      let low = filled_low m.parameters n (default_place world order sp.home m.name) ks in
+  invoked_low (a_macro z m) sp row asides n ks u w v some f k r a =
+      let rest = filled m.parameters n (default_place world order z m.name) ks in
+      let low = filled_low m.parameters n (default_place world order z m.name) ks in
       let hs : 2 * row_height (row (asides rest)) ≤ w + (v + 2 * q) = r (asides rest) (v + 2 * q) (omega arith) (omega (arith, a rest, low, f)) in
       omega (arith, some, hs)
   invoked_low a_range sp row asides n ks u w v some f k r a = omega (arith, some, r slots.none (2 * q) (omega arith) (omega arith))
@@ -241,8 +275,8 @@ module _ (world : World) (order : List Home) (q : ℕ) where
         (2 + weight a + 1 + 2 * q) (omega (arith, field_low (field_named x))) (omega (arith, resolved_low a sp k, expr_some a))
     resolved_low (item a b) sp k = omega (arith, resolved_low a sp k, resolved_low b sp k, expr_some a)
     resolved_low (call f ts ps) sp k =
-        invoked_low (callee (macros world.sources sp.home) f) sp (resolved_row world order ts sp) (resolved_asides world order ps sp) (count ts) (locals_from sp.free (keywords ps))
-        (weight f) (exprs_weight ts) (pairs_weight 2 ps) (expr_some f) (callee_low q (macros world.sources sp.home) f k.macros) k.blocks (λ b z. row_low ts sp k b z) (λ b. asides_low ps sp k b)
+        invoked_low (callee world.sources (given world.sources sp.home) f) sp (resolved_row world order ts sp) (resolved_asides world order ps sp) (count ts) (locals_from sp.free (keywords ps))
+        (weight f) (exprs_weight ts) (pairs_weight 2 ps) (expr_some f) (callee_low q world.sources (given world.sources sp.home) f k.macros) k.blocks (λ b z. row_low ts sp k b z) (λ b. asides_low ps sp k b)
     resolved_low (filter a x ts ps) sp k =
         let f = world.filters.named x ts ps in
         let rest = filled_some (filter_parameters world.filters f) (count ts) (keywords ps) (locals_from sp.free (keywords ps)) in
@@ -305,13 +339,13 @@ module _ (world : World) (order : List Home) (q : ℕ) where
   placed_low sp (Some i) x t k = omega (arith, reads_low t (block_parameters world order sp.home x), k)
 
   include_low : (sp : Spot) (line : ℕ) (n : Text) (missing c : Bool) (b : Bool)
-      → body_height (if b then left_out sp line missing else followed (handed_on (place sp line) (if c then sp.table else []) (first_slot world order n) (names world order n)) (slots.stmt (run (unit world order (of_chain n)) slots.none) slots.end)) ≤ 1
+      → body_height (if b then left_out sp line missing else followed (handed_on (place sp line) (if c then sp.table else []) (first_slot world order (a_chain n)) (names world order (a_chain n))) (slots.stmt (run (unit world order (of_chain n)) slots.none) slots.end)) ≤ 1
   include_low sp line n true c true = omega arith
   include_low sp line n false c true = omega arith
   include_low sp line n missing c false =
-      let xs = names world order n in
-      let hs = handed_on (place sp line) (if c then sp.table else []) (first_slot world order n) xs in
-      omega (arith, followed_low hs (slots.stmt (run (unit world order (of_chain n)) slots.none) slots.end), handed_low (place sp line) (if c then sp.table else []) (first_slot world order n) xs)
+      let xs = names world order (a_chain n) in
+      let hs = handed_on (place sp line) (if c then sp.table else []) (first_slot world order (a_chain n)) xs in
+      omega (arith, followed_low hs (slots.stmt (run (unit world order (of_chain n)) slots.none) slots.end), handed_low (place sp line) (if c then sp.table else []) (first_slot world order (a_chain n)) xs)
 
   -- a scope of its own, its copies in front
   pub scope_low : (b : Body) (sp : Spot) → 2 * body_height (resolved_body world order b (bound_all (set_in b) sp)) ≤ body_free b + 2 * q
@@ -338,6 +372,8 @@ module _ (world : World) (order : List Home) (q : ℕ) where
         omega (arith, scope_low body inner (all_low body (bound_all (set_in body) inner) k (omega (arith, g))))
     stmt_low (macro line x ps body) sp k g = omega arith
     stmt_low (include line n missing with_context) sp k g = omega (arith, include_low sp line n missing with_context (is_none (world.sources n)))
+    stmt_low (import_as line n new) sp k g = omega arith
+    stmt_low (import_from line n news) sp k g = omega arith
     stmt_low (extends line n) sp k g = omega arith
     stmt_low (block line x is required body) sp k g =
         omega (arith, placed_low sp (first_body (numbered_of world sp.home x)) x (if is then sp.table else globals world order sp.home) (k.blocks x))

@@ -8,9 +8,8 @@ use Rattle.jt_slots.specs.Got.{Got, gives, bind}
 use Rattle.jt_slots.specs.Slots.{with_locals, global, Written, scalls, globals_of, smean}
 use Rattle.jt_trees.specs.Expressions.{Text}
 use Rattle.jt_slots.specs.Values.{value_in}
-use Rattle.jt_chains.specs.Chain.{Home}
+use Rattle.jt_chains.specs.Chain.{Home, a_chain, listed}
 use Rattle.jt_slots.specs.Loops.{tree_at}
-use Rattle.jt_trees.specs.Texts.{among}
 use Rattle.jt_rules.specs.World.{World}
 use Rattle.jt_meaning.specs.Meaning.{calls_below, mean}
 use Rattle.jt_meaning.specs.Layout.{slot_in, globals_from, names, first_in, first_slot, shared}
@@ -18,8 +17,8 @@ use Rattle.jt_slots.specs.Pool.{constant_in, routines_values, placed_routines}
 use Rattle.jt_meaning.specs.Programs.{routines, pool, count_globals, program}
 use Rattle.jt_chains.specs.Includes.{InOrder}
 use Rattle.jt_meaning.proofs.Both.{Both, both, fault, deep}
-use Rattle.jt_meaning.proofs.Reading.{same_text, same_is}
-use Rattle.jt_meaning.proofs.Agreeing.{Held, GlobalsAgree}
+use Rattle.jt_meaning.proofs.Reading.{same_text, home_is}
+use Rattle.jt_meaning.proofs.Agreeing.{Held, global_given, global_held, GlobalsAgree}
 use Rattle.jt_meaning.proofs.Calling.{Wrote}
 use Rattle.jt_meaning.proofs.Knotting.{held_locals, held_first, held_after, chain_knot, calls_mean}
 use Rattle.jt_meaning.proofs.Pooling.{routine_placed, calls_placed}
@@ -48,10 +47,11 @@ same_text_out world order (both r) = ap gives r.text
 same_text_out world order fault = refl
 same_text_out world order deep = refl
 
--- For every context and depth of calls. The chains stand in an order in which each stands once, and before those that it includes;
--- the entry stands first.
-pub program_means : (world : World) (entry : Home) (rest : List Home) → InOrder world.sources (entry ∷ rest) → (context : Pairs) (n : ℕ) → smean world.filters (program world (entry ∷ rest) entry) context n ≡ mean world entry context n
-program_means world entry rest ordered context n =
+-- For every context and depth of calls. The chains and libraries stand in an order in which each stands once, and before those that it leads to;
+-- the entry's chain stands first.
+pub program_means : (world : World) (name : Text) (rest : List Home) → InOrder world.sources (a_chain name ∷ rest) → (context : Pairs) (n : ℕ) → smean world.filters (program world (a_chain name ∷ rest) (a_chain name)) context n ≡ mean world name context n
+program_means world name rest ordered context n =
+    let entry : Home = a_chain name in
     let order = entry ∷ rest in
     let rs = routines world order in
     let p = pool world order in
@@ -63,13 +63,15 @@ program_means world entry rest ordered context n =
     (held_after (shared world order) (routines_values rs) 0 (routines_values rs) (subst (λ z. Held z 0 (routines_values rs)) (append_empty (routines_values rs)) (held_first (routines_values rs) []))) in
     let fit : 0 + length values ≤ count_globals world order order = room (names world order entry) (count_globals world order rest) in
     let started : Held gs 0 values = held_locals (count_globals world order order) values 0 values fit (subst (λ z. Held z 0 values) (append_empty values) (held_first values [])) in
-    let first : first_slot world order entry ≡ 0 = ap (λ b. if b then 0 else length (names world order entry) + first_in world order rest entry) (same_is entry) in
-    let agree : GlobalsAgree world order entry context gs = λ x i j e. start_holds context 0 (names world order entry) gs x j (ap (λ z. slot_in x (globals_from z (names world order entry))) (sym first) ∙ e) started in
-    let known : among entry order ≡ true = ap (λ b. b || among entry rest) (same_is entry) in
+    let first : first_slot world order entry ≡ 0 = ap (λ b. if b then 0 else length (names world order entry) + first_in world order rest entry) (home_is entry) in
+    let agree : GlobalsAgree world order entry context gs = λ x i.
+    let k = global_given (first_slot world order entry) (names world order entry) x i in
+    start_holds context 0 (names world order entry) gs x k.0 (ap (λ z. slot_in x (globals_from z (names world order entry))) (sym first) ∙ k.1) started ∙ sym (ap (λ z. global_held z gs) k.1) in
+    let known : listed entry order ≡ true = ap (λ b. b || listed entry rest) (home_is entry) in
     let call = scalls world.filters (constant_in p) rs n in
     let call' = scalls world.filters (tree_at p) (placed_routines rs k) n in
     ap (λ g. bind g (λ w. gives w.text)) (routine_placed world.filters p call call' (λ u ts hs. calls_placed world.filters p rs k in_pool n u ts hs) rs k 0 [] gs in_pool)
-    ∙ same_text_out world order (chain_knot world order ordered (calls_below world n) call (calls_mean world order ordered n) entry known context gs agree)
+    ∙ same_text_out world order (chain_knot world order ordered (calls_below world n) call (calls_mean world order ordered n) name known context gs agree)
   where
     counts : (ns : List Text) → length (map (value_in context) ns) ≡ length ns
     counts [] = refl

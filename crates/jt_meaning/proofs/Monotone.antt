@@ -13,9 +13,9 @@ use Rattle.jt_slots.specs.Got.{Got, gives, fails, deeper, bind, at}
 use Rattle.jt_meaning.specs.Operators.{Form, operation, negation, conjunction, disjunction, form}
 use Rattle.jt_meaning.specs.Expressions.{asked, turned, either, combined, filtered, block_text, super_text, called, value, values, named_values}
 use Rattle.jt_slots.specs.Tests.{test_named}
-use Rattle.jt_trees.specs.Statements.{Filtering, Stmt, data_of, print, choose, for_each, set, set_block, with_values, filter_block, autoescape, macro, include, extends, block, Body, end, stmt, Branches, no_branches, branch}
+use Rattle.jt_trees.specs.Statements.{Filtering, Stmt, data_of, print, choose, for_each, set, set_block, with_values, filter_block, autoescape, macro, include, import_as, import_from, extends, block, Body, end, stmt, Branches, no_branches, branch}
 use Rattle.jt_meaning.specs.Env.{Env, inside, top}
-use Rattle.jt_chains.specs.Chain.{Home, Template, templates, BlockBody, bodies, from_given, macros, Callee, a_macro, a_range, a_super, a_block, a_cycle, no_callee, callee, is_loop}
+use Rattle.jt_chains.specs.Chain.{Home, a_chain, Template, templates, BlockBody, bodies, from_given, given, Callee, a_macro, a_range, a_super, a_block, a_cycle, no_callee, callee, is_loop}
 use Rattle.jt_slots.specs.Loops.{Loop}
 use Rattle.jt_slots.specs.Filters.{Filters}
 use Rattle.jt_rules.specs.World.{World}
@@ -80,7 +80,7 @@ module _ (world : World) (c d : Calls) (under : (x : Called) → Under (c x) (d 
   super_under h (Some q) = block_under h (from_given q.behind) q.env
 
   called_under : (f : Callee) (a : Around) (env : Env) {g g' : Got (List Tree)} {k k' : Got Pairs} → Under g g' → Under k k' → Under (called world c f a env g k) (called world d f a env g' k')
-  called_under (a_macro m) a env u w = bound u (λ vs. bound w (λ ks. bound (under _) (λ s. same)))
+  called_under (a_macro h m) a env u w = bound u (λ vs. bound w (λ ks. bound (under _) (λ s. same)))
   called_under a_range a env u w = bound u (λ vs. same)
   called_under a_super a env u w = bound (super_under a.home a.block) (λ s. same)
   called_under (a_block x) a env u w = bound (block_under a.home (bodies world.sources world.escaping a.home x) (top env.globals)) (λ s. same)
@@ -96,7 +96,7 @@ module _ (world : World) (c d : Calls) (under : (x : Called) → Under (c x) (d 
     value_under (map_of ps) a env = bound (named_under ps a env) (λ vs. same)
     value_under (attribute e k) a env = if_under (is_loop e) same (bound (value_under e a env) (λ v. same))
     value_under (item e k) a env = bound (value_under e a env) (λ v. bound (value_under k a env) (λ w. same))
-    value_under (written.call f ts ps) a env = called_under (callee (macros world.sources a.home) f) a env (values_under ts a env) (named_under ps a env)
+    value_under (written.call f ts ps) a env = called_under (callee world.sources (given world.sources a.home) f) a env (values_under ts a env) (named_under ps a env)
     value_under (written.filter e x ts ps) a env =
         filtered_under world.filters (world.filters.named x ts ps) a.escaping (bound (value_under e a env) (λ v. bound (values_under ts a env) (λ vs. bound (named_under ps a env) (λ ks. same))))
     value_under (written.test e n x ts ps) a env = turned_under n (asked_under (test_named x) (bound (value_under e a env) (λ v. bound (values_under ts a env) (λ vs. same))))
@@ -138,6 +138,8 @@ module _ (world : World) (c d : Calls) (under : (x : Called) → Under (c x) (d 
     meaning_under (autoescape line on body) a st = bound (meanings_under body _ _) (λ r. same)
     meaning_under (macro line x ps body) a st = same
     meaning_under (include line n ignore_missing with_context) a st = if_under (is_none (world.sources n)) same (bound (under _) (λ s. same))
+    meaning_under (import_as line n new) a st = same
+    meaning_under (import_from line n news) a st = same
     meaning_under (extends line n) a st = same
     meaning_under (block line x scoped required body) a st = bound (block_under a.home (bodies world.sources world.escaping a.home x) (if scoped then st.env else top st.env.globals)) (λ s. same)
 
@@ -161,7 +163,7 @@ module _ (world : World) (c d : Calls) (under : (x : Called) → Under (c x) (d 
   performed_under : (x : Called) → Under (performed world c x) (performed world d x)
   performed_under (the_macro h m s gs) = bound (meanings_under m.body _ _) (λ st. same)
   performed_under (the_block h b bs env) = bound (meanings_under b.body _ _) (λ st. same)
-  performed_under (the_chain h gs) = bound (rendered_under h (templates world.sources h) _) (λ st. same)
+  performed_under (the_chain n gs) = bound (rendered_under (a_chain n) (templates world.sources (a_chain n)) _) (λ st. same)
 
 -- one call more, and any number
 pub calls_under : (world : World) (n : ℕ) (x : Called) → Under (calls_below world n x) (calls_below world (suc n) x)
@@ -169,7 +171,7 @@ calls_under world zero x = less
 calls_under world (suc n) x = performed_under world (calls_below world n) (calls_below world (suc n)) (calls_under world n) x
 
 -- what a chain means at n, if it isn't deeper, it means with one call more
-pub mean_under : (world : World) (entry : Home) (context : Pairs) (n : ℕ) → Under (mean world entry context n) (mean world entry context (suc n))
+pub mean_under : (world : World) (entry : Text) (context : Pairs) (n : ℕ) → Under (mean world entry context n) (mean world entry context (suc n))
 mean_under world entry context n = performed_under world (calls_below world n) (calls_below world (suc n)) (calls_under world n) (the_chain entry context)
 
 -- the same at every greater depth
@@ -177,7 +179,7 @@ more_under : {g h k : Got Text} → Under g h → Under h k → Under g k
 more_under less v = less
 more_under same v = v
 
-later_under : (world : World) (entry : Home) (context : Pairs) (n k m : ℕ) → m ≡ k + n → Under (mean world entry context n) (mean world entry context m)
+later_under : (world : World) (entry : Text) (context : Pairs) (n k m : ℕ) → m ≡ k + n → Under (mean world entry context n) (mean world entry context m)
 later_under world entry context n zero m e = let q : n ≡ m = omega arith in subst (λ z. Under (mean world entry context n) (mean world entry context z)) q same
 later_under world entry context n (suc k) m e =
     let q : suc (k + n) ≡ m = omega arith in
@@ -185,7 +187,7 @@ later_under world entry context n (suc k) m e =
     (more_under (later_under world entry context n k (k + n) refl) (mean_under world entry context (k + n)))
 
 -- the same, by cases
-pub mean_stays : (world : World) (entry : Home) (context : Pairs) (n m : ℕ) → n ≤ m → Stays (mean world entry context n) (mean world entry context m)
+pub mean_stays : (world : World) (entry : Text) (context : Pairs) (n m : ℕ) → n ≤ m → Stays (mean world entry context n) (mean world entry context m)
 mean_stays world entry context n m le = through (later_under world entry context n (m - n) m (omega arith))
   where
     itself : (g : Got Text) → Stays g g

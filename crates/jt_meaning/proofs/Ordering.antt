@@ -1,20 +1,22 @@
 -- What follows from the order of chains: names, slots, and what the bodies of a chain hold.
-use Rattle.std.proofs.Common.{◌≡◌, ℕ, ◌+◌, ◌≤◌, Bool, true, false, if◌then◌else◌, List, [], ◌∷◌, ◌++◌, length, map, Option, Some, None, refl, sym, ap, ◌∙◌, subst, arith, inl, inr}
-use Rattle.std.specs.Prelude.{not, ◌&&◌, ◌||◌, flat_map, filter}
+use Rattle.std.proofs.Common.{◌≡◌, ℕ, ◌+◌, ◌≤◌, Bool, true, false, if◌then◌else◌, List, [], ◌∷◌, ◌++◌, length, map, Option, Some, None, refl, sym, ap, ◌∙◌, subst, arith, ◌⊎◌, inl, inr}
+use Rattle.std.specs.Prelude.{not, ◌&&◌, ◌||◌, flat_map}
 use Rattle.std.specs.Option.{is_some, is_none}
 use Rattle.std.specs.List.{list_any}
 use Rattle.std.specs.Str.{bytes_eq}
-use Rattle.jt_trees.specs.Texts.{ascending, among}
+use Rattle.jt_trees.specs.Texts.{ascending}
 use Rattle.jt_trees.specs.Expressions.{Text}
-use Rattle.jt_trees.specs.Statements.{Stmt, data_of, print, choose, for_each, set, set_block, with_values, filter_block, autoescape, macro, include, extends, block, Body, end, stmt, Branches, no_branches, branch}
-use Rattle.jt_chains.specs.Chain.{Home, Template, templates, BlockBody, blocks_of, blocks_in, blocks_under, all_bodies, MacroBody, macros_in, macros, macro_of}
+use Rattle.jt_trees.specs.Statements.{Stmt, data_of, print, choose, for_each, set, set_block, with_values, filter_block, autoescape, macro, include, import_as, import_from, extends, block, Body, end, stmt, Branches, no_branches, branch}
+use Rattle.jt_chains.specs.Chain.{Home, a_chain, a_library, same_home, listed, Template, templates, BlockBody, blocks_of, blocks_in, blocks_under, all_bodies, MacroBody, macros_in, macros, macro_of, libraries}
 use Rattle.jt_rules.specs.World.{World}
 use Rattle.jt_chains.specs.Uses.{keywords, expr_names, pair_names, condition_names, filtering_names, stmt_names, body_names, branch_names, own_names}
-use Rattle.jt_chains.specs.Includes.{needs_by, needs_in, needs_under, included, AllIn, InOrder}
-use Rattle.jt_meaning.specs.Layout.{names_in, names, first_in, first_slot, is_scoped, defaults_of, first_default, shared, default_in, default_place, numbered_bodies, counted_from}
-use Rattle.jt_meaning.proofs.Reading.{same_text, same_is, no_both, among_front, among_back, each_among}
+use Rattle.jt_chains.specs.Includes.{needs_by, needs_in, needs_under, with_source, included, AllIn, InOrder}
+use Rattle.jt_meaning.specs.Layout.{in_globals, names_in, names, first_in, first_slot, is_scoped, defaults_of, first_default, shared, default_in, default_place, numbered_bodies, counted_from}
+use Rattle.jt_meaning.proofs.Reading.{same_is, home_same, home_is, no_both, among_front, among_back, each_among}
 use Rattle.jt_meaning.proofs.Valuing.{counted_are}
-use Rattle.jt_meaning.proofs.Calling.{Hands, Included}
+use Rattle.jt_meaning.proofs.Agreeing.{limit, read_names}
+use Rattle.jt_meaning.proofs.Calling.{Known, Behind, Hands, Included}
+use Rattle.jt_meaning.proofs.Givens.{source_there}
 use Rattle.jt_chains.specs.Uses.{set_in, scope_names_in, scope_names}
 use Rattle.jt_meaning.proofs.Scopes.{names_of, scopes_bound, templates_bind, ascending_among}
 use Rattle.jt_meaning.proofs.Stating.{Each, each_front, each_back, Scoping, a_tag, a_name, named, scoped_by, scoped_in, scoped_under, Proper, names_proper, behind_proper}
@@ -25,23 +27,42 @@ or_right : (a : Bool) {b : Bool} → b ≡ true → (a || b) ≡ true
 or_right true e = refl
 or_right false e = e
 
-among_append : (x : Text) (xs ys : List Text) → among x ys ≡ true → among x (xs ++ ys) ≡ true
-among_append x [] ys e = e
-among_append x (z ∷ zs) ys e = or_right (bytes_eq z x) (among_append x zs ys e)
+listed_append : (h : Home) (ks hs : List Home) → listed h hs ≡ true → listed h (ks ++ hs) ≡ true
+listed_append h [] hs e = e
+listed_append h (k ∷ ks) hs e = or_right (same_home k h) (listed_append h ks hs e)
 
--- ---- the first place of a chain in the order
+-- ---- the first place of a home in the order
 
-abbrev NotIn : Text → List Text → Type 0
-NotIn x [] = Unit {0}
-NotIn x (k ∷ ks) = (bytes_eq k x ≡ false) × NotIn x ks
+abbrev NotIn : Home → List Home → Type 0
+NotIn h [] = Unit {0}
+NotIn h (k ∷ ks) = (same_home k h ≡ false) × NotIn h ks
 
-first_at : (h : Home) (hs : List Home) → among h hs ≡ true → (pre ks : List Home) × (hs ≡ pre ++ (h ∷ ks)) × NotIn h pre
+first_at : (h : Home) (hs : List Home) → listed h hs ≡ true → (pre ks : List Home) × (hs ≡ pre ++ (h ∷ ks)) × NotIn h pre
 first_at h [] e = absurd (no_both e refl)
-first_at h (k ∷ ks) e = through (bytes_eq k h) refl e (λ f. first_at h ks f)
+first_at h (k ∷ ks) e = through (same_home k h) refl e (λ f. first_at h ks f)
   where
-    through : (b : Bool) → bytes_eq k h ≡ b → (b || among h ks) ≡ true → (among h ks ≡ true → (pre qs : List Home) × (ks ≡ pre ++ (h ∷ qs)) × NotIn h pre) → (pre qs : List Home) × (k ∷ ks ≡ pre ++ (h ∷ qs)) × NotIn h pre
-    through true p e f = ([], ks, ap (λ z. z ∷ ks) (same_text k h p), tt)
+    through : (b : Bool) → same_home k h ≡ b → (b || listed h ks) ≡ true → (listed h ks ≡ true → (pre qs : List Home) × (ks ≡ pre ++ (h ∷ qs)) × NotIn h pre) → (pre qs : List Home) × (k ∷ ks ≡ pre ++ (h ∷ qs)) × NotIn h pre
+    through true p e f = ([], ks, ap (λ z. z ∷ ks) (home_same k h p), tt)
     through false p e f = let r = f e in (k ∷ r.0, r.1, ap (λ zs. k ∷ zs) r.2, (p, r.3))
+
+-- a home is one of these
+abbrev OneOf : Home → List Home → Type 0
+OneOf h [] = ⊥
+OneOf h (k ∷ ks) = (k ≡ h) ⊎ OneOf h ks
+
+one_left : (h : Home) (hs ks : List Home) → OneOf h hs → OneOf h (hs ++ ks)
+one_left h [] ks i = absurd i
+one_left h (k ∷ hs) ks (inl e) = inl e
+one_left h (k ∷ hs) ks (inr i) = inr (one_left h hs ks i)
+
+one_right : (h : Home) (hs ks : List Home) → OneOf h ks → OneOf h (hs ++ ks)
+one_right h [] ks i = i
+one_right h (k ∷ hs) ks i = inr (one_right h hs ks i)
+
+one_mapped : (f : Text → Home) (x : Text) (xs : List Text) → Among x xs → OneOf (f x) (map f xs)
+one_mapped f x [] i = absurd i
+one_mapped f x (y ∷ ys) (inl e) = inl (ap f e)
+one_mapped f x (y ∷ ys) (inr i) = inr (one_mapped f x ys i)
 
 not_true : (b : Bool) → not b ≡ true → b ≡ true → ⊥
 not_true true e f = no_both f (sym e)
@@ -131,6 +152,8 @@ module _ (t : Text) where
     scoped_stmt (print line e) on = tt
     scoped_stmt (set line xs e) on = tt
     scoped_stmt (include line n i w) on = tt
+    scoped_stmt (import_as line n new) on = tt
+    scoped_stmt (import_from line n news) on = tt
     scoped_stmt (extends line n) on = tt
 
     scoped_body : (c : Body) (on : Bool) → Each (Saying (blocks_in t c on)) (scoped_in c)
@@ -151,32 +174,64 @@ all_proper world order h [] e a = tt
 all_proper world order h (a_tag x ∷ ss) e a = (e.0, all_proper world order h ss e.1 a)
 all_proper world order h (a_name x ∷ ss) e a = (a.0, all_proper world order h ss e.1 a.1)
 
-scopes_are : (world : World) (order : List Home) (h : Home) → among h order ≡ true → scopes world order h ≡ scope_names world.sources h
+scopes_are : (world : World) (order : List Home) (h : Home) → listed h order ≡ true → scopes world order h ≡ scope_names world.sources h
 scopes_are world order h e = ap (λ b. if b then scope_names world.sources h else []) e
 
-scoped_templates : (world : World) (order : List Home) (h : Home) → among h order ≡ true → Each (Proper world order h) (flat_map (λ t. scoped_in t.body) (templates world.sources h))
+scoped_templates : (world : World) (order : List Home) (h : Home) → listed h order ≡ true → Each (Proper world order h) (flat_map (λ t. scoped_in t.body) (templates world.sources h))
 scoped_templates world order h e =
     all_proper world order h (flat_map (λ t. scoped_in t.body) (templates world.sources h)) (said_templates world.escaping (templates world.sources h))
     (subst (λ zs. AllAmong (names_of (flat_map (λ t. scoped_in t.body) (templates world.sources h))) zs) (sym (scopes_are world order h e)) (scopes_bound world h))
 
 module _ (world : World) where
   -- what stands behind a place keeps the order, and none before it comes again
-  behind_order : (pre qs : List Home) → InOrder world.sources (pre ++ qs) → InOrder world.sources qs × ((m : Home) → among m qs ≡ true → NotIn m pre)
+  behind_order : (pre qs : List Home) → InOrder world.sources (pre ++ qs) → InOrder world.sources qs × ((m : Home) → listed m qs ≡ true → NotIn m pre)
   behind_order [] qs o = (o, λ m e. tt)
   behind_order (k ∷ pre) qs o =
       let r = behind_order pre qs o.1.1 in
-      (r.0, λ m e. (differs m (bytes_eq k m) refl (among_append m pre qs e), r.1 m e))
+      (r.0, λ m e. (differs m (same_home k m) refl (listed_append m pre qs e), r.1 m e))
     where
-      differs : (m : Home) (b : Bool) → bytes_eq k m ≡ b → among m (pre ++ qs) ≡ true → b ≡ false
-      differs m true p e = absurd (not_true (among k (pre ++ qs)) o.0 (ap (λ z. among z (pre ++ qs)) (same_text k m p) ∙ e))
+      differs : (m : Home) (b : Bool) → same_home k m ≡ b → listed m (pre ++ qs) ≡ true → b ≡ false
+      differs m true p e = absurd (not_true (listed k (pre ++ qs)) o.0 (ap (λ z. listed z (pre ++ qs)) (home_same k m p) ∙ e))
       differs m false p e = refl
+
+  abbrev kept_names : List Home → Home → List Text
+  kept_names ks h = in_globals h (ascending (own_names world.sources h ++ flat_map (names_in world ks) (included world.sources h)))
 
   names_behind : (m : Home) (pre qs : List Home) → NotIn m pre → names_in world (pre ++ qs) m ≡ names_in world qs m
   names_behind m [] qs n = refl
-  names_behind m (k ∷ pre) qs n = ap (λ b. if b then ascending (own_names world.sources m ++ flat_map (names_in world (pre ++ qs)) (included world.sources m)) else names_in world (pre ++ qs) m) n.0 ∙ names_behind m pre qs n.1
+  names_behind m (k ∷ pre) qs n = ap (λ b. if b then kept_names (pre ++ qs) m else names_in world (pre ++ qs) m) n.0 ∙ names_behind m pre qs n.1
 
-  names_here : (h : Home) (ks : List Home) → names_in world (h ∷ ks) h ≡ ascending (own_names world.sources h ++ flat_map (names_in world ks) (included world.sources h))
-  names_here h ks = ap (λ b. if b then ascending (own_names world.sources h ++ flat_map (names_in world ks) (included world.sources h)) else names_in world ks h) (same_is h)
+  names_here : (h : Home) (ks : List Home) → names_in world (h ∷ ks) h ≡ kept_names ks h
+  names_here h ks = ap (λ b. if b then kept_names ks h else names_in world ks h) (home_is h)
+
+  flat_among : (f : Home → List Text) (ms : List Home) (m : Home) → OneOf m ms → (x : Text) → Among x (f m) → Among x (flat_map f ms)
+  flat_among f [] m i x j = absurd i
+  flat_among f (k ∷ ks) m (inl e) x j = front (f k) (subst (λ z. Among x (f z)) (sym e) j)
+    where
+      front : (ys : List Text) → Among x ys → Among x (ys ++ flat_map f ks)
+      front [] i = absurd i
+      front (y ∷ ys) (inl q) = inl q
+      front (y ∷ ys) (inr i) = inr (front ys i)
+  flat_among f (k ∷ ks) m (inr i) x j = back (f k) (flat_among f ks m i x j)
+    where
+      back : (ys : List Text) → Among x (flat_map f ks) → Among x (ys ++ flat_map f ks)
+      back [] i = i
+      back (y ∷ ys) i = inr (back ys i)
+
+  append_right : (x : Text) (xs ys : List Text) → Among x ys → Among x (xs ++ ys)
+  append_right x [] ys i = i
+  append_right x (z ∷ zs) ys i = inr (append_right x zs ys i)
+
+  -- the names that a home reads or binds are among its names, and so are those of what it leads to
+  among_all : (f : Home → List Text) (h m : Home) → OneOf m (included world.sources h) → (x : Text) → Among x (f m) → Among x (ascending (own_names world.sources h ++ flat_map f (included world.sources h)))
+  among_all f h m i x j =
+      let all = own_names world.sources h ++ flat_map f (included world.sources h) in
+      each_among all (ascending all) (all_ascending all) x (append_right x (own_names world.sources h) (flat_map f (included world.sources h)) (flat_among f (included world.sources h) m i x j))
+
+  own_all : (f : Home → List Text) (h : Home) → AllAmong (own_names world.sources h) (ascending (own_names world.sources h ++ flat_map f (included world.sources h)))
+  own_all f h =
+      let all = own_names world.sources h ++ flat_map f (included world.sources h) in
+      among_front (own_names world.sources h) (flat_map f (included world.sources h)) (ascending all) (all_ascending all)
 
   module _ (order : List Home) where
     total : List Home → ℕ
@@ -190,57 +245,68 @@ module _ (world : World) where
         ap (λ b. if b then 0 else length (names world order k) + first_in world order (pre ++ qs) m) n.0
         ∙ (let e = first_behind m pre qs n.1 in let f : length (names world order k) + first_in world order (pre ++ qs) m ≡ length (names world order k) + total pre + first_in world order qs m = omega (arith, e) in f)
 
-    module _ (ordered : InOrder world.sources order) (h : Home) (known : among h order ≡ true) where
+    own_read : (h : Home) (ks : List Home) → names world order h ≡ kept_names ks h → AllAmong (own_names world.sources h) (read_names world order h)
+    own_read (a_chain n) ks e = subst (AllAmong (own_names world.sources (a_chain n))) (sym e) (own_all (names_in world ks) (a_chain n))
+    own_read (a_library n) ks e = own_all (names world order) (a_library n)
+
+    handed_read : (h : Home) (ks : List Home) → names world order h ≡ kept_names ks h → (m : Home) → OneOf m (included world.sources h) → names world order m ≡ names_in world ks m → (x : Text) → Among x (names world order m) → Among x (read_names world order h)
+    handed_read (a_chain n) ks e m i same x j = subst (Among x) (sym e) (among_all (names_in world ks) (a_chain n) m i x (subst (Among x) same j))
+    handed_read (a_library n) ks e m i same x j = among_all (names world order) (a_library n) m i x j
+
+    module _ (ordered : InOrder world.sources order) (h : Home) (known : listed h order ≡ true) where
       at : (pre ks : List Home) × (order ≡ pre ++ (h ∷ ks)) × NotIn h pre
       at = first_at h order known
 
       parts : InOrder world.sources (at.0 ++ (h ∷ at.1))
       parts = subst (InOrder world.sources) at.2 ordered
 
-      names_are : names world order h ≡ ascending (own_names world.sources h ++ flat_map (names_in world at.1) (included world.sources h))
+      names_are : names world order h ≡ kept_names at.1 h
       names_are = ap (λ o. names_in world o h) at.2 ∙ names_behind h at.0 (h ∷ at.1) at.3 ∙ names_here h at.1
 
-      flat_among : (f : Home → List Text) (ms : List Home) (m : Home) → Among m ms → (x : Text) → Among x (f m) → Among x (flat_map f ms)
-      flat_among f [] m i x j = absurd i
-      flat_among f (k ∷ ks) m (inl e) x j = front (f k) (subst (λ z. Among x (f z)) (sym e) j)
-        where
-          front : (ys : List Text) → Among x ys → Among x (ys ++ flat_map f ks)
-          front [] i = absurd i
-          front (y ∷ ys) (inl e) = inl e
-          front (y ∷ ys) (inr i) = inr (front ys i)
-      flat_among f (k ∷ ks) m (inr i) x j = back (f k) (flat_among f ks m i x j)
-        where
-          back : (ys : List Text) → Among x (flat_map f ks) → Among x (ys ++ flat_map f ks)
-          back [] i = i
-          back (y ∷ ys) i = inr (back ys i)
+      -- a chain or library that this one leads to
+      record Next (m : Home) : Type 0 where
+        pub stands : Known world order m
+        pub behind : limit world order h ≤ first_slot world order m
+        pub names : (x : Text) → Among x (Rattle.jt_meaning.specs.Layout.names world order m) → Among x (read_names world order h)
 
-      append_right : (x : Text) (xs ys : List Text) → Among x ys → Among x (xs ++ ys)
-      append_right x [] ys i = i
-      append_right x (z ∷ zs) ys i = inr (append_right x zs ys i)
-
-      -- a chain that this one includes
-      hands : (m : Home) → Among m (included world.sources h) → among m at.1 ≡ true → Hands world order h m
-      hands m i e =
+      next : (m : Home) → OneOf m (included world.sources h) → listed m at.1 ≡ true → Next m
+      next m i e =
           let r = behind_order at.0 (h ∷ at.1) parts in
-          let in_all : among m (h ∷ at.1) ≡ true = or_right (bytes_eq h m) e in
+          let in_all : listed m (h ∷ at.1) ≡ true = or_right (same_home h m) e in
           let away = r.1 m in_all in
-          let other = apart (bytes_eq h m) refl r.0.0 in
+          let other = apart (same_home h m) refl r.0.0 in
           let skip : NotIn m (h ∷ []) = (other, tt) in
           let same : names world order m ≡ names_in world at.1 m = ap (λ o. names_in world o m) at.2 ∙ names_behind m at.0 (h ∷ at.1) away ∙ names_behind m (h ∷ []) at.1 skip in
-          let first_h = ap (λ o. first_in world order o h) at.2 ∙ first_behind h at.0 (h ∷ at.1) at.3 ∙ ap (λ b. total at.0 + (if b then 0 else length (names world order h) + first_in world order at.1 h)) (same_is h) in
+          let first_h = ap (λ o. first_in world order o h) at.2 ∙ first_behind h at.0 (h ∷ at.1) at.3 ∙ ap (λ b. total at.0 + (if b then 0 else length (names world order h) + first_in world order at.1 h)) (home_is h) in
           let first_m = ap (λ o. first_in world order o m) at.2 ∙ first_behind m at.0 (h ∷ at.1) away ∙ ap (λ b. total at.0 + (if b then 0 else length (names world order h) + first_in world order at.1 m)) other in
           record {
-            known = ap (λ o. among m o) at.2 ∙ among_append m at.0 (h ∷ at.1) in_all;
+            stands = ap (λ o. listed m o) at.2 ∙ listed_append m at.0 (h ∷ at.1) in_all;
             behind = let f : first_in world order order h + length (names world order h) ≤ first_in world order order m = omega (arith, first_h, first_m) in f;
-            names = λ x j.
-                let k = flat_among (names_in world at.1) (included world.sources h) m i x (subst (λ zs. Among x zs) same j) in
-                let all = own_names world.sources h ++ flat_map (names_in world at.1) (included world.sources h) in
-                subst (λ zs. Among x zs) (sym names_are) (each_among all (ascending all) (all_ascending all) x (append_right x (own_names world.sources h) (flat_map (names_in world at.1) (included world.sources h)) k));
+            names = handed_read h at.1 names_are m i same;
           }
         where
-          apart : (b : Bool) → bytes_eq h m ≡ b → not (among h at.1) ≡ true → b ≡ false
-          apart true p n = absurd (not_true (among h at.1) n (ap (λ z. among z at.1) (same_text h m p) ∙ e))
+          apart : (b : Bool) → same_home h m ≡ b → not (listed h at.1) ≡ true → b ≡ false
+          apart true p n = absurd (not_true (listed h at.1) n (ap (λ z. listed z at.1) (home_same h m p) ∙ e))
           apart false p n = refl
+
+      all_in : (m : Home) (ms ks : List Home) → OneOf m ms → AllIn ms ks → listed m ks ≡ true
+      all_in m [] ks i a = absurd i
+      all_in m (y ∷ ys) ks (inl p) a = ap (λ z. listed z ks) (sym p) ∙ a.0
+      all_in m (y ∷ ys) ks (inr i) a = all_in m ys ks i a.1
+
+      led : (m : Home) → OneOf m (included world.sources h) → Next m
+      led m i = let r = behind_order at.0 (h ∷ at.1) parts in next m i (all_in m (included world.sources h) at.1 i r.0.1.0)
+
+      hands : (n : Text) → Among n (with_source world.sources (flat_map (λ t. needs_in true t.body) (templates world.sources h))) → Hands world order h n
+      hands n i =
+          let r = led (a_chain n) (one_left (a_chain n) (map a_chain (with_source world.sources (flat_map (λ t. needs_in true t.body) (templates world.sources h)))) (map a_library (with_source world.sources (libraries world.sources h))) (one_mapped a_chain n _ i)) in
+          record { known = r.stands; behind = r.behind; names = r.names }
+
+      -- a library that this chain imports
+      pub libraries_stand : (n : Text) → Among n (with_source world.sources (libraries world.sources h)) → Behind world order h (a_library n)
+      libraries_stand n i =
+          let r = led (a_library n) (one_right (a_library n) (map a_chain (with_source world.sources (flat_map (λ t. needs_in true t.body) (templates world.sources h)))) (map a_library (with_source world.sources (libraries world.sources h))) (one_mapped a_library n _ i)) in
+          record { known = r.stands; behind = r.behind }
 
       -- ---- what a body of the chain holds
 
@@ -248,7 +314,7 @@ module _ (world : World) where
       IsScopedHere x = is_scoped world h x ≡ true
 
       pub record Belongs (c : Body) : Type 0 where
-        pub names : AllAmong (body_names c) (Rattle.jt_meaning.specs.Layout.names world order h)
+        pub names : AllAmong (body_names c) (read_names world order h)
         pub included : Each (Included world order h) (needs_in true c)
         pub scoped : Each (Proper world order h) (scoped_in c)
 
@@ -262,28 +328,10 @@ module _ (world : World) where
         pub parameters : AllAmong (map (λ p. p.name) m.parameters) (scopes world order h)
 
       -- of what a body that is a scope holds
-      owned : (c : Body) → AllAmong (body_names c) (names world order h) → Each (Included world order h) (needs_in true c) → Each (Proper world order h) (named (set_in c) ++ scoped_in c) → Owned c
+      owned : (c : Body) → AllAmong (body_names c) (read_names world order h) → Each (Included world order h) (needs_in true c) → Each (Proper world order h) (named (set_in c) ++ scoped_in c) → Owned c
       owned c a n d = record { belongs = record { names = a; included = n; scoped = behind_proper world order h (set_in c) (scoped_in c) d }; own = names_proper world order h (set_in c) (scoped_in c) d }
 
       -- all that the templates include
-      with_source : (x : Text) (xs : List Text) → Among x xs → is_some (world.sources x) ≡ true → Among x (filter (λ m. is_some (world.sources m)) xs)
-      with_source x [] i e = absurd i
-      with_source x (y ∷ ys) (inl p) e = here (is_some (world.sources y)) (ap (λ z. is_some (world.sources z)) p ∙ e)
-        where
-          here : (b : Bool) → b ≡ true → Among x (if b then y ∷ filter (λ m. is_some (world.sources m)) ys else filter (λ m. is_some (world.sources m)) ys)
-          here true e = inl p
-          here false e = absurd (no_both e refl)
-      with_source x (y ∷ ys) (inr i) e = later (is_some (world.sources y)) (with_source x ys i e)
-        where
-          later : (b : Bool) → Among x (filter (λ m. is_some (world.sources m)) ys) → Among x (if b then y ∷ filter (λ m. is_some (world.sources m)) ys else filter (λ m. is_some (world.sources m)) ys)
-          later true i = inr i
-          later false i = i
-
-      all_in : (x : Text) (xs ks : List Text) → Among x xs → AllIn xs ks → among x ks ≡ true
-      all_in x [] ks i a = absurd i
-      all_in x (y ∷ ys) ks (inl p) a = ap (λ z. among z ks) (sym p) ∙ a.0
-      all_in x (y ∷ ys) ks (inr i) a = all_in x ys ks i a.1
-
       no_source : (o : Option Body) → is_some o ≡ false → is_none o ≡ true
       no_source None e = refl
       no_source (Some b) e = absurd (no_both refl e)
@@ -294,20 +342,17 @@ module _ (world : World) where
         where
           one : (b : Bool) → is_some (world.sources x) ≡ b → Included world order h x
           one false e = inl (no_source (world.sources x) e)
-          one true e =
-              let i = with_source x (flat_map (λ t. needs_in true t.body) (templates world.sources h)) (f x (inl refl)) e in
-              let r = behind_order at.0 (h ∷ at.1) parts in
-              inr (hands x i (all_in x (included world.sources h) at.1 i r.0.1.0))
+          one true e = inr (hands x (source_there world.sources x (flat_map (λ t. needs_in true t.body) (templates world.sources h)) (f x (inl refl)) e))
 
       -- the same of a statement, and of branches
       abbrev StmtBelongs : Stmt → Type 0
-      StmtBelongs s = AllAmong (stmt_names s) (names world order h) × Each (Included world order h) (needs_by true s) × Each (Proper world order h) (scoped_by s)
+      StmtBelongs s = AllAmong (stmt_names s) (read_names world order h) × Each (Included world order h) (needs_by true s) × Each (Proper world order h) (scoped_by s)
 
       abbrev BranchesBelong : Branches → Type 0
-      BranchesBelong bs = AllAmong (branch_names bs) (names world order h) × Each (Included world order h) (needs_under true bs) × Each (Proper world order h) (scoped_under bs)
+      BranchesBelong bs = AllAmong (branch_names bs) (read_names world order h) × Each (Included world order h) (needs_under true bs) × Each (Proper world order h) (scoped_under bs)
 
       abbrev all_names : List Text
-      all_names = names world order h
+      all_names = read_names world order h
 
       belongs_front : (s : Stmt) (rest : Body) → Belongs (stmt s rest) → StmtBelongs s
       belongs_front s rest b = (
@@ -340,18 +385,15 @@ module _ (world : World) where
       -- the templates of the chain
       pub templates_belong : Every (λ t. Belongs t.body) (templates world.sources h)
       templates_belong =
-          let all = own_names world.sources h ++ flat_map (names_in world at.1) (included world.sources h) in
-          template_bodies (templates world.sources h)
-          (subst (λ zs. AllAmong (own_names world.sources h) zs) (sym names_are) (among_front (own_names world.sources h) (flat_map (names_in world at.1) (included world.sources h)) (ascending all) (all_ascending all)))
+          template_bodies (templates world.sources h) (own_read h at.1 names_are)
           (each_included (flat_map (λ t. needs_in true t.body) (templates world.sources h)) (λ x i. i))
           (scoped_templates world order h known)
 
-      -- the names that scopes bind are names of the chain
-      pub scopes_known : AllAmong (scopes world order h) (names world order h)
+      -- the names that scopes bind are among those that are read or bound
+      pub scopes_known : AllAmong (scopes world order h) (read_names world order h)
       scopes_known =
-          let all = own_names world.sources h ++ flat_map (names_in world at.1) (included world.sources h) in
-          subst (λ zs. AllAmong zs (names world order h)) (sym (scopes_are world order h known)) (ascending_among (flat_map (λ t. scope_names_in t.body) (templates world.sources h)) (names world order h)
-          (templates_bind (templates world.sources h) (names world order h) (subst (λ zs. AllAmong (own_names world.sources h) zs) (sym names_are) (among_front (own_names world.sources h) (flat_map (names_in world at.1) (included world.sources h)) (ascending all) (all_ascending all)))))
+          subst (λ zs. AllAmong zs (read_names world order h)) (sym (scopes_are world order h known)) (ascending_among (flat_map (λ t. scope_names_in t.body) (templates world.sources h)) (read_names world order h)
+          (templates_bind (templates world.sources h) (read_names world order h) (own_read h at.1 names_are)))
 
       macro_bodies : (t : Text) (c : Body) → Belongs c → Every OwnedMacro (macros_in t c)
       macro_bodies t end b = tt
@@ -435,6 +477,8 @@ module _ (world : World) where
           stmt_blocks (print line e) on b = tt
           stmt_blocks (set line xs e) on b = tt
           stmt_blocks (include line n i w) on b = tt
+          stmt_blocks (import_as line n new) on b = tt
+          stmt_blocks (import_from line n news) on b = tt
           stmt_blocks (extends line n) on b = tt
 
           body_blocks : (c : Body) (on : Bool) → Belongs c → InBelongs (blocks_in t c on)

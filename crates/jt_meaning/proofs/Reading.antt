@@ -8,6 +8,7 @@ use Rattle.jt_value.specs.Tree as tree
 use Rattle.jt_value.specs.Tree.{Tree}
 use Rattle.jt_value.specs.Pairs.{Pairs, look}
 use Rattle.jt_trees.specs.Expressions.{Text}
+use Rattle.jt_chains.specs.Chain.{Home, a_chain, a_library, same_home}
 use Rattle.jt_meaning.specs.Env.{Env, first_of, read, bound, all_bound}
 use Rattle.jt_slots.specs.Values.{value_in}
 use Rattle.jt_slots.specs.Loops.{tree_at}
@@ -33,6 +34,18 @@ no_both {b = b} t f = never (sym f ∙ t)
 
 pub is_same : (x y : Text) → x ≡ y → bytes_eq x y ≡ true
 is_same x y e = surely (bytes_eq x y) (x ≡ y) (bytes_eq-Decides x y) e
+
+-- ---- homes
+
+pub home_same : (h k : Home) → same_home h k ≡ true → h ≡ k
+home_same (a_chain n) (a_chain m) e = ap a_chain (same_text n m e)
+home_same (a_chain n) (a_library m) e = absurd (never e)
+home_same (a_library n) (a_chain m) e = absurd (never e)
+home_same (a_library n) (a_library m) e = ap a_library (same_text n m e)
+
+pub home_is : (h : Home) → same_home h h ≡ true
+home_is (a_chain n) = same_is n
+home_is (a_library n) = same_is n
 
 -- ---- names among others
 

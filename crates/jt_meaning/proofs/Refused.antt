@@ -6,16 +6,22 @@ use Rattle.jt_rules.specs.declared.error.ScopeError.TheVariants as error
 use Rattle.jt_trees.specs.Expressions.{no_exprs, no_pairs, Text}
 use Rattle.jt_trees.specs.Statements.{Body, end}
 use Rattle.jt_rules.specs.Walk.{chains_broken}
-use Rattle.jt_chains.specs.Chain.{Sources}
+use Rattle.jt_chains.specs.Chain.{Sources, Home, a_chain, a_library}
 use Rattle.jt_chains.specs.Includes.{InOrder}
-use Rattle.jt_chains.specs.Rules.{here, Missing, ExtendsCycle, DoubleBlock, RequiredNotGiven, NoSuper, IncludeCycle, MacroTwice}
-use Rattle.jt_meaning.proofs.Small.{name, num, listing, call, Call, pair, of, Filter, body, print, For, block, Block, Macro, Include, extends, parameter, exprs, source, world}
+use Rattle.jt_chains.specs.Rules.{here, through, Missing, ExtendsCycle, DoubleBlock, RequiredNotGiven, NoSuper, IncludeCycle, MacroTwice, NoMacro, NotALibrary}
+use Rattle.jt_meaning.proofs.Small.{name, num, listing, call, Call, pair, of, Filter, body, print, For, block, Block, Macro, Include, Import, From, chars, extends, parameter, exprs, source, world}
 
 abbrev among_these : List (Text × Body) → Sources
 among_these ss = (world ss).sources
 
+abbrev entry : Home
+entry = a_chain (codes "t")
+
+abbrev the_library : Home
+the_library = a_library (codes "l")
+
 abbrev Breaks : List (Text × Body) → Option ScopeError → Type 0
-Breaks ss e = chains_broken (world ss) (codes "t" ∷ []) ≡ e
+Breaks ss e = chains_broken (world ss) (entry ∷ []) ≡ e
 
 -- {% macro m(a) %}{% endmacro %}{{ m }}
 macro_read : Breaks (source "t" (Macro 1 (codes "m") (parameter "a" ∷ []) end ∷ print (name "m") ∷ []) ∷ []) (Some error.MacroAsValue)
@@ -75,33 +81,101 @@ filter_wrong_keyword : Breaks (source "t" (print (Filter (num 1) (codes "d") no_
 filter_wrong_keyword = refl
 
 -- {% include "no" %}
-no_source : Missing (among_these (source "t" (Include 1 (codes "no") false true ∷ []) ∷ [])) true (codes "t")
-no_source = (codes "t", here, refl)
+no_source : Missing (among_these (source "t" (Include 1 (codes "no") false true ∷ []) ∷ [])) true entry
+no_source = (entry, here, refl)
 
 -- entry `t`: {% include "t" %}
-include_of_itself : IncludeCycle (among_these (source "t" (Include 1 (codes "t") false true ∷ []) ∷ [])) true (codes "t")
-include_of_itself = (codes "t", here, (codes "t", refl, here))
+include_of_itself : IncludeCycle (among_these (source "t" (Include 1 (codes "t") false true ∷ []) ∷ [])) true entry
+include_of_itself = (entry, here, (entry, refl, here))
 
 -- {% macro m() %}{% endmacro %}{% macro m() %}{% endmacro %}
-macro_twice : MacroTwice (among_these (source "t" (Macro 1 (codes "m") [] end ∷ Macro 1 (codes "m") [] end ∷ []) ∷ [])) true (codes "t")
-macro_twice = (codes "t", here, refl)
+macro_twice : MacroTwice (among_these (source "t" (Macro 1 (codes "m") [] end ∷ Macro 1 (codes "m") [] end ∷ []) ∷ [])) true entry
+macro_twice = (entry, here, refl)
 
 -- `t` is {% extends "t" %}
-extends_itself : ExtendsCycle (among_these (source "t" (extends "t" ∷ []) ∷ [])) true (codes "t")
-extends_itself = (codes "t", here, (2, refl))
+extends_itself : ExtendsCycle (among_these (source "t" (extends "t" ∷ []) ∷ [])) true entry
+extends_itself = (entry, here, (codes "t", refl, 2, refl))
 
 -- {% block t %}{% endblock %}{% block t %}{% endblock %}
-block_twice : DoubleBlock (among_these (source "t" (block "t" [] ∷ block "t" [] ∷ []) ∷ [])) true (codes "t")
-block_twice = (codes "t", here, refl)
+block_twice : DoubleBlock (among_these (source "t" (block "t" [] ∷ block "t" [] ∷ []) ∷ [])) true entry
+block_twice = (entry, here, refl)
 
 -- {% block t required %}{% endblock %}
-required_alone : RequiredNotGiven (among_these (source "t" (Block 1 (codes "t") false true end ∷ []) ∷ [])) true (codes "t")
-required_alone = (codes "t", here, refl)
+required_alone : RequiredNotGiven (among_these (source "t" (Block 1 (codes "t") false true end ∷ []) ∷ [])) true entry
+required_alone = (entry, here, refl)
 
 -- {% block t %}{{ super() }}{% endblock %}
-super_of_nothing : NoSuper (among_these (source "t" (block "t" (print (call (name "super") []) ∷ []) ∷ []) ∷ [])) true (codes "t")
-super_of_nothing = (codes "t", here, refl)
+super_of_nothing : NoSuper (among_these (source "t" (block "t" (print (call (name "super") []) ∷ []) ∷ []) ∷ [])) true entry
+super_of_nothing = (entry, here, refl)
 
 -- `t` includes `p`, and `p` includes `q`: in this order each stands before what it includes
-in_order : InOrder (among_these (source "t" (Include 1 (codes "p") false true ∷ []) ∷ source "p" (Include 1 (codes "q") false true ∷ []) ∷ source "q" [] ∷ [])) (codes "t" ∷ codes "p" ∷ codes "q" ∷ [])
+in_order : InOrder (among_these (source "t" (Include 1 (codes "p") false true ∷ []) ∷ source "p" (Include 1 (codes "q") false true ∷ []) ∷ source "q" [] ∷ [])) (a_chain (codes "t") ∷ a_chain (codes "p") ∷ a_chain (codes "q") ∷ [])
 in_order = (refl, ((refl, tt), (refl, ((refl, tt), (refl, (tt, tt))))))
+
+-- ---- imports
+
+-- l: {% macro b(t) %}{% endmacro %}
+abbrev with_b : List (Text × Body)
+with_b = source "l" (Macro 1 (codes "b") (parameter "t" ∷ []) end ∷ []) ∷ []
+
+-- {% import "l" as f %}{{ f }}
+library_read : Breaks (source "t" (Import "l" "f" ∷ print (name "f") ∷ []) ∷ with_b) (Some error.MacroAsValue)
+library_read = refl
+
+-- {% import "l" as f %}{{ f.z() }}, {{ f() }}, {{ f.b(1, 2) }} and {{ f.b(1) }}
+no_macro_called : Breaks (source "t" (Import "l" "f" ∷ print (call (of (name "f") "z") []) ∷ []) ∷ with_b) (Some error.NotCallable)
+no_macro_called = refl
+
+library_called : Breaks (source "t" (Import "l" "f" ∷ print (call (name "f") []) ∷ []) ∷ with_b) (Some error.NotCallable)
+library_called = refl
+
+too_many_for_a_library : Breaks (source "t" (Import "l" "f" ∷ print (call (of (name "f") "b") (num 1 ∷ num 2 ∷ [])) ∷ []) ∷ with_b) (Some error.BadArguments)
+too_many_for_a_library = refl
+
+fits_a_library : Breaks (source "t" (Import "l" "f" ∷ print (call (of (name "f") "b") (num 1 ∷ [])) ∷ []) ∷ with_b) None
+fits_a_library = refl
+
+-- {% from "l" import b as c %}{{ c }}, {{ b(1) }} and {{ c(1) }}
+given_read : Breaks (source "t" (From "l" ((codes "b", codes "c") ∷ []) ∷ print (name "c") ∷ []) ∷ with_b) (Some error.MacroAsValue)
+given_read = refl
+
+not_given : Breaks (source "t" (From "l" ((codes "b", codes "c") ∷ []) ∷ print (call (name "b") (num 1 ∷ [])) ∷ []) ∷ with_b) (Some error.NotCallable)
+not_given = refl
+
+given_called : Breaks (source "t" (From "l" ((codes "b", codes "c") ∷ []) ∷ print (call (name "c") (num 1 ∷ [])) ∷ []) ∷ with_b) None
+given_called = refl
+
+-- {% import "l" as loop %} and {% from "l" import b as range %}
+loop_given : Breaks (source "t" (Import "l" "loop" ∷ []) ∷ with_b) (Some error.LoopOutside)
+loop_given = refl
+
+range_given : Breaks (source "t" (From "l" ((codes "b", codes "range") ∷ []) ∷ []) ∷ with_b) (Some error.NotCallable)
+range_given = refl
+
+-- {% from "l" import z %}
+no_such_macro : NoMacro (among_these (source "t" (From "l" ((codes "z", codes "z") ∷ []) ∷ []) ∷ with_b)) true entry
+no_such_macro = (entry, here, (codes "t", refl, refl))
+
+-- {% from "l" import _p %}, l: {% macro _p() %}{% endmacro %}
+private_macro : NoMacro (among_these (source "t" (From "l" ((codes "_p", codes "_p") ∷ []) ∷ []) ∷ source "l" (Macro 1 (codes "_p") [] end ∷ []) ∷ [])) true entry
+private_macro = (entry, here, (codes "t", refl, refl))
+
+-- {% import "l" as f %}, l: x
+no_library : NotALibrary (among_these (source "t" (Import "l" "f" ∷ []) ∷ source "l" (chars "x" ∷ []) ∷ [])) true entry
+no_library = (the_library, through refl here, (codes "l", refl, refl))
+
+-- {% import "l" as f %}{% from "l" import b as f %}
+given_twice : MacroTwice (among_these (source "t" (Import "l" "f" ∷ From "l" ((codes "b", codes "f") ∷ []) ∷ []) ∷ with_b)) true entry
+given_twice = (entry, here, refl)
+
+-- {% import "no" as f %}
+no_library_source : Missing (among_these (source "t" (Import "no" "f" ∷ []) ∷ [])) true entry
+no_library_source = (entry, here, refl)
+
+-- entry `t`: {% import "l" as f %}, l: {% macro b() %}{% include "t" %}{% endmacro %}
+include_in_a_library : IncludeCycle (among_these (source "t" (Import "l" "f" ∷ []) ∷ source "l" (Macro 1 (codes "b") [] (body (Include 1 (codes "t") false true ∷ [])) ∷ []) ∷ [])) true entry
+include_in_a_library = (entry, here, (the_library, refl, through refl here))
+
+-- `t` imports `l`, whose macro includes `p`: in this order each stands before what it leads to
+imports_in_order : InOrder (among_these (source "t" (Import "l" "f" ∷ []) ∷ source "l" (Macro 1 (codes "b") [] (body (Include 1 (codes "p") false true ∷ [])) ∷ []) ∷ source "p" [] ∷ [])) (entry ∷ the_library ∷ a_chain (codes "p") ∷ [])
+imports_in_order = (refl, ((refl, tt), (refl, ((refl, tt), (refl, (tt, tt))))))

@@ -11,7 +11,7 @@ use Rattle.jt_trees.specs.Expressions as e
 use Rattle.jt_trees.specs.Expressions.{no_exprs, no_pairs}
 use Rattle.jt_slots.specs.Tests.{test_named}
 use Rattle.jt_trees.specs.Statements.{end}
-use Rattle.jt_meaning.proofs.Small.{name, num, str, exprs, listing, call, Call, pair, of, Filter, Test, Binary, body, chars, print, Print, set, Set, SetBlock, With, FilterBlock, Autoescape, For, when, block, Block, Macro, Include, extends, parameter, source, Shows, FaultsAt, IsDeeper}
+use Rattle.jt_meaning.proofs.Small.{name, num, str, exprs, listing, call, Call, pair, of, Filter, Test, Binary, body, chars, print, Print, set, Set, SetBlock, With, FilterBlock, Autoescape, For, when, block, Block, Macro, Include, Import, From, extends, parameter, source, Shows, FaultsAt, IsDeeper}
 
 -- {% for x in xs if x > 5 %}{{ loop.index }}:{{ x }} {% else %}none{% endfor %}
 row_5 : Shows (source "t" (For 1 (codes "x" ∷ []) (name "xs") (Some (Binary 15 (name "x") (num 5))) (body (print (of (name "loop") "index") ∷ chars ":" ∷ print (name "x") ∷ chars " " ∷ [])) (body (chars "none" ∷ [])) ∷ []) ∷ []) ((codes "xs", v.list (items_of (v.number (pos 6) ∷ v.number (pos 1) ∷ v.number (pos 7) ∷ []))) ∷ []) "1:6 2:7 "
@@ -267,3 +267,24 @@ filter_arguments = (refl, refl)
 escaping_is_lexical : Shows (source "t" (Autoescape 1 false (body (print (str "<") ∷ [])) ∷ print (str "<") ∷ []) ∷ []) ([]) "<&lt;"
 unfolding digits characters test_named
 escaping_is_lexical = (refl, refl)
+
+-- l: {% macro b(t) %}<b>{{ t }}{{ x }}</b>{% endmacro %}; t: {% set x = 1 %}{% import "l" as f %}{{ f.b("<") }}: a library sees no globals
+import_row : Shows (source "t" (set "x" (num 1) ∷ Import "l" "f" ∷ print (call (of (name "f") "b") (str "<" ∷ [])) ∷ []) ∷ source "l" (Macro 1 (codes "b") (parameter "t" ∷ []) (body (chars "<b>" ∷ print (name "t") ∷ print (name "x") ∷ chars "</b>" ∷ [])) ∷ []) ∷ []) [] "<b>&lt;</b>"
+unfolding digits characters test_named
+import_row = (refl, refl)
+
+-- the same library; t: {% from "l" import b as c, b %}{{ c(1) }}{{ b(2) }}
+from_row : Shows (source "t" (From "l" ((codes "b", codes "c") ∷ (codes "b", codes "b") ∷ []) ∷ print (call (name "c") (num 1 ∷ [])) ∷ print (call (name "b") (num 2 ∷ [])) ∷ []) ∷ source "l" (Macro 1 (codes "b") (parameter "t" ∷ []) (body (chars "<b>" ∷ print (name "t") ∷ print (name "x") ∷ chars "</b>" ∷ [])) ∷ []) ∷ []) [] "<b>1</b><b>2</b>"
+unfolding digits characters test_named
+from_row = (refl, refl)
+
+-- l: {% macro m(t) %}{% set y = 5 %}{% include "p" %}{% endmacro %}; p: {{ t }}{{ x }}{{ y }}; t: {% set x = 1 %}{% import "l" as f %}{{ f.m(2) }}{% include "p" %}: an include in a library sees the macro's
+-- names alone
+include_row : Shows (source "t" (set "x" (num 1) ∷ Import "l" "f" ∷ print (call (of (name "f") "m") (num 2 ∷ [])) ∷ Include 1 (codes "p") false true ∷ []) ∷ source "l" (Macro 1 (codes "m") (parameter "t" ∷ []) (body (set "y" (num 5) ∷ Include 1 (codes "p") false true ∷ [])) ∷ []) ∷ source "p" (print (name "t") ∷ print (name "x") ∷ print (name "y") ∷ []) ∷ []) [] "251"
+unfolding digits characters test_named
+include_row = (refl, refl)
+
+-- l: {% macro a(n) %}{{ x }}{% if n %}{{ _c(n) }}{% endif %}{% endmacro %}{% macro _c(n) %}[{{ n }}]{% endmacro %}; t includes `l` as a chain, and imports it: {% set x = 1 %}{% include "l" %}{% from "l" import a %}{{ a(7) }}
+both_row : Shows (source "t" (set "x" (num 1) ∷ Include 1 (codes "l") false true ∷ From "l" ((codes "a", codes "a") ∷ []) ∷ print (call (name "a") (num 7 ∷ [])) ∷ []) ∷ source "l" (Macro 1 (codes "a") (parameter "n" ∷ []) (body (print (name "x") ∷ print (call (name "_c") (name "n" ∷ [])) ∷ [])) ∷ Macro 1 (codes "_c") (parameter "n" ∷ []) (body (chars "[" ∷ print (name "n") ∷ chars "]" ∷ [])) ∷ []) ∷ []) [] "[7]"
+unfolding digits characters test_named
+both_row = (refl, refl)

@@ -6,7 +6,7 @@ use Rattle.std.specs.Cmp.Lexicographic.{slice_cmp}
 use Rattle.std.specs.Str.{bytes_eq}
 use Rattle.jt_trees.specs.Texts.{inserted, all_inserted, ascending}
 use Rattle.jt_trees.specs.Expressions.{Text}
-use Rattle.jt_trees.specs.Statements.{Stmt, data_of, print, choose, for_each, set, set_block, with_values, filter_block, autoescape, macro, include, extends, block, Body, end, stmt, Branches, no_branches, branch}
+use Rattle.jt_trees.specs.Statements.{Stmt, data_of, print, choose, for_each, set, set_block, with_values, filter_block, autoescape, macro, include, import_as, import_from, extends, block, Body, end, stmt, Branches, no_branches, branch}
 use Rattle.jt_chains.specs.Chain.{Home, Template, templates}
 use Rattle.jt_chains.specs.Uses.{keywords, expr_names, pair_names, condition_names, filtering_names, stmt_names, body_names, branch_names, set_in, scope_names_by, scope_names_in, scope_names_under, scope_names}
 use Rattle.jt_rules.specs.World.{World}
@@ -48,6 +48,8 @@ mutual
   stmt_scopes (print line e) = refl
   stmt_scopes (set line xs e) = refl
   stmt_scopes (include line n i w) = refl
+  stmt_scopes (import_as line n new) = refl
+  stmt_scopes (import_from line n news) = refl
   stmt_scopes (extends line n) = refl
 
   scope_scopes : (body : Body) → names_of (named (set_in body) ++ scoped_in body) ≡ set_in body ++ scope_names_in body
@@ -97,6 +99,8 @@ mutual
   stmt_binds (print line e) ns a = tt
   stmt_binds (set line xs e) ns a = tt
   stmt_binds (include line n i w) ns a = tt
+  stmt_binds (import_as line n new) ns a = tt
+  stmt_binds (import_from line n news) ns a = tt
   stmt_binds (extends line n) ns a = tt
 
   scope_binds : (body : Body) (ns : List Text) → AllAmong (body_names body) ns → AllAmong (set_in body ++ scope_names_in body) ns

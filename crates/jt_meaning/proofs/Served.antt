@@ -1,13 +1,12 @@
 -- The routines of a program get as many values as they take.
-use Rattle.std.proofs.Common.{◌≡◌, ℕ, suc, Bool, true, false, ◌&&◌, if◌then◌else◌, List, [], ◌∷◌, ◌++◌, map, Option, Some, None, refl, sym, ap, ◌∙◌, append_assoc}
+use Rattle.std.proofs.Common.{◌≡◌, ℕ, suc, Bool, true, false, ◌&&◌, if◌then◌else◌, List, [], ◌∷◌, ◌++◌, map, Option, Some, None, refl, sym, ap, ◌∙◌, append_assoc, inl, inr}
 use Rattle.std.specs.Prelude.{◌||◌, flat_map, filter}
 use Rattle.std.specs.Option.{option_or}
 use Rattle.std.specs.List.{AllByRecursion}
 use Rattle.std.specs.Str.{bytes_eq}
 use Rattle.jt_trees.specs.Expressions.{Text}
-use Rattle.jt_trees.specs.Statements.{Stmt, data_of, print, choose, for_each, set, set_block, with_values, filter_block, autoescape, macro, include, extends, block, Body, end, stmt, Branches, no_branches, branch}
-use Rattle.jt_chains.specs.Chain.{Home, Template, templates, BlockBody, blocks_of, blocks_in, blocks_under, all_bodies, bodies, from_given, MacroBody, macros_in, macros}
-use Rattle.jt_trees.specs.Texts.{among}
+use Rattle.jt_trees.specs.Statements.{Stmt, data_of, print, choose, for_each, set, set_block, with_values, filter_block, autoescape, macro, include, import_as, import_from, extends, block, Body, end, stmt, Branches, no_branches, branch}
+use Rattle.jt_chains.specs.Chain.{Home, a_chain, a_library, same_home, listed, Template, templates, BlockBody, blocks_of, blocks_in, blocks_under, all_bodies, bodies, from_given, MacroBody, macros_in, macros}
 use Rattle.jt_rules.specs.World.{World}
 use Rattle.jt_chains.specs.Uses.{keywords, set_in}
 use Rattle.jt_chains.specs.Includes.{needs_by, needs_in, needs_under, InOrder}
@@ -20,13 +19,14 @@ use Rattle.jt_rules.specs.Known.{StmtKnown, BodyKnown, BranchesKnown, TemplatesK
 use Rattle.jt_meaning.specs.Layout.{counted_from, numbered_bodies, numbered_of, block_parameters}
 use Rattle.jt_slots.specs.Pool.{Constant}
 use Rattle.jt_meaning.specs.Resolve.{Spot, top_spot, place, bound_all, next_given, followed, resolved_stmt, resolved_body, resolved_sets, resolved_chain, macro_routine, body_routine}
-use Rattle.jt_meaning.specs.Programs.{body_routines, chain_routines}
+use Rattle.jt_meaning.specs.Programs.{body_routines, entry_routines, chain_routines}
 use Rattle.jt_rules.specs.Walk.{Within, used, all_used, broken, pairs_broken, condition_broken, filtering_broken, macro_broken, stmt_broken, body_broken, branches_broken, templates_broken, chains_broken}
 use Rattle.jt_meaning.proofs.Calling.{Included, Tail}
-use Rattle.jt_meaning.proofs.Reading.{same_is, no_both}
+use Rattle.jt_meaning.proofs.Reading.{same_is, home_is, no_both}
 use Rattle.jt_meaning.proofs.Stating.{Each, each_front, each_back}
-use Rattle.jt_meaning.proofs.Ordering.{Every, every_append, Belongs, Owned, OwnedMacro, templates_belong, all_macro_bodies, all_block_bodies}
-use Rattle.jt_meaning.proofs.Taking.{none_first, none_second, rs, HasBody}
+use Rattle.jt_meaning.proofs.Ordering.{Every, every_append, Belongs, Owned, OwnedMacro, libraries_stand, templates_belong, all_macro_bodies, all_block_bodies}
+use Rattle.jt_meaning.proofs.Taking.{none_first, none_second, rs, HasBody, Stands}
+use Rattle.jt_meaning.proofs.Givens.{LeadsTo}
 use Rattle.jt_meaning.proofs.Valuing.{numbered_are}
 use Rattle.jt_meaning.proofs.WithoutSuper.{body_without}
 use Rattle.jt_meaning.proofs.ChainRules.{lacks_at, not_called, needed_there, bodies_behind}
@@ -141,6 +141,8 @@ module _ (world : World) (order : List Home) (h : Home) where
       stmt_fine (print line a) on w e k d m = tt
       stmt_fine (set line xs a) on w e k d m = tt
       stmt_fine (include line n i c) on w e k d m = tt
+      stmt_fine (import_as line n new) on w e k d m = tt
+      stmt_fine (import_from line n news) on w e k d m = tt
       stmt_fine (extends line n) on w e k d m = tt
 
       body_fine : (c : Body) (on : Bool) (w : Within) → body_broken world h c w ≡ None → BodyKnown world.filters c → Bodied (blocks_in t c on) → Sourced (needs_in false c) → AllFine (blocks_in t c on)
@@ -178,7 +180,14 @@ module _ (world : World) (order : List Home) (h : Home) where
 
 -- ---- routines
 
-module _ (world : World) (order : List Home) (ordered : InOrder world.sources order) (h : Home) (known : among h order ≡ true) where
+module _ (world : World) (order : List Home) (ordered : InOrder world.sources order) (h : Home) (known : listed h order ≡ true) where
+  stands : Stands world order h
+  stands = (known, λ k l. led k l)
+    where
+      led : (k : Home) → LeadsTo world.sources h k → listed k order ≡ true
+      led k (inl e) = ap (λ z. listed z order) e ∙ known
+      led k (inr r) = ap (λ z. listed z order) r.1 ∙ (libraries_stand world order ordered h known r.0 r.2).known
+
   abbrev Serves : Routine Constant → Type 0
   Serves r = BodyTakes world.filters (rs world order) false r.body
 
@@ -200,12 +209,12 @@ module _ (world : World) (order : List Home) (ordered : InOrder world.sources or
       which false r = r
       which true r =
           followed_takes world order false (resolved_stmt world order s (top_spot world order h t)) (resolved_sets world order rest (top_spot world order h t))
-          (stmt_takes world order s (top_spot world order h t) at_top known refl (none_first (stmt_broken world h s at_top) (body_broken world h rest at_top) f.0) f.1.0 (each_front (Included world order h) (needs_by true s) (needs_in true rest) n, each_front (HasSource world order) (needs_by false s) (needs_in false rest) f.3)
+          (stmt_takes world order s (top_spot world order h t) at_top stands refl (none_first (stmt_broken world h s at_top) (body_broken world h rest at_top) f.0) f.1.0 (each_front (Included world order h) (needs_by true s) (needs_in true rest) n, each_front (HasSource world order) (needs_by false s) (needs_in false rest) f.3)
           (each_front (IsBodied world order h) (blocks_of t s world.escaping) (blocks_in t rest world.escaping) f.2)) r
 
   chain_takes : (ts : List Template) → Every (FineTemplate world order h) ts → Every (λ t. InChain t.body) ts → BTakes world order false (resolved_chain world order h ts)
   chain_takes [] f b = tt
-  chain_takes (t ∷ []) f b = body_serves world order t.body (top_spot world order h t.name) at_top known refl f.0.0 f.0.1 (b.0.included, f.0.3) f.0.2
+  chain_takes (t ∷ []) f b = body_serves world order t.body (top_spot world order h t.name) at_top stands refl f.0.0 f.0.1 (b.0.included, f.0.3) f.0.2
   chain_takes (t ∷ u ∷ us) f b =
       followed_takes world order false (resolved_sets world order t.body (top_spot world order h t.name)) (resolved_chain world order h (u ∷ us)) (chain_sets t.body t.name f.0 b.0.included) (chain_takes (u ∷ us) f.1 b.1)
 
@@ -213,7 +222,7 @@ module _ (world : World) (order : List Home) (ordered : InOrder world.sources or
   macros_take [] f b = tt
   macros_take (m ∷ ms) f b =
       let sp = bound_all (map (λ p. p.name) m.parameters) (top_spot world order h m.template) in
-      (copied_takes world order false (place sp 1) sp.table sp.free (set_in m.body) (resolved_body world order m.body (bound_all (set_in m.body) sp)) (body_serves world order m.body (bound_all (set_in m.body) sp) at_top known refl f.0.0 f.0.1 (b.0.body.belongs.included, f.0.3) f.0.2), macros_take ms f.1 b.1)
+      (copied_takes world order false (place sp 1) sp.table sp.free (set_in m.body) (resolved_body world order m.body (bound_all (set_in m.body) sp)) (body_serves world order m.body (bound_all (set_in m.body) sp) at_top stands refl f.0.0 f.0.1 (b.0.body.belongs.included, f.0.3) f.0.2), macros_take ms f.1 b.1)
 
   filter_behind : (p : (ℕ × BlockBody) → Bool) (pre : List (ℕ × BlockBody)) (b : ℕ × BlockBody) (bs : List (ℕ × BlockBody)) → p b ≡ true → filter p (pre ++ (b ∷ bs)) ≡ filter p pre ++ (b ∷ filter p bs)
   filter_behind p [] b bs e = ap (λ c. if c then b ∷ filter p bs else filter p bs) e
@@ -232,9 +241,9 @@ module _ (world : World) (order : List Home) (ordered : InOrder world.sources or
       sp = bound_all (block_parameters world order h c.name) (record (top_spot world order h c.template) { escaping = c.escaping; part = Some (record { name = c.name; behind = behind }) })
 
       goes_on : (o : Option ℕ) → next_given behind ≡ o → BTakes world order false (resolved_body world order c.body (bound_all (set_in c.body) sp))
-      goes_on (Some i) g = body_serves world order c.body (bound_all (set_in c.body) sp) in_block known (record { tail = tail; next = λ e none. let never : Some i ≡ None = sym g ∙ none in cc }) f.0 f.1 (b.belongs.included, f.3) f.2
+      goes_on (Some i) g = body_serves world order c.body (bound_all (set_in c.body) sp) in_block stands (record { tail = tail; next = λ e none. let never : Some i ≡ None = sym g ∙ none in cc }) f.0 f.1 (b.belongs.included, f.3) f.2
       goes_on None g =
-          body_serves world order c.body (bound_all (set_in c.body) sp) at_top known (record { tail = tail; next = λ e none. no_both e refl }) (sym (body_without world h c.body in_block (not_called behind (calls_super c.body) lacks g)) ∙ f.0) f.1
+          body_serves world order c.body (bound_all (set_in c.body) sp) at_top stands (record { tail = tail; next = λ e none. no_both e refl }) (sym (body_without world h c.body in_block (not_called behind (calls_super c.body) lacks g)) ∙ f.0) f.1
           (b.belongs.included, f.3) f.2
 
   blocks_take : (pre bs : List (ℕ × BlockBody)) → numbered_bodies world h ≡ pre ++ bs → Every (λ b. FineBlock world order h b.1) bs → Every (λ b. Owned world order ordered h known b.1.body) bs
@@ -252,29 +261,32 @@ module _ (world : World) (order : List Home) (ordered : InOrder world.sources or
   counted_every P n [] a = tt
   counted_every P n (b ∷ bs) a = (a.0, counted_every P (suc n) bs a.1)
 
+  entry_serves : (k : Home) → BTakes world order false (resolved_chain world order k (templates world.sources k)) → Every Serves (entry_routines world order k)
+  entry_serves (a_chain n) r = (r, tt)
+  entry_serves (a_library n) r = tt
+
   chain_serves : (entry : Home) → Reaches world.sources world.escaping entry h → KeepsRules world.sources world.escaping entry → templates_broken world h (templates world.sources h) ≡ None → TemplatesKnown world.filters (templates world.sources h)
       → Every Serves (chain_routines world order h)
   chain_serves entry reached unbroken e k =
       let ts = templates world.sources h in
       let f = templates_fine world order h ts e k (templates_bodied world order h ts (bodied_behind world order h [] (all_bodies world.sources world.escaping h) refl)) (needed_there world.sources world.escaping entry h reached unbroken) in
-      let b = templates_belong world order ordered h known in (
-        chain_takes ts f b,
-        every_append Serves (map (macro_routine world order h) (macros world.sources h)) (body_routines world order h (numbered_bodies world h))
-            (macros_take (macros world.sources h) (all_macros_fine world order h ts f) (all_macro_bodies world order ordered h known ts b))
-            (blocks_take [] (numbered_bodies world h) refl (counted_every (FineBlock world order h) 0 (all_bodies world.sources world.escaping h) (all_blocks_fine world order h ts f))
-            (counted_every (λ b. Owned world order ordered h known b.body) 0 (all_bodies world.sources world.escaping h) (all_block_bodies world order ordered h known world.escaping ts b))
-            (counted_every (λ b. lacks_super (bodies world.sources world.escaping h b.name) ≡ false) 0 (all_bodies world.sources world.escaping h) (bodies_behind world.sources world.escaping entry h reached unbroken))),
-      )
+      let b = templates_belong world order ordered h known in
+      every_append Serves (entry_routines world order h) (map (macro_routine world order h) (macros world.sources h) ++ body_routines world order h (numbered_bodies world h)) (entry_serves h (chain_takes ts f b))
+      (every_append Serves (map (macro_routine world order h) (macros world.sources h)) (body_routines world order h (numbered_bodies world h))
+      (macros_take (macros world.sources h) (all_macros_fine world order h ts f) (all_macro_bodies world order ordered h known ts b))
+      (blocks_take [] (numbered_bodies world h) refl (counted_every (FineBlock world order h) 0 (all_bodies world.sources world.escaping h) (all_blocks_fine world order h ts f))
+      (counted_every (λ b. Owned world order ordered h known b.body) 0 (all_bodies world.sources world.escaping h) (all_block_bodies world order ordered h known world.escaping ts b))
+      (counted_every (λ b. lacks_super (bodies world.sources world.escaping h b.name) ≡ false) 0 (all_bodies world.sources world.escaping h) (bodies_behind world.sources world.escaping entry h reached unbroken))))
 
 -- every routine of the chains
-pub routines_serve : (world : World) (order hs : List Home) (entry : Home) (ordered : InOrder world.sources order) → ((h : Home) → among h hs ≡ true → among h order ≡ true) → AllByRecursion (Reaches world.sources world.escaping entry) hs
+pub routines_serve : (world : World) (order hs : List Home) (entry : Home) (ordered : InOrder world.sources order) → ((h : Home) → listed h hs ≡ true → listed h order ≡ true) → AllByRecursion (Reaches world.sources world.escaping entry) hs
     → KeepsRules world.sources world.escaping entry → chains_broken world hs ≡ None → ChainsKnown world hs → Every (λ r. BodyTakes world.filters (rs world order) false r.body) (flat_map (chain_routines world order) hs)
 routines_serve world order [] entry ordered i reached unbroken e k = tt
 routines_serve world order (h ∷ hs) entry ordered i reached unbroken e k =
     every_append (λ r. BodyTakes world.filters (rs world order) false r.body) (chain_routines world order h) (flat_map (chain_routines world order) hs)
-    (chain_serves world order ordered h (i h (ap (λ b. b || among h hs) (same_is h))) entry reached.0 unbroken (none_first (templates_broken world h (templates world.sources h)) (chains_broken world hs) e) k.0)
-    (routines_serve world order hs entry ordered (λ g j. i g (later g (bytes_eq h g) j)) reached.1 unbroken (none_second (templates_broken world h (templates world.sources h)) (chains_broken world hs) e) k.1)
+    (chain_serves world order ordered h (i h (ap (λ b. b || listed h hs) (home_is h))) entry reached.0 unbroken (none_first (templates_broken world h (templates world.sources h)) (chains_broken world hs) e) k.0)
+    (routines_serve world order hs entry ordered (λ g j. i g (later g (same_home h g) j)) reached.1 unbroken (none_second (templates_broken world h (templates world.sources h)) (chains_broken world hs) e) k.1)
   where
-    later : (g : Home) (b : Bool) → among g hs ≡ true → (b || among g hs) ≡ true
+    later : (g : Home) (b : Bool) → listed g hs ≡ true → (b || listed g hs) ≡ true
     later g true j = refl
     later g false j = j

@@ -5,9 +5,8 @@ use Rattle.jt_trees.specs.Expressions as written
 use Rattle.jt_trees.specs.Expressions.{Expr, Text}
 use Rattle.jt_value.specs.Place.{Place}
 use Rattle.jt_chains.specs.Uses.{count, keywords, set_in}
-use Rattle.jt_trees.specs.Statements.{Filtering, Stmt, data_of, print, choose, for_each, set, set_block, with_values, filter_block, autoescape, macro, include, extends, block, Body, end, stmt, Branches, no_branches, branch}
-use Rattle.jt_chains.specs.Chain.{Home, BlockBody, blocks_of, blocks_in, blocks_under}
-use Rattle.jt_trees.specs.Texts.{among}
+use Rattle.jt_trees.specs.Statements.{Filtering, Stmt, data_of, print, choose, for_each, set, set_block, with_values, filter_block, autoescape, macro, include, import_as, import_from, extends, block, Body, end, stmt, Branches, no_branches, branch}
+use Rattle.jt_chains.specs.Chain.{Home, a_chain, BlockBody, blocks_of, blocks_in, blocks_under}
 use Rattle.jt_rules.specs.World.{World}
 use Rattle.jt_meaning.specs.Expressions.{filter_parameters}
 use Rattle.jt_chains.specs.Includes.{needs_by, needs_in, needs_under}
@@ -24,7 +23,7 @@ use Rattle.jt_meaning.proofs.Calling.{Included}
 use Rattle.jt_meaning.proofs.Stating.{Each, each_front, each_back}
 use Rattle.jt_meaning.proofs.Finding.{chain_is, body_is}
 use Rattle.jt_meaning.proofs.Reading.{no_both}
-use Rattle.jt_meaning.proofs.Taking.{none_first, none_second, rs, ETakes, HasBody, none_numbered, PartTail, slot_takes, reads_take, reads_count, filtered_takes, some_takes, row_counts, aside_counts, some_count, expr_takes, row_takes, asides_take}
+use Rattle.jt_meaning.proofs.Taking.{Stands, none_first, none_second, rs, ETakes, HasBody, none_numbered, PartTail, slot_takes, reads_take, reads_count, filtered_takes, some_takes, row_counts, aside_counts, some_count, expr_takes, row_takes, asides_take}
 
 module _ (world : World) (order : List Home) where
   abbrev pub BTakes : Bool → SBody Constant → Type 0
@@ -42,10 +41,10 @@ module _ (world : World) (order : List Home) where
   handed_takes l p table n [] = tt
   handed_takes l p table n (x ∷ xs) = (slot_takes world order l (slot_in x table) (known 0), handed_takes l p table (suc n) xs)
 
-  placed_takes : (l : Bool) (sp : Spot) (x : Text) (table : Table) (bs : List (ℕ × BlockBody)) → among sp.home order ≡ true → HasBody world order sp.home x → numbered_of world sp.home x ≡ bs → BTakes l (placed_body world order sp (first_body bs) x table)
+  placed_takes : (l : Bool) (sp : Spot) (x : Text) (table : Table) (bs : List (ℕ × BlockBody)) → Stands world order sp.home → HasBody world order sp.home x → numbered_of world sp.home x ≡ bs → BTakes l (placed_body world order sp (first_body bs) x table)
   placed_takes l sp x table [] e there t = absurd (none_numbered world order sp.home x there t)
   placed_takes l sp x table (b ∷ bs) e there t =
-      let found = body_is world order sp.home x b.0 b.1 [] bs e t in (
+      let found = body_is world order sp.home x b.0 b.1 [] bs e.0 t in (
         (
           subst (λ z. HasParameters z (row_count (reads table (block_parameters world order sp.home x)))) (sym found.0) (ap (λ z. length (block_parameters world order sp.home z)) found.1 ∙ sym (reads_count world order table (block_parameters world order sp.home x))),
           reads_take world order l table (block_parameters world order sp.home x),
@@ -53,7 +52,7 @@ module _ (world : World) (order : List Home) where
         tt,
       )
 
-  filters_take : (w : Within) (fs : List Filtering) (sp : Spot) (e : SExpr Constant) → among sp.home order ≡ true → PartTail world order w.in_block sp.home sp.part → filtering_broken world sp.home fs w ≡ None → FilteringKnown world.filters fs → ETakes world order w.in_loop e
+  filters_take : (w : Within) (fs : List Filtering) (sp : Spot) (e : SExpr Constant) → Stands world order sp.home → PartTail world order w.in_block sp.home sp.part → filtering_broken world sp.home fs w ≡ None → FilteringKnown world.filters fs → ETakes world order w.in_loop e
       → ETakes world order w.in_loop (resolved_filters world order fs sp e)
   filters_take w [] sp e k t h f r = r
   filters_take w (g ∷ fs) sp e k t h f r =
@@ -69,13 +68,13 @@ module _ (world : World) (order : List Home) where
             (asides_take world order w g.keywords sp k t (none_first (pairs_broken world sp.home g.keywords w) _ h2) f.2 rest (some_takes world order w.in_loop (filter_parameters world.filters (world.filters.named g.name g.arguments g.keywords)) (count g.arguments) (keywords g.keywords) (locals_from sp.free (keywords g.keywords)))),
       ))
 
-  values_take : (w : Within) (ps : written.Pairs) (sp : Spot) (line : ℕ) (behind : SBody Constant) → among sp.home order ≡ true → PartTail world order w.in_block sp.home sp.part → pairs_broken world sp.home ps w ≡ None → Rattle.jt_rules.specs.Known.PairsKnown world.filters ps → BTakes w.in_loop behind
+  values_take : (w : Within) (ps : written.Pairs) (sp : Spot) (line : ℕ) (behind : SBody Constant) → Stands world order sp.home → PartTail world order w.in_block sp.home sp.part → pairs_broken world sp.home ps w ≡ None → Rattle.jt_rules.specs.Known.PairsKnown world.filters ps → BTakes w.in_loop behind
       → BTakes w.in_loop (resolved_values world order ps sp line behind)
   values_take w written.no_pairs sp line behind e t h k r = r
   values_take w (written.pair x a ps) sp line behind e t h k r =
       (expr_takes world order w a sp e t (none_first (broken world sp.home a w) (pairs_broken world sp.home ps w) h) k.0, values_take w ps (grown sp) line behind e t (none_second (broken world sp.home a w) (pairs_broken world sp.home ps w) h) k.1 r)
 
-  condition_takes : (w : Within) (c : Option Expr) (sp : Spot) → among sp.home order ≡ true → PartTail world order w.in_block sp.home sp.part → condition_broken world sp.home c w ≡ None → ConditionKnown world.filters c → ConditionTakes world.filters (rs world order) (resolved_condition world order c sp)
+  condition_takes : (w : Within) (c : Option Expr) (sp : Spot) → Stands world order sp.home → PartTail world order w.in_block sp.home sp.part → condition_broken world sp.home c w ≡ None → ConditionKnown world.filters c → ConditionTakes world.filters (rs world order) (resolved_condition world order c sp)
   condition_takes w None sp e t h k = tt
   condition_takes w (Some c) sp e t h k = expr_takes world order (record w { in_loop = false }) c sp e t h k
 
@@ -98,7 +97,7 @@ module _ (world : World) (order : List Home) where
   needed_back h xs ys us vs n = (each_back (Included world order h) xs ys n.0, each_back HasSource us vs n.1)
 
   mutual
-    pub stmt_takes : (s : Stmt) (sp : Spot) (w : Within) → among sp.home order ≡ true → PartTail world order w.in_block sp.home sp.part → stmt_broken world sp.home s w ≡ None → StmtKnown world.filters s → Needed sp.home (needs_by true s) (needs_by false s) → Embodied sp.home (blocks_of sp.template s sp.escaping) → BTakes w.in_loop (resolved_stmt world order s sp)
+    pub stmt_takes : (s : Stmt) (sp : Spot) (w : Within) → Stands world order sp.home → PartTail world order w.in_block sp.home sp.part → stmt_broken world sp.home s w ≡ None → StmtKnown world.filters s → Needed sp.home (needs_by true s) (needs_by false s) → Embodied sp.home (blocks_of sp.template s sp.escaping) → BTakes w.in_loop (resolved_stmt world order s sp)
     stmt_takes (data_of s) sp w e t h k n d = (tt, tt)
     stmt_takes (print line a) sp w e t h k n d = (expr_takes world order w a sp e t h k, tt)
     stmt_takes (choose bs other) sp w e t h k n d =
@@ -141,27 +140,29 @@ module _ (world : World) (order : List Home) where
         missing false f s = absurd (no_both f s.0)
 
         including : (c : Bool) → is_none (world.sources x) ≡ c
-            → BTakes w.in_loop (if c then left_out sp line ignore_missing else followed (handed_on (place sp line) (if with_context then sp.table else []) (first_slot world order x) (names world order x)) (alone (run (unit world order (of_chain x)) none)))
+            → BTakes w.in_loop (if c then left_out sp line ignore_missing else followed (handed_on (place sp line) (if with_context then sp.table else []) (first_slot world order (a_chain x)) (names world order (a_chain x))) (alone (run (unit world order (of_chain x)) none)))
         including true f = missing ignore_missing f n.1
         including false f = by_source n.0.0
           where
-            by_source : Included world order sp.home x → BTakes w.in_loop (followed (handed_on (place sp line) (if with_context then sp.table else []) (first_slot world order x) (names world order x)) (alone (run (unit world order (of_chain x)) none)))
+            by_source : Included world order sp.home x → BTakes w.in_loop (followed (handed_on (place sp line) (if with_context then sp.table else []) (first_slot world order (a_chain x)) (names world order (a_chain x))) (alone (run (unit world order (of_chain x)) none)))
             by_source (inl g) = absurd (no_both g f)
             by_source (inr g) =
-                followed_takes w.in_loop (handed_on (place sp line) (if with_context then sp.table else []) (first_slot world order x) (names world order x)) (alone (run (unit world order (of_chain x)) none))
-                (handed_takes w.in_loop (place sp line) (if with_context then sp.table else []) (first_slot world order x) (names world order x))
+                followed_takes w.in_loop (handed_on (place sp line) (if with_context then sp.table else []) (first_slot world order (a_chain x)) (names world order (a_chain x))) (alone (run (unit world order (of_chain x)) none))
+                (handed_takes w.in_loop (place sp line) (if with_context then sp.table else []) (first_slot world order (a_chain x)) (names world order (a_chain x)))
                 ((subst (λ z. HasParameters z 0) (sym (chain_is world order x g.known)) refl, tt), tt)
+    stmt_takes (import_as line x new) sp w e t h k n d = tt
+    stmt_takes (import_from line x news) sp w e t h k n d = tt
     stmt_takes (extends line x) sp w e t h k n d = tt
     stmt_takes (block line x scoped required body) sp w e t h k n d = placed_takes w.in_loop sp x (if scoped then sp.table else globals world order sp.home) (numbered_of world sp.home x) e d.0 refl
 
-    pub body_serves : (c : Body) (sp : Spot) (w : Within) → among sp.home order ≡ true → PartTail world order w.in_block sp.home sp.part → body_broken world sp.home c w ≡ None → BodyKnown world.filters c → Needed sp.home (needs_in true c) (needs_in false c) → Embodied sp.home (blocks_in sp.template c sp.escaping) → BTakes w.in_loop (resolved_body world order c sp)
+    pub body_serves : (c : Body) (sp : Spot) (w : Within) → Stands world order sp.home → PartTail world order w.in_block sp.home sp.part → body_broken world sp.home c w ≡ None → BodyKnown world.filters c → Needed sp.home (needs_in true c) (needs_in false c) → Embodied sp.home (blocks_in sp.template c sp.escaping) → BTakes w.in_loop (resolved_body world order c sp)
     body_serves end sp w e t h k n d = tt
     body_serves (stmt s rest) sp w e t h k n d =
         followed_takes w.in_loop (resolved_stmt world order s sp) (resolved_body world order rest sp)
         (stmt_takes s sp w e t (none_first (stmt_broken world sp.home s w) (body_broken world sp.home rest w) h) k.0 (needed_front sp.home (needs_by true s) (needs_in true rest) (needs_by false s) (needs_in false rest) n) (each_front (λ b. HasBody world order sp.home b.name) (blocks_of sp.template s sp.escaping) (blocks_in sp.template rest sp.escaping) d))
         (body_serves rest sp w e t (none_second (stmt_broken world sp.home s w) (body_broken world sp.home rest w) h) k.1 (needed_back sp.home (needs_by true s) (needs_in true rest) (needs_by false s) (needs_in false rest) n) (each_back (λ b. HasBody world order sp.home b.name) (blocks_of sp.template s sp.escaping) (blocks_in sp.template rest sp.escaping) d))
 
-    pub choice_takes : (bs : Branches) (sp : Spot) (w : Within) (other : SBody Constant) → among sp.home order ≡ true → PartTail world order w.in_block sp.home sp.part → branches_broken world sp.home bs w ≡ None → BranchesKnown world.filters bs → Needed sp.home (needs_under true bs) (needs_under false bs) → Embodied sp.home (blocks_under sp.template bs sp.escaping)
+    pub choice_takes : (bs : Branches) (sp : Spot) (w : Within) (other : SBody Constant) → Stands world order sp.home → PartTail world order w.in_block sp.home sp.part → branches_broken world sp.home bs w ≡ None → BranchesKnown world.filters bs → Needed sp.home (needs_under true bs) (needs_under false bs) → Embodied sp.home (blocks_under sp.template bs sp.escaping)
         → BTakes w.in_loop other → BTakes w.in_loop (resolved_choice world order bs sp other)
     choice_takes no_branches sp w other e t h k n d r = r
     choice_takes (branch line c body rest) sp w other e t h k n d r =

@@ -7,8 +7,8 @@ use Rattle.jt_value.specs.Tree.{Tree}
 use Rattle.jt_trees.specs.Expressions as written
 use Rattle.jt_trees.specs.Expressions.{Expr, constant, name, group, list_of, map_of, attribute, item, call, test, unary, binary, when, choice, Exprs, no_exprs, expr, Pairs, no_pairs, pair, Text}
 use Rattle.jt_trees.specs.Sizes.{expr_bytes, exprs_bytes, pairs_bytes, texts_bytes, condition_bytes, filtering_bytes, default_bytes, parameters_bytes, stmt_bytes, body_bytes, branch_bytes}
-use Rattle.jt_trees.specs.Statements.{Parameter, Filtering, Stmt, data_of, print, choose, for_each, set, set_block, with_values, filter_block, autoescape, macro, include, extends, block, Body, end, stmt, Branches, no_branches, branch}
-use Rattle.jt_chains.specs.Chain.{Home, Template, templates, BlockBody, blocks_of, blocks_in, blocks_under, all_bodies, MacroBody, macros_in, macros, is_loop}
+use Rattle.jt_trees.specs.Statements.{Parameter, Filtering, Stmt, data_of, print, choose, for_each, set, set_block, with_values, filter_block, autoescape, macro, include, import_as, import_from, extends, block, Body, end, stmt, Branches, no_branches, branch}
+use Rattle.jt_chains.specs.Chain.{Home, a_chain, a_library, Template, templates, BlockBody, blocks_of, blocks_in, blocks_under, all_bodies, MacroBody, macros_in, macros, is_loop}
 use Rattle.jt_chains.specs.Uses.{keywords, set_in, expr_names, row_names, pair_names, condition_names, filtering_names, stmt_names, body_names, branch_names, own_names}
 use Rattle.jt_slots.specs.Filters.{default_value}
 use Rattle.jt_slots.specs.Slots as slots
@@ -22,7 +22,7 @@ use Rattle.jt_rules.specs.World.{World, world_of}
 use Rattle.jt_meaning.specs.Bytes.{value_bytes, IsShort}
 use Rattle.jt_meaning.specs.Layout.{names, counted_from, numbered_bodies, block_parameters, defaults_of}
 use Rattle.jt_meaning.specs.Meaning.{is_set}
-use Rattle.jt_meaning.specs.Programs.{program, routines, chain_routines, body_routines}
+use Rattle.jt_meaning.specs.Programs.{program, routines, entry_routines, chain_routines, body_routines}
 use Rattle.jt_meaning.specs.Resolve.{followed, Part, bound_all, resolved_stmt, resolved_body, resolved_sets, top_spot, resolved_chain, scoped, macro_routine}
 use Rattle.jt_meaning.proofs.Among.{Among, AllAmong}
 use Rattle.jt_meaning.proofs.Bytes.{bytes_in, literal_is, Bare, Three, stmt_counted, all_counted, scope_counted}
@@ -68,6 +68,8 @@ module _ (t : Text) (n : ℕ) where
     stmt_blocks (print line e) on h = tt
     stmt_blocks (set line xs e) on h = tt
     stmt_blocks (include line m i w) on h = tt
+    stmt_blocks (import_as line m new) on h = tt
+    stmt_blocks (import_from line m news) on h = tt
     stmt_blocks (extends line m) on h = tt
 
     body_blocks : (b : Body) (on : Bool) → body_bytes b ≤ n → BlocksShort n (blocks_in t b on)
@@ -94,6 +96,8 @@ module _ (t : Text) (n : ℕ) where
   top_macros (stmt (filter_block line fs body) rest) h = top_macros rest (omega (arith, h))
   top_macros (stmt (autoescape line on body) rest) h = top_macros rest (omega (arith, h))
   top_macros (stmt (include line m i w) rest) h = top_macros rest (omega (arith, h))
+  top_macros (stmt (import_as line m new) rest) h = top_macros rest (omega (arith, h))
+  top_macros (stmt (import_from line m news) rest) h = top_macros rest (omega (arith, h))
   top_macros (stmt (extends line m) rest) h = top_macros rest (omega (arith, h))
   top_macros (stmt (block line x scoped required body) rest) h = top_macros rest (omega (arith, h))
 
@@ -156,12 +160,16 @@ module _ (world : World) (order : List Home) (n : ℕ) (k : Three world order) (
       let f = g.0 in
       all_append (λ v. value_bytes v ≤ n) (body_values r) (routines_values (body_routines world order h (counted_from (suc i) bs))) (each_short n (body_values r) (omega (arith, c, f))) (blocks_short (suc i) bs g.1)
 
+  entry_short : (g : Home) → Shorts n (body_values (resolved_chain world order g (templates world.sources g))) → Shorts n (routines_values (entry_routines world order g))
+  entry_short (a_chain m) c = all_append (λ v. value_bytes v ≤ n) (body_values (resolved_chain world order (a_chain m) (templates world.sources (a_chain m)))) [] c tt
+  entry_short (a_library m) c = tt
+
   in_chain : TemplatesShort n (templates world.sources h) → Shorts n (routines_values (chain_routines world order h))
   in_chain g =
       let ts = templates world.sources h in
       let ms = map (macro_routine world order h) (macros world.sources h) in
       let bs = body_routines world order h (numbered_bodies world h) in
-      all_append (λ v. value_bytes v ≤ n) (body_values (resolved_chain world order h ts)) (routines_values (ms ++ bs)) (chain_short ts g)
+      values_append n (entry_routines world order h) (ms ++ bs) (entry_short h (chain_short ts g))
       (values_append n ms bs (macros_short (macros world.sources h) (chain_macros n ts g)) (blocks_short 0 (all_bodies world.sources world.escaping h) (chain_blocks n world.escaping ts g)))
 
 -- ---- the defaults of macros
@@ -252,6 +260,8 @@ module _ (n : ℕ) where
     stmt_short (autoescape line on body) h = body_short body h
     stmt_short (macro line x ps body) h = names_append n (map (λ p. p.name) ps) (body_names body) (given_short ps (omega (arith, h))) (body_short body (omega (arith, h)))
     stmt_short (include line m i w) h = tt
+    stmt_short (import_as line m new) h = tt
+    stmt_short (import_from line m news) h = tt
     stmt_short (extends line m) h = tt
     stmt_short (block line x scoped required body) h = body_short body (omega (arith, h))
 

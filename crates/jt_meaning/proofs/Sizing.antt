@@ -15,8 +15,8 @@ use Rattle.jt_meaning.specs.Operators.{Form, operation, negation, conjunction, d
 use Rattle.jt_value.specs.Place.{Place}
 use Rattle.jt_slots.specs.Tests.{test_named}
 use Rattle.jt_chains.specs.Uses.{count, keywords, set_by, set_in, set_under}
-use Rattle.jt_trees.specs.Statements.{Parameter, Filtering, Stmt, data_of, print, choose, for_each, set, set_block, with_values, filter_block, autoescape, macro, include, extends, block, Body, end, stmt, Branches, no_branches, branch, condition_weight, filtering_weight}
-use Rattle.jt_chains.specs.Chain.{Home, MacroBody, macros, macro_of, Callee, a_macro, a_range, a_super, a_block, a_cycle, no_callee, named_alone, named_in, callee, is_loop}
+use Rattle.jt_trees.specs.Statements.{Parameter, Filtering, Stmt, data_of, print, choose, for_each, set, set_block, with_values, filter_block, autoescape, macro, include, import_as, import_from, extends, block, Body, end, stmt, Branches, no_branches, branch, condition_weight, filtering_weight}
+use Rattle.jt_chains.specs.Chain.{Sources, Home, a_chain, a_library, MacroBody, macros, macro_of, is_private, public_macro, Given, one_macro, library, given, given_to, Callee, a_macro, a_range, a_super, a_block, a_cycle, no_callee, named_alone, of_library, in_library, named_in, callee, is_loop}
 use Rattle.jt_slots.specs.Loops.{Field, field_named}
 use Rattle.jt_slots.specs.Filters.{default_value, some_given}
 use Rattle.jt_rules.specs.World.{World}
@@ -27,7 +27,7 @@ use Rattle.jt_slots.specs.Slots.{Slot, local, SExpr, SRow, Targets, one, several
 use Rattle.jt_slots.specs.Pool.{Constant, own, known}
 use Rattle.jt_meaning.specs.Resolve.{value_or, turned_round, tested_by, filtered_by, in_form, field_from, followed, locals_from, fresh, fresh_targets, kept_slots, set_targets, filled, filled_some, first_locals, reads, handed_on, Part, Spot, place, grown, bound_all, copied, scoped, next_given, first_body, invoked_body, invoked_super, invoked, resolved, resolved_row, resolved_asides, resolved_entries, resolved_condition, resolved_filters, resolved_values, placed_body, resolved_stmt, resolved_body, resolved_choice, left_out}
 use Rattle.jt_slots.specs.Size.{targets_size, expr_size, row_size, condition_size, body_size}
-use Rattle.jt_meaning.specs.Measure.{stmt_own, body_own, branch_own, IsFew}
+use Rattle.jt_meaning.specs.Measure.{stmt_own, body_own, branch_own, GivenFew, IsFew}
 use Rattle.jt_meaning.specs.Layout.{scopes}
 use Rattle.jt_meaning.specs.Measure.{HasFewNames}
 
@@ -165,59 +165,93 @@ handed_size p t n (x ∷ xs) = omega (arith, value_size (slot_in x t) (known 0),
 -- ---- what is called
 
 abbrev CalleeFew : Callee → Type 0
-CalleeFew (a_macro m) = length m.parameters ≤ 200
+CalleeFew (a_macro k m) = length m.parameters ≤ 200
 CalleeFew _ = Unit {0}
 
-macro_few : (ms : List MacroBody) (x : Text) → AllByRecursion (λ m. length m.parameters ≤ 200) ms → CalleeFew (named_alone (macro_of x ms) x)
-macro_few [] x h = by_range (bytes_eq x (codes "range")) (bytes_eq x (codes "super"))
+abbrev AllGivenFew : Sources → List (Text × Given) → Type 0
+AllGivenFew sources gs = AllByRecursion (λ g. GivenFew sources 200 g.1) gs
+
+given_few : (sources : Sources) (gs : List (Text × Given)) (x : Text) → AllGivenFew sources gs → CalleeFew (named_alone sources (given_to x gs) x)
+given_few sources [] x h = by_range (bytes_eq x (codes "range")) (bytes_eq x (codes "super"))
   where
     by_range : (a b : Bool) → CalleeFew (if a then a_range else if b then a_super else no_callee)
     by_range true b = tt
     by_range false true = tt
     by_range false false = tt
-macro_few (m ∷ ms) x h = through (bytes_eq m.name x) (macro_few ms x h.1)
+given_few sources (g ∷ gs) x h = through (bytes_eq g.0 x) (given_few sources gs x h.1)
   where
-    through : (b : Bool) → CalleeFew (named_alone (macro_of x ms) x) → CalleeFew (named_alone (if b then Some m else macro_of x ms) x)
-    through true g = h.0
-    through false g = g
+    one : (o : Given) → GivenFew sources 200 o → CalleeFew (named_alone sources (Some o) x)
+    one (one_macro k m) f = f
+    one (library n) f = tt
 
-in_few : (of x : Text) → CalleeFew (named_in of x)
-in_few of x = through (bytes_eq of (codes "self")) (bytes_eq of (codes "loop")) (bytes_eq x (codes "cycle"))
+    through : (b : Bool) → CalleeFew (named_alone sources (given_to x gs) x) → CalleeFew (named_alone sources (if b then Some g.1 else given_to x gs) x)
+    through true r = one g.1 h.0
+    through false r = r
+
+of_few : (sources : Sources) (n x : Text) (ms : List MacroBody) → AllByRecursion (λ m. length m.parameters ≤ 200) ms → CalleeFew (of_library sources n (public_macro x ms))
+of_few sources n x ms h = by (is_private x) (looked ms h)
   where
-    through : (a b c : Bool) → CalleeFew (if a then a_block x else if b then (if c then a_cycle else no_callee) else no_callee)
+    looked : (ns : List MacroBody) → AllByRecursion (λ m. length m.parameters ≤ 200) ns → CalleeFew (of_library sources n (macro_of x ns))
+    looked [] f = tt
+    looked (m ∷ ns) f = through (bytes_eq m.name x) (looked ns f.1)
+      where
+        through : (b : Bool) → CalleeFew (of_library sources n (macro_of x ns)) → CalleeFew (of_library sources n (if b then Some m else macro_of x ns))
+        through true r = f.0
+        through false r = r
+
+    by : (b : Bool) → CalleeFew (of_library sources n (macro_of x ms)) → CalleeFew (of_library sources n (if b then None else macro_of x ms))
+    by true r = tt
+    by false r = r
+
+library_few : (sources : Sources) (gs : List (Text × Given)) (of x : Text) → AllGivenFew sources gs → CalleeFew (in_library sources (given_to of gs) x)
+library_few sources [] of x h = tt
+library_few sources (g ∷ gs) of x h = through (bytes_eq g.0 of) (library_few sources gs of x h.1)
+  where
+    one : (o : Given) → GivenFew sources 200 o → CalleeFew (in_library sources (Some o) x)
+    one (one_macro k m) f = tt
+    one (library n) f = of_few sources n x (macros sources (a_library n)) f
+
+    through : (b : Bool) → CalleeFew (in_library sources (given_to of gs) x) → CalleeFew (in_library sources (if b then Some g.1 else given_to of gs) x)
+    through true r = one g.1 h.0
+    through false r = r
+
+in_few : (sources : Sources) (gs : List (Text × Given)) (of x : Text) → AllGivenFew sources gs → CalleeFew (named_in sources (given_to of gs) of x)
+in_few sources gs of x h = through (bytes_eq of (codes "self")) (bytes_eq of (codes "loop")) (bytes_eq x (codes "cycle"))
+  where
+    through : (a b c : Bool) → CalleeFew (if a then a_block x else if b then (if c then a_cycle else no_callee) else in_library sources (given_to of gs) x)
     through true b c = tt
     through false true true = tt
     through false true false = tt
-    through false false c = tt
+    through false false c = library_few sources gs of x h
 
-pub callee_few : (ms : List MacroBody) (e : Expr) → AllByRecursion (λ m. length m.parameters ≤ 200) ms → CalleeFew (callee ms e)
-callee_few ms (name x) h = macro_few ms x h
-callee_few ms (attribute (name of) x) h = in_few of x
-callee_few ms (attribute (constant l) x) h = tt
-callee_few ms (attribute (group a) x) h = tt
-callee_few ms (attribute (list_of ts) x) h = tt
-callee_few ms (attribute (map_of ps) x) h = tt
-callee_few ms (attribute (attribute a k) x) h = tt
-callee_few ms (attribute (item a b) x) h = tt
-callee_few ms (attribute (call a ts ps) x) h = tt
-callee_few ms (attribute (filter a y ts ps) x) h = tt
-callee_few ms (attribute (test a n y ts ps) x) h = tt
-callee_few ms (attribute (unary o a) x) h = tt
-callee_few ms (attribute (binary o a b) x) h = tt
-callee_few ms (attribute (when c a) x) h = tt
-callee_few ms (attribute (choice c a b) x) h = tt
-callee_few ms (constant l) h = tt
-callee_few ms (group a) h = tt
-callee_few ms (list_of ts) h = tt
-callee_few ms (map_of ps) h = tt
-callee_few ms (item a b) h = tt
-callee_few ms (call a ts ps) h = tt
-callee_few ms (filter a y ts ps) h = tt
-callee_few ms (test a n y ts ps) h = tt
-callee_few ms (unary o a) h = tt
-callee_few ms (binary o a b) h = tt
-callee_few ms (when c a) h = tt
-callee_few ms (choice c a b) h = tt
+pub callee_few : (sources : Sources) (ms : List (Text × Given)) (e : Expr) → AllGivenFew sources ms → CalleeFew (callee sources ms e)
+callee_few sources ms (name x) h = given_few sources ms x h
+callee_few sources ms (attribute (name of) x) h = in_few sources ms of x h
+callee_few sources ms (attribute (constant l) x) h = tt
+callee_few sources ms (attribute (group a) x) h = tt
+callee_few sources ms (attribute (list_of ts) x) h = tt
+callee_few sources ms (attribute (map_of ps) x) h = tt
+callee_few sources ms (attribute (attribute a k) x) h = tt
+callee_few sources ms (attribute (item a b) x) h = tt
+callee_few sources ms (attribute (call a ts ps) x) h = tt
+callee_few sources ms (attribute (filter a y ts ps) x) h = tt
+callee_few sources ms (attribute (test a n y ts ps) x) h = tt
+callee_few sources ms (attribute (unary o a) x) h = tt
+callee_few sources ms (attribute (binary o a b) x) h = tt
+callee_few sources ms (attribute (when c a) x) h = tt
+callee_few sources ms (attribute (choice c a b) x) h = tt
+callee_few sources ms (constant l) h = tt
+callee_few sources ms (group a) h = tt
+callee_few sources ms (list_of ts) h = tt
+callee_few sources ms (map_of ps) h = tt
+callee_few sources ms (item a b) h = tt
+callee_few sources ms (call a ts ps) h = tt
+callee_few sources ms (filter a y ts ps) h = tt
+callee_few sources ms (test a n y ts ps) h = tt
+callee_few sources ms (unary o a) h = tt
+callee_few sources ms (binary o a b) h = tt
+callee_few sources ms (when c a) h = tt
+callee_few sources ms (choice c a b) h = tt
 
 -- what stands in front of a row takes at most this many instructions, and 100 less where there is something
 abbrev Front : ℕ → (SRow Constant → SRow Constant) → Type 0
@@ -243,9 +277,9 @@ module _ (world : World) (order : List Home) where
 
   invoked_sized : (c : Callee) (sp : Spot) (row asides : SRow Constant → SRow Constant) (n : ℕ) (ks : Table) (w v : ℕ) → CalleeFew c → HasFewNames world order sp.home → Front w row → Front v asides
       → expr_size (invoked world order c sp row asides n ks) ≤ 100 * (1 + enclosed (w + v))
-  invoked_sized (a_macro m) sp row asides n ks w v f k r a =
-      let rest = filled m.parameters n (default_place world order sp.home m.name) ks in
-      omega (arith, f, r (asides rest), a rest, filled_size m.parameters n (default_place world order sp.home m.name) ks)
+  invoked_sized (a_macro z m) sp row asides n ks w v f k r a =
+      let rest = filled m.parameters n (default_place world order z m.name) ks in
+      omega (arith, f, r (asides rest), a rest, filled_size m.parameters n (default_place world order z m.name) ks)
   invoked_sized a_range sp row asides n ks w v f k r a = omega (arith, r slots.none)
   invoked_sized a_super sp row asides n ks w v f k r a = omega (arith, super_sized sp sp.part k)
   invoked_sized (a_block x) sp row asides n ks w v f k r a =
@@ -274,8 +308,8 @@ module _ (world : World) (order : List Home) where
         omega (
           arith,
           expr_some f,
-          invoked_sized (callee (macros world.sources sp.home) f) sp (resolved_row world order ts sp) (resolved_asides world order ps sp) (count ts) (locals_from sp.free (keywords ps))
-              (exprs_weight ts) (pairs_weight 2 ps) (callee_few (macros world.sources sp.home) f k.macros) (k.names sp.home) (λ b. row_sized ts sp k b) (λ b. asides_sized ps sp k b),
+          invoked_sized (callee world.sources (given world.sources sp.home) f) sp (resolved_row world order ts sp) (resolved_asides world order ps sp) (count ts) (locals_from sp.free (keywords ps))
+              (exprs_weight ts) (pairs_weight 2 ps) (callee_few world.sources (given world.sources sp.home) f k.macros) (k.names sp.home) (λ b. row_sized ts sp k b) (λ b. asides_sized ps sp k b),
         )
     resolved_sized (filter a x ts ps) sp k =
         let f = world.filters.named x ts ps in
@@ -341,14 +375,14 @@ module _ (world : World) (order : List Home) where
   placed_sized sp None x t k = omega arith
   placed_sized sp (Some i) x t k = omega (arith, reads_size t (block_parameters world order sp.home x), parameters_few sp.home x k)
 
-  include_sized : (sp : Spot) (line : ℕ) (n : Text) (missing c : Bool) (b : Bool) → length (names world order n) ≤ 200
-      → body_size (if b then left_out sp line missing else followed (handed_on (place sp line) (if c then sp.table else []) (first_slot world order n) (names world order n)) (slots.stmt (run (unit world order (of_chain n)) slots.none) slots.end)) ≤ 401
+  include_sized : (sp : Spot) (line : ℕ) (n : Text) (missing c : Bool) (b : Bool) → length (names world order (a_chain n)) ≤ 200
+      → body_size (if b then left_out sp line missing else followed (handed_on (place sp line) (if c then sp.table else []) (first_slot world order (a_chain n)) (names world order (a_chain n))) (slots.stmt (run (unit world order (of_chain n)) slots.none) slots.end)) ≤ 401
   include_sized sp line n true c true k = omega arith
   include_sized sp line n false c true k = omega arith
   include_sized sp line n missing c false k =
-      let xs = names world order n in
-      let hs = handed_on (place sp line) (if c then sp.table else []) (first_slot world order n) xs in
-      omega (arith, k, followed_size hs (slots.stmt (run (unit world order (of_chain n)) slots.none) slots.end), handed_size (place sp line) (if c then sp.table else []) (first_slot world order n) xs)
+      let xs = names world order (a_chain n) in
+      let hs = handed_on (place sp line) (if c then sp.table else []) (first_slot world order (a_chain n)) xs in
+      omega (arith, k, followed_size hs (slots.stmt (run (unit world order (of_chain n)) slots.none) slots.end), handed_size (place sp line) (if c then sp.table else []) (first_slot world order (a_chain n)) xs)
 
   -- a scope of its own, its copies in front
   pub scope_sized : (b : Body) (sp : Spot) → body_size (resolved_body world order b (bound_all (set_in b) sp)) + 2 * length (set_in b) ≤ 100 * body_own b
@@ -373,7 +407,9 @@ module _ (world : World) (order : List Home) where
     stmt_sized (filter_block line fs body) sp k = omega (arith, scope_sized body (grown sp) (all_sized body (bound_all (set_in body) (grown sp)) k), filters_sized fs (grown sp) (variable (local sp.free)) k)
     stmt_sized (autoescape line on body) sp k = omega (arith, scope_sized body (record sp { escaping = on }) (all_sized body (bound_all (set_in body) (record sp { escaping = on })) k))
     stmt_sized (macro line x ps body) sp k = omega arith
-    stmt_sized (include line n missing with_context) sp k = omega (arith, include_sized sp line n missing with_context (is_none (world.sources n)) ((k.names n).0))
+    stmt_sized (include line n missing with_context) sp k = omega (arith, include_sized sp line n missing with_context (is_none (world.sources n)) ((k.names (a_chain n)).0))
+    stmt_sized (import_as line n new) sp k = omega arith
+    stmt_sized (import_from line n news) sp k = omega arith
     stmt_sized (extends line n) sp k = omega arith
     stmt_sized (block line x is required body) sp k =
         omega (arith, placed_sized sp (first_body (numbered_of world sp.home x)) x (if is then sp.table else globals world order sp.home) (k.names sp.home))

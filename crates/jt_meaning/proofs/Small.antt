@@ -1,5 +1,5 @@
 -- A few filters, and words to write small templates with.
-use Rattle.std.specs.Prelude.{ℕ, ◌-◌, pos, Bool, true, false, ◌&&◌, List, [], ◌∷◌, length, map, codes, Option, Some, None, Result, Ok, Err, ◌==◌, nat_lt, if◌then◌else◌, ◌≡◌}
+use Rattle.std.specs.Prelude.{ℕ, ◌-◌, pos, Bool, true, false, ◌&&◌, List, [], ◌∷◌, length, map, codes, Option, Some, None, Result, Ok, Err, ◌==◌, nat_lt, if◌then◌else◌, ◌≡◌, flat_map}
 use Rattle.std.specs.Str.{bytes_eq}
 use Prim.Native.String.{String}
 use Rattle.jt_value.specs.Tree as v
@@ -11,6 +11,7 @@ use Rattle.jt_trees.specs.declared.expression.BinaryOperator.TheVariants as o
 use Rattle.jt_trees.specs.Expressions as e
 use Rattle.jt_trees.specs.Expressions.{Expr, Exprs, no_exprs, expr, no_pairs, Text}
 use Rattle.jt_slots.specs.Got.{Got, gives, fails, deeper}
+use Rattle.jt_chains.specs.Chain.{Home, a_chain, a_library}
 use Rattle.jt_trees.specs.Statements as s
 use Rattle.jt_trees.specs.Statements.{Parameter, Filtering, Stmt, Body, end, stmt, no_branches, branch}
 use Rattle.jt_slots.specs.Loops.{items_of_value}
@@ -142,6 +143,12 @@ parameter x = record { name = codes x; default = None }
 abbrev pub Include : ℕ → Text → Bool → Bool → Stmt
 Include line n missing context = s.include line n missing context
 
+abbrev pub Import : String → String → Stmt
+Import n x = s.import_as 1 (codes n) (codes x)
+
+abbrev pub From : String → List (Text × Text) → Stmt
+From n xs = s.import_from 1 (codes n) xs
+
 abbrev pub extends : String → Stmt
 extends n = s.extends 1 (codes n)
 
@@ -157,15 +164,16 @@ found n (b ∷ bs) = if bytes_eq b.0 n then Some b.1 else found n bs
 abbrev pub world : List (Text × Body) → World
 world ss = record { filters = small; sources = λ n. found n ss; escaping = true }
 
--- the templates stand in an order in which none includes an earlier one; parents that are no chains of their own do no harm
-abbrev pub order_of : List (Text × Body) → List Text
-order_of ss = map (λ b. b.0) ss
+-- the templates stand in an order in which none includes or imports an earlier one, each as a chain and as a library; those that are none do
+-- no harm
+abbrev pub order_of : List (Text × Body) → List Home
+order_of ss = flat_map (λ b. a_chain b.0 ∷ a_library b.0 ∷ []) ss
 
 abbrev pub meaning_of : List (Text × Body) → Pairs → Got Text
 meaning_of ss context = mean (world ss) (codes "t") context 9
 
 abbrev pub resolved_meaning : List (Text × Body) → Pairs → Got Text
-resolved_meaning ss context = smean small (program (world ss) (order_of ss) (codes "t")) context 9
+resolved_meaning ss context = smean small (program (world ss) (order_of ss) (a_chain (codes "t"))) context 9
 
 -- the text of the entry for a context, by names and by slots
 abbrev pub Shows : List (Text × Body) → Pairs → String → Type 0

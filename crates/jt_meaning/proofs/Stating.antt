@@ -11,9 +11,9 @@ use Rattle.jt_trees.specs.Expressions.{Expr, Text}
 use Rattle.jt_value.specs.Place.{Place}
 use Rattle.jt_slots.specs.Got.{Got, gives, bind, checked, at}
 use Rattle.jt_slots.specs.Values.{shown, value_in, as_value}
-use Rattle.jt_trees.specs.Statements.{Filtering, Stmt, data_of, print, choose, for_each, set, set_block, with_values, filter_block, autoescape, macro, include, extends, block, Body, end, stmt, Branches, no_branches, branch}
+use Rattle.jt_trees.specs.Statements.{Filtering, Stmt, data_of, print, choose, for_each, set, set_block, with_values, filter_block, autoescape, macro, include, import_as, import_from, extends, block, Body, end, stmt, Branches, no_branches, branch}
 use Rattle.jt_meaning.specs.Env.{Env, read, all_bound, inside, top, seen_in, seen, first_of}
-use Rattle.jt_chains.specs.Chain.{Home, BlockBody}
+use Rattle.jt_chains.specs.Chain.{Home, a_chain, BlockBody}
 use Rattle.jt_slots.specs.Loops.{Loop, items_of_value, tree_at}
 use Rattle.jt_rules.specs.World.{World}
 use Rattle.jt_meaning.specs.Around.{Placement, State, the_chain, Calls}
@@ -29,8 +29,8 @@ use Rattle.jt_slots.specs.Pool.{Constant, constant_in}
 use Rattle.jt_meaning.specs.Resolve.{followed, alone, fresh_targets, slot_of, set_targets, reads, handed_on, Spot, Part, place, left_out, grown, bound_table, bound_all, copied, scoped, first_body, resolved, resolved_condition, resolved_filters, resolved_values, placed_body, resolved_stmt, resolved_body, resolved_choice}
 use Rattle.jt_meaning.proofs.Both.{Both, both, bind_both, at_both, if_both, weaken, left_both, right_both, at_bind, bind_gives, bind_assoc, bind_ext, by_left, by_right, checked_both, same_both, deep}
 use Rattle.jt_meaning.proofs.Reading.{among_front, among_back, same_text, is_same, no_both, IsInner, all_inner, all_globals, all_top, read_top, held, put_here}
-use Rattle.jt_meaning.proofs.Agreeing.{Kept, kept_same, kept_then, kept_less, kept_out, kept_store, kept_global, Held, global_slot, global_given, limit, Fits, Agrees, agrees_kept, pairs_held, copies_held, fits_all, InLocals, in_locals}
-use Rattle.jt_meaning.proofs.Calling.{Evaluated, Rowed, Sees, PartHolds, part_kept, part_more, Good, good_kept, good_grown, around_of, Wrote, CallsMean, DefaultsLaid, Hands, Included}
+use Rattle.jt_meaning.proofs.Agreeing.{Kept, kept_same, kept_then, kept_less, kept_out, kept_store, kept_global, Held, global_slot, global_given, global_held, global_reads, limit, read_names, Fits, Agrees, agrees_kept, pairs_held, copies_held, fits_all, InLocals, in_locals}
+use Rattle.jt_meaning.proofs.Calling.{Evaluated, Rowed, Sees, PartHolds, part_kept, part_more, Good, good_kept, good_grown, around_of, Wrote, CallsMean, Laid, Hands, Included}
 use Rattle.jt_meaning.proofs.Valuing.{numbered_are, value_same, filter_both, read_gives, reads_give, reads_are}
 use Rattle.jt_meaning.proofs.Binding.{taken, Set, one_set, all_set}
 use Rattle.jt_meaning.specs.Layout.{scopes}
@@ -68,6 +68,8 @@ mutual
   set_among (autoescape line on body) ns a = tt
   set_among (macro line x ps body) ns a = tt
   set_among (include line n i w) ns a = tt
+  set_among (import_as line n new) ns a = tt
+  set_among (import_from line n news) ns a = tt
   set_among (extends line n) ns a = tt
   set_among (block line x s r body) ns a = tt
 
@@ -152,7 +154,7 @@ seen_reads : (ss : List Pairs) (gs : Pairs) (x : Text) → value_in (seen_in ss 
 seen_reads [] gs x = refl
 seen_reads (s ∷ ss) gs x = look_append x s (seen_in ss gs) ∙ ap (λ v. unwrap_or (look x s) v) (seen_reads ss gs x)
 
-module _ (world : World) (order : List Home) (calls : Calls) (scall : SCalls) (mean : CallsMean world order calls scall) (laid : DefaultsLaid world order) where
+module _ (world : World) (order : List Home) (calls : Calls) (scall : SCalls) (mean : CallsMean world order calls scall) (laid : Laid world order) where
   abbrev pub constants : Constant → Tree
   constants = constant_in (pool world order)
 
@@ -163,7 +165,7 @@ module _ (world : World) (order : List Home) (calls : Calls) (scall : SCalls) (m
   sbody b l m = smeanings world.filters constants scall b l m
 
   abbrev pub ns : Spot → List Text
-  ns sp = names world order sp.home
+  ns sp = read_names world order sp.home
 
   abbrev pub bound_names : Spot → List Text
   bound_names sp = scopes world order sp.home
@@ -185,17 +187,17 @@ module _ (world : World) (order : List Home) (calls : Calls) (scall : SCalls) (m
 
   pub data Owns (sp : Spot) (q : Option Placement) (b g : ℕ) (S : List Text) (env : Env) : Type 0 where
     -- at the top of a template names are globals
-    of_top : b ≤ sp.free → sp.table ≡ globals world order sp.home → g ≤ first_slot world order sp.home → env.scopes ≡ [] → sp.part ≡ None → Owns sp q b g S env
+    of_top : b ≤ sp.free → sp.table ≡ globals world order sp.home → g ≤ first_slot world order sp.home → env.scopes ≡ [] → sp.part ≡ None → read_names world order sp.home ≡ names world order sp.home → Owns sp q b g S env
     -- in a scope the names that it sets are locals of its own
     of_scope : b ≤ sp.free → g ≤ limit world order sp.home → IsInner env → InLocals b sp.table S
         → ((n : Memory) → PartHolds world order sp.home sp.part q sp.free n → PartHolds world order sp.home sp.part q b n) → Owns sp q b g S env
 
   owns_room : {sp : Spot} {q : Option Placement} {b g : ℕ} {S : List Text} {env : Env} → Owns sp q b g S env → b ≤ sp.free
-  owns_room (of_top r t l e p) = r
+  owns_room (of_top r t l e p c) = r
   owns_room (of_scope r l i s f) = r
 
   owns_limit : {sp : Spot} {q : Option Placement} {b g : ℕ} {S : List Text} {env : Env} → Owns sp q b g S env → g ≤ limit world order sp.home
-  owns_limit {sp = sp} {g = g} (of_top r t l e p) = let f : g ≤ first_slot world order sp.home + length (names world order sp.home) = omega (arith, l) in f
+  owns_limit {sp = sp} {g = g} (of_top r t l e p c) = let f : g ≤ first_slot world order sp.home + length (names world order sp.home) = omega (arith, l) in f
   owns_limit (of_scope r l i s f) = l
 
   pub record Here (sp : Spot) (q : Option Placement) (b g : ℕ) (S : List Text) (st : State) (m : Memory) : Type 0 where
@@ -234,7 +236,7 @@ module _ (world : World) (order : List Home) (calls : Calls) (scall : SCalls) (m
     pub values : Held n.locals k vs
     pub out : n.out ≡ m.out
 
-  copies_hold : (h : Home) (table : Table) (j k : ℕ) (env : Env) (xs : List Text) (m : Memory) → Fits world order h table j → j ≤ k → Agrees world order h table env m → AllAmong xs (names world order h) → Copied h k (map (read env) xs) m (copies table k xs m)
+  copies_hold : (h : Home) (table : Table) (j k : ℕ) (env : Env) (xs : List Text) (m : Memory) → Fits world order h table j → j ≤ k → Agrees world order h table env m → AllAmong xs (read_names world order h) → Copied h k (map (read env) xs) m (copies table k xs m)
   copies_hold h table j k env [] m f l a i = record { kept = kept_same k (limit world order h) m; values = tt; out = refl }
   copies_hold h table j k env (x ∷ xs) m f l a i =
       let n = store (local k) (held (slot_in x table) m) m in
@@ -314,13 +316,14 @@ module _ (world : World) (order : List Home) (calls : Calls) (scall : SCalls) (m
   inside_some q = cc
 
   set_all : {g : Got Pairs} {h : Got Memory} (xs : List Text) (sp : Spot) (q : Option Placement) (b j : ℕ) (S : List Text) (st : State) (m : Memory) (here : Here sp q b j S st m)
-      → ((T : Memory → Type 0) (first : T m) (next : (x : Text) (s : Slot) (v : Tree) (n : Memory) → Among x S → Among x (names world order sp.home) → slot_in x sp.table ≡ Some s → T n → T (store s v n))
-      → Both (Set world order sp.home sp.table sp.free here.good.fits S m T first next xs) g h)
+      → ((T : Memory → Type 0) (first : T m) (next : (x : Text) (s : Slot) (v : Tree) (n : Memory) → Among x S → Among x (read_names world order sp.home) → slot_in x sp.table ≡ Some s → T n → T (store s v n))
+      (there : (x : Text) → Among x S → Among x (read_names world order sp.home) → (s : Slot) × (slot_in x sp.table ≡ Some s))
+      → Both (Set world order sp.home sp.table sp.free here.good.fits S m T first next there xs) g h)
       → Both (λ s n. After sp q b j S m (record st { env = all_bound st.env s }) n) g h
   set_all {g = g} {h = h} xs sp q b j S st m here runs = by_owns here.owns
     where
       by_owns : Owns sp q b j S st.env → Both (λ s n. After sp q b j S m (record st { env = all_bound st.env s }) n) g h
-      by_owns (of_top r t l e p) =
+      by_owns (of_top r t l e p c) =
           weaken (λ s n w. record {
             here = record {
               good = record {
@@ -328,19 +331,22 @@ module _ (world : World) (order : List Home) (calls : Calls) (scall : SCalls) (m
                 fits = here.good.fits;
                 agrees = record {
                   names = λ y i. w.reads st.env here.good.agrees.names y i;
-                  globals = λ y i k f. sym (read_top (all_bound st.env s) y (all_top st.env s e)) ∙ w.reads st.env here.good.agrees.names y i ∙ ap (λ o. held o n) (ap (slot_in y) t ∙ f);
+                  globals = λ y i.
+                      sym (read_top (all_bound st.env s) y (all_top st.env s e)) ∙ w.reads st.env here.good.agrees.names y i ∙ ap (λ o. held o n) (ap (slot_in y) t)
+                      ∙ global_reads (first_slot world order sp.home) (names world order sp.home) y n;
                 };
                 part = part_top sp.home sp.part q sp.free m n p here.good.part;
               };
-              owns = of_top r t l (all_top st.env s e) p;
+              owns = of_top r t l (all_top st.env s e) p c;
               out = w.out ∙ here.out;
             };
             kept = w.touched;
           }) (runs (λ n. Kept b j m n) (kept_same b j m) (λ x z v n inS inN f u.
-          let k = global_given (first_slot world order sp.home) (names world order sp.home) x inN in
+          let k = global_given (first_slot world order sp.home) (names world order sp.home) x (subst (λ zs. Among x zs) c inN) in
           let z_is : z ≡ global k.0 = inside_some (sym f ∙ ap (slot_in x) t ∙ k.1) in
           let range = (global_slot (first_slot world order sp.home) (names world order sp.home) x k.0 k.1).0 in
-          kept_then u (subst (λ y. Kept b j n (store y v n)) (sym z_is) (kept_global b j k.0 v n (let d : j ≤ k.0 = omega (arith, l, range) in d)))))
+          kept_then u (subst (λ y. Kept b j n (store y v n)) (sym z_is) (kept_global b j k.0 v n (let d : j ≤ k.0 = omega (arith, l, range) in d))))
+          (λ x inS inN. let k = global_given (first_slot world order sp.home) (names world order sp.home) x (subst (λ zs. Among x zs) c inN) in (global k.0, ap (slot_in x) t ∙ k.1)))
       by_owns (of_scope r l inner il f) =
           weaken (λ s n w. record {
             here = record {
@@ -349,7 +355,7 @@ module _ (world : World) (order : List Home) (calls : Calls) (scall : SCalls) (m
                 fits = here.good.fits;
                 agrees = record {
                   names = λ y i. w.reads st.env here.good.agrees.names y i;
-                  globals = λ y i k d. ap (λ gs. value_in gs y) (all_globals st.env s inner) ∙ here.good.agrees.globals y i k d ∙ ap (λ ts. tree_at ts k) (sym w.touched.1);
+                  globals = λ y i. ap (λ gs. value_in gs y) (all_globals st.env s inner) ∙ here.good.agrees.globals y i ∙ ap (global_held (slot_in y (globals world order sp.home))) (sym w.touched.1);
                 };
                 part = part_more world order sp.home sp.part q b sp.free n r (part_kept world order sp.home sp.part q b m n w.touched.0 (f m here.good.part));
               };
@@ -360,7 +366,8 @@ module _ (world : World) (order : List Home) (calls : Calls) (scall : SCalls) (m
           }) (runs (λ n. Kept b (lim sp) m n × (n.globals ≡ m.globals)) (kept_same b (lim sp) m, refl) (λ x z v n inS inN e u.
           let k = il x inS in
           let z_is : z ≡ local k.0 = inside_some (sym e ∙ k.1) in
-          subst (λ y. Kept b (lim sp) m (store y v n) × ((store y v n).globals ≡ m.globals)) (sym z_is) (kept_then u.0 (kept_store b (lim sp) k.0 v n k.2), u.1)))
+          subst (λ y. Kept b (lim sp) m (store y v n) × ((store y v n).globals ≡ m.globals)) (sym z_is) (kept_then u.0 (kept_store b (lim sp) k.0 v n k.2), u.1))
+          (λ x inS inN. let k = il x inS in (local k.0, k.1)))
 
   -- ---- printing
 
@@ -509,7 +516,9 @@ module _ (world : World) (order : List Home) (calls : Calls) (scall : SCalls) (m
   sees_around x sp q env m g e = record {
     arguments = seen_params (is_scoped world sp.home x);
     globals = g.agrees.globals;
-    others = λ y i f j d. g.agrees.names y i ∙ ap (λ o. held o m) (g.fits.outer y (λ k. f (subst (λ b. Among y (if b then bound_names sp else [])) (sym e) k)) ∙ d);
+    others = λ y i f.
+        g.agrees.names y i ∙ ap (λ o. held o m) (g.fits.outer y (λ k. f (subst (λ b. Among y (if b then bound_names sp else [])) (sym e) k)))
+        ∙ global_reads (first_slot world order sp.home) (names world order sp.home) y m;
   }
     where
       seen_params : (b : Bool) → map (λ y. held (slot_in y sp.table) m) (if b then bound_names sp else []) ≡ map (read env) (if b then bound_names sp else [])
@@ -518,10 +527,10 @@ module _ (world : World) (order : List Home) (calls : Calls) (scall : SCalls) (m
 
   sees_globals : (x : Text) (sp : Spot) (q : Option Placement) (env : Env) (m : Memory) → Good world order sp q env m
       → Sees world order sp.home x (top env.globals) (map (λ y. held (slot_in y (globals world order sp.home)) m) (block_parameters world order sp.home x)) m.globals
-  sees_globals x sp q env m g = record { arguments = seen_params (is_scoped world sp.home x); globals = g.agrees.globals; others = λ y i f j e. g.agrees.globals y i j e }
+  sees_globals x sp q env m g = record { arguments = seen_params (is_scoped world sp.home x); globals = g.agrees.globals; others = λ y i f. g.agrees.globals y i }
     where
       at_globals : (y : Text) → Among y (ns sp) → read (top env.globals) y ≡ held (slot_in y (globals world order sp.home)) m
-      at_globals y i = let s = global_given (first_slot world order sp.home) (ns sp) y i in g.agrees.globals y i s.0 s.1 ∙ sym (ap (λ o. held o m) s.1)
+      at_globals y i = g.agrees.globals y i ∙ sym (global_reads (first_slot world order sp.home) (names world order sp.home) y m)
 
       seen_params : (b : Bool) → map (λ y. held (slot_in y (globals world order sp.home)) m) (if b then bound_names sp else []) ≡ map (read (top env.globals)) (if b then bound_names sp else [])
       seen_params true = reads_are world order calls scall mean laid None q (globals world order sp.home) (top env.globals) m (bound_names sp) (ns sp) at_globals g.fits.few
@@ -571,22 +580,24 @@ module _ (world : World) (order : List Home) (calls : Calls) (scall : SCalls) (m
 
   include_both : (n : Text) (with_context : Bool) (sp : Spot) (l : Option Loop) (q : Option Placement) (b j : ℕ) (S : List Text) (st : State) (m : Memory) (line : ℕ) → Here sp q b j S st m → Hands world order sp.home n
       → Both (After sp q b j S m) (bind (calls (the_chain n (if with_context then seen st.env else []))) (λ s. gives (put st s)))
-      (sbody (followed (handed_on (place sp line) (if with_context then sp.table else []) (first_slot world order n) (names world order n)) (alone (run (unit world order (of_chain n)) none))) l m)
+      (sbody (followed (handed_on (place sp line) (if with_context then sp.table else []) (first_slot world order (a_chain n)) (names world order (a_chain n))) (alone (run (unit world order (of_chain n)) none))) l m)
   include_both n with_context sp l q b j S st m line here hands = by_flag with_context
     where
-      passed : (table : Table) (gs : Pairs) (f : Text → Tree) → ((o : Memory) → Kept sp.free (lim sp) m o → (x : Text) → Among x (names world order n) → held (slot_in x table) o ≡ f x) → ((x : Text) → value_in gs x ≡ f x)
-          → Both (After sp q b j S m) (bind (calls (the_chain n gs)) (λ s. gives (put st s))) (sbody (followed (handed_on (place sp line) table (first_slot world order n) (names world order n)) (alone (run (unit world order (of_chain n)) none))) l m)
+      passed : (table : Table) (gs : Pairs) (f : Text → Tree) → ((o : Memory) → Kept sp.free (lim sp) m o → (x : Text) → Among x (names world order (a_chain n)) → held (slot_in x table) o ≡ f x) → ((x : Text) → value_in gs x ≡ f x)
+          → Both (After sp q b j S m) (bind (calls (the_chain n gs)) (λ s. gives (put st s))) (sbody (followed (handed_on (place sp line) table (first_slot world order (a_chain n)) (names world order (a_chain n))) (alone (run (unit world order (of_chain n)) none))) l m)
       passed table gs f a g =
-          let r = handed_holds table sp.free (lim sp) (first_slot world order n) (names world order n) f m hands.behind a in
-          let o = handed table (first_slot world order n) (names world order n) m in
-          by_right (followed_same (handed_on (place sp line) table (first_slot world order n) (names world order n)) (alone (run (unit world order (of_chain n)) none)) l m
-          ∙ ap (λ z. bind z (λ y. sbody (alone (run (unit world order (of_chain n)) none)) l y)) (handed_same (place sp line) table (first_slot world order n) (names world order n) l q m)
+          let r = handed_holds table sp.free (lim sp) (first_slot world order (a_chain n)) (names world order (a_chain n)) f m hands.behind a in
+          let o = handed table (first_slot world order (a_chain n)) (names world order (a_chain n)) m in
+          by_right (followed_same (handed_on (place sp line) table (first_slot world order (a_chain n)) (names world order (a_chain n))) (alone (run (unit world order (of_chain n)) none)) l m
+          ∙ ap (λ z. bind z (λ y. sbody (alone (run (unit world order (of_chain n)) none)) l y)) (handed_same (place sp line) table (first_slot world order (a_chain n)) (names world order (a_chain n)) l q m)
           ∙ alone_same (run (unit world order (of_chain n)) none) l o)
-          (run_both sp l q b j S st m o (scall (unit world order (of_chain n)) [] o.globals) (first_slot world order n) here r.kept r.out hands.behind
-          (mean.chain_means n hands.known gs o.globals (λ x i k e. g x ∙ sym (r.values x i k e))))
+          (run_both sp l q b j S st m o (scall (unit world order (of_chain n)) [] o.globals) (first_slot world order (a_chain n)) here r.kept r.out hands.behind
+          (mean.chain_means n hands.known gs o.globals (λ x i.
+          let k = global_given (first_slot world order (a_chain n)) (names world order (a_chain n)) x i in
+          g x ∙ sym (r.values x i k.0 k.1) ∙ sym (ap (λ z. global_held z o.globals) k.1))))
 
       by_flag : (c : Bool) → Both (After sp q b j S m) (bind (calls (the_chain n (if c then seen st.env else []))) (λ s. gives (put st s)))
-          (sbody (followed (handed_on (place sp line) (if c then sp.table else []) (first_slot world order n) (names world order n)) (alone (run (unit world order (of_chain n)) none))) l m)
+          (sbody (followed (handed_on (place sp line) (if c then sp.table else []) (first_slot world order (a_chain n)) (names world order (a_chain n))) (alone (run (unit world order (of_chain n)) none))) l m)
       by_flag true = passed sp.table (seen st.env) (read st.env) (λ o u x i. sym ((good_kept world order here.good u).agrees.names x (hands.names x i))) (λ x. seen_reads st.env.scopes st.env.globals x)
       by_flag false = passed [] [] (λ x. tree.undefined) (λ o u x i. refl) (λ x. refl)
 
@@ -640,7 +651,7 @@ module _ (world : World) (order : List Home) (calls : Calls) (scall : SCalls) (m
         by_right (ap (λ z. take (set_targets sp.table xs) z r.memory) w.value)
         (let h' : Here sp q b j S st r.memory = record { good = good_kept world order h.good w.kept; owns = h.owns; out = w.out ∙ h.out } in
         weaken (λ s n' y. since (lower h.owns w.kept) y)
-        (set_all xs sp q b j S st r.memory h' (λ T first next. all_set world order sp.home sp.table sp.free h'.good.fits S r.memory T first next xs v o (among_back (expr_names e) xs (ns sp) i))))))))
+        (set_all xs sp q b j S st r.memory h' (λ T first next there. all_set world order sp.home sp.table sp.free h'.good.fits S r.memory T first next there xs v o (among_back (expr_names e) xs (ns sp) i))))))))
     stmt_same (set_block line x body) sp l q b j S st m h i o n d =
         by_right (alone_same (capture sp.escaping (slot_of x sp.table) (scoped (set_in body) sp (resolved_body world order body))) l m)
         (bind_both (caught body sp l q sp.escaping st.env m h.good i.1 (names_proper world order sp.home (set_in body) (scoped_in body) d)
@@ -651,7 +662,7 @@ module _ (world : World) (order : List Home) (calls : Calls) (scall : SCalls) (m
         by_right (ap (λ z. gives (store (slot_of x sp.table) z m2)) w.value)
         (weaken (λ st' n'' y. since (lower h.owns u) y)
         (left_both (λ s. record st { env = all_bound st.env s })
-        (set_all {g = gives ((x, v) ∷ [])} (x ∷ []) sp q b j S st m2 h' (λ T first next. both (one_set world order sp.home sp.table sp.free h'.good.fits S m2 T first next x v o.0 i.0)))))))
+        (set_all {g = gives ((x, v) ∷ [])} (x ∷ []) sp q b j S st m2 h' (λ T first next there. both (one_set world order sp.home sp.table sp.free h'.good.fits S m2 T first next there x v o.0 i.0)))))))
     stmt_same (with_values line ps body) sp l q b j S st m h i o n d =
         let i1 = among_back (keywords ps) (body_names body) (ns sp) (among_back (pair_names ps) (keywords ps ++ body_names body) (ns sp) i) in
         let own = names_proper world order sp.home (keywords ps) (named (set_in body) ++ scoped_in body) d in
@@ -693,14 +704,16 @@ module _ (world : World) (order : List Home) (calls : Calls) (scall : SCalls) (m
         missing false = by_right (alone_same (slots.print (place sp line) sp.escaping slots.absent) l m) deep
 
         including : (c : Bool) → is_none (world.sources k) ≡ c → Both (After sp q b j S m) (if c then without_source ignore_missing st else bind (calls (the_chain k (if with_context then seen st.env else []))) (λ s. gives (put st s)))
-            (sbody (if c then left_out sp line ignore_missing else followed (handed_on (place sp line) (if with_context then sp.table else []) (first_slot world order k) (names world order k)) (alone (run (unit world order (of_chain k)) none))) l m)
+            (sbody (if c then left_out sp line ignore_missing else followed (handed_on (place sp line) (if with_context then sp.table else []) (first_slot world order (a_chain k)) (names world order (a_chain k))) (alone (run (unit world order (of_chain k)) none))) l m)
         including true e = missing ignore_missing
         including false e = by_source n.0
           where
             by_source : Included world order sp.home k → Both (After sp q b j S m) (bind (calls (the_chain k (if with_context then seen st.env else []))) (λ s. gives (put st s)))
-                (sbody (followed (handed_on (place sp line) (if with_context then sp.table else []) (first_slot world order k) (names world order k)) (alone (run (unit world order (of_chain k)) none))) l m)
+                (sbody (followed (handed_on (place sp line) (if with_context then sp.table else []) (first_slot world order (a_chain k)) (names world order (a_chain k))) (alone (run (unit world order (of_chain k)) none))) l m)
             by_source (inl f) = absurd (no_both f e)
             by_source (inr f) = include_both k with_context sp l q b j S st m line h f
+    stmt_same (import_as line x new) sp l q b j S st m h i o n d = both (record { here = h; kept = kept_same b j m })
+    stmt_same (import_from line x news) sp l q b j S st m h i o n d = both (record { here = h; kept = kept_same b j m })
     stmt_same (extends line x) sp l q b j S st m h i o n d = both (record { here = h; kept = kept_same b j m })
     stmt_same (block line x true required body) sp l q b j S st m h i o n d =
         by_left (ap (λ bs. bind (block_text calls sp.home bs st.env) (λ s. gives (put st s))) (numbered_are world sp.home x))

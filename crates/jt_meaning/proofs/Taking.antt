@@ -22,10 +22,9 @@ use Rattle.jt_slots.specs.Takes.{InPairs, HasParameters, ExprTakes, RowTakes}
 use Rattle.jt_rules.specs.declared.error.ScopeError.{ScopeError}
 use Rattle.jt_rules.specs.declared.error.ScopeError.TheVariants as error
 use Rattle.jt_trees.specs.Statements.{Parameter}
-use Rattle.jt_chains.specs.Chain.{Home, BlockBody, bodies, from_given, MacroBody, macros, macro_of, Callee, a_macro, a_range, a_super, a_block, a_cycle, no_callee, callee, is_loop}
+use Rattle.jt_chains.specs.Chain.{Home, listed, BlockBody, bodies, from_given, MacroBody, given, Callee, a_macro, a_range, a_super, a_block, a_cycle, no_callee, callee, is_loop}
 use Rattle.jt_slots.specs.Loops.{Field, field_named}
 use Rattle.jt_slots.specs.Filters.{Filters, some_given}
-use Rattle.jt_trees.specs.Texts.{among}
 use Rattle.jt_rules.specs.World.{World}
 use Rattle.jt_meaning.specs.Expressions.{filter_parameters}
 use Rattle.jt_slots.specs.Slots as slots
@@ -37,7 +36,9 @@ use Rattle.jt_slots.specs.Pool.{Constant, own, known}
 use Rattle.jt_meaning.specs.Resolve.{value_or, operation_of, turned_round, tested_by, filtered_by, in_form, field_from, locals_from, filled, filled_some, first_locals, reads, Spot, Part, grown, next_given, first_body, invoked_body, invoked_super, invoked, resolved, resolved_row, resolved_asides, resolved_entries}
 use Rattle.jt_meaning.specs.Programs.{routines}
 use Rattle.jt_meaning.proofs.Calling.{Tail}
-use Rattle.jt_meaning.proofs.Valuing.{GivenBy, given_by, numbered_are, named_macro}
+use Rattle.jt_trees.specs.Texts.{among}
+use Rattle.jt_meaning.proofs.Givens.{LeadsTo, Found, called_macro}
+use Rattle.jt_meaning.proofs.Valuing.{GivenBy, given_by, numbered_are}
 use Rattle.jt_meaning.proofs.Reading.{no_both}
 use Rattle.jt_meaning.proofs.Finding.{macro_is, body_is}
 
@@ -219,16 +220,20 @@ module _ (world : World) (order : List Home) where
       let fit = both_first (filter_fits world.filters f (count ts) (keywords ps)) (world.filters.inside f ts ps) (right_arguments (filter_fits world.filters f (count ts) (keywords ps) && world.filters.inside f ts ps) h) in
       (ap (world.filters.takes f) c ∙ both_first (world.filters.takes f (suc (max (count ts) (reached (world.filters.parameters f) (keywords ps))))) _ fit, r)
 
+  -- a home stands in the order, with those that its macros come from
+  abbrev pub Stands : Home → Type 0
+  Stands h = (listed h order ≡ true) × ((k : Home) → LeadsTo world.sources h k → listed k order ≡ true)
+
   -- a body of a block, on arguments for its parameters
-  body_takes : (l : Bool) (h : Home) (on : Bool) (x : Text) (bs : List (ℕ × BlockBody)) (cs : List BlockBody) (i : ℕ) (es : SRow Constant) → among h order ≡ true → Tail world order h x bs → GivenBy bs cs (Some i) → row_count es ≡ length (block_parameters world order h x) → RTakes l es
+  body_takes : (l : Bool) (h : Home) (on : Bool) (x : Text) (bs : List (ℕ × BlockBody)) (cs : List BlockBody) (i : ℕ) (es : SRow Constant) → Stands h → Tail world order h x bs → GivenBy bs cs (Some i) → row_count es ≡ length (block_parameters world order h x) → RTakes l es
       → ETakes l (invoked_body world order h on (Some i) es)
   body_takes l h on x bs [] i es e t g c r = absurd g
   body_takes l h on x bs (d ∷ ds) i es e t g c r =
-      let found = body_is world order h x i d (t.0 ++ g.0) g.1 e (t.1 ∙ ap (λ z. t.0 ++ z) g.2 ∙ sym (append_assoc t.0 g.0 ((i, d) ∷ g.1))) in
+      let found = body_is world order h x i d (t.0 ++ g.0) g.1 e.0 (t.1 ∙ ap (λ z. t.0 ++ z) g.2 ∙ sym (append_assoc t.0 g.0 ((i, d) ∷ g.1))) in
       (subst (λ z. HasParameters z (row_count es)) (sym found.0) (ap (λ z. length (block_parameters world order h z)) found.1 ∙ sym c), r)
 
   -- what `super()` goes on with
-  next_takes : (l : Bool) (h : Home) (on : Bool) (x : Text) (bs : List (ℕ × BlockBody)) (cs : List BlockBody) (o : Option ℕ) (es : SRow Constant) → (o ≡ None → ⊥) → among h order ≡ true → Tail world order h x bs → GivenBy bs cs o
+  next_takes : (l : Bool) (h : Home) (on : Bool) (x : Text) (bs : List (ℕ × BlockBody)) (cs : List BlockBody) (o : Option ℕ) (es : SRow Constant) → (o ≡ None → ⊥) → Stands h → Tail world order h x bs → GivenBy bs cs o
       → row_count es ≡ length (block_parameters world order h x) → RTakes l es → ETakes l (invoked_body world order h on o es)
   next_takes l h on x bs cs None es there e t g c r = absurd (there refl)
   next_takes l h on x bs cs (Some i) es there e t g c r = body_takes l h on x bs cs i es e t g c r
@@ -280,12 +285,12 @@ module _ (world : World) (order : List Home) where
   entries_pair no_pairs sp = tt
   entries_pair (pair k a ps) sp = entries_pair ps sp
 
-  call_takes : (c : Callee) (sp : Spot) (w : Within) (f : Expr) (ts : Exprs) (ps : written.Pairs) → among sp.home order ≡ true → PartTail w.in_block sp.home sp.part → ((b : MacroBody) → c ≡ a_macro b → (x : Text) × (macro_of x (macros world.sources sp.home) ≡ Some b))
+  call_takes : (c : Callee) (sp : Spot) (w : Within) (f : Expr) (ts : Exprs) (ps : written.Pairs) → Stands sp.home → PartTail w.in_block sp.home sp.part → ((k : Home) (b : MacroBody) → c ≡ a_macro k b → Found world.sources sp.home k b)
       → call_broken world sp.home c w f ts ps ≡ None → ((behind : SRow Constant) → RTakes w.in_loop behind → RTakes w.in_loop (resolved_row world order ts sp behind)) → ((behind : SRow Constant) → RTakes w.in_loop behind → RTakes w.in_loop (resolved_asides world order ps sp behind))
       → ETakes w.in_loop (invoked world order c sp (resolved_row world order ts sp) (resolved_asides world order ps sp) (count ts) (locals_from sp.free (keywords ps)))
-  call_takes (a_macro b) sp w f ts ps e t named h rows asides =
-      let x = named b refl in
-      let d = default_place world order sp.home b.name in
+  call_takes (a_macro k b) sp w f ts ps e t named h rows asides =
+      let x = named k b refl in
+      let d = default_place world order k b.name in
       let table = locals_from sp.free (keywords ps) in
       let few = at_most (length b.parameters) (count ts) (both_first (not (nat_lt (length b.parameters) (count ts))) _ (right_arguments (fits b.parameters (count ts) (keywords ps)) h)) in
       let n1 = row_counts ts sp (resolved_asides world order ps sp (filled b.parameters (count ts) d table)) in
@@ -293,7 +298,7 @@ module _ (world : World) (order : List Home) where
       let n3 = filled_count b.parameters (count ts) d table few in
       let n4 = names_count b.parameters in
       let all : length (map (λ p. p.name) b.parameters) ≡ row_count (resolved_row world order ts sp (resolved_asides world order ps sp (filled b.parameters (count ts) d table))) = omega (arith, n1, n2, n3, n4) in (
-        subst (λ z. HasParameters z (row_count (resolved_row world order ts sp (resolved_asides world order ps sp (filled b.parameters (count ts) d table))))) (sym (macro_is world order sp.home x.0 b e x.1)) all,
+        subst (λ z. HasParameters z (row_count (resolved_row world order ts sp (resolved_asides world order ps sp (filled b.parameters (count ts) d table))))) (sym (macro_is world order k x.0 b (e.1 k x.2) x.1)) all,
         rows (resolved_asides world order ps sp (filled b.parameters (count ts) d table)) (asides (filled b.parameters (count ts) d table) (filled_takes w.in_loop b.parameters (count ts) d table)),
       )
     where
@@ -330,7 +335,7 @@ module _ (world : World) (order : List Home) where
 
   module _ (w : Within) where
     mutual
-      pub expr_takes : (e : Expr) (sp : Spot) → among sp.home order ≡ true → PartTail w.in_block sp.home sp.part → broken world sp.home e w ≡ None → ExprKnown world.filters e → ETakes w.in_loop (resolved world order e sp)
+      pub expr_takes : (e : Expr) (sp : Spot) → Stands sp.home → PartTail w.in_block sp.home sp.part → broken world sp.home e w ≡ None → ExprKnown world.filters e → ETakes w.in_loop (resolved world order e sp)
       expr_takes (constant c) sp e t h k = tt
       expr_takes (name x) sp e t h k = slot_takes w.in_loop (slot_in x sp.table) (known 0)
       expr_takes (group a) sp e t h k = expr_takes a sp e t h k
@@ -340,8 +345,8 @@ module _ (world : World) (order : List Home) where
       expr_takes (item a b) sp e t h k = (refl, (expr_takes a sp e t (none_first (broken world sp.home a w) (broken world sp.home b w) h) k.0, (expr_takes b sp e t (none_second (broken world sp.home a w) (broken world sp.home b w) h) k.1, tt)))
       expr_takes (written.call f ts ps) sp e t h k =
           let h1 = none_second (called_broken world sp.home f w) _ h in
-          let h2 = none_second (call_broken world sp.home (callee (macros world.sources sp.home) f) w f ts ps) _ h1 in
-          call_takes (callee (macros world.sources sp.home) f) sp w f ts ps e t (λ b c. named_macro (macros world.sources sp.home) f b c) (none_first (call_broken world sp.home (callee (macros world.sources sp.home) f) w f ts ps) _ h1)
+          let h2 = none_second (call_broken world sp.home (callee world.sources (given world.sources sp.home) f) w f ts ps) _ h1 in
+          call_takes (callee world.sources (given world.sources sp.home) f) sp w f ts ps e t (λ j b c. called_macro world.sources sp.home f j b c) (none_first (call_broken world sp.home (callee world.sources (given world.sources sp.home) f) w f ts ps) _ h1)
           (λ behind r. row_takes ts sp e t (none_first (row_broken world sp.home ts w) (pairs_broken world sp.home ps w) h2) k.0 behind r) (λ behind r. asides_take ps sp e t (none_second (row_broken world sp.home ts w) (pairs_broken world sp.home ps w) h2) k.1 behind r)
       expr_takes (written.filter a x ts ps) sp e t h k =
           let h1 = none_second (filter_broken world.filters (world.filters.named x ts ps) ts ps) _ h in
@@ -375,17 +380,17 @@ module _ (world : World) (order : List Home) where
             expr_takes b sp e t (none_second (broken world sp.home a w) (broken world sp.home b w) rest) k.2,
           )
 
-      pub row_takes : (ts : Exprs) (sp : Spot) → among sp.home order ≡ true → PartTail w.in_block sp.home sp.part → row_broken world sp.home ts w ≡ None → RowKnown world.filters ts → (behind : SRow Constant) → RTakes w.in_loop behind → RTakes w.in_loop (resolved_row world order ts sp behind)
+      pub row_takes : (ts : Exprs) (sp : Spot) → Stands sp.home → PartTail w.in_block sp.home sp.part → row_broken world sp.home ts w ≡ None → RowKnown world.filters ts → (behind : SRow Constant) → RTakes w.in_loop behind → RTakes w.in_loop (resolved_row world order ts sp behind)
       row_takes no_exprs sp e t h k behind r = r
       row_takes (expr a ts) sp e t h k behind r =
           (expr_takes a sp e t (none_first (broken world sp.home a w) (row_broken world sp.home ts w) h) k.0, row_takes ts sp e t (none_second (broken world sp.home a w) (row_broken world sp.home ts w) h) k.1 behind r)
 
-      pub asides_take : (ps : written.Pairs) (sp : Spot) → among sp.home order ≡ true → PartTail w.in_block sp.home sp.part → pairs_broken world sp.home ps w ≡ None → PairsKnown world.filters ps → (behind : SRow Constant) → RTakes w.in_loop behind → RTakes w.in_loop (resolved_asides world order ps sp behind)
+      pub asides_take : (ps : written.Pairs) (sp : Spot) → Stands sp.home → PartTail w.in_block sp.home sp.part → pairs_broken world sp.home ps w ≡ None → PairsKnown world.filters ps → (behind : SRow Constant) → RTakes w.in_loop behind → RTakes w.in_loop (resolved_asides world order ps sp behind)
       asides_take no_pairs sp e t h k behind r = r
       asides_take (pair x a ps) sp e t h k behind r =
           (expr_takes a sp e t (none_first (broken world sp.home a w) (pairs_broken world sp.home ps w) h) k.0, asides_take ps (grown sp) e t (none_second (broken world sp.home a w) (pairs_broken world sp.home ps w) h) k.1 behind r)
 
-      pub entries_take : (ps : written.Pairs) (sp : Spot) → among sp.home order ≡ true → PartTail w.in_block sp.home sp.part → pairs_broken world sp.home ps w ≡ None → PairsKnown world.filters ps → RTakes w.in_loop (resolved_entries world order ps sp)
+      pub entries_take : (ps : written.Pairs) (sp : Spot) → Stands sp.home → PartTail w.in_block sp.home sp.part → pairs_broken world sp.home ps w ≡ None → PairsKnown world.filters ps → RTakes w.in_loop (resolved_entries world order ps sp)
       entries_take no_pairs sp e t h k = tt
       entries_take (pair x a ps) sp e t h k =
           (tt, (expr_takes a sp e t (none_first (broken world sp.home a w) (pairs_broken world sp.home ps w) h) k.0, entries_take ps sp e t (none_second (broken world sp.home a w) (pairs_broken world sp.home ps w) h) k.1))

@@ -1,7 +1,7 @@
 -- An expression means the same by names and by slots.
-use Rattle.std.proofs.Common.{◌≡◌, ℕ, zero, suc, pos, ◌<◌, ◌≤◌, Bool, true, false, if◌then◌else◌, List, [], ◌∷◌, ◌++◌, length, map, Option, Some, None, refl, sym, ap, ◌∙◌, subst, arith, append_assoc}
+use Rattle.std.proofs.Common.{◌≡◌, ℕ, zero, suc, pos, ◌+◌, ◌<◌, ◌≤◌, Bool, true, false, if◌then◌else◌, List, [], ◌∷◌, ◌++◌, length, map, Option, Some, None, refl, sym, ap, ◌∙◌, subst, arith, append_assoc, inl, inr}
 use Rattle.std.proofs.lemmas.List.{length-map}
-use Rattle.std.specs.Prelude.{unwrap_or, Result, filter, codes}
+use Rattle.std.specs.Prelude.{unwrap_or, Result, filter}
 use Rattle.std.specs.Str.{bytes_eq}
 use Rattle.jt_value.specs.Tree as tree
 use Rattle.jt_value.specs.Tree.{Tree}
@@ -22,11 +22,11 @@ use Rattle.jt_slots.specs.Got.{Got, gives, fails, deeper, bind, checked}
 use Rattle.jt_meaning.specs.Operators.{unary_operation, Form, operation, negation, conjunction, disjunction, form, range_of}
 use Rattle.jt_slots.specs.Tests.{test_named}
 use Rattle.jt_slots.specs.Values.{literal, as_value}
-use Rattle.jt_meaning.specs.Expressions.{operated, asked, turned, either, combined, filtered, filter_parameters, entries_of, field_of, cycled, block_text, super_text, valued_text, called, value, values, named_values}
+use Rattle.jt_meaning.specs.Expressions.{operated, asked, turned, either, combined, filtered, filter_parameters, entries_of, field_of, cycled, block_text, super_text, seen_by, valued_text, called, value, values, named_values}
 use Rattle.jt_chains.specs.Uses.{count, keywords, expr_names, row_names, pair_names}
 use Rattle.jt_trees.specs.Statements.{Parameter}
 use Rattle.jt_meaning.specs.Env.{Env, read, top}
-use Rattle.jt_chains.specs.Chain.{Home, BlockBody, bodies, all_bodies, from_given, MacroBody, macros, macro_of, Callee, a_macro, a_range, a_super, a_block, a_cycle, no_callee, callee, named_alone, is_loop}
+use Rattle.jt_chains.specs.Chain.{Home, a_library, BlockBody, bodies, all_bodies, from_given, MacroBody, given, Callee, a_macro, a_range, a_super, a_block, a_cycle, no_callee, callee, is_loop}
 use Rattle.jt_slots.specs.Loops.{Loop, Field, index0, field_named, loop_field}
 use Rattle.jt_slots.specs.Filters.{Filters, default_value, parameters, some_given, by_name, arguments}
 use Rattle.jt_rules.specs.World.{World}
@@ -39,8 +39,9 @@ use Rattle.jt_slots.specs.Pool.{Constant, own, known, constant_in}
 use Rattle.jt_meaning.specs.Resolve.{no_value, value_or, read_from, operation_of, turned_round, tested_by, filtered_by, in_form, field_from, locals_from, filled, filled_some, first_locals, reads, Spot, Part, grown, next_given, first_body, invoked_body, invoked_super, invoked, resolved, resolved_row, resolved_asides, resolved_entries}
 use Rattle.jt_meaning.proofs.Both.{Both, both, fault, deep, bind_both, if_both, weaken, right_both, bind_gives, bind_assoc, bind_ext, by_left, by_right}
 use Rattle.jt_meaning.proofs.Reading.{among_front, among_back, held, put_here}
-use Rattle.jt_meaning.proofs.Agreeing.{Kept, kept_same, kept_then, kept_less, kept_store, Held, limit, global_given}
-use Rattle.jt_meaning.proofs.Calling.{Evaluated, Rowed, Known, Sees, Tail, PartHolds, Good, good_kept, good_grown, around_of, Wrote, CallsMean, DefaultsAt, DefaultsLaid}
+use Rattle.jt_meaning.proofs.Agreeing.{Kept, kept_same, kept_then, kept_less, kept_store, Held, limit, global_reads, read_names, GlobalsAgree, library_agrees, seen_agree}
+use Rattle.jt_meaning.proofs.Givens.{LeadsTo, Found, called_macro}
+use Rattle.jt_meaning.proofs.Calling.{Evaluated, Rowed, Known, Sees, Tail, PartHolds, Good, good_kept, good_grown, around_of, Wrote, CallsMean, DefaultsAt, Laid}
 use Rattle.jt_meaning.specs.Layout.{scopes}
 use Rattle.jt_meaning.proofs.Among.{Among, AllAmong}
 
@@ -151,27 +152,6 @@ range_same (suc zero) vs = refl
 range_same (suc (suc zero)) vs = refl
 range_same (suc (suc (suc n))) vs = refl
 
--- what is called in front of arguments
-pub named_macro : (ms : List MacroBody) (f : Expr) (b : MacroBody) → callee ms f ≡ a_macro b → (x : Text) × (macro_of x ms ≡ Some b)
-named_macro ms (name x) b e = (x, alone (macro_of x ms) e)
-  where
-    other : (p q : Bool) → (if p then a_range else if q then a_super else no_callee) ≡ a_macro b → ⊥
-    other true q e = cc
-    other false true e = cc
-    other false false e = cc
-
-    alone : (o : Option MacroBody) → named_alone o x ≡ a_macro b → o ≡ Some b
-    alone None e = absurd (other (bytes_eq x (codes "range")) (bytes_eq x (codes "super")) e)
-    alone (Some m) e = cc
-named_macro ms (attribute (name of) x) b e = absurd (other (bytes_eq of (codes "self")) (bytes_eq of (codes "loop")) (bytes_eq x (codes "cycle")) e)
-  where
-    other : (p q r : Bool) → (if p then a_block x else if q then (if r then a_cycle else no_callee) else no_callee) ≡ a_macro b → ⊥
-    other true q r e = cc
-    other false true true e = cc
-    other false true false e = cc
-    other false false r e = cc
-named_macro ms f b e = cc
-
 -- ---- groupings
 
 regroup : {A B C D : Type 0} (g : Got A) (h : Got B) (f : A → B → C) (k : C → Got D) → bind g (λ x. bind h (λ y. k (f x y))) ≡ bind (bind g (λ x. bind h (λ y. gives (f x y)))) k
@@ -183,7 +163,7 @@ regroup deeper h f k = refl
 
 -- ---- one value made of others, over slots
 
-module _ (world : World) (order : List Home) (calls : Calls) (scall : SCalls) (mean : CallsMean world order calls scall) (laid : DefaultsLaid world order) (l : Option Loop) (q : Option Placement) where
+module _ (world : World) (order : List Home) (calls : Calls) (scall : SCalls) (mean : CallsMean world order calls scall) (laid : Laid world order) (l : Option Loop) (q : Option Placement) where
   abbrev pub fs : Filters
   fs = world.filters
 
@@ -395,7 +375,7 @@ module _ (world : World) (order : List Home) (calls : Calls) (scall : SCalls) (m
   bound_names sp = scopes world order sp.home
 
   abbrev pub ns : Spot → List Text
-  ns sp = names world order sp.home
+  ns sp = read_names world order sp.home
 
   attribute_both : {m : Memory} (b : Bool) (k : Text) (sp : Spot) (h : Got Tree) (e : SExpr Constant) (xs : List Text) → AllAmong (if b then [] else xs) (ns sp) → (AllAmong xs (ns sp) → Same sp m h e)
       → Same sp m (if b then field_of (field_named k) l else bind h (λ v. operated op.Item (v ∷ tree.text k ∷ []))) (if b then field_from (field_named k) else operation_of op.Item e (slots.pooled (own (tree.text k))))
@@ -465,19 +445,34 @@ module _ (world : World) (order : List Home) (calls : Calls) (scall : SCalls) (m
   reads_are table env m [] all f i = refl
   reads_are table env m (x ∷ xs) all f i = ap (λ v. v ∷ map (λ y. held (slot_in y table) m) xs) (sym (f x i.0)) ∙ ap (λ ts. read env x ∷ ts) (reads_are table env m xs all f i.1)
 
+  -- the home of a macro that is called stands at the same place or behind, and sees its own globals
+  reached : (h k : Home) (gs : Pairs) (ts : List Tree) → Known world order h → LeadsTo world.sources h k → Known world order k × (GlobalsAgree world order h gs ts → GlobalsAgree world order k (seen_by k gs) ts) × (limit world order h ≤ limit world order k)
+  reached h k gs ts kn (inl e) =
+      (subst (λ z. Known world order z) (sym e) kn, λ a. seen_agree world order k gs ts (subst (λ z. GlobalsAgree world order z gs ts) (sym e) a), subst (λ z. limit world order h ≤ limit world order z) (sym e) (let f : limit world order h ≤ limit world order h = omega arith in f))
+  reached h k gs ts kn (inr r) =
+      let b = laid.libraries h kn r.0 r.2 in
+      let back = sym r.1 in (
+        subst (λ z. Known world order z) back b.known,
+        λ a. subst (λ z. GlobalsAgree world order z (seen_by z gs) ts) back (library_agrees world order r.0 ts),
+        subst (λ z. limit world order h ≤ limit world order z) back (let p = b.behind in let f : limit world order h ≤ first_slot world order (a_library r.0) + length (names world order (a_library r.0)) = omega (arith, p) in f),
+      )
+
   -- a call, by what its arguments do
-  call_both : {m : Memory} (c : Callee) (sp : Spot) (env : Env) (ts : Exprs) (ps : written.Pairs) → Good world order sp q env m → ((b : MacroBody) → c ≡ a_macro b → (x : Text) × (macro_of x (macros world.sources sp.home) ≡ Some b))
+  call_both : {m : Memory} (c : Callee) (sp : Spot) (env : Env) (ts : Exprs) (ps : written.Pairs) → Good world order sp q env m → ((k : Home) (b : MacroBody) → c ≡ a_macro k b → Found world.sources sp.home k b)
       → Both (Counted sp m (count ts)) (values world calls ts (around_of world order sp l q) env) (seen_row (resolved_row world order ts sp none) m)
       → ((b : MacroBody) (d : ℕ) → DefaultsAt world order d b.parameters → Both (Passed sp m b) (bind (values world calls ts (around_of world order sp l q) env) (λ vs. bind (named_values world calls ps (around_of world order sp l q) env) (λ ks. gives (parameters b.parameters vs ks))))
       (seen_row (resolved_row world order ts sp (resolved_asides world order ps sp (filled b.parameters (count ts) d (locals_from sp.free (keywords ps))))) m))
       → Same sp m (called world calls c (around_of world order sp l q) env (values world calls ts (around_of world order sp l q) env) (named_values world calls ps (around_of world order sp l q) env))
       (invoked world order c sp (resolved_row world order ts sp) (resolved_asides world order ps sp) (count ts) (locals_from sp.free (keywords ps)))
-  call_both {m = m} (a_macro b) sp env ts ps g named row passed =
-      let x = named b refl in
-      by_left (regroup (values world calls ts (around_of world order sp l q) env) (named_values world calls ps (around_of world order sp l q) env) (λ vs ks. parameters b.parameters vs ks) (λ p. valued_text sp.escaping (calls (the_macro sp.home b p env.globals))))
-      (bind_both (passed b (default_place world order sp.home b.name) (laid sp.home g.known x.0 b x.1)) (λ p r w.
-      text_both sp sp.escaping (calls (the_macro sp.home b p env.globals)) (scall (unit world order (of_macro sp.home b.name)) r.values r.memory.globals) r.memory w.kept w.out
-      (mean.macro_means sp.home g.known x.0 b x.1 p env.globals r.values r.memory.globals w.names w.values (good_kept world order g w.kept).agrees.globals)))
+  call_both {m = m} (a_macro k b) sp env ts ps g named row passed =
+      let x = named k b refl in
+      let gs = seen_by k env.globals in
+      by_left (regroup (values world calls ts (around_of world order sp l q) env) (named_values world calls ps (around_of world order sp l q) env) (λ vs ks. parameters b.parameters vs ks) (λ p. valued_text sp.escaping (calls (the_macro k b p gs))))
+      (bind_both (passed b (default_place world order k b.name) (laid.defaults k (reached sp.home k env.globals [] g.known x.2).0 x.0 b x.1)) (λ p r w.
+      let there = reached sp.home k env.globals r.memory.globals g.known x.2 in
+      text_both sp sp.escaping (calls (the_macro k b p gs)) (scall (unit world order (of_macro k b.name)) r.values r.memory.globals) r.memory w.kept w.out
+      (weaken (λ t y z. record { text = z.text; globals = λ i d. z.globals i (let e : i < limit world order k = omega (arith, d, there.2) in e) })
+      (mean.macro_means k there.0 x.0 b x.1 p gs r.values r.memory.globals w.names w.values (there.1 (good_kept world order g w.kept).agrees.globals)))))
   call_both a_range sp env ts ps g named row passed = made_both (operator (range_of (count ts))) ranged (resolved_row world order ts sp none) (λ vs. sym (range_same (count ts) vs)) (weaken (λ vs r w. w.0) row)
   call_both {m = m} a_super sp env ts ps g named row passed = super_both sp.part q refl refl g.part
     where
@@ -494,14 +489,14 @@ module _ (world : World) (order : List Home) (calls : Calls) (scall : SCalls) (m
       (sym (numbered_are world sp.home x))
       (body_both sp sp.escaping (map (λ d. d.1) (numbered_of world sp.home x)) (first_body (numbered_of world sp.home x)) (top env.globals) (reads (globals world order sp.home) (block_parameters world order sp.home x)) x (numbered_of world sp.home x)
       (map (λ y. held (slot_in y (globals world order sp.home)) m) (block_parameters world order sp.home x)) g.known ([], refl) (firsts (numbered_of world sp.home x)) (reads_give (globals world order sp.home) (block_parameters world order sp.home x) m)
-      (record { arguments = seen_params (is_scoped world sp.home x); globals = g.agrees.globals; others = λ y i f j e. g.agrees.globals y i j e }))
+      (record { arguments = seen_params (is_scoped world sp.home x); globals = g.agrees.globals; others = λ y i f. g.agrees.globals y i }))
     where
       firsts : (bs : List (ℕ × BlockBody)) → GivenBy bs (map (λ d. d.1) bs) (first_body bs)
       firsts [] = tt
       firsts (b ∷ bs) = ([], bs, refl, refl)
 
       at_globals : (y : Text) → Among y (ns sp) → read (top env.globals) y ≡ held (slot_in y (globals world order sp.home)) m
-      at_globals y i = let s = global_given (first_slot world order sp.home) (ns sp) y i in g.agrees.globals y i s.0 s.1 ∙ sym (ap (λ o. held o m) s.1)
+      at_globals y i = g.agrees.globals y i ∙ sym (global_reads (first_slot world order sp.home) (names world order sp.home) y m)
 
       seen_params : (b : Bool) → map (λ y. held (slot_in y (globals world order sp.home)) m) (if b then bound_names sp else []) ≡ map (read (top env.globals)) (if b then bound_names sp else [])
       seen_params true = reads_are (globals world order sp.home) (top env.globals) m (bound_names sp) (ns sp) at_globals g.fits.few
@@ -581,7 +576,7 @@ module _ (world : World) (order : List Home) (calls : Calls) (scall : SCalls) (m
     value_same (written.call f ts ps) sp env m g i =
         let front = among_front (row_names ts) (pair_names ps) (ns sp) i in
         let back = among_back (row_names ts) (pair_names ps) (ns sp) i in
-        call_both (callee (macros world.sources sp.home) f) sp env ts ps g (λ b e. named_macro (macros world.sources sp.home) f b e) (values_same ts sp env m g front)
+        call_both (callee world.sources (given world.sources sp.home) f) sp env ts ps g (λ k b e. called_macro world.sources sp.home f k b e) (values_same ts sp env m g front)
         (λ b d ds. row_in_front ts sp (Passed sp m b) (λ vs. bind (named_values world calls ps (around_of world order sp l q) env) (λ ks. gives (parameters b.parameters vs ks)))
         (resolved_asides world order ps sp (filled b.parameters (count ts) d (locals_from sp.free (keywords ps)))) (values_same ts sp env m g front) (λ vs n len u o.
         asides_in_front ps sp (λ p r. Passed sp m b p (prefixed vs r)) (λ ks. gives (parameters b.parameters vs ks)) (filled b.parameters (count ts) d (locals_from sp.free (keywords ps)))

@@ -1,12 +1,12 @@
 -- A program is as small as the weight of its chains says: each body is a part of one unit.
-use Rattle.std.proofs.Common.{◌≡◌, ℕ, suc, ◌+◌, ◌*◌, max, ◌≤◌, Bool, true, false, if◌then◌else◌, List, [], ◌∷◌, ◌++◌, length, Option, Some, None, arith, refl, length-append}
+use Rattle.std.proofs.Common.{◌≡◌, ℕ, suc, ◌+◌, ◌*◌, max, ◌≤◌, Bool, true, false, ◌||◌, if◌then◌else◌, List, [], ◌∷◌, ◌++◌, length, Option, Some, None, arith, refl, ap, subst, length-append}
 use Rattle.std.proofs.lemmas.List.{length-map}
 use Rattle.std.specs.Prelude.{flat_map, filter, map}
 use Rattle.std.specs.List.{AllByRecursion}
 use Rattle.std.specs.Str.{bytes_eq}
 use Rattle.jt_trees.specs.Expressions.{Text}
-use Rattle.jt_trees.specs.Statements.{Parameter, parameters_weight, Stmt, data_of, print, choose, for_each, set, set_block, with_values, filter_block, autoescape, macro, include, extends, block, stmt_weight, Body, end, stmt, body_weight, Branches, no_branches, branch, branch_weight, body_bound}
-use Rattle.jt_chains.specs.Chain.{Home, Template, templates, BlockBody, blocks_of, blocks_in, blocks_under, all_bodies, MacroBody, macros_in, macros}
+use Rattle.jt_trees.specs.Statements.{Parameter, parameters_weight, Stmt, data_of, print, choose, for_each, set, set_block, with_values, filter_block, autoescape, macro, include, import_as, import_from, extends, block, stmt_weight, Body, end, stmt, body_weight, Branches, no_branches, branch, branch_weight, body_bound}
+use Rattle.jt_chains.specs.Chain.{Sources, Home, a_chain, a_library, same_home, listed, Template, templates, BlockBody, blocks_of, blocks_in, blocks_under, all_bodies, MacroBody, macros_in, macros}
 use Rattle.jt_slots.specs.Filters.{default_value}
 use Rattle.jt_rules.specs.World.{World}
 use Rattle.jt_meaning.specs.Meaning.{is_set}
@@ -16,7 +16,7 @@ use Rattle.jt_slots.specs.Slots as slots
 use Rattle.jt_slots.specs.Slots.{SExpr, SRow, SStmt, SBody, Routine}
 use Rattle.jt_slots.specs.Pool.{Constant, expr_values, condition_values, stmt_values, body_values, routines_values, placed_expr, placed_row, placed_condition, placed_stmt, placed_body, placed_routines}
 use Rattle.jt_meaning.specs.Resolve.{followed, Part, Spot, bound_table, bound_all, scoped, resolved_stmt, resolved_body, resolved_sets, top_spot, resolved_chain, macro_routine}
-use Rattle.jt_meaning.specs.Programs.{body_routines, chain_routines, routines, count_globals, program}
+use Rattle.jt_meaning.specs.Programs.{body_routines, entry_routines, chain_routines, routines, count_globals, program}
 use Rattle.jt_slots.specs.Size.{expr_size, row_size, condition_size, stmt_size, body_size, routines_size, expr_height, row_height, condition_height, stmt_height, body_height}
 use Rattle.jt_slots.specs.Locals.{body_locals}
 use Rattle.jt_meaning.specs.Measure.{stmt_own, body_own, branch_own, IsFew, HasAtMost, AreFew, IsSized}
@@ -28,9 +28,12 @@ use Rattle.jt_meaning.proofs.Constants.{followed_count, stmt_counted, all_counte
 use Rattle.jt_meaning.proofs.Lowness.{followed_low, stmt_low, all_low, scope_low}
 use Rattle.jt_meaning.specs.Layout.{scopes}
 use Rattle.jt_meaning.specs.Layout.{is_scoped}
-use Rattle.jt_meaning.proofs.Free.{stmt_free, body_free, AllPaid, MacrosPaid, body_paid, templates_bound, templates_pay, chain_blocks, chain_macros, scopes_few}
+use Rattle.jt_meaning.proofs.Free.{stmt_free, body_free, AllPaid, MacrosPaid, all_more, macros_more, body_paid, templates_bound, templates_pay, chain_blocks, chain_macros, scopes_few}
 use Rattle.jt_chains.specs.Uses.{scope_names}
-use Rattle.jt_trees.specs.Texts.{among}
+use Rattle.jt_chains.specs.Includes.{InOrder}
+use Rattle.jt_meaning.proofs.Reading.{home_same, home_is, no_both}
+use Rattle.jt_meaning.proofs.Givens.{given_all, all_own}
+use Rattle.jt_meaning.proofs.Ordering.{libraries_stand}
 
 -- ---- each body counts once: in its template, or as a block's or a macro's
 
@@ -68,6 +71,8 @@ module _ (t : Text) where
     stmt_once (autoescape line now body) on = omega (arith, body_once body now)
     stmt_once (macro line x ps body) on = omega (arith, body_once body on)
     stmt_once (include line n missing with_context) on = omega arith
+    stmt_once (import_as line n new) on = omega arith
+    stmt_once (import_from line n news) on = omega arith
     stmt_once (extends line n) on = omega arith
     stmt_once (block line x is required body) on = omega (arith, body_once body on)
 
@@ -93,6 +98,8 @@ module _ (t : Text) where
   top_once (stmt (autoescape line now body) rest) on = omega (arith, top_once rest on, body_once body now, bodies_append (blocks_in t body now) (blocks_in t rest on))
   top_once (stmt (macro line x ps body) rest) on = omega (arith, top_once rest on, body_once body on, bodies_append (blocks_in t body on) (blocks_in t rest on), parameters_weigh ps)
   top_once (stmt (include line n missing with_context) rest) on = omega (arith, top_once rest on)
+  top_once (stmt (import_as line n new) rest) on = omega (arith, top_once rest on)
+  top_once (stmt (import_from line n news) rest) on = omega (arith, top_once rest on)
   top_once (stmt (extends line n) rest) on = omega (arith, top_once rest on)
   top_once (stmt (block line x is required body) rest) on = omega (arith, top_once rest on, body_once body on, bodies_append (blocks_in t body on) (blocks_in t rest on))
 
@@ -147,15 +154,20 @@ module _ (world : World) (order : List Home) (h : Home) where
         let sp = bound_all (block_parameters world order h b.name) (record (top_spot world order h b.template) { escaping = b.escaping; part = Some part }) in
         omega (arith, blocks_sized (suc n) bs, scope_sized world order b.body sp (all_sized world order b.body (bound_all (set_in b.body) sp) k))
 
+    entry_sized : (g : Home) → body_size (resolved_chain world order g (templates world.sources g)) ≤ 100 * templates_own (templates world.sources g) → routines_size (entry_routines world order g) ≤ 100 * templates_own (templates world.sources g) + 1
+    entry_sized (a_chain n) c = omega (arith, c)
+    entry_sized (a_library n) c = omega arith
+
     all_in_chain : routines_size (chain_routines world order h) ≤ 100 * templates_weight (templates world.sources h) + 1
     all_in_chain =
         let ts = templates world.sources h in
         omega (
           arith,
           chain_once world.escaping ts,
-          chain_sized ts,
+          entry_sized h (chain_sized ts),
           macros_sized (macros world.sources h),
           blocks_sized 0 (all_bodies world.sources world.escaping h),
+          routines_append (entry_routines world order h) (map (macro_routine world order h) (macros world.sources h) ++ body_routines world order h (numbered_bodies world h)),
           routines_append (map (macro_routine world order h) (macros world.sources h)) (body_routines world order h (numbered_bodies world h)),
         )
 
@@ -272,30 +284,89 @@ macros_few : (w n : ℕ) (ms : List MacroBody) → MacrosPaid w n ms → AllByRe
 macros_few w n [] p = tt
 macros_few w n (m ∷ ms) p = (p.0.parameters, macros_few w n ms p.1)
 
-module _ (world : World) (order : List Home) (h : Home) (k : IsFew world order h) where
-  abbrev ts : List Template
-  ts = templates world.sources h
+-- ---- chains and libraries together: the names that all of them bind pay for what each of them calls
 
-  at_most : HasAtMost world order (templates_bound ts) h
-  at_most = record { macros = macros_few (templates_weight ts) (templates_bound ts) (macros world.sources h) (chain_macros ts); blocks = λ x. of_scopes (is_scoped world h x); filters = k.filters }
+abbrev chains_bound : Sources → List Home → ℕ
+chains_bound sources [] = 0
+chains_bound sources (h ∷ hs) = templates_bound (templates sources h) + chains_bound sources hs
+
+chains_pay : (sources : Sources) (hs : List Home) → 2 * chains_bound sources hs ≤ chains_weight sources hs
+chains_pay sources [] = omega arith
+chains_pay sources (h ∷ hs) = omega (arith, templates_pay (templates sources h), chains_pay sources hs)
+
+-- templates that are a part of what weighs and binds so much
+record IsPart (w q : ℕ) (ts : List Template) : Type 0 where
+  pub paid : templates_weight ts + 2 * q ≤ w + 2 * templates_bound ts
+  pub bound : templates_bound ts ≤ q
+
+is_part : (sources : Sources) (hs : List Home) (h : Home) → listed h hs ≡ true → IsPart (chains_weight sources hs) (chains_bound sources hs) (templates sources h)
+is_part sources [] h i = absurd (no_both i refl)
+is_part sources (k ∷ ks) h i = through (same_home k h) refl i (λ j. is_part sources ks h j)
+  where
+    first : IsPart (chains_weight sources (k ∷ ks)) (chains_bound sources (k ∷ ks)) (templates sources k)
+    first = record { paid = omega (arith, chains_pay sources ks); bound = omega arith }
+
+    later : IsPart (chains_weight sources ks) (chains_bound sources ks) (templates sources h) → IsPart (chains_weight sources (k ∷ ks)) (chains_bound sources (k ∷ ks)) (templates sources h)
+    later p = let a = p.paid in let b = p.bound in record { paid = omega (arith, a, templates_pay (templates sources k)); bound = omega (arith, b) }
+
+    through : (b : Bool) → same_home k h ≡ b → (b || listed h ks) ≡ true → (listed h ks ≡ true → IsPart (chains_weight sources ks) (chains_bound sources ks) (templates sources h)) → IsPart (chains_weight sources (k ∷ ks)) (chains_bound sources (k ∷ ks)) (templates sources h)
+    through true p q f = subst (λ z. IsPart (chains_weight sources (k ∷ ks)) (chains_bound sources (k ∷ ks)) (templates sources z)) (home_same k h p) first
+    through false p q f = later (f q)
+
+module _ (world : World) (order : List Home) (ordered : InOrder world.sources order) (filters : (f : ℕ) → length (world.filters.parameters f) ≤ 3) where
+  abbrev w : ℕ
+  w = chains_weight world.sources order
+
+  abbrev q : ℕ
+  q = chains_bound world.sources order
+
+  home_macros : (h : Home) → listed h order ≡ true → MacrosPaid w q (macros world.sources h)
+  home_macros h known =
+      let p = is_part world.sources order h known in
+      macros_more (templates_weight (templates world.sources h)) (templates_bound (templates world.sources h)) w q p.bound p.paid (macros world.sources h) (chain_macros (templates world.sources h))
+
+  at_most : (h : Home) → listed h order ≡ true → HasAtMost world order q h
+  at_most h known = record {
+    macros = given_all world.sources (λ m. length m.parameters ≤ q) h (macros_few w q (macros world.sources h) (home_macros h known))
+        (λ l j. let there = (libraries_stand world order ordered h known l j).known in macros_few w q (macros world.sources (a_library l)) (home_macros (a_library l) there));
+    blocks = λ x. of_scopes (is_scoped world h x);
+    filters = filters;
+  }
     where
-      in_order : (b : Bool) → length (if b then scope_names world.sources h else []) ≤ templates_bound ts
-      in_order true = scopes_few ts
+      few : templates_bound (templates world.sources h) ≤ q
+      few = (is_part world.sources order h known).bound
+
+      in_order : (b : Bool) → length (if b then scope_names world.sources h else []) ≤ q
+      in_order true = omega (arith, few, scopes_few (templates world.sources h))
       in_order false = omega arith
 
-      of_scopes : (b : Bool) → length (if b then scopes world order h else []) ≤ templates_bound ts
-      of_scopes true = in_order (among h order)
+      of_scopes : (b : Bool) → length (if b then scopes world order h else []) ≤ q
+      of_scopes true = in_order (listed h order)
       of_scopes false = omega arith
 
-  low_in_chain : AllByRecursion (Low (max 2 (templates_weight ts))) (chain_routines world order h)
-  low_in_chain =
-      let q = templates_bound ts in
-      let w = templates_weight ts in (
-        (let c = chain_low world order h q at_most w ts (templates_each w q ts (omega arith) (omega arith)) in omega (arith, c)),
-        low_append (max 2 w) (map (macro_routine world order h) (macros world.sources h)) (body_routines world order h (numbered_bodies world h))
-            (macros_low world order h q at_most w (macros world.sources h) (chain_macros ts))
-            (blocks_low world order h q at_most w 0 (all_bodies world.sources world.escaping h) (chain_blocks world.escaping ts)),
-      )
+  entry_low : (g : Home) → 2 * body_height (resolved_chain world order g (templates world.sources g)) ≤ w → AllByRecursion (Low (max 2 w)) (entry_routines world order g)
+  entry_low (a_chain n) c = (omega (arith, c), tt)
+  entry_low (a_library n) c = tt
+
+  low_in_chain : (h : Home) → listed h order ≡ true → AllByRecursion (Low (max 2 w)) (chain_routines world order h)
+  low_in_chain h known =
+      let ts = templates world.sources h in
+      let p = is_part world.sources order h known in
+      let k = at_most h known in
+      low_append (max 2 w) (entry_routines world order h) (map (macro_routine world order h) (macros world.sources h) ++ body_routines world order h (numbered_bodies world h))
+      (entry_low h (chain_low world order h q k w ts (templates_each w q ts p.paid p.bound)))
+      (low_append (max 2 w) (map (macro_routine world order h) (macros world.sources h)) (body_routines world order h (numbered_bodies world h))
+      (macros_low world order h q k w (macros world.sources h) (home_macros h known))
+      (blocks_low world order h q k w 0 (all_bodies world.sources world.escaping h) (all_more (templates_weight ts) (templates_bound ts) w q p.bound p.paid (all_bodies world.sources world.escaping h) (chain_blocks world.escaping ts))))
+
+  chains_low : (hs : List Home) → ((h : Home) → listed h hs ≡ true → listed h order ≡ true) → AllByRecursion (Low (max 2 w)) (flat_map (chain_routines world order) hs)
+  chains_low [] i = tt
+  chains_low (h ∷ hs) i =
+      low_append (max 2 w) (chain_routines world order h) (flat_map (chain_routines world order) hs) (low_in_chain h (i h (ap (λ b. b || listed h hs) (home_is h)))) (chains_low hs (λ g j. i g (later g (same_home h g) j)))
+    where
+      later : (g : Home) (b : Bool) → listed g hs ≡ true → (b || listed g hs) ≡ true
+      later g true j = refl
+      later g false j = j
 
 -- ---- all chains
 
@@ -304,14 +375,6 @@ chains_sized : (world : World) (order hs : List Home) → AllByRecursion (IsFew 
 chains_sized world order [] k = omega arith
 chains_sized world order (h ∷ hs) k =
     omega (arith, chains_sized world order hs k.1, all_in_chain world order h k.0, routines_append (chain_routines world order h) (flat_map (chain_routines world order) hs))
-
-chains_low : (world : World) (order hs : List Home) → AllByRecursion (IsFew world order) hs → AllByRecursion (Low (max 2 (chains_weight world.sources hs))) (flat_map (chain_routines world order) hs)
-chains_low world order [] k = tt
-chains_low world order (h ∷ hs) k =
-    let w = max 2 (chains_weight world.sources (h ∷ hs)) in
-    low_append w (chain_routines world order h) (flat_map (chain_routines world order) hs)
-    (low_more (max 2 (templates_weight (templates world.sources h))) w (omega arith) (chain_routines world order h) (low_in_chain world order h k.0))
-    (low_more (max 2 (chains_weight world.sources hs)) w (omega arith) (flat_map (chain_routines world order) hs) (chains_low world order hs k.1))
 
 -- ---- constants: those of the routines' own, and the defaults of macros
 
@@ -357,6 +420,10 @@ module _ (world : World) (order : List Home) (h : Home) (k : (f : ℕ) → lengt
       let r = scoped (set_in b.body) sp (resolved_body world order b.body) in
       omega (arith, blocks_counted (suc n) bs, scope_counted world order b.body sp (all_counted world order b.body (bound_all (set_in b.body) sp) k), length-append (body_values r) (routines_values (body_routines world order h (counted_from (suc n) bs))))
 
+  entry_counted : (g : Home) → length (body_values (resolved_chain world order g (templates world.sources g))) ≤ templates_own (templates world.sources g) → length (routines_values (entry_routines world order g)) ≤ templates_own (templates world.sources g)
+  entry_counted (a_chain n) c = omega (arith, c, length-append (body_values (resolved_chain world order (a_chain n) (templates world.sources (a_chain n)))) [])
+  entry_counted (a_library n) c = omega arith
+
   counted_in_chain : length (routines_values (chain_routines world order h)) + length (defaults_of (macros world.sources h)) ≤ templates_weight (templates world.sources h)
   counted_in_chain =
       let ts = templates world.sources h in
@@ -365,11 +432,11 @@ module _ (world : World) (order : List Home) (h : Home) (k : (f : ℕ) → lengt
       omega (
         arith,
         chain_once world.escaping ts,
-        chain_counted ts,
+        entry_counted h (chain_counted ts),
         macros_counted (macros world.sources h),
         blocks_counted 0 (all_bodies world.sources world.escaping h),
         values_append a b,
-        length-append (body_values (resolved_chain world order h ts)) (routines_values (a ++ b)),
+        values_append (entry_routines world order h) (a ++ b),
       )
 
   -- a unit a chain, a macro and a body
@@ -381,6 +448,10 @@ module _ (world : World) (order : List Home) (h : Home) (k : (f : ℕ) → lengt
   bodies_number n [] = omega arith
   bodies_number n (b ∷ bs) = omega (arith, bodies_number (suc n) bs)
 
+  entry_number : (g : Home) → length (entry_routines world order g) ≤ 1
+  entry_number (a_chain n) = omega arith
+  entry_number (a_library n) = omega arith
+
   units_in_chain : length (chain_routines world order h) ≤ templates_weight (templates world.sources h) + 1
   units_in_chain =
       omega (
@@ -388,6 +459,8 @@ module _ (world : World) (order : List Home) (h : Home) (k : (f : ℕ) → lengt
         chain_once world.escaping (templates world.sources h),
         macros_number (macros world.sources h),
         bodies_number 0 (all_bodies world.sources world.escaping h),
+        entry_number h,
+        length-append (entry_routines world order h) (map (macro_routine world order h) (macros world.sources h) ++ body_routines world order h (numbered_bodies world h)),
         length-append (map (macro_routine world order h) (macros world.sources h)) (body_routines world order h (numbered_bodies world h)),
       )
 
@@ -476,14 +549,18 @@ module _ (world : World) (order : List Home) (n : ℕ) (some : 1 ≤ n) (few : (
       let ps = block_parameters world order h b.name in
       (omega (arith, k, f b.name, routine_localed ps b.body sp (top b.template) (omega (arith, k, f b.name))), blocks_localed (suc i) bs f (omega (arith, k)))
 
+  entry_localed : (g : Home) → body_locals (resolved_chain world order g (templates world.sources g)) ≤ n → AllByRecursion (Holds n) (entry_routines world order g)
+  entry_localed (a_chain m) c = (c, tt)
+  entry_localed (a_library m) c = tt
+
   localed_in_chain : IsFew world order h → 200 + templates_weight (templates world.sources h) ≤ n → AllByRecursion (Holds n) (chain_routines world order h)
   localed_in_chain k room =
-      let once = chain_once world.escaping (templates world.sources h) in (
-        chain_localed (templates world.sources h) (omega (arith, room, once)),
-        holds_append n (map (macro_routine world order h) (macros world.sources h)) (body_routines world order h (numbered_bodies world h))
-            (macros_localed (macros world.sources h) k.macros (omega (arith, room, once)))
-            (blocks_localed 0 (all_bodies world.sources world.escaping h) (λ x. parameters_few world order h x (k.names h)) (omega (arith, room, once))),
-      )
+      let once = chain_once world.escaping (templates world.sources h) in
+      holds_append n (entry_routines world order h) (map (macro_routine world order h) (macros world.sources h) ++ body_routines world order h (numbered_bodies world h))
+      (entry_localed h (chain_localed (templates world.sources h) (omega (arith, room, once))))
+      (holds_append n (map (macro_routine world order h) (macros world.sources h)) (body_routines world order h (numbered_bodies world h))
+      (macros_localed (macros world.sources h) (all_own world.sources (λ m. length m.parameters ≤ 200) h (macros world.sources h) _ k.macros) (omega (arith, room, once)))
+      (blocks_localed 0 (all_bodies world.sources world.escaping h) (λ x. parameters_few world order h x (k.names h)) (omega (arith, room, once))))
 
 chains_localed : (world : World) (order hs : List Home) (n : ℕ) (some : 1 ≤ n) (few : (h : Home) (x : Text) → length (block_parameters world order h x) ≤ n)
     → AllByRecursion (IsFew world order) hs → 200 + chains_weight world.sources hs ≤ n → AllByRecursion (Holds n) (flat_map (chain_routines world order) hs)
@@ -496,8 +573,8 @@ holds_placed : (n : ℕ) (rs : List (Routine Constant)) (i : ℕ) → AllByRecur
 holds_placed n [] i h = tt
 holds_placed n (r ∷ rs) i h = (h.0, holds_placed n rs (i + length (body_values r.body)) h.1)
 
-pub program_sized : (world : World) (entry : Home) (rest : List Home) → AreFew world (entry ∷ rest) → IsSized world (entry ∷ rest) (program world (entry ∷ rest) entry)
-program_sized world entry rest k =
+pub program_sized : (world : World) (entry : Home) (rest : List Home) → InOrder world.sources (entry ∷ rest) → AreFew world (entry ∷ rest) → IsSized world (entry ∷ rest) (program world (entry ∷ rest) entry)
+program_sized world entry rest ordered k =
     let order = entry ∷ rest in
     let rs = routines world order in
     let n = length (shared world order) in
@@ -509,5 +586,5 @@ program_sized world entry rest k =
       globals = globals_counted world order order (λ h. (k.0.names h).0);
       locals = holds_placed (200 + chains_weight world.sources order) rs n (chains_localed world order order (200 + chains_weight world.sources order) (omega arith)
           (λ h x. omega (arith, parameters_few world order h x (k.0.names h))) k (omega arith));
-      entries = heights_placed (max 2 (chains_weight world.sources order)) rs n (chains_low world order order k);
+      entries = heights_placed (max 2 (chains_weight world.sources order)) rs n (chains_low world order ordered k.0.filters order (λ h i. i));
     }

@@ -5,10 +5,9 @@ use Rattle.std.specs.Option.{option_or, is_some}
 use Rattle.std.specs.Str.{bytes_eq}
 use Rattle.jt_trees.specs.Expressions as written
 use Rattle.jt_trees.specs.Expressions.{Expr, constant, name, group, list_of, attribute, item, unary, binary, when, choice, Exprs, no_exprs, expr, no_pairs, pair, Text}
-use Rattle.jt_chains.specs.Chain.{Home, MacroBody, macros, macro_of, Callee, a_range, a_super, a_block, a_cycle, no_callee, named_alone, callee, is_loop}
+use Rattle.jt_chains.specs.Chain.{Home, a_library, MacroBody, macros, public_macro, Given, one_macro, library, given, given_to, Callee, a_range, a_super, a_block, a_cycle, no_callee, named_alone, of_library, in_library, callee, is_loop}
 use Rattle.jt_chains.specs.Supers.{is_super, has_super, row_super, pairs_super, condition_super, filtering_super, stmt_super, calls_super, branches_super}
-use Rattle.jt_chains.specs.Uses.{keywords}
-use Rattle.jt_trees.specs.Statements.{Filtering, Stmt, data_of, print, choose, for_each, set, set_block, with_values, filter_block, autoescape, macro, include, extends, block, Body, end, stmt, Branches, no_branches, branch}
+use Rattle.jt_trees.specs.Statements.{Filtering, Stmt, data_of, print, choose, for_each, set, set_block, with_values, filter_block, autoescape, macro, include, import_as, import_from, extends, block, Body, end, stmt, Branches, no_branches, branch}
 use Rattle.jt_slots.specs.Loops.{field_named}
 use Rattle.jt_rules.specs.World.{World}
 use Rattle.jt_rules.specs.declared.error.ScopeError.{ScopeError}
@@ -51,19 +50,30 @@ module _ (world : World) (h : Home) where
   alone_without false true w f ts ps e = absurd (cc)
   alone_without false false w f ts ps e = refl
 
-  named_without : (m : Option MacroBody) (x : Text) (w : Within) (f : Expr) (ts : Exprs) (ps : written.Pairs) → bytes_eq x (codes "super") ≡ false → CallSame (named_alone m x) w f ts ps
-  named_without (Some m) x w f ts ps e = refl
+  named_without : (m : Option Given) (x : Text) (w : Within) (f : Expr) (ts : Exprs) (ps : written.Pairs) → bytes_eq x (codes "super") ≡ false → CallSame (named_alone world.sources m x) w f ts ps
+  named_without (Some (one_macro k m)) x w f ts ps e = refl
+  named_without (Some (library n)) x w f ts ps e = refl
   named_without None x w f ts ps e = alone_without (bytes_eq x (codes "range")) (bytes_eq x (codes "super")) w f ts ps e
 
-  member_without : (r s t : Bool) (x : Text) (w : Within) (f : Expr) (ts : Exprs) (ps : written.Pairs) → CallSame (if r then a_block x else if s then (if t then a_cycle else no_callee) else no_callee) w f ts ps
-  member_without true s t x w f ts ps = refl
-  member_without false true true x w f ts ps = refl
-  member_without false true false x w f ts ps = refl
-  member_without false false t x w f ts ps = refl
+  of_without : (n : Text) (o : Option MacroBody) (w : Within) (f : Expr) (ts : Exprs) (ps : written.Pairs) → CallSame (of_library world.sources n o) w f ts ps
+  of_without n None w f ts ps = refl
+  of_without n (Some m) w f ts ps = refl
 
-  call_without : (f : Expr) (w : Within) (ts : Exprs) (ps : written.Pairs) → is_super f ≡ false → CallSame (callee (macros world.sources h) f) w f ts ps
-  call_without (name x) w ts ps e = named_without (macro_of x (macros world.sources h)) x w (name x) ts ps e
-  call_without (attribute (name of) x) w ts ps e = member_without (bytes_eq of (codes "self")) (bytes_eq of (codes "loop")) (bytes_eq x (codes "cycle")) x w (attribute (name of) x) ts ps
+  in_without : (o : Option Given) (x : Text) (w : Within) (f : Expr) (ts : Exprs) (ps : written.Pairs) → CallSame (in_library world.sources o x) w f ts ps
+  in_without None x w f ts ps = refl
+  in_without (Some (one_macro k m)) x w f ts ps = refl
+  in_without (Some (library n)) x w f ts ps = of_without n (public_macro x (macros world.sources (a_library n))) w f ts ps
+
+  member_without : (r s t : Bool) (o : Option Given) (x : Text) (w : Within) (f : Expr) (ts : Exprs) (ps : written.Pairs)
+      → CallSame (if r then a_block x else if s then (if t then a_cycle else no_callee) else in_library world.sources o x) w f ts ps
+  member_without true s t o x w f ts ps = refl
+  member_without false true true o x w f ts ps = refl
+  member_without false true false o x w f ts ps = refl
+  member_without false false t o x w f ts ps = in_without o x w f ts ps
+
+  call_without : (f : Expr) (w : Within) (ts : Exprs) (ps : written.Pairs) → is_super f ≡ false → CallSame (callee world.sources (given world.sources h) f) w f ts ps
+  call_without (name x) w ts ps e = named_without (given_to x (given world.sources h)) x w (name x) ts ps e
+  call_without (attribute (name of) x) w ts ps e = member_without (bytes_eq of (codes "self")) (bytes_eq of (codes "loop")) (bytes_eq x (codes "cycle")) (given_to of (given world.sources h)) x w (attribute (name of) x) ts ps
   call_without f w ts ps e = refl
 
   mutual
@@ -144,6 +154,8 @@ module _ (world : World) (h : Home) where
     stmt_without (autoescape line on body) w s = body_without body w s
     stmt_without (macro line x ps body) w s = refl
     stmt_without (include line n missing with_context) w s = refl
+    stmt_without (import_as line n new) w s = refl
+    stmt_without (import_from line n news) w s = refl
     stmt_without (extends line n) w s = refl
     stmt_without (block line x scoped required body) w s = refl
 

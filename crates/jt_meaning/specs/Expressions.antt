@@ -15,7 +15,7 @@ use Rattle.jt_slots.specs.Values.{literal, as_value}
 use Rattle.jt_slots.specs.Got.{Got, gives, deeper, bind, checked}
 use Rattle.jt_trees.specs.Statements.{Parameter}
 use Rattle.jt_meaning.specs.Env.{Env, read, top}
-use Rattle.jt_chains.specs.Chain.{Home, BlockBody, bodies, from_given, macros, Callee, a_macro, a_range, a_super, a_block, a_cycle, no_callee, callee, is_loop}
+use Rattle.jt_chains.specs.Chain.{Home, a_chain, a_library, BlockBody, bodies, from_given, given, Callee, a_macro, a_range, a_super, a_block, a_cycle, no_callee, callee, is_loop}
 use Rattle.jt_slots.specs.Loops.{Loop, Field, index0, field_named, loop_field}
 use Rattle.jt_slots.specs.Filters.{Filters, parameters, arguments}
 use Rattle.jt_rules.specs.World.{World}
@@ -90,6 +90,11 @@ abbrev pub super_text : Calls → Home → Option Placement → Got Text
 super_text calls home None = deeper
 super_text calls home (Some p) = block_text calls home (from_given p.behind) p.env
 
+-- the globals that a macro sees: those of its chain; a macro of a library sees none
+abbrev pub seen_by : Home → Pairs → Pairs
+seen_by (a_chain n) globals = globals
+seen_by (a_library n) globals = []
+
 -- a text as a value
 abbrev pub valued_text : Bool → Got Text → Got Tree
 valued_text escaping g = bind g (λ s. gives (as_value escaping s))
@@ -97,7 +102,7 @@ valued_text escaping g = bind g (λ s. gives (as_value escaping s))
 module _ (world : World) (calls : Calls) where
   -- a call, by what its arguments give; any other has neither text nor fault at any depth: it breaks the rules
   abbrev pub called : Callee → Around → Env → Got (List Tree) → Got Pairs → Got Tree
-  called (a_macro m) a env g h = bind g (λ vs. bind h (λ ks. valued_text a.escaping (calls (the_macro a.home m (parameters m.parameters vs ks) env.globals))))
+  called (a_macro h m) a env g k = bind g (λ vs. bind k (λ ks. valued_text a.escaping (calls (the_macro h m (parameters m.parameters vs ks) (seen_by h env.globals)))))
   called a_range a env g h = bind g (λ vs. checked (ranged vs))
   called a_super a env g h = valued_text a.escaping (super_text calls a.home a.block)
   called (a_block x) a env g h = valued_text a.escaping (block_text calls a.home (bodies world.sources world.escaping a.home x) (top env.globals))
@@ -115,7 +120,7 @@ module _ (world : World) (calls : Calls) where
         if is_loop e then field_of (field_named k) a.loop
         else bind (value e a env) (λ v. operated op.Item (v ∷ tree.text k ∷ []))
     value (item e k) a env = bind (value e a env) (λ v. bind (value k a env) (λ w. operated op.Item (v ∷ w ∷ [])))
-    value (call f ts ps) a env = called (callee (macros world.sources a.home) f) a env (values ts a env) (named_values ps a env)
+    value (call f ts ps) a env = called (callee world.sources (given world.sources a.home) f) a env (values ts a env) (named_values ps a env)
     value (filter e x ts ps) a env =
         filtered world.filters (world.filters.named x ts ps) a.escaping (bind (value e a env) (λ v. bind (values ts a env) (λ vs. bind (named_values ps a env) (λ ks.
         gives (v ∷ arguments (filter_parameters world.filters (world.filters.named x ts ps)) vs (keywords ps) ks)))))

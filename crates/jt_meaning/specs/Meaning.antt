@@ -9,9 +9,9 @@ use Rattle.jt_trees.specs.Expressions.{Expr, Text}
 use Rattle.jt_value.specs.Place.{Place}
 use Rattle.jt_slots.specs.Got.{Got, gives, fails, deeper, bind, checked, at}
 use Rattle.jt_slots.specs.Values.{shown, as_value}
-use Rattle.jt_trees.specs.Statements.{Filtering, Stmt, data_of, print, choose, for_each, set, set_block, with_values, filter_block, autoescape, macro, include, extends, block, Body, end, stmt, Branches, no_branches, branch}
+use Rattle.jt_trees.specs.Statements.{Filtering, Stmt, data_of, print, choose, for_each, set, set_block, with_values, filter_block, autoescape, macro, include, import_as, import_from, extends, block, Body, end, stmt, Branches, no_branches, branch}
 use Rattle.jt_meaning.specs.Env.{Env, all_bound, inside, top, seen}
-use Rattle.jt_chains.specs.Chain.{Home, Template, templates, bodies}
+use Rattle.jt_chains.specs.Chain.{Home, a_chain, Template, templates, bodies}
 use Rattle.jt_slots.specs.Loops.{Loop, items_of_value}
 use Rattle.jt_slots.specs.Filters.{arguments}
 use Rattle.jt_rules.specs.World.{World}
@@ -117,6 +117,8 @@ module _ (world : World) (calls : Calls) where
         else bind (calls (the_chain n (if with_context then seen st.env else []))) (λ s. gives (put st s))
     -- they give no text where they stand
     meaning (macro line x ps body) a st = gives st
+    meaning (import_as line n x) a st = gives st
+    meaning (import_from line n xs) a st = gives st
     meaning (extends line n) a st = gives st
 
     pub meanings : Body → Around → State → Got State
@@ -150,7 +152,7 @@ module _ (world : World) (calls : Calls) where
   performed (the_macro home m s globals) = text_of (meanings m.body (start home m.template) (record { env = inside s (top globals); out = [] }))
   performed (the_block home b bs env) =
       text_of (meanings b.body (record { home = home; template = b.template; escaping = b.escaping; loop = None; block = Some (record { behind = bs; env = env }) }) (record { env = inside [] env; out = [] }))
-  performed (the_chain home globals) = text_of (rendered home (templates world.sources home) (record { env = top globals; out = [] }))
+  performed (the_chain n globals) = text_of (rendered (a_chain n) (templates world.sources (a_chain n)) (record { env = top globals; out = [] }))
 
 -- calls at most n deep
 abbrev pub calls_below : World → ℕ → Calls
@@ -158,5 +160,5 @@ calls_below world zero c = deeper
 calls_below world (suc n) c = performed world (calls_below world n) c
 
 -- a chain's text for a context, where calls go at most n deep; the globals begin as the context
-abbrev pub mean : World → Home → Pairs → ℕ → Got Text
-mean world home context n = performed world (calls_below world n) (the_chain home context)
+abbrev pub mean : World → Text → Pairs → ℕ → Got Text
+mean world entry context n = performed world (calls_below world n) (the_chain entry context)

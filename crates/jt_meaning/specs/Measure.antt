@@ -2,9 +2,9 @@
 use Rattle.std.specs.Prelude.{ℕ, ◌+◌, ◌*◌, ◌≤◌, max, List, length}
 use Rattle.std.specs.List.{AllByRecursion}
 use Rattle.jt_trees.specs.Expressions.{weight, pairs_weight, Text}
-use Rattle.jt_trees.specs.Statements.{Stmt, data_of, print, choose, for_each, set, set_block, with_values, filter_block, autoescape, macro, include, extends, block, Body, end, stmt, Branches, no_branches, branch, condition_weight, filtering_weight}
+use Rattle.jt_trees.specs.Statements.{Stmt, data_of, print, choose, for_each, set, set_block, with_values, filter_block, autoescape, macro, include, import_as, import_from, extends, block, Body, end, stmt, Branches, no_branches, branch, condition_weight, filtering_weight}
 use Rattle.jt_chains.specs.Weights.{chains_weight}
-use Rattle.jt_chains.specs.Chain.{Home, macros}
+use Rattle.jt_chains.specs.Chain.{Sources, Home, a_library, macros, Given, one_macro, library, given}
 use Rattle.jt_rules.specs.World.{World}
 use Rattle.jt_meaning.specs.Layout.{names, scopes, block_parameters}
 use Rattle.jt_slots.specs.Slots.{Program}
@@ -25,6 +25,8 @@ abbrev mutual
   stmt_own (autoescape line on body) = 11 + body_own body
   stmt_own (macro line x ps body) = 0
   stmt_own (include line n ignore_missing with_context) = 7
+  stmt_own (import_as line n x) = 9
+  stmt_own (import_from line n xs) = 7 + 2 * length xs
   stmt_own (extends line n) = 7
   stmt_own (block line x scoped required body) = 9
 
@@ -36,7 +38,12 @@ abbrev mutual
   branch_own no_branches = 0
   branch_own (branch line c body rest) = 5 + weight c + body_own body + branch_own rest
 
--- ---- what is few: the names of chains, a chain's macros' parameters, and the parameters of filters behind their inputs
+-- ---- what is few: the names of chains, the parameters of macros that are called, and the parameters of filters behind their inputs
+
+-- what a name is given to has at most so many parameters: a macro, or each macro of a library
+abbrev pub GivenFew : Sources → ℕ → Given → Type 0
+GivenFew sources q (one_macro h m) = length m.parameters ≤ q
+GivenFew sources q (library n) = AllByRecursion (λ m. length m.parameters ≤ q) (macros sources (a_library n))
 
 -- a chain's names, and those of them that its scopes bind
 abbrev pub HasFewNames : World → List Home → Home → Type 0
@@ -44,12 +51,12 @@ HasFewNames world order h = (length (names world order h) ≤ 200) × (length (s
 
 pub record IsFew (world : World) (order : List Home) (h : Home) : Type 0 where
   pub names : (k : Home) → HasFewNames world order k
-  pub macros : AllByRecursion (λ m. length m.parameters ≤ 200) (macros world.sources h)
+  pub macros : AllByRecursion (λ g. GivenFew world.sources 200 g.1) (given world.sources h)
   pub filters : (f : ℕ) → length (world.filters.parameters f) ≤ 3
 
--- no macro and no block of a chain has more parameters than so many
+-- no macro that is called in a chain and no block of it has more parameters than so many
 pub record HasAtMost (world : World) (order : List Home) (q : ℕ) (h : Home) : Type 0 where
-  pub macros : AllByRecursion (λ m. length m.parameters ≤ q) (macros world.sources h)
+  pub macros : AllByRecursion (λ g. GivenFew world.sources q g.1) (given world.sources h)
   pub blocks : (x : Text) → length (block_parameters world order h x) ≤ q
   pub filters : (f : ℕ) → length (world.filters.parameters f) ≤ 3
 

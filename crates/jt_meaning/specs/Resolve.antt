@@ -13,8 +13,8 @@ use Rattle.jt_meaning.specs.Operators.{unary_operation, Form, operation, negatio
 use Rattle.jt_slots.specs.Tests.{test_named}
 use Rattle.jt_slots.specs.Values.{literal}
 use Rattle.jt_chains.specs.Uses.{count, keywords, set_in}
-use Rattle.jt_trees.specs.Statements.{Parameter, Filtering, Stmt, data_of, print, choose, for_each, set, set_block, with_values, filter_block, autoescape, macro, include, extends, block, Body, end, stmt, Branches, no_branches, branch}
-use Rattle.jt_chains.specs.Chain.{Home, Template, templates, BlockBody, MacroBody, macros, Callee, a_macro, a_range, a_super, a_block, a_cycle, no_callee, callee, is_loop}
+use Rattle.jt_trees.specs.Statements.{Parameter, Filtering, Stmt, data_of, print, choose, for_each, set, set_block, with_values, filter_block, autoescape, macro, include, import_as, import_from, extends, block, Body, end, stmt, Branches, no_branches, branch}
+use Rattle.jt_chains.specs.Chain.{Home, a_chain, Template, templates, BlockBody, MacroBody, given, Callee, a_macro, a_range, a_super, a_block, a_cycle, no_callee, callee, is_loop}
 use Rattle.jt_slots.specs.Loops.{Field, index0, field_named}
 use Rattle.jt_slots.specs.Filters.{default_value, some_given}
 use Rattle.jt_trees.specs.Texts.{among}
@@ -199,8 +199,8 @@ module _ (world : World) (order : List Home) where
 
   -- a call, by its arguments in front of a row, how many are given by place, and the locals that hold those given by name
   abbrev pub invoked : Callee → Spot → (SRow Constant → SRow Constant) → (SRow Constant → SRow Constant) → ℕ → Table → SExpr Constant
-  invoked (a_macro m) sp row asides n ks =
-      invoke (unit world order (of_macro sp.home m.name)) sp.escaping (row (asides (filled m.parameters n (default_place world order sp.home m.name) ks)))
+  invoked (a_macro h m) sp row asides n ks =
+      invoke (unit world order (of_macro h m.name)) sp.escaping (row (asides (filled m.parameters n (default_place world order h m.name) ks)))
   invoked a_range sp row asides n ks = made (operator (range_of n)) (row none)
   invoked a_super sp row asides n ks = invoked_super sp sp.part
   invoked (a_block x) sp row asides n ks =
@@ -221,7 +221,7 @@ module _ (world : World) (order : List Home) where
     resolved (attribute a k) sp = if is_loop a then field_from (field_named k) else operation_of op.Item (resolved a sp) (pooled (own (tree.text k)))
     resolved (item a b) sp = operation_of op.Item (resolved a sp) (resolved b sp)
     resolved (call f ts ps) sp =
-        invoked (callee (macros world.sources sp.home) f) sp (resolved_row ts sp) (resolved_asides ps sp) (count ts) (locals_from sp.free (keywords ps))
+        invoked (callee world.sources (given world.sources sp.home) f) sp (resolved_row ts sp) (resolved_asides ps sp) (count ts) (locals_from sp.free (keywords ps))
     resolved (filter a x ts ps) sp =
         filtered_by (world.filters.named x ts ps) sp.escaping (slots.item (resolved a sp) (resolved_row ts sp (resolved_asides ps sp
         (filled_some (filter_parameters world.filters (world.filters.named x ts ps)) (count ts) (keywords ps) (locals_from sp.free (keywords ps))))))
@@ -285,7 +285,9 @@ module _ (world : World) (order : List Home) where
     resolved_stmt (macro line x ps body) sp = slots.end
     resolved_stmt (include line n ignore_missing with_context) sp =
         if is_none (world.sources n) then left_out sp line ignore_missing
-        else followed (handed_on (place sp line) (if with_context then sp.table else []) (first_slot world order n) (names world order n)) (alone (run (unit world order (of_chain n)) none))
+        else followed (handed_on (place sp line) (if with_context then sp.table else []) (first_slot world order (a_chain n)) (names world order (a_chain n))) (alone (run (unit world order (of_chain n)) none))
+    resolved_stmt (import_as line n x) sp = slots.end
+    resolved_stmt (import_from line n xs) sp = slots.end
     resolved_stmt (extends line n) sp = slots.end
     resolved_stmt (block line x scoped required body) sp =
         placed_body sp (first_body (numbered_of world sp.home x)) x (if scoped then sp.table else globals world order sp.home)
@@ -305,7 +307,7 @@ module _ (world : World) (order : List Home) where
   resolved_sets end sp = slots.end
   resolved_sets (stmt s rest) sp = if is_set s then followed (resolved_stmt s sp) (resolved_sets rest sp) else resolved_sets rest sp
 
-  -- at the top of a template, where names are globals
+  -- at the top of a template, where names are globals; a library has none
   abbrev pub top_spot : Home → Text → Spot
   top_spot h t = record { home = h; template = t; escaping = world.escaping; part = None; table = globals world order h; free = 0 }
 
@@ -320,8 +322,8 @@ module _ (world : World) (order : List Home) where
       let b : SBody Constant = scoped (set_in body) (bound_all ps sp) (resolved_body body) in
       record { parameters = length ps; locals = max (length ps) (body_locals b); body = b }
 
-  abbrev pub chain_routine : Home → Routine Constant
-  chain_routine h = let b : SBody Constant = resolved_chain h (templates world.sources h) in record { parameters = 0; locals = body_locals b; body = b }
+  abbrev pub chain_routine : Text → Routine Constant
+  chain_routine n = let b : SBody Constant = resolved_chain (a_chain n) (templates world.sources (a_chain n)) in record { parameters = 0; locals = body_locals b; body = b }
 
   abbrev pub macro_routine : Home → MacroBody → Routine Constant
   macro_routine h m = resolved_routine (map (λ p. p.name) m.parameters) m.body (top_spot h m.template)

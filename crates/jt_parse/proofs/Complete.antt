@@ -7,7 +7,7 @@ use Rattle.jt_expr.specs.Grammar as expressions
 use Rattle.jt_expr.specs.Grammar.{word, Spells}
 use Rattle.jt_trees.specs.Statements.{Stmt, data_of, print, choose, Body, end, stmt, Branches, no_branches, branch, stmt_levels, body_levels, branch_levels}
 use Rattle.jt_parse.specs.Kept.{Piece}
-use Rattle.jt_parse.specs.Tags.{Loop, Opening, a_text, values, filters, escaping, a_macro, a_block, Head, made, looped, Says, says_if, says_for, says_set, says_text, says_with, says_filter, says_autoescape, says_macro, says_include, says_extends, says_block, Ends, by_word, by_name, opening_levels, loop_levels, head_levels}
+use Rattle.jt_parse.specs.Tags.{Loop, Opening, a_text, values, filters, escaping, a_macro, a_block, Head, made, looped, Says, says_if, says_for, says_set, says_text, says_with, says_filter, says_autoescape, says_macro, says_include, says_import, says_from, says_extends, says_block, Ends, by_word, by_name, opening_levels, loop_levels, head_levels}
 use Rattle.jt_parse.specs.Grammar.{block, Forms, nothing_more, some_data, a_print, one_tag, an_if_statement, a_for_statement, enclosed, GoesOn, no_elif, an_elif, Otherwise, no_else, an_else}
 use Rattle.jt_parse.specs.Reading.{then_all, then_one, then_branches, then_branch, Frame, in_branch, in_else, in_loop, in_loop_else, in_opening, Fault, State, state, start, headed, After, Steps, Runs, ended, role, HeadTag, else_tag, end_tag}
 use Rattle.jt_parse.proofs.Bodies.{all_end, all_all, branches_all}
@@ -26,6 +26,8 @@ head_word (says_filter {x} d) n st s r = (codes "filter", x, refl, r)
 head_word (says_autoescape on) n st s r = (codes "autoescape", _, refl, r)
 head_word (says_macro h d) n st s r = (codes "macro", _, refl, r)
 head_word (says_include missing d) n st s r = (codes "include", _, refl, r)
+head_word (says_import said h) n st s r = (codes "import", _, refl, r)
+head_word (says_from said d) n st s r = (codes "from", _, refl, r)
 head_word says_extends n st s r = (codes "extends", _, refl, r)
 head_word (says_block scoped required h) n st s r = (codes "block", _, refl, r)
 

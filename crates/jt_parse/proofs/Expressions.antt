@@ -3,7 +3,7 @@ use Rattle.std.proofs.Common.{◌≡◌, ℕ, suc, ◌+◌, ◌-◌, ◌<◌, �
 use Rattle.std.proofs.lemmas.Bool.Decides.{nat_tests}
 use Rattle.jt_scan.specs.Cut.{Token}
 use Rattle.jt_trees.specs.Expressions.{Expr, levels}
-use Rattle.jt_parse.specs.Tags.{Head, Says, says_if, says_for, says_set, says_text, says_with, says_filter, says_autoescape, says_macro, says_include, says_extends, says_block, head_levels}
+use Rattle.jt_parse.specs.Tags.{Head, Says, says_if, says_for, says_set, says_text, says_with, says_filter, says_autoescape, says_macro, says_include, says_import, says_from, says_extends, says_block, head_levels}
 use Rattle.jt_trees.specs.Statements.{Body, end, Branches}
 use Rattle.jt_parse.specs.Reading.{Frame, in_branch, then_branch, State, state, After, ElifTag}
 use Rattle.jt_parse.specs.Gives.{GivesOnly, Refuses}
@@ -42,6 +42,8 @@ some_levels (says_filter d) = omega arith
 some_levels (says_autoescape on) = omega arith
 some_levels (says_macro h d) = omega arith
 some_levels (says_include missing d) = omega arith
+some_levels (says_import said h) = omega arith
+some_levels (says_from said d) = omega arith
 some_levels says_extends = omega arith
 some_levels (says_block scoped required h) = omega arith
 

@@ -15,9 +15,9 @@ use Rattle.jt_expr.specs.Cursor.{TakesSign}
 use Rattle.jt_trees.specs.Statements as trees
 use Rattle.jt_trees.specs.Statements.{Filtering, Parameter, condition_levels, filtering_levels}
 use Rattle.jt_parse.specs.Tags as tags
-use Rattle.jt_parse.specs.Tags.{Separated, only, also, IsName, a_name, IsValue, pairs_of, Values, no_values, some_values, IsFiltering, Parameters, Condition, no_condition, a_condition, flag, Context, missing_words, truth_word, Head, a_loop, a_statement, an_opening, a_text, values, filters, escaping, a_macro, a_block, Says, says_if, says_for, says_set, says_text, says_with, says_filter, says_autoescape, says_macro, says_include, says_extends, says_block, head_levels}
-use Rattle.jt_parse.specs.Readers.{TakesWord, Anything, NoToken, NoSign, NoWord, IsText, value_levels, one_filtering_levels, most, ReadsFlat, ReadsHead, GivesText}
-use Rattle.jt_trees.specs.StatementView.{names_view, filterings_view, parameters_view}
+use Rattle.jt_parse.specs.Tags.{Separated, only, also, IsName, a_name, IsValue, pairs_of, Values, no_values, some_values, IsFiltering, Parameters, Condition, no_condition, a_condition, flag, Context, missing_words, IsImported, without_words, truth_word, Head, a_loop, a_statement, an_opening, a_text, values, filters, escaping, a_macro, a_block, Says, says_if, says_for, says_set, says_text, says_with, says_filter, says_autoescape, says_macro, says_include, says_import, says_from, says_extends, says_block, head_levels}
+use Rattle.jt_parse.specs.Readers.{TakesWord, Anything, NoToken, NoSign, NoWord, NoImported, IsText, IsWithout, value_levels, one_filtering_levels, most, ReadsFlat, ReadsHead, GivesText}
+use Rattle.jt_trees.specs.StatementView.{names_view, given_view, filterings_view, parameters_view}
 use Rattle.jt_parse.specs.HeadView.{values_view, head_view}
 use Rattle.jt_parse.specs.declared.heads.Head.{Head as Read}
 use Rattle.jt_trees.specs.declared.statement.Filtering.{Filtering as Filter}
@@ -59,6 +59,14 @@ abbrev IncludeHead : ℕ → Head → Tokens → Type 0
 IncludeHead line h x =
     (n : Text) × (missing : Bool) × (context : Bool) × (y : Tokens) × (x ≡ cut.text n ∷ (missing_words missing ++ y)) × Context context y × (h ≡ a_statement (trees.include line (encode_utf8_all n) missing context))
 
+abbrev ImportHead : ℕ → Head → Tokens → Type 0
+ImportHead line h x =
+    (n : Text) × (a : Text) × (said : Bool) × (x ≡ cut.text n ∷ word (codes "as") ∷ cut.name a ∷ without_words said) × (is_reserved a ≡ false) × (h ≡ a_statement (trees.import_as line (encode_utf8_all n) (encode_utf8_all a)))
+
+abbrev FromHead : ℕ → Head → Tokens → Type 0
+FromHead line h x =
+    (n : Text) × (xs : List (Text × Text)) × (y : Tokens) × (said : Bool) × (x ≡ cut.text n ∷ word (codes "import") ∷ (y ++ without_words said)) × Separated IsImported s.Comma xs y × (h ≡ a_statement (trees.import_from line (encode_utf8_all n) xs))
+
 abbrev ExtendsHead : ℕ → Head → Tokens → Type 0
 ExtendsHead line h x = (n : Text) × (x ≡ cut.text n ∷ []) × (h ≡ a_statement (trees.extends line (encode_utf8_all n)))
 
@@ -84,7 +92,9 @@ HeadOf line w h x =
     (Where (bytes_eq w (codes "macro")) (MacroHead h x)
     (Where (bytes_eq w (codes "include")) (IncludeHead line h x)
     (Where (bytes_eq w (codes "extends")) (ExtendsHead line h x)
-    (Where (bytes_eq w (codes "block")) (BlockHead h x) ⊥)))))))))
+    (Where (bytes_eq w (codes "block")) (BlockHead h x)
+    (Where (bytes_eq w (codes "import")) (ImportHead line h x)
+    (Where (bytes_eq w (codes "from")) (FromHead line h x) ⊥)))))))))))
 
 moved : (P : List ℕ → Tokens → Type 0) (v w : List ℕ) (y x : Tokens) → ◌≡◌ {A = Tokens} (word v ∷ y) (word w ∷ x) → P v y → P w x
 moved P v w y x e p = let q = tokens_tail (word v) (word w) y x e in subst (λ a. P a x) (same_name v w q.0) (subst (P v) q.1 p)
@@ -99,6 +109,8 @@ opened line w h x z e (says_filter {fs} {x = y} d) = moved (λ a b. HeadOf line 
 opened line w h x z e (says_autoescape on) = moved (λ a b. HeadOf line a h b) (codes "autoescape") w (word (truth_word on) ∷ []) x e (on, refl, refl)
 opened line w h x z e (says_macro {x = n} {ps} {y} r d) = moved (λ a b. HeadOf line a h b) (codes "macro") w (cut.name n ∷ cut.sign s.LeftParen ∷ y) x e (n, ps, y, refl, r, d, refl)
 opened line w h x z e (says_include {v = n} {context} {y} missing d) = moved (λ a b. HeadOf line a h b) (codes "include") w (cut.text n ∷ (missing_words missing ++ y)) x e (n, missing, context, y, refl, d, refl)
+opened line w h x z e (says_import {v = n} {x = a} said r) = moved (λ a b. HeadOf line a h b) (codes "import") w (cut.text n ∷ word (codes "as") ∷ cut.name a ∷ without_words said) x e (n, a, said, refl, r, refl)
+opened line w h x z e (says_from {v = n} {xs} {x = y} said d) = moved (λ a b. HeadOf line a h b) (codes "from") w (cut.text n ∷ word (codes "import") ∷ (y ++ without_words said)) x e (n, xs, y, said, refl, d, refl)
 opened line w h x z e (says_extends {v = n}) = moved (λ a b. HeadOf line a h b) (codes "extends") w (cut.text n ∷ []) x e (n, refl, refl)
 opened line w h x z e (says_block {x = n} scoped required r) = moved (λ a b. HeadOf line a h b) (codes "block") w (cut.name n ∷ flags scoped required) x e (n, scoped, required, refl, r, refl)
 
@@ -118,8 +130,8 @@ at_end v e = subst (EndsAt whole) (sym e) the_end
 -- the word tells which statement it is
 pub another_word : (line limit : ℕ) (w : List ℕ) (ts v : Tokens) → bytes_eq w (codes "if") ≡ false → bytes_eq w (codes "for") ≡ false → bytes_eq w (codes "set") ≡ false → bytes_eq w (codes "with") ≡ false
     → bytes_eq w (codes "filter") ≡ false → bytes_eq w (codes "autoescape") ≡ false → bytes_eq w (codes "macro") ≡ false → bytes_eq w (codes "include") ≡ false → bytes_eq w (codes "extends") ≡ false
-    → bytes_eq w (codes "block") ≡ false → ReadsHead line limit w ts (Err e.Syntax) v
-another_word line limit w ts v a b c d f g h i j k = λ q u l end. rw (a, b, c, d, f, g, h, i, j, k) at (opened line w q l.0 (word w ∷ l.0) refl l.2)
+    → bytes_eq w (codes "block") ≡ false → bytes_eq w (codes "import") ≡ false → bytes_eq w (codes "from") ≡ false → ReadsHead line limit w ts (Err e.Syntax) v
+another_word line limit w ts v a b c d f g h i j k o p = λ q u l end. rw (a, b, c, d, f, g, h, i, j, k, o, p) at (opened line w q l.0 (word w ∷ l.0) refl l.2)
 
 -- ---- if c
 
@@ -519,6 +531,150 @@ module _ (line m : ℕ) (ts : Tokens) where
       include_last =
           last_part (λ (b : Bool). b) head_view Context (Behind line (codes "include")) NoToken NoToken (λ a. 0) head_levels 0 (suc m) ts q (include_of line (string_bytes n) i) include_in include_out (λ v end. end)
           (λ c le. omega arith) (λ c less. absurd (omega (arith, less)))
+
+-- ---- import "x" as f without context
+
+abbrev import_of : ℕ → Text → Text → Head
+import_of line n a = a_statement (trees.import_as line n a)
+
+abbrev WithoutRead : Tokens → Result Bool ExprError → Tokens → Type 0
+WithoutRead = ReadsFlat (λ (b : Bool). b) IsWithout (NoWord (codes "without"))
+
+nothing_without : (v : Tokens) → v ≡ [] → NoWord (codes "without") v
+nothing_without v end w e = no_tokens (word (codes "without")) w (sym end ∙ e)
+
+module _ (line m : ℕ) (ts : Tokens) where
+  import_front : (h : Head) (v : Tokens) → Leads (Behind line (codes "import")) h ts v
+      → (n : Text) × (a : Text) × (b : Bool) × (ts ≡ cut.text n ∷ word (codes "as") ∷ cut.name a ∷ (without_words b ++ v)) × (is_reserved a ≡ false) × (h ≡ import_of line (encode_utf8_all n) (encode_utf8_all a))
+  import_front h v l =
+      let p = inside line (codes "import") h ts v l in
+      let f = p.2 in
+      (f.0, f.1, f.2, p.1 ∙ ap (λ z. z ++ v) f.3, f.4, f.5)
+
+  import_text : (n : Text) (v : Tokens) → ts ≡ cut.text n ∷ v → Leads IsText (encode_utf8_all n) ts v
+  import_text n v e = (cut.text n ∷ [], e, (n, refl, refl))
+
+  pub import_unnamed : (x : ExprError) (r w : Tokens) → TextRead ts (Err x) r → ReadsHead line m (codes "import") ts (Err x) w
+  import_unnamed =
+      part_refused (λ (n : String Global). string_bytes n) head_view IsText (Behind line (codes "import")) Anything NoToken (λ a. 0) head_levels 0 (suc m) ts ts
+      (λ h v l end. let f = import_front h v l in (encode_utf8_all f.0, word (codes "as") ∷ cut.name f.1 ∷ (without_words f.2 ++ v), import_text f.0 _ f.3, tt, λ less. absurd (omega (arith, less))))
+
+  module _ (n : String Global) (u : Tokens) (named : TextRead ts (Ok n) u) where
+    import_behind : (h : Head) (v : Tokens) → Leads (Behind line (codes "import")) h ts v
+        → (a : Text) × (b : Bool) × (u ≡ word (codes "as") ∷ cut.name a ∷ (without_words b ++ v)) × (is_reserved a ≡ false) × (h ≡ import_of line (string_bytes n) (encode_utf8_all a))
+    import_behind h v l =
+        let f = import_front h v l in
+        let same = named.2 (encode_utf8_all f.0) (word (codes "as") ∷ cut.name f.1 ∷ (without_words f.2 ++ v)) (import_text f.0 _ f.3) tt in
+        (f.1, f.2, sym same.1, f.4, f.5 ∙ ap (λ z. import_of line z (encode_utf8_all f.1)) same.0)
+
+    pub import_no_as : (x : ExprError) (r w : Tokens) → TakesWord (codes "as") u (Err x) r → ReadsHead line m (codes "import") ts (Err x) w
+    import_no_as = word_refused head_view (Behind line (codes "import")) NoToken head_levels (suc m) ts u (codes "as") (λ h v l end. let f = import_behind h v l in (cut.name f.0 ∷ (without_words f.1 ++ v), f.2))
+
+    module _ (q : Tokens) (said : u ≡ word (codes "as") ∷ q) where
+      import_named : (h : Head) (v : Tokens) → Leads (Behind line (codes "import")) h ts v
+          → (a : Text) × (b : Bool) × Leads IsName a q (without_words b ++ v) × (h ≡ import_of line (string_bytes n) a)
+      import_named h v l =
+          let f = import_behind h v l in
+          (encode_utf8_all f.0, f.1, name_leads f.0 q (without_words f.1 ++ v) (behind (word (codes "as")) u q (cut.name f.0 ∷ (without_words f.1 ++ v)) said f.2) f.3, f.4)
+
+      pub import_not_given : (x : ExprError) (r w : Tokens) → NameRead q (Err x) r → ReadsHead line m (codes "import") ts (Err x) w
+      import_not_given =
+          part_refused (λ (n : String Global). string_bytes n) head_view IsName (Behind line (codes "import")) Anything NoToken (λ a. 0) head_levels 0 (suc m) ts q
+          (λ h v l end. let f = import_named h v l in (f.0, without_words f.1 ++ v, f.2, tt, λ less. absurd (omega (arith, less))))
+
+      module _ (a : String Global) (r : Tokens) (given : NameRead q (Ok a) r) where
+        import_in : (h : Head) (v : Tokens) → Leads (Behind line (codes "import")) h ts v → v ≡ [] → (b : Bool) × Leads IsWithout b r v × (h ≡ import_of line (string_bytes n) (string_bytes a))
+        import_in h v l end =
+            let f = import_named h v l in
+            let same = given.2 f.0 (without_words f.1 ++ v) f.2 tt in
+            (f.1, (without_words f.1, sym same.1, refl), f.3 ∙ ap (import_of line (string_bytes n)) same.0)
+
+        import_out : (b : Bool) (v : Tokens) → Leads IsWithout b r v → Leads (Behind line (codes "import")) (import_of line (string_bytes n) (string_bytes a)) ts v
+        import_out b v l =
+            let x = leads_text (string_bytes n) ts u named.0 in
+            let y = leads_name (string_bytes a) q r given.0 in
+            subst (λ z. Leads (Behind line (codes "import")) (import_of line z (string_bytes a)) ts v) (sym x.2) (subst (λ z. Leads (Behind line (codes "import")) (import_of line (encode_utf8_all x.0) z) ts v) (sym y.3) (
+              cut.text x.0 ∷ word (codes "as") ∷ cut.name y.0 ∷ without_words b,
+              x.1 ∙ ap (λ z. cut.text x.0 ∷ z) (said ∙ ap (λ z. word (codes "as") ∷ z) (y.1 ∙ ap (λ z. cut.name y.0 ∷ z) (l.1 ∙ ap (λ z. z ++ v) l.2))),
+              says_import b y.2,
+            ))
+
+        pub import_last : (b : Result Bool ExprError) (w : Tokens) → WithoutRead r b w → HeadBy (λ (b : Bool). b) (λ b. import_of line (string_bytes n) (string_bytes a)) line m (codes "import") ts b w
+        import_last =
+            last_part (λ (b : Bool). b) head_view IsWithout (Behind line (codes "import")) (NoWord (codes "without")) NoToken (λ a. 0) head_levels 0 (suc m) ts r (λ b. import_of line (string_bytes n) (string_bytes a)) import_in import_out nothing_without
+            (λ b le. omega arith) (λ b less. absurd (omega (arith, less)))
+
+-- ---- from "x" import a, b as c without context
+
+abbrev from_of : ℕ → Text → List (Text × Text) → Head
+from_of line n xs = a_statement (trees.import_from line n xs)
+
+abbrev RowRead : Tokens → Result (Vec (String Global × String Global) Global) ExprError → Tokens → Type 0
+RowRead = ReadsFlat (λ (v : Vec (String Global × String Global) Global). given_view v.items) (Separated IsImported s.Comma) NoImported
+
+without_ends : (b : Bool) (v : Tokens) → v ≡ [] → NoImported (without_words b ++ v)
+without_ends true v end = (λ w e. cc, λ w e. cc)
+without_ends false v end = (λ w e. no_tokens (word (codes "as")) w (sym end ∙ e), λ w e. no_tokens (cut.sign s.Comma) w (sym end ∙ e))
+
+module _ (line m : ℕ) (ts : Tokens) where
+  from_front : (h : Head) (v : Tokens) → Leads (Behind line (codes "from")) h ts v
+      → (n : Text) × (xs : List (Text × Text)) × (y : Tokens) × (b : Bool) × (ts ≡ cut.text n ∷ word (codes "import") ∷ (y ++ (without_words b ++ v))) × Separated IsImported s.Comma xs y × (h ≡ from_of line (encode_utf8_all n) xs)
+  from_front h v l =
+      let p = inside line (codes "from") h ts v l in
+      let f = p.2 in
+      (f.0, f.1, f.2, f.3, p.1 ∙ ap (λ z. z ++ v) f.4 ∙ ap (λ z. cut.text f.0 ∷ word (codes "import") ∷ z) (append_assoc f.2 (without_words f.3) v), f.5, f.6)
+
+  from_text : (n : Text) (v : Tokens) → ts ≡ cut.text n ∷ v → Leads IsText (encode_utf8_all n) ts v
+  from_text n v e = (cut.text n ∷ [], e, (n, refl, refl))
+
+  pub from_unnamed : (x : ExprError) (r w : Tokens) → TextRead ts (Err x) r → ReadsHead line m (codes "from") ts (Err x) w
+  from_unnamed =
+      part_refused (λ (n : String Global). string_bytes n) head_view IsText (Behind line (codes "from")) Anything NoToken (λ a. 0) head_levels 0 (suc m) ts ts
+      (λ h v l end. let f = from_front h v l in (encode_utf8_all f.0, word (codes "import") ∷ (f.2 ++ (without_words f.3 ++ v)), from_text f.0 _ f.4, tt, λ less. absurd (omega (arith, less))))
+
+  module _ (n : String Global) (u : Tokens) (named : TextRead ts (Ok n) u) where
+    from_behind : (h : Head) (v : Tokens) → Leads (Behind line (codes "from")) h ts v
+        → (xs : List (Text × Text)) × (y : Tokens) × (b : Bool) × (u ≡ word (codes "import") ∷ (y ++ (without_words b ++ v))) × Separated IsImported s.Comma xs y × (h ≡ from_of line (string_bytes n) xs)
+    from_behind h v l =
+        let f = from_front h v l in
+        let same = named.2 (encode_utf8_all f.0) (word (codes "import") ∷ (f.2 ++ (without_words f.3 ++ v))) (from_text f.0 _ f.4) tt in
+        (f.1, f.2, f.3, sym same.1, f.5, f.6 ∙ ap (λ z. from_of line z f.1) same.0)
+
+    pub from_no_import : (x : ExprError) (r w : Tokens) → TakesWord (codes "import") u (Err x) r → ReadsHead line m (codes "from") ts (Err x) w
+    from_no_import = word_refused head_view (Behind line (codes "from")) NoToken head_levels (suc m) ts u (codes "import") (λ h v l end. let f = from_behind h v l in (f.1 ++ (without_words f.2 ++ v), f.3))
+
+    module _ (q : Tokens) (said : u ≡ word (codes "import") ∷ q) where
+      from_row : (h : Head) (v : Tokens) → Leads (Behind line (codes "from")) h ts v
+          → (xs : List (Text × Text)) × (b : Bool) × Leads (Separated IsImported s.Comma) xs q (without_words b ++ v) × (h ≡ from_of line (string_bytes n) xs)
+      from_row h v l =
+          let f = from_behind h v l in
+          (f.0, f.2, (f.1, behind (word (codes "import")) u q (f.1 ++ (without_words f.2 ++ v)) said f.3, f.4), f.5)
+
+      pub from_nothing : (x : ExprError) (r w : Tokens) → RowRead q (Err x) r → ReadsHead line m (codes "from") ts (Err x) w
+      from_nothing =
+          part_refused (λ (v : Vec (String Global × String Global) Global). given_view v.items) head_view (Separated IsImported s.Comma) (Behind line (codes "from")) NoImported NoToken (λ a. 0) head_levels 0 (suc m) ts q
+          (λ h v l end. let f = from_row h v l in (f.0, without_words f.1 ++ v, f.2, without_ends f.1 v end, λ less. absurd (omega (arith, less))))
+
+      module _ (xs : Vec (String Global × String Global) Global) (r : Tokens) (row : RowRead q (Ok xs) r) where
+        from_in : (h : Head) (v : Tokens) → Leads (Behind line (codes "from")) h ts v → v ≡ [] → (b : Bool) × Leads IsWithout b r v × (h ≡ from_of line (string_bytes n) (given_view xs.items))
+        from_in h v l end =
+            let f = from_row h v l in
+            let same = row.2 f.0 (without_words f.1 ++ v) f.2 (without_ends f.1 v end) in
+            (f.1, (without_words f.1, sym same.1, refl), f.3 ∙ ap (from_of line (string_bytes n)) same.0)
+
+        from_out : (b : Bool) (v : Tokens) → Leads IsWithout b r v → Leads (Behind line (codes "from")) (from_of line (string_bytes n) (given_view xs.items)) ts v
+        from_out b v l =
+            let x = leads_text (string_bytes n) ts u named.0 in
+            subst (λ z. Leads (Behind line (codes "from")) (from_of line z (given_view xs.items)) ts v) (sym x.2) (
+              cut.text x.0 ∷ word (codes "import") ∷ (row.0.0 ++ without_words b),
+              x.1 ∙ ap (λ z. cut.text x.0 ∷ z) (said ∙ ap (λ z. word (codes "import") ∷ z) (row.0.1 ∙ ap (λ z. row.0.0 ++ z) (l.1 ∙ ap (λ z. z ++ v) l.2) ∙ sym (append_assoc row.0.0 (without_words b) v))),
+              says_from b row.0.2,
+            )
+
+        pub from_last : (b : Result Bool ExprError) (w : Tokens) → WithoutRead r b w → HeadBy (λ (b : Bool). b) (λ b. from_of line (string_bytes n) (given_view xs.items)) line m (codes "from") ts b w
+        from_last =
+            last_part (λ (b : Bool). b) head_view IsWithout (Behind line (codes "from")) (NoWord (codes "without")) NoToken (λ a. 0) head_levels 0 (suc m) ts r (λ b. from_of line (string_bytes n) (given_view xs.items)) from_in from_out nothing_without
+            (λ b le. omega arith) (λ b less. absurd (omega (arith, less)))
 
 -- ---- extends "x"
 

@@ -1,5 +1,6 @@
 -- The parts of a tag: what is promised of each, from what is promised of what it is made of.
 use Rattle.std.proofs.Common.{◌≡◌, ℕ, Bool, true, false, [], ◌∷◌, ◌++◌, codes, encode_utf8_all, refl, sym, ap, subst, ◌∙◌, arith, Option, Some, None, option_map, Result, Ok, Err, String, Global, string_bytes}
+use Rattle.std.specs.Prelude.{unwrap_or}
 use Rattle.jt_scan.specs.declared.segment.Sign.TheVariants as s
 use Rattle.jt_scan.specs.Cut as cut
 use Rattle.jt_scan.specs.Cut.{Token}
@@ -14,9 +15,9 @@ use Rattle.jt_expr.specs.Promises.{Leads, Reads, EndsAt, the_end, OpensNone, par
 use Rattle.jt_trees.specs.ExpressionView.{expr_view, literal_view}
 use Rattle.jt_expr.specs.Cursor.{TakesSign}
 use Rattle.jt_trees.specs.Statements.{Parameter, Filtering, condition_levels}
-use Rattle.jt_parse.specs.Tags.{IsName, IsValue, a_value, IsFiltering, a_filter, literal_token, IsParameter, plain, with_default, Condition, no_condition, a_condition, Context, unsaid, with_context, without_context, missing_words}
-use Rattle.jt_parse.specs.Readers.{TakesWord, Anything, NoToken, NoSign, NoWord, IsText, IsLiteral, IsDefault, value_levels, one_filtering_levels, ReadsFlat}
-use Rattle.jt_parse.specs.HeadView.{value_view}
+use Rattle.jt_parse.specs.Tags.{IsName, IsValue, a_value, IsFiltering, a_filter, literal_token, IsParameter, plain, with_default, Condition, no_condition, a_condition, Context, unsaid, with_context, without_context, missing_words, IsImported, itself, renamed, without_words}
+use Rattle.jt_parse.specs.Readers.{TakesWord, Anything, NoToken, NoSign, NoWord, IsText, IsLiteral, IsDefault, IsGiven, IsWithout, GivesPair, value_levels, one_filtering_levels, ReadsFlat}
+use Rattle.jt_parse.specs.HeadView.{value_view, imported_view}
 use Rattle.jt_trees.specs.StatementView.{filtering_view, parameter_view}
 use Rattle.jt_trees.specs.declared.statement.Filtering.{Filtering as Filter}
 use Rattle.jt_trees.specs.declared.statement.Parameter.{Parameter as Declared}
@@ -321,4 +322,110 @@ module _ (ts : Tokens) where
       (word (codes "without") ∷ word (codes "context") ∷ [], said ∙ ap (λ z. word (codes "without") ∷ z) is, without_context),
       omega arith,
       λ b v l end. let p = behind_without b v l end in (p.0, behind (word (codes "context")) q v u p.1 is),
+    )
+
+-- ---- as b
+
+leads_given : (a : Option Text) (ts v : Tokens) → Leads IsGiven a ts v → NoWord (codes "as") v → (q : Tokens) → ts ≡ word (codes "as") ∷ q → (n : Text) × Leads IsName n q v × (a ≡ Some n)
+leads_given None ts v (x, is, d) end q said = absurd (end q (sym (is ∙ ap (λ z. z ++ v) d) ∙ said))
+leads_given (Some n) ts v (x, is, d) end q said =
+    (n, subst (λ z. Leads IsName z q v) (sym d.3) (name_leads d.0 q v (behind (word (codes "as")) ts q (cut.name d.0 ∷ v) said (is ∙ ap (λ z. z ++ v) d.1)) d.2), refl)
+
+module _ (ts : Tokens) where
+  abbrev ReadsGiven : Result (Option (String Global)) ExprError → Tokens → Type 0
+  ReadsGiven = ReadsFlat (option_map string_bytes) IsGiven (NoWord (codes "as")) ts
+
+  pub not_given : NoWord (codes "as") ts → ReadsGiven (Ok None) ts
+  not_given none = (([], refl, refl), omega arith, λ b v l end. by b v l)
+    where
+      by : (b : Option Text) (v : Tokens) → Leads IsGiven b ts v → (b ≡ None) × (v ≡ ts)
+      by None v (x, is, d) = (refl, sym (is ∙ ap (λ z. z ++ v) d))
+      by (Some n) v (x, is, d) = absurd (none (cut.name d.0 ∷ v) (is ∙ ap (λ z. z ++ v) d.1))
+
+  module _ (q : Tokens) (said : ts ≡ word (codes "as") ∷ q) where
+    given_out_of : (n : Text) (v : Tokens) → Leads IsName n q v → Leads IsGiven (Some n) ts v
+    given_out_of n v l = let p = leads_name n q v l in (word (codes "as") ∷ cut.name p.0 ∷ [], said ∙ ap (λ z. word (codes "as") ∷ z) p.1, (p.0, refl, p.2, p.3))
+
+    pub given_last : (a : Result (String Global) ExprError) (w : Tokens) → NameRead q a w → Whole (string_bytes {Z = Global}) (option_map (string_bytes {Z = Global})) (λ n. Some n) IsGiven (NoWord (codes "as")) (λ a. 0) 0 ts a w
+    given_last =
+        last_part (string_bytes {Z = Global}) (option_map (string_bytes {Z = Global})) IsName IsGiven Anything (NoWord (codes "as")) (λ a. 0) (λ a. 0) 0 0 ts q (λ n. Some n) (λ c v l end. leads_given c ts v l end q said) given_out_of (λ v end. tt)
+        (λ n le. le) (λ n less. less)
+
+-- ---- a as b
+
+abbrev imported_of : Text → Option Text → Text × Text
+imported_of x d = (x, unwrap_or d x)
+
+leads_imported : (a : Text × Text) (ts v : Tokens) → Leads IsImported a ts v
+    → (x : Text) × (d : Option Text) × (y : Tokens) × (ts ≡ cut.name x ∷ (y ++ v)) × (is_reserved x ≡ false) × IsGiven d y × (a ≡ imported_of (encode_utf8_all x) d)
+leads_imported a ts v (z, is, itself {x} h) = (x, None, [], is, h, refl, refl)
+leads_imported a ts v (z, is, renamed {x} {y} h i) = (x, Some (encode_utf8_all y), word (codes "as") ∷ cut.name y ∷ [], is, h, (y, refl, i, refl), refl)
+
+imported_form : (x : Text) (d : Option Text) (y : Tokens) → is_reserved x ≡ false → IsGiven d y → IsImported (imported_of (encode_utf8_all x) d) (cut.name x ∷ y)
+imported_form x None y h d = subst (λ z. IsImported (encode_utf8_all x, encode_utf8_all x) (cut.name x ∷ z)) (sym d) (itself h)
+imported_form x (Some n) y h d =
+    subst (λ z. IsImported (encode_utf8_all x, z) (cut.name x ∷ y)) (sym d.3) (subst (λ z. IsImported (encode_utf8_all x, encode_utf8_all d.0) (cut.name x ∷ z)) (sym d.1) (renamed h d.2))
+
+module _ (ts : Tokens) where
+  abbrev ReadsImported : Result (String Global × String Global) ExprError → Tokens → Type 0
+  ReadsImported = ReadsFlat imported_view IsImported (NoWord (codes "as")) ts
+
+  pub imported_unnamed : (x : ExprError) (r w : Tokens) → NameRead ts (Err x) r → ReadsImported (Err x) w
+  imported_unnamed =
+      part_refused (λ (n : String Global). string_bytes n) imported_view IsName IsImported Anything (NoWord (codes "as")) (λ a. 0) (λ a. 0) 0 0 ts ts
+      (λ c v l end. let p = leads_imported c ts v l in (encode_utf8_all p.0, p.2 ++ v, name_leads p.0 ts _ p.3 p.4, tt, λ less. less))
+
+  module _ (n : String Global) (u : Tokens) (named : NameRead ts (Ok n) u) where
+    renaming : (a : Text × Text) (v : Tokens) → Leads IsImported a ts v → (d : Option Text) × Leads IsGiven d u v × (a ≡ imported_of (string_bytes n) d)
+    renaming a v l =
+        let p = leads_imported a ts v l in
+        let b = behind_name n ts u named p.0 (p.2 ++ v) p.3 p.4 in
+        (p.1, (p.2, sym b.1, p.5), p.6 ∙ ap (λ z. imported_of z p.1) b.0)
+
+    renaming_out : (d : Option Text) (v : Tokens) → Leads IsGiven d u v → Leads IsImported (imported_of (string_bytes n) d) ts v
+    renaming_out d v l =
+        let x = leads_name (string_bytes n) ts u named.0 in
+        subst (λ z. Leads IsImported (imported_of z d) ts v) (sym x.3) (cut.name x.0 ∷ l.0, x.1 ∙ ap (λ z. cut.name x.0 ∷ z) l.1, imported_form x.0 d l.0 x.2 l.2)
+
+    pub imported_last : (a : Result (Option (String Global)) ExprError) (w : Tokens) → ReadsFlat (option_map string_bytes) IsGiven (NoWord (codes "as")) u a w
+        → Whole (option_map string_bytes) imported_view (imported_of (string_bytes n)) IsImported (NoWord (codes "as")) (λ a. 0) 0 ts a w
+    imported_last =
+        last_part (option_map string_bytes) imported_view IsGiven IsImported (NoWord (codes "as")) (NoWord (codes "as")) (λ a. 0) (λ a. 0) 0 0 ts u (imported_of (string_bytes n)) (λ a v l end. renaming a v l) renaming_out (λ v end. end)
+        (λ d le. le) (λ d less. less)
+
+    pub imported_done : (d : Option (String Global)) (w : Tokens) → ReadsFlat (option_map string_bytes) IsGiven (NoWord (codes "as")) u (Ok d) w
+        → (r : Result (String Global × String Global) ExprError) → GivesPair (string_bytes n) (option_map string_bytes d) r → ReadsImported r w
+    imported_done d w g (Ok p) is = imported_last (Ok d) w g p is
+    imported_done d w g (Err e.Syntax) is = absurd is
+    imported_done d w g (Err e.TooDeep) is = absurd is
+    imported_done d w g (Err e.UnknownFilter) is = absurd is
+    imported_done d w g (Err e.UnknownTest) is = absurd is
+    imported_done d w g (Err e.NoMemory) is = tt
+
+-- ---- without context
+
+module _ (ts : Tokens) where
+  abbrev ReadsWithout : Result Bool ExprError → Tokens → Type 0
+  ReadsWithout = ReadsFlat (λ (b : Bool). b) IsWithout (NoWord (codes "without")) ts
+
+  pub not_said : NoWord (codes "without") ts → ReadsWithout (Ok false) ts
+  not_said none = (([], refl, refl), omega arith, λ b v l end. by b v l)
+    where
+      by : (b : Bool) (v : Tokens) → Leads IsWithout b ts v → (b ≡ false) × (v ≡ ts)
+      by false v (x, is, d) = (refl, sym (is ∙ ap (λ z. z ++ v) d))
+      by true v (x, is, d) = absurd (none (word (codes "context") ∷ v) (is ∙ ap (λ z. z ++ v) d))
+
+  module _ (q : Tokens) (said : ts ≡ word (codes "without") ∷ q) where
+    behind_said : (b : Bool) (v : Tokens) → Leads IsWithout b ts v → NoWord (codes "without") v → (b ≡ true) × (q ≡ word (codes "context") ∷ v)
+    behind_said false v (x, is, d) end = absurd (end q (sym (is ∙ ap (λ z. z ++ v) d) ∙ said))
+    behind_said true v (x, is, d) end = (refl, behind (word (codes "without")) ts q (word (codes "context") ∷ v) said (is ∙ ap (λ z. z ++ v) d))
+
+    pub said_refused : (x : ExprError) (r w : Tokens) → TakesWord (codes "context") q (Err x) r → ReadsWithout (Err x) w
+    said_refused = word_refused (λ (b : Bool). b) IsWithout (NoWord (codes "without")) (λ b. 0) 0 ts q (codes "context") (λ c v l end. (v, (behind_said c v l end).1))
+
+    pub said_read : (u : Tokens) → q ≡ word (codes "context") ∷ u → ReadsWithout (Ok true) u
+    said_read u is = (
+      (without_words true, said ∙ ap (λ z. word (codes "without") ∷ z) is, refl),
+      omega arith,
+      λ b v l end. let p = behind_said b v l end in (p.0, behind (word (codes "context")) q v u p.1 is),
     )

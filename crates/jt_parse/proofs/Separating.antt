@@ -1,5 +1,5 @@
 -- What is promised of parts with a sign between them, from what is promised of one part: one turn of the loop over them.
-use Rattle.std.proofs.Common.{◌≡◌, ℕ, ◌+◌, ◌<◌, ◌≤◌, max, List, [], ◌∷◌, ◌++◌, length, map, refl, sym, ap, subst, ◌∙◌, append_assoc, length-append, arith, Result, Ok, Err}
+use Rattle.std.proofs.Common.{◌≡◌, ℕ, ◌+◌, ◌<◌, ◌≤◌, max, List, [], ◌∷◌, ◌++◌, length, map, codes, refl, sym, ap, subst, ◌∙◌, append_assoc, length-append, arith, Result, Ok, Err}
 use Rattle.std.proofs.lemmas.List.{map-append}
 use Rattle.jt_scan.specs.declared.segment.Sign.{Sign}
 use Rattle.jt_scan.specs.declared.segment.Sign.TheVariants as s
@@ -8,12 +8,12 @@ use Rattle.jt_expr.specs.declared.error.ExprError.{ExprError}
 use Rattle.jt_expr.specs.declared.error.ExprError.TheVariants as e
 use Rattle.jt_scan.specs.Cut.{Token}
 use Rattle.jt_trees.specs.Expressions.{Expr, Text}
-use Rattle.jt_expr.specs.Grammar.{Tokens, whole}
+use Rattle.jt_expr.specs.Grammar.{Tokens, word, whole}
 use Rattle.jt_expr.specs.Promises.{Leads, Reads, EndsAt, the_end, a_comma, OpensNone}
 use Rattle.jt_trees.specs.Statements.{Filtering, Parameter}
-use Rattle.jt_parse.specs.Tags.{Separated, only, also, IsName, a_name, IsValue, a_value, IsFiltering, a_filter, IsParameter, plain, with_default}
+use Rattle.jt_parse.specs.Tags.{Separated, only, also, IsName, a_name, IsValue, a_value, IsFiltering, a_filter, IsParameter, plain, with_default, IsImported, itself, renamed}
 use Rattle.jt_parse.proofs.Fronts.{no_tokens}
-use Rattle.jt_parse.specs.Readers.{Anything, NoToken, NoSign, NoParameter, most, ReadsFlat}
+use Rattle.jt_parse.specs.Readers.{Anything, NoToken, NoSign, NoWord, NoParameter, NoImported, most, ReadsFlat}
 
 most_then : {A : Type 0} (lev : A → ℕ) (xs bs : List A) → most lev (xs ++ bs) ≡ max (most lev xs) (most lev bs)
 most_then lev [] bs = omega arith
@@ -202,3 +202,13 @@ parameter_row = record { one_ends = λ v h. h.0; sign_ends = λ v w e. other_sig
 
     other_sign : (v w : Tokens) → ◌≡◌ {A = Tokens} (cut.sign s.Comma ∷ v) (cut.sign s.Assign ∷ w) → ⊥
     other_sign v w e = cc
+
+pub imported_row : IsRow IsImported s.Comma (NoWord (codes "as")) NoImported
+imported_row = record { one_ends = λ v h. h.0; sign_ends = λ v w e. other v w e; no_sign = λ v w h e. h.1 w e; some = some_imported }
+  where
+    some_imported : (a : Text × Text) (x : Tokens) → IsImported a x → 0 < length x
+    some_imported a x (itself h) = omega arith
+    some_imported a x (renamed h i) = omega arith
+
+    other : (v w : Tokens) → ◌≡◌ {A = Tokens} (cut.sign s.Comma ∷ v) (word (codes "as") ∷ w) → ⊥
+    other v w e = cc

@@ -12,7 +12,7 @@ use Rattle.jt_scan.specs.Cut as cut
 use Rattle.jt_scan.specs.Cut.{EndsWith, Segment}
 use Rattle.jt_trees.specs.Expressions.{Expr, Pairs, Text}
 use Rattle.jt_expr.specs.Grammar.{Tokens, word, Level, Spells}
-use Rattle.jt_trees.specs.Sizes.{expr_bytes, exprs_bytes, pairs_bytes, texts_bytes, condition_bytes, filtering_bytes, default_bytes, parameters_bytes, stmt_bytes, body_bytes, branch_bytes}
+use Rattle.jt_trees.specs.Sizes.{expr_bytes, exprs_bytes, pairs_bytes, texts_bytes, condition_bytes, filtering_bytes, default_bytes, parameters_bytes, stmt_bytes, body_bytes, branch_bytes, given_bytes}
 use Rattle.jt_expr.specs.Sizes.{tokens_bytes}
 use Rattle.jt_expr.specs.Promises.{ExpressionLaws}
 use Rattle.jt_trees.specs.Statements.{Filtering, Parameter, Body, Branches}
@@ -21,7 +21,7 @@ use Rattle.jt_parse.specs.Kept as kept
 use Rattle.jt_parse.specs.Kept.{Piece, Side, pieces_from, with_segment, with_text, side_ahead, side_behind, block_side, variable_side, after_left, after_lf}
 use Rattle.jt_scan.specs.declared.segment.Mark.TheVariants as m
 use Rattle.jt_parse.specs.View.{reads_of}
-use Rattle.jt_parse.specs.Tags.{Separated, only, also, IsName, a_name, IsValue, a_value, pairs_of, Values, no_values, some_values, IsFiltering, a_filter, IsParameter, plain, with_default, Parameters, no_parameters, some_parameters, Opening, a_text as set_text, values, filters, escaping, a_macro, a_block, Head, a_statement, an_if, a_loop, an_opening, made, Condition, no_condition, a_condition, Says, says_if, says_for, says_set, says_text, says_with, says_filter, says_autoescape, says_macro, says_include, says_extends, says_block}
+use Rattle.jt_parse.specs.Tags.{Separated, only, also, IsName, a_name, IsValue, a_value, pairs_of, Values, no_values, some_values, IsFiltering, a_filter, IsParameter, plain, with_default, IsImported, itself, renamed, without_words, Parameters, no_parameters, some_parameters, Opening, a_text as set_text, values, filters, escaping, a_macro, a_block, Head, a_statement, an_if, a_loop, an_opening, made, Condition, no_condition, a_condition, Says, says_if, says_for, says_set, says_text, says_with, says_filter, says_autoescape, says_macro, says_include, says_import, says_from, says_extends, says_block}
 use Rattle.jt_parse.specs.Grammar.{block, Forms, nothing_more, some_data, a_print, one_tag, an_if_statement, a_for_statement, enclosed, GoesOn, no_elif, an_elif, Otherwise, no_else, an_else}
 use Rattle.jt_parse.proofs.Weighs.{literal_spelled, filter_spelled}
 use Rattle.jt_parse.proofs.Sides.{space_end, lf_end, whole_end}
@@ -89,6 +89,17 @@ module _ (laws : ExpressionLaws) where
   condition_short no_condition = omega arith
   condition_short (a_condition d) = omega (arith, spells_short d)
 
+  abbrev given_length : Text × Text → ℕ
+  given_length a = length a.1
+
+  imported_short : (a : Text × Text) (x : Tokens) → IsImported a x → given_length a ≤ tokens_bytes x
+  imported_short a x (itself h) = omega arith
+  imported_short a x (renamed h i) = omega arith
+
+  imported_sum : (bs : List (Text × Text)) → sums given_length bs ≡ given_bytes bs
+  imported_sum [] = refl
+  imported_sum (b ∷ bs) = omega (arith, imported_sum bs)
+
   -- ---- heads
 
   abbrev opening_bytes : Opening → ℕ
@@ -116,6 +127,8 @@ module _ (laws : ExpressionLaws) where
   says_short (says_autoescape on) = omega arith
   says_short (says_macro h d) = omega (arith, parameters_short d)
   says_short (says_include missing d) = omega arith
+  says_short (says_import said h) = omega arith
+  says_short (says_from {xs = xs} {x = x} said d) = omega (arith, sep_short given_length imported_short d, imported_sum xs, bytes-append x (without_words said))
   says_short says_extends = omega arith
   says_short (says_block scoped required h) = omega arith
 

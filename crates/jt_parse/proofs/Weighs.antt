@@ -15,7 +15,7 @@ use Rattle.jt_parse.specs.Kept as kept
 use Rattle.jt_parse.specs.Kept.{Piece, Side, pieces_from, with_segment, with_text, side_ahead, side_behind, block_side}
 use Rattle.jt_scan.specs.declared.options.Options.{Options}
 use Rattle.jt_parse.specs.View.{reads_of}
-use Rattle.jt_parse.specs.Tags.{Separated, only, also, IsName, a_name, IsValue, a_value, pairs_of, Values, no_values, some_values, IsFiltering, a_filter, literal_token, IsParameter, plain, with_default, Parameters, no_parameters, some_parameters, Opening, a_text as set_text, values, filters, escaping, a_macro, a_block, Head, a_statement, an_if, a_loop, an_opening, made, Condition, no_condition, a_condition, Says, says_if, says_for, says_set, says_text, says_with, says_filter, says_autoescape, says_macro, says_include, says_extends, says_block, Ends, by_word, by_name}
+use Rattle.jt_parse.specs.Tags.{Separated, only, also, IsName, a_name, IsValue, a_value, pairs_of, Values, no_values, some_values, IsFiltering, a_filter, literal_token, IsParameter, plain, with_default, IsImported, itself, renamed, without_words, Parameters, no_parameters, some_parameters, Opening, a_text as set_text, values, filters, escaping, a_macro, a_block, Head, a_statement, an_if, a_loop, an_opening, made, Condition, no_condition, a_condition, Says, says_if, says_for, says_set, says_text, says_with, says_filter, says_autoescape, says_macro, says_include, says_import, says_from, says_extends, says_block, Ends, by_word, by_name}
 use Rattle.jt_parse.specs.Grammar.{block, Forms, nothing_more, some_data, a_print, one_tag, an_if_statement, a_for_statement, enclosed, GoesOn, no_elif, an_elif, Otherwise, no_else, an_else}
 use Rattle.jt_expr.proofs.Weighs.{weight-append}
 
@@ -89,6 +89,14 @@ module _ (laws : ExpressionLaws) where
   condition_weighs no_condition = omega arith
   condition_weighs (a_condition d) = omega (arith, spells_weighs d)
 
+  imported_weighs : (a : Text × Text) (x : Tokens) → IsImported a x → 1 ≤ tokens_weight x
+  imported_weighs a x (itself h) = omega arith
+  imported_weighs a x (renamed h i) = omega arith
+
+  imported_sum : (bs : List (Text × Text)) → sums (λ (a : Text × Text). 1) bs ≡ 2 * length bs
+  imported_sum [] = refl
+  imported_sum (b ∷ bs) = omega (arith, imported_sum bs)
+
   -- ---- heads
 
   abbrev opening_weight : Opening → ℕ
@@ -116,6 +124,8 @@ module _ (laws : ExpressionLaws) where
   says_weighs (says_autoescape on) = omega arith
   says_weighs (says_macro h d) = omega (arith, parameters_weigh d)
   says_weighs (says_include missing d) = omega arith
+  says_weighs (says_import said h) = omega arith
+  says_weighs (says_from {xs = xs} {x = x} said d) = omega (arith, sep_weighs (λ (a : Text × Text). 1) imported_weighs d, imported_sum xs, weight-append x (without_words said))
   says_weighs says_extends = omega arith
   says_weighs (says_block scoped required h) = omega arith
 

@@ -21,7 +21,7 @@ mutual
     nothing_more : Forms end []
     some_data : {body : Body} {d : List ℕ} {ps : List Piece} → Forms body ps → Forms (stmt (data_of (encode_utf8_all d)) body) (kept.text d ∷ ps)
     a_print : {body : Body} {line : ℕ} {e : Expr} {ts : List Token} {ps : List Piece} → Spells whole e ts → Forms body ps → Forms (stmt (print line e) body) (kept.tag kind.Variable line ts ∷ ps)
-    -- {% set a = e %}, {% include "x" %} and {% extends "x" %}
+    -- {% set a = e %}, {% include "x" %}, imports and {% extends "x" %}
     one_tag : {body : Body} {s : Stmt} {line : ℕ} {ts : List Token} {ps : List Piece} → Says line (a_statement s) ts → Forms body ps → Forms (stmt s body) (block line ts ∷ ps)
     -- {% if c %} inside, branches and else part, {% endif %}
     an_if_statement : {body inside other : Body} {bs : Branches} {line : ℕ} {c : Expr} {ts : List Token} {xs ys ps : List Piece}

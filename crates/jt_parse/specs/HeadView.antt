@@ -19,6 +19,9 @@ value_view p = (string_bytes p.0, expr_view p.1)
 abbrev pub values_view : List (String Global × Expr) → List (Text × expressions.Expr)
 values_view = map value_view
 
+abbrev pub imported_view : String Global × String Global → Text × Text
+imported_view x = (string_bytes x.0, string_bytes x.1)
+
 abbrev pub loop_view : Loop → tags.Loop
 loop_view l = record { targets = names_view l.targets.items; over = expr_view l.over; condition = option_map expr_view l.condition }
 

@@ -5,7 +5,7 @@ use Rattle.jt_expr.specs.declared.named.Named.{Named}
 use Rattle.jt_expr.specs.declared.named.Named.TheVariants as named
 use Rattle.jt_expr.specs.Named.{has_unknown, exprs_have_unknown, pairs_have_unknown, filter_unknown}
 use Rattle.jt_trees.specs.Expressions.{Expr}
-use Rattle.jt_trees.specs.Statements.{Filtering, Stmt, data_of, print, choose, for_each, set, set_block, with_values, filter_block, autoescape, macro, include, extends, block, Body, end, stmt, Branches, no_branches, branch}
+use Rattle.jt_trees.specs.Statements.{Filtering, Stmt, data_of, print, choose, for_each, set, set_block, with_values, filter_block, autoescape, macro, include, import_as, import_from, extends, block, Body, end, stmt, Branches, no_branches, branch}
 
 -- a tag, by its line, and whether a filter or a test in it is to blame
 abbrev pub Found : Type 0
@@ -43,6 +43,8 @@ abbrev mutual
   stmt_unknown (autoescape line on body) = body_unknown body
   stmt_unknown (macro line x ps body) = body_unknown body
   stmt_unknown (include line n missing context) = None
+  stmt_unknown (import_as line n x) = None
+  stmt_unknown (import_from line n xs) = None
   stmt_unknown (extends line n) = None
   stmt_unknown (block line x scoped required body) = body_unknown body
 

@@ -3,7 +3,7 @@ use Rattle.std.specs.Prelude.{Bool, true, false, not, ◌&&◌, ◌||◌, if◌t
 use Rattle.std.specs.List.{list_all}
 use Rattle.jt_scan.specs.Cut.{is_space}
 use Rattle.jt_trees.specs.Expressions.{Text}
-use Rattle.jt_trees.specs.Statements.{Stmt, data_of, print, choose, for_each, set, set_block, with_values, filter_block, autoescape, macro, include, extends, block, Body, end, stmt, Branches, no_branches, branch}
+use Rattle.jt_trees.specs.Statements.{Stmt, data_of, print, choose, for_each, set, set_block, with_values, filter_block, autoescape, macro, include, import_as, import_from, extends, block, Body, end, stmt, Branches, no_branches, branch}
 
 -- where a statement stands: at the top of a template that extends another, at the top of one that doesn't, inside a
 -- macro, or anywhere else
@@ -44,8 +44,8 @@ abbrev pub is_blank_body : Body → Bool
 is_blank_body end = true
 is_blank_body (stmt s rest) = is_blank_stmt s && is_blank_body rest
 
--- Outside blocks a child has only text, `set`, blocks and macros. Macros stand at the top, no block stands in a macro, a
--- required block holds only whitespace, and `extends` stands nowhere here.
+-- Outside blocks a child has only text, `set`, blocks, macros and imports. Macros and imports stand at the top, no block stands
+-- in a macro, a required block holds only whitespace, and `extends` stands nowhere here.
 abbrev mutual
   pub stmt_placed : Place → Stmt → Bool
   stmt_placed p (data_of t) = true
@@ -59,6 +59,8 @@ abbrev mutual
   stmt_placed p (autoescape line on body) = not (is_child p) && body_placed (within p) body
   stmt_placed p (macro line x ps body) = is_top p && body_placed in_macro body
   stmt_placed p (include line n missing context) = not (is_child p)
+  stmt_placed p (import_as line n x) = is_top p
+  stmt_placed p (import_from line n xs) = is_top p
   stmt_placed p (extends line n) = false
   stmt_placed p (block line x scoped required body) = not (is_macro p) && ((not required || is_blank_body body) && body_placed (within p) body)
 

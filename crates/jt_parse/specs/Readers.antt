@@ -1,16 +1,17 @@
 -- What only private clauses cite: what the readers of a tag's parts give: what jt_expr's `Reads` says, of the forms of Tags.
-use Rattle.std.specs.Prelude.{◌≡◌, ℕ, max, List, [], ◌∷◌, suc, encode_utf8_all, Option, Some, None, Result, Ok, Err}
+use Rattle.std.specs.Prelude.{◌≡◌, ℕ, max, Bool, false, List, [], ◌∷◌, suc, codes, encode_utf8_all, Option, Some, None, unwrap_or, Result, Ok, Err, String}
+use Rattle.std.specs.declared.alloc.Global.{Global}
 use Rattle.jt_scan.specs.declared.segment.Sign.{Sign}
 use Rattle.jt_scan.specs.declared.segment.Sign.TheVariants as s
 use Rattle.jt_scan.specs.Cut as cut
 use Rattle.jt_expr.specs.declared.error.ExprError.{ExprError}
 use Rattle.jt_expr.specs.declared.error.ExprError.TheVariants as e
 use Rattle.jt_trees.specs.Expressions.{Expr, Literal, levels, exprs_levels, pairs_levels, Text}
-use Rattle.jt_expr.specs.Grammar.{Tokens, word}
+use Rattle.jt_expr.specs.Grammar.{Tokens, word, is_reserved}
 use Rattle.jt_expr.specs.Promises.{Reads}
 use Rattle.jt_trees.specs.Statements.{Filtering}
-use Rattle.jt_parse.specs.Tags.{literal_token, Says, an_opening, a_text, head_levels}
-use Rattle.jt_parse.specs.HeadView.{head_view}
+use Rattle.jt_parse.specs.Tags.{literal_token, without_words, Says, an_opening, a_text, head_levels}
+use Rattle.jt_parse.specs.HeadView.{head_view, imported_view}
 use Rattle.jt_parse.specs.declared.heads.Head.{Head}
 
 -- the word, or it does not stand in front
@@ -40,6 +41,10 @@ NoWord x v = (w : Tokens) → v ≡ word x ∷ w → ⊥
 abbrev pub NoParameter : Tokens → Type 0
 NoParameter v = NoSign s.Assign v × NoSign s.Comma v
 
+-- no name is given to a macro, and no other macro follows
+abbrev pub NoImported : Tokens → Type 0
+NoImported v = NoWord (codes "as") v × NoSign s.Comma v
+
 -- ---- forms
 
 -- a text literal
@@ -53,6 +58,15 @@ IsLiteral l x = (t : cut.Token) × (x ≡ t ∷ []) × (literal_token t ≡ Some
 abbrev pub IsDefault : Option Literal → Tokens → Type 0
 IsDefault None x = x ≡ []
 IsDefault (Some l) x = (t : cut.Token) × (x ≡ cut.sign s.Assign ∷ t ∷ []) × (literal_token t ≡ Some l)
+
+-- as b
+abbrev pub IsGiven : Option Text → Tokens → Type 0
+IsGiven None x = x ≡ []
+IsGiven (Some a) x = (n : List ℕ) × (x ≡ word (codes "as") ∷ cut.name n ∷ []) × (is_reserved n ≡ false) × (a ≡ encode_utf8_all n)
+
+-- without context
+abbrev pub IsWithout : Bool → Tokens → Type 0
+IsWithout b x = x ≡ without_words b
 
 -- ---- levels
 
@@ -85,3 +99,12 @@ GivesText names (Err e.TooDeep) = ⊥
 GivesText names (Err e.UnknownFilter) = ⊥
 GivesText names (Err e.UnknownTest) = ⊥
 GivesText names (Err e.NoMemory) = ⊥
+
+-- a macro with the name that is given to it, or else with its own
+abbrev pub GivesPair : Text → Option Text → Result (String Global × String Global) ExprError → Type 0
+GivesPair name given (Ok p) = imported_view p ≡ (name, unwrap_or given name)
+GivesPair name given (Err e.Syntax) = ⊥
+GivesPair name given (Err e.TooDeep) = ⊥
+GivesPair name given (Err e.UnknownFilter) = ⊥
+GivesPair name given (Err e.UnknownTest) = ⊥
+GivesPair name given (Err e.NoMemory) = Unit {0}

@@ -62,6 +62,11 @@ defaults_from d (p ∷ ps) = if has_default p then defaults_from true ps else no
 abbrev pub defaults_last : List Parameter → Bool
 defaults_last = defaults_from false
 
+-- a macro that is imported, with the name that is given to it: its own, if no other is said
+pub data IsImported : Text × Text → Tokens → Type 0 where
+  itself : {x : List ℕ} → is_reserved x ≡ false → IsImported (encode_utf8_all x, encode_utf8_all x) (cut.name x ∷ [])
+  renamed : {x y : List ℕ} → is_reserved x ≡ false → is_reserved y ≡ false → IsImported (encode_utf8_all x, encode_utf8_all y) (cut.name x ∷ word (codes "as") ∷ cut.name y ∷ [])
+
 -- up to the closing parenthesis
 pub data Parameters : List Parameter → Tokens → Type 0 where
   no_parameters : Parameters [] (cut.sign s.RightParen ∷ [])
@@ -124,6 +129,11 @@ abbrev pub missing_words : Bool → Tokens
 missing_words true = word (codes "ignore") ∷ word (codes "missing") ∷ []
 missing_words false = []
 
+-- a library sees no names around, whether or not it is said
+abbrev pub without_words : Bool → Tokens
+without_words true = word (codes "without") ∷ word (codes "context") ∷ []
+without_words false = []
+
 abbrev pub truth_word : Bool → List ℕ
 truth_word true = codes "true"
 truth_word false = codes "false"
@@ -152,6 +162,12 @@ pub data Says (line : ℕ) : Head → Tokens → Type 0 where
   -- include "x" ignore missing without context
   says_include : {v : List ℕ} {context : Bool} {y : Tokens} (missing : Bool) → Context context y
       → Says line (a_statement (trees.include line (encode_utf8_all v) missing context)) (word (codes "include") ∷ cut.text v ∷ (missing_words missing ++ y))
+  -- import "x" as f without context
+  says_import : {v x : List ℕ} (said : Bool) → is_reserved x ≡ false
+      → Says line (a_statement (trees.import_as line (encode_utf8_all v) (encode_utf8_all x))) (word (codes "import") ∷ cut.text v ∷ word (codes "as") ∷ cut.name x ∷ without_words said)
+  -- from "x" import a, b as c without context
+  says_from : {v : List ℕ} {xs : List (Text × Text)} {x : Tokens} (said : Bool) → Separated IsImported s.Comma xs x
+      → Says line (a_statement (trees.import_from line (encode_utf8_all v) xs)) (word (codes "from") ∷ cut.text v ∷ word (codes "import") ∷ (x ++ without_words said))
   -- extends "x"
   says_extends : {v : List ℕ} → Says line (a_statement (trees.extends line (encode_utf8_all v))) (word (codes "extends") ∷ cut.text v ∷ [])
   -- block b scoped required

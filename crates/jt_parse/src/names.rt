@@ -112,7 +112,11 @@ fn check_statement(statement: &Stmt) -> Result<(), ParseError>
     ensures { GivesNames (spec.stmt_unknown (stmt_view statement.now)) result }
 {
     match statement {
-        Stmt::Data(_) | Stmt::Include(_, _, _, _) | Stmt::Extends(_, _) => Ok(()),
+        Stmt::Data(_)
+        | Stmt::Include(_, _, _, _)
+        | Stmt::Import(_, _, _)
+        | Stmt::From(_, _, _)
+        | Stmt::Extends(_, _) => Ok(()),
         Stmt::Print(line, expr) | Stmt::Set(line, _, expr) => check_expression(*line, expr),
         Stmt::If(branches, other) => {
             for (line, condition, body) in branches {

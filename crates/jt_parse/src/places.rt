@@ -40,7 +40,7 @@ fn is_child(place: Place) -> bool
     place == Place::ChildTop
 }
 
-/// Whether a macro may stand there.
+/// Whether a macro or an import may stand there.
 fn is_top(place: Place) -> bool
     ensures { result ≡ spec.is_top (place_view place) }
 {
@@ -137,6 +137,7 @@ fn statement_placed(statement: &Stmt, place: Place, found: &mut u32) -> bool
         Stmt::Print(line, _) | Stmt::Include(line, _, _, _) => {
             answer(!is_child(place), *line, found)
         }
+        Stmt::Import(line, _, _) | Stmt::From(line, _, _) => answer(is_top(place), *line, found),
         Stmt::Extends(line, _) => answer(false, *line, found),
         Stmt::If(branches, other) => {
             if !answer(!is_child(place), first_line(branches), found) {

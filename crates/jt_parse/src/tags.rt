@@ -11,11 +11,11 @@ ghost use Rattle.jt_trees.specs.ExpressionView.{expr_view, literal_view};
 ghost use Rattle.jt_expr.specs.Cursor.{ahead};
 ghost use Rattle.jt_expr.specs.Words.{letters_of};
 ghost use Rattle.jt_trees.specs.Statements.{condition_levels};
-ghost use Rattle.jt_parse.specs.Tags.{Separated, IsName, IsValue, IsFiltering, IsParameter};
+ghost use Rattle.jt_parse.specs.Tags.{Separated, IsName, IsValue, IsFiltering, IsParameter, IsImported};
 ghost use Rattle.jt_parse.specs.Tags.{Parameters, Condition, Context, missing_words, defaults_last};
 ghost use Rattle.jt_parse.specs.Readers as readers;
-ghost use Rattle.jt_trees.specs.StatementView.{names_view, filtering_view, filterings_view, parameter_view, parameters_view};
-ghost use Rattle.jt_parse.specs.HeadView.{value_view, values_view};
+ghost use Rattle.jt_trees.specs.StatementView.{names_view, given_view, filtering_view, filterings_view, parameter_view, parameters_view};
+ghost use Rattle.jt_parse.specs.HeadView.{value_view, values_view, imported_view};
 
 use crate::expression::is_word;
 use crate::heads::{Head, Loop, Opening};
@@ -391,6 +391,97 @@ fn include_head(alloc: Global, cursor: &mut Cursor<'_>, line: u32) -> Result<Hea
     Ok(Head::Statement(Stmt::Include(line, name, missing, context)))
 }
 
+/// The name behind `as`, if one is given.
+fn given(alloc: Global, cursor: &mut Cursor<'_>) -> Result<Option<String>, ExprError>
+    ensures { readers.ReadsFlat (option_map string_bytes) readers.IsGiven
+        (readers.NoWord (codes "as")) (ahead cursor.old) result (ahead cursor.new) }
+{
+    if !cursor.eat_word("as") {
+        return Ok(None);
+    }
+    let name = target(alloc, cursor)?;
+    Ok(Some(name))
+}
+
+/// The given name, or else the macro's own.
+fn given_or(
+    alloc: Global,
+    name: String,
+    given: Option<String>,
+) -> Result<(String, String), ExprError>
+    ensures { readers.GivesPair (string_bytes name) (option_map string_bytes given) result }
+{
+    match given {
+        Some(given) => Ok((name, given)),
+        None => {
+            let same = copy_of(alloc, &name)?;
+            Ok((name, same))
+        }
+    }
+}
+
+/// `a`, or `a as b`
+fn imported(alloc: Global, cursor: &mut Cursor<'_>) -> Result<(String, String), ExprError>
+    ensures { readers.ReadsFlat imported_view IsImported (readers.NoWord (codes "as"))
+        (ahead cursor.old) result (ahead cursor.new) }
+{
+    let name = target(alloc, cursor)?;
+    let given = given(alloc, cursor)?;
+    given_or(alloc, name, given)
+}
+
+/// `a, b as c`
+fn imported_row(alloc: Global, cursor: &mut Cursor<'_>) -> Result<Vec<(String, String)>, ExprError>
+    ensures { readers.ReadsFlat (λ v. given_view v.items) (Separated IsImported sign.Comma)
+        readers.NoImported (ahead cursor.old) result (ahead cursor.new) }
+{
+    let mut found = Vec::new(alloc);
+    for _turn in 0..cursor.left() {
+        let one = imported(alloc, cursor)?;
+        found.push(one)?;
+        if !cursor.eat(Sign::Comma) {
+            return Ok(found);
+        }
+    }
+    Err(ExprError::Syntax)
+}
+
+/// Whether `without context` is said.
+fn without(cursor: &mut Cursor<'_>) -> Result<bool, ExprError>
+    ensures { readers.ReadsFlat (λ b. b) readers.IsWithout (readers.NoWord (codes "without"))
+        (ahead cursor.old) result (ahead cursor.new) }
+{
+    if !cursor.eat_word("without") {
+        return Ok(false);
+    }
+    expect_word(cursor, "context")?;
+    Ok(true)
+}
+
+/// `import "x" as f without context`
+fn import_head(alloc: Global, cursor: &mut Cursor<'_>, line: u32) -> Result<Head, ExprError>
+    ensures { (limit : ℕ) → readers.ReadsHead line limit (codes "import")
+        (ahead cursor.old) result (ahead cursor.new) }
+{
+    let name = text(alloc, cursor)?;
+    expect_word(cursor, "as")?;
+    let given = target(alloc, cursor)?;
+    let _said = without(cursor)?;
+    Ok(Head::Statement(Stmt::Import(line, name, given)))
+}
+
+/// `from "x" import a, b as c without context`
+fn from_head(alloc: Global, cursor: &mut Cursor<'_>, line: u32) -> Result<Head, ExprError>
+    ensures { (limit : ℕ) → readers.ReadsHead line limit (codes "from")
+        (ahead cursor.old) result (ahead cursor.new) }
+{
+    let name = text(alloc, cursor)?;
+    expect_word(cursor, "import")?;
+    let found = imported_row(alloc, cursor)?;
+    let _said = without(cursor)?;
+    Ok(Head::Statement(Stmt::From(line, name, found)))
+}
+
 /// `extends "x"`
 fn extends_head(alloc: Global, cursor: &mut Cursor<'_>, line: u32) -> Result<Head, ExprError>
     ensures { (limit : ℕ) → readers.ReadsHead line limit (codes "extends")
@@ -442,6 +533,10 @@ fn head(
         extends_head(alloc, cursor, line)
     } else if is_word(word, "block") {
         block_head(alloc, cursor)
+    } else if is_word(word, "import") {
+        import_head(alloc, cursor, line)
+    } else if is_word(word, "from") {
+        from_head(alloc, cursor, line)
     } else {
         Err(ExprError::Syntax)
     }

@@ -29,7 +29,7 @@ pub(crate) fn scan_options(options: jt_line::Options) -> Options
 }
 
 /// The context that the bytes of a file spell.
-pub(crate) fn context_of(alloc: Global, bytes: &[u8]) -> Result<Context, Failure>
+pub fn context_of(alloc: Global, bytes: &[u8]) -> Result<Context, Failure>
     ensures { GivesContext bytes.now result }
 {
     let Ok(text) = std::str::from_utf8(bytes) else {
@@ -42,7 +42,7 @@ pub(crate) fn context_of(alloc: Global, bytes: &[u8]) -> Result<Context, Failure
 }
 
 /// The bytes of the image of the template of a name.
-pub(crate) fn image_of(
+pub fn image_of(
     alloc: Global,
     name: &str,
     templates: &Templates,
@@ -107,7 +107,7 @@ pub(crate) fn verified_image(alloc: Global, bytes: &[u8]) -> Result<Verified, Fa
 }
 
 /// How many units and instructions the image has that bytes spell, where it is accepted.
-pub(crate) fn counts_of(alloc: Global, bytes: &[u8]) -> Result<(usize, usize), Failure>
+pub fn counts_of(alloc: Global, bytes: &[u8]) -> Result<(usize, usize), Failure>
     ensures { ChecksTo bytes.now result }
 {
     let verified = verified_of(alloc, bytes)?;
@@ -116,7 +116,7 @@ pub(crate) fn counts_of(alloc: Global, bytes: &[u8]) -> Result<(usize, usize), F
 }
 
 /// The text of the image that bytes spell, run for a context.
-pub(crate) fn run_image(
+pub fn run_image(
     alloc: Global,
     bytes: &[u8],
     context: &Context,
@@ -132,7 +132,7 @@ pub(crate) fn run_image(
 }
 
 /// The text of the template of a name for a context.
-pub(crate) fn render_text(
+pub fn render_text(
     alloc: Global,
     name: &str,
     templates: &Templates,

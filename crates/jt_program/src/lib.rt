@@ -10,6 +10,7 @@ mod reports;
 mod templates;
 mod turns;
 
+pub use commands::{context_of, counts_of, image_of, render_text, run_image};
 pub use files::{FileError, Files};
 pub use machine::Machine;
 pub use messages::{Failure, Status};

@@ -8,17 +8,17 @@ use Rattle.std.proofs.lemmas.Slice.Eq.{bytes_eq-Decides}
 use mathlib.Core.Logic.{inl, inr}
 use Rattle.jt_trees.specs.Expressions as trees
 use Rattle.jt_trees.specs.Expressions.{Expr, constant, name, group, list_of, map_of, attribute, item, call, filter, test, unary, binary, when, choice, Exprs, no_exprs, expr, no_pairs, pair, Text}
-use Rattle.jt_trees.specs.Statements.{Parameter, Filtering, Stmt, data_of, print, choose, for_each, set, set_block, with_values, filter_block, autoescape, macro, include, extends, block, Body, end, stmt, Branches, no_branches, branch, body_bound}
+use Rattle.jt_trees.specs.Statements.{Parameter, Filtering, Stmt, data_of, print, choose, for_each, set, set_block, with_values, filter_block, autoescape, macro, include, import_as, import_from, extends, block, Body, end, stmt, Branches, no_branches, branch, body_bound}
 use Rattle.jt_trees.specs.Texts.{repeated}
 use Rattle.jt_ids.specs.declared.test_id.TestId.{TestId}
 use Rattle.jt_chains.specs.Uses.{count, keywords}
-use Rattle.jt_chains.specs.Chain.{Home, Template, MacroBody, templates, bodies, macros, macro_of, Callee, a_macro, a_range, a_super, a_block, a_cycle, no_callee, named_alone, callee, is_loop}
+use Rattle.jt_chains.specs.Chain.{Home, a_library, Template, MacroBody, templates, bodies, macros, public_macro, Given, one_macro, library, given, given_to, Callee, a_macro, a_range, a_super, a_block, a_cycle, no_callee, named_alone, of_library, in_library, callee, is_loop}
 use Rattle.jt_slots.specs.Loops.{Field, field_named}
 use Rattle.jt_slots.specs.Tests.{test_named}
 use Rattle.jt_rules.specs.Arguments.{callee_takes, test_takes, filter_takes, names_rightly}
 use Rattle.jt_rules.specs.Rules.{ForSome, IsOnlyCalled, MisusesLoop, LoopOutside, MacroAsValue, CannotBeCalled, NotCallable, BadArguments, TooManyParameters, BrokenIn, Broken, KeepsRules, Breaks, names_counted}
-use Rattle.jt_rules.specs.Spots.{Within, Use, reads, binds, asks_loop, calls, filters, tests, declares, Spot, at, bound, parameter_names, is_called_by_name, expr_spots, row_spots, pair_spots, condition_spots, filtering_spots, outside, stmt_spots, body_spots, branch_spots, chain_spots}
-use Rattle.jt_rules.specs.Walk.{read_alone, unless, test_broken, filter_broken, refused, is_macro, used, all_used, call_broken, broken, called_broken, row_broken, pairs_broken, condition_broken, filtering_broken, macro_broken, stmt_broken, body_broken, branches_broken, templates_broken, chains_broken}
+use Rattle.jt_rules.specs.Spots.{Within, Use, reads, binds, asks_loop, calls, filters, tests, declares, names_import, Spot, at, bound, named_imports, parameter_names, is_called_by_name, expr_spots, row_spots, pair_spots, condition_spots, filtering_spots, outside, stmt_spots, body_spots, branch_spots, chain_spots}
+use Rattle.jt_rules.specs.Walk.{read_alone, unless, test_broken, filter_broken, refused, is_macro, used, all_used, call_broken, broken, called_broken, row_broken, pairs_broken, condition_broken, filtering_broken, macro_broken, imports_broken, stmt_broken, body_broken, branches_broken, templates_broken, chains_broken}
 use Rattle.jt_rules.specs.World.{World}
 use Rattle.jt_rules.specs.declared.error.ScopeError.{ScopeError}
 use Rattle.jt_rules.specs.declared.error.ScopeError.TheVariants as error
@@ -140,10 +140,10 @@ module _ (world : World) (home : Home) where
 
   -- a call that isn't one of `loop.cycle`
   call_judged : (misuse : Type 0) → (misuse → ⊥) → (c : Callee) → (c ≡ a_cycle → ⊥) → (w : Within) (f : Expr) (ts : Exprs) (ps : trees.Pairs) → Judged (call_broken world home c w f ts ps) (OfCall misuse c w ts ps)
-  call_judged misuse n (a_macro m) d w f ts ps = by (callee_takes (a_macro m) ts ps) refl
+  call_judged misuse n (a_macro h m) d w f ts ps = by (callee_takes (a_macro h m) ts ps) refl
     where
-      by : (b : Bool) → callee_takes (a_macro m) ts ps ≡ b → Judged (unless b) (OfCall misuse (a_macro m) w ts ps)
-      by true e = no_call misuse (a_macro m) w ts ps n (λ h. h) e
+      by : (b : Bool) → callee_takes (a_macro h m) ts ps ≡ b → Judged (unless b) (OfCall misuse (a_macro h m) w ts ps)
+      by true e = no_call misuse (a_macro h m) w ts ps n (λ z. z) e
       by false e = e
   call_judged misuse n a_range d w f ts ps = by (callee_takes a_range ts ps) refl
     where
@@ -176,11 +176,12 @@ module _ (world : World) (home : Home) where
 
   abbrev Named : Expr → Within → Exprs → trees.Pairs → Type 0
   Named f w ts ps =
-      Judged (option_or (called_broken world home f w) (call_broken world home (callee (macros world.sources home) f) w f ts ps))
-      (OfCall (MisusesLoop f w) (callee (macros world.sources home) f) w ts ps)
+      Judged (option_or (called_broken world home f w) (call_broken world home (callee world.sources (given world.sources home) f) w f ts ps))
+      (OfCall (MisusesLoop f w) (callee world.sources (given world.sources home) f) w ts ps)
 
-  no_cycle_alone : (o : Option MacroBody) (x : Text) → named_alone o x ≡ a_cycle → ⊥
-  no_cycle_alone (Some m) x e = absurd (cc)
+  no_cycle_alone : (o : Option Given) (x : Text) → named_alone world.sources o x ≡ a_cycle → ⊥
+  no_cycle_alone (Some (one_macro h m)) x e = absurd (cc)
+  no_cycle_alone (Some (library n)) x e = absurd (cc)
   no_cycle_alone None x e = by (bytes_eq x (codes "range")) (bytes_eq x (codes "super")) e
     where
       by : (b c : Bool) → (if b then a_range else if c then a_super else no_callee) ≡ a_cycle → ⊥
@@ -192,15 +193,24 @@ module _ (world : World) (home : Home) where
   name_called x w ts ps = by (bytes_eq x (codes "loop")) refl
     where
       c : Callee
-      c = named_alone (macro_of x (macros world.sources home)) x
+      c = named_alone world.sources (given_to x (given world.sources home)) x
 
       by : (b : Bool) → bytes_eq x (codes "loop") ≡ b → Judged (option_or (refused b error.LoopOutside) (call_broken world home c w (name x) ts ps)) (OfCall (x ≡ codes "loop") c w ts ps)
       by true e = same x (codes "loop") e
-      by false e = call_judged (x ≡ codes "loop") (other x (codes "loop") e) c (no_cycle_alone (macro_of x (macros world.sources home)) x) w (name x) ts ps
+      by false e = call_judged (x ≡ codes "loop") (other x (codes "loop") e) c (no_cycle_alone (given_to x (given world.sources home)) x) w (name x) ts ps
 
   -- `self` is not `loop`
   not_both : {A : Type 0} (of : Text) → bytes_eq of (codes "self") ≡ true → bytes_eq of (codes "loop") ≡ true → A
   not_both of e1 e2 = differs (sym e2 ∙ ap (λ z. bytes_eq z (codes "loop")) (same of (codes "self") e1))
+
+  no_cycle_of : (n : Text) (o : Option MacroBody) → of_library world.sources n o ≡ a_cycle → ⊥
+  no_cycle_of n None e = absurd (cc)
+  no_cycle_of n (Some m) e = absurd (cc)
+
+  no_cycle_in : (o : Option Given) (x : Text) → in_library world.sources o x ≡ a_cycle → ⊥
+  no_cycle_in None x e = absurd (cc)
+  no_cycle_in (Some (one_macro h m)) x e = absurd (cc)
+  no_cycle_in (Some (library n)) x e = no_cycle_of n (public_macro x (macros world.sources (a_library n))) e
 
   field_called : (of k : Text) (w : Within) (ts : Exprs) (ps : trees.Pairs) → Named (attribute (name of) k) w ts ps
   field_called of k w ts ps = by (bytes_eq of (codes "self")) (bytes_eq of (codes "loop")) (bytes_eq k (codes "cycle")) refl refl refl
@@ -208,16 +218,20 @@ module _ (world : World) (home : Home) where
       f : Expr
       f = attribute (name of) k
 
+      c : Callee
+      c = in_library world.sources (given_to of (given world.sources home)) k
+
       in_a_loop : bytes_eq k (codes "cycle") ≡ true → MisusesLoop (attribute (name of) k) w → w.in_loop ≡ false
       in_a_loop e (b, inl n) = absurd (n (same k (codes "cycle") e))
       in_a_loop e (b, inr o) = o
 
       by : (b1 b2 b3 : Bool) → bytes_eq of (codes "self") ≡ b1 → bytes_eq of (codes "loop") ≡ b2 → bytes_eq k (codes "cycle") ≡ b3
-          → Judged (option_or (refused (b2 && not b3) error.LoopOutside) (call_broken world home (if b1 then a_block k else if b2 then (if b3 then a_cycle else no_callee) else no_callee) w (attribute (name of) k) ts ps))
-          (OfCall (MisusesLoop (attribute (name of) k) w) (if b1 then a_block k else if b2 then (if b3 then a_cycle else no_callee) else no_callee) w ts ps)
+          → Judged (option_or (refused (b2 && not b3) error.LoopOutside) (call_broken world home (if b1 then a_block k else if b2 then (if b3 then a_cycle else no_callee) else c) w (attribute (name of) k) ts ps))
+          (OfCall (MisusesLoop (attribute (name of) k) w) (if b1 then a_block k else if b2 then (if b3 then a_cycle else no_callee) else c) w ts ps)
       by true true b3 e1 e2 e3 = not_both of e1 e2
       by true false b3 e1 e2 e3 = call_judged (MisusesLoop (attribute (name of) k) w) (λ h. differs (sym h.0 ∙ e2)) (a_block k) (λ h. cc) w (attribute (name of) k) ts ps
-      by false false b3 e1 e2 e3 = tt
+      by false false b3 e1 e2 e3 =
+          call_judged (MisusesLoop (attribute (name of) k) w) (λ h. differs (sym h.0 ∙ e2)) c (no_cycle_in (given_to of (given world.sources home)) k) w (attribute (name of) k) ts ps
       by false true false e1 e2 e3 = (e2, inl (other k (codes "cycle") e3))
       by false true true e1 e2 e3 = cycle_judged (MisusesLoop (attribute (name of) k) w) w (λ h. (e2, inr h)) (in_a_loop e3) (attribute (name of) k) ts ps
 
@@ -299,10 +313,11 @@ module _ (world : World) (home : Home) where
   At (reads x) w rule = OfName (is_macro world home x) x rule
   At (binds x) w rule = OfName (is_macro world home x) x rule
   At (asks_loop k) w rule = OfField k w rule
-  At (calls f ts ps) w rule = OfCall (MisusesLoop f w) (callee (macros world.sources home) f) w ts ps rule
+  At (calls f ts ps) w rule = OfCall (MisusesLoop f w) (callee world.sources (given world.sources home) f) w ts ps rule
   At (filters x ts ps) w rule = OfArguments (filter_right (world.filters.named x ts ps) ts ps) rule
   At (tests x ts ps) w rule = OfArguments (test_takes (test_named x) ts ps) rule
   At (declares x ps) w rule = OfMacro x ps rule
+  At (names_import x) w rule = OfName false x rule
 
   abbrev Of : ScopeError → Spot → Type 0
   Of rule s = At s.use_made s.around rule
@@ -401,11 +416,11 @@ module _ (world : World) (home : Home) where
   called_spots f w ts ps = (if is_called_by_name f then [] else expr_spots f w) ++ at w (calls f ts ps)
 
   abbrev head : Expr → Within → Exprs → trees.Pairs → Option ScopeError
-  head f w ts ps = option_or (called_broken world home f w) (call_broken world home (callee (macros world.sources home) f) w f ts ps)
+  head f w ts ps = option_or (called_broken world home f w) (call_broken world home (callee world.sources (given world.sources home) f) w f ts ps)
 
   -- what is no form of a call breaks a rule, whatever stands in it
-  unnamed : (f : Expr) (w : Within) (ts : Exprs) (ps : trees.Pairs) (xs : List Spot) → callee (macros world.sources home) f ≡ no_callee → (o : Option ScopeError) → Found o (xs ++ at w (calls f ts ps))
-      → Tells (option_or o (call_broken world home (callee (macros world.sources home) f) w f ts ps)) (xs ++ at w (calls f ts ps))
+  unnamed : (f : Expr) (w : Within) (ts : Exprs) (ps : trees.Pairs) (xs : List Spot) → callee world.sources (given world.sources home) f ≡ no_callee → (o : Option ScopeError) → Found o (xs ++ at w (calls f ts ps))
+      → Tells (option_or o (call_broken world home (callee world.sources (given world.sources home) f) w f ts ps)) (xs ++ at w (calls f ts ps))
   unnamed f w ts ps xs e None h =
       subst (λ (c : Callee). Tells (call_broken world home c w f ts ps) (xs ++ at w (calls f ts ps))) (sym e)
       (some_right (Of error.NotCallable) xs (at w (calls f ts ps)) (inl (subst (λ (c : Callee). CannotBeCalled world home c w) (sym e) tt)))
@@ -417,9 +432,9 @@ module _ (world : World) (home : Home) where
   head_told f w ts ps h = unnamed f w ts ps (expr_spots f w) refl (called_broken world home f w) h
 
   call_told : (f : Expr) (w : Within) (ts : Exprs) (ps : trees.Pairs) (o : Option ScopeError) (ss : List Spot) → Found (called_broken world home f w) (called_spots f w ts ps) → Tells o ss
-      → Tells (option_or (called_broken world home f w) (option_or (call_broken world home (callee (macros world.sources home) f) w f ts ps) o)) (called_spots f w ts ps ++ ss)
+      → Tells (option_or (called_broken world home f w) (option_or (call_broken world home (callee world.sources (given world.sources home) f) w f ts ps) o)) (called_spots f w ts ps ++ ss)
   call_told f w ts ps o ss h k =
-      subst (λ (a : Option ScopeError). Tells a (called_spots f w ts ps ++ ss)) (grouped (called_broken world home f w) (call_broken world home (callee (macros world.sources home) f) w f ts ps) o)
+      subst (λ (a : Option ScopeError). Tells a (called_spots f w ts ps ++ ss)) (grouped (called_broken world home f w) (call_broken world home (callee world.sources (given world.sources home) f) w f ts ps) o)
       (in_turn (head f w ts ps) o (called_spots f w ts ps) ss (head_told f w ts ps h) k)
 
   name_found : (x : Text) (w : Within) (ts : Exprs) (ps : trees.Pairs) → Found (refused (bytes_eq x (codes "loop")) error.LoopOutside) (at w (calls (name x) ts ps))
@@ -535,6 +550,18 @@ module _ (world : World) (home : Home) where
       (one (option_or (read_alone x) (option_or (unless (not (repeated (parameter_names ps)))) (refused (nat_lt 255 (length ps)) error.TooManySlots))) (declares x ps) w (macro_judged x ps))
       (all_bound_told (parameter_names ps) w)
 
+  import_judged : (x : Text) → Judged (read_alone x) (OfName false x)
+  import_judged x = subst (λ (o : Option ScopeError). Judged o (OfName false x)) (or_none (read_alone x)) (name_judged x false)
+    where
+      or_none : (o : Option ScopeError) → option_or o None ≡ o
+      or_none None = refl
+      or_none (Some r) = refl
+
+  imports_told : (xs : List (Text × Text)) (w : Within) → Tells (imports_broken world home xs) (named_imports xs w)
+  imports_told [] w = nothing
+  imports_told (x ∷ xs) w =
+      in_turn (read_alone x.1) (imports_broken world home xs) (at w (names_import x.1)) (named_imports xs w) (one (read_alone x.1) (names_import x.1) w (import_judged x.1)) (imports_told xs w)
+
   mutual
     stmt_told : (s : Stmt) (w : Within) → Tells (stmt_broken world home s w) (stmt_spots s w)
     stmt_told (data_of t) w = nothing
@@ -559,6 +586,8 @@ module _ (world : World) (home : Home) where
     stmt_told (macro line x ps body) w =
         in_turn (macro_broken world home x ps) (body_broken world home body outside) (at w (declares x ps) ++ bound (parameter_names ps) w) (body_spots body outside) (macro_told x ps w) (body_told body outside)
     stmt_told (include line n ignore_missing with_context) w = nothing
+    stmt_told (import_as line n x) w = one (read_alone x) (names_import x) w (import_judged x)
+    stmt_told (import_from line n xs) w = imports_told xs w
     stmt_told (extends line n) w = nothing
     stmt_told (block line x scoped required body) w = body_told body (record { in_loop = false; in_block = true })
 
@@ -636,10 +665,12 @@ module _ (world : World) (home : Home) where
 
   macro_to : (u : Use) (w : Within) → At u w error.MacroAsValue → MacroAsValue world home u w
   macro_to (reads x) w h = h
+  macro_to (names_import x) w h = absurd (differs (sym h))
   macro_to u w h = h
 
   macro_back : (u : Use) (w : Within) → MacroAsValue world home u w → At u w error.MacroAsValue
   macro_back (reads x) w h = h
+  macro_back (names_import x) w h = absurd h
   macro_back u w h = h
 
   called_to : (u : Use) (w : Within) → At u w error.NotCallable → NotCallable world home u w

@@ -22,7 +22,7 @@ fits ps n ks = not (nat_lt (length ps) n) && (not (repeated ks) && not (list_any
 
 -- what is called takes these arguments; where it can't be called at all, another rule is broken
 abbrev pub callee_takes : Callee → Exprs → trees.Pairs → Bool
-callee_takes (a_macro m) ts ps = fits m.parameters (count ts) (keywords ps)
+callee_takes (a_macro h m) ts ps = fits m.parameters (count ts) (keywords ps)
 callee_takes a_range ts ps = nat_lt 0 (count ts) && (nat_lt (count ts) 4 && no_keywords ps)
 callee_takes a_super ts ps = (count ts == 0) && no_keywords ps
 callee_takes (a_block x) ts ps = (count ts == 0) && no_keywords ps

@@ -3,7 +3,7 @@ use Rattle.std.specs.Prelude.{Option, Some, None, List, [], ◌∷◌}
 use Rattle.jt_trees.specs.Expressions as trees
 use Rattle.jt_trees.specs.Expressions.{Expr, constant, name, group, list_of, map_of, attribute, item, call, filter, test, unary, binary, when, choice, Exprs, no_exprs, expr, no_pairs, pair}
 use Rattle.jt_slots.specs.Tests.{test_named}
-use Rattle.jt_trees.specs.Statements.{Filtering, Stmt, data_of, print, choose, for_each, set, set_block, with_values, filter_block, autoescape, macro, include, extends, block, Body, end, stmt, Branches, no_branches, branch}
+use Rattle.jt_trees.specs.Statements.{Filtering, Stmt, data_of, print, choose, for_each, set, set_block, with_values, filter_block, autoescape, macro, include, import_as, import_from, extends, block, Body, end, stmt, Branches, no_branches, branch}
 use Rattle.jt_chains.specs.Chain.{Home, Template, templates}
 use Rattle.jt_slots.specs.Filters.{Filters}
 use Rattle.jt_rules.specs.World.{World}
@@ -59,6 +59,8 @@ module _ (fs : Filters) where
     StmtKnown (autoescape line on body) = BodyKnown body
     StmtKnown (macro line x ps body) = BodyKnown body
     StmtKnown (include line n ignore_missing with_context) = Unit {0}
+    StmtKnown (import_as line n x) = Unit {0}
+    StmtKnown (import_from line n xs) = Unit {0}
     StmtKnown (extends line n) = Unit {0}
     StmtKnown (block line x scoped required body) = BodyKnown body
 

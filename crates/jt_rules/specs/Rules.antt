@@ -1,15 +1,15 @@
--- The static rules of names and calls, one predicate each, of one place of a chain. They are lexical, so a tag that never runs counts.
+-- The static rules of names and calls, one predicate each, of one place of a chain or of a library. They are lexical, so a tag that never runs counts.
 use Rattle.std.specs.Prelude.{◌≡◌, ◌≢◌, ℕ, ◌+◌, ◌<◌, false, IsTrue, ◌⊎◌, List, [], ◌∷◌, length, codes, None}
 use Rattle.std.specs.Option.{is_some}
 use Rattle.jt_trees.specs.Expressions.{Expr, name, attribute, Text}
 use Rattle.jt_chains.specs.Uses.{count, keywords, own_names}
-use Rattle.jt_chains.specs.Chain.{Home, Template, templates, bodies, macros, macro_of, Callee, a_super, a_block, no_callee, callee, is_loop}
+use Rattle.jt_chains.specs.Chain.{Home, a_chain, a_library, Template, templates, bodies, given, given_to, libraries, Callee, a_super, a_block, no_callee, callee, is_loop}
 use Rattle.jt_trees.specs.Texts.{ascending, repeated}
 use Rattle.jt_trees.specs.Statements.{body_bound}
 use Rattle.jt_slots.specs.Loops.{field_named}
 use Rattle.jt_slots.specs.Tests.{test_named}
 use Rattle.jt_rules.specs.Arguments.{callee_takes, test_takes, filter_takes, names_rightly}
-use Rattle.jt_rules.specs.Spots.{Within, Use, reads, binds, asks_loop, calls, filters, tests, declares, parameter_names, chain_spots}
+use Rattle.jt_rules.specs.Spots.{Within, Use, reads, binds, asks_loop, calls, filters, tests, declares, names_import, parameter_names, chain_spots}
 use Rattle.jt_rules.specs.World.{World}
 use Rattle.jt_rules.specs.declared.error.ScopeError.{ScopeError}
 use Rattle.jt_rules.specs.declared.error.ScopeError.TheVariants as error
@@ -47,14 +47,15 @@ module _ (world : World) (home : Home) where
   LoopOutside (reads x) w = x ≡ codes "loop"
   LoopOutside (binds x) w = x ≡ codes "loop"
   LoopOutside (declares x ps) w = x ≡ codes "loop"
+  LoopOutside (names_import x) w = x ≡ codes "loop"
   LoopOutside (asks_loop k) w = (w.in_loop ≡ false) ⊎ (field_named k ≡ None)
   LoopOutside (calls f ts ps) w = MisusesLoop f w
   LoopOutside u w = ⊥
 
-  -- V2: a macro is read as a value, or its name is bound
+  -- V2: a macro or a library is read as a value, or its name is bound
   abbrev pub MacroAsValue : Use → Within → Type 0
-  MacroAsValue (reads x) w = IsTrue (is_some (macro_of x (macros world.sources home)))
-  MacroAsValue (binds x) w = IsTrue (is_some (macro_of x (macros world.sources home)))
+  MacroAsValue (reads x) w = IsTrue (is_some (given_to x (given world.sources home)))
+  MacroAsValue (binds x) w = IsTrue (is_some (given_to x (given world.sources home)))
   MacroAsValue u w = ⊥
 
   -- what can't be called: `super` outside a block, a block that there is not, and all that is no form of a call
@@ -69,12 +70,13 @@ module _ (world : World) (home : Home) where
   NotCallable (reads x) w = IsOnlyCalled x
   NotCallable (binds x) w = IsOnlyCalled x
   NotCallable (declares x ps) w = IsOnlyCalled x
-  NotCallable (calls f ts ps) w = CannotBeCalled (callee (macros world.sources home) f) w
+  NotCallable (names_import x) w = IsOnlyCalled x
+  NotCallable (calls f ts ps) w = CannotBeCalled (callee world.sources (given world.sources home) f) w
   NotCallable u w = ⊥
 
   -- V4: arguments that are not taken, names inside a filter that are not named rightly, or a parameter that comes twice
   abbrev pub BadArguments : Use → Within → Type 0
-  BadArguments (calls f ts ps) w = callee_takes (callee (macros world.sources home) f) ts ps ≡ false
+  BadArguments (calls f ts ps) w = callee_takes (callee world.sources (given world.sources home) f) ts ps ≡ false
   BadArguments (filters x ts ps) w =
       (filter_takes world.filters (world.filters.named x ts ps) (count ts) (keywords ps) ≡ false) ⊎ (names_rightly world.filters (world.filters.named x ts ps) ts ps ≡ false)
   BadArguments (tests x ts ps) w = test_takes (test_named x) ts ps ≡ false
@@ -94,7 +96,7 @@ module _ (world : World) (home : Home) where
   abbrev pub Somewhere : (Use → Within → Type 0) → Type 0
   Somewhere P = ForSome (λ s. P s.use_made s.around) (chain_spots world.sources home)
 
-  -- a rule is broken in the chain
+  -- a rule is broken in the chain or library
   abbrev pub BrokenIn : ScopeError → Type 0
   BrokenIn error.LoopOutside = Somewhere LoopOutside
   BrokenIn error.MacroAsValue = Somewhere MacroAsValue
@@ -103,12 +105,19 @@ module _ (world : World) (home : Home) where
   BrokenIn error.TooManySlots = Somewhere TooManyParameters ⊎ ForSome BindsTooMany (templates world.sources home)
   BrokenIn error.NoMemory = ⊥
 
--- how many names the chains read or bind, once a chain
+-- how many names these libraries read or bind
+abbrev pub libraries_counted : World → List Text → ℕ
+libraries_counted world [] = 0
+libraries_counted world (n ∷ ns) = length (ascending (own_names world.sources (a_library n))) + libraries_counted world ns
+
+-- how many names the chains read or bind, once a chain, and beside them those of the libraries that the chain imports
 abbrev pub names_counted : World → List Home → ℕ
 names_counted world [] = 0
-names_counted world (h ∷ hs) = length (ascending (own_names world.sources h)) + names_counted world hs
+names_counted world (a_chain n ∷ hs) =
+    length (ascending (own_names world.sources (a_chain n))) + libraries_counted world (ascending (libraries world.sources (a_chain n))) + names_counted world hs
+names_counted world (a_library n ∷ hs) = names_counted world hs
 
--- a rule is broken in one of the chains; V5, of all chains: they read or bind too many names
+-- a rule is broken in one of the chains and libraries; V5, of all chains: they read or bind too many names
 abbrev pub Broken : ScopeError → World → List Home → Type 0
 Broken error.TooManySlots world order = ForSome (λ h. BrokenIn world h error.TooManySlots) order ⊎ (max_names < names_counted world order)
 Broken rule world order = ForSome (λ h. BrokenIn world h rule) order

@@ -1,7 +1,7 @@
 -- What a chain does at each of its places, and what stands around each. No rule stands here.
 use Rattle.std.specs.Prelude.{Bool, true, false, if◌then◌else◌, List, [], ◌∷◌, ◌++◌, map, flat_map, Option, Some, None}
 use Rattle.jt_trees.specs.Expressions.{Expr, constant, name, group, list_of, map_of, attribute, item, call, filter, test, unary, binary, when, choice, Exprs, no_exprs, expr, Pairs, no_pairs, pair, Text}
-use Rattle.jt_trees.specs.Statements.{Parameter, Filtering, Stmt, data_of, print, choose, for_each, set, set_block, with_values, filter_block, autoescape, macro, include, extends, block, Body, end, stmt, Branches, no_branches, branch}
+use Rattle.jt_trees.specs.Statements.{Parameter, Filtering, Stmt, data_of, print, choose, for_each, set, set_block, with_values, filter_block, autoescape, macro, include, import_as, import_from, extends, block, Body, end, stmt, Branches, no_branches, branch}
 use Rattle.jt_chains.specs.Chain.{Home, Sources, templates, is_loop}
 use Rattle.jt_chains.specs.Uses.{keywords}
 
@@ -26,6 +26,8 @@ pub data Use : Type 0 where
   tests : Text → Exprs → Pairs → Use
   -- a macro is declared with parameters
   declares : Text → List Parameter → Use
+  -- a name is given to a library, or to a macro of one
+  names_import : Text → Use
 
 pub record Spot : Type 0 where
   pub use_made : Use
@@ -38,6 +40,10 @@ at w u = record { use_made = u; around = w } ∷ []
 -- names that are bound
 abbrev pub bound : List Text → Within → List Spot
 bound xs w = map (λ x. record { use_made = binds x; around = w }) xs
+
+-- names that `from` gives
+abbrev pub named_imports : List (Text × Text) → Within → List Spot
+named_imports xs w = map (λ x. record { use_made = names_import x.1; around = w }) xs
 
 abbrev pub parameter_names : List Parameter → List Text
 parameter_names ps = map (λ p. p.name) ps
@@ -101,6 +107,8 @@ abbrev mutual
   stmt_spots (autoescape line on body) w = body_spots body w
   stmt_spots (macro line x ps body) w = (at w (declares x ps) ++ bound (parameter_names ps) w) ++ body_spots body outside
   stmt_spots (include line n ignore_missing with_context) w = []
+  stmt_spots (import_as line n x) w = at w (names_import x)
+  stmt_spots (import_from line n xs) w = named_imports xs w
   stmt_spots (extends line n) w = []
   stmt_spots (block line x scoped required body) w = body_spots body (record { in_loop = false; in_block = true })
 
@@ -112,6 +120,6 @@ abbrev mutual
   branch_spots no_branches w = []
   branch_spots (branch line c body rest) w = (expr_spots c w ++ body_spots body w) ++ branch_spots rest w
 
--- all places of a chain's templates
+-- all places of a chain's templates, or of a library's own
 abbrev pub chain_spots : Sources → Home → List Spot
 chain_spots sources home = flat_map (λ t. body_spots t.body outside) (templates sources home)

@@ -9,8 +9,8 @@ use Rattle.jt_slots.specs.Tests.{test_named}
 use Rattle.jt_chains.specs.Uses.{count, keywords}
 use Rattle.jt_rules.specs.declared.error.ScopeError.{ScopeError}
 use Rattle.jt_rules.specs.declared.error.ScopeError.TheVariants as error
-use Rattle.jt_trees.specs.Statements.{Parameter, Filtering, Stmt, data_of, print, choose, for_each, set, set_block, with_values, filter_block, autoescape, macro, include, extends, block, Body, end, stmt, Branches, no_branches, branch, body_bound}
-use Rattle.jt_chains.specs.Chain.{Home, Template, templates, bodies, macros, macro_of, Callee, a_macro, a_range, a_super, a_block, a_cycle, no_callee, callee, is_loop}
+use Rattle.jt_trees.specs.Statements.{Parameter, Filtering, Stmt, data_of, print, choose, for_each, set, set_block, with_values, filter_block, autoescape, macro, include, import_as, import_from, extends, block, Body, end, stmt, Branches, no_branches, branch, body_bound}
+use Rattle.jt_chains.specs.Chain.{Home, Template, templates, bodies, given, given_to, Callee, a_macro, a_range, a_super, a_block, a_cycle, no_callee, callee, is_loop}
 use Rattle.jt_slots.specs.Loops.{field_named}
 use Rattle.jt_slots.specs.Filters.{Filters}
 use Rattle.jt_rules.specs.World.{World}
@@ -50,7 +50,7 @@ refused wrong e = if wrong then Some e else None
 
 module _ (world : World) (home : Home) where
   abbrev pub is_macro : Text → Bool
-  is_macro x = is_some (macro_of x (macros world.sources home))
+  is_macro x = is_some (given_to x (given world.sources home))
 
   -- a name that is read as a value, or bound
   abbrev pub used : Text → Option ScopeError
@@ -62,7 +62,7 @@ module _ (world : World) (home : Home) where
 
   -- a call, by what it names
   abbrev pub call_broken : Callee → Within → Expr → Exprs → trees.Pairs → Option ScopeError
-  call_broken (a_macro m) w f ts ps = unless (callee_takes (a_macro m) ts ps)
+  call_broken (a_macro h m) w f ts ps = unless (callee_takes (a_macro h m) ts ps)
   call_broken a_range w f ts ps = range_broken ts ps
   call_broken a_super w f ts ps = option_or (refused (not w.in_block) error.NotCallable) (unless (callee_takes a_super ts ps))
   call_broken (a_block x) w f ts ps =
@@ -82,7 +82,7 @@ module _ (world : World) (home : Home) where
     broken (attribute a k) w = if is_loop a then refused (not (w.in_loop && is_some (field_named k))) error.LoopOutside else broken a w
     broken (item a b) w = option_or (broken a w) (broken b w)
     broken (call f ts ps) w =
-        option_or (called_broken f w) (option_or (call_broken (callee (macros world.sources home) f) w f ts ps) (option_or (row_broken ts w) (pairs_broken ps w)))
+        option_or (called_broken f w) (option_or (call_broken (callee world.sources (given world.sources home) f) w f ts ps) (option_or (row_broken ts w) (pairs_broken ps w)))
     broken (filter a x ts ps) w =
         option_or (filter_broken world.filters (world.filters.named x ts ps) ts ps) (option_or (broken a w) (option_or (row_broken ts w) (pairs_broken ps w)))
     broken (test a n x ts ps) w = option_or (test_broken (test_named x) ts ps) (option_or (broken a w) (option_or (row_broken ts w) (pairs_broken ps w)))
@@ -132,6 +132,11 @@ module _ (world : World) (home : Home) where
   macro_broken x ps =
       option_or (read_alone x) (option_or (all_used (parameter_names ps)) (option_or (unless (not (repeated (parameter_names ps)))) (refused (nat_lt max_parameters (length ps)) error.TooManySlots)))
 
+  -- the names that `from` gives
+  abbrev pub imports_broken : List (Text × Text) → Option ScopeError
+  imports_broken [] = None
+  imports_broken (x ∷ xs) = option_or (read_alone x.1) (imports_broken xs)
+
   abbrev mutual
     pub stmt_broken : Stmt → Within → Option ScopeError
     stmt_broken (data_of t) w = None
@@ -146,6 +151,8 @@ module _ (world : World) (home : Home) where
     stmt_broken (autoescape line on body) w = body_broken body w
     stmt_broken (macro line x ps body) w = option_or (macro_broken x ps) (body_broken body (record { in_loop = false; in_block = false }))
     stmt_broken (include line n ignore_missing with_context) w = None
+    stmt_broken (import_as line n x) w = read_alone x
+    stmt_broken (import_from line n xs) w = imports_broken xs
     stmt_broken (extends line n) w = None
     stmt_broken (block line x scoped required body) w = body_broken body (record { in_loop = false; in_block = true })
 

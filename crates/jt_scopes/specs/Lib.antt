@@ -1,7 +1,1 @@
-pub mod Callees
-pub mod Counts
-pub mod Formed
-pub mod Names
-pub mod Routines
-pub mod Scoped
-pub mod Stated
+pub mod Means

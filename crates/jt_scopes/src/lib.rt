@@ -1,33 +1,8 @@
-//! Names to slots: a chain becomes a program.
-//!
-//! `resolved` (resolving) has the chains laid out, and resolves one chain after the other (homes): its statements (routines,
-//! statements), and the expressions in them (expressions), where names stand in frames (frame, spot) and values in a pool
-//! (pool, shared). Whether the chains keep the rules is another crate's matter.
+//! A chain that keeps the rules becomes a program.
 #![tactic(auto)]
 
-mod blocks;
-mod callee;
-mod entering;
-mod expressions;
-mod filling;
-mod filterings;
-mod forms;
-mod frame;
-mod homes;
-mod locals;
-mod lookup;
-mod loops;
-mod placing;
-mod pool;
-mod program_names;
-mod putting;
 mod resolving;
-mod routines;
-mod rows;
-mod shared;
-mod spot;
-mod statements;
-mod targets;
 
 pub use jt_rules::ScopeError;
-pub use resolving::resolved;
+pub use jt_slots::Program as Resolved;
+pub use resolving::resolve;

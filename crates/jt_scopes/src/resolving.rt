@@ -1,44 +1,40 @@
-//! Resolves a chain: its names to slots, and its literals and data to places of a pool.
+//! Checks the rules of a chain, and resolves it.
 
-ghost use Rattle.std.specs.Prelude.{◌≡◌, IfOk, IfErr};
+ghost use Rattle.std.specs.Prelude.{◌≡◌, IfOk, OnOk, IfErr};
 ghost use Rattle.jt_chains.specs.Places.{home_at};
 ghost use Rattle.jt_chains.specs.View.{chain_view};
+ghost use Rattle.jt_rules.specs.Rules.{KeepsRules, Breaks};
 ghost use Rattle.jt_rules.specs.World.{world_of};
 ghost use Rattle.jt_meaning.specs.Programs.{program};
 ghost use Rattle.jt_slots.specs.View.{program_of};
-ghost use Rattle.jt_rules.specs.declared.error.ScopeError.TheVariants as error;
+ghost use Rattle.jt_scopes.specs.Means.{Means};
 
-use crate::homes::resolve_homes;
-use crate::program_names::{count_globals, entry_names, template_names};
-use crate::shared::shared_values;
+use jt_bind::resolved;
 use jt_chains::Chain;
-use jt_layout::lay_out;
+use jt_checks::check_rules;
+use jt_meaning::program_laws;
 use jt_rules::ScopeError;
 use jt_slots::Program;
 use std::alloc::Global;
 
-/// Resolves a chain, whether or not it keeps the rules.
+/// Resolves a chain.
 ///
 /// # Errors
 ///
-/// `NoMemory` where a growth was refused.
-pub fn resolved(alloc: Global, chain: &Chain) -> Result<Program, ScopeError>
+/// The rule that the chains break; `NoMemory` where a growth was refused.
+pub fn resolve(alloc: Global, chain: &Chain) -> Result<Program, ScopeError>
     ensures resolved { IfOk result (λ p. program_of p
         ≡ program (world_of (chain_view chain.now)) (chain_view chain.now).order
         (home_at (chain_view chain.now).order 0)) }
-    ensures refused { IfErr result (λ e. e ≡ error.NoMemory) }
+    // what the chain means by names, the program means over slots
+    ensures means { IfOk result
+        (λ p. Means (chain_view chain.now) (program_of p)) }
+    ensures kept { OnOk result
+        (KeepsRules (world_of (chain_view chain.now)) (chain_view chain.now).order) }
+    ensures refused { IfErr result
+        (λ e. Breaks e (world_of (chain_view chain.now)) (chain_view chain.now).order) }
 {
-    let scope = lay_out(alloc, chain)?;
-    let templates = template_names(alloc, &chain.templates)?;
-    let names = entry_names(alloc, &scope)?;
-    let globals = count_globals(&scope)?;
-    let mut pool = shared_values(alloc, &scope)?;
-    let routines = resolve_homes(alloc, scope, &mut pool)?;
-    Ok(Program {
-        templates,
-        names,
-        globals,
-        pool,
-        routines,
-    })
+    program_laws();
+    check_rules(alloc, chain)?;
+    resolved(alloc, chain)
 }

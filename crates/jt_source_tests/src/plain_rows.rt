@@ -8,7 +8,7 @@ use jt_budget::Budget;
 use jt_contexts::context_from_json;
 use jt_image::{Image, decode, encode, view};
 use jt_machine::{Outcome, run, run_view};
-use jt_plain::{End, plain_end};
+use jt_reference::{End, plain_end};
 use jt_scan::Options;
 use jt_value::Context;
 use jt_verify::{Verified, VerifiedView, verify_view};

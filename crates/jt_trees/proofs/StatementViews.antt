@@ -4,14 +4,14 @@ use Rattle.std.specs.Prelude.{option_map}
 use Rattle.jt_trees.specs.Expressions.{Text}
 use Rattle.jt_trees.specs.ExpressionView.{expr_view, pairs_view}
 use Rattle.jt_trees.specs.Statements as trees
-use Rattle.jt_trees.specs.StatementView.{names_view, filterings_view, parameters_view, stmts_of, branches_of, stmt_step, stmt_view, body_view, branches_view}
+use Rattle.jt_trees.specs.StatementView.{names_view, given_view, filterings_view, parameters_view, stmts_of, branches_of, stmt_step, stmt_view, body_view, branches_view}
 use Rattle.jt_trees.specs.declared.expression.Expr.{Expr}
 use Rattle.jt_trees.specs.declared.statement.Filtering.{Filtering}
 use Rattle.jt_trees.specs.declared.statement.Parameter.{Parameter}
 use Rattle.jt_trees.specs.declared.statement.Stmt.{Stmt, fold-roll-Stmt}
 use Rattle.jt_trees.specs.declared.statement.Stmt.TheOpen.{Stmt-F}
 use Rattle.jt_trees.specs.declared.statement.Stmt.TheVariants as v
-use Rattle.jt_trees.specs.declared.statement.Stmt.TheVariants.{rolls-Data, rolls-Print, rolls-If, rolls-For, rolls-Set, rolls-SetBlock, rolls-With, rolls-FilterBlock, rolls-Autoescape, rolls-Macro, rolls-Include, rolls-Extends, rolls-Block}
+use Rattle.jt_trees.specs.declared.statement.Stmt.TheVariants.{rolls-Data, rolls-Print, rolls-If, rolls-For, rolls-Set, rolls-SetBlock, rolls-With, rolls-FilterBlock, rolls-Autoescape, rolls-Macro, rolls-Include, rolls-Import, rolls-From, rolls-Extends, rolls-Block}
 use Rattle.jt_trees.proofs.Left.{Branch, Entry}
 
 -- a view of each branch that keeps line and condition, and shows each statement inside
@@ -59,6 +59,12 @@ view_Macro line x ps body = ap stmt_view (sym (rolls-Macro line x ps body)) ∙ 
 
 pub view_Include : (line : ℕ) (n : String Global) (missing context : Bool) → stmt_view (v.Include line n missing context) ≡ trees.include line (string_bytes n) missing context
 view_Include line n missing context = ap stmt_view (sym (rolls-Include line n missing context)) ∙ fold-roll-Stmt trees.Stmt stmt_step (Stmt-F.Include line n missing context)
+
+pub view_Import : (line : ℕ) (n x : String Global) → stmt_view (v.Import line n x) ≡ trees.import_as line (string_bytes n) (string_bytes x)
+view_Import line n x = ap stmt_view (sym (rolls-Import line n x)) ∙ fold-roll-Stmt trees.Stmt stmt_step (Stmt-F.Import line n x)
+
+pub view_From : (line : ℕ) (n : String Global) (xs : Vec (String Global × String Global) Global) → stmt_view (v.From line n xs) ≡ trees.import_from line (string_bytes n) (given_view xs.items)
+view_From line n xs = ap stmt_view (sym (rolls-From line n xs)) ∙ fold-roll-Stmt trees.Stmt stmt_step (Stmt-F.From line n xs)
 
 pub view_Extends : (line : ℕ) (n : String Global) → stmt_view (v.Extends line n) ≡ trees.extends line (string_bytes n)
 view_Extends line n = ap stmt_view (sym (rolls-Extends line n)) ∙ fold-roll-Stmt trees.Stmt stmt_step (Stmt-F.Extends line n)

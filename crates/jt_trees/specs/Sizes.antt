@@ -1,7 +1,7 @@
 -- How long the names and texts of trees are, in bytes.
 use Rattle.std.specs.Prelude.{ℕ, ◌+◌, List, [], ◌∷◌, length, Option, Some, None}
 use Rattle.jt_trees.specs.Expressions.{Text, Literal, number, text, truth, nothing, Expr, constant, name, group, list_of, map_of, attribute, item, call, filter, test, unary, binary, when, choice, Exprs, no_exprs, expr, Pairs, no_pairs, pair}
-use Rattle.jt_trees.specs.Statements.{Parameter, Filtering, Stmt, data_of, print, choose, for_each, set, set_block, with_values, filter_block, autoescape, macro, include, extends, block, Body, end, stmt, Branches, no_branches, branch}
+use Rattle.jt_trees.specs.Statements.{Parameter, Filtering, Stmt, data_of, print, choose, for_each, set, set_block, with_values, filter_block, autoescape, macro, include, import_as, import_from, extends, block, Body, end, stmt, Branches, no_branches, branch}
 
 abbrev pub literal_bytes : Literal → ℕ
 literal_bytes (number n) = 0
@@ -54,6 +54,11 @@ abbrev pub parameters_bytes : List Parameter → ℕ
 parameters_bytes [] = 0
 parameters_bytes (p ∷ ps) = length p.name + default_bytes p.default + parameters_bytes ps
 
+-- the names that are given to macros
+abbrev pub given_bytes : List (Text × Text) → ℕ
+given_bytes [] = 0
+given_bytes (x ∷ xs) = length x.1 + given_bytes xs
+
 abbrev mutual
   pub stmt_bytes : Stmt → ℕ
   stmt_bytes (data_of t) = length t
@@ -67,6 +72,8 @@ abbrev mutual
   stmt_bytes (autoescape line on body) = body_bytes body
   stmt_bytes (macro line x ps body) = length x + parameters_bytes ps + body_bytes body
   stmt_bytes (include line n missing context) = length n
+  stmt_bytes (import_as line n x) = length n + length x
+  stmt_bytes (import_from line n xs) = length n + given_bytes xs
   stmt_bytes (extends line n) = length n
   stmt_bytes (block line x scoped required body) = length x + body_bytes body
 

@@ -23,6 +23,9 @@ branches_of (b ∷ bs) = trees.branch b.0 (expr_view b.1) (stmts_of b.2.items) (
 abbrev pub names_view : List (String Global) → List Text
 names_view = map string_bytes
 
+abbrev pub given_view : List (String Global × String Global) → List (Text × Text)
+given_view = map (λ x. (string_bytes x.0, string_bytes x.1))
+
 abbrev pub filtering_view : Filtering → trees.Filtering
 filtering_view f = record { name = string_bytes f.name; arguments = exprs_view f.arguments.items; keywords = pairs_view f.keywords.items }
 
@@ -48,6 +51,8 @@ stmt_step (Stmt-F.FilterBlock line fs body) = trees.filter_block line (filtering
 stmt_step (Stmt-F.Autoescape line on body) = trees.autoescape line on (stmts_of body.items)
 stmt_step (Stmt-F.Macro line x ps body) = trees.macro line (string_bytes x) (parameters_view ps.items) (stmts_of body.items)
 stmt_step (Stmt-F.Include line n missing context) = trees.include line (string_bytes n) missing context
+stmt_step (Stmt-F.Import line n x) = trees.import_as line (string_bytes n) (string_bytes x)
+stmt_step (Stmt-F.From line n xs) = trees.import_from line (string_bytes n) (given_view xs.items)
 stmt_step (Stmt-F.Extends line n) = trees.extends line (string_bytes n)
 stmt_step (Stmt-F.Block line x scoped required body) = trees.block line (string_bytes x) scoped required (stmts_of body.items)
 

@@ -34,6 +34,10 @@ mutual
     macro : ℕ → Text → List Parameter → Body → Stmt
     -- the template's name, whether it may be missing, and whether it sees the names around
     include : ℕ → Text → Bool → Bool → Stmt
+    -- the library's name, and the name that is given to it
+    import_as : ℕ → Text → Text → Stmt
+    -- the library's name, and the names of its macros, each with the name that is given to it
+    import_from : ℕ → Text → List (Text × Text) → Stmt
     extends : ℕ → Text → Stmt
     -- the name, whether it is scoped, whether it is required, and the body
     block : ℕ → Text → Bool → Bool → Body → Stmt
@@ -70,6 +74,8 @@ abbrev mutual
   stmt_levels (autoescape line on body) = suc (body_levels body)
   stmt_levels (macro line x ps body) = suc (body_levels body)
   stmt_levels (include line n ignore_missing with_context) = 1
+  stmt_levels (import_as line n x) = 1
+  stmt_levels (import_from line n xs) = 1
   stmt_levels (extends line n) = 1
   stmt_levels (block line x scoped required body) = suc (body_levels body)
 
@@ -116,6 +122,9 @@ abbrev mutual
   stmt_weight (autoescape line on body) = 11 + body_weight body
   stmt_weight (macro line x ps body) = 12 + parameters_weight ps + body_weight body
   stmt_weight (include line n ignore_missing with_context) = 7
+  stmt_weight (import_as line n x) = 9
+  -- from and import, and the macros with their commas
+  stmt_weight (import_from line n xs) = 7 + 2 * length xs
   stmt_weight (extends line n) = 7
   stmt_weight (block line x scoped required body) = 11 + body_weight body
 

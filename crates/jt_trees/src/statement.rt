@@ -48,6 +48,11 @@ pub enum Stmt {
     /// `{% include "x" %}`: the name, whether it may be missing, and whether the template sees the
     /// names around.
     Include(u32, String, bool, bool),
+    /// `{% import "x" as f %}`: the library's name, and the name that is given to it.
+    Import(u32, String, String),
+    /// `{% from "x" import a, b as c %}`: the library's name, and the names of its macros, each
+    /// with the name that is given to it.
+    From(u32, String, Vec<(String, String)>),
     /// `{% extends "x" %}`
     Extends(u32, String),
     /// `{% block b scoped required %} .. {% endblock %}`: the name, whether it is scoped, and

@@ -13,7 +13,7 @@ use jt_host::context_from_json;
 use jt_image::{Flaw, Image, ImageError, View, decode, encode, view};
 use jt_line::DEFAULT;
 use jt_machine::{Outcome, run, run_view};
-use jt_plain::{End, plain_end};
+use jt_reference::{End, plain_end};
 use jt_value::Context;
 use jt_verify::{Refusal, Verified, VerifiedView, verify, verify_view};
 use std::alloc::Global;

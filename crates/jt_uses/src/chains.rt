@@ -3,6 +3,7 @@
 ghost use Rattle.std.specs.Prelude.{◌≡◌, ◌<◌, length, IfOk};
 ghost use Rattle.jt_trees.specs.Texts.{ascending};
 ghost use Rattle.jt_trees.specs.StatementView.{body_view};
+ghost use Rattle.jt_chains.specs.Chain.{a_library};
 ghost use Rattle.jt_chains.specs.Places.{home_at};
 ghost use Rattle.jt_chains.specs.Uses as uses;
 ghost use Rattle.jt_chains.specs.View.{chain_view, sources_of};
@@ -31,6 +32,21 @@ pub fn own_names(alloc: Global, chain: &Chain, home: usize) -> Result<BTreeSet<&
     Ok(names)
 }
 
+/// The different names that a library reads or binds. A library that isn't there has none.
+pub fn library_names<'a>(
+    alloc: Global,
+    chain: &'a Chain,
+    library: &str,
+) -> Result<BTreeSet<&'a str>, AllocError>
+    ensures { IfOk result (λ s. texts s.keys
+        ≡ ascending (uses.own_names (sources_of (chain_view chain.now))
+        (a_library library.now))) }
+{
+    let mut names = BTreeSet::new(alloc);
+    add_statements(&mut names, chain.library_body(library))?;
+    Ok(names)
+}
+
 /// The different names that the scopes of a chain bind. A chain that isn't there has none.
 pub fn scope_names(alloc: Global, chain: &Chain, home: usize) -> Result<BTreeSet<&str>, AllocError>
     ensures { home < length chain.now.homes.items
@@ -47,7 +63,7 @@ pub fn scope_names(alloc: Global, chain: &Chain, home: usize) -> Result<BTreeSet
 }
 
 /// The different ones of these names.
-fn in_order<'a>(alloc: Global, found: &[&'a str]) -> Result<BTreeSet<&'a str>, AllocError>
+pub fn in_order<'a>(alloc: Global, found: &[&'a str]) -> Result<BTreeSet<&'a str>, AllocError>
     ensures { IfOk result (λ s. texts s.keys ≡ ascending (texts found.now)) }
 {
     let mut names = BTreeSet::new(alloc);

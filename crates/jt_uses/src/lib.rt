@@ -6,4 +6,4 @@ mod own;
 mod scopes;
 mod sets;
 
-pub use chains::{own_names, scope_names, set_names};
+pub use chains::{in_order, library_names, own_names, scope_names, set_names};

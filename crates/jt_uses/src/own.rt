@@ -305,7 +305,8 @@ fn add_statement<'a>(names: &mut BTreeSet<&'a str>, statement: &'a Stmt) -> Resu
         ≡ all_inserted (stmt_names (stmt_view statement.now)) (texts names.old.keys)) }
 {
     match statement {
-        Stmt::Data(_) | Stmt::Include(..) | Stmt::Extends(..) => Ok(()),
+        Stmt::Data(_) | Stmt::Include(..) | Stmt::Import(..) | Stmt::From(..) | Stmt::Extends(..) =>
+            Ok(()),
         Stmt::Print(_, expr) => add_expression(names, expr),
         Stmt::If(branches, other) => {
             let head = add_branches(names, branches);

@@ -97,6 +97,8 @@ fn add_scope<'a>(found: &mut Vec<&'a str>, statement: &'a Stmt) -> Result<(), Al
         | Stmt::Print(_, _)
         | Stmt::Set(_, _, _)
         | Stmt::Include(_, _, _, _)
+        | Stmt::Import(_, _, _)
+        | Stmt::From(_, _, _)
         | Stmt::Extends(_, _) => Ok(()),
     }
 }

@@ -61,6 +61,8 @@ fn add_set<'a>(found: &mut Vec<&'a str>, statement: &'a Stmt) -> Result<(), Allo
         | Stmt::Autoescape(_, _, _)
         | Stmt::Macro(_, _, _, _)
         | Stmt::Include(_, _, _, _)
+        | Stmt::Import(_, _, _)
+        | Stmt::From(_, _, _)
         | Stmt::Extends(_, _)
         | Stmt::Block(_, _, _, _, _) => Ok(()),
     }

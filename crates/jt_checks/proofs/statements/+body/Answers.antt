@@ -1,6 +1,7 @@
 use Rattle.std.proofs.Common.{refl, sym, ap, ◌∙◌}
 use Rattle.std.specs.Option.{option_or}
-use Rattle.jt_trees.specs.StatementView.{stmt_view, body_view}
+use Rattle.jt_trees.specs.StatementView.{stmt_view, body_view, given_view}
+use Rattle.jt_trees.proofs.StatementViews.{view_From}
 use Rattle.jt_rules.specs.Walk as rules
 use Rattle.jt_checks.specs.ScopeView.{its_world, its_home, within_view}
 use Rattle.jt_checks.proofs.Found.{branch_found, choice_is, loop_is, head_part, turns_part}
@@ -28,8 +29,8 @@ branches_broken-returns-in-Some-2 t c =
 pub statement_broken-returns-in-If : goal.statement_broken-returns-in-If
 statement_broken-returns-in-If t c =
     let s = c.args.scope.now in
-    equal_found c.choice_broken.result _ _ (choice_is (its_world s) (its_home s) (within_view c.args.within) c.args.statement.now c.in-If.branches c.in-If.other c.deref.result.now c.deref-in-If.result.now
-    c.in-If.is c.deref.ensures.value c.deref-in-If.ensures.value) c.choice_broken.ensures
+    equal_found c.choice_broken.result _ _ (choice_is (its_world s) (its_home s) (within_view c.args.within) c.args.statement.now c.in-If.branches c.in-If.other c.deref-in-If.result.now c.deref-in-If-2.result.now
+    c.in-If.is c.deref-in-If.ensures.value c.deref-in-If-2.ensures.value) c.choice_broken.ensures
 
 pub statement_broken-returns-in-Some : goal.statement_broken-returns-in-Some
 statement_broken-returns-in-Some t c =
@@ -51,3 +52,11 @@ statement_broken-returns-in-None t c =
     ∙ (loop_is (its_world s) (its_home s) w c.args.statement.now c.in-For.field-0 c.in-For.targets c.in-For.items c.in-For.condition c.in-For.inside c.in-For.other c.deref-in-For.result.now c.deref-in-None.result.now c.deref-in-None-2.result.now
     c.in-For.is c.deref-in-For.ensures.value c.deref-in-None.ensures.value c.deref-in-None-2.ensures.value))
     c.turns_broken.ensures
+
+pub statement_broken-returns-in-From : goal.statement_broken-returns-in-From
+statement_broken-returns-in-From t c =
+    let s = c.args.scope.now in
+    let w = within_view c.args.within in
+    c.imports_broken.ensures (its_world s) (its_home s)
+    ∙ ap (λ z. rules.imports_broken (its_world s) (its_home s) (given_view z)) c.deref-in-From.ensures.value
+    ∙ ap (λ z. rules.stmt_broken (its_world s) (its_home s) z w) (sym (ap stmt_view c.in-From.is ∙ view_From c.in-From.field-0 c.in-From.field-1 c.in-From.names))

@@ -6,20 +6,26 @@ use Rattle.jt_order.specs.Graph.{IsClosed, IsOrder}
 use Rattle.jt_order.specs.View.{graph_of}
 use Rattle.jt_chains.specs.Chain.{sources_in}
 use Rattle.jt_inherit.specs.Chains.{IsChain}
-use Rattle.jt_inherit.specs.Found.{HasHomes, found_templates, found_homes}
-use Rattle.jt_chains.specs.Includes.{InOrder}
-use Rattle.jt_chains.specs.Pages.{home_name}
+use Rattle.jt_inherit.specs.Found.{AreFound, HasHomes, found_templates, found_homes}
+use Rattle.jt_chains.specs.Includes.{InOrder, begins_with_chain}
+use Rattle.jt_chains.specs.Pages.{home_view}
 use Rattle.jt_chains.specs.Places.{home_at}
 use Rattle.jt_inherit.specs.SetView.{strings}
+use Rattle.jt_trees.specs.Texts.{repeated}
 use Rattle.jt_chains.specs.Weights.{chains_weight}
 use Rattle.jt_inherit.specs.Small.{chains_len}
 use Rattle.jt_inherit.proofs.OnWay.{all_short}
 use Rattle.jt_inherit.proofs.Settled.{no_chain, one_chain}
-use Rattle.jt_inherit.proofs.Whole.{ways_placed, next_len, closed, chain_breaks, order_breaks, in_order, chained, weighs, few_homes, some_homes, all_whole, homes_named}
+use Rattle.jt_inherit.proofs.Whole.{ways_placed, next_len, closed, chain_breaks, order_breaks, in_order, begins, chained, weighs, few_homes, some_homes, all_whole, homes_named}
 use Rattle.jt_inherit.proofs.chaining.chain.Goals as goal
 
-pub check_chains-requires : goal.check_chains-requires
-check_chains-requires g c =
+pub check_chains-requires-clause-named : goal.check_chains-requires-clause-named
+check_chains-requires-clause-named g c =
+    let known = c.in_ok-found.ensures.found.known in
+    record { named = known.named; once = ap repeated known.named ∙ known.read.once }
+
+pub check_chains-requires-clause-places : goal.check_chains-requires-clause-places
+check_chains-requires-clause-places g c =
     let given = g.L.Library.sources c.args.library.now in
     let f = c.in_ok-found.found in
     let ts = found_templates f in
@@ -27,7 +33,7 @@ check_chains-requires g c =
     let hs = found_homes f in
     let ws = graph_of f.ways.items in
     let ns = graph_of f.next.items in
-    let found = c.in_ok-found.ensures.found in
+    let found = subst (λ z. AreFound given c.args.options z ts ks hs ws ns) c.in_ok-found.ensures.root c.in_ok-found.ensures.found in
     let all : length ws ≡ length hs = length-map f.ways.items (λ (v : Vec ℕ Global). v.items) ∙ c.in_ok-found.ensures.all in
     ways_placed given ts hs hs ws ns found.followed
 
@@ -40,12 +46,12 @@ returns-in_err-check_chains-clause-refused g c =
     let hs = found_homes f in
     let ws = graph_of f.ways.items in
     let ns = graph_of f.next.items in
-    let found = c.in_ok-found.ensures.found in
+    let found = subst (λ z. AreFound given c.args.options z ts ks hs ws ns) c.in_ok-found.ensures.root c.in_ok-found.ensures.found in
     let all : length ws ≡ length hs = length-map f.ways.items (λ (v : Vec ℕ Global). v.items) ∙ c.in_ok-found.ensures.all in
     let e = c.in_err-check_chains.field-0.0 in
     let p = err_from_is_err_and c.from_residual-in_err-check_chains.result c.from_residual-in_err-check_chains.ensures.1 in
     rw (p.1, p.2)
-    (chain_breaks given c.args.options c.args.entry.now ts ks hs ws ns found c.in_ok-found.ensures.root all e c.in_err-check_chains.ensures.broken)
+    (chain_breaks given c.args.options c.args.entry.now ts ks hs ws ns found all e c.in_err-check_chains.ensures.broken)
 
 pub returns-in_err-order-clause-refused : goal.returns-in_err-order-clause-refused
 returns-in_err-order-clause-refused g c =
@@ -56,11 +62,11 @@ returns-in_err-order-clause-refused g c =
     let hs = found_homes f in
     let ws = graph_of f.ways.items in
     let ns = graph_of f.next.items in
-    let found = c.in_ok-found.ensures.found in
+    let found = subst (λ z. AreFound given c.args.options z ts ks hs ws ns) c.in_ok-found.ensures.root c.in_ok-found.ensures.found in
     let all : length ws ≡ length hs = length-map f.ways.items (λ (v : Vec ℕ Global). v.items) ∙ c.in_ok-found.ensures.all in
     let p = err_from_is_err_and c.from_residual-in_err-order.result c.from_residual-in_err-order.ensures.1 in
     rw p.1
-    (order_breaks given c.args.options c.args.entry.now ts ks hs ws ns found c.in_ok-found.ensures.root all (graph_of c.deref.result.now) c.in_err-order.field-0.0 p.0 (ap graph_of c.deref.ensures.value) p.2
+    (order_breaks given c.args.options c.args.entry.now ts ks hs ws ns found all (graph_of c.deref.result.now) c.in_err-order.field-0.0 p.0 (ap graph_of c.deref.ensures.value) p.2
     (λ q. c.in_err-order.ensures.cycle (ap Err q)))
 
 pub homes_in-requires-clause-within : goal.homes_in-requires-clause-within
@@ -72,11 +78,11 @@ homes_in-requires-clause-within g c =
     let hs = found_homes f in
     let ws = graph_of f.ways.items in
     let ns = graph_of f.next.items in
-    let found = c.in_ok-found.ensures.found in
+    let found = subst (λ z. AreFound given c.args.options z ts ks hs ws ns) c.in_ok-found.ensures.root c.in_ok-found.ensures.found in
     let all : length ws ≡ length hs = length-map f.ways.items (λ (v : Vec ℕ Global). v.items) ∙ c.in_ok-found.ensures.all in
     let kept = c.in_ok-check_chains.ensures.kept in
     let is = c.in_ok-order.order.items in
-    let own : IsClosed (graph_of c.deref.result.now) = subst (λ (z : List (Vec ℕ Global)). IsClosed (graph_of z)) (sym c.deref.ensures.value) (closed given c.args.options c.args.entry.now ts ks hs ws ns found c.in_ok-found.ensures.root all) in
+    let own : IsClosed (graph_of c.deref.result.now) = subst (λ (z : List (Vec ℕ Global)). IsClosed (graph_of z)) (sym c.deref.ensures.value) (closed given c.args.options c.args.entry.now ts ks hs ws ns found all) in
     let o : IsOrder ns is = subst (λ (z : List (Vec ℕ Global)). IsOrder (graph_of z) is) c.deref.ensures.value (c.in_ok-order.ensures.ordered own) in
     let lens : length ns ≡ length f.ways.items = next_len given ts hs hs ws ns found.followed ∙ length-map f.ways.items (λ (v : Vec ℕ Global). v.items) in
     subst (λ z. AllByRecursion (λ i. i < length f.ways.items) z) (sym c.deref-2.ensures.value) (subst (λ n. AllByRecursion (λ i. i < n) is) lens o.within)
@@ -90,20 +96,23 @@ invariant_of-result g c =
     let hs = found_homes f in
     let ws = graph_of f.ways.items in
     let ns = graph_of f.next.items in
-    let found = c.in_ok-found.ensures.found in
+    let found = subst (λ z. AreFound given c.args.options z ts ks hs ws ns) c.in_ok-found.ensures.root c.in_ok-found.ensures.found in
     let all : length ws ≡ length hs = length-map f.ways.items (λ (v : Vec ℕ Global). v.items) ∙ c.in_ok-found.ensures.all in
     let kept = c.in_ok-check_chains.ensures.kept in
     let is = c.in_ok-order.order.items in
-    let own : IsClosed (graph_of c.deref.result.now) = subst (λ (z : List (Vec ℕ Global)). IsClosed (graph_of z)) (sym c.deref.ensures.value) (closed given c.args.options c.args.entry.now ts ks hs ws ns found c.in_ok-found.ensures.root all) in
+    let own : IsClosed (graph_of c.deref.result.now) = subst (λ (z : List (Vec ℕ Global)). IsClosed (graph_of z)) (sym c.deref.ensures.value) (closed given c.args.options c.args.entry.now ts ks hs ws ns found all) in
     let o : IsOrder ns is = subst (λ (z : List (Vec ℕ Global)). IsOrder (graph_of z) is) c.deref.ensures.value (c.in_ok-order.ensures.ordered own) in
     let homes = c.in_ok-homes.homes.items in
     let has : HasHomes hs ws is homes = subst (λ z. HasHomes hs ws z homes) c.deref-2.ensures.value c.in_ok-homes.ensures in
     let named = homes_named hs ws is homes has in
     record {
       once = found.known.read.once;
-      some = omega (arith, ap length named, length-map homes home_name, length-map is (home_at hs), some_homes given c.args.options c.args.entry.now ts ks hs ws ns found c.in_ok-found.ensures.root all kept is o);
-      order = subst (InOrder (sources_in ts)) (sym named) (in_order given c.args.options c.args.entry.now ts ks hs ws ns found c.in_ok-found.ensures.root all kept is o);
-      whole = all_whole given c.args.options c.args.entry.now ts ks hs ws ns found c.in_ok-found.ensures.root all kept is o homes has;
+      some = omega (arith, ap length named, length-map homes home_view, length-map is (home_at hs), some_homes given c.args.options c.args.entry.now ts ks hs ws ns found all kept is o);
+      begins =
+          let b = begins given c.args.options c.args.entry.now ts ks hs ws ns found all kept is o in
+          ap begins_with_chain (named ∙ b.1);
+      order = subst (InOrder (sources_in ts)) (sym named) (in_order given c.args.options c.args.entry.now ts ks hs ws ns found all kept is o);
+      whole = all_whole given c.args.options c.args.entry.now ts ks hs ws ns found all kept is o homes has;
     }
 
 pub returns-clause-chained : goal.returns-clause-chained
@@ -115,17 +124,17 @@ returns-clause-chained g c =
     let hs = found_homes f in
     let ws = graph_of f.ways.items in
     let ns = graph_of f.next.items in
-    let found = c.in_ok-found.ensures.found in
+    let found = subst (λ z. AreFound given c.args.options z ts ks hs ws ns) c.in_ok-found.ensures.root c.in_ok-found.ensures.found in
     let all : length ws ≡ length hs = length-map f.ways.items (λ (v : Vec ℕ Global). v.items) ∙ c.in_ok-found.ensures.all in
     let kept = c.in_ok-check_chains.ensures.kept in
     let is = c.in_ok-order.order.items in
-    let own : IsClosed (graph_of c.deref.result.now) = subst (λ (z : List (Vec ℕ Global)). IsClosed (graph_of z)) (sym c.deref.ensures.value) (closed given c.args.options c.args.entry.now ts ks hs ws ns found c.in_ok-found.ensures.root all) in
+    let own : IsClosed (graph_of c.deref.result.now) = subst (λ (z : List (Vec ℕ Global)). IsClosed (graph_of z)) (sym c.deref.ensures.value) (closed given c.args.options c.args.entry.now ts ks hs ws ns found all) in
     let o : IsOrder ns is = subst (λ (z : List (Vec ℕ Global)). IsOrder (graph_of z) is) c.deref.ensures.value (c.in_ok-order.ensures.ordered own) in
     let homes = c.in_ok-homes.homes.items in
     let has : HasHomes hs ws is homes = subst (λ z. HasHomes hs ws z homes) c.deref-2.ensures.value c.in_ok-homes.ensures in
     let named = homes_named hs ws is homes has in
     subst (λ z. IsChain given c.args.entry.now c.args.options (record { templates = ts; order = z; escaping = c.args.options.autoescape })) (sym named)
-    (chained given c.args.options c.args.entry.now ts ks hs ws ns found c.in_ok-found.ensures.root all kept is o)
+    (chained given c.args.options c.args.entry.now ts ks hs ws ns found all kept is o)
 
 pub returns-clause-weighs : goal.returns-clause-weighs
 returns-clause-weighs g c =
@@ -136,16 +145,16 @@ returns-clause-weighs g c =
     let hs = found_homes f in
     let ws = graph_of f.ways.items in
     let ns = graph_of f.next.items in
-    let found = c.in_ok-found.ensures.found in
+    let found = subst (λ z. AreFound given c.args.options z ts ks hs ws ns) c.in_ok-found.ensures.root c.in_ok-found.ensures.found in
     let all : length ws ≡ length hs = length-map f.ways.items (λ (v : Vec ℕ Global). v.items) ∙ c.in_ok-found.ensures.all in
     let kept = c.in_ok-check_chains.ensures.kept in
     let is = c.in_ok-order.order.items in
-    let own : IsClosed (graph_of c.deref.result.now) = subst (λ (z : List (Vec ℕ Global)). IsClosed (graph_of z)) (sym c.deref.ensures.value) (closed given c.args.options c.args.entry.now ts ks hs ws ns found c.in_ok-found.ensures.root all) in
+    let own : IsClosed (graph_of c.deref.result.now) = subst (λ (z : List (Vec ℕ Global)). IsClosed (graph_of z)) (sym c.deref.ensures.value) (closed given c.args.options c.args.entry.now ts ks hs ws ns found all) in
     let o : IsOrder ns is = subst (λ (z : List (Vec ℕ Global)). IsOrder (graph_of z) is) c.deref.ensures.value (c.in_ok-order.ensures.ordered own) in
     let homes = c.in_ok-homes.homes.items in
     let has : HasHomes hs ws is homes = subst (λ z. HasHomes hs ws z homes) c.deref-2.ensures.value c.in_ok-homes.ensures in
     let named = homes_named hs ws is homes has in
-    subst (λ z. chains_weight (sources_in ts) z ≤ chains_len given (sources_in ts) z) (sym named) (weighs given c.args.options c.args.entry.now ts ks hs ws ns found c.in_ok-found.ensures.root all kept is o)
+    subst (λ z. chains_weight (sources_in ts) z ≤ chains_len given (sources_in ts) z) (sym named) (weighs given c.args.options c.args.entry.now ts ks hs ws ns found all kept is o)
 
 pub returns-clause-short : goal.returns-clause-short
 returns-clause-short g c =
@@ -161,16 +170,16 @@ returns-clause-few g c =
     let hs = found_homes f in
     let ws = graph_of f.ways.items in
     let ns = graph_of f.next.items in
-    let found = c.in_ok-found.ensures.found in
+    let found = subst (λ z. AreFound given c.args.options z ts ks hs ws ns) c.in_ok-found.ensures.root c.in_ok-found.ensures.found in
     let all : length ws ≡ length hs = length-map f.ways.items (λ (v : Vec ℕ Global). v.items) ∙ c.in_ok-found.ensures.all in
     let kept = c.in_ok-check_chains.ensures.kept in
     let is = c.in_ok-order.order.items in
-    let own : IsClosed (graph_of c.deref.result.now) = subst (λ (z : List (Vec ℕ Global)). IsClosed (graph_of z)) (sym c.deref.ensures.value) (closed given c.args.options c.args.entry.now ts ks hs ws ns found c.in_ok-found.ensures.root all) in
+    let own : IsClosed (graph_of c.deref.result.now) = subst (λ (z : List (Vec ℕ Global)). IsClosed (graph_of z)) (sym c.deref.ensures.value) (closed given c.args.options c.args.entry.now ts ks hs ws ns found all) in
     let o : IsOrder ns is = subst (λ (z : List (Vec ℕ Global)). IsOrder (graph_of z) is) c.deref.ensures.value (c.in_ok-order.ensures.ordered own) in
     let homes = c.in_ok-homes.homes.items in
     let has : HasHomes hs ws is homes = subst (λ z. HasHomes hs ws z homes) c.deref-2.ensures.value c.in_ok-homes.ensures in
     let named = homes_named hs ws is homes has in
-    subst (λ z. 7 * length z ≤ chains_weight (sources_in ts) z + 7) (sym named) (few_homes given c.args.options c.args.entry.now ts ks hs ws ns found c.in_ok-found.ensures.root all kept is o)
+    subst (λ z. 7 * length z ≤ chains_weight (sources_in ts) z + 7) (sym named) (few_homes given c.args.options c.args.entry.now ts ks hs ws ns found all kept is o)
 
 -- ---- one chain alone, and none where there is a refusal
 
@@ -189,12 +198,12 @@ returns-in_err-check_chains-clause-only g c =
     let hs = found_homes f in
     let ws = graph_of f.ways.items in
     let ns = graph_of f.next.items in
-    let found = c.in_ok-found.ensures.found in
+    let found = subst (λ z. AreFound given c.args.options z ts ks hs ws ns) c.in_ok-found.ensures.root c.in_ok-found.ensures.found in
     let all : length ws ≡ length hs = length-map f.ways.items (λ (v : Vec ℕ Global). v.items) ∙ c.in_ok-found.ensures.all in
     let e = c.in_err-check_chains.field-0.0 in
     let p = err_from_is_err_and c.from_residual-in_err-check_chains.result c.from_residual-in_err-check_chains.ensures.1 in
     rw (p.1, p.2)
-    (λ d i. no_chain given c.args.options c.args.entry.now d i e (chain_breaks given c.args.options c.args.entry.now ts ks hs ws ns found c.in_ok-found.ensures.root all e c.in_err-check_chains.ensures.broken))
+    (λ d i. no_chain given c.args.options c.args.entry.now d i e (chain_breaks given c.args.options c.args.entry.now ts ks hs ws ns found all e c.in_err-check_chains.ensures.broken))
 
 pub returns-in_err-order-clause-only : goal.returns-in_err-order-clause-only
 returns-in_err-order-clause-only g c =
@@ -205,12 +214,12 @@ returns-in_err-order-clause-only g c =
     let hs = found_homes f in
     let ws = graph_of f.ways.items in
     let ns = graph_of f.next.items in
-    let found = c.in_ok-found.ensures.found in
+    let found = subst (λ z. AreFound given c.args.options z ts ks hs ws ns) c.in_ok-found.ensures.root c.in_ok-found.ensures.found in
     let all : length ws ≡ length hs = length-map f.ways.items (λ (v : Vec ℕ Global). v.items) ∙ c.in_ok-found.ensures.all in
     let p = err_from_is_err_and c.from_residual-in_err-order.result c.from_residual-in_err-order.ensures.1 in
     rw p.1
     (λ d i. no_chain given c.args.options c.args.entry.now d i p.0
-    (order_breaks given c.args.options c.args.entry.now ts ks hs ws ns found c.in_ok-found.ensures.root all (graph_of c.deref.result.now) c.in_err-order.field-0.0 p.0 (ap graph_of c.deref.ensures.value) p.2
+    (order_breaks given c.args.options c.args.entry.now ts ks hs ws ns found all (graph_of c.deref.result.now) c.in_err-order.field-0.0 p.0 (ap graph_of c.deref.ensures.value) p.2
     (λ q. c.in_err-order.ensures.cycle (ap Err q))))
 
 pub returns-in_err-homes-clause-only : goal.returns-in_err-homes-clause-only
@@ -228,12 +237,12 @@ returns-clause-only g c =
     let hs = found_homes f in
     let ws = graph_of f.ways.items in
     let ns = graph_of f.next.items in
-    let found = c.in_ok-found.ensures.found in
+    let found = subst (λ z. AreFound given c.args.options z ts ks hs ws ns) c.in_ok-found.ensures.root c.in_ok-found.ensures.found in
     let all : length ws ≡ length hs = length-map f.ways.items (λ (v : Vec ℕ Global). v.items) ∙ c.in_ok-found.ensures.all in
     let kept = c.in_ok-check_chains.ensures.kept in
     let is = c.in_ok-order.order.items in
-    let own : IsClosed (graph_of c.deref.result.now) = subst (λ (z : List (Vec ℕ Global)). IsClosed (graph_of z)) (sym c.deref.ensures.value) (closed given c.args.options c.args.entry.now ts ks hs ws ns found c.in_ok-found.ensures.root all) in
+    let own : IsClosed (graph_of c.deref.result.now) = subst (λ (z : List (Vec ℕ Global)). IsClosed (graph_of z)) (sym c.deref.ensures.value) (closed given c.args.options c.args.entry.now ts ks hs ws ns found all) in
     let o : IsOrder ns is = subst (λ (z : List (Vec ℕ Global)). IsOrder (graph_of z) is) c.deref.ensures.value (c.in_ok-order.ensures.ordered own) in
     λ d i.
     one_chain given c.args.options c.args.entry.now (record { templates = ts; order = map (home_at hs) is; escaping = c.args.options.autoescape }) d
-    (chained given c.args.options c.args.entry.now ts ks hs ws ns found c.in_ok-found.ensures.root all kept is o) i found.known.only
+    (chained given c.args.options c.args.entry.now ts ks hs ws ns found all kept is o) i found.known.only

@@ -1,9 +1,9 @@
-use Rattle.std.proofs.Common.{◌≡◌, ◌-◌, length}
+use Rattle.std.proofs.Common.{◌≡◌, ◌-◌, ◌^◌, length}
 use Rattle.jt_inherit.specs.Found.{IsFound, root_of}
 use Rattle.jt_inherit.proofs.discovery.discover.Given as goal
 
 abbrev pub decreases-chains : goal.decreases-chains
-decreases-chains g l = 1024 - length l.found.ways.items
+decreases-chains g l = 2 ^ 63 - length l.found.ways.items
 
 abbrev pub invariant-chains : goal.invariant-chains
 invariant-chains g l = record {

@@ -5,6 +5,7 @@ use Rattle.jt_chains.specs.Along.{templates_at}
 use Rattle.jt_chains.specs.Chain.{Template}
 use Rattle.jt_chains.specs.Pages.{pages_view}
 use Rattle.jt_inherit.specs.SetView.{strings}
+use Rattle.jt_chains.specs.Chain.{a_chain}
 use Rattle.jt_inherit.specs.Ways.{AreKnown, IsWay}
 use Rattle.jt_inherit.proofs.Leads.{names}
 use Rattle.jt_inherit.proofs.way.read_way.Given as goal
@@ -15,5 +16,5 @@ invariant-loop-turn g l = record {
   grown : (more : List Template) × (pages_view l.pages.items ≡ pages_view l.initial.pages.items ++ more);
   from : (n : Text) → among n (strings l.names.keys) ≡ true → (among n (strings l.initial.names.keys) ≡ true) ⊎ (among n (names (templates_at (pages_view l.pages.items) l.way.items)) ≡ true);
   counted : length l.way.items ≡ l._turn;
-  led : IsWay (pages_view l.pages.items) l.entry l.way.items (Some (string_bytes l.name));
+  led : IsWay (pages_view l.pages.items) (a_chain l.entry) l.way.items (Some (string_bytes l.name));
 }

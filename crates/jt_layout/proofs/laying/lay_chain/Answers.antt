@@ -1,16 +1,19 @@
-use Rattle.std.proofs.Common.{◌≡◌, ◌+◌, length, sym, ap, ◌∙◌, arith}
+use Rattle.std.proofs.Common.{◌≡◌, ◌+◌, length, string_bytes, sym, ap, ◌∙◌, arith}
 use Rattle.std.proofs.lemmas.List.{length-map}
 use Rattle.std.specs.Prelude.{slice_get}
 use Rattle.jt_chains.specs.Chain.{macros}
+use Rattle.jt_chains.specs.Pages.{home_view}
 use Rattle.jt_chains.specs.Parts.{macro_view}
 use Rattle.jt_chains.specs.View.{chain_view}
 use Rattle.jt_meaning.specs.Layout as layout
 use Rattle.jt_uses.specs.Names.{texts}
 use Rattle.jt_layout.specs.Front.{its_world, its_order, its_home}
+use Rattle.jt_layout.specs.Laid.{is_library}
 use Rattle.jt_layout.specs.declared.laid.Laid.{Laid}
+use Rattle.jt_chains.proofs.Placed.{name_of_home}
 use Rattle.jt_layout.proofs.Bodied.{next_at}
 use Rattle.jt_layout.proofs.Fronts.{slot_here, chain_unit}
-use Rattle.jt_layout.proofs.Tables.{rest, here, slots_laid, is_called, body_units, firsts_laid, count_next, count_blocks, scoped_laid, behind}
+use Rattle.jt_layout.proofs.Tables.{rest, here, kind_named, slots_laid, is_called, is_given, body_units, firsts_laid, count_next, count_blocks, scoped_laid, behind}
 use Rattle.jt_layout.proofs.laying.lay_chain.Goals as goal
 
 pub returns-clause-laid : goal.returns-clause-laid
@@ -29,8 +32,14 @@ returns-clause-laid c =
     let slot = slot_here W O h (rest a i lt f) f s in
     let count : length ms.all.items ≡ length (macros W.sources h) = sym (length-map ms.all.items (macro_view (chain_view a).templates)) ∙ ap length c.in_ok-macros.ensures.all in
     let ps = c.in_ok-places.places in
+    let g = c.in_ok-given.given in
+    let k = c.index-itself.result.now in
+    let is : h ≡ home_view k = name_of_home a.homes.items i k lt c.index-itself.ensures in
+    let entries : c.entries_of.result ≡ length (layout.entry_keys W h) = c.entries_of.ensures W ∙ ap (λ z. length (layout.entry_keys W z)) (sym is) in
+    let macro_unit : ps.macro_unit ≡ f.unit + length (layout.entry_keys W h) = c.in_ok-places.ensures.macro_unit ∙ ap (λ n. f.unit + n) entries in
     let unit : ps.body_unit ≡ ps.macro_unit + length (macros W.sources h) = omega (arith, c.in_ok-places.ensures.body_unit, c.len-2.ensures, ms.all.ok.0, count) in
     let l : Laid = record {
+      is_library = k.is_library;
       names = c.args.names;
       slots = c.in_ok-slots.slots;
       first_slot = f.slot;
@@ -40,6 +49,8 @@ returns-clause-laid c =
       macros = ms.all;
       called = ms.called;
       defaults = ms.defaults.places;
+      given = g.all;
+      given_places = g.places;
       blocks = bs.all;
       first_bodies = bs.firsts;
       next_bodies = bs.nexts;
@@ -47,14 +58,17 @@ returns-clause-laid c =
       scoped = bs.scoped;
     } in
     record {
+      kind = kind_named k.is_library (string_bytes k.name) ∙ ap is_library (sym is);
       named = c.requires.named;
       in_slots = λ x. slots_laid a i lt f s (texts c.deref.result.now) x _ named (c.in_ok-slots.ensures.placed x) ∙ ap (λ n. layout.slot_in x (layout.globals_from n (layout.names W O h))) (sym slot);
       from = sym slot;
-      chain_unit = sym (chain_unit W O h (rest a i lt f) f s);
+      chain_unit = λ n e. sym (chain_unit W O h (rest a i lt f) f s n e);
       all_macros = c.in_ok-macros.ensures.all;
-      by_names = λ x. is_called a i lt f s l c.in_ok-macros.ensures.all c.in_ok-macros.ensures.defaults c.in_ok-places.ensures.macro_unit x _ (c.in_ok-macros.ensures.called x);
+      by_names = λ x. is_called a i lt f s l c.in_ok-macros.ensures.all c.in_ok-macros.ensures.defaults macro_unit x _ (c.in_ok-macros.ensures.called x);
+      all_given = c.in_ok-given.ensures.all;
+      given_names = λ x. is_given a i lt f s l c.in_ok-given.ensures.all x _ (c.in_ok-given.ensures.places x);
       all_blocks = c.in_ok-bodies.ensures.all;
-      body_units = λ k under. body_units a i lt f s bs.all.items c.in_ok-bodies.ensures.all _ _ k unit c.in_ok-places.ensures.macro_unit under;
+      body_units = λ k under. body_units a i lt f s bs.all.items c.in_ok-bodies.ensures.all _ _ k unit macro_unit under;
       firsts = λ x. firsts_laid a i lt f s bs.all.items c.in_ok-bodies.ensures.all x _ (c.in_ok-bodies.ensures.firsts x);
       nexts = λ k n e b cs d. next_at (layout.numbered_bodies W h) k n (ap (λ ns. slice_get ns k) (sym c.in_ok-bodies.ensures.nexts) ∙ e) (k, b) cs d;
       all_next = count_next a i lt f s bs.all.items c.in_ok-bodies.ensures.all bs.nexts.items c.in_ok-bodies.ensures.nexts;
@@ -74,9 +88,14 @@ returns-clause-behind c =
     let s = here a i lt f c.requires.front in
     let count : length ms.all.items ≡ length (macros W.sources h) = sym (length-map ms.all.items (macro_view (chain_view a).templates)) ∙ ap length c.in_ok-macros.ensures.all in
     let slots : length c.args.names.items ≡ length (layout.names W (its_order a) h) = sym (length-map c.args.names.items (λ k. k.now)) ∙ ap length c.requires.named in
-    let g = c.in_ok-places.places.behind in
-    let units : g.unit ≡ (f.unit + 1) + length ms.all.items + length bs.all.items =
-    omega (arith, c.in_ok-places.ensures.unit, c.in_ok-places.ensures.body_unit, c.in_ok-places.ensures.macro_unit, c.len-2.ensures, c.len-3.ensures, ms.all.ok.0, bs.all.ok.0) in
+    let ps = c.in_ok-places.places in
+    let g = ps.behind in
+    let k = c.index-itself.result.now in
+    let is : h ≡ home_view k = name_of_home a.homes.items i k lt c.index-itself.ensures in
+    let entries : c.entries_of.result ≡ length (layout.entry_keys W h) = c.entries_of.ensures W ∙ ap (λ z. length (layout.entry_keys W z)) (sym is) in
+    let macro_unit : ps.macro_unit ≡ f.unit + length (layout.entry_keys W h) = c.in_ok-places.ensures.macro_unit ∙ ap (λ n. f.unit + n) entries in
+    let units : g.unit ≡ (f.unit + length (layout.entry_keys W h)) + length ms.all.items + length bs.all.items =
+    omega (arith, c.in_ok-places.ensures.unit, c.in_ok-places.ensures.body_unit, macro_unit, c.len-2.ensures, c.len-3.ensures, ms.all.ok.0, bs.all.ok.0) in
     let slots_are : g.slot ≡ f.slot + length c.args.names.items = omega (arith, c.in_ok-places.ensures.slot, c.len.ensures, c.args.names.ok.0) in
     behind a i lt f s g (length c.args.names.items) (length ms.all.items) (length bs.all.items) slots_are slots units count
     (count_blocks a i lt f s bs.all.items c.in_ok-bodies.ensures.all) (c.in_ok-places.ensures.default ∙ c.in_ok-macros.ensures.ended)

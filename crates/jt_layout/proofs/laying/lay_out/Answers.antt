@@ -1,11 +1,13 @@
-use Rattle.std.proofs.Common.{map, sym, ap, ◌∙◌, arith, string_bytes}
+use Rattle.std.proofs.Common.{List, map, sym, ap, ◌∙◌, arith, string_bytes}
 use Rattle.std.proofs.lemmas.List.{length-map}
-use Rattle.jt_chains.specs.Pages.{home_name}
+use Rattle.jt_chains.specs.Chain.{a_chain, a_library}
+use Rattle.jt_chains.specs.Pages.{home_view}
+use Rattle.jt_chains.specs.declared.linked.Home.{Home}
 use Rattle.jt_chains.specs.declared.linked.Page.{Page}
 use Rattle.jt_uses.specs.Names.{texts}
 use Rattle.jt_layout.specs.Front.{its_order}
-use Rattle.jt_layout.specs.Places.{first_of}
-use Rattle.jt_layout.proofs.Firsts.{is_chain}
+use Rattle.jt_layout.specs.Places.{first_of, first_home}
+use Rattle.jt_layout.proofs.Firsts.{is_home}
 use Rattle.jt_layout.proofs.Tables.{sources_laid}
 use Rattle.jt_layout.proofs.laying.lay_out.Goals as goal
 
@@ -22,12 +24,12 @@ returns-clause-laid c =
     let a = c.args.chain.now in
     let count = c.in_ok-tables.ensures.all in
     let names = ap texts c.deref-2.ensures.value ∙ c.in_ok-template_names.ensures ∙ ap (map (λ (p : Page). string_bytes p.name)) c.deref.ensures.value in
-    let chains = ap texts c.deref-4.ensures.value ∙ c.in_ok-chain_names.ensures ∙ ap (map home_name) c.deref-3.ensures.value in
     record {
       inside = omega (arith, count, a.some);
-      all_homes = count ∙ sym (length-map a.homes.items home_name);
+      all_homes = count ∙ sym (length-map a.homes.items home_view);
       each = λ i l lt e. c.in_ok-tables.ensures.each i l lt e;
       all_units = c.in_ok-tables.ensures.units;
-      chains = λ x. is_chain x (its_order a) _ (c.in_ok-places.ensures.placed x ∙ ap (first_of x 0) chains);
+      chains = λ x. is_home (a_chain x) (its_order a) _ (c.in_ok-places.ensures.placed x ∙ ap (λ (hs : List Home). first_home (a_chain x) 0 (map home_view hs)) c.deref-3.ensures.value);
+      libraries = λ x. is_home (a_library x) (its_order a) _ (c.in_ok-libraries.ensures.placed x ∙ ap (λ (hs : List Home). first_home (a_library x) 0 (map home_view hs)) c.deref-4.ensures.value);
       sources = λ x. sources_laid a.templates.items x _ (c.in_ok-sources.ensures.placed x ∙ ap (first_of x 0) names);
     }

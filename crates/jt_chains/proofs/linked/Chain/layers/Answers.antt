@@ -7,7 +7,7 @@ use Rattle.jt_chains.specs.Chain.{Template, templates, sources_in}
 use Rattle.jt_trees.specs.Expressions.{Text}
 use Rattle.jt_trees.specs.Statements.{Body}
 use Rattle.jt_chains.specs.Layers.{layer_view}
-use Rattle.jt_chains.specs.Pages.{pages_view, home_name}
+use Rattle.jt_chains.specs.Pages.{pages_view, home_view}
 use Rattle.jt_chains.specs.Places.{home_at}
 use Rattle.jt_chains.specs.declared.linked.Home.{Home}
 use Rattle.jt_chains.specs.declared.linked.Page.{Page}
@@ -37,4 +37,4 @@ returns-in-Some-clause-there c =
     let along_is = home_along self.templates.items c.deref-in-Some.result.now self.homes.items c.args.home c.in-Some.found.now c.deref-in-Some-2.result.now c.deref-in-Some.ensures.value c.deref-in-Some-2.ensures.value lt at self.once self.whole alone in
     λ there. IfOk-weaker c.layers_at.result (λ (v : Vec Layer Global). map (layer_view (pages_view c.deref-in-Some.result.now)) v.items ≡ along (pages_view c.deref-in-Some.result.now) alone c.deref-in-Some-2.result.now) _
     (λ v p. ap (λ (z : List Page). map (layer_view (pages_view z)) v.items) (sym c.deref-in-Some.ensures.value) ∙ p ∙ along_is
-    ∙ each_alone (templates (sources_in (pages_view self.templates.items)) (home_at (map home_name self.homes.items) c.args.home))) c.layers_at.ensures
+    ∙ each_alone (templates (sources_in (pages_view self.templates.items)) (home_at (map home_view self.homes.items) c.args.home))) c.layers_at.ensures

@@ -1,18 +1,20 @@
 use Rattle.std.proofs.Common.{map, ap, ◌∙◌}
 use Rattle.std.specs.Str.{bytes_eq}
-use Rattle.jt_chains.specs.Chain.{macro_of, all_bodies}
-use Rattle.jt_chains.specs.Parts.{macro_view, block_view}
+use Rattle.jt_chains.specs.Chain.{given_to, all_bodies}
+use Rattle.jt_chains.specs.Named.{named_view}
+use Rattle.jt_chains.specs.Parts.{block_view}
 use Rattle.jt_chains.specs.Places.{home_at}
 use Rattle.jt_chains.specs.View.{chain_view, sources_of}
-use Rattle.jt_checks.specs.Standing.{parameters_of, world_in, home_in}
+use Rattle.jt_checks.specs.Standing.{known_of, world_in, home_in}
 use Rattle.jt_checks.proofs.Named.{any_named, any_filtered}
 use Rattle.jt_checks.proofs.scope.Scope.new.Goals as goal
 
-pub invariant_of-result-clause-knows_macros : goal.invariant_of-result-clause-knows_macros
+pub invariant_of-result-clause-knows_given : goal.invariant_of-result-clause-knows_given
 unfolding world_in home_in
-invariant_of-result-clause-knows_macros c = λ x.
-    let ts = (chain_view c.args.chain.now).templates in
-    c.in_ok-macros.ensures ts x ∙ ap (λ ms. parameters_of (macro_of x (map (macro_view ts) ms))) c.deref.ensures.value ∙ ap (λ ms. parameters_of (macro_of x ms)) (c.in_ok-parts.ensures.there c.requires)
+invariant_of-result-clause-knows_given c = λ x.
+    let seen = chain_view c.args.chain.now in
+    let h = home_at seen.order c.args.home in
+    c.in_ok-names.ensures seen.templates h x ∙ ap (λ gs. known_of (given_to x (map (named_view seen.templates h) gs))) c.deref.ensures.value ∙ ap (λ gs. known_of (given_to x gs)) (c.in_ok-parts.ensures.there c.requires)
 
 pub invariant_of-result-clause-knows_blocks : goal.invariant_of-result-clause-knows_blocks
 unfolding world_in home_in

@@ -1,0 +1,183 @@
+/* Tests of the calls as C makes them: bindings/test.sh runs it. It prints what failed, and its
+ * last line is 'N passed, M failed'. */
+#include "jt.h"
+#include <pthread.h>
+#include <stdio.h>
+#include <string.h>
+
+static int passed, failed;
+
+static void expect(int holds, const char *what) {
+    if (holds) {
+        passed++;
+    } else {
+        failed++;
+        printf("failed: %s\n", what);
+    }
+}
+
+static const uint8_t *bytes(const char *text) { return (const uint8_t *)text; }
+
+static const struct jt_options usual = {.autoescape = 1};
+static const struct jt_budget budget = {
+    .fuel = 1000000, .output = 1048576, .depth = 64, .size = 1048576, .nesting = 32};
+static uint8_t out[65536];
+
+/* The template `t` of this source, rendered for a context into so much of the buffer. */
+static struct jt_answer rendered(const char *source, const char *context, size_t room) {
+    uint8_t texts[4096];
+    const struct jt_lengths lengths = {1, strlen(source)};
+    texts[0] = 't';
+    memcpy(texts + 1, source, lengths.source);
+    return jt_render(texts, 1 + lengths.source, &lengths, 1, bytes("t"), 1, usual, bytes(context),
+                     strlen(context), budget, out, room);
+}
+
+static int tells(struct jt_answer answer, uint32_t status, uint32_t code, uint32_t line,
+                 const char *told) {
+    return answer.status == status && answer.code == code && answer.line == line &&
+           answer.reserved == 0 && answer.length == strlen(told) &&
+           memcmp(out, told, answer.length) == 0;
+}
+
+static void buffers(void) {
+    memset(out, '#', 8);
+    expect(tells(rendered("abc", "{}", sizeof out), JT_DONE, 0, 0, "abc") && out[3] == '#',
+           "a text stands at the front");
+    memset(out, '#', 8);
+    expect(tells(rendered("abcd", "{}", 4), JT_DONE, 0, 0, "abcd") && out[4] == '#',
+           "a text fits exactly");
+    memset(out, '#', 8);
+    expect(rendered("abcde", "{}", 4).length == 5 && memcmp(out, "########", 8) == 0,
+           "a text that is too long leaves the buffer");
+    expect(rendered("abcde", "{}", 0).length == 5, "a buffer of no bytes");
+    expect(rendered("", "{}", 0).length == 0, "a text of no bytes");
+    expect(rendered("{{ nope + 1 }}", "{}", 0).length == 1,
+           "the name of a template is told by its length");
+}
+
+static void statuses(void) {
+    expect(tells(rendered("a\n{{ nope + 1 }}", "{}", 64), JT_FAULT, 2, 2, "t"), "F2 in t line 2");
+    expect(tells(rendered("{{ 1 // 0 }}", "{}", 64), JT_FAULT, 4, 1, "t"), "F4 in t line 1");
+    expect(tells(rendered("", "[]", 64), JT_REFUSED, 0, 0, "X2 NotObject"), "X2");
+    expect(tells(rendered("", "", 64), JT_REFUSED, 0, 0, "X1 NotJson"), "X1 of no bytes");
+    expect(tells(rendered("", "{\"a\": \"\xff\"}", 64), JT_REFUSED, 0, 0, "X1 NotJson"),
+           "X1 of bytes that are no text");
+    expect(tells(rendered("{{ 1 + }}", "{}", 64), JT_REFUSED, 0, 0, "P1 Syntax in t line 1"),
+           "P1");
+    expect(tells(rendered("{% for i in range(100000) %}aaaaaaaaaaaaaaaa{% endfor %}", "{}", 64),
+                 JT_SPENT, JT_OUTPUT, 0, ""),
+           "Output");
+}
+
+static void misuse(void) {
+    const struct jt_lengths more = {1, 9}, less = {1, 2}, much = {UINT64_MAX, UINT64_MAX},
+                            pair[] = {{1, 0}, {1, 2}};
+    const uint8_t *texts = bytes("tabc");
+    expect(tells(jt_compile(texts, 4, &more, 1, texts, 1, usual, out, 64), JT_USAGE, JT_LENGTHS,
+                 0, ""),
+           "lengths beyond the bytes");
+    expect(tells(jt_compile(texts, 4, &less, 1, texts, 1, usual, out, 64), JT_USAGE, JT_LENGTHS,
+                 0, ""),
+           "bytes beyond the lengths");
+    expect(tells(jt_compile(texts, 4, &much, 1, texts, 1, usual, out, 64), JT_USAGE, JT_LENGTHS,
+                 0, ""),
+           "lengths of 64 bits");
+    expect(tells(jt_compile(texts, 4, &more, 0, texts, 1, usual, out, 64), JT_USAGE, JT_LENGTHS,
+                 0, ""),
+           "bytes without lengths");
+    expect(jt_compile(texts, 4, pair, 2, texts, 1, usual, out, sizeof out).status == JT_DONE,
+           "a source of no bytes");
+    expect(tells(jt_compile(texts, 0, &more, 0, texts, 1, usual, out, 64), JT_REFUSED, 0, 0,
+                 "C1 Missing"),
+           "no templates");
+    expect(tells(jt_compile(bytes("t\xff\xff\xff"), 4, &(struct jt_lengths){1, 3}, 1, texts, 1,
+                            usual, out, 64),
+                 JT_USAGE, JT_NO_TEXT, 0, ""),
+           "a source that is no text");
+    expect(tells(jt_compile(bytes("\xffxxx"), 4, &(struct jt_lengths){1, 3}, 1, texts, 1, usual,
+                            out, 64),
+                 JT_USAGE, JT_NO_TEXT, 0, ""),
+           "a name that is no text");
+    expect(tells(jt_compile(texts, 4, &(struct jt_lengths){1, 3}, 1, bytes("\xff"), 1, usual, out,
+                            64),
+                 JT_USAGE, JT_NO_TEXT, 0, ""),
+           "an entry that is no text");
+    expect(tells(jt_compile(bytes("ta\xc3\xa9"), 4, (struct jt_lengths[]){{1, 2}, {1, 0}}, 2,
+                            texts, 1, usual, out, 64),
+                 JT_USAGE, JT_NO_TEXT, 0, ""),
+           "a letter that lengths cut in two");
+    const struct jt_lengths twice[] = {{1, 1}, {1, 1}};
+    expect(tells(jt_render(bytes("tatb"), 4, twice, 2, texts, 1, usual, bytes("{}"), 2, budget,
+                           out, 64),
+                 JT_DONE, 0, 0, "b"),
+           "of a name that stands twice the last source counts");
+}
+
+static void images(void) {
+    static uint8_t image[65536];
+    const struct jt_lengths lengths = {1, 7};
+    struct jt_answer answer =
+        jt_compile(bytes("t{{ n }}"), 8, &lengths, 1, bytes("t"), 1, usual, image, sizeof image);
+    const size_t length = answer.length;
+    expect(answer.status == JT_DONE && length > 0 && length <= sizeof image, "an image");
+    expect(tells(jt_check(image, length, out, 64), JT_DONE, 0, 0, ""), "an image is accepted");
+    expect(tells(jt_run(image, length, bytes("{\"n\": \"<\"}"), 10, budget, out, 64), JT_DONE, 0,
+                 0, "&lt;"),
+           "an image runs");
+    expect(tells(jt_run(image, length, bytes("{}"), 2, (struct jt_budget){0}, out, 64), JT_SPENT,
+                 JT_FUEL, 0, ""),
+           "Fuel");
+    size_t refused = 0;
+    for (size_t at = 0; at < length; at++) {
+        refused += jt_check(image, at, out, 64).status == JT_REFUSED && out[0] == 'I';
+    }
+    expect(refused == length, "a beginning of an image is none");
+    expect(jt_run(image, length - 1, bytes("{}"), 2, budget, out, 64).status == JT_REFUSED,
+           "nor does it run");
+}
+
+/* Sources and contexts that nest as deep as any, and deeper. */
+static void *deep(void *unused) {
+    static char source[4096], context[4096];
+    for (int depth = 8; depth < 1000; depth += 37) {
+        const char *opens[] = {"(", "[", "-", "not ", "{% if 1 %}"};
+        for (int which = 0; which < 5; which++) {
+            char *at = source;
+            at += sprintf(at, which < 4 ? "{{ " : "");
+            for (int level = 0; level < depth && at < source + 3000; level++) {
+                at += sprintf(at, "%s", opens[which]);
+            }
+            sprintf(at, which < 4 ? "1" : "{{ 1 }}");
+            expect(rendered(source, "{}", 64).status == JT_REFUSED,
+                   "a source that is never closed");
+        }
+        memset(context, '[', sizeof context);
+        memset(context + depth, ']', sizeof context - depth);
+        memcpy(context, "{\"a\":", 5);
+        strcpy(context + 2 * depth - 5, "}");
+        const uint32_t status = rendered("{{ a | length }}", context, 64).status;
+        expect(status == JT_DONE || status == JT_SPENT || status == JT_REFUSED, "a deep context");
+    }
+    return unused;
+}
+
+/* They are read on a stack of 1 MiB. */
+static void stack(void) {
+    pthread_attr_t small;
+    pthread_t thread;
+    pthread_attr_init(&small);
+    pthread_attr_setstacksize(&small, 1 << 20);
+    const int begun = pthread_create(&thread, &small, deep, NULL);
+    expect(begun == 0 && pthread_join(thread, NULL) == 0, "a thread with a stack of 1 MiB");
+}
+
+int main(void) {
+    buffers();
+    statuses();
+    misuse();
+    images();
+    stack();
+    printf("%d passed, %d failed\n", passed, failed);
+    return failed != 0;
+}

@@ -1,0 +1,19 @@
+use Rattle.std.proofs.Common.{subst, sym, append-nil}
+use Rattle.std.specs.Prelude.{pos}
+use Rattle.std.proofs.lemmas.Result.{IfOk-weaker}
+use Rattle.jt_value.specs.Tree as tree
+use Rattle.jt_value.specs.Tree.{Tree}
+use Rattle.jt_slots.specs.Loops.{index0}
+use Rattle.jt_slots.specs.Pool.{own}
+use Rattle.jt_slots.specs.Slots as slots
+use Rattle.jt_slots.specs.View.{expr_view}
+use Rattle.jt_slots.specs.declared.program.Field.TheVariants as f
+use Rattle.jt_bind.specs.Scoped.{values, IsPlaced}
+use Rattle.jt_slots.proofs.ExpressionViews.{view_Field}
+use Rattle.jt_bind.proofs.forms.turn_among.Goals as goal
+
+pub returns-clause-placed : goal.returns-clause-placed
+returns-clause-placed c =
+    let P : Tree → Type 0 = λ v. IsPlaced (slots.pooled (own v)) (expr_view c.in_ok-items.items) (values c.args.pool.now) (values c.add_value.new.pool) in
+    IfOk-weaker c.on_two.result _ _ (λ e h. h (slots.field index0) (slots.pooled (own (tree.number (pos c.args.count)))) (values c.args.pool.now) _ _
+    (record { shown = view_Field f.Index0; pooled = sym (append-nil (values c.args.pool.now)) }) (subst P c.in_ok-number.ensures.valued c.in_ok-items.ensures.placed)) c.on_two.ensures.made

@@ -1,0 +1,14 @@
+use Rattle.std.proofs.Common.{sym, ap, ◌∙◌}
+use Rattle.std.specs.Prelude.{option_map}
+use Rattle.jt_slots.specs.Slots.{global}
+use Rattle.jt_bind.proofs.lookup.global_slot.Goals as goal
+
+pub returns-in-Some : goal.returns-in-Some
+returns-in-Some c =
+    let laid = c.requires.each c.args.scope.now.home c.index-here.result.now c.requires.inside c.index-here.ensures in
+    ap (option_map global) (sym c.in-Some.is ∙ c.place.ensures) ∙ laid.in_slots c.args.name.now
+
+pub returns-in-None : goal.returns-in-None
+returns-in-None c =
+    let laid = c.requires.each c.args.scope.now.home c.index-here.result.now c.requires.inside c.index-here.ensures in
+    ap (option_map global) (sym c.in-None.is ∙ c.place.ensures) ∙ laid.in_slots c.args.name.now

@@ -1,0 +1,14 @@
+use Rattle.std.proofs.Common.{drop, List, [], if◌then◌else◌}
+use Rattle.jt_value.specs.Tree.{Tree}
+use Rattle.jt_meaning.specs.Resolve.{handed_on, followed}
+use Rattle.jt_slots.specs.Pool.{Constant}
+use Rattle.jt_slots.specs.Slots.{SBody}
+use Rattle.jt_uses.specs.Names.{texts}
+use Rattle.jt_bind.specs.Scoped.{BodyLeads, spot_in, templates_in}
+use Rattle.jt_bind.specs.Stated.{line_in}
+use Rattle.jt_bind.proofs.placing.hand_on.Given as goal
+
+abbrev pub invariant-loop-name : goal.invariant-loop-name
+invariant-loop-name l = (left : SBody Constant) (p : List Tree) → BodyLeads (templates_in l.scope)
+    (followed (handed_on (line_in l.scope l.spot l.line) (if l.with_context then (spot_in l.scope l.spot).table else []) l.first (texts l.names)) left)
+    (followed (handed_on (line_in l.scope l.spot l.line) (if l.with_context then (spot_in l.scope l.spot).table else []) l.global (texts (drop l.name-index l.names))) left) l.initial.done.items l.done.items p p

@@ -1,0 +1,13 @@
+use Rattle.std.proofs.Common.{List, ◌++◌, drop}
+use Rattle.jt_meaning.specs.Layout.{numbered_bodies}
+use Rattle.jt_meaning.specs.Programs.{body_routines}
+use Rattle.jt_bind.specs.Scoped.{values, world_in, order_in, home_in, templates_in}
+use Rattle.jt_bind.specs.Routines.{RoutinesLead}
+use Rattle.jt_bind.proofs.Routing.{Planned}
+use Rattle.jt_bind.proofs.routines.resolve_blocks.Given as goal
+
+abbrev pub invariant-loop-place : goal.invariant-loop-place
+invariant-loop-place l = (left : List Planned) → RoutinesLead (templates_in l.scope)
+    (body_routines (world_in l.scope) (order_in l.scope) (home_in l.scope) (numbered_bodies (world_in l.scope) (home_in l.scope)) ++ left)
+    (body_routines (world_in l.scope) (order_in l.scope) (home_in l.scope) (drop l.place (numbered_bodies (world_in l.scope) (home_in l.scope))) ++ left)
+    l.initial.routines.items l.routines.items (values l.initial.pool) (values l.pool)

@@ -1,0 +1,28 @@
+use Rattle.std.proofs.Common.{◌<◌, List, length, map, refl, sym, ap, ◌∙◌, arith}
+use Rattle.std.proofs.lemmas.List.{length-map}
+use Rattle.jt_chains.specs.Chain.{a_chain, templates}
+use Rattle.jt_chains.specs.Layers.{layer_view}
+use Rattle.jt_chains.specs.Pages.{home_view}
+use Rattle.jt_chains.specs.View.{chain_view}
+use Rattle.jt_chains.specs.declared.layers.Layer.{Layer}
+use Rattle.jt_slots.specs.Locals.{body_locals}
+use Rattle.jt_slots.specs.View.{body_view}
+use Rattle.jt_slots.specs.declared.program.SStmt.{SStmt}
+use Rattle.jt_bind.specs.Scoped.{values, world_in, order_in, home_in, templates_in}
+use Rattle.jt_meaning.specs.Resolve.{resolved_chain}
+use Rattle.jt_bind.proofs.LeadingBodies.{led_begun, led_of}
+use Rattle.jt_bind.proofs.Routing.{locals_same, routine_made}
+use Rattle.jt_bind.proofs.routines.resolve_chain.Goals as goal
+
+pub returns-clause-made : goal.returns-clause-made
+returns-clause-made c = λ n is.
+    let scope = c.args.scope.now in
+    let T = templates_in scope in
+    let whole = resolved_chain (world_in scope) (order_in scope) (a_chain n) (templates (world_in scope).sources (a_chain n)) in
+    let p = values c.args.pool.now in
+    let q = values c.resolve_layers.new.pool in
+    let there : scope.home < length scope.chain.now.homes.items = omega (arith, c.requires.inside, c.requires.all_homes, length-map scope.chain.now.homes.items home_view) in
+    let led = led_of T _ whole _ _ p q (ap (λ (z : List Layer). resolved_chain (world_in scope) (order_in scope) (home_in scope) (map (layer_view (chain_view scope.chain.now).templates) z)) c.deref.ensures.value ∙ ap (resolved_chain (world_in scope) (order_in scope) (home_in scope)) (c.in_ok-layers.ensures.there there)
+    ∙ ap (λ h. resolved_chain (world_in scope) (order_in scope) h (templates (world_in scope).sources h)) is) (led_begun T _ _ _ _ p q c.new-done.ensures.items c.in_ok-resolve_layers.ensures.led) in
+    routine_made T 0 0 whole c.resolve_layers.new.done c.in_ok-locals.locals _ p q led refl (locals_same T whole c.resolve_layers.new.done.items p q c.in_ok-locals.locals led
+    (λ b. sym (ap (λ (z : List SStmt). body_locals (body_view T z b)) c.deref-2.ensures.value) ∙ c.in_ok-locals.ensures.counted T b))

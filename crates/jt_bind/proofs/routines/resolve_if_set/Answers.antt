@@ -1,0 +1,21 @@
+use Rattle.std.proofs.Common.{sym, ap, ◌∙◌}
+use Rattle.std.specs.Prelude.{if◌then◌else◌}
+use Rattle.std.proofs.lemmas.Result.{IfOk-weaker}
+use Rattle.jt_trees.specs.StatementView.{stmt_view}
+use Rattle.jt_slots.specs.Slots as slots
+use Rattle.jt_bind.specs.Scoped.{templates_in}
+use Rattle.jt_bind.specs.Stated.{stmt_in}
+use Rattle.jt_bind.proofs.LeadingBodies.{led_of, led_nothing}
+use Rattle.jt_bind.proofs.routines.resolve_if_set.Goals as goal
+
+pub returns-then-sets_names-clause-led : goal.returns-then-sets_names-clause-led
+returns-then-sets_names-clause-led c =
+    let x = stmt_view c.args.statement.now in
+    let whole = stmt_in c.args.scope.now x c.args.spot.now in
+    IfOk-weaker c.resolve_statement.result _ _ (λ u h. led_of (templates_in c.args.scope.now) whole _ _ _ _ _ (ap (λ b. if b then whole else slots.end) (sym c.if-sets_names.true ∙ c.sets_names.ensures)) h) c.resolve_statement.ensures.led
+
+pub returns-clause-led : goal.returns-clause-led
+returns-clause-led c =
+    let x = stmt_view c.args.statement.now in
+    let whole = stmt_in c.args.scope.now x c.args.spot.now in
+    led_of (templates_in c.args.scope.now) slots.end _ _ _ _ _ (ap (λ b. if b then whole else slots.end) (sym c.if-sets_names.false ∙ c.sets_names.ensures)) (led_nothing (templates_in c.args.scope.now) _ _)

@@ -1,0 +1,12 @@
+use Rattle.std.proofs.Common.{drop}
+use Rattle.jt_meaning.specs.Resolve.{followed, resolved_sets}
+use Rattle.jt_trees.specs.StatementView.{body_view}
+use Rattle.jt_slots.specs.Pool.{Constant}
+use Rattle.jt_slots.specs.Slots.{SBody}
+use Rattle.jt_bind.specs.Scoped.{values, BodyLeads, templates_in, world_in, order_in, spot_in}
+use Rattle.jt_bind.proofs.routines.resolve_sets.Given as goal
+
+abbrev pub invariant-loop-statement : goal.invariant-loop-statement
+invariant-loop-statement l = (left : SBody Constant) → BodyLeads (templates_in l.scope) (followed (resolved_sets (world_in l.scope) (order_in l.scope) (body_view l.body) (spot_in l.scope l.spot)) left)
+    (followed (resolved_sets (world_in l.scope) (order_in l.scope) (body_view (drop l.statement-index l.body)) (spot_in l.scope l.spot)) left)
+    l.initial.done.items l.done.items (values l.initial.pool) (values l.pool)

@@ -1,0 +1,24 @@
+use Rattle.std.proofs.Common.{◌+◌, ◌<◌, length, drop, sym, append-nil, arith}
+use Rattle.std.proofs.lemmas.List.{at_drop_all}
+use Rattle.jt_slots.specs.Slots.{variable, local}
+use Rattle.jt_slots.specs.declared.program.Slot.TheVariants as s
+use Rattle.jt_slots.specs.declared.program.SExpr.TheVariants as e
+use Rattle.jt_meaning.specs.Resolve as resolve
+use Rattle.jt_bind.proofs.Calling.{locals_next}
+use Rattle.jt_bind.proofs.LeadingRows.{of_whole, of_left, row_both, row_item}
+use Rattle.jt_slots.proofs.ExpressionViews.{view_Variable}
+use Rattle.jt_bind.proofs.rows.first_locals.Goals as goal
+
+pub returns-clause-read : goal.returns-clause-read
+returns-clause-read c = λ xs p n.
+    let l = c.loop-local in
+    of_left _ _ _ _ _ _ _ (at_drop_all (resolve.first_locals l.local) xs l.local (omega arith)) (l.invariant xs p n)
+
+pub loop-local-preserved : goal.loop-local-preserved
+loop-local-preserved c = λ xs p n.
+    let l = c.loop-local in
+    let lt : l.local < length xs = omega arith in
+    row_both _ _ _ _ _ _ _ _ _ (l.invariant xs p n)
+    (of_whole _ _ _ _ _ _ _ (locals_next xs l.local lt)
+    (row_item (variable (local l.local)) (resolve.first_locals (l.local + 1) (drop (l.local + 1) xs)) (e.Variable (s.Local l.local)) l.row.items _ p p
+    (record { shown = view_Variable (s.Local l.local); pooled = sym (append-nil p) }) c.in_ok-push.ensures.items))

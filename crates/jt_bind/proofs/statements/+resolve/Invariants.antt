@@ -1,0 +1,16 @@
+use Rattle.std.proofs.Common.{drop}
+use Rattle.jt_meaning.specs.Resolve.{followed}
+use Rattle.jt_trees.specs.StatementView.{body_view, branches_view}
+use Rattle.jt_slots.specs.Pool.{Constant}
+use Rattle.jt_slots.specs.Slots.{SBody}
+use Rattle.jt_bind.specs.Scoped.{values, BodyLeads, templates_in}
+use Rattle.jt_bind.specs.Stated.{ChoiceLeads, body_in, choice_in}
+use Rattle.jt_bind.proofs.statements.+resolve.Given as goal
+
+abbrev pub invariant-resolve_body-loop-statement : goal.invariant-resolve_body-loop-statement
+invariant-resolve_body-loop-statement l = (left : SBody Constant) → BodyLeads (templates_in l.scope) (followed (body_in l.scope (body_view l.body) l.spot) left) (followed (body_in l.scope (body_view (drop l.statement-index l.body)) l.spot) left)
+    l.initial.done.items l.done.items (values l.initial.pool) (values l.pool)
+
+abbrev pub invariant-resolve_statement-loop-line : goal.invariant-resolve_statement-loop-line
+invariant-resolve_statement-loop-line l = (other : SBody Constant) → ChoiceLeads (templates_in l.scope) (choice_in l.scope (branches_view l.line-items) l.spot other) (choice_in l.scope (branches_view (drop l.line-index l.line-items)) l.spot other)
+    l.made.items (values l.initial.pool) (values l.pool)

@@ -1,0 +1,11 @@
+use Rattle.std.proofs.Common.{drop}
+use Rattle.jt_trees.specs.ExpressionView.{pairs_view}
+use Rattle.jt_slots.specs.Pool.{Constant}
+use Rattle.jt_slots.specs.Slots.{SBody}
+use Rattle.jt_bind.specs.Scoped.{values, BodyLeads, templates_in}
+use Rattle.jt_bind.specs.Stated.{values_in}
+use Rattle.jt_bind.proofs.statements.resolve_values.Given as goal
+
+abbrev pub invariant-loop-value : goal.invariant-loop-value
+invariant-loop-value l = (behind : SBody Constant) → BodyLeads (templates_in l.scope) (values_in l.scope (pairs_view l.pairs) l.spot l.line behind) (values_in l.scope (pairs_view (drop l.value-index l.pairs)) l.here l.line behind)
+    l.initial.done.items l.done.items (values l.initial.pool) (values l.pool)

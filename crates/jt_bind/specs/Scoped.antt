@@ -1,0 +1,120 @@
+-- What only private clauses cite: what the parts of a chain are resolved to, in the tables that the code keeps, and with the places of the pool that it fills.
+use Rattle.std.specs.Prelude.{◌≡◌, ℕ, List, [], ◌∷◌, ◌++◌, map, drop, length, Option, Some, None, Vec}
+use Rattle.std.specs.declared.alloc.Global.{Global}
+use Rattle.std.specs.Str.{bytes_eq}
+use Rattle.std.specs.Prelude.{filter}
+use Rattle.jt_value.specs.Tree.{Tree}
+use Rattle.jt_value.specs.View.{view}
+use Rattle.jt_value.specs.declared.value.Value.{Value}
+use Rattle.jt_trees.specs.Expressions.{Text}
+use Rattle.jt_chains.specs.Chain as chain
+use Rattle.jt_chains.specs.Chain.{Home, BlockBody, Given, given, callee}
+use Rattle.jt_chains.specs.Parts.{name_at}
+use Rattle.jt_chains.specs.Uses.{count, keywords}
+use Rattle.jt_chains.specs.Places.{home_at}
+use Rattle.jt_chains.specs.View.{chain_view}
+use Rattle.jt_rules.specs.World.{World, world_of}
+use Rattle.jt_slots.specs.Pool.{Constant, expr_values, row_values, body_values, placed_expr, placed_row, placed_body}
+use Rattle.jt_trees.specs.Expressions as trees
+use Rattle.jt_slots.specs.Slots as slots
+use Rattle.jt_slots.specs.Slots.{SRow, SBody}
+use Rattle.jt_slots.specs.View.{row_view, body_view}
+use Rattle.jt_slots.specs.declared.program.SExpr.{SExpr}
+use Rattle.jt_slots.specs.declared.program.SStmt.{SStmt}
+use Rattle.jt_meaning.specs.Layout.{Table, globals, numbered_bodies}
+use Rattle.jt_meaning.specs.Resolve as resolve
+use Rattle.jt_meaning.specs.Resolve.{Part, bound_table, filled_some, locals_from}
+use Rattle.jt_meaning.specs.Expressions.{filter_parameters}
+use Rattle.jt_uses.specs.Names.{texts}
+use Rattle.jt_bind.specs.declared.frame.Frame.{Frame}
+use Rattle.jt_bind.specs.declared.spot.Spot.{Spot}
+use Rattle.jt_layout.specs.declared.scope.Scope.{Scope}
+
+-- the values of a pool
+abbrev pub values : Vec Value Global → List Tree
+values pool = map view pool.items
+
+-- ---- what stands at the end of a pool that is filled from one list of values to another
+
+-- an expression, and the values that it put there
+pub record IsPlaced (c : slots.SExpr Constant) (e : slots.SExpr ℕ) (old new : List Tree) : Type 0 where
+  pub shown : e ≡ placed_expr c (length old)
+  pub pooled : new ≡ old ++ expr_values c
+
+-- expressions that were put behind others, so that of a row only a part is left to do
+pub record RowLeads (whole left : SRow Constant) (before after : List (Option ℕ × SExpr)) (old new : List Tree) : Type 0 where
+  pub shown : row_view after (placed_row left (length new)) ≡ row_view before (placed_row whole (length old))
+  pub pooled : new ++ row_values left ≡ old ++ row_values whole
+
+-- statements that were put behind others, so that of a body only a part is left to do
+pub record BodyLeads (templates : List Text) (whole left : SBody Constant) (before after : List SStmt) (old new : List Tree) : Type 0 where
+  pub shown : body_view templates after (placed_body left (length new)) ≡ body_view templates before (placed_body whole (length old))
+  pub pooled : new ++ body_values left ≡ old ++ body_values whole
+
+-- ---- where something is resolved
+
+-- the names of frames, those of later ones further inside
+abbrev pub framed : List Frame → Table → Table
+framed [] table = table
+framed (f ∷ fs) table = framed fs (bound_table (texts f.names.items) f.first table)
+
+-- a body with those of its block behind it, by what is left from its place on
+abbrev pub part_from : List (ℕ × BlockBody) → Option Part
+part_from [] = None
+part_from (b ∷ bs) = Some (record { name = b.1.name; behind = filter (λ c. bytes_eq c.1.name b.1.name) bs })
+
+abbrev pub part_at : List (ℕ × BlockBody) → Option ℕ → Option Part
+part_at bs None = None
+part_at bs (Some i) = part_from (drop i bs)
+
+module _ (s : Scope) where
+  abbrev pub world_in : World
+  world_in = world_of (chain_view s.chain.now)
+
+  abbrev pub order_in : List Home
+  order_in = (chain_view s.chain.now).order
+
+  abbrev pub home_in : Home
+  home_in = home_at order_in s.home
+
+  abbrev pub templates_in : List Text
+  templates_in = map (λ t. t.name) (chain_view s.chain.now).templates
+
+  -- the names that stand for macros and libraries, and what stands in front of the arguments of a call
+  abbrev pub given_in : List (Text × Given)
+  given_in = given world_in.sources home_in
+
+  abbrev pub callee_in : trees.Expr → chain.Callee
+  callee_in f = callee world_in.sources given_in f
+
+  abbrev pub globals_in : Table
+  globals_in = globals world_in order_in home_in
+
+  abbrev pub spot_in : Spot → resolve.Spot
+  spot_in p = record {
+    home = home_in;
+    template = name_at (chain_view s.chain.now).templates p.template;
+    escaping = p.escaping;
+    part = part_at (numbered_bodies world_in home_in) p.body;
+    table = framed (map (λ f. f.value) p.frames.now) globals_in;
+    free = p.free;
+  }
+
+  -- what the parts of a tree are resolved to
+  abbrev pub expr_in : trees.Expr → Spot → slots.SExpr Constant
+  expr_in e p = resolve.resolved world_in order_in e (spot_in p)
+
+  abbrev pub row_in : trees.Exprs → Spot → SRow Constant → SRow Constant
+  row_in ts p left = resolve.resolved_row world_in order_in ts (spot_in p) left
+
+  abbrev pub asides_in : trees.Pairs → Spot → SRow Constant → SRow Constant
+  asides_in ps p left = resolve.resolved_asides world_in order_in ps (spot_in p) left
+
+  abbrev pub entries_in : trees.Pairs → Spot → SRow Constant
+  entries_in ps p = resolve.resolved_entries world_in order_in ps (spot_in p)
+
+  -- a filter, by its number, of what is resolved, with the arguments that it is given
+  abbrev pub filtered_in : Option ℕ → slots.SExpr Constant → trees.Exprs → trees.Pairs → Spot → slots.SExpr Constant
+  filtered_in f c ts ps p =
+      resolve.filtered_by f (spot_in p).escaping (slots.item c (row_in ts p (asides_in ps p
+      (filled_some (filter_parameters world_in.filters f) (count ts) (keywords ps) (locals_from (spot_in p).free (keywords ps))))))

@@ -1,0 +1,145 @@
+//! Scopes that statements enter: names in locals of their own.
+
+ghost use Rattle.std.specs.Prelude.{◌≡◌, List, map, IfOk, IfErr};
+ghost use Rattle.std.specs.declared.alloc.Global.{Global};
+ghost use Rattle.std.specs.declared.rc.Rc.{Rc};
+ghost use denote.Ref.{Bor};
+ghost use Rattle.jt_bind.specs.declared.frame.Frame.{Frame};
+ghost use Rattle.jt_trees.specs.ExpressionView.{pairs_view};
+ghost use Rattle.jt_chains.specs.Uses.{keywords};
+ghost use Rattle.jt_layout.specs.Laid.{IsLaidOut};
+ghost use Rattle.jt_meaning.specs.Layout.{Table};
+ghost use Rattle.jt_layout.specs.declared.scope.Scope.{Scope};
+ghost use Rattle.jt_meaning.specs.Resolve.{bound_all, bound_table, copied};
+ghost use Rattle.jt_bind.specs.Scoped.{BodyLeads, framed, spot_in, templates_in};
+ghost use Rattle.jt_trees.specs.StatementView.{names_view, parameters_view};
+ghost use Rattle.jt_rules.specs.declared.error.ScopeError.TheVariants as error;
+ghost use Rattle.jt_slots.specs.Pool.{Constant};
+ghost use Rattle.jt_slots.specs.Slots.{SBody};
+ghost use Rattle.jt_value.specs.Tree.{Tree};
+ghost use Rattle.jt_uses.specs.Names.{texts};
+ghost use Rattle.jt_bind.specs.Stated.{line_in};
+
+use crate::frame::Frame;
+use crate::lookup::{more, reading, slot};
+use crate::putting::put_assign;
+use crate::spot::Spot;
+use jt_layout::Scope;
+use jt_rules::ScopeError;
+use jt_slots::{SStmt, Slot, Targets};
+use jt_trees::{Expr, Parameter};
+use std::alloc::Global;
+use std::rc::Rc;
+
+/// The scopes around a place further inside, and the first local that holds nothing there.
+#[derive(Drop)]
+pub(crate) struct Inside<'a> {
+    pub frames: Vec<Rc<Frame<'a>>>,
+    pub free: usize,
+}
+
+/// The scopes around a place and these names in one further inside, in locals from the first that
+/// holds nothing.
+fn framed_by<'a>(
+    alloc: Global,
+    spot: &Spot<'_, 'a>,
+    names: Vec<&'a str>,
+) -> Result<Vec<Rc<Frame<'a>>>, ScopeError>
+    ensures framed { IfOk result (λ fs. (t : Table)
+        → framed (map (λ f. f.value) fs.items) t
+        ≡ bound_table (texts names.entry.items) spot.now.free
+        (framed (map (λ f. f.value) spot.now.frames.now) t)) }
+    ensures refused { IfErr result (λ e. e ≡ error.NoMemory) }
+{
+    let mut frames = Vec::new(alloc);
+    for frame in spot.frames {
+        frames.push(frame.clone()?)?;
+    }
+    let inner = Frame::new(alloc, names, spot.free)?;
+    frames.push(Rc::new(alloc, inner)?)?;
+    Ok(frames)
+}
+
+/// Enters a scope that has these names.
+pub(crate) fn entered<'a>(
+    alloc: Global,
+    spot: &Spot<'_, 'a>,
+    names: Vec<&'a str>,
+) -> Result<Inside<'a>, ScopeError>
+    ensures bound { IfOk result (λ i. (s : Scope) (fr : Bor (List (Rc Frame Global)))
+        → fr.now ≡ i.frames.items
+        → spot_in s (record spot.now { frames = fr; free = i.free })
+        ≡ bound_all (texts names.entry.items) (spot_in s spot.now)) }
+    ensures refused { IfErr result (λ e. e ≡ error.NoMemory) }
+{
+    let free = more(spot.free, names.len())?;
+    let frames = framed_by(alloc, spot, names)?;
+    Ok(Inside { frames, free })
+}
+
+/// Puts what the names read, into locals from the first that holds nothing, behind other
+/// statements.
+pub(crate) fn put_copies(
+    scope: &Scope<'_>,
+    spot: &Spot<'_, '_>,
+    names: &[&str],
+    done: &mut Vec<SStmt>,
+) -> Result<(), ScopeError>
+    requires { IsLaidOut scope.now }
+    ensures put { IfOk result (λ u. (behind : SBody Constant) (p : List Tree)
+        → BodyLeads (templates_in scope.now) (copied (line_in scope.now spot.now 1)
+        (spot_in scope.now spot.now).table spot.now.free (texts names.now) behind) behind
+        done.old.items done.new.items p p) }
+    ensures refused { IfErr result (λ e. e ≡ error.NoMemory) }
+{
+    let mut local = spot.free;
+    for name in names {
+        let value = reading(slot(scope, spot, *name));
+        put_assign(spot, 1, Targets::One(Slot::Local(local)), value, done)?;
+        local = more(local, 1)?;
+    }
+    Ok(())
+}
+
+/// Texts as they stand in a tree.
+pub(crate) fn texts_of<'a>(alloc: Global, names: &'a [String]) -> Result<Vec<&'a str>, ScopeError>
+    ensures same { IfOk result (λ ks. texts ks.items ≡ names_view names.now) }
+    ensures refused { IfErr result (λ e. e ≡ error.NoMemory) }
+{
+    let mut found = Vec::with_capacity(alloc, names.len())?;
+    for name in names {
+        found.push(name.as_str())?;
+    }
+    Ok(found)
+}
+
+/// The names of what is given by name.
+pub(crate) fn keywords_of<'a>(
+    alloc: Global,
+    pairs: &'a [(String, Expr)],
+) -> Result<Vec<&'a str>, ScopeError>
+    ensures same { IfOk result (λ ks. texts ks.items ≡ keywords (pairs_view pairs.now)) }
+    ensures refused { IfErr result (λ e. e ≡ error.NoMemory) }
+{
+    let mut found = Vec::with_capacity(alloc, pairs.len())?;
+    for (key, _) in pairs {
+        found.push(key.as_str())?;
+    }
+    Ok(found)
+}
+
+/// The names of parameters.
+pub(crate) fn parameters_of<'a>(
+    alloc: Global,
+    parameters: &'a [Parameter],
+) -> Result<Vec<&'a str>, ScopeError>
+    ensures same { IfOk result
+        (λ ks. texts ks.items ≡ map (λ p. p.name) (parameters_view parameters.now)) }
+    ensures refused { IfErr result (λ e. e ≡ error.NoMemory) }
+{
+    let mut found = Vec::with_capacity(alloc, parameters.len())?;
+    for parameter in parameters {
+        found.push(parameter.name.as_str())?;
+    }
+    Ok(found)
+}

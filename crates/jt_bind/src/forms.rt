@@ -1,0 +1,231 @@
+//! What the operators and tests of the language stand for.
+
+ghost use Rattle.std.specs.Prelude.{◌≡◌, pos, IfOk, IfErr, List};
+ghost use Rattle.jt_value.specs.Tree as tree;
+ghost use Rattle.jt_value.specs.Tree.{Tree};
+ghost use Rattle.jt_value.specs.View.{view};
+ghost use Rattle.jt_trees.specs.ExpressionView.{literal_view};
+ghost use Rattle.jt_meaning.specs.Operators as operators;
+ghost use Rattle.jt_ids.specs.declared.op_id.OpId.TheVariants.{Remainder};
+ghost use Rattle.jt_meaning.specs.Resolve as resolve;
+ghost use Rattle.jt_rules.specs.declared.error.ScopeError.TheVariants as error;
+ghost use Rattle.jt_slots.specs.Loops.{index0};
+ghost use Rattle.jt_slots.specs.Pool.{Constant, own};
+ghost use Rattle.jt_slots.specs.Slots as slots;
+ghost use Rattle.jt_slots.specs.Values.{literal};
+ghost use Rattle.jt_slots.specs.View.{expr_view};
+ghost use Rattle.jt_bind.specs.Formed.{form_view};
+ghost use Rattle.jt_bind.specs.Scoped.{values, IsPlaced};
+
+use crate::pool::add_value;
+use jt_ids::OpId;
+use jt_rules::ScopeError;
+use jt_slots::{Field, Maker, SExpr};
+use jt_trees::{BinaryOperator, Literal, UnaryOperator};
+use jt_value::Value;
+use std::alloc::Global;
+
+/// How an operator between operands works.
+#[derive(Clone, Copy)]
+pub(crate) enum Form {
+    /// Both operands, and then the operation.
+    Operation(OpId),
+    /// The same, and its truth turned round.
+    Negation(OpId),
+    /// The left operand if it is false, else the right one.
+    Conjunction,
+    /// The left operand if it is true, else the right one.
+    Disjunction,
+}
+
+/// The value of a literal.
+pub(crate) fn literal_value(alloc: Global, constant: &Literal) -> Result<Value, ScopeError>
+    ensures valued { IfOk result (λ v. view v ≡ literal (literal_view constant.now)) }
+    ensures refused { IfErr result (λ e. e ≡ error.NoMemory) }
+{
+    match constant {
+        Literal::Number(number) => Ok(Value::Int(*number)),
+        Literal::Text(text) => Ok(Value::text(alloc, text)?),
+        Literal::Truth(truth) => Ok(Value::Bool(*truth)),
+        Literal::None => Ok(Value::None),
+    }
+}
+
+/// The operation of an operator in front of its operand.
+pub(crate) fn unary_operation(operator: UnaryOperator) -> OpId
+    ensures { result ≡ operators.unary_operation operator }
+{
+    match operator {
+        UnaryOperator::Negate => OpId::Negate,
+        UnaryOperator::Plus => OpId::Plus,
+        UnaryOperator::Not => OpId::Not,
+    }
+}
+
+/// `range` of so many arguments.
+pub(crate) fn range_of(count: usize) -> OpId
+    ensures { result ≡ operators.range_of count }
+{
+    match count {
+        0 | 1 => OpId::RangeToStop,
+        2 => OpId::RangeFromStart,
+        _ => OpId::RangeByStep,
+    }
+}
+
+/// How an operator works.
+pub(crate) fn form_of(escaping: bool, operator: BinaryOperator) -> Form
+    ensures { form_view result ≡ operators.form escaping operator }
+{
+    match operator {
+        BinaryOperator::Or => Form::Disjunction,
+        BinaryOperator::And => Form::Conjunction,
+        BinaryOperator::Equal => Form::Operation(OpId::Equal),
+        BinaryOperator::NotEqual => Form::Operation(OpId::NotEqual),
+        BinaryOperator::Less => Form::Operation(OpId::Less),
+        BinaryOperator::LessOrEqual => Form::Operation(OpId::LessOrEqual),
+        BinaryOperator::Greater => Form::Operation(OpId::Greater),
+        BinaryOperator::GreaterOrEqual => Form::Operation(OpId::GreaterOrEqual),
+        BinaryOperator::In => Form::Operation(OpId::In),
+        BinaryOperator::NotIn => Form::Negation(OpId::In),
+        BinaryOperator::Add => Form::Operation(OpId::Add),
+        BinaryOperator::Subtract => Form::Operation(OpId::Subtract),
+        BinaryOperator::Concatenate => Form::Operation(join(escaping)),
+        BinaryOperator::Multiply => Form::Operation(OpId::Multiply),
+        BinaryOperator::FloorDivide => Form::Operation(OpId::FloorDivide),
+        BinaryOperator::Remainder => Form::Operation(OpId::Remainder),
+        BinaryOperator::Power => Form::Operation(OpId::Power),
+    }
+}
+
+/// How texts are joined.
+fn join(escaping: bool) -> OpId
+    ensures { result ≡ operators.join escaping }
+{
+    if escaping {
+        OpId::JoinEscaping
+    } else {
+        OpId::Join
+    }
+}
+
+/// An operation on one operand.
+pub(crate) fn on_one(alloc: Global, op: OpId, operand: SExpr) -> Result<SExpr, ScopeError>
+    ensures made { IfOk result (λ e. (a : slots.SExpr Constant) (p q : List Tree)
+        → IsPlaced a (expr_view operand) p q
+        → IsPlaced (slots.made (slots.operator op) (slots.item a slots.none)) (expr_view e) p q) }
+    ensures refused { IfErr result (λ e. e ≡ error.NoMemory) }
+{
+    let mut row = Vec::new(alloc);
+    row.push((None, operand))?;
+    Ok(SExpr::Made(Maker::Operator(op), row))
+}
+
+/// An operation on two operands.
+pub(crate) fn on_two(
+    alloc: Global,
+    op: OpId,
+    left: SExpr,
+    right: SExpr,
+) -> Result<SExpr, ScopeError>
+    ensures made { IfOk result (λ e. (a b : slots.SExpr Constant) (p q r : List Tree)
+        → IsPlaced a (expr_view left) p q
+        → IsPlaced b (expr_view right) q r
+        → IsPlaced (resolve.operation_of op a b) (expr_view e) p r) }
+    ensures refused { IfErr result (λ e. e ≡ error.NoMemory) }
+{
+    let mut row = Vec::new(alloc);
+    row.push((None, left))?;
+    row.push((None, right))?;
+    Ok(SExpr::Made(Maker::Operator(op), row))
+}
+
+/// Its truth turned round, where the flag says so.
+pub(crate) fn turned(alloc: Global, negated: bool, inside: SExpr) -> Result<SExpr, ScopeError>
+    ensures made { IfOk result (λ e. (a : slots.SExpr Constant) (p q : List Tree)
+        → IsPlaced a (expr_view inside) p q
+        → IsPlaced (resolve.turned_round negated a) (expr_view e) p q) }
+    ensures refused { IfErr result (λ e. e ≡ error.NoMemory) }
+{
+    if negated {
+        on_one(alloc, OpId::Not, inside)
+    } else {
+        Ok(inside)
+    }
+}
+
+/// Two operands and what works on them.
+pub(crate) fn formed(
+    alloc: Global,
+    form: Form,
+    left: SExpr,
+    right: SExpr,
+) -> Result<SExpr, ScopeError>
+    ensures made { IfOk result (λ e. (a b : slots.SExpr Constant) (p q r : List Tree)
+        → IsPlaced a (expr_view left) p q
+        → IsPlaced b (expr_view right) q r
+        → IsPlaced (resolve.in_form (form_view form) a b) (expr_view e) p r) }
+    ensures refused { IfErr result (λ e. e ≡ error.NoMemory) }
+{
+    match form {
+        Form::Operation(op) => on_two(alloc, op, left, right),
+        Form::Negation(op) => {
+            let inside = on_two(alloc, op, left, right)?;
+            on_one(alloc, OpId::Not, inside)
+        }
+        Form::Conjunction => {
+            let first = Box::new(alloc, left)?;
+            Ok(SExpr::Conjunction(first, Box::new(alloc, right)?))
+        }
+        Form::Disjunction => {
+            let first = Box::new(alloc, left)?;
+            Ok(SExpr::Disjunction(first, Box::new(alloc, right)?))
+        }
+    }
+}
+
+/// One of two expressions, by a condition.
+pub(crate) fn chosen(
+    alloc: Global,
+    condition: SExpr,
+    value: SExpr,
+    other: SExpr,
+) -> Result<SExpr, ScopeError>
+    ensures made { IfOk result (λ e. (c a b : slots.SExpr Constant) (p q r s : List Tree)
+        → IsPlaced c (expr_view condition) p q
+        → IsPlaced a (expr_view value) q r
+        → IsPlaced b (expr_view other) r s
+        → IsPlaced (slots.choice c a b) (expr_view e) p s) }
+    ensures refused { IfErr result (λ e. e ≡ error.NoMemory) }
+{
+    let asked = Box::new(alloc, condition)?;
+    let first = Box::new(alloc, value)?;
+    Ok(SExpr::Choice(asked, first, Box::new(alloc, other)?))
+}
+
+/// The place of a loop's turn among so many items, which come again and again.
+pub(crate) fn turn_among(
+    alloc: Global,
+    count: usize,
+    pool: &mut Vec<Value>,
+) -> Result<SExpr, ScopeError>
+    ensures placed { IfOk result (λ e. IsPlaced (resolve.operation_of Remainder (slots.field index0)
+        (slots.pooled (own (tree.number (pos count))))) (expr_view e) (values pool.old)
+        (values pool.new)) }
+    ensures refused { IfErr result (λ e. e ≡ error.NoMemory) }
+{
+    let number = number_of(count)?;
+    let items = add_value(pool, number)?;
+    on_two(alloc, OpId::Remainder, SExpr::Field(Field::Index0), items)
+}
+
+/// A count as a value.
+fn number_of(count: usize) -> Result<Value, ScopeError>
+    ensures valued { IfOk result (λ v. view v ≡ tree.number (pos count)) }
+    ensures refused { IfErr result (λ e. e ≡ error.NoMemory) }
+{
+    match i64::try_from(count) {
+        Ok(count) => Ok(Value::Int(count)),
+        Err(_) => Err(ScopeError::NoMemory),
+    }
+}

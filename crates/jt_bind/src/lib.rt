@@ -1,0 +1,33 @@
+//! Names to slots: a chain becomes a program.
+//!
+//! `resolved` (resolving) has the chains and libraries laid out, and resolves one after the other (homes): its statements
+//! (routines, statements), and the expressions in them (expressions), where names stand in frames (frame, spot) and values in
+//! a pool (pool, shared). Whether they keep the rules is another crate's matter.
+#![tactic(auto)]
+
+mod blocks;
+mod callee;
+mod entering;
+mod expressions;
+mod filling;
+mod filterings;
+mod forms;
+mod frame;
+mod homes;
+mod locals;
+mod lookup;
+mod loops;
+mod placing;
+mod pool;
+mod program_names;
+mod putting;
+mod resolving;
+mod routines;
+mod rows;
+mod shared;
+mod spot;
+mod statements;
+mod targets;
+
+pub use jt_rules::ScopeError;
+pub use resolving::resolved;

@@ -1,0 +1,187 @@
+//! How many locals resolved statements use: one more than the last one that is stored or loaded.
+
+ghost use Rattle.std.specs.Prelude.{◌≡◌, ℕ, List, max, option_map, map, IfOk, IfErr};
+ghost use Rattle.jt_trees.specs.Expressions.{Text};
+ghost use Rattle.jt_rules.specs.declared.error.ScopeError.TheVariants as error;
+ghost use Rattle.jt_bind.specs.Counts as counts;
+ghost use Rattle.jt_slots.specs.Locals as locals;
+ghost use Rattle.jt_slots.specs.Slots as slots;
+ghost use Rattle.jt_slots.specs.Slots.{SBody};
+ghost use Rattle.jt_slots.specs.View.{slot_view, targets_view, expr_view, row_view, stmt_view, body_view};
+
+use crate::lookup::more;
+use jt_rules::ScopeError;
+use jt_slots::{SExpr, SStmt, Slot, Targets};
+
+/// The larger one of two numbers.
+pub(crate) fn larger(left: usize, right: usize) -> usize
+    ensures { result ≡ max left right }
+{
+    left.max(right)
+}
+
+/// The locals of a slot.
+fn slot_locals(slot: Slot) -> Result<usize, ScopeError>
+    ensures counted { IfOk result (λ n. n ≡ locals.slot_locals (slot_view slot)) }
+    ensures refused { IfErr result (λ e. e ≡ error.NoMemory) }
+{
+    match slot {
+        Slot::Local(local) => more(local, 1),
+        Slot::Global(_) => Ok(0),
+    }
+}
+
+/// The locals of a slot, or of none.
+fn target_locals(slot: Option<Slot>) -> Result<usize, ScopeError>
+    ensures counted { IfOk result (λ n. n ≡ counts.target_locals (option_map slot_view slot)) }
+    ensures refused { IfErr result (λ e. e ≡ error.NoMemory) }
+{
+    match slot {
+        Some(slot) => slot_locals(slot),
+        None => Ok(0),
+    }
+}
+
+/// The local that something is kept aside in, if it is.
+fn aside_locals(kept: Option<usize>) -> Result<usize, ScopeError>
+    ensures counted { IfOk result (λ n. n ≡ counts.aside_locals kept) }
+    ensures refused { IfErr result (λ e. e ≡ error.NoMemory) }
+{
+    match kept {
+        Some(local) => more(local, 1),
+        None => Ok(0),
+    }
+}
+
+/// The locals of slots.
+fn slots_locals(slots: &[Option<Slot>]) -> Result<usize, ScopeError>
+    ensures counted { IfOk result
+        (λ n. n ≡ locals.slots_locals (map (option_map slot_view) slots.now)) }
+    ensures refused { IfErr result (λ e. e ≡ error.NoMemory) }
+{
+    let mut most = 0;
+    for slot in slots {
+        most = larger(most, target_locals(*slot)?);
+    }
+    Ok(most)
+}
+
+/// The locals of what takes a value.
+fn targets_locals(targets: &Targets) -> Result<usize, ScopeError>
+    ensures counted { IfOk result (λ n. n ≡ locals.targets_locals (targets_view targets.now)) }
+    ensures refused { IfErr result (λ e. e ≡ error.NoMemory) }
+{
+    match targets {
+        Targets::One(slot) => slot_locals(*slot),
+        Targets::Several(slots) => slots_locals(slots),
+    }
+}
+
+/// The locals of an expression.
+#[cycle(expressions)]
+fn expr_locals(expr: &SExpr) -> Result<usize, ScopeError>
+    ensures counted { IfOk result (λ n. n ≡ locals.expr_locals (expr_view expr.now)) }
+    ensures refused { IfErr result (λ e. e ≡ error.NoMemory) }
+{
+    match expr {
+        SExpr::Pooled(_) => Ok(0),
+        SExpr::Variable(slot) => slot_locals(*slot),
+        SExpr::Field(_) => Ok(0),
+        SExpr::Absent => Ok(0),
+        SExpr::Made(_, row) => row_locals(row),
+        SExpr::Conjunction(left, right) => {
+            let first = expr_locals(left)?;
+            Ok(larger(first, expr_locals(right)?))
+        }
+        SExpr::Disjunction(left, right) => {
+            let first = expr_locals(left)?;
+            Ok(larger(first, expr_locals(right)?))
+        }
+        SExpr::Choice(condition, value, other) => {
+            let asked = expr_locals(condition)?;
+            let first = expr_locals(value)?;
+            Ok(larger(asked, larger(first, expr_locals(other)?)))
+        }
+        SExpr::Invoke(_, _, row) => row_locals(row),
+    }
+}
+
+/// The locals of a row.
+#[cycle(expressions)]
+fn row_locals(row: &[(Option<usize>, SExpr)]) -> Result<usize, ScopeError>
+    ensures counted { IfOk result (λ n. n ≡ locals.row_locals (row_view row.now slots.none)) }
+    ensures refused { IfErr result (λ e. e ≡ error.NoMemory) }
+{
+    let mut most = 0;
+    for (kept, expr) in row {
+        let given = expr_locals(expr)?;
+        most = larger(most, larger(given, aside_locals(*kept)?));
+    }
+    Ok(most)
+}
+
+/// The locals of a condition, if there is one.
+fn condition_locals(condition: &Option<SExpr>) -> Result<usize, ScopeError>
+    ensures counted { IfOk result
+        (λ n. n ≡ locals.condition_locals (option_map expr_view condition.now)) }
+    ensures refused { IfErr result (λ e. e ≡ error.NoMemory) }
+{
+    match condition {
+        Some(condition) => expr_locals(condition),
+        None => Ok(0),
+    }
+}
+
+/// The locals of a statement.
+#[cycle(statements)]
+fn stmt_locals(statement: &SStmt) -> Result<usize, ScopeError>
+    ensures counted { IfOk result (λ n. (templates : List Text) (behind : SBody ℕ)
+        → locals.body_locals (stmt_view templates statement.now behind)
+        ≡ max n (locals.body_locals behind)) }
+    ensures refused { IfErr result (λ e. e ≡ error.NoMemory) }
+{
+    match statement {
+        SStmt::PutPooled(_) => Ok(0),
+        SStmt::Print(_, _, expr) => expr_locals(expr),
+        SStmt::Assign(_, targets, expr) => {
+            let taken = targets_locals(targets)?;
+            Ok(larger(taken, expr_locals(expr)?))
+        }
+        SStmt::If(branches, other) => {
+            let mut most = body_locals(other)?;
+            for (_, condition, body) in branches {
+                let asked = expr_locals(condition)?;
+                most = larger(most, larger(asked, body_locals(body)?));
+            }
+            Ok(most)
+        }
+        SStmt::For(_, targets, items, condition, body, other) => {
+            let taken = targets_locals(targets)?;
+            let given = expr_locals(items)?;
+            let asked = condition_locals(condition)?;
+            let turn = body_locals(body)?;
+            let last = body_locals(other)?;
+            Ok(larger(taken, larger(larger(given, asked), larger(turn, last))))
+        }
+        SStmt::Capture(_, slot, body) => {
+            let kept = slot_locals(*slot)?;
+            Ok(larger(kept, body_locals(body)?))
+        }
+        SStmt::Run(_, row) => row_locals(row),
+    }
+}
+
+/// The locals of statements.
+#[cycle(statements)]
+pub(crate) fn body_locals(body: &[SStmt]) -> Result<usize, ScopeError>
+    ensures counted { IfOk result (λ n. (templates : List Text) (behind : SBody ℕ)
+        → locals.body_locals (body_view templates body.now behind)
+        ≡ max n (locals.body_locals behind)) }
+    ensures refused { IfErr result (λ e. e ≡ error.NoMemory) }
+{
+    let mut most = 0;
+    for statement in body {
+        most = larger(most, stmt_locals(statement)?);
+    }
+    Ok(most)
+}

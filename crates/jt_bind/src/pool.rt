@@ -1,0 +1,39 @@
+//! The pool of values that resolving fills.
+
+ghost use Rattle.std.specs.Prelude.{◌≡◌, IfOk, IfErr};
+ghost use Rattle.jt_value.specs.Tree as tree;
+ghost use Rattle.jt_value.specs.View.{view};
+ghost use Rattle.jt_rules.specs.declared.error.ScopeError.TheVariants as error;
+ghost use Rattle.jt_slots.specs.Pool.{own};
+ghost use Rattle.jt_slots.specs.Slots as slots;
+ghost use Rattle.jt_slots.specs.View.{expr_view};
+ghost use Rattle.jt_bind.specs.Scoped.{values, IsPlaced};
+
+use jt_rules::ScopeError;
+use jt_slots::SExpr;
+use jt_value::Value;
+use std::alloc::Global;
+
+/// Puts a value at the end of the pool, and gives the expression that it is.
+pub(crate) fn add_value(pool: &mut Vec<Value>, value: Value) -> Result<SExpr, ScopeError>
+    ensures placed { IfOk result (λ e. IsPlaced (slots.pooled (own (view value))) (expr_view e)
+        (values pool.old) (values pool.new)) }
+    ensures refused { IfErr result (λ e. e ≡ error.NoMemory) }
+{
+    let place = pool.len();
+    pool.push(value)?;
+    Ok(SExpr::Pooled(place))
+}
+
+/// Puts a text at the end of the pool, and gives the expression that it is.
+pub(crate) fn add_text(
+    alloc: Global,
+    text: &str,
+    pool: &mut Vec<Value>,
+) -> Result<SExpr, ScopeError>
+    ensures placed { IfOk result (λ e. IsPlaced (slots.pooled (own (tree.text text.now)))
+        (expr_view e) (values pool.old) (values pool.new)) }
+    ensures refused { IfErr result (λ e. e ≡ error.NoMemory) }
+{
+    add_value(pool, Value::text(alloc, text)?)
+}

@@ -1,0 +1,44 @@
+//! Resolves a chain: its names to slots, and its literals and data to places of a pool.
+
+ghost use Rattle.std.specs.Prelude.{◌≡◌, IfOk, IfErr};
+ghost use Rattle.jt_chains.specs.Places.{home_at};
+ghost use Rattle.jt_chains.specs.View.{chain_view};
+ghost use Rattle.jt_rules.specs.World.{world_of};
+ghost use Rattle.jt_meaning.specs.Programs.{program};
+ghost use Rattle.jt_slots.specs.View.{program_of};
+ghost use Rattle.jt_rules.specs.declared.error.ScopeError.TheVariants as error;
+
+use crate::homes::resolve_homes;
+use crate::program_names::{count_globals, entry_names, template_names};
+use crate::shared::shared_values;
+use jt_chains::Chain;
+use jt_layout::lay_out;
+use jt_rules::ScopeError;
+use jt_slots::Program;
+use std::alloc::Global;
+
+/// Resolves a chain, whether or not it keeps the rules.
+///
+/// # Errors
+///
+/// `NoMemory` where a growth was refused.
+pub fn resolved(alloc: Global, chain: &Chain) -> Result<Program, ScopeError>
+    ensures resolved { IfOk result (λ p. program_of p
+        ≡ program (world_of (chain_view chain.now)) (chain_view chain.now).order
+        (home_at (chain_view chain.now).order 0)) }
+    ensures refused { IfErr result (λ e. e ≡ error.NoMemory) }
+{
+    let scope = lay_out(alloc, chain)?;
+    let templates = template_names(alloc, &chain.templates)?;
+    let names = entry_names(alloc, &scope)?;
+    let globals = count_globals(&scope)?;
+    let mut pool = shared_values(alloc, &scope)?;
+    let routines = resolve_homes(alloc, scope, &mut pool)?;
+    Ok(Program {
+        templates,
+        names,
+        globals,
+        pool,
+        routines,
+    })
+}

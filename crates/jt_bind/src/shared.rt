@@ -1,0 +1,78 @@
+//! The values in front of a pool.
+
+ghost use Rattle.std.specs.Prelude.{◌≡◌, ◌++◌, List, map, IfOk, IfErr};
+ghost use Rattle.jt_chains.specs.Chain.{Template};
+ghost use Rattle.jt_chains.specs.Parts.{macro_view};
+ghost use Rattle.jt_layout.specs.Laid.{IsLaidOut};
+ghost use Rattle.jt_meaning.specs.Layout as layout;
+ghost use Rattle.jt_meaning.specs.Layout.{defaults_of};
+ghost use Rattle.jt_bind.specs.Scoped.{values, world_in, order_in};
+ghost use Rattle.jt_trees.specs.StatementView.{parameter_view};
+ghost use Rattle.jt_rules.specs.declared.error.ScopeError.TheVariants as error;
+ghost use Rattle.jt_slots.specs.Filters.{default_value};
+ghost use Rattle.jt_value.specs.View.{view};
+
+use jt_chains::Macro;
+use jt_layout::Scope;
+use jt_rules::ScopeError;
+use jt_trees::{Literal, Parameter};
+use jt_value::Value;
+use std::alloc::Global;
+
+/// The default of a parameter; undefined where it has none.
+fn default_of(alloc: Global, parameter: &Parameter) -> Result<Value, ScopeError>
+    ensures valued { IfOk result
+        (λ v. view v ≡ default_value (parameter_view parameter.now).default) }
+    ensures refused { IfErr result (λ e. e ≡ error.NoMemory) }
+{
+    match &parameter.default {
+        None => Ok(Value::Undefined),
+        Some(Literal::Number(number)) => Ok(Value::Int(*number)),
+        Some(Literal::Text(text)) => Ok(Value::text(alloc, text.as_str())?),
+        Some(Literal::Truth(truth)) => Ok(Value::Bool(*truth)),
+        Some(Literal::None) => Ok(Value::None),
+    }
+}
+
+/// Adds the defaults of parameters.
+fn add_defaults(
+    alloc: Global,
+    parameters: &[Parameter],
+    pool: &mut Vec<Value>,
+) -> Result<(), ScopeError>
+    ensures added { IfOk result (λ _. values pool.new
+        ≡ values pool.old ++ map (λ p. default_value (parameter_view p).default) parameters.now) }
+    ensures refused { IfErr result (λ e. e ≡ error.NoMemory) }
+{
+    for parameter in parameters {
+        pool.push(default_of(alloc, parameter)?)?;
+    }
+    Ok(())
+}
+
+/// Adds the defaults of macros.
+fn add_macros(alloc: Global, macros: &[Macro<'_>], pool: &mut Vec<Value>) -> Result<(), ScopeError>
+    ensures added { IfOk result (λ _. (ts : List Template)
+        → values pool.new ≡ values pool.old ++ defaults_of (map (macro_view ts) macros.now)) }
+    ensures refused { IfErr result (λ e. e ≡ error.NoMemory) }
+{
+    for entry in macros {
+        add_defaults(alloc, entry.parameters, pool)?;
+    }
+    Ok(())
+}
+
+/// A pool with undefined and the defaults of all macros.
+pub(crate) fn shared_values(alloc: Global, scope: &Scope<'_>) -> Result<Vec<Value>, ScopeError>
+    requires { IsLaidOut scope.now }
+    ensures shared { IfOk result
+        (λ vs. values vs ≡ layout.shared (world_in scope.now) (order_in scope.now)) }
+    ensures refused { IfErr result (λ e. e ≡ error.NoMemory) }
+{
+    let mut pool = Vec::new(alloc);
+    pool.push(Value::Undefined)?;
+    for home in scope.homes.iter() {
+        add_macros(alloc, &home.macros, &mut pool)?;
+    }
+    Ok(pool)
+}

@@ -1,0 +1,34 @@
+//! Where something is resolved.
+
+use crate::frame::Frame;
+use std::rc::Rc;
+
+/// Where something is resolved: the place of its template, whether what is printed is escaped,
+/// the place of the block's body that it stands in, if any, the scopes around it, the innermost
+/// last, and the first local that holds nothing.
+#[derive(Clone, Copy)]
+pub(crate) struct Spot<'s, 'a> {
+    pub template: usize,
+    pub escaping: bool,
+    pub body: Option<usize>,
+    pub frames: &'s [Rc<Frame<'a>>],
+    pub free: usize,
+}
+
+impl<'s, 'a> Spot<'s, 'a> {
+    ghost use Rattle.std.specs.Prelude.{◌≡◌};
+    ghost use Rattle.jt_layout.specs.declared.scope.Scope.{Scope};
+    ghost use Rattle.jt_bind.specs.Scoped.{globals_in, spot_in};
+
+    /// The same where no scope is around, so that names are globals.
+    pub(crate) fn outside(self) -> Spot<'s, 'a>
+        ensures { (scope : Scope)
+            → spot_in scope result
+            ≡ record (spot_in scope self.entry) { table = globals_in scope } }
+    {
+        Spot {
+            frames: &self.frames[..0],
+            ..self
+        }
+    }
+}

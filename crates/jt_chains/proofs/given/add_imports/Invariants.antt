@@ -1,0 +1,11 @@
+use Rattle.std.proofs.Common.{◌≡◌, ◌++◌, drop}
+use Rattle.jt_trees.specs.StatementView.{body_view}
+use Rattle.jt_chains.specs.Chain.{Home, imports_in, sources_in}
+use Rattle.jt_chains.specs.Pages.{pages_view}
+use Rattle.jt_chains.specs.Named.{names_view}
+use Rattle.jt_chains.proofs.given.add_imports.Given as goal
+
+abbrev pub invariant-loop-statement : goal.invariant-loop-statement
+invariant-loop-statement l = (h : Home) →
+    names_view (pages_view l.pages) h l.found.items ++ imports_in (sources_in (pages_view l.pages)) (body_view (drop l.statement-index l.body))
+    ≡ names_view (pages_view l.pages) h l.initial.found.items ++ imports_in (sources_in (pages_view l.pages)) (body_view l.body)

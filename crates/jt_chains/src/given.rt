@@ -1,0 +1,370 @@
+//! What the names of a chain are given to: its own macros, those of libraries, and libraries.
+
+ghost use Rattle.std.specs.Prelude.{◌≡◌, ◌<◌, ◌≤◌, ◌++◌, [], List, length, map, option_map, not, if◌then◌else◌, false, IfOk, IfSome, IfNone};
+ghost use Rattle.std.specs.List.{list_any};
+ghost use Rattle.jt_trees.specs.StatementView.{stmt_view, body_view, given_view};
+ghost use Rattle.jt_chains.specs.Chain as chain;
+ghost use Rattle.jt_chains.specs.Chain.{Template, templates, macros, own, all_given_from, imports_in, libraries_in, libraries, given, sources_in, a_library};
+ghost use Rattle.jt_chains.specs.Along.{along, first_body};
+ghost use Rattle.jt_chains.specs.Pages.{pages_view, home_view};
+ghost use Rattle.jt_chains.specs.Parts.{macro_view, macros_view};
+ghost use Rattle.jt_chains.specs.Places.{home_at, place_of};
+ghost use Rattle.jt_chains.specs.Named.{names_view};
+ghost use Rattle.jt_chains.specs.View.{chain_view, sources_of};
+
+use crate::linked::{Chain, Home, Page};
+use crate::parts::{Macro, add_macros, body_of_page, macros_at};
+use jt_trees::Stmt;
+use std::alloc::{AllocError, Global};
+
+/// What a name is given to: a macro of its own chain or library, a macro of another library, with
+/// the library's name, or a library.
+#[derive(Clone, Copy)]
+pub enum Given<'a> {
+    Own(Macro<'a>),
+    Imported(&'a str, Macro<'a>),
+    Library(&'a str),
+}
+
+/// A name, with what it is given to.
+#[derive(Clone, Copy)]
+pub struct Named<'a> {
+    pub name: &'a str,
+    pub given: Given<'a>,
+}
+
+/// Whether a byte is whitespace.
+fn is_space(byte: u8) -> bool
+    ensures { result ≡ chain.is_space byte }
+{
+    byte == 32 || (9 <= byte && byte < 14)
+}
+
+/// Whether there is only whitespace in a text.
+fn is_blank(text: &str) -> bool
+    ensures { result ≡ not (list_any (λ c. not (chain.is_space c)) text.now) }
+{
+    for byte in text.as_bytes() {
+        if !is_space(*byte) {
+            return false;
+        }
+    }
+    true
+}
+
+/// Whether a library may hold the statement.
+fn of_a_library(statement: &Stmt) -> bool
+    ensures { result ≡ chain.of_a_library (stmt_view statement.now) }
+{
+    match statement {
+        Stmt::Macro(_, _, _, _) => true,
+        Stmt::Data(text) => is_blank(text),
+        _ => false,
+    }
+}
+
+/// Whether statements are a library's.
+pub fn holds_macros(body: &[Stmt]) -> bool
+    ensures { result ≡ chain.holds_macros (body_view body.now) }
+{
+    for statement in body {
+        if !of_a_library(statement) {
+            return false;
+        }
+    }
+    true
+}
+
+/// The place of the template of a name; the number of all where it isn't there.
+fn page_named(pages: &[Page], name: &str) -> usize
+    ensures { result ≡ place_of (pages_view pages.now) name.now }
+{
+    for place in 0..pages.len() {
+        if pages[place].name.as_str() == name {
+            return place;
+        }
+    }
+    pages.len()
+}
+
+/// The macros of a library; none where it isn't there.
+fn macros_of<'a>(alloc: Global, pages: &'a [Page], name: &str) -> Result<Vec<Macro<'a>>, AllocError>
+    ensures { IfOk result (λ ms. macros_view (pages_view pages.now) ms.items
+        ≡ macros (sources_in (pages_view pages.now)) (a_library name.now)) }
+{
+    let place = page_named(pages, name);
+    let body = body_of_page(pages, place);
+    let mut found = Vec::new(alloc);
+    if !holds_macros(body) {
+        return Ok(found);
+    }
+    add_macros(pages, place, body, &mut found)?;
+    Ok(found)
+}
+
+/// The statements of a library; none where it isn't there.
+fn body_of_library<'a>(pages: &'a [Page], name: &str) -> &'a [Stmt]
+    ensures { body_view result.now
+        ≡ first_body (templates (sources_in (pages_view pages.now)) (a_library name.now)) }
+{
+    let body = body_of_page(pages, page_named(pages, name));
+    if holds_macros(body) { body } else { &[] }
+}
+
+/// Whether a name is private.
+fn is_private(name: &str) -> bool
+    ensures { result ≡ chain.is_private name.now }
+{
+    match name.as_bytes().first() {
+        Some(first) => *first == b'_',
+        None => false,
+    }
+}
+
+/// The macro of a name.
+fn macro_of<'a>(found: &[Macro<'a>], name: &str) -> Option<Macro<'a>>
+    ensures { (ts : List Template) → option_map (macro_view ts) result
+        ≡ chain.macro_of name.now (macros_view ts found.now) }
+{
+    for one in found {
+        if one.name == name {
+            return Some(*one);
+        }
+    }
+    None
+}
+
+/// The macro of a library that an importer asks for.
+pub fn public_macro<'a>(found: &[Macro<'a>], name: &str) -> Option<Macro<'a>>
+    ensures { (ts : List Template) → option_map (macro_view ts) result
+        ≡ chain.public_macro name.now (macros_view ts found.now) }
+{
+    if is_private(name) {
+        return None;
+    }
+    macro_of(found, name)
+}
+
+/// Adds the names that `from` gives.
+fn add_from<'a>(
+    alloc: Global,
+    pages: &'a [Page],
+    library: &'a str,
+    names: &'a [(String, String)],
+    found: &mut Vec<Named<'a>>,
+) -> Result<(), AllocError>
+    ensures { IfOk result (λ _. (h : chain.Home) → names_view (pages_view pages.now) h found.new.items
+        ≡ names_view (pages_view pages.now) h found.old.items
+        ++ all_given_from (sources_in (pages_view pages.now)) library.now (given_view names.now)) }
+{
+    let macros = macros_of(alloc, pages, library)?;
+    for (name, given) in names {
+        if let Some(one) = public_macro(&macros, name) {
+            found.push(Named {
+                name: given.as_str(),
+                given: Given::Imported(library, one),
+            })?;
+        }
+    }
+    Ok(())
+}
+
+/// Adds the names that the imports of a template give.
+fn add_imports<'a>(
+    alloc: Global,
+    pages: &'a [Page],
+    body: &'a [Stmt],
+    found: &mut Vec<Named<'a>>,
+) -> Result<(), AllocError>
+    ensures { IfOk result (λ _. (h : chain.Home) → names_view (pages_view pages.now) h found.new.items
+        ≡ names_view (pages_view pages.now) h found.old.items
+        ++ imports_in (sources_in (pages_view pages.now)) (body_view body.now)) }
+{
+    for statement in body {
+        match statement {
+            Stmt::Import(_, library, name) => found.push(Named {
+                name: name.as_str(),
+                given: Given::Library(library.as_str()),
+            })?,
+            Stmt::From(_, library, names) => add_from(alloc, pages, library, names, found)?,
+            _ => {}
+        }
+    }
+    Ok(())
+}
+
+/// The names that the imports of templates at these places give.
+fn imports_at<'a>(
+    alloc: Global,
+    pages: &'a [Page],
+    places: &[usize],
+    found: &mut Vec<Named<'a>>,
+) -> Result<(), AllocError>
+    ensures { IfOk result (λ _. (h : chain.Home) → names_view (pages_view pages.now) h found.new.items
+        ≡ names_view (pages_view pages.now) h found.old.items
+        ++ along (pages_view pages.now) (λ n b. imports_in (sources_in (pages_view pages.now)) b)
+        places.now) }
+{
+    for place in places {
+        add_imports(alloc, pages, body_of_page(pages, *place), found)?;
+    }
+    Ok(())
+}
+
+/// The names of macros, as of their own chain or library.
+fn add_own<'a>(
+    pages: &'a [Page],
+    macros: &[Macro<'a>],
+    found: &mut Vec<Named<'a>>,
+) -> Result<(), AllocError>
+    ensures { IfOk result (λ _. (h : chain.Home) → names_view (pages_view pages.now) h found.new.items
+        ≡ names_view (pages_view pages.now) h found.old.items
+        ++ own h (macros_view (pages_view pages.now) macros.now)) }
+{
+    for one in macros {
+        found.push(Named {
+            name: one.name,
+            given: Given::Own(*one),
+        })?;
+    }
+    Ok(())
+}
+
+/// The names of a chain or a library, where its own macros are found.
+fn names_of<'a>(
+    alloc: Global,
+    pages: &'a [Page],
+    home: &Home,
+    macros: &[Macro<'a>],
+) -> Result<Vec<Named<'a>>, AllocError>
+    ensures { IfOk result (λ ns. (h : chain.Home) → names_view (pages_view pages.now) h ns.items
+        ≡ own h (macros_view (pages_view pages.now) macros.now) ++ (if home.now.is_library then []
+        else along (pages_view pages.now) (λ n b. imports_in (sources_in (pages_view pages.now)) b)
+        home.now.templates.items)) }
+{
+    let mut names = Vec::new(alloc);
+    add_own(pages, macros, &mut names)?;
+    if home.is_library {
+        return Ok(names);
+    }
+    imports_at(alloc, pages, &home.templates, &mut names)?;
+    Ok(names)
+}
+
+impl Chain {
+    /// All names of a chain that stand for a macro or a library, its own macros first. A chain that
+    /// isn't there has none.
+    pub fn given(&self, alloc: Global, home: usize) -> Result<Vec<Named<'_>>, AllocError>
+        ensures there { home < length self.now.homes.items
+            → IfOk result (λ ns. names_view (chain_view self.now).templates
+            (home_at (chain_view self.now).order home) ns.items
+            ≡ given (sources_of (chain_view self.now))
+            (home_at (chain_view self.now).order home)) }
+        ensures nowhere { length self.now.homes.items ≤ home
+            → IfOk result (λ ns. ns.items ≡ []) }
+    {
+        let macros = self.macros(alloc, home)?;
+        match self.homes.get(home) {
+            Some(found) => names_of(alloc, &self.templates, found, &macros),
+            None => Ok(Vec::new(alloc)),
+        }
+    }
+}
+
+/// Adds the names of the libraries that a template imports, as often as they stand there.
+fn add_libraries<'a>(body: &'a [Stmt], found: &mut Vec<&'a str>) -> Result<(), AllocError>
+    ensures { IfOk result (λ _. map (λ n. n.now) found.new.items
+        ≡ map (λ n. n.now) found.old.items ++ libraries_in (body_view body.now)) }
+{
+    for statement in body {
+        match statement {
+            Stmt::Import(_, library, _) => found.push(library.as_str())?,
+            Stmt::From(_, library, _) => found.push(library.as_str())?,
+            _ => {}
+        }
+    }
+    Ok(())
+}
+
+/// The names of the libraries that a chain imports; a library imports none.
+fn libraries_of<'a>(
+    alloc: Global,
+    pages: &'a [Page],
+    home: &Home,
+) -> Result<Vec<&'a str>, AllocError>
+    ensures { IfOk result (λ ns. map (λ n. n.now) ns.items ≡ (if home.now.is_library then []
+        else along (pages_view pages.now) (λ n b. libraries_in b) home.now.templates.items)) }
+{
+    let mut found = Vec::new(alloc);
+    if home.is_library {
+        return Ok(found);
+    }
+    for place in &home.templates {
+        add_libraries(body_of_page(pages, *place), &mut found)?;
+    }
+    Ok(found)
+}
+
+impl Chain {
+    /// The names of the libraries that a chain imports, as often as they stand there. A chain that
+    /// isn't there imports none.
+    pub fn libraries(&self, alloc: Global, home: usize) -> Result<Vec<&str>, AllocError>
+        ensures there { home < length self.now.homes.items
+            → IfOk result (λ ns. map (λ n. n.now) ns.items
+            ≡ libraries (sources_of (chain_view self.now))
+            (home_at (chain_view self.now).order home)) }
+        ensures nowhere { length self.now.homes.items ≤ home
+            → IfOk result (λ ns. ns.items ≡ []) }
+    {
+        match self.homes.get(home) {
+            Some(found) => libraries_of(alloc, &self.templates, found),
+            None => Ok(Vec::new(alloc)),
+        }
+    }
+
+    /// The macro of a library that an importer asks for.
+    pub fn library_macro(
+        &self,
+        alloc: Global,
+        library: &str,
+        name: &str,
+    ) -> Result<Option<Macro<'_>>, AllocError>
+        ensures { IfOk result (λ o. option_map (macro_view (chain_view self.now).templates) o
+            ≡ chain.public_macro name.now
+            (macros (sources_of (chain_view self.now)) (a_library library.now))) }
+    {
+        let found = macros_of(alloc, &self.templates, library)?;
+        Ok(public_macro(&found, name))
+    }
+
+    /// The statements of a library; none where it isn't there.
+    pub fn library_body(&self, name: &str) -> &[Stmt]
+        ensures { body_view result.now
+            ≡ first_body (templates (sources_of (chain_view self.now)) (a_library name.now)) }
+    {
+        body_of_library(&self.templates, name)
+    }
+
+    /// The place of a library among the chains and libraries.
+    pub fn library_place(&self, name: &str) -> Option<usize>
+        ensures found { IfSome result
+            (λ i. home_at (chain_view self.now).order i ≡ a_library name.now) }
+        ensures within { IfSome result (λ i. i < length self.now.homes.items) }
+        ensures none { IfNone result
+            (chain.listed (a_library name.now) (chain_view self.now).order ≡ false) }
+    {
+        for place in 0..self.homes.len() {
+            if is_library(&self.homes[place], name) {
+                return Some(place);
+            }
+        }
+        None
+    }
+}
+
+/// Whether it is the library of a name.
+fn is_library(home: &Home, name: &str) -> bool
+    ensures { result ≡ chain.same_home (home_view home.now) (a_library name.now) }
+{
+    home.is_library && home.name.as_str() == name
+}

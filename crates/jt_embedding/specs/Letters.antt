@@ -1,0 +1,18 @@
+-- What the host promises of a letter.
+use Rattle.std.specs.Prelude.{ℕ, List, false, true}
+use Rattle.jt_host.specs.Code.{Code}
+use Rattle.jt_host.specs.Json.{IsContext}
+use Rattle.jt_host.specs.Pairs.{Pairs}
+use Rattle.jt_host.specs.Run.{Run}
+use Rattle.jt_host.specs.View.{budget_view, outcome_view}
+use Rattle.jt_host.specs.declared.Budget.{Budget}
+use Rattle.jt_host.specs.declared.Options.{Options}
+use Rattle.jt_host.specs.declared.Outcome.{Outcome}
+
+-- what is printed is escaped, and all else is as it stands
+abbrev pub usual : Options
+usual = record { trim_blocks = false; lstrip_blocks = false; keep_trailing_newline = false; autoescape = true }
+
+-- a run of the code for the context that the text spells ends so
+abbrev pub IsWritten : Code → List ℕ → Budget → Outcome → Type 0
+IsWritten k json b o = (x : Pairs) × IsContext json x × Run k x (budget_view b) (outcome_view o)

@@ -1,0 +1,2 @@
+pub mod Shelving
+pub mod Untelling

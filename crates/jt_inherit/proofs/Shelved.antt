@@ -1,0 +1,109 @@
+-- The library of a name among the templates that were read: its macros, and what is asked of it.
+use Rattle.std.proofs.Common.{◌≡◌, ℕ, ◌+◌, ◌<◌, length, drop, get_or, arith, string_bytes, Bool, true, false, ◌&&◌, ◌||◌, if◌then◌else◌, List, [], ◌∷◌, ◌++◌, refl, sym, ap, ◌∙◌, Option, Some, None}
+use Rattle.std.specs.Prelude.{slice_get, flat_map, unwrap_or, option_map}
+use Rattle.std.specs.Option.{is_some, is_none, option_to_list}
+use Rattle.std.proofs.lemmas.List.{drop_more, length-map}
+use Rattle.std.proofs.lemmas.Option.{slice_get_within}
+use Rattle.jt_trees.specs.Expressions.{Text}
+use Rattle.jt_trees.specs.Statements.{Body, end}
+use Rattle.jt_trees.specs.StatementView.{body_of}
+use Rattle.jt_trees.specs.Texts.{among, repeated}
+use Rattle.jt_chains.specs.Along.{ArePlaces, templates_at, macros_along}
+use Rattle.jt_chains.specs.Chain.{Sources, a_library, Template, template, library_template, holds_macros, is_a_library, is_private, MacroBody, macros, macros_in, public_macro, sources_in}
+use Rattle.jt_chains.specs.Pages.{page_view, pages_view}
+use Rattle.jt_chains.specs.Rules.{lacks_one, lacks_macros}
+use Rattle.jt_chains.specs.declared.linked.Page.{Page}
+use Rattle.jt_chains.proofs.Placed.{map_at, only_one, place_within}
+use Rattle.jt_inherit.specs.Kept.{any_lacks_macros, has_not, names_from}
+use Rattle.jt_inherit.proofs.Finding.{some_source}
+use Rattle.jt_inherit.proofs.Leads.{names, length_names, name_of_slice}
+use Rattle.jt_inherit.specs.Ways.{AreNamed}
+
+pub unread : (ts : List Template) (n : Text) → among n (names ts) ≡ false → is_a_library (sources_in ts n) ≡ false
+unread ts n h = by (sources_in ts n) (some_source ts n ∙ h)
+  where
+    by : (o : Option Body) → is_some o ≡ false → is_a_library o ≡ false
+    by None e = refl
+    by (Some b) e = absurd (cc)
+
+abbrev own_macros : List Template → List MacroBody
+own_macros = flat_map (λ t. macros_in t.name t.body)
+
+macros_read : (ts : List Template) (n : Text) (i : ℕ) (t : Template) → slice_get ts i ≡ Some t → t.name ≡ n → sources_in ts n ≡ Some t.body → holds_macros t.body ≡ true
+    → macros_along ts (i ∷ []) ≡ macros (sources_in ts) (a_library n)
+macros_read ts n i t at named source h =
+    ap (λ o. macros_in (unwrap_or (option_map (λ (u : Template). u.name) o) []) (unwrap_or (option_map (λ (u : Template). u.body) o) end) ++ []) at
+    ∙ ap (λ m. macros_in m t.body ++ []) named
+    ∙ sym (ap (λ o. own_macros (library_template n o)) source ∙ ap (λ (c : Bool). own_macros (if c then template n (Some t.body) else [])) h)
+
+-- the template of a name, at its place
+module _ (ps : List Page) (ks : List Text) (k : AreNamed (pages_view ps) ks) (n : Text) (i : ℕ) (at : slice_get ks i ≡ Some n) where
+  named_at : slice_get (names (pages_view ps)) i ≡ Some n
+  named_at = ap (λ l. slice_get l i) (sym k.named) ∙ at
+
+  pub place_read : i < length ps
+  place_read = omega (arith, slice_get_within (names (pages_view ps)) i n named_at, length_names (pages_view ps), length-map ps page_view)
+
+  module _ (p : Page) (is : p ≡ get_or ps i p) where
+    there : slice_get (pages_view ps) i ≡ Some (page_view p)
+    there = map_at page_view ps i p place_read is
+
+    name_is : string_bytes p.name ≡ n
+    name_is =
+        let told : Some (string_bytes p.name) ≡ Some n = sym (name_of_slice (pages_view ps) i (page_view p) there) ∙ named_at in
+        cc
+
+    source_is : sources_in (pages_view ps) n ≡ Some (body_of p.template)
+    source_is =
+        ap (sources_in (pages_view ps)) (sym name_is)
+        ∙ only_one (pages_view ps) i (page_view p) (ap (λ l. repeated l) (sym k.named) ∙ k.once) there
+
+    pub is_library_read : (b : Bool) → b ≡ holds_macros (body_of p.template) → is_a_library (sources_in (pages_view ps) n) ≡ b
+    is_library_read b e = ap is_a_library source_is ∙ sym e
+
+    pub macros_there : holds_macros (body_of p.template) ≡ true → macros_along (pages_view ps) (i ∷ []) ≡ macros (sources_in (pages_view ps)) (a_library n)
+    macros_there h = macros_read (pages_view ps) n i (page_view p) there name_is source_is h
+
+no_macros : (s : Sources) (n : Text) → is_a_library (s n) ≡ false → macros s (a_library n) ≡ []
+no_macros s n e = by (s n) e
+  where
+    by : (o : Option Body) → is_a_library o ≡ false → own_macros (library_template n o) ≡ []
+    by None h = refl
+    by (Some b) h = ap (λ (c : Bool). own_macros (if c then template n (Some b) else [])) h
+
+no_macro : (x : Text) → public_macro x [] ≡ None
+no_macro x = by (is_private x)
+  where
+    nothing : Option MacroBody
+    nothing = None
+
+    by : (b : Bool) → (if b then nothing else nothing) ≡ nothing
+    by true = refl
+    by false = refl
+
+none_from : (xs : List (Text × Text)) → names_from [] xs ≡ []
+none_from [] = refl
+none_from (x ∷ xs) = ap (λ (o : Option MacroBody). (if is_some o then x.1 ∷ [] else []) ++ names_from [] xs) (no_macro x.0) ∙ none_from xs
+
+-- where there is no library it gives no names, and lacks nothing
+pub nothing_from : (s : Sources) (n : Text) (xs : List (Text × Text)) → is_a_library (s n) ≡ false → names_from (macros s (a_library n)) xs ≡ []
+nothing_from s n xs e = ap (λ ms. names_from ms xs) (no_macros s n e) ∙ none_from xs
+
+pub nothing_lacks : (s : Sources) (n : Text) (xs : List (Text × Text)) → is_a_library (s n) ≡ false → lacks_one s n xs ≡ false
+nothing_lacks s n [] e = refl
+nothing_lacks s n (x ∷ xs) e = ap (λ b. (b && is_none (public_macro x.0 (macros s (a_library n)))) || lacks_one s n xs) e ∙ nothing_lacks s n xs e
+
+pub library_lacks : (s : Sources) (n : Text) (xs : List (Text × Text)) → is_a_library (s n) ≡ true → lacks_one s n xs ≡ has_not (macros s (a_library n)) xs
+library_lacks s n [] e = refl
+library_lacks s n (x ∷ xs) e =
+    let none = is_none (public_macro x.0 (macros s (a_library n))) in
+    ap (λ b. (b && none) || lacks_one s n xs) e ∙ ap (λ b. none || b) (library_lacks s n xs e)
+
+-- a template of some asks for a macro that a library lacks
+pub lacking_turn : (s : Sources) (ps : List Page) (is : List ℕ) (k : ℕ) (p : Page) → k < length is → ArePlaces (pages_view ps) is → p ≡ get_or ps (get_or is k 0) p
+    → any_lacks_macros s (templates_at (pages_view ps) (drop k is)) ≡ (lacks_macros s (body_of p.template) || any_lacks_macros s (templates_at (pages_view ps) (drop (k + 1) is)))
+lacking_turn s ps is k p lt a at =
+    let ts = pages_view ps in
+    let i = get_or is k 0 in
+    let within : i < length ps = place_within ps is k lt a in
+    ap (λ l. any_lacks_macros s (templates_at ts l)) (drop_more is k 0 lt) ∙ ap (λ o. any_lacks_macros s (option_to_list o ++ templates_at ts (drop (k + 1) is))) (map_at page_view ps i p within at)

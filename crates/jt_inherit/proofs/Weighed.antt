@@ -1,0 +1,163 @@
+-- The trees of chains and libraries weigh no more than their sources, where a library's source counts for each chain that imports it.
+use Rattle.std.proofs.Common.{◌≡◌, ℕ, ◌+◌, ◌≤◌, Bool, true, false, cond, ◌||◌, ◌⊎◌, inl, inr, if◌then◌else◌, List, [], ◌∷◌, ◌++◌, refl, sym, ap, ◌∙◌, arith}
+use Rattle.std.specs.Option.{is_some}
+use Rattle.std.specs.Ordering.{nat_cmp, is_lt}
+use Rattle.std.specs.Cmp.Lexicographic.{slice_cmp}
+use Rattle.std.specs.Str.{bytes_eq}
+use Rattle.jt_trees.specs.Texts.{among, repeated, inserted, all_inserted, ascending}
+use Rattle.jt_trees.specs.Expressions.{Text}
+use Rattle.jt_chains.specs.Chain.{Sources, Home, a_chain, a_library, same_home, listed, templates, libraries}
+use Rattle.jt_chains.specs.Includes.{with_source, included, InOrder}
+use Rattle.jt_chains.specs.Rules.{Reaches}
+use Rattle.jt_chains.specs.Weights.{templates_weight, chains_weight}
+use Rattle.jt_inherit.specs.Chains.{Given}
+use Rattle.jt_inherit.specs.Small.{templates_len, libraries_len, chains_len}
+use Rattle.jt_inherit.proofs.Among.{same, reflexive, or_true, or_false, both_false, among_front, among_behind, without, still_among}
+use Rattle.jt_inherit.proofs.Fewer.{HasTag, tagged, needed, not_false}
+use Rattle.jt_inherit.proofs.Growing.{among_passes, libraries_listed}
+
+-- ---- what is in an ascending list
+
+here_inserted : (x : Text) (ys : List Text) → among x (inserted x ys) ≡ true
+here_inserted x [] = ap (λ b. b || false) (reflexive x)
+here_inserted x (y ∷ ys) = by (bytes_eq y x) refl (is_lt (slice_cmp nat_cmp x y)) (here_inserted x ys)
+  where
+    by : (b : Bool) → bytes_eq y x ≡ b → (c : Bool) → among x (inserted x ys) ≡ true → among x (if b then y ∷ ys else if c then x ∷ y ∷ ys else y ∷ inserted x ys) ≡ true
+    by true e c r = ap (λ b. b || among x ys) e
+    by false e true r = ap (λ b. b || among x (y ∷ ys)) (reflexive x)
+    by false e false r = or_true (bytes_eq y x) (among x (inserted x ys)) r
+
+kept_inserted : (x z : Text) (ys : List Text) → among z ys ≡ true → among z (inserted x ys) ≡ true
+kept_inserted x z [] a = absurd cc
+kept_inserted x z (y ∷ ys) a = by (bytes_eq y x) (is_lt (slice_cmp nat_cmp x y)) (bytes_eq y z) refl (kept_inserted x z ys)
+  where
+    by : (b c d : Bool) → bytes_eq y z ≡ d → (among z ys ≡ true → among z (inserted x ys) ≡ true) → among z (if b then y ∷ ys else if c then x ∷ y ∷ ys else y ∷ inserted x ys) ≡ true
+    by true c d e r = a
+    by false true d e r = or_true (bytes_eq x z) (among z (y ∷ ys)) a
+    by false false true e r = ap (λ b. b || among z (inserted x ys)) e
+    by false false false e r = or_true (bytes_eq y z) (among z (inserted x ys)) (r (sym (ap (λ b. b || among z ys) e) ∙ a))
+
+kept_all : (xs : List Text) (z : Text) (ns : List Text) → among z ns ≡ true → among z (all_inserted xs ns) ≡ true
+kept_all [] z ns a = a
+kept_all (x ∷ xs) z ns a = kept_all xs z (inserted x ns) (kept_inserted x z ns a)
+
+here_all : (xs : List Text) (z : Text) (ns : List Text) → among z xs ≡ true → among z (all_inserted xs ns) ≡ true
+here_all [] z ns a = absurd cc
+here_all (x ∷ xs) z ns a = by (bytes_eq x z) refl (here_all xs z (inserted x ns))
+  where
+    by : (b : Bool) → bytes_eq x z ≡ b → (among z xs ≡ true → among z (all_inserted xs (inserted x ns)) ≡ true) → among z (all_inserted xs (inserted x ns)) ≡ true
+    by true e r = kept_all xs z (inserted x ns) (ap (λ y. among y (inserted x ns)) (sym (same x z e)) ∙ here_inserted x ns)
+    by false e r = r (sym (ap (λ b. b || among z xs) e) ∙ a)
+
+-- ---- the libraries of an order, and those that its chains import
+
+libraries_of : List Home → List Text
+libraries_of [] = []
+libraries_of (a_chain n ∷ hs) = libraries_of hs
+libraries_of (a_library n ∷ hs) = n ∷ libraries_of hs
+
+library_among : (n : Text) (hs : List Home) → listed (a_library n) hs ≡ among n (libraries_of hs)
+unfolding libraries_of
+library_among n [] = refl
+library_among n (a_chain m ∷ hs) = library_among n hs
+library_among n (a_library m ∷ hs) = ap (λ b. bytes_eq m n || b) (library_among n hs)
+
+libraries_once : (s : Sources) (hs : List Home) → InOrder s hs → repeated (libraries_of hs) ≡ false
+unfolding libraries_of
+libraries_once s [] o = refl
+libraries_once s (a_chain m ∷ hs) o = libraries_once s hs o.1.1
+libraries_once s (a_library m ∷ hs) o =
+    both_false (among m (libraries_of hs)) (repeated (libraries_of hs)) (sym (library_among m hs) ∙ not_false (listed (a_library m) hs) o.0) (libraries_once s hs o.1.1)
+
+module _ (given : Given) (s : Sources) where
+  imported_by : List Home → List Text
+  imported_by [] = []
+  imported_by (a_chain n ∷ hs) = ascending (libraries s (a_chain n)) ++ imported_by hs
+  imported_by (a_library n ∷ hs) = imported_by hs
+
+  is_imported : (n k : Text) (hs : List Home) → listed (a_chain k) hs ≡ true → among n (libraries s (a_chain k)) ≡ true → among n (imported_by hs) ≡ true
+  unfolding imported_by
+  is_imported n k [] e a = absurd cc
+  is_imported n k (a_library m ∷ hs) e a = is_imported n k hs e a
+  is_imported n k (a_chain m ∷ hs) e a = by (bytes_eq m k) refl (λ f. is_imported n k hs f a)
+    where
+      by : (b : Bool) → bytes_eq m k ≡ b → (listed (a_chain k) hs ≡ true → among n (imported_by hs) ≡ true) → among n (ascending (libraries s (a_chain m)) ++ imported_by hs) ≡ true
+      by true q r = among_front n (ascending (libraries s (a_chain m))) (imported_by hs) (here_all (libraries s (a_chain m)) n [] (ap (λ x. among n (libraries s (a_chain x))) (same m k q) ∙ a))
+      by false q r = among_behind n (ascending (libraries s (a_chain m))) (imported_by hs) (r (sym (ap (λ b. b || listed (a_chain k) hs) q) ∙ e))
+
+  len_both : (xs ys : List Text) → libraries_len given s (xs ++ ys) ≡ libraries_len given s xs + libraries_len given s ys
+  len_both [] ys = omega arith
+  len_both (x ∷ xs) ys = omega (arith, len_both xs ys)
+
+  one_less : (x : Text) (ys : List Text) → among x ys ≡ true → libraries_len given s ys ≡ templates_len given (templates s (a_library x)) + libraries_len given s (without x ys)
+  one_less x [] a = absurd cc
+  one_less x (y ∷ ys) a = by (bytes_eq y x) refl (one_less x ys)
+    where
+      by : (b : Bool) → bytes_eq y x ≡ b → (among x ys ≡ true → libraries_len given s ys ≡ templates_len given (templates s (a_library x)) + libraries_len given s (without x ys))
+          → libraries_len given s (y ∷ ys) ≡ templates_len given (templates s (a_library x)) + libraries_len given s (cond (bytes_eq y x) ys (y ∷ without x ys))
+      by true e r =
+          let first : templates_len given (templates s (a_library y)) ≡ templates_len given (templates s (a_library x)) = ap (λ z. templates_len given (templates s (a_library z))) (same y x e) in
+          omega (arith, first, ap (λ b. libraries_len given s (cond b ys (y ∷ without x ys))) e)
+      by false e r =
+          omega (arith, r (sym (ap (λ b. b || among x ys) e) ∙ a), ap (λ b. libraries_len given s (cond b ys (y ∷ without x ys))) e)
+
+  -- different libraries among others are no longer than these
+  no_longer : (xs ys : List Text) → repeated xs ≡ false → ((x : Text) → among x xs ≡ true → among x ys ≡ true) → libraries_len given s xs ≤ libraries_len given s ys
+  no_longer [] ys once f = omega arith
+  no_longer (x ∷ xs) ys once f =
+      let k = or_false (among x xs) (repeated xs) once in
+      let len = one_less x ys (f x (ap (λ b. b || among x xs) (reflexive x))) in
+      let rest = no_longer xs (without x ys) k.1 (λ z a. still_among x z ys (apart z (bytes_eq x z) refl k.0 a) (f z (or_true (bytes_eq x z) (among z xs) a))) in
+      omega (arith, len, rest)
+    where
+      apart : (z : Text) (b : Bool) → bytes_eq x z ≡ b → among x xs ≡ false → among z xs ≡ true → bytes_eq x z ≡ false
+      apart z true e n a =
+          let m : among x xs ≡ true = ap (λ w. among w xs) (same x z e) ∙ a in
+          absurd cc
+      apart z false e n a = e
+
+  -- the templates of the chains alone
+  own_len : List Home → ℕ
+  own_len [] = 0
+  own_len (a_chain n ∷ hs) = templates_len given (templates s (a_chain n)) + own_len hs
+  own_len (a_library n ∷ hs) = own_len hs
+
+  split_len : (hs : List Home) → chains_len given s hs ≡ own_len hs + libraries_len given s (imported_by hs)
+  unfolding imported_by own_len
+  split_len [] = refl
+  split_len (a_chain n ∷ hs) = omega (arith, split_len hs, len_both (ascending (libraries s (a_chain n))) (imported_by hs))
+  split_len (a_library n ∷ hs) = split_len hs
+
+  split_weight : (hs : List Home) → ((h : Home) → listed h hs ≡ true → templates_weight (templates s h) ≤ templates_len given (templates s h)) → chains_weight s hs ≤ own_len hs + libraries_len given s (libraries_of hs)
+  unfolding libraries_of own_len
+  split_weight [] each = omega arith
+  split_weight (a_chain n ∷ hs) each =
+      omega (arith, each (a_chain n) (ap (λ b. b || listed (a_chain n) hs) (reflexive n)), split_weight hs (λ h a. each h (or_true (same_home (a_chain n) h) (listed h hs) a)))
+  split_weight (a_library n ∷ hs) each =
+      omega (arith, each (a_library n) (ap (λ b. b || listed (a_library n) hs) (reflexive n)), split_weight hs (λ h a. each h (or_true (same_home (a_library n) h) (listed h hs) a)))
+
+  -- each library of the order is imported by a chain there
+  pub all_weigh : (e : Bool) (entry : Text) (rest : List Home) → InOrder s (a_chain entry ∷ rest)
+      → ((h : Home) → listed h (a_chain entry ∷ rest) ≡ true → templates_weight (templates s h) ≤ templates_len given (templates s h))
+      → ((h : Home) → listed h (a_chain entry ∷ rest) ≡ true → Reaches s e (a_chain entry) h) → chains_weight s (a_chain entry ∷ rest) ≤ chains_len given s (a_chain entry ∷ rest)
+  all_weigh e entry rest o each reached =
+      let order = a_chain entry ∷ rest in
+      let less = no_longer (libraries_of order) (imported_by order) (libraries_once s order o) imported in
+      omega (arith, split_weight order each, split_len order, less)
+    where
+      from : (n : Text) → (a_library n ≡ a_chain entry) ⊎ HasTag s (a_chain entry ∷ rest) (a_library n) → among n (imported_by (a_chain entry ∷ rest)) ≡ true
+      from n (inl is) = absurd cc
+      from n (inr t) = by t.0 t.1 t.2
+        where
+          by : (k : Home) → listed k (a_chain entry ∷ rest) ≡ true → listed (a_library n) (included s k) ≡ true → among n (imported_by (a_chain entry ∷ rest)) ≡ true
+          by (a_chain k) there i =
+              let a = sym (libraries_listed n (with_source s (needed s (a_chain k))) (with_source s (libraries s (a_chain k)))) ∙ i in
+              is_imported n k (a_chain entry ∷ rest) there (among_passes (λ m. is_some (s m)) n (libraries s (a_chain k)) a).0
+          by (a_library k) there i =
+              let a : among n [] ≡ true = sym (libraries_listed n (with_source s (needed s (a_library k))) (with_source s (libraries s (a_library k)))) ∙ i in
+              absurd cc
+
+      imported : (n : Text) → among n (libraries_of (a_chain entry ∷ rest)) ≡ true → among n (imported_by (a_chain entry ∷ rest)) ≡ true
+      imported n a =
+          let there : listed (a_library n) (a_chain entry ∷ rest) ≡ true = library_among n (a_chain entry ∷ rest) ∙ a in
+          from n (tagged s e (a_chain entry ∷ rest) o (reached (a_library n) there) (ap (λ b. b || listed (a_chain entry) rest) (reflexive entry)))

@@ -1,0 +1,12 @@
+use Rattle.std.proofs.Common.{◌≡◌, ◌++◌, drop}
+use Rattle.jt_trees.specs.StatementView.{body_view}
+use Rattle.jt_chains.specs.Chain.{sources_in}
+use Rattle.jt_chains.specs.Pages.{pages_view}
+use Rattle.jt_inherit.specs.Kept.{imported_names}
+use Rattle.jt_inherit.specs.SetView.{texts}
+use Rattle.jt_inherit.proofs.importing.add_imported.Given as goal
+
+abbrev pub invariant-loop-statement : goal.invariant-loop-statement
+invariant-loop-statement l =
+    texts l.given.items ++ imported_names (sources_in (pages_view l.shelf.pages.now)) (body_view (drop l.statement-index l.body))
+    ≡ texts l.initial.given.items ++ imported_names (sources_in (pages_view l.shelf.pages.now)) (body_view l.body)

@@ -1,0 +1,12 @@
+use Rattle.std.proofs.Common.{◌≡◌, ◌++◌, map, drop}
+use Rattle.jt_chains.specs.Along.{along}
+use Rattle.jt_chains.specs.Chain.{sources_in}
+use Rattle.jt_chains.specs.Pages.{pages_view}
+use Rattle.jt_inherit.specs.Kept.{imported_names}
+use Rattle.jt_inherit.specs.SetView.{texts}
+use Rattle.jt_inherit.proofs.importing.names_at.Given as goal
+
+abbrev pub invariant-loop-place : goal.invariant-loop-place
+invariant-loop-place l =
+    texts l.given.items ++ along (pages_view l.shelf.pages.now) (λ n b. imported_names (sources_in (pages_view l.shelf.pages.now)) b) (drop l.place-index l.places)
+    ≡ map (λ m. m.name.now) l.macros.items ++ along (pages_view l.shelf.pages.now) (λ n b. imported_names (sources_in (pages_view l.shelf.pages.now)) b) l.places

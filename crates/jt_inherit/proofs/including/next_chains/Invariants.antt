@@ -1,8 +1,0 @@
-use Rattle.std.proofs.Common.{take}
-use Rattle.jt_inherit.specs.Found.{AreNext, chosen}
-use Rattle.jt_inherit.specs.Needs.{needs_view}
-use Rattle.jt_inherit.specs.SetView.{strings}
-use Rattle.jt_inherit.proofs.including.next_chains.Given as goal
-
-abbrev pub invariant-loop-include : goal.invariant-loop-include
-invariant-loop-include l = AreNext (strings l.initial.homes.keys) (strings l.homes.keys) (chosen (strings l.names.keys) (needs_view (take l.include-index l.include-items))) l.numbers.items

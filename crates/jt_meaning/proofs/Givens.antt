@@ -1,0 +1,267 @@
+-- What the names of a chain are given to: its own macros, and those of the libraries that it imports.
+use Rattle.std.proofs.Common.{◌≡◌, Bool, true, false, if◌then◌else◌, List, [], ◌∷◌, ◌++◌, Option, Some, None, refl, sym, ap, ◌∙◌, subst, ◌⊎◌, inl, inr}
+use Rattle.std.specs.Prelude.{flat_map, filter, codes}
+use Rattle.std.specs.Option.{is_some}
+use Rattle.std.specs.List.{AllByRecursion}
+use Rattle.std.specs.Str.{bytes_eq}
+use Rattle.jt_trees.specs.Expressions.{Expr, name, attribute, Text}
+use Rattle.jt_trees.specs.Statements.{import_as, import_from, Body, end, stmt}
+use Rattle.jt_chains.specs.Chain.{Sources, Home, a_chain, a_library, Template, library_template, templates, MacroBody, macros_in, macros, macro_of, is_private, public_macro, Given, one_macro, library, own, given_from, all_given_from, imports_in, imports, given, given_to, libraries_in, libraries, a_macro, a_range, a_super, a_block, a_cycle, no_callee, named_alone, of_library, in_library, callee}
+use Rattle.jt_chains.specs.Includes.{with_source}
+use Rattle.jt_meaning.proofs.Reading.{no_both}
+use Rattle.jt_meaning.proofs.Among.{Among}
+
+among_left : (x : Text) (xs ys : List Text) → Among x xs → Among x (xs ++ ys)
+among_left x [] ys i = absurd i
+among_left x (z ∷ zs) ys (inl e) = inl e
+among_left x (z ∷ zs) ys (inr i) = inr (among_left x zs ys i)
+
+among_right : (x : Text) (xs ys : List Text) → Among x ys → Among x (xs ++ ys)
+among_right x [] ys i = i
+among_right x (z ∷ zs) ys i = inr (among_right x zs ys i)
+
+public_found : (x : Text) (ms : List MacroBody) (m : MacroBody) → public_macro x ms ≡ Some m → macro_of x ms ≡ Some m
+public_found x ms m e = through (is_private x) e
+  where
+    nothing : None ≡ Some m → macro_of x ms ≡ Some m
+    nothing q = absurd (cc)
+
+    through : (b : Bool) → (if b then None else macro_of x ms) ≡ Some m → macro_of x ms ≡ Some m
+    through true q = nothing q
+    through false q = q
+
+given_split : (x : Text) (fs gs : List (Text × Given)) (g : Given) → given_to x (fs ++ gs) ≡ Some g → (given_to x fs ≡ Some g) ⊎ (given_to x gs ≡ Some g)
+given_split x [] gs g e = inr e
+given_split x (f ∷ fs) gs g e = through (bytes_eq f.0 x) e (λ q. given_split x fs gs g q)
+  where
+    through : (b : Bool) → (if b then Some f.1 else given_to x (fs ++ gs)) ≡ Some g → (given_to x (fs ++ gs) ≡ Some g → (given_to x fs ≡ Some g) ⊎ (given_to x gs ≡ Some g))
+        → ((if b then Some f.1 else given_to x fs) ≡ Some g) ⊎ (given_to x gs ≡ Some g)
+    through true q r = inl q
+    through false q r = r q
+
+own_found : (h : Home) (x : Text) (ms : List MacroBody) (g : Given) → given_to x (own h ms) ≡ Some g → (m : MacroBody) × (g ≡ one_macro h m) × (macro_of x ms ≡ Some m)
+own_found h x [] g e = absurd (nothing e)
+  where
+    nothing : None ≡ Some g → ⊥
+    nothing q = cc
+own_found h x (m ∷ ms) g e = through (bytes_eq m.name x) e (λ q. own_found h x ms g q)
+  where
+    is_it : Some (one_macro h m) ≡ Some g → g ≡ one_macro h m
+    is_it q = cc
+
+    through : (b : Bool) → (if b then Some (one_macro h m) else given_to x (own h ms)) ≡ Some g → (given_to x (own h ms) ≡ Some g → (n : MacroBody) × (g ≡ one_macro h n) × (macro_of x ms ≡ Some n))
+        → (n : MacroBody) × (g ≡ one_macro h n) × ((if b then Some m else macro_of x ms) ≡ Some n)
+    through true q r = (m, is_it q, refl)
+    through false q r = r q
+
+module _ (sources : Sources) where
+  pub source_there : (x : Text) (xs : List Text) → Among x xs → is_some (sources x) ≡ true → Among x (with_source sources xs)
+  source_there x [] i e = absurd i
+  source_there x (y ∷ ys) (inl p) e = here (is_some (sources y)) (ap (λ z. is_some (sources z)) p ∙ e)
+    where
+      here : (b : Bool) → b ≡ true → Among x (if b then y ∷ filter (λ m. is_some (sources m)) ys else filter (λ m. is_some (sources m)) ys)
+      here true q = inl p
+      here false q = absurd (no_both q refl)
+  source_there x (y ∷ ys) (inr i) e = later (is_some (sources y)) (source_there x ys i e)
+    where
+      later : (b : Bool) → Among x (filter (λ m. is_some (sources m)) ys) → Among x (if b then y ∷ filter (λ m. is_some (sources m)) ys else filter (λ m. is_some (sources m)) ys)
+      later true j = inr j
+      later false j = j
+
+  -- what is a macro of one of these libraries, or one of them
+  abbrev FromLibraries : List Text → Given → Type 0
+  FromLibraries ls (one_macro k b) = (n : Text) × (k ≡ a_library n) × Among n ls × ((y : Text) × (macro_of y (macros sources (a_library n)) ≡ Some b))
+  FromLibraries ls (library n) = Among n ls
+
+  abbrev AllFrom : List Text → List (Text × Given) → Type 0
+  AllFrom ls [] = Unit {0}
+  AllFrom ls (g ∷ gs) = FromLibraries ls g.1 × AllFrom ls gs
+
+  from_more : (ls ks : List Text) → ((n : Text) → Among n ls → Among n ks) → (g : Given) → FromLibraries ls g → FromLibraries ks g
+  from_more ls ks f (one_macro k b) h = (h.0, h.1, f h.0 h.2, h.3)
+  from_more ls ks f (library n) h = f n h
+
+  all_more : (ls ks : List Text) → ((n : Text) → Among n ls → Among n ks) → (gs : List (Text × Given)) → AllFrom ls gs → AllFrom ks gs
+  all_more ls ks f [] h = tt
+  all_more ls ks f (g ∷ gs) h = (from_more ls ks f g.1 h.0, all_more ls ks f gs h.1)
+
+  all_append : (ls : List Text) (fs gs : List (Text × Given)) → AllFrom ls fs → AllFrom ls gs → AllFrom ls (fs ++ gs)
+  all_append ls [] gs a b = b
+  all_append ls (f ∷ fs) gs a b = (a.0, all_append ls fs gs a.1 b)
+
+  from_all : (n x y : Text) (ls : List Text) → Among n ls → (o : Option MacroBody) → public_macro y (macros sources (a_library n)) ≡ o → AllFrom ls (given_from n x o)
+  from_all n x y ls i None e = tt
+  from_all n x y ls i (Some m) e = ((n, refl, i, (y, public_found y (macros sources (a_library n)) m e)), tt)
+
+  all_from : (n : Text) (xs : List (Text × Text)) (ls : List Text) → Among n ls → AllFrom ls (all_given_from sources n xs)
+  all_from n [] ls i = tt
+  all_from n (x ∷ xs) ls i =
+      let o = public_macro x.0 (macros sources (a_library n)) in
+      all_append ls (given_from n x.1 o) (all_given_from sources n xs) (from_all n x.1 x.0 ls i o refl) (all_from n xs ls i)
+
+  imports_all : (c : Body) → AllFrom (libraries_in c) (imports_in sources c)
+  imports_all end = tt
+  imports_all (stmt (import_as line n x) rest) = (inl refl, all_more (libraries_in rest) (n ∷ libraries_in rest) (λ m i. inr i) (imports_in sources rest) (imports_all rest))
+  imports_all (stmt (import_from line n xs) rest) =
+      all_append (n ∷ libraries_in rest) (all_given_from sources n xs) (imports_in sources rest) (all_from n xs (n ∷ libraries_in rest) (inl refl))
+      (all_more (libraries_in rest) (n ∷ libraries_in rest) (λ m i. inr i) (imports_in sources rest) (imports_all rest))
+  imports_all (stmt s rest) = imports_all rest
+
+  templates_imports : (ts : List Template) → AllFrom (flat_map (λ t. libraries_in t.body) ts) (flat_map (λ t. imports_in sources t.body) ts)
+  templates_imports [] = tt
+  templates_imports (t ∷ ts) =
+      let all = libraries_in t.body ++ flat_map (λ u. libraries_in u.body) ts in
+      all_append all (imports_in sources t.body) (flat_map (λ u. imports_in sources u.body) ts)
+      (all_more (libraries_in t.body) all (λ n i. among_left n (libraries_in t.body) (flat_map (λ u. libraries_in u.body) ts) i) (imports_in sources t.body) (imports_all t.body))
+      (all_more (flat_map (λ u. libraries_in u.body) ts) all (λ n i. among_right n (libraries_in t.body) (flat_map (λ u. libraries_in u.body) ts) i) (flat_map (λ u. imports_in sources u.body) ts) (templates_imports ts))
+
+  imports_from : (h : Home) → AllFrom (libraries sources h) (imports sources h)
+  imports_from (a_chain n) = templates_imports (templates sources (a_chain n))
+  imports_from (a_library n) = tt
+
+  look_all : (x : Text) (ls : List Text) (gs : List (Text × Given)) (g : Given) → AllFrom ls gs → given_to x gs ≡ Some g → FromLibraries ls g
+  look_all x ls [] g a e = absurd (nothing e)
+    where
+      nothing : None ≡ Some g → ⊥
+      nothing q = cc
+  look_all x ls (f ∷ fs) g a e = through (bytes_eq f.0 x) e (λ q. look_all x ls fs g a.1 q)
+    where
+      is_it : Some f.1 ≡ Some g → f.1 ≡ g
+      is_it q = cc
+
+      through : (b : Bool) → (if b then Some f.1 else given_to x fs) ≡ Some g → (given_to x fs ≡ Some g → FromLibraries ls g) → FromLibraries ls g
+      through true q r = subst (λ z. FromLibraries ls z) (is_it q) a.0
+      through false q r = r q
+
+  -- a library with a macro has a source
+  some_source : (n y : Text) (b : MacroBody) → macro_of y (macros sources (a_library n)) ≡ Some b → is_some (sources n) ≡ true
+  some_source n y b e = by (sources n) refl e
+    where
+      nothing : None ≡ Some b → is_some (sources n) ≡ true
+      nothing q = absurd (cc)
+
+      by : (o : Option Body) → sources n ≡ o → macro_of y (flat_map (λ t. macros_in t.name t.body) (library_template n o)) ≡ Some b → is_some (sources n) ≡ true
+      by None p q = nothing q
+      by (Some c) p q = ap is_some p
+
+  -- where a macro that is called is at home: where the call stands, or in a library that is imported there
+  abbrev pub LeadsTo : Home → Home → Type 0
+  LeadsTo h k = (k ≡ h) ⊎ ((n : Text) × (k ≡ a_library n) × Among n (with_source sources (libraries sources h)))
+
+  abbrev pub Found : Home → Home → MacroBody → Type 0
+  Found h k b = (x : Text) × (macro_of x (macros sources k) ≡ Some b) × LeadsTo h k
+
+  given_macro : (h : Home) (x : Text) (k : Home) (b : MacroBody) → given_to x (given sources h) ≡ Some (one_macro k b) → Found h k b
+  given_macro h x k b e = which (given_split x (own h (macros sources h)) (imports sources h) (one_macro k b) e)
+    where
+      home_is_it : (m : MacroBody) → one_macro k b ≡ one_macro h m → k ≡ h
+      home_is_it m q = cc
+
+      body_is_it : (m : MacroBody) → one_macro k b ≡ one_macro h m → m ≡ b
+      body_is_it m q = cc
+
+      which : (given_to x (own h (macros sources h)) ≡ Some (one_macro k b)) ⊎ (given_to x (imports sources h) ≡ Some (one_macro k b)) → Found h k b
+      which (inl q) =
+          let r = own_found h x (macros sources h) (one_macro k b) q in
+          let same = home_is_it r.0 r.1 in
+          (x, ap (λ z. macro_of x (macros sources z)) same ∙ r.2 ∙ ap Some (body_is_it r.0 r.1), inl same)
+      which (inr q) =
+          let r = look_all x (libraries sources h) (imports sources h) (one_macro k b) (imports_from h) q in
+          (r.3.0, ap (λ z. macro_of r.3.0 (macros sources z)) r.1 ∙ r.3.1, inr (r.0, r.1, source_there r.0 (libraries sources h) r.2 (some_source r.0 r.3.0 b r.3.1)))
+
+  -- what holds of each macro of a home, and of each of the libraries that it imports, holds of what its names are given to
+  abbrev pub GivenAll : (MacroBody → Type 0) → Given → Type 0
+  GivenAll P (one_macro k m) = P m
+  GivenAll P (library n) = AllByRecursion P (macros sources (a_library n))
+
+  module _ (P : MacroBody → Type 0) where
+    macro_all : (x : Text) (b : MacroBody) (ms : List MacroBody) → AllByRecursion P ms → macro_of x ms ≡ Some b → P b
+    macro_all x b [] a e = absurd (nothing e)
+      where
+        nothing : None ≡ Some b → ⊥
+        nothing q = cc
+    macro_all x b (m ∷ ms) a e = through (bytes_eq m.name x) e (λ f. macro_all x b ms a.1 f)
+      where
+        is_it : Some m ≡ Some b → m ≡ b
+        is_it q = cc
+
+        through : (c : Bool) → (if c then Some m else macro_of x ms) ≡ Some b → (macro_of x ms ≡ Some b → P b) → P b
+        through true q f = subst P (is_it q) a.0
+        through false q f = f q
+
+    own_all : (h : Home) (ms : List MacroBody) → AllByRecursion P ms → AllByRecursion (λ g. GivenAll P g.1) (own h ms)
+    own_all h [] a = tt
+    own_all h (m ∷ ms) a = (a.0, own_all h ms a.1)
+
+    pub all_own : (h : Home) (ms : List MacroBody) (gs : List (Text × Given)) → AllByRecursion (λ g. GivenAll P g.1) (own h ms ++ gs) → AllByRecursion P ms
+    all_own h [] gs a = tt
+    all_own h (m ∷ ms) gs a = (a.0, all_own h ms gs a.1)
+
+    both_all : (fs gs : List (Text × Given)) → AllByRecursion (λ g. GivenAll P g.1) fs → AllByRecursion (λ g. GivenAll P g.1) gs → AllByRecursion (λ g. GivenAll P g.1) (fs ++ gs)
+    both_all [] gs a b = b
+    both_all (f ∷ fs) gs a b = (a.0, both_all fs gs a.1 b)
+
+    module _ (ls : List Text) (each : (n : Text) → Among n (with_source sources ls) → AllByRecursion P (macros sources (a_library n))) where
+      of_library_all : (n : Text) → Among n ls → AllByRecursion P (macros sources (a_library n))
+      of_library_all n i = by (sources n) refl
+        where
+          by : (o : Option Body) → sources n ≡ o → AllByRecursion P (flat_map (λ t. macros_in t.name t.body) (library_template n (sources n)))
+          by None e = subst (λ z. AllByRecursion P (flat_map (λ t. macros_in t.name t.body) (library_template n z))) (sym e) tt
+          by (Some c) e = each n (source_there n ls i (ap is_some e))
+
+      one_from : (g : Given) → FromLibraries ls g → GivenAll P g
+      one_from (one_macro k b) f = macro_all f.3.0 b (macros sources (a_library f.0)) (of_library_all f.0 f.2) f.3.1
+      one_from (library n) i = of_library_all n i
+
+      all_of_libraries : (gs : List (Text × Given)) → AllFrom ls gs → AllByRecursion (λ g. GivenAll P g.1) gs
+      all_of_libraries [] f = tt
+      all_of_libraries (g ∷ gs) f = (one_from g.1 f.0, all_of_libraries gs f.1)
+
+    pub given_all : (h : Home) → AllByRecursion P (macros sources h) → ((n : Text) → Among n (with_source sources (libraries sources h)) → AllByRecursion P (macros sources (a_library n)))
+        → AllByRecursion (λ g. GivenAll P g.1) (given sources h)
+    given_all h a each = both_all (own h (macros sources h)) (imports sources h) (own_all h (macros sources h) a) (all_of_libraries (libraries sources h) each (imports sources h) (imports_from h))
+
+  given_library : (h : Home) (x n : Text) → given_to x (given sources h) ≡ Some (library n) → Among n (libraries sources h)
+  given_library h x n e = which (given_split x (own h (macros sources h)) (imports sources h) (library n) e)
+    where
+      never : (m : MacroBody) → library n ≡ one_macro h m → Among n (libraries sources h)
+      never m q = absurd (cc)
+
+      which : (given_to x (own h (macros sources h)) ≡ Some (library n)) ⊎ (given_to x (imports sources h) ≡ Some (library n)) → Among n (libraries sources h)
+      which (inl q) = let r = own_found h x (macros sources h) (library n) q in never r.0 r.1
+      which (inr q) = look_all x (libraries sources h) (imports sources h) (library n) (imports_from h) q
+
+  -- a macro that is called, by what stands in front of the arguments
+  pub called_macro : (h : Home) (f : Expr) (k : Home) (b : MacroBody) → callee sources (given sources h) f ≡ a_macro k b → Found h k b
+  called_macro h (name x) k b e = alone (given_to x (given sources h)) refl e
+    where
+      form : (p q : Bool) → (if p then a_range else if q then a_super else no_callee) ≡ a_macro k b → Found h k b
+      form true q r = absurd (cc)
+      form false true r = absurd (cc)
+      form false false r = absurd (cc)
+
+      alone : (o : Option Given) → given_to x (given sources h) ≡ o → named_alone sources o x ≡ a_macro k b → Found h k b
+      alone None p q = form (bytes_eq x (codes "range")) (bytes_eq x (codes "super")) q
+      alone (Some (one_macro j m)) p q = given_macro h x k b (p ∙ (let r : Some (one_macro j m) ≡ Some (one_macro k b) = cc in r))
+      alone (Some (library n)) p q = absurd (cc)
+  called_macro h (attribute (name of) x) k b e = form (bytes_eq of (codes "self")) (bytes_eq of (codes "loop")) (bytes_eq x (codes "cycle")) e
+    where
+      of_one : (n : Text) → Among n (libraries sources h) → (o : Option MacroBody) → public_macro x (macros sources (a_library n)) ≡ o → of_library sources n o ≡ a_macro k b → Found h k b
+      of_one n i None p q = absurd (cc)
+      of_one n i (Some m) p q =
+          let f = public_found x (macros sources (a_library n)) m p in
+          let home : k ≡ a_library n = cc in
+          let body : m ≡ b = cc in
+          (x, ap (λ z. macro_of x (macros sources z)) home ∙ f ∙ ap Some body, inr (n, home, source_there n (libraries sources h) i (some_source n x m f)))
+
+      in_one : (o : Option Given) → given_to of (given sources h) ≡ o → in_library sources o x ≡ a_macro k b → Found h k b
+      in_one None p q = absurd (cc)
+      in_one (Some (one_macro j m)) p q = absurd (cc)
+      in_one (Some (library n)) p q = of_one n (given_library h of n p) (public_macro x (macros sources (a_library n))) refl q
+
+      form : (p q r : Bool) → (if p then a_block x else if q then (if r then a_cycle else no_callee) else in_library sources (given_to of (given sources h)) x) ≡ a_macro k b → Found h k b
+      form true q r z = absurd (cc)
+      form false true true z = absurd (cc)
+      form false true false z = absurd (cc)
+      form false false r z = in_one (given_to of (given sources h)) refl z
+  called_macro h f k b e = absurd (cc)

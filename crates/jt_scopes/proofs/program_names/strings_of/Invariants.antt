@@ -1,6 +1,0 @@
-use Rattle.std.proofs.Common.{◌≡◌, ◌++◌, map, drop, string_bytes}
-use Rattle.jt_uses.specs.Names.{texts}
-use Rattle.jt_scopes.proofs.program_names.strings_of.Given as goal
-
-abbrev pub invariant-loop-name : goal.invariant-loop-name
-invariant-loop-name l = map string_bytes l.strings.items ++ texts (drop l.name-index l.names) ≡ texts l.names
