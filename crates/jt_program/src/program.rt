@@ -12,9 +12,7 @@ ghost use Rattle.jt_program.specs.Files.{AreSources, IsLibrary, IsOfDirectory, p
 ghost use Rattle.jt_program.specs.Telling.{Explains, Tells, TookUnlessFailed, memory_line};
 ghost use Rattle.jt_program.specs.Templates.{source_of};
 
-use crate::commands::{
-    context_of, counts_of, image_of, render_text, run_image, upgraded,
-};
+use crate::commands::{context_of, counts_of, image_of, render_text, run_image, upgraded};
 use crate::files::{FileError, Files};
 use crate::messages::{Failure, Status, no_file};
 use crate::reports::report;
