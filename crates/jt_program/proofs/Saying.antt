@@ -1,5 +1,5 @@
 -- Bytes that a sink takes one after another, all of them or a beginning.
-use Rattle.std.proofs.Common.{◌≡◌, ◌∙◌, Bool, Bor, List, Ok, Err, OnErr, OnOk, Option, Result, [], ◌+◌, ◌++◌, ◌<◌, ◌≤◌, ◌∷◌, add-one, ap, append_assoc, arith, codes, drop, false, get_or, inl, inr, length, refl, subst, sym, true, ℕ}
+use Rattle.std.proofs.Common.{◌≡◌, ◌∙◌, Bool, Bor, Global, List, Ok, Err, OnErr, OnOk, Option, Result, String, [], ◌+◌, ◌++◌, ◌<◌, ◌≤◌, ◌∷◌, add-one, ap, append_assoc, arith, codes, drop, false, get_or, inl, inr, length, refl, sym, true, ℕ}
 use Rattle.std.proofs.Math.Seq.{drop-cons}
 use Rattle.std.proofs.lemmas.List.{append-nil, drop_all}
 use Rattle.std.proofs.lemmas.List.Concat.{flat_map-append}
@@ -10,7 +10,7 @@ use Rattle.jt_turns.specs.Shown.{shown, shown_byte}
 use Rattle.jt_program.specs.declared.messages.Failure.{Failure}
 use Rattle.jt_program.specs.declared.messages.Failure.TheVariants as failure
 use Rattle.jt_program.specs.Ending.{code_of, status_of}
-use Rattle.jt_program.specs.Telling.{Puts, Says, TookUnlessFailed, memory_line, texts_of}
+use Rattle.jt_program.specs.Telling.{Puts, Says, Tells, TookUnlessFailed, memory_line, texts_of}
 
 -- a beginning of the first part
 front_more : (part rest : List ℕ) (old new : Option (List ℕ)) → TookFront part old new → TookFront (part ++ rest) old new
@@ -49,8 +49,8 @@ module _ {E : Type 0} where
   puts_behind part rest old mid new f (Err e) whole p = (p.0, front_behind part rest old mid new whole p.1)
 
   -- a beginning of the first part
-  pub puts_begun : (part rest : List ℕ) (old new : Option (List ℕ)) (f : Bool) (e d : E) → Puts part old new f (Err e) → Puts (part ++ rest) old new f (Err d)
-  puts_begun part rest old new f e d p = (p.0, front_more part rest old new p.1)
+  pub puts_begun : (part rest : List ℕ) (old new : Option (List ℕ)) (f : Bool) (e : E) → Puts part old new f (Err e) → Puts (part ++ rest) old new f (Err e)
+  puts_begun part rest old new f e p = (p.0, front_more part rest old new p.1)
 
 -- ---- parts of a line, one after another
 
@@ -83,3 +83,8 @@ no_part parts i far = ap (λ ps. shown (texts_of ps) ++ codes "\n") (drop_all i 
 pub memory_said : (e : Failure) (old new : Option (List ℕ)) (f : Bool) → code_of (status_of e) ≡ 6 → Says old new f e → TookUnlessFailed memory_line old new f
 memory_said failure.NoMemory old new f six says = says
 memory_said e old new f six says = absurd (omega (arith, six))
+
+-- a command that is done does not end for want of memory
+pub not_memory : (old new : Option (List ℕ)) (f : Bool) (text : String Global) (status : ℕ) → Tells old new f (Ok text) status → status ≡ 6 → ⊥
+not_memory old new f text status (inl done) six = let zero = done.0 in omega (arith, zero, six)
+not_memory old new f text status (inr failed) six = let five = failed.0 in omega (arith, five, six)

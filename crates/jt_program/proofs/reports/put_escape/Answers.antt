@@ -9,7 +9,7 @@ pub returns-in_err-put : goal.returns-in_err-put
 returns-in_err-put g c =
     let p = err_from_is_err_and c.from_residual.result c.from_residual.ensures.1 in
     let digits = hex_digit (c.args.byte / 16) ++ hex_digit (c.args.byte % 16) in
-    rw p.1 (puts_begun (codes "\\x") digits (g.E.Sink.taken c.args.errors.now) (g.E.Sink.taken c.put.new.errors) (g.E.Sink.failed c.put.new.errors) c.in_err-put.field-0 p.0 c.in_err-put.ensures)
+    rw p.1 (puts_begun (codes "\\x") digits (g.E.Sink.taken c.args.errors.now) (g.E.Sink.taken c.put.new.errors) (g.E.Sink.failed c.put.new.errors) p.0 c.in_err-put.ensures)
 
 pub returns-in_err-put-2 : goal.returns-in_err-put-2
 returns-in_err-put-2 g c =
@@ -21,7 +21,7 @@ returns-in_err-put-2 g c =
     let new = g.E.Sink.taken c.put-2.new.errors in
     let f = g.E.Sink.failed c.put-2.new.errors in
     let first : c.as_bytes.result.now ≡ high = c.as_bytes.ensures.value ∙ c.hex_digits.ensures.high in
-    let begun = puts_begun high low mid new f c.in_err-put-2.field-0 p.0 (subst (λ (l : List ℕ). Puts l mid new f (Err c.in_err-put-2.field-0)) first c.in_err-put-2.ensures) in
+    let begun = puts_begun high low mid new f p.0 (subst (λ (l : List ℕ). Puts l mid new f (Err p.0)) first c.in_err-put-2.ensures) in
     rw p.1 (puts_behind (codes "\\x") (high ++ low) old mid new f (Err p.0) c.in_ok-put.ensures.1 begun)
 
 pub returns : goal.returns

@@ -25,7 +25,7 @@ returns-in_err-put_shown g c =
     let f = g.E.Sink.failed c.put_shown.new.errors in
     let part = c.as_bytes.result.now in
     rw p.1 (c.loop-part.invariant new f (Err p.0) (subst (λ (l : List ℕ). Puts l old new f (Err p.0)) (sym (one_part parts i _ part c.loop-part-test.true c.as_bytes.ensures.value))
-    (puts_begun (shown part) (line_from parts (i + 1)) old new f c.in_err-put_shown.field-0 p.0 c.in_err-put_shown.ensures)))
+    (puts_begun (shown part) (line_from parts (i + 1)) old new f p.0 c.in_err-put_shown.ensures)))
 
 pub returns : goal.returns
 returns g c =

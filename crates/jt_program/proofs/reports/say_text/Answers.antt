@@ -8,4 +8,4 @@ returns g c =
     let old = g.E.Sink.taken c.args.errors.now in
     let new = g.E.Sink.taken c.put.new.errors in
     let f = g.E.Sink.failed c.put.new.errors in
-    subst (λ (l : List ℕ). TookUnlessFailed l old new f) c.as_bytes.ensures.value (said _ old new f c.put.result c.put.ensures)
+    subst (λ (l : List ℕ). TookUnlessFailed l old new f) c.as_bytes.ensures.value (said c.as_bytes.result.now old new f c.put.result c.put.ensures)

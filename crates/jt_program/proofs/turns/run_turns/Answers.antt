@@ -1,4 +1,4 @@
-use Rattle.std.proofs.Common.{◌≡◌, ◌∙◌, ◌++◌, ◌∷◌, [], List, ap, append-nil, append_assoc, length, rules, subst, sym, ℕ}
+use Rattle.std.proofs.Common.{◌≡◌, ◌∙◌, ◌++◌, ◌∷◌, [], List, ap, append-nil, append_assoc, refl, rules, subst, sym}
 use Rattle.std.proofs.lemmas.Result.{err_from_is_err_and}
 use Rattle.jt_machine.specs.View.{budget_view}
 use Rattle.jt_line.specs.declared.Pair.{Pair}
@@ -6,6 +6,9 @@ use Rattle.jt_turns.specs.Worlds.{world_of}
 use Rattle.jt_program.specs.Commands.{AreOpen}
 use Rattle.jt_program.proofs.Starting.{all_lines, nil_of, stops}
 use Rattle.jt_program.proofs.turns.run_turns.Goals as goal
+
+pub loop-pair-init : goal.loop-pair-init
+loop-pair-init g c = (refl, ([], tt, c.new-sessions.ensures (budget_view c.args.budget)))
 
 pub loop-pair-preserved : goal.loop-pair-preserved
 loop-pair-preserved g c =
