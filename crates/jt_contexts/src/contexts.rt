@@ -9,6 +9,7 @@ ghost use Rattle.jt_contexts.specs.Json.{IsContext, Holds, Flaw, ItemsFlaw, Memb
 
 use crate::error::ContextError;
 use crate::numbers::number_value;
+use crate::reading::{Unread, read_context};
 use indexmap::IndexMap;
 use jt_value::{Context, Value};
 use serde_json::Map;
@@ -26,6 +27,18 @@ use std::alloc::Global;
 /// point or an exponent, is below -2^63 or above 2^64 - 1, or is `-0`; `OutOfRange` where one is
 /// 2^63 to 2^64 - 1; `NoMemory` where a growth was refused.
 pub fn context_from_json(alloc: Global, text: &str) -> Result<Context, ContextError>
+    ensures ok { IfOk result (λ c. IsContext text.now (pairs_of c)) }
+    ensures err { IfErr result (Holds text.now) }
+{
+    match read_context(alloc, text) {
+        Ok(context) => Ok(context),
+        Err(Unread::NoMemory) => Err(ContextError::NoMemory),
+        Err(Unread::NoContext) => converted(alloc, text),
+    }
+}
+
+/// The same in two passes, for a text that one pass does not read. It finds out why.
+fn converted(alloc: Global, text: &str) -> Result<Context, ContextError>
     ensures ok { IfOk result (λ c. IsContext text.now (pairs_of c)) }
     ensures err { IfErr result (Holds text.now) }
 {

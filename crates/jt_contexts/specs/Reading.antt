@@ -1,0 +1,31 @@
+-- What only private clauses cite: what tokens spell, read one after another.
+use Rattle.std.specs.Prelude.{◌≡◌, ℕ, List, length, map, Option, Some, String}
+use Rattle.std.specs.declared.alloc.Global.{Global}
+use Rattle.json.specs.Token.{Token}
+use Rattle.json.specs.Json.{value, items, members}
+use Rattle.serde_json.specs.Data.{Data, Items, Members, no_members}
+use Rattle.serde_json.specs.Read.{of_json, of_items, of_members, converted}
+use Rattle.jt_value.specs.Tree as tree
+use Rattle.jt_value.specs.Tree.{Tree}
+use Rattle.jt_value.specs.Pairs.{pairs}
+use Rattle.jt_value.specs.View.{view, items_view}
+use Rattle.jt_value.specs.declared.value.Value.{Value}
+use Rattle.jt_contexts.specs.Json.{value_of, items_of, pairs_in}
+
+-- the tokens begin with JSON, nested no deeper than the number, that stands for the value, and end with the others
+pub record Spells (depth : ℕ) (ts : List Token) (t : Tree) (rest : List Token) : Type 0 where
+  pub spelt : Data
+  pub read : converted of_json (value depth ts) ≡ Some (spelt, rest)
+  pub is : value_of spelt ≡ Some t
+
+-- with items of an array, up to its end
+pub record SpellsItems (depth : ℕ) (ts : List Token) (vs : List Value) (rest : List Token) : Type 0 where
+  pub spelt : Items
+  pub read : converted of_items (items (value depth) (length ts) ts) ≡ Some (spelt, rest)
+  pub is : items_of spelt ≡ Some (items_view vs)
+
+-- with members of an object, up to its end
+pub record SpellsMembers (depth : ℕ) (ts : List Token) (es : List (String Global × Value)) (rest : List Token) : Type 0 where
+  pub spelt : Members
+  pub read : converted (λ ms. of_members ms no_members) (members (value depth) (length ts) ts) ≡ Some (spelt, rest)
+  pub is : pairs_in spelt ≡ Some (pairs es)
