@@ -134,7 +134,8 @@ fn read_items(alloc: Global, reader: &mut Reader<'_>, depth: usize) -> Result<Ve
     Ok(found)
 }
 
-/// The members up to the end of an object, in the order of their keys. Of a key that stands twice the last value counts.
+/// The members up to the end of an object, in the order of their keys. Of a key that stands twice
+/// the last value counts.
 #[cycle(read)]
 #[inline(never)]
 fn read_members(

@@ -19,9 +19,10 @@ loop-key-preserved c =
     let left = c.next.new.self in
     let all : c.args.found.entries ≡ done ++ m ∷ left = c.loop-key.invariant.0 ∙ ap (λ es. done ++ es) c.in-Some.ensures.steps in
     let ordered = subst (λ es. IsStrictlySortedBy string_cmp (keys_of es)) all c.into_iter-key-iterator.ensures.into_iter_gives.5 in
-    let new = unless_failed c.insert.result _ c.if-is_err.ensures.value c.insert.ensures.entries in
-    (all ∙ sym (append_assoc done (m ∷ []) left),
-      ap pairs new ∙ put-insert_entry c.in-Some.key c.in-Some.value c.loop-key.entries.entries ∙ ap (λ (ps : Pairs). put (string_bytes c.in-Some.key) (view c.in-Some.value) ps) c.loop-key.invariant.1 ∙ put_last done m left ordered)
+    let new = unless_failed c.insert.result _ c.if-is_err.ensures.value c.insert.ensures.entries in (
+      all ∙ sym (append_assoc done (m ∷ []) left),
+      ap pairs new ∙ put-insert_entry c.in-Some.key c.in-Some.value c.loop-key.entries.entries ∙ ap (λ (ps : Pairs). put (string_bytes c.in-Some.key) (view c.in-Some.value) ps) c.loop-key.invariant.1 ∙ put_last done m left ordered,
+    )
 
 pub returns : goal.returns
 returns c =

@@ -1,0 +1,33 @@
+#!/usr/bin/env python3
+"""Writes the contexts of the four workloads into a folder: bench/speed/make_contexts.py FOLDER. The same seed makes the same files."""
+import json, pathlib, random, sys
+
+WORDS = "alpha beta gamma delta <eps> zeta & eta 'theta' iota \"kappa\" lambda mu".split()
+
+
+def contexts():
+    """The contexts by the workloads' names: 2,000 rows, 300 of them as a page's items, 200 as a letter's orders, and 300 hosts."""
+    drawn = random.Random(7)
+    rows = [
+        {"name": " ".join(drawn.choices(WORDS, k=3)), "mail": f"user{i}@example.org", "n": drawn.randrange(1000), "tags": drawn.choices(WORDS, k=4), "on": drawn.random() < .7}
+        for i in range(2000)
+    ]
+    hosts = [{"name": f"web{i}", "port": 8000 + i, "up": [f"10.0.{i % 250}.{j}" for j in range(8)], "tls": i % 2 == 0} for i in range(300)]
+    return {
+        "table": {"rows": rows},
+        "page": {"title": "A <title>", "user": {"name": "Ann & Bob", "admin": True}, "items": rows[:300]},
+        "mail": {"who": "Ann", "orders": rows[:200], "sender": "Shop"},
+        "config": {"hosts": hosts},
+    }
+
+
+def write(folder):
+    """Writes each context to NAME.json in a folder."""
+    for name, context in contexts().items():
+        (pathlib.Path(folder) / f"{name}.json").write_text(json.dumps(context))
+
+
+if __name__ == "__main__":
+    if len(sys.argv) != 2:
+        sys.exit("usage: bench/speed/make_contexts.py FOLDER")
+    write(sys.argv[1])
