@@ -5,19 +5,19 @@ use Rattle.std.proofs.lemmas.List.{drop_more}
 use denote.Ref.{Bor}
 use Rattle.jt_value.specs.Tree as tree
 use Rattle.jt_ids.specs.declared.op_id.OpId.TheVariants as op
-use Rattle.jt_slots.specs.Loops.{index0}
+use Rattle.jt_evaluation.specs.Loops.{index0}
 use Rattle.jt_trees.specs.ExpressionView.{exprs_view}
 use Rattle.jt_trees.specs.declared.expression.Expr.{Expr}
 use Rattle.jt_trees.specs.StatementView.{parameters_view}
 use Rattle.jt_trees.specs.Expressions.{Text}
-use Rattle.jt_uses.specs.Names.{texts}
+use Rattle.jt_names.specs.Names.{texts}
 use Rattle.jt_chains.specs.Uses.{count}
 use Rattle.jt_chains.specs.Chain.{Home, MacroBody}
 use Rattle.jt_rules.specs.World.{World}
-use Rattle.jt_slots.specs.Pool.{Constant, own}
-use Rattle.jt_slots.specs.Slots.{SExpr, absent, invoke, SRow, item, variable, local, made, a_list, field, pooled}
-use Rattle.jt_slots.specs.View.{slot_view}
-use Rattle.jt_slots.specs.declared.program.Slot.{Slot}
+use Rattle.jt_resolved.specs.Pool.{Constant, own}
+use Rattle.jt_resolved.specs.Slots.{SExpr, absent, invoke, SRow, item, variable, local, made, a_list, field, pooled}
+use Rattle.jt_resolved.specs.View.{slot_view}
+use Rattle.jt_resolved.specs.declared.program.Slot.{Slot}
 use Rattle.jt_meaning.specs.Layout.{Table, slot_in, of_macro, of_body, unit, default_place}
 use Rattle.jt_meaning.specs.Resolve.{operation_of, read_from, filled, invoked_body, reads, first_locals}
 use Rattle.jt_bind.specs.Callees.{IsSignature, unit_of}

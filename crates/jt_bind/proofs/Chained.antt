@@ -7,9 +7,9 @@ use Rattle.std.proofs.lemmas.List.{drop_more}
 use Rattle.jt_chains.specs.Chain.{Template}
 use Rattle.jt_chains.specs.Layers.{layer_view}
 use Rattle.jt_chains.specs.declared.layers.Layer.{Layer}
-use Rattle.jt_slots.specs.Pool.{Constant}
-use Rattle.jt_slots.specs.Slots as slots
-use Rattle.jt_slots.specs.Slots.{SBody}
+use Rattle.jt_resolved.specs.Pool.{Constant}
+use Rattle.jt_resolved.specs.Slots as slots
+use Rattle.jt_resolved.specs.Slots.{SBody}
 use Rattle.jt_meaning.specs.Resolve.{followed, resolved_chain}
 use Rattle.jt_layout.specs.declared.scope.Scope.{Scope}
 use Rattle.jt_bind.specs.Scoped.{world_in, order_in, home_in}

@@ -3,21 +3,21 @@ use Rattle.std.proofs.Common.{◌≡◌, ℕ, ◌+◌, ◌<◌, List, [], ◌∷
 use Rattle.std.specs.Prelude.{option_map}
 use Rattle.std.proofs.lemmas.List.{drop_more}
 use Rattle.jt_trees.specs.Expressions.{Text}
-use Rattle.jt_slots.specs.Locals.{slot_locals, slots_locals, targets_locals, expr_locals, row_locals, condition_locals, stmt_locals, body_locals}
-use Rattle.jt_slots.specs.Pool.{Constant, placed_expr, placed_row, placed_condition, placed_stmt, placed_body}
-use Rattle.jt_slots.specs.Slots as slots
-use Rattle.jt_slots.specs.Slots.{SExpr, SRow, SStmt, SBody}
-use Rattle.jt_slots.specs.View.{Front, slot_view, targets_view, entry_front, expr_view, row_view, stmt_view, body_view, choice_view}
-use Rattle.jt_slots.specs.declared.program.Slot as code_slot
-use Rattle.jt_slots.specs.declared.program.Place.{Place}
-use Rattle.jt_slots.specs.declared.program.Targets.{Targets}
-use Rattle.jt_slots.specs.declared.program.SExpr as code
-use Rattle.jt_slots.specs.declared.program.SStmt as code_stmt
-use Rattle.jt_slots.specs.declared.program.SStmt.TheVariants as s
+use Rattle.jt_resolved.specs.Locals.{slot_locals, slots_locals, targets_locals, expr_locals, row_locals, condition_locals, stmt_locals, body_locals}
+use Rattle.jt_resolved.specs.Pool.{Constant, placed_expr, placed_row, placed_condition, placed_stmt, placed_body}
+use Rattle.jt_resolved.specs.Slots as slots
+use Rattle.jt_resolved.specs.Slots.{SExpr, SRow, SStmt, SBody}
+use Rattle.jt_resolved.specs.View.{Front, slot_view, targets_view, entry_front, expr_view, row_view, stmt_view, body_view, choice_view}
+use Rattle.jt_resolved.specs.declared.program.Slot as code_slot
+use Rattle.jt_resolved.specs.declared.program.Place.{Place}
+use Rattle.jt_resolved.specs.declared.program.Targets.{Targets}
+use Rattle.jt_resolved.specs.declared.program.SExpr as code
+use Rattle.jt_resolved.specs.declared.program.SStmt as code_stmt
+use Rattle.jt_resolved.specs.declared.program.SStmt.TheVariants as s
 use Rattle.jt_bind.specs.Counts.{aside_locals, target_locals}
 use Rattle.jt_bind.specs.Stated.{Branch}
-use Rattle.jt_slots.proofs.ExpressionViews.{Entry}
-use Rattle.jt_slots.proofs.StatementViews.{view_PutPooled, view_Print, view_Assign, view_If, view_For, view_Capture, view_Run}
+use Rattle.jt_resolved.proofs.ExpressionViews.{Entry}
+use Rattle.jt_resolved.proofs.StatementViews.{view_PutPooled, view_Print, view_Assign, view_If, view_For, view_Capture, view_Run}
 
 -- ---- places of the pool make no difference
 

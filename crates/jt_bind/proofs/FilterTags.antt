@@ -4,8 +4,8 @@ use Rattle.std.proofs.lemmas.List.{take_more, map-append}
 use Rattle.jt_trees.specs.Statements as trees
 use Rattle.jt_trees.specs.StatementView.{filtering_view, filterings_view}
 use Rattle.jt_trees.specs.declared.statement.Filtering.{Filtering}
-use Rattle.jt_slots.specs.Pool.{Constant}
-use Rattle.jt_slots.specs.Slots.{SExpr}
+use Rattle.jt_resolved.specs.Pool.{Constant}
+use Rattle.jt_resolved.specs.Slots.{SExpr}
 use Rattle.jt_meaning.specs.Resolve.{resolved_filters}
 use Rattle.jt_layout.specs.declared.scope.Scope.{Scope}
 use Rattle.jt_bind.specs.declared.spot.Spot.{Spot}

@@ -2,12 +2,12 @@
 use Rattle.std.proofs.Common.{◌≡◌, refl, ap, Some}
 use Rattle.std.specs.Prelude.{option_map}
 use Rattle.jt_ids.specs.FilterTable.{filter_id}
-use Rattle.jt_filtering.specs.FilterIds.{filter_of}
+use Rattle.jt_filter_meaning.specs.FilterIds.{filter_of}
 use Rattle.jt_ids.specs.declared.filter_id.FilterId.{FilterId}
 use Rattle.jt_ids.specs.declared.filter_id.FilterId.TheVariants as filter
 use Rattle.jt_trees.specs.Expressions.{Exprs, Pairs, Text}
 use Rattle.jt_meaning.specs.Expressions as meant
-use Rattle.jt_slots.specs.TheFilters.{the_filters, filter_written, filter_parameters, parameters_of}
+use Rattle.jt_evaluation.specs.TheFilters.{the_filters, filter_written, filter_parameters, parameters_of}
 
 has_filter : (x : FilterId) → filter_of (filter_id x) ≡ Some x
 unfolding filter_of

@@ -5,7 +5,7 @@ use Rattle.std.proofs.lemmas.Slice.Eq.{bytes_eq-Decides}
 use Rattle.std.specs.Str.{bytes_eq}
 use Rattle.jt_trees.specs.Texts.{among}
 use Rattle.jt_trees.specs.Expressions.{Text}
-use Rattle.jt_slots.specs.Slots.{Slot}
+use Rattle.jt_resolved.specs.Slots.{Slot}
 use Rattle.jt_bind.specs.Names.{last_among}
 use Rattle.jt_bind.specs.Stated.{slot_if}
 

@@ -7,22 +7,22 @@ use Rattle.jt_value.specs.View.{view}
 use Rattle.jt_value.specs.declared.value.Value.{Value}
 use Rattle.jt_trees.specs.Expressions.{Text}
 use Rattle.jt_value.specs.Place.{Place}
-use Rattle.jt_slots.specs.Pool.{Constant, own, expr_values, condition_values, stmt_values, body_values, placed_expr, placed_condition, placed_stmt, placed_body}
-use Rattle.jt_slots.specs.Slots as slots
-use Rattle.jt_slots.specs.Slots.{SExpr, SRow, SBody}
-use Rattle.jt_slots.specs.View.{Front, slot_view, targets_view, place_view, expr_view, stmt_view, body_view, choice_view}
-use Rattle.jt_slots.specs.declared.program.Place as code_place
-use Rattle.jt_slots.specs.declared.program.Slot as code_slot
-use Rattle.jt_slots.specs.declared.program.Targets as code_targets
-use Rattle.jt_slots.specs.declared.program.SExpr as code
-use Rattle.jt_slots.specs.declared.program.SStmt as code_stmt
-use Rattle.jt_slots.specs.declared.program.SStmt.TheVariants as s
+use Rattle.jt_resolved.specs.Pool.{Constant, own, expr_values, condition_values, stmt_values, body_values, placed_expr, placed_condition, placed_stmt, placed_body}
+use Rattle.jt_resolved.specs.Slots as slots
+use Rattle.jt_resolved.specs.Slots.{SExpr, SRow, SBody}
+use Rattle.jt_resolved.specs.View.{Front, slot_view, targets_view, place_view, expr_view, stmt_view, body_view, choice_view}
+use Rattle.jt_resolved.specs.declared.program.Place as code_place
+use Rattle.jt_resolved.specs.declared.program.Slot as code_slot
+use Rattle.jt_resolved.specs.declared.program.Targets as code_targets
+use Rattle.jt_resolved.specs.declared.program.SExpr as code
+use Rattle.jt_resolved.specs.declared.program.SStmt as code_stmt
+use Rattle.jt_resolved.specs.declared.program.SStmt.TheVariants as s
 use Rattle.jt_meaning.specs.Resolve.{followed, alone}
 use Rattle.jt_bind.specs.Scoped.{IsPlaced, RowLeads, BodyLeads}
 use Rattle.jt_bind.specs.Stated.{Branch, Led, IsBody, IsAsked, IsBranch, StandsFor, ChoiceLeads}
 use Rattle.jt_bind.proofs.LeadingRows.{grown_by}
-use Rattle.jt_slots.proofs.ExpressionViews.{Entry}
-use Rattle.jt_slots.proofs.StatementViews.{view_PutPooled, view_Print, view_Assign, view_If, view_For, view_Capture, view_Run, body_push, joined, choice_push}
+use Rattle.jt_resolved.proofs.ExpressionViews.{Entry}
+use Rattle.jt_resolved.proofs.StatementViews.{view_PutPooled, view_Print, view_Assign, view_If, view_For, view_Capture, view_Run, body_push, joined, choice_push}
 
 -- ---- bodies
 

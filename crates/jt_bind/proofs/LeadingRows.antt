@@ -2,15 +2,15 @@
 use Rattle.std.proofs.Common.{◌≡◌, ℕ, ◌+◌, List, [], ◌∷◌, ◌++◌, length, refl, sym, ap, ◌∙◌, subst, Bool, Some, None, append_assoc, append-nil, length-append}
 use Rattle.jt_value.specs.Tree.{Tree}
 use Rattle.jt_trees.specs.Expressions as trees
-use Rattle.jt_slots.specs.Pool.{Constant, own, known, expr_values, row_values, placed_expr, placed_row}
-use Rattle.jt_slots.specs.Slots as slots
-use Rattle.jt_slots.specs.Slots.{SExpr, SRow, Maker}
-use Rattle.jt_slots.specs.View.{expr_view, row_view}
-use Rattle.jt_slots.specs.declared.program.SExpr as code
+use Rattle.jt_resolved.specs.Pool.{Constant, own, known, expr_values, row_values, placed_expr, placed_row}
+use Rattle.jt_resolved.specs.Slots as slots
+use Rattle.jt_resolved.specs.Slots.{SExpr, SRow, Maker}
+use Rattle.jt_resolved.specs.View.{expr_view, row_view}
+use Rattle.jt_resolved.specs.declared.program.SExpr as code
 use Rattle.jt_bind.specs.Scoped.{IsPlaced, RowLeads, expr_in}
 use Rattle.jt_layout.specs.declared.scope.Scope.{Scope}
 use Rattle.jt_bind.specs.declared.spot.Spot.{Spot}
-use Rattle.jt_slots.proofs.ExpressionViews.{Entry, row_push}
+use Rattle.jt_resolved.proofs.ExpressionViews.{Entry, row_push}
 
 -- ---- expressions
 

@@ -6,10 +6,10 @@ use Rattle.jt_chains.specs.Chain.{Home}
 use Rattle.jt_rules.specs.World.{World}
 use Rattle.jt_meaning.specs.Layout as layout
 use Rattle.jt_meaning.specs.Programs as programs
-use Rattle.jt_slots.specs.Pool.{routines_values, placed_routines}
-use Rattle.jt_slots.specs.Slots as slots
-use Rattle.jt_slots.specs.View.{program_of, routine_view, templates_of}
-use Rattle.jt_slots.specs.declared.program.Program.{Program}
+use Rattle.jt_resolved.specs.Pool.{routines_values, placed_routines}
+use Rattle.jt_resolved.specs.Slots as slots
+use Rattle.jt_resolved.specs.View.{program_of, routine_view, templates_of}
+use Rattle.jt_resolved.specs.declared.program.Program.{Program}
 use Rattle.jt_bind.specs.Scoped.{values}
 use Rattle.jt_bind.specs.Routines.{AreRoutines}
 

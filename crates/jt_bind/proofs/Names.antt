@@ -5,11 +5,11 @@ use Rattle.std.proofs.lemmas.Slice.Eq.{bytes_eq-Decides}
 use Rattle.std.specs.Str.{bytes_eq}
 use denote.Ref.{Bor}
 use Rattle.jt_trees.specs.Expressions.{Text}
-use Rattle.jt_slots.specs.Loops.{Field, field_among}
-use Rattle.jt_slots.specs.Slots.{Slot, local}
+use Rattle.jt_evaluation.specs.Loops.{Field, field_among}
+use Rattle.jt_resolved.specs.Slots.{Slot, local}
 use Rattle.jt_meaning.specs.Layout.{Table, slot_in}
 use Rattle.jt_meaning.specs.Resolve.{bound_table}
-use Rattle.jt_uses.specs.Names.{texts}
+use Rattle.jt_names.specs.Names.{texts}
 use Rattle.jt_bind.specs.Names.{last_among}
 
 -- the local that was found, else another slot

@@ -9,7 +9,7 @@ use Rattle.jt_chains.specs.Parts.{block_view, macro_view, name_at}
 use Rattle.jt_chains.specs.View.{chain_view}
 use Rattle.jt_chains.specs.declared.parts.Block.{Block}
 use Rattle.jt_chains.specs.declared.parts.Macro.{Macro}
-use Rattle.jt_slots.specs.declared.program.Routine.{Routine}
+use Rattle.jt_resolved.specs.declared.program.Routine.{Routine}
 use Rattle.jt_chains.specs.Chain.{Template}
 use Rattle.jt_meaning.specs.Layout.{counted_from, numbered_bodies, block_parameters}
 use Rattle.jt_meaning.specs.Programs.{body_routines}

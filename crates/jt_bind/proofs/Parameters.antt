@@ -5,9 +5,9 @@ use Rattle.jt_trees.specs.Expressions.{Text}
 use Rattle.jt_trees.specs.StatementView.{parameter_view, parameters_view}
 use Rattle.jt_trees.specs.declared.statement.Parameter.{Parameter}
 use Rattle.jt_trees.specs.Statements as trees
-use Rattle.jt_slots.specs.Filters.{some_given, default_value}
-use Rattle.jt_slots.specs.Pool.{own}
-use Rattle.jt_slots.specs.Slots as slots
+use Rattle.jt_evaluation.specs.Filters.{some_given, default_value}
+use Rattle.jt_resolved.specs.Pool.{own}
+use Rattle.jt_resolved.specs.Slots as slots
 use Rattle.jt_meaning.specs.Layout.{Table, slot_in}
 use Rattle.jt_meaning.specs.Resolve.{value_or, filled, filled_some}
 

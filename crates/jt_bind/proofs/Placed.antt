@@ -9,13 +9,13 @@ use Rattle.jt_trees.specs.Expressions.{Text}
 use Rattle.jt_chains.specs.Chain.{Template}
 use Rattle.jt_chains.specs.Parts.{name_at}
 use Rattle.jt_value.specs.Place as place
-use Rattle.jt_slots.specs.Slots.{Slot, local}
-use Rattle.jt_slots.specs.View.{place_view, slot_view}
-use Rattle.jt_slots.specs.declared.program.Slot as code_slot
-use Rattle.jt_slots.specs.declared.program.Slot.TheVariants as s
+use Rattle.jt_resolved.specs.Slots.{Slot, local}
+use Rattle.jt_resolved.specs.View.{place_view, slot_view}
+use Rattle.jt_resolved.specs.declared.program.Slot as code_slot
+use Rattle.jt_resolved.specs.declared.program.Slot.TheVariants as s
 use Rattle.jt_meaning.specs.Layout.{Table, slot_in}
 use Rattle.jt_meaning.specs.Resolve.{Spot, slot_of, bound_table, bound_all}
-use Rattle.jt_uses.specs.Names.{texts}
+use Rattle.jt_names.specs.Names.{texts}
 use Rattle.jt_bind.specs.Scoped.{framed}
 use Rattle.jt_bind.specs.declared.frame.Frame.{Frame}
 

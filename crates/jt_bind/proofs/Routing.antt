@@ -8,13 +8,13 @@ use Rattle.jt_chains.specs.Chain.{Home, a_chain, a_library}
 use Rattle.jt_rules.specs.World.{World}
 use Rattle.jt_meaning.specs.Programs.{entry_routines}
 use Rattle.jt_meaning.specs.Resolve.{Spot, resolved_routine, chain_routine}
-use Rattle.jt_slots.specs.Locals.{body_locals}
-use Rattle.jt_slots.specs.Pool.{Constant, body_values, routines_values, placed_body, placed_routine, placed_routines}
-use Rattle.jt_slots.specs.Slots as slots
-use Rattle.jt_slots.specs.Slots.{SBody}
-use Rattle.jt_slots.specs.View.{body_view, routine_view}
-use Rattle.jt_slots.specs.declared.program.SStmt.{SStmt}
-use Rattle.jt_slots.specs.declared.program.Routine.{Routine}
+use Rattle.jt_resolved.specs.Locals.{body_locals}
+use Rattle.jt_resolved.specs.Pool.{Constant, body_values, routines_values, placed_body, placed_routine, placed_routines}
+use Rattle.jt_resolved.specs.Slots as slots
+use Rattle.jt_resolved.specs.Slots.{SBody}
+use Rattle.jt_resolved.specs.View.{body_view, routine_view}
+use Rattle.jt_resolved.specs.declared.program.SStmt.{SStmt}
+use Rattle.jt_resolved.specs.declared.program.Routine.{Routine}
 use Rattle.jt_layout.specs.Laid.{is_library}
 use Rattle.jt_bind.specs.Routines.{IsRoutine, AreRoutines, RoutinesLead, AllLed}
 use Rattle.jt_bind.specs.Stated.{IsBody}

@@ -5,7 +5,7 @@ use Rattle.jt_trees.specs.StatementView.{parameter_view}
 use Rattle.jt_chains.specs.Chain.{Template}
 use Rattle.jt_chains.specs.Parts.{macro_view}
 use Rattle.jt_chains.specs.declared.parts.Macro.{Macro}
-use Rattle.jt_slots.specs.Filters.{default_value}
+use Rattle.jt_evaluation.specs.Filters.{default_value}
 use Rattle.jt_meaning.specs.Layout.{defaults_of}
 
 map_both : {A B C : Type 0} (f : B → C) (g : A → B) (xs : List A) → map (λ x. f (g x)) xs ≡ map f (map g xs)

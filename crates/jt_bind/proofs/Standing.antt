@@ -11,14 +11,14 @@ use Rattle.jt_trees.specs.Statements as trees
 use Rattle.jt_trees.specs.Expressions.{Text}
 use Rattle.jt_chains.specs.Chain.{Home, a_chain, a_library, same_home, listed, macros, BlockBody, MacroBody}
 use Rattle.jt_rules.specs.World.{World}
-use Rattle.jt_slots.specs.Slots as slots
+use Rattle.jt_resolved.specs.Slots as slots
 use Rattle.jt_meaning.specs.Layout.{Key, of_chain, of_macro, of_body, same_key, place_of, in_globals, entry_keys, chain_keys, numbered_bodies, names, names_in, first_slot, unit, block_parameters, Table}
 use Rattle.jt_meaning.specs.Resolve.{Spot, place, left_out, followed, alone, handed_on, reads, placed_body}
 use Rattle.jt_layout.specs.declared.scope.Scope.{Scope}
 use Rattle.jt_bind.specs.Scoped.{RowLeads, world_in, order_in, spot_in}
 use Rattle.jt_bind.specs.declared.spot.Spot as code_spot
 use Rattle.jt_bind.specs.Stated.{line_in, stmt_in}
-use Rattle.jt_slots.proofs.ExpressionViews.{Entry}
+use Rattle.jt_resolved.proofs.ExpressionViews.{Entry}
 
 pub no_row : (es : List Entry) → es ≡ [] → (p : List Tree) → RowLeads slots.none slots.none [] es p p
 no_row es e p = let P : List Entry → Type 0 = λ l. RowLeads slots.none slots.none [] l p p in subst P (sym e) (record { shown = refl; pooled = refl })

@@ -17,16 +17,16 @@ use Rattle.jt_trees.specs.StatementView.{names_view, stmt_view, body_view, branc
 use Rattle.jt_trees.specs.declared.statement.Stmt.{Stmt}
 use Rattle.jt_trees.specs.declared.statement.Stmt.TheVariants as v
 use Rattle.jt_value.specs.Place.{Place}
-use Rattle.jt_slots.specs.Pool.{Constant}
-use Rattle.jt_slots.specs.Slots as slots
-use Rattle.jt_slots.specs.Slots.{Slot, SExpr, SBody, local, global, one, Targets}
-use Rattle.jt_slots.specs.View.{slot_view}
-use Rattle.jt_slots.specs.declared.program.SExpr as code
-use Rattle.jt_slots.specs.declared.program.Slot as code_slot
-use Rattle.jt_slots.specs.declared.program.SStmt.{SStmt}
+use Rattle.jt_resolved.specs.Pool.{Constant}
+use Rattle.jt_resolved.specs.Slots as slots
+use Rattle.jt_resolved.specs.Slots.{Slot, SExpr, SBody, local, global, one, Targets}
+use Rattle.jt_resolved.specs.View.{slot_view}
+use Rattle.jt_resolved.specs.declared.program.SExpr as code
+use Rattle.jt_resolved.specs.declared.program.Slot as code_slot
+use Rattle.jt_resolved.specs.declared.program.SStmt.{SStmt}
 use Rattle.jt_meaning.specs.Layout.{Table, slot_in}
 use Rattle.jt_meaning.specs.Resolve.{Spot, read_from, followed, alone, copied, handed_on, resolved, resolved_values, resolved_body, resolved_condition, resolved_filters, grown, kept_slots, fresh_targets, bound_all, place}
-use Rattle.jt_uses.specs.Names.{texts}
+use Rattle.jt_names.specs.Names.{texts}
 use Rattle.jt_layout.specs.declared.scope.Scope.{Scope}
 use Rattle.jt_bind.specs.Names.{last_among}
 use Rattle.jt_bind.specs.declared.frame.Frame.{Frame}

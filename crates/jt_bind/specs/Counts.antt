@@ -1,7 +1,7 @@
 -- What only private clauses cite: how many locals the parts of rows and of targets use.
 use Rattle.std.specs.Prelude.{ℕ, suc, Option, Some, None}
-use Rattle.jt_slots.specs.Locals.{slot_locals}
-use Rattle.jt_slots.specs.Slots.{Slot}
+use Rattle.jt_resolved.specs.Locals.{slot_locals}
+use Rattle.jt_resolved.specs.Slots.{Slot}
 
 -- what is kept aside in a local
 abbrev pub aside_locals : Option ℕ → ℕ

@@ -2,10 +2,10 @@
 use Rattle.std.specs.Prelude.{◌≡◌, List, ◌++◌, length, map}
 use Rattle.jt_value.specs.Tree.{Tree}
 use Rattle.jt_trees.specs.Expressions.{Text}
-use Rattle.jt_slots.specs.Pool.{Constant, body_values, routines_values, placed_routine, placed_routines}
-use Rattle.jt_slots.specs.Slots as slots
-use Rattle.jt_slots.specs.View.{routine_view}
-use Rattle.jt_slots.specs.declared.program.Routine.{Routine}
+use Rattle.jt_resolved.specs.Pool.{Constant, body_values, routines_values, placed_routine, placed_routines}
+use Rattle.jt_resolved.specs.Slots as slots
+use Rattle.jt_resolved.specs.View.{routine_view}
+use Rattle.jt_resolved.specs.declared.program.Routine.{Routine}
 
 -- a routine, and the values that it put at the end of a pool
 pub record IsRoutine (templates : List Text) (c : slots.Routine Constant) (r : Routine) (old new : List Tree) : Type 0 where

@@ -14,18 +14,18 @@ use Rattle.jt_chains.specs.Uses.{count, keywords}
 use Rattle.jt_chains.specs.Places.{home_at}
 use Rattle.jt_chains.specs.View.{chain_view}
 use Rattle.jt_rules.specs.World.{World, world_of}
-use Rattle.jt_slots.specs.Pool.{Constant, expr_values, row_values, body_values, placed_expr, placed_row, placed_body}
+use Rattle.jt_resolved.specs.Pool.{Constant, expr_values, row_values, body_values, placed_expr, placed_row, placed_body}
 use Rattle.jt_trees.specs.Expressions as trees
-use Rattle.jt_slots.specs.Slots as slots
-use Rattle.jt_slots.specs.Slots.{SRow, SBody}
-use Rattle.jt_slots.specs.View.{row_view, body_view}
-use Rattle.jt_slots.specs.declared.program.SExpr.{SExpr}
-use Rattle.jt_slots.specs.declared.program.SStmt.{SStmt}
+use Rattle.jt_resolved.specs.Slots as slots
+use Rattle.jt_resolved.specs.Slots.{SRow, SBody}
+use Rattle.jt_resolved.specs.View.{row_view, body_view}
+use Rattle.jt_resolved.specs.declared.program.SExpr.{SExpr}
+use Rattle.jt_resolved.specs.declared.program.SStmt.{SStmt}
 use Rattle.jt_meaning.specs.Layout.{Table, globals, numbered_bodies}
 use Rattle.jt_meaning.specs.Resolve as resolve
 use Rattle.jt_meaning.specs.Resolve.{Part, bound_table, filled_some, locals_from}
 use Rattle.jt_meaning.specs.Expressions.{filter_parameters}
-use Rattle.jt_uses.specs.Names.{texts}
+use Rattle.jt_names.specs.Names.{texts}
 use Rattle.jt_bind.specs.declared.frame.Frame.{Frame}
 use Rattle.jt_bind.specs.declared.spot.Spot.{Spot}
 use Rattle.jt_layout.specs.declared.scope.Scope.{Scope}

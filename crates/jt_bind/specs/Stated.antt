@@ -9,13 +9,13 @@ use Rattle.jt_trees.specs.Expressions as expressions
 use Rattle.jt_chains.specs.Chain.{Template}
 use Rattle.jt_chains.specs.Uses.{set_in}
 use Rattle.jt_value.specs.Place as place
-use Rattle.jt_slots.specs.Pool.{Constant, condition_values, body_values, placed_condition, placed_body}
-use Rattle.jt_slots.specs.Slots as slots
-use Rattle.jt_slots.specs.Slots.{SBody}
-use Rattle.jt_slots.specs.View.{Front, place_view, expr_view, choice_view}
-use Rattle.jt_slots.specs.declared.program.Place.{Place}
-use Rattle.jt_slots.specs.declared.program.SExpr.{SExpr}
-use Rattle.jt_slots.specs.declared.program.SStmt.{SStmt}
+use Rattle.jt_resolved.specs.Pool.{Constant, condition_values, body_values, placed_condition, placed_body}
+use Rattle.jt_resolved.specs.Slots as slots
+use Rattle.jt_resolved.specs.Slots.{SBody}
+use Rattle.jt_resolved.specs.View.{Front, place_view, expr_view, choice_view}
+use Rattle.jt_resolved.specs.declared.program.Place.{Place}
+use Rattle.jt_resolved.specs.declared.program.SExpr.{SExpr}
+use Rattle.jt_resolved.specs.declared.program.SStmt.{SStmt}
 use Rattle.jt_meaning.specs.Resolve as resolve
 use Rattle.jt_meaning.specs.Resolve.{followed}
 use Rattle.jt_layout.specs.declared.scope.Scope.{Scope}

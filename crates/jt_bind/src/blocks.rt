@@ -2,7 +2,7 @@
 
 ghost use Rattle.std.specs.Prelude.{◌≡◌, ℕ, List, [], IfOk, IfErr};
 ghost use Rattle.jt_value.specs.Tree.{Tree};
-ghost use Rattle.jt_uses.specs.Names.{texts};
+ghost use Rattle.jt_names.specs.Names.{texts};
 ghost use Rattle.jt_chains.specs.Chain as chain;
 ghost use Rattle.jt_layout.specs.Laid.{IsLaidOut};
 ghost use Rattle.jt_meaning.specs.Layout as layout;
@@ -10,16 +10,16 @@ ghost use Rattle.jt_meaning.specs.Resolve as resolve;
 ghost use Rattle.jt_bind.specs.Callees.{unit_of};
 ghost use Rattle.jt_bind.specs.Scoped.{IsPlaced, RowLeads, world_in, order_in, home_in, spot_in};
 ghost use Rattle.jt_rules.specs.declared.error.ScopeError.TheVariants as error;
-ghost use Rattle.jt_slots.specs.Pool.{Constant};
-ghost use Rattle.jt_slots.specs.Slots as slots;
-ghost use Rattle.jt_slots.specs.View.{expr_view};
+ghost use Rattle.jt_resolved.specs.Pool.{Constant};
+ghost use Rattle.jt_resolved.specs.Slots as slots;
+ghost use Rattle.jt_resolved.specs.View.{expr_view};
 
 use crate::lookup::{absent, more};
 use crate::rows::{first_locals, reads};
 use crate::spot::Spot;
 use jt_layout::Scope;
+use jt_resolved::SExpr;
 use jt_rules::ScopeError;
-use jt_slots::SExpr;
 use std::alloc::Global;
 
 /// The unit of the first body of a block, if it has one.

@@ -4,7 +4,7 @@ ghost use Rattle.std.specs.Prelude.{◌≡◌, IfOk, IfErr, None};
 ghost use Rattle.jt_trees.specs.Expressions.{Text};
 ghost use Rattle.jt_rules.specs.declared.error.ScopeError.TheVariants as error;
 ghost use Rattle.jt_layout.specs.Names.{place_in};
-ghost use Rattle.jt_uses.specs.Names.{texts};
+ghost use Rattle.jt_names.specs.Names.{texts};
 ghost use Rattle.jt_bind.specs.Names.{last_among};
 
 use crate::lookup::more;

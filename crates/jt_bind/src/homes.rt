@@ -9,8 +9,8 @@ ghost use Rattle.jt_bind.specs.Routines.{AreRoutines};
 
 use crate::routines::resolve_home;
 use jt_layout::Scope;
+use jt_resolved::Routine;
 use jt_rules::ScopeError;
-use jt_slots::Routine;
 use jt_value::Value;
 use std::alloc::Global;
 

@@ -4,14 +4,14 @@ ghost use Rattle.std.specs.Prelude.{◌≡◌, ℕ, List, max, option_map, map, 
 ghost use Rattle.jt_trees.specs.Expressions.{Text};
 ghost use Rattle.jt_rules.specs.declared.error.ScopeError.TheVariants as error;
 ghost use Rattle.jt_bind.specs.Counts as counts;
-ghost use Rattle.jt_slots.specs.Locals as locals;
-ghost use Rattle.jt_slots.specs.Slots as slots;
-ghost use Rattle.jt_slots.specs.Slots.{SBody};
-ghost use Rattle.jt_slots.specs.View.{slot_view, targets_view, expr_view, row_view, stmt_view, body_view};
+ghost use Rattle.jt_resolved.specs.Locals as locals;
+ghost use Rattle.jt_resolved.specs.Slots as slots;
+ghost use Rattle.jt_resolved.specs.Slots.{SBody};
+ghost use Rattle.jt_resolved.specs.View.{slot_view, targets_view, expr_view, row_view, stmt_view, body_view};
 
 use crate::lookup::more;
+use jt_resolved::{SExpr, SStmt, Slot, Targets};
 use jt_rules::ScopeError;
-use jt_slots::{SExpr, SStmt, Slot, Targets};
 
 /// The larger one of two numbers.
 pub(crate) fn larger(left: usize, right: usize) -> usize

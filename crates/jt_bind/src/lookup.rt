@@ -7,16 +7,16 @@ ghost use Rattle.jt_chains.specs.Uses.{keywords};
 ghost use Rattle.jt_meaning.specs.Layout.{slot_in};
 ghost use Rattle.jt_meaning.specs.Resolve as resolve;
 ghost use Rattle.jt_rules.specs.declared.error.ScopeError.TheVariants as error;
-ghost use Rattle.jt_slots.specs.Pool.{known};
-ghost use Rattle.jt_slots.specs.Slots as slots;
-ghost use Rattle.jt_slots.specs.View.{slot_view, expr_view};
+ghost use Rattle.jt_resolved.specs.Pool.{known};
+ghost use Rattle.jt_resolved.specs.Slots as slots;
+ghost use Rattle.jt_resolved.specs.View.{slot_view, expr_view};
 ghost use Rattle.jt_layout.specs.Laid.{IsLaidOut};
 ghost use Rattle.jt_bind.specs.Scoped.{IsPlaced, globals_in, spot_in};
 
 use crate::spot::Spot;
 use jt_layout::Scope;
+use jt_resolved::{SExpr, Slot};
 use jt_rules::ScopeError;
-use jt_slots::{SExpr, Slot};
 use jt_trees::Expr;
 
 /// One more, or so many more.

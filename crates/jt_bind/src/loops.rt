@@ -5,12 +5,12 @@ ghost use Rattle.jt_value.specs.Tree.{Tree};
 ghost use Rattle.jt_trees.specs.ExpressionView as written;
 ghost use Rattle.jt_chains.specs.Chain.{is_loop};
 ghost use Rattle.jt_meaning.specs.Resolve as resolve;
-ghost use Rattle.jt_slots.specs.Loops.{field_named};
-ghost use Rattle.jt_slots.specs.View.{field_view, expr_view};
+ghost use Rattle.jt_evaluation.specs.Loops.{field_named};
+ghost use Rattle.jt_resolved.specs.View.{field_view, expr_view};
 ghost use Rattle.jt_bind.specs.Scoped.{IsPlaced};
 
 use crate::lookup::absent;
-use jt_slots::{Field, SExpr};
+use jt_resolved::{Field, SExpr};
 use jt_trees::Expr;
 
 /// Whether an expression is the bare name `loop`.

@@ -8,8 +8,8 @@ ghost use Rattle.jt_meaning.specs.Layout.{slot_in};
 ghost use Rattle.jt_bind.specs.Scoped.{IsPlaced, globals_in, spot_in, templates_in};
 ghost use Rattle.jt_trees.specs.Statements as trees;
 ghost use Rattle.jt_rules.specs.declared.error.ScopeError.TheVariants as error;
-ghost use Rattle.jt_slots.specs.View.{expr_view};
-ghost use Rattle.jt_uses.specs.Names.{texts};
+ghost use Rattle.jt_resolved.specs.View.{expr_view};
+ghost use Rattle.jt_names.specs.Names.{texts};
 ghost use Rattle.jt_value.specs.Tree.{Tree};
 ghost use Rattle.jt_trees.specs.Statements.{Body};
 ghost use Rattle.jt_bind.specs.Stated.{Led, line_in, stmt_in};
@@ -19,8 +19,8 @@ use crate::lookup::{absent, more, no_value, reading, slot};
 use crate::putting::{put_assign, put_print, put_run};
 use crate::spot::Spot;
 use jt_layout::Scope;
+use jt_resolved::{SExpr, SStmt, Slot, Targets};
 use jt_rules::ScopeError;
-use jt_slots::{SExpr, SStmt, Slot, Targets};
 use std::alloc::Global;
 
 /// What an included chain is handed under a name: what the name reads, or nothing.

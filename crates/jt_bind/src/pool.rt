@@ -4,13 +4,13 @@ ghost use Rattle.std.specs.Prelude.{◌≡◌, IfOk, IfErr};
 ghost use Rattle.jt_value.specs.Tree as tree;
 ghost use Rattle.jt_value.specs.View.{view};
 ghost use Rattle.jt_rules.specs.declared.error.ScopeError.TheVariants as error;
-ghost use Rattle.jt_slots.specs.Pool.{own};
-ghost use Rattle.jt_slots.specs.Slots as slots;
-ghost use Rattle.jt_slots.specs.View.{expr_view};
+ghost use Rattle.jt_resolved.specs.Pool.{own};
+ghost use Rattle.jt_resolved.specs.Slots as slots;
+ghost use Rattle.jt_resolved.specs.View.{expr_view};
 ghost use Rattle.jt_bind.specs.Scoped.{values, IsPlaced};
 
+use jt_resolved::SExpr;
 use jt_rules::ScopeError;
-use jt_slots::SExpr;
 use jt_value::Value;
 use std::alloc::Global;
 

@@ -8,7 +8,7 @@ ghost use Rattle.jt_meaning.specs.Layout as layout;
 ghost use Rattle.jt_meaning.specs.Programs as programs;
 ghost use Rattle.jt_bind.specs.Scoped.{world_in, order_in};
 ghost use Rattle.jt_rules.specs.declared.error.ScopeError.TheVariants as error;
-ghost use Rattle.jt_uses.specs.Names.{texts};
+ghost use Rattle.jt_names.specs.Names.{texts};
 
 use crate::lookup::more;
 use jt_chains::Page;

@@ -8,15 +8,15 @@ ghost use Rattle.jt_meaning.specs.Resolve.{alone};
 ghost use Rattle.jt_bind.specs.Scoped.{values, IsPlaced, RowLeads, templates_in};
 ghost use Rattle.jt_trees.specs.Expressions.{Text};
 ghost use Rattle.jt_rules.specs.declared.error.ScopeError.TheVariants as error;
-ghost use Rattle.jt_slots.specs.Pool.{Constant, own};
-ghost use Rattle.jt_slots.specs.Slots as slots;
-ghost use Rattle.jt_slots.specs.Slots.{SBody, SRow};
-ghost use Rattle.jt_slots.specs.View.{expr_view, slot_view, targets_view};
+ghost use Rattle.jt_resolved.specs.Pool.{Constant, own};
+ghost use Rattle.jt_resolved.specs.Slots as slots;
+ghost use Rattle.jt_resolved.specs.Slots.{SBody, SRow};
+ghost use Rattle.jt_resolved.specs.View.{expr_view, slot_view, targets_view};
 ghost use Rattle.jt_bind.specs.Stated.{Led, IsBody, IsAsked, ChoiceLeads, line_in};
 
 use crate::spot::Spot;
+use jt_resolved::{Place, SExpr, SStmt, Slot, Targets};
 use jt_rules::ScopeError;
-use jt_slots::{Place, SExpr, SStmt, Slot, Targets};
 use jt_value::Value;
 use std::alloc::Global;
 

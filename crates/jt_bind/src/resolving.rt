@@ -5,7 +5,7 @@ ghost use Rattle.jt_chains.specs.Places.{home_at};
 ghost use Rattle.jt_chains.specs.View.{chain_view};
 ghost use Rattle.jt_rules.specs.World.{world_of};
 ghost use Rattle.jt_meaning.specs.Programs.{program};
-ghost use Rattle.jt_slots.specs.View.{program_of};
+ghost use Rattle.jt_resolved.specs.View.{program_of};
 ghost use Rattle.jt_rules.specs.declared.error.ScopeError.TheVariants as error;
 
 use crate::homes::resolve_homes;
@@ -13,8 +13,8 @@ use crate::program_names::{count_globals, entry_names, template_names};
 use crate::shared::shared_values;
 use jt_chains::Chain;
 use jt_layout::lay_out;
+use jt_resolved::Program;
 use jt_rules::ScopeError;
-use jt_slots::Program;
 use std::alloc::Global;
 
 /// Resolves a chain, whether or not it keeps the rules.

@@ -15,8 +15,8 @@ ghost use Rattle.jt_bind.specs.Scoped.{values, world_in, order_in, home_in, spot
 ghost use Rattle.jt_trees.specs.Expressions.{Text};
 ghost use Rattle.jt_trees.specs.StatementView.{stmt_view, body_view};
 ghost use Rattle.jt_rules.specs.declared.error.ScopeError.TheVariants as error;
-ghost use Rattle.jt_slots.specs.Slots as slots;
-ghost use Rattle.jt_uses.specs.Names.{texts};
+ghost use Rattle.jt_resolved.specs.Slots as slots;
+ghost use Rattle.jt_names.specs.Names.{texts};
 ghost use Rattle.jt_bind.specs.Routines.{IsRoutine, AreRoutines, AllLed};
 ghost use Rattle.jt_bind.specs.Stated.{Led, stmt_in, layer_in};
 
@@ -26,8 +26,8 @@ use crate::spot::Spot;
 use crate::statements::{resolve_body, resolve_statement, resolve_within};
 use jt_chains::Layer;
 use jt_layout::Scope;
+use jt_resolved::{Routine, SStmt};
 use jt_rules::ScopeError;
-use jt_slots::{Routine, SStmt};
 use jt_trees::Stmt;
 use jt_value::Value;
 use std::alloc::Global;

@@ -3,18 +3,18 @@
 ghost use Rattle.std.specs.Prelude.{◌≡◌, List, [], ◌∷◌, length, None, IfOk, IfErr};
 ghost use Rattle.jt_value.specs.Tree.{Tree};
 ghost use Rattle.jt_trees.specs.Expressions.{Text};
-ghost use Rattle.jt_uses.specs.Names.{texts};
+ghost use Rattle.jt_names.specs.Names.{texts};
 ghost use Rattle.jt_layout.specs.Laid.{IsLaidOut};
 ghost use Rattle.jt_meaning.specs.Resolve as resolve;
 ghost use Rattle.jt_bind.specs.Scoped.{RowLeads, spot_in};
 ghost use Rattle.jt_rules.specs.declared.error.ScopeError.TheVariants as error;
-ghost use Rattle.jt_slots.specs.Slots as slots;
+ghost use Rattle.jt_resolved.specs.Slots as slots;
 
 use crate::lookup::{reading, slot};
 use crate::spot::Spot;
 use jt_layout::Scope;
+use jt_resolved::{SExpr, Slot};
 use jt_rules::ScopeError;
-use jt_slots::{SExpr, Slot};
 use std::alloc::Global;
 
 /// What names read, in a row.

@@ -9,7 +9,7 @@ ghost use Rattle.jt_meaning.specs.Layout.{defaults_of};
 ghost use Rattle.jt_bind.specs.Scoped.{values, world_in, order_in};
 ghost use Rattle.jt_trees.specs.StatementView.{parameter_view};
 ghost use Rattle.jt_rules.specs.declared.error.ScopeError.TheVariants as error;
-ghost use Rattle.jt_slots.specs.Filters.{default_value};
+ghost use Rattle.jt_evaluation.specs.Filters.{default_value};
 ghost use Rattle.jt_value.specs.View.{view};
 
 use jt_chains::Macro;

@@ -8,9 +8,9 @@ ghost use Rattle.jt_bind.specs.Scoped.{values, BodyLeads, expr_in, spot_in, temp
 ghost use Rattle.jt_trees.specs.Statements as trees;
 ghost use Rattle.jt_trees.specs.StatementView.{stmt_view, body_view, filterings_view, names_view};
 ghost use Rattle.jt_rules.specs.declared.error.ScopeError.TheVariants as error;
-ghost use Rattle.jt_slots.specs.Pool.{Constant};
-ghost use Rattle.jt_slots.specs.Slots.{SBody};
-ghost use Rattle.jt_uses.specs.Names.{texts};
+ghost use Rattle.jt_resolved.specs.Pool.{Constant};
+ghost use Rattle.jt_resolved.specs.Slots.{SBody};
+ghost use Rattle.jt_names.specs.Names.{texts};
 ghost use Rattle.jt_bind.specs.Stated.{Led, IsBody, IsAsked, IsBranch, IsTurn, line_in, stmt_in, body_in, scoped_in, values_in};
 
 use crate::entering::{entered, keywords_of, put_copies, texts_of};
@@ -22,10 +22,10 @@ use crate::putting::{put_assign, put_capture, put_choice, put_data, put_loop, pu
 use crate::spot::Spot;
 use crate::targets::{fresh_targets, set_slot, set_targets};
 use jt_layout::Scope;
+use jt_names::set_names;
+use jt_resolved::{Place, SExpr, SStmt, Slot, Targets};
 use jt_rules::ScopeError;
-use jt_slots::{Place, SExpr, SStmt, Slot, Targets};
 use jt_trees::{Expr, Filtering, Stmt};
-use jt_uses::set_names;
 use jt_value::Value;
 use std::alloc::Global;
 

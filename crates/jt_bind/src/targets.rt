@@ -8,8 +8,8 @@ ghost use Rattle.jt_bind.specs.Names.{last_among};
 ghost use Rattle.jt_bind.specs.Scoped.{spot_in};
 ghost use Rattle.jt_trees.specs.StatementView.{names_view};
 ghost use Rattle.jt_rules.specs.declared.error.ScopeError.TheVariants as error;
-ghost use Rattle.jt_slots.specs.View.{slot_view, targets_view};
-ghost use Rattle.jt_uses.specs.Names.{texts};
+ghost use Rattle.jt_resolved.specs.View.{slot_view, targets_view};
+ghost use Rattle.jt_names.specs.Names.{texts};
 ghost use Rattle.jt_bind.specs.Stated.{slot_if};
 
 use crate::entering::texts_of;
@@ -17,8 +17,8 @@ use crate::frame::Frame;
 use crate::lookup::{more, slot};
 use crate::spot::Spot;
 use jt_layout::Scope;
+use jt_resolved::{Slot, Targets};
 use jt_rules::ScopeError;
-use jt_slots::{Slot, Targets};
 use std::alloc::Global;
 
 /// The slot of a name that is set.

@@ -4,7 +4,7 @@ use Rattle.std.specs.Option.{is_some}
 use Rattle.std.specs.Str.{bytes_eq}
 use Rattle.std.proofs.lemmas.Slice.Eq.{bytes_eq-Decides}
 use Rattle.jt_trees.specs.Expressions.{Text}
-use Rattle.jt_slots.specs.Loops.{Field, index, index0, revindex, revindex0, first, last, total, previtem, nextitem, fields, field_among, field_named}
+use Rattle.jt_evaluation.specs.Loops.{Field, index, index0, revindex, revindex0, first, last, total, previtem, nextitem, fields, field_among, field_named}
 
 unlike : (k x : Text) → (x ≡ k → ⊥) → bytes_eq k x ≡ false
 unlike k x h = by (bytes_eq k x) refl

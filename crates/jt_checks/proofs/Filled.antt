@@ -9,7 +9,7 @@ use Rattle.jt_trees.specs.Statements as trees
 use Rattle.jt_trees.specs.Expressions.{Text}
 use Rattle.jt_trees.specs.StatementView.{parameters_view}
 use Rattle.jt_trees.specs.declared.statement.Parameter.{Parameter}
-use Rattle.jt_slots.specs.Filters.{some_given}
+use Rattle.jt_evaluation.specs.Filters.{some_given}
 use Rattle.jt_rules.specs.Walk as rules
 
 abbrev pub all_filled : List Text → List Parameter → Bool

@@ -7,16 +7,16 @@ use Rattle.std.proofs.lemmas.Bool.Decides.{nat_tests}
 use Rattle.jt_trees.specs.Expressions as trees
 use Rattle.jt_trees.specs.Expressions.{Exprs, Text}
 use Rattle.jt_trees.specs.ExpressionView.{pairs_view}
-use Rattle.jt_filtering.specs.FilterIds.{filter_of, accepts}
+use Rattle.jt_filter_meaning.specs.FilterIds.{filter_of, accepts}
 use Rattle.jt_ids.specs.FilterTable.{filter_id}
 use Rattle.jt_ids.specs.declared.filter_id.FilterId.{FilterId}
 use Rattle.jt_ids.specs.declared.filter_id.FilterId.TheVariants as filter
 use Rattle.jt_chains.specs.Uses.{count, keywords}
 use Rattle.jt_trees.specs.Texts.{among, repeated}
 use Rattle.jt_trees.specs.Statements.{Parameter}
-use Rattle.jt_slots.specs.Filters.{some_given}
-use Rattle.jt_slots.specs.Inside.{names_well, inside_of}
-use Rattle.jt_slots.specs.TheFilters.{the_filters, filter_written, filter_parameters, parameters_of}
+use Rattle.jt_evaluation.specs.Filters.{some_given}
+use Rattle.jt_evaluation.specs.Inside.{names_well, inside_of}
+use Rattle.jt_evaluation.specs.TheFilters.{the_filters, filter_written, filter_parameters, parameters_of}
 use Rattle.jt_checks.specs.Fitting.{filter_takes}
 use Rattle.jt_rules.specs.Walk as rules
 use Rattle.jt_rules.specs.declared.error.ScopeError.{ScopeError}

@@ -9,7 +9,7 @@ use Rattle.jt_trees.specs.Expressions.{Text}
 use Rattle.jt_trees.specs.StatementView.{parameters_view}
 use Rattle.jt_trees.specs.declared.statement.Parameter.{Parameter}
 use Rattle.jt_chains.specs.Uses.{count}
-use Rattle.jt_filtering.specs.FilterIds.{accepts}
+use Rattle.jt_filter_meaning.specs.FilterIds.{accepts}
 use Rattle.jt_ids.specs.declared.filter_id.FilterId.{FilterId}
 use Rattle.jt_checks.specs.Fitting.{filter_takes}
 use Rattle.jt_rules.specs.Walk as rules

@@ -17,9 +17,9 @@ use Rattle.jt_trees.specs.declared.statement.Stmt.{Stmt}
 use Rattle.jt_trees.specs.declared.statement.Stmt.TheVariants as statement
 use Rattle.jt_chains.specs.Chain.{Home, callee, given}
 use Rattle.jt_chains.specs.declared.linked.Chain.{Chain}
-use Rattle.jt_slots.specs.Filters.{Filters}
-use Rattle.jt_slots.specs.Tests.{test_named}
-use Rattle.jt_slots.specs.TheFilters.{the_filters}
+use Rattle.jt_evaluation.specs.Filters.{Filters}
+use Rattle.jt_evaluation.specs.Tests.{test_named}
+use Rattle.jt_evaluation.specs.TheFilters.{the_filters}
 use Rattle.jt_rules.specs.Walk as rules
 use Rattle.jt_rules.specs.World.{World}
 use Rattle.jt_checks.specs.Standing.{world_in}

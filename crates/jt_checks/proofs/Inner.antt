@@ -10,7 +10,7 @@ use Rattle.jt_ids.specs.FilterTable.{named_at, place_of, with_only}
 use Rattle.jt_ids.specs.declared.filter_id.FilterId.{FilterId}
 use Rattle.jt_ids.specs.declared.filter_id.FilterId.TheVariants as filter
 use Rattle.jt_ids.specs.declared.filter_id.Naming.{Naming}
-use Rattle.jt_slots.specs.Inside.{argument_well, row_well, pairs_well}
+use Rattle.jt_evaluation.specs.Inside.{argument_well, row_well, pairs_well}
 use Rattle.jt_trees.proofs.Left.{Entry}
 use Rattle.jt_checks.proofs.Counted.{counted}
 

@@ -8,7 +8,7 @@ use Rattle.jt_trees.specs.Texts.{ascending}
 use denote.Ref.{Bor}
 use Rattle.jt_trees.specs.Expressions.{Text}
 use Rattle.jt_trees.specs.Statements.{Filtering, Body, body_bound}
-use Rattle.jt_uses.specs.Names.{texts}
+use Rattle.jt_names.specs.Names.{texts}
 use Rattle.jt_trees.specs.StatementView.{body_view}
 use Rattle.jt_chains.specs.Chain.{Home, a_chain, a_library, Template, templates, libraries}
 use Rattle.jt_chains.specs.Layers.{layer_view}

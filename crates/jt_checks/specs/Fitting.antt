@@ -1,7 +1,7 @@
 -- What only private clauses cite: whether arguments fit the parameters of a filter.
 use Rattle.std.specs.Prelude.{ℕ, suc, max, Bool, not, ◌&&◌, List, map, drop, Some}
 use Rattle.std.specs.List.{list_any}
-use Rattle.jt_filtering.specs.FilterIds.{accepts}
+use Rattle.jt_filter_meaning.specs.FilterIds.{accepts}
 use Rattle.jt_ids.specs.declared.filter_id.FilterId.{FilterId}
 use Rattle.jt_trees.specs.Texts.{among, repeated}
 use Rattle.jt_trees.specs.Expressions.{Text}

@@ -7,7 +7,7 @@ ghost use Rattle.jt_trees.specs.ExpressionView.{expr_view, exprs_view, pairs_vie
 ghost use Rattle.jt_chains.specs.Chain.{callee, given, given_to, Home, named_form, named_alone, named_in, in_library, is_loop};
 ghost use Rattle.jt_chains.specs.Uses.{count};
 ghost use Rattle.jt_trees.specs.Expressions.{Text};
-ghost use Rattle.jt_slots.specs.Loops.{field_named};
+ghost use Rattle.jt_evaluation.specs.Loops.{field_named};
 ghost use Rattle.jt_rules.specs.Walk as rules;
 ghost use Rattle.jt_rules.specs.World.{World};
 ghost use Rattle.jt_checks.specs.Standing.{texts, is_block};

@@ -4,11 +4,11 @@ ghost use Rattle.std.specs.Prelude.{◌≡◌, option_and_then};
 ghost use Rattle.jt_trees.specs.Written.{literal_text};
 ghost use Rattle.jt_trees.specs.ExpressionView.{expr_view, exprs_view, pairs_view};
 ghost use Rattle.jt_ids.specs.FilterTable.{filter_of_name, named_at, place_of};
-ghost use Rattle.jt_slots.specs.Inside as inside;
-ghost use Rattle.jt_slots.specs.Tests.{test_named};
+ghost use Rattle.jt_evaluation.specs.Inside as inside;
+ghost use Rattle.jt_evaluation.specs.Tests.{test_named};
 
+use jt_evaluation::test_of;
 use jt_ids::{FilterId, Naming};
-use jt_slots::test_of;
 use jt_trees::{Expr, literal_text};
 
 /// Whether the filter of a name may be called by `map`, with so many values; one that there is not

@@ -5,18 +5,18 @@ use Rattle.std.proofs.lemmas.List.{drop_more, at_drop_all}
 use Rattle.std.specs.Prelude.{nat_le, option_map}
 use Rattle.std.proofs.lemmas.Bool.Decides.{nat_tests}
 use Rattle.jt_trees.specs.Expressions.{Text}
-use Rattle.jt_slots.specs.Slots as slots
-use Rattle.jt_slots.specs.Slots.{SStmt, SBody, end}
-use Rattle.jt_slots.specs.View.{Front, slot_view, targets_view, place_view, expr_view, stmt_view, body_view, choice_view, routine_view}
-use Rattle.jt_slots.specs.declared.program.Place.{Place}
-use Rattle.jt_slots.specs.declared.program.Slot.{Slot}
-use Rattle.jt_slots.specs.declared.program.Targets.{Targets}
-use Rattle.jt_slots.specs.declared.program.SExpr.{SExpr}
-use Rattle.jt_slots.specs.declared.program.SStmt as given
-use Rattle.jt_slots.specs.declared.program.Routine as given_routine
-use Rattle.jt_slots.specs.declared.program.SStmt.TheVariants as v
-use Rattle.jt_slots.specs.Size.{expr_height, targets_height, condition_height, stmt_height, body_height}
-use Rattle.jt_slots.proofs.StatementViews.{SBranch, view_If, view_For, view_Capture}
+use Rattle.jt_resolved.specs.Slots as slots
+use Rattle.jt_resolved.specs.Slots.{SStmt, SBody, end}
+use Rattle.jt_resolved.specs.View.{Front, slot_view, targets_view, place_view, expr_view, stmt_view, body_view, choice_view, routine_view}
+use Rattle.jt_resolved.specs.declared.program.Place.{Place}
+use Rattle.jt_resolved.specs.declared.program.Slot.{Slot}
+use Rattle.jt_resolved.specs.declared.program.Targets.{Targets}
+use Rattle.jt_resolved.specs.declared.program.SExpr.{SExpr}
+use Rattle.jt_resolved.specs.declared.program.SStmt as given
+use Rattle.jt_resolved.specs.declared.program.Routine as given_routine
+use Rattle.jt_resolved.specs.declared.program.SStmt.TheVariants as v
+use Rattle.jt_resolved.specs.Size.{expr_height, targets_height, condition_height, stmt_height, body_height}
+use Rattle.jt_resolved.proofs.StatementViews.{SBranch, view_If, view_For, view_Capture}
 
 -- both are few enough where the greater one is
 pub both_low : (a b c : ℕ) → nat_le (max a b) c ≡ nat_le a c && nat_le b c

@@ -16,8 +16,8 @@ use Rattle.jt_rules.specs.World.{World, world_of}
 use Rattle.jt_meaning.specs.Laws.{ProgramLaws}
 use Rattle.jt_meaning.specs.Layout.{names, shared}
 use Rattle.jt_meaning.specs.Programs.{program, routines, count_globals}
-use Rattle.jt_slots.specs.Slots.{Program}
-use Rattle.jt_slots.specs.TheFilters.{the_filters}
+use Rattle.jt_resolved.specs.Slots.{Program}
+use Rattle.jt_evaluation.specs.TheFilters.{the_filters}
 use Rattle.jt_lower.specs.Lower.{compiled}
 use Rattle.jt_lower.specs.Fits.{ProgramFits}
 use Rattle.jt_lower.specs.Lawful.{AreLow}

@@ -2,11 +2,11 @@
 use Rattle.std.proofs.Common.{◌≡◌, ◌<◌, List, Option, Vec, Global, rules}
 use Rattle.std.specs.Prelude.{max}
 use denote.Param.Weighed.{most}
-use Rattle.jt_slots.specs.declared.program.Place.{Place}
-use Rattle.jt_slots.specs.declared.program.Targets.{Targets}
-use Rattle.jt_slots.specs.declared.program.SExpr.{SExpr}
-use Rattle.jt_slots.specs.declared.program.SStmt.{SStmt, size-SStmt, the_lemmas}
-use Rattle.jt_slots.specs.declared.program.SStmt.TheVariants as s
+use Rattle.jt_resolved.specs.declared.program.Place.{Place}
+use Rattle.jt_resolved.specs.declared.program.Targets.{Targets}
+use Rattle.jt_resolved.specs.declared.program.SExpr.{SExpr}
+use Rattle.jt_resolved.specs.declared.program.SStmt.{SStmt, size-SStmt, the_lemmas}
+use Rattle.jt_resolved.specs.declared.program.SStmt.TheVariants as s
 
 below_loop : (p : Place) (xs : Targets) (e : SExpr) (c : Option SExpr) (body other : Vec SStmt Global)
     → max (most (λ y. size-SStmt y) body.items) (most (λ y. size-SStmt y) other.items) < size-SStmt (s.For p xs e c body other)

@@ -5,17 +5,17 @@ use Rattle.std.proofs.lemmas.List.{drop_more, at_drop_all}
 use Rattle.jt_image.specs.declared.instruction.Instruction.TheVariants as op
 use Rattle.jt_trees.specs.Expressions.{Text}
 use Rattle.jt_value.specs.Place.{Place}
-use Rattle.jt_slots.specs.Slots as slots
-use Rattle.jt_slots.specs.Slots.{SBody}
-use Rattle.jt_slots.specs.View.{Front, slot_view, place_view, expr_view, stmt_view, body_view, choice_view}
-use Rattle.jt_slots.specs.declared.program.Slot.{Slot}
-use Rattle.jt_slots.specs.declared.program.SStmt.{SStmt}
+use Rattle.jt_resolved.specs.Slots as slots
+use Rattle.jt_resolved.specs.Slots.{SBody}
+use Rattle.jt_resolved.specs.View.{Front, slot_view, place_view, expr_view, stmt_view, body_view, choice_view}
+use Rattle.jt_resolved.specs.declared.program.Slot.{Slot}
+use Rattle.jt_resolved.specs.declared.program.SStmt.{SStmt}
 use Rattle.jt_lower.specs.Asm.{Asm, nil, one, both, choose}
 use Rattle.jt_lower.specs.Lower.{expr_asm, store_if_of, stores_asm, stmt_asm, body_asm}
 use Rattle.jt_lower.specs.Emission.{StandsFor, Puts, Reserves, Patches, Ends}
 use Rattle.jt_lower.specs.declared.emitter.Emitter.{Emitter}
 use Rattle.jt_codegen.specs.Statements.{slots_view, Emits, Closes}
-use Rattle.jt_slots.proofs.StatementViews.{SBranch}
+use Rattle.jt_resolved.proofs.StatementViews.{SBranch}
 use Rattle.jt_lower.proofs.Patched.{puts_nothing, puts_then, puts_last, puts_first, puts_choice}
 
 pub stands_itself : (n : ℕ) → StandsFor n n

@@ -33,11 +33,11 @@ use Rattle.jt_meaning.specs.Layout.{shared}
 use Rattle.jt_meaning.specs.Laws.{ProgramLaws}
 use Rattle.jt_meaning.specs.Measure.{AreFew, IsSized}
 use Rattle.jt_meaning.specs.Programs.{program, routines}
-use Rattle.jt_slots.specs.Size.{body_height}
-use Rattle.jt_slots.specs.Slots.{Routine, Program}
-use Rattle.jt_slots.specs.View.{routine_view, templates_of, program_of}
-use Rattle.jt_slots.specs.declared.program.Program as given
-use Rattle.jt_slots.specs.declared.program.Routine as given_routine
+use Rattle.jt_resolved.specs.Size.{body_height}
+use Rattle.jt_resolved.specs.Slots.{Routine, Program}
+use Rattle.jt_resolved.specs.View.{routine_view, templates_of, program_of}
+use Rattle.jt_resolved.specs.declared.program.Program as given
+use Rattle.jt_resolved.specs.declared.program.Routine as given_routine
 use Rattle.jt_lower.specs.Compiles.{LowLaws}
 use Rattle.jt_lower.specs.Fits.{ProgramFits}
 use Rattle.jt_lower.specs.Lawful.{AreLow}

@@ -16,9 +16,9 @@ use Rattle.jt_trees.specs.Expressions.{Expr, constant, name, group, list_of, map
 use Rattle.jt_parse.specs.Names.{blamed, unknown_in, condition_unknown, filtering_unknown, filterings_unknown, stmt_unknown, body_unknown, branch_unknown}
 use Rattle.jt_trees.specs.Statements.{Filtering, Stmt, data_of, print, choose, for_each, set, set_block, with_values, filter_block, autoescape, macro, include, import_as, import_from, extends, block, Body, end, stmt, Branches, no_branches, branch}
 use Rattle.jt_chains.specs.Chain.{Sources, Home, a_chain, a_library, Template, sources_in, template, holds_macros, library_template, templates, max_templates, names_up}
-use Rattle.jt_slots.specs.Filters.{Filters}
-use Rattle.jt_slots.specs.Tests.{test_named}
-use Rattle.jt_slots.specs.TheFilters.{the_filters}
+use Rattle.jt_evaluation.specs.Filters.{Filters}
+use Rattle.jt_evaluation.specs.Tests.{test_named}
+use Rattle.jt_evaluation.specs.TheFilters.{the_filters}
 use Rattle.jt_rules.specs.World.{World}
 use Rattle.jt_rules.specs.Known.{IsThere, ExprKnown, RowKnown, PairsKnown, ConditionKnown, FilteringKnown, StmtKnown, BodyKnown, BranchesKnown, TemplatesKnown, ChainsKnown}
 

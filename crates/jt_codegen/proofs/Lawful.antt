@@ -14,25 +14,25 @@ use Rattle.jt_trees.specs.Expressions as written
 use Rattle.jt_trees.specs.Expressions.{Expr, Literal, constant, name, group, list_of, map_of, attribute, item, call, filter, test, unary, binary, when, choice, Exprs, no_exprs, expr, Pairs, no_pairs, pair, Text}
 use Rattle.jt_meaning.specs.Operators.{Form, operation, negation, conjunction, disjunction, form}
 use Rattle.jt_value.specs.Place.{Place}
-use Rattle.jt_slots.specs.Tests.{test_named}
-use Rattle.jt_slots.specs.Values.{literal}
+use Rattle.jt_evaluation.specs.Tests.{test_named}
+use Rattle.jt_evaluation.specs.Values.{literal}
 use Rattle.jt_chains.specs.Uses.{count, keywords, set_in, own_names}
 use Rattle.jt_chains.specs.Includes.{included, InOrder}
 use Rattle.jt_trees.specs.Statements.{Parameter, Filtering, Stmt, data_of, print, choose, for_each, set, set_block, with_values, filter_block, autoescape, macro, include, import_as, import_from, extends, block, Body, end, stmt, Branches, no_branches, branch}
 use Rattle.jt_chains.specs.Chain.{Home, a_chain, a_library, same_home, listed, Template, templates, BlockBody, MacroBody, macros, macro_of, given, Callee, a_macro, a_range, a_super, a_block, a_cycle, no_callee, callee, is_loop}
-use Rattle.jt_slots.specs.Loops.{Field, field_named}
-use Rattle.jt_slots.specs.Filters.{default_value, some_given}
+use Rattle.jt_evaluation.specs.Loops.{Field, field_named}
+use Rattle.jt_evaluation.specs.Filters.{default_value, some_given}
 use Rattle.jt_trees.specs.Texts.{among, ascending}
 use Rattle.jt_rules.specs.World.{World}
 use Rattle.jt_meaning.specs.Expressions.{filter_parameters}
 use Rattle.jt_meaning.specs.Layout.{Table, slot_in, globals_from, in_globals, defaults_of, first_default, names_in, names, first_in, numbered_bodies, numbered_of, globals, block_parameters, shared, default_in, default_place, first_slot, unit, of_chain}
 use Rattle.jt_meaning.specs.Meaning.{is_set}
 use Rattle.jt_meaning.specs.Programs.{body_routines, entry_routines, chain_routines, routines, count_globals, program}
-use Rattle.jt_slots.specs.Slots as slots
-use Rattle.jt_slots.specs.Slots.{Slot, local, SExpr, SRow, SBody, variable, run, Routine}
-use Rattle.jt_slots.specs.Takes.{BodyTakes}
-use Rattle.jt_slots.specs.TheFilters.{the_filters}
-use Rattle.jt_slots.specs.Pool.{Constant, own, known}
+use Rattle.jt_resolved.specs.Slots as slots
+use Rattle.jt_resolved.specs.Slots.{Slot, local, SExpr, SRow, SBody, variable, run, Routine}
+use Rattle.jt_resolved.specs.Takes.{BodyTakes}
+use Rattle.jt_evaluation.specs.TheFilters.{the_filters}
+use Rattle.jt_resolved.specs.Pool.{Constant, own, known}
 use Rattle.jt_meaning.specs.Resolve.{value_or, read_from, turned_round, tested_by, filtered_by, in_form, field_from, followed, locals_from, fresh, fresh_targets, kept_slots, slot_of, set_targets, filled, filled_some, first_locals, reads, handed_on, Part, Spot, place, left_out, grown, bound_table, bound_all, copied, scoped, next_given, first_body, invoked_body, invoked_super, invoked, resolved, resolved_row, resolved_asides, resolved_entries, resolved_condition, resolved_filters, resolved_values, placed_body, resolved_stmt, resolved_body, resolved_choice, top_spot, resolved_sets, resolved_chain, resolved_routine, chain_routine, macro_routine}
 use Rattle.jt_lower.specs.Fits.{IsBare, IsPooled}
 use Rattle.jt_lower.specs.Lawful.{ConstantLawful, SlotLawful, ExprLawful, RowLawful, SomeLawful, SlotsLawful, TargetsLawful, ConditionLawful, BodyLawful, RoutineLawful, AreLawful}

@@ -11,8 +11,8 @@ use Rattle.jt_meaning.specs.Ascends.{Above, Ascends}
 use Rattle.jt_meaning.specs.Layout.{names, shared}
 use Rattle.jt_meaning.specs.Programs.{program}
 use Rattle.jt_meaning.specs.Resolve.{chain_routine}
-use Rattle.jt_slots.specs.Slots.{Routine}
-use Rattle.jt_slots.specs.Pool.{placed_routine}
+use Rattle.jt_resolved.specs.Slots.{Routine}
+use Rattle.jt_resolved.specs.Pool.{placed_routine}
 use Rattle.jt_lower.specs.Lower.{unit_of, numbered, places_of, compiled}
 use Rattle.jt_lower.specs.Spots.{templates_of, spot_of}
 use Rattle.jt_lower.proofs.Spots.{places_len}

@@ -8,10 +8,10 @@ use Rattle.jt_image.specs.Spelling.{wire_of}
 use Rattle.jt_image.specs.Reading.{instruction_of}
 use Rattle.jt_image.specs.Parts.{in_front, each_of, section_of_unit}
 use Rattle.jt_trees.specs.Expressions.{Text}
-use Rattle.jt_slots.specs.Slots.{end}
-use Rattle.jt_slots.specs.View.{body_view, routine_view}
-use Rattle.jt_slots.specs.declared.program.Routine.{Routine}
-use Rattle.jt_slots.specs.declared.program.Place.{Place}
+use Rattle.jt_resolved.specs.Slots.{end}
+use Rattle.jt_resolved.specs.View.{body_view, routine_view}
+use Rattle.jt_resolved.specs.declared.program.Routine.{Routine}
+use Rattle.jt_resolved.specs.declared.program.Place.{Place}
 use Rattle.jt_lower.specs.Asm.{Asm, one, both, flat, places}
 use Rattle.jt_lower.specs.Lower.{body_asm, routine_places, unit_of}
 use Rattle.jt_lower.specs.Emission.{places_view, HasPlace, Puts}

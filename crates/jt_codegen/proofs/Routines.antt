@@ -12,8 +12,8 @@ use Rattle.jt_meaning.specs.Layout.{numbered_bodies, is_scoped, scopes}
 use Rattle.jt_meaning.specs.Measure.{IsFew, AreFew}
 use Rattle.jt_meaning.specs.Programs.{body_routines, entry_routines, chain_routines, routines}
 use Rattle.jt_meaning.specs.Resolve.{chain_routine, macro_routine, body_routine}
-use Rattle.jt_slots.specs.Slots.{Routine}
-use Rattle.jt_slots.specs.Pool.{Constant, body_values, placed_routines}
+use Rattle.jt_resolved.specs.Slots.{Routine}
+use Rattle.jt_resolved.specs.Pool.{Constant, body_values, placed_routines}
 use Rattle.jt_lower.specs.Lower.{unit_of}
 use Rattle.jt_meaning.proofs.Givens.{all_own}
 use Rattle.jt_lower.proofs.Fitting.{all_append}

@@ -19,8 +19,8 @@ use Rattle.jt_chains.specs.Weights.{chains_weight}
 use Rattle.jt_rules.specs.World.{World}
 use Rattle.jt_meaning.specs.Bytes.{value_bytes, IsShort}
 use Rattle.jt_meaning.specs.Measure.{IsSized}
-use Rattle.jt_slots.specs.Size.{body_height}
-use Rattle.jt_slots.specs.Slots.{Routine, Program}
+use Rattle.jt_resolved.specs.Size.{body_height}
+use Rattle.jt_resolved.specs.Slots.{Routine, Program}
 use Rattle.jt_lower.specs.Compiles.{LowLaws}
 use Rattle.jt_lower.specs.Fits.{ProgramFits}
 use Rattle.jt_lower.specs.Lower.{unit_of, constant_of, numbered, places_of, compiled}

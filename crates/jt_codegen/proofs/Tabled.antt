@@ -11,11 +11,11 @@ use Rattle.jt_image.specs.declared.parts.Unit as given
 use Rattle.jt_image.specs.View.{name_view, names_view}
 use Rattle.jt_image.specs.Parts.{in_front, each_of, section_of_unit}
 use Rattle.jt_trees.specs.Expressions.{Text}
-use Rattle.jt_slots.specs.View.{routine_view, templates_of, program_of}
-use Rattle.jt_slots.specs.declared.program.Routine.{Routine}
-use Rattle.jt_slots.specs.declared.program.Program.{Program}
+use Rattle.jt_resolved.specs.View.{routine_view, templates_of, program_of}
+use Rattle.jt_resolved.specs.declared.program.Routine.{Routine}
+use Rattle.jt_resolved.specs.declared.program.Program.{Program}
 use Rattle.jt_value.specs.Place as place
-use Rattle.jt_slots.specs.declared.program.Place.{Place}
+use Rattle.jt_resolved.specs.declared.program.Place.{Place}
 use Rattle.jt_lower.specs.Emission.{tag_view, places_view}
 use Rattle.jt_lower.specs.Spots as spots
 use Rattle.jt_lower.specs.Lower.{unit_of, numbered, routine_places, places_of, compiled}

@@ -14,9 +14,9 @@ use Rattle.jt_meaning.specs.Meaning.{is_set}
 use Rattle.jt_meaning.specs.Layout.{Table, counted_from, numbered_bodies, numbered_of, globals, names, first_slot, block_parameters, of_chain, unit}
 use Rattle.jt_meaning.specs.Programs.{body_routines, entry_routines, chain_routines, routines, program}
 use Rattle.jt_meaning.specs.Resolve.{Spot, place, left_out, grown, bound_all, copied, scoped, handed_on, followed, first_body, resolved_values, placed_body, resolved_stmt, resolved_body, resolved_choice, resolved_sets, top_spot, resolved_chain, macro_routine}
-use Rattle.jt_slots.specs.Slots as slots
-use Rattle.jt_slots.specs.Slots.{SExpr, SRow, Targets, SStmt, SBody, Routine, Slot}
-use Rattle.jt_slots.specs.Pool.{Constant, placed_stmt, placed_body as pooled_body, placed_routines}
+use Rattle.jt_resolved.specs.Slots as slots
+use Rattle.jt_resolved.specs.Slots.{SExpr, SRow, Targets, SStmt, SBody, Routine, Slot}
+use Rattle.jt_resolved.specs.Pool.{Constant, placed_stmt, placed_body as pooled_body, placed_routines}
 use Rattle.jt_lower.specs.Asm.{Asm, nil, one, both, choose as either, when, each, invoke, places}
 use Rattle.jt_lower.specs.Lower.{expr_asm, row_asm, stores_asm, take_asm, kept_asm, stmt_asm, body_asm, routine_places, places_of}
 use Rattle.jt_lower.proofs.Fitting.{all_append}

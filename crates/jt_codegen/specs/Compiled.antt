@@ -10,7 +10,7 @@ use Rattle.jt_image.specs.Config.{Budget}
 use Rattle.jt_image.specs.Run.{Run}
 use Rattle.jt_image.specs.Enough.{Enough}
 use Rattle.jt_value.specs.Place.{Place}
-use Rattle.jt_slots.specs.Got.{gives, fails}
+use Rattle.jt_evaluation.specs.Got.{gives, fails}
 use Rattle.jt_trees.specs.Expressions.{Text}
 use Rattle.jt_inherit.specs.Chains.{Given, IsChain}
 use Rattle.jt_chains.specs.View.{Seen}

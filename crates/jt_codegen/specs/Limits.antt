@@ -1,8 +1,8 @@
 -- Which programs are refused: those whose code an image has no place for, and those of which a routine needs too many entries.
 use Rattle.std.specs.Prelude.{◌≡◌, ℕ, ◌<◌, Some, slice_get}
 use Rattle.jt_image.specs.Typed.{max_entries}
-use Rattle.jt_slots.specs.Slots.{Routine, Program}
-use Rattle.jt_slots.specs.Size.{body_height}
+use Rattle.jt_resolved.specs.Slots.{Routine, Program}
+use Rattle.jt_resolved.specs.Size.{body_height}
 use Rattle.jt_lower.specs.Lower.{compiled}
 use Rattle.jt_codegen.specs.Units.{FitsImage}
 

@@ -8,7 +8,7 @@ use Rattle.jt_chains.specs.View.{Seen}
 use Rattle.jt_inherit.specs.Refusals as inherit
 use Rattle.jt_inherit.specs.declared.error.ChainError.{ChainError}
 use Rattle.jt_inherit.specs.declared.error.ChainError.TheVariants as chain_error
-use Rattle.jt_slots.specs.Slots.{Program}
+use Rattle.jt_resolved.specs.Slots.{Program}
 use Rattle.jt_rules.specs.Rules as rules
 use Rattle.jt_rules.specs.Rules.{KeepsRules}
 use Rattle.jt_rules.specs.World.{world_of}

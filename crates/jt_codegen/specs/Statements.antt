@@ -1,11 +1,11 @@
 -- What only private clauses cite: the code of statements, put behind other code.
 use Rattle.std.specs.Prelude.{◌≡◌, ℕ, List, [], ◌∷◌, length, map, Option, option_map}
 use Rattle.jt_image.specs.declared.instruction.Instruction.TheVariants as op
-use Rattle.jt_slots.specs.Slots as slots
-use Rattle.jt_slots.specs.Slots.{SBody}
+use Rattle.jt_resolved.specs.Slots as slots
+use Rattle.jt_resolved.specs.Slots.{SBody}
 use Rattle.jt_trees.specs.Expressions.{Text}
-use Rattle.jt_slots.specs.View.{Front, slot_view}
-use Rattle.jt_slots.specs.declared.program.Slot.{Slot}
+use Rattle.jt_resolved.specs.View.{Front, slot_view}
+use Rattle.jt_resolved.specs.declared.program.Slot.{Slot}
 use Rattle.jt_lower.specs.Lower.{body_asm}
 use Rattle.jt_lower.specs.Emission.{Puts, Patches}
 use Rattle.jt_lower.specs.declared.emitter.Emitter.{Emitter}

@@ -3,8 +3,8 @@
 ghost use Rattle.std.specs.Prelude.{◌≡◌, ◌≤◌, ℕ, List, Some, length, IfOk, IfErr, OnOk};
 ghost use Rattle.jt_image.specs.Parts.{section_of_unit};
 ghost use Rattle.jt_trees.specs.Expressions.{Text};
-ghost use Rattle.jt_slots.specs.Slots as slots;
-ghost use Rattle.jt_slots.specs.View.{slot_view, targets_view, place_view, expr_view, stmt_view, body_view, routine_view};
+ghost use Rattle.jt_resolved.specs.Slots as slots;
+ghost use Rattle.jt_resolved.specs.View.{slot_view, targets_view, place_view, expr_view, stmt_view, body_view, routine_view};
 ghost use Rattle.std.specs.Prelude.{option_map};
 ghost use Rattle.jt_lower.specs.Lower.{kept_asm, stmt_asm, unit_of, routine_places};
 ghost use Rattle.jt_lower.specs.Emission.{StandsFor, tag_view, places_view, Puts};
@@ -14,7 +14,7 @@ ghost use Rattle.jt_codegen.specs.Units.{Refuses};
 use crate::targets::{emit_item, emit_targets};
 use jt_image::{Instruction, Unit};
 use jt_lower::{Emitter, call_of, data_of, emit_expression, emit_row, flag, store_of};
-use jt_slots::{Place, Routine, SExpr, SStmt, Slot, Targets};
+use jt_resolved::{Place, Routine, SExpr, SStmt, Slot, Targets};
 use std::alloc::{AllocError, AllocFailed, Global};
 
 /// Why no code is made.

@@ -3,13 +3,13 @@
 ghost use Rattle.std.specs.Prelude.{◌≡◌, ◌&&◌, ◌≤◌, ◌↔◌, nat_le, ℕ, List, Option, option_map, map, IsTrue};
 ghost use Rattle.std.specs.List.{AllByRecursion};
 ghost use Rattle.jt_trees.specs.Expressions.{Text};
-ghost use Rattle.jt_slots.specs.Size.{targets_height, condition_height, body_height};
-ghost use Rattle.jt_slots.specs.Slots as slots;
-ghost use Rattle.jt_slots.specs.Slots.{SBody};
-ghost use Rattle.jt_slots.specs.View.{targets_view, expr_view, stmt_view, body_view, routine_view};
+ghost use Rattle.jt_resolved.specs.Size.{targets_height, condition_height, body_height};
+ghost use Rattle.jt_resolved.specs.Slots as slots;
+ghost use Rattle.jt_resolved.specs.Slots.{SBody};
+ghost use Rattle.jt_resolved.specs.View.{targets_view, expr_view, stmt_view, body_view, routine_view};
 
 use jt_lower::{fits_expression, fits_row};
-use jt_slots::{Routine, SExpr, SStmt, Targets};
+use jt_resolved::{Routine, SExpr, SStmt, Targets};
 
 /// Whether what takes a value needs at most so many entries.
 fn fits_targets(targets: &Targets, room: usize) -> bool

@@ -3,14 +3,14 @@
 ghost use Rattle.std.specs.Prelude.{◌≡◌, IfOk, IfErr};
 ghost use Rattle.jt_image.specs.IsCode.{IsCode};
 ghost use Rattle.jt_image.specs.Parts.{HasTables};
-ghost use Rattle.jt_slots.specs.View.{program_of};
+ghost use Rattle.jt_resolved.specs.View.{program_of};
 ghost use Rattle.jt_lower.specs.Lower.{compiled};
 ghost use Rattle.jt_codegen.specs.Units.{RefusesCode, of_image};
 
 use crate::emission::EmitError;
 use crate::tables::parts_of;
 use jt_image::{Image, ImageError, assemble};
-use jt_slots::Program;
+use jt_resolved::Program;
 use std::alloc::Global;
 
 /// The image of a program, the names of which ascend and are not empty, and whose first routine has no parameters.

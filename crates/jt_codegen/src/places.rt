@@ -4,17 +4,17 @@ ghost use Rattle.std.specs.Prelude.{◌≡◌, ◌≤◌, ◌∷◌, [], length,
 ghost use Rattle.std.specs.List.{AllByRecursion};
 ghost use Rattle.jt_image.specs.IsCode.{max_count};
 ghost use Rattle.jt_image.specs.View.{texts_view, spot_view, spots_view};
-ghost use Rattle.jt_slots.specs.View.{place_view};
+ghost use Rattle.jt_resolved.specs.View.{place_view};
 ghost use Rattle.jt_lower.specs.Emission.{tag_view, places_view};
 ghost use Rattle.jt_trees.specs.Texts.{all_inserted};
-ghost use Rattle.jt_uses.specs.Names.{texts};
+ghost use Rattle.jt_names.specs.Names.{texts};
 ghost use Rattle.jt_lower.specs.Spots.{templates_in, templates_of, number_of, spot_of};
 ghost use Rattle.jt_codegen.specs.Naming.{IsNamed};
 ghost use Rattle.jt_codegen.specs.Units.{RefusesTemplates};
 
 use crate::emission::EmitError;
 use jt_image::{MAX_COUNT, Spot};
-use jt_slots::Place;
+use jt_resolved::Place;
 use std::alloc::{AllocError, Global};
 use std::collections::BTreeSet;
 

@@ -6,7 +6,7 @@ ghost use Rattle.jt_image.specs.IsCode.{total_len, max_count, max_instructions};
 ghost use Rattle.jt_image.specs.Parts.{each_of, section_of_unit, code_of_parts};
 ghost use Rattle.jt_image.specs.View.{names_view, constant_view, constants_view};
 ghost use Rattle.jt_trees.specs.Expressions.{Text};
-ghost use Rattle.jt_slots.specs.View.{routine_view, program_of};
+ghost use Rattle.jt_resolved.specs.View.{routine_view, program_of};
 ghost use Rattle.std.specs.List.{flat_map};
 ghost use Rattle.jt_lower.specs.Lower.{constant_of, numbered, unit_of, routine_places, compiled};
 ghost use Rattle.jt_lower.specs.Emission.{places_view};
@@ -16,7 +16,7 @@ ghost use Rattle.jt_codegen.specs.declared.emission.EmitError.TheVariants.{NoMem
 use crate::emission::{EmitError, emit_unit};
 use crate::places::told_places;
 use jt_image::{Constant, MAX_COUNT, MAX_INSTRUCTIONS, Parts, Unit, Version};
-use jt_slots::{Place, Program, Routine};
+use jt_resolved::{Place, Program, Routine};
 use jt_value::Value;
 use std::alloc::Global;
 

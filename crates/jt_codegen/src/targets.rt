@@ -3,7 +3,7 @@
 ghost use Rattle.std.specs.Prelude.{List, None, OnOk};
 ghost use Rattle.jt_image.specs.declared.instruction.Instruction.TheVariants as op;
 ghost use Rattle.jt_trees.specs.Expressions.{Text};
-ghost use Rattle.jt_slots.specs.View.{targets_view};
+ghost use Rattle.jt_resolved.specs.View.{targets_view};
 ghost use Rattle.jt_lower.specs.Asm.{both, one};
 ghost use Rattle.jt_lower.specs.Lower.{take_asm, stores_asm};
 ghost use Rattle.jt_lower.specs.Emission.{tag_view, Puts};
@@ -11,7 +11,7 @@ ghost use Rattle.jt_codegen.specs.Statements.{slots_view};
 
 use jt_image::{Instruction, LoopField};
 use jt_lower::{Emitter, store_of, unpack_of};
-use jt_slots::{Place, Slot, Targets};
+use jt_resolved::{Place, Slot, Targets};
 use std::alloc::AllocError;
 
 /// Takes a value into what takes it.

@@ -4,10 +4,10 @@ use Rattle.std.specs.Prelude.{IsSome, slice_get, unwrap_or}
 use Rattle.std.specs.Str.{IsUtf8}
 use Rattle.clap.specs.Words.{Row, Text as Word}
 use Rattle.jt_budget.specs.declared.Budget.{Budget}
-use Rattle.jt_line.specs.Line.{IsCommand}
-use Rattle.jt_line.specs.declared.Command.{Command}
-use Rattle.jt_line.specs.declared.Command.TheVariants as command
-use Rattle.jt_line.specs.declared.Options.{Options}
+use Rattle.jt_args.specs.Line.{IsCommand}
+use Rattle.jt_args.specs.declared.Command.{Command}
+use Rattle.jt_args.specs.declared.Command.TheVariants as command
+use Rattle.jt_args.specs.declared.Options.{Options}
 use Rattle.jt_program.specs.declared.Failure.{Failure}
 use Rattle.jt_program.specs.declared.Failure.TheVariants as failure
 use Rattle.jt_program.specs.Commands.{Answers, ChangesOnly, CommandEnds, Ending, Tells}

@@ -2,8 +2,8 @@
 use Rattle.std.specs.Prelude.{◌≡◌, ◌↔◌, ℕ, List, Option, Some, None, codes}
 use Rattle.std.specs.Str.{IsUtf8}
 use Rattle.clap.specs.Words.{Row, Text as Word}
-use Rattle.jt_line.specs.Line.{IsOptions, word_of}
-use Rattle.jt_line.specs.declared.Options.{Options}
+use Rattle.jt_args.specs.Line.{IsOptions, word_of}
+use Rattle.jt_args.specs.declared.Options.{Options}
 use Rattle.jt_program.specs.Files.{path_in}
 use Rattle.jt_program.specs.Program.{IsImage, IsUpgraded, scan_options}
 use Rattle.jt_disk.specs.declared.disk.Disk.{Disk}

@@ -3,7 +3,7 @@
 ghost use Rattle.std.specs.Prelude.{◌≡◌, ◌≢◌, ◌⊎◌, ℕ, List, codes};
 ghost use Rattle.clap.specs.Walk.{texts};
 ghost use Rattle.clap.specs.Words.{subcommand_of};
-ghost use Rattle.jt_line.specs.Line.{Asks, Takes, program_app};
+ghost use Rattle.jt_args.specs.Line.{Asks, Takes, program_app};
 ghost use Rattle.jt_program.specs.Commands.{Answers, Ending, Explains, Tells, out_of};
 ghost use Rattle.jt_disk.specs.Disk.{file_at, known_of};
 ghost use Rattle.jt_disk.specs.Images.{IfCompiled, IfUpgraded};

@@ -5,7 +5,7 @@ use Rattle.jt_value.specs.Payload.{text_of, joined_items}
 use Rattle.jt_value.specs.Tree as tree
 use Rattle.jt_value.specs.Tree.{Tree, Items, no_items, item, size, nesting, items_size, items_nesting}
 use Rattle.jt_filters.specs.Operands.{front}
-use Rattle.jt_filtering.specs.Ordering.{alike, fold, has_alike, unseen}
+use Rattle.jt_filter_meaning.specs.Ordering.{alike, fold, has_alike, unseen}
 
 pub alike_texts : (t u : Tree) (r s : List ℕ) → Some r ≡ text_of t → Some s ≡ text_of u → alike t u ≡ bytes_eq (fold r) (fold s)
 alike_texts tree.undefined u r s e f = cc

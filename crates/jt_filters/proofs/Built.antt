@@ -11,11 +11,11 @@ use Rattle.jt_value.specs.Tree as tree
 use Rattle.jt_value.specs.Tree.{Tree, Items, printed, is_nonempty}
 use Rattle.jt_escape.specs.Joining.{IsAnswer, or_unprintable, joined_text, has_markup}
 use Rattle.jt_escape.specs.Joining as joins
-use Rattle.jt_filtering.specs.Kinds.{have_order}
-use Rattle.jt_filtering.specs.Listing.{given, on_items, listed, reversed, pairs_of, joined_by}
+use Rattle.jt_filter_meaning.specs.Kinds.{have_order}
+use Rattle.jt_filter_meaning.specs.Listing.{given, on_items, listed, reversed, pairs_of, joined_by}
 use Rattle.jt_filters.specs.Operands.{Builds, HasPayload}
-use Rattle.jt_filtering.specs.Ordering.{sorted_list, sorted_pairs, distinct}
-use Rattle.jt_filtering.specs.Texts.{of_same_kind, keeping_kind, safe, escaped_once, escaped_again, replaced}
+use Rattle.jt_filter_meaning.specs.Ordering.{sorted_list, sorted_pairs, distinct}
+use Rattle.jt_filter_meaning.specs.Texts.{of_same_kind, keeping_kind, safe, escaped_once, escaped_again, replaced}
 
 pub built : (wanted : Result Tree Fault) (r : Result Value ValueError) → HasPayload wanted → IsAnswer wanted r → Builds wanted r
 built wanted (Ok v) p h = h

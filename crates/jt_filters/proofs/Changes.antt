@@ -6,7 +6,7 @@ use Rattle.std.proofs.lemmas.Bool.Decides.{nat_tests}
 use Rattle.std.specs.Char.{to_ascii_lowercase, to_ascii_uppercase}
 use lib.Utf8.{encode}
 use Rattle.std.specs.Str.{chars, encode_utf8_all, str_to_ascii_lowercase, IsUtf8}
-use Rattle.jt_filtering.specs.Texts.{capitalized, trimmed_front, is_whitespace, backwards}
+use Rattle.jt_filter_meaning.specs.Texts.{capitalized, trimmed_front, is_whitespace, backwards}
 
 pub length-map : (f : ℕ → ℕ) (s : List ℕ) → length (map f s) ≡ length s
 length-map f [] = refl

@@ -14,7 +14,7 @@ use Rattle.jt_ids.specs.declared.filter_id.FilterId.TheVariants as filter
 use Rattle.std.specs.Char.{encode_utf8}
 use Rattle.std.specs.Fmt.{digits}
 use Rattle.std.specs.Str.{chars}
-use Rattle.jt_filtering.specs.Filtering.{filtered}
+use Rattle.jt_filter_meaning.specs.Filtering.{filtered}
 
 abbrev behind : Result Tree Fault → Result (List Tree) Fault → Result (List Tree) Fault
 behind (Ok t) (Ok ts) = Ok (t ∷ ts)

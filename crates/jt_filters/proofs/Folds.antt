@@ -3,7 +3,7 @@ use Rattle.std.proofs.Common.{◌≡◌, ℕ, ◌+◌, ◌<◌, ◌≤◌, Bool,
 use Rattle.std.specs.Prelude.{nat_lt}
 use Rattle.std.proofs.lemmas.List.{at_drop_more, at_drop_all}
 use Rattle.std.proofs.lemmas.Bool.Decides.{nat_tests}
-use Rattle.jt_filtering.specs.Ordering.{text_precedes}
+use Rattle.jt_filter_meaning.specs.Ordering.{text_precedes}
 
 -- the second text ends first
 pub precedes_past : (l r : List ℕ) (i : ℕ) → i < length l → length r ≤ i → text_precedes (drop i l) (drop i r) ≡ false

@@ -11,7 +11,7 @@ use Rattle.jt_escape.specs.Escaping.{escaped}
 use Rattle.jt_escape.specs.Joining.{piece, pieces, joined_text, joined_markup, joined_plain, joined_as_markup, has_markup, or_unprintable}
 use Rattle.jt_escape.specs.Joining as joins
 use Rattle.jt_ops.specs.Testing.{is_markup}
-use Rattle.jt_filtering.specs.Listing.{joined_by}
+use Rattle.jt_filter_meaning.specs.Listing.{joined_by}
 use Rattle.jt_filters.specs.Operands.{measured, text_length, text_measure, led_length, on_length}
 
 -- the same test of two crates

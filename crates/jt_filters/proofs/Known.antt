@@ -12,7 +12,7 @@ use Rattle.jt_value.specs.Payload.{joined_items}
 use Rattle.jt_value.specs.Tree.{Tree, Items, no_items, item}
 use Rattle.jt_filters.specs.Codes.{item_code}
 use Rattle.jt_filters.specs.Operands.{tree_of, front}
-use Rattle.jt_filtering.specs.Ordering.{alike, has_alike, unseen}
+use Rattle.jt_filter_meaning.specs.Ordering.{alike, has_alike, unseen}
 use Rattle.jt_filters.specs.Seen.{operand_items, found, Knows}
 use Rattle.jt_filters.specs.declared.operand.Operand.{Operand}
 use Rattle.jt_filters.proofs.Alike.{front_next, unseen_kept}

@@ -12,7 +12,7 @@ use Rattle.jt_value.specs.Payload.{more_items}
 use Rattle.jt_value.proofs.Lists.{items_view-push}
 use Rattle.jt_value.proofs.Lists.{joined_size, joined_nesting}
 use Rattle.jt_value.specs.Payload.{joined_items}
-use Rattle.jt_filtering.specs.Listing.{reversed_items}
+use Rattle.jt_filter_meaning.specs.Listing.{reversed_items}
 
 characters_size_by : (cs : List ℕ) → items_size (character_items cs) ≡ length cs + length (encode_utf8_all cs)
 characters_size_by [] = omega arith

@@ -9,7 +9,7 @@ use Rattle.jt_value.proofs.Lists.{Pair}
 use Rattle.jt_value.specs.View.{view, items_view, entries_view}
 use Rattle.jt_value.specs.declared.value.Value.{Value}
 use Rattle.jt_ops.proofs.Places.{items_count_view}
-use Rattle.jt_filtering.specs.Listing.{length_of, counted, entries_count, has_places, on_items, item_named}
+use Rattle.jt_filter_meaning.specs.Listing.{length_of, counted, entries_count, has_places, on_items, item_named}
 use Rattle.std.specs.Prelude.{Option, Ok, Err}
 use Rattle.std.specs.Str.{chars}
 use Rattle.jt_value.specs.Tree as tree

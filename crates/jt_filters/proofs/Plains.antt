@@ -8,10 +8,10 @@ use Rattle.jt_value.specs.Payload.{text_of, entries_of_map}
 use Rattle.jt_value.specs.declared.fault.Fault.{Fault}
 use Rattle.jt_ops.specs.Operands.{misfit_of_one}
 use Rattle.jt_ops.specs.Testing.{is_undefined}
-use Rattle.jt_filtering.specs.Listing.{reversed, reversed_items, pairs_of}
+use Rattle.jt_filter_meaning.specs.Listing.{reversed, reversed_items, pairs_of}
 use Rattle.jt_filters.specs.Operands.{plain_of}
-use Rattle.jt_filtering.specs.Ordering.{sorted_pairs}
-use Rattle.jt_filtering.specs.Texts.{replaced, backwards}
+use Rattle.jt_filter_meaning.specs.Ordering.{sorted_pairs}
+use Rattle.jt_filter_meaning.specs.Texts.{replaced, backwards}
 
 pub plain_is : (t : Tree) (s : List ℕ) → Some s ≡ plain_of t → t ≡ tree.text s
 plain_is tree.undefined s e = cc

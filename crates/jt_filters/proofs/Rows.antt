@@ -8,8 +8,8 @@ use Rattle.jt_value.specs.Tree.{Tree, Items, no_items, item, items_size, items_n
 use Rattle.jt_value.specs.View.{view, items_view}
 use Rattle.jt_value.proofs.Lists.{joined_size, joined_nesting}
 use Rattle.jt_value.specs.Iteration.{items_of_tree}
-use Rattle.jt_filtering.specs.Listing.{on_items, given}
-use Rattle.jt_filtering.specs.Mapping.{in_front, gathered, gathered_by, as_list, alone, if_kept}
+use Rattle.jt_filter_meaning.specs.Listing.{on_items, given}
+use Rattle.jt_filter_meaning.specs.Mapping.{in_front, gathered, gathered_by, as_list, alone, if_kept}
 use Rattle.jt_filters.specs.Operands.{measured}
 use Rattle.jt_filters.specs.Rows.{row_measured, measured_behind}
 use Rattle.jt_filters.proofs.Lists.{pushed, joined_none}

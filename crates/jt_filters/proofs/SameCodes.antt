@@ -17,7 +17,7 @@ use Rattle.jt_value.specs.Payload.{text_of}
 use Rattle.jt_value.specs.Tree as tree
 use Rattle.jt_value.specs.Tree.{Tree, Items, no_items, item, Entries, no_entries, entry}
 use Rattle.jt_filters.specs.Codes.{number_code, text_code, Rows, rows_code, code, items_code, rows, item_code}
-use Rattle.jt_filtering.specs.Ordering.{fold, alike}
+use Rattle.jt_filter_meaning.specs.Ordering.{fold, alike}
 use Rattle.jt_filters.proofs.Inserted.{cmp, lookup-inserted, sorted-inserted, same_rows}
 use Rattle.jt_value.proofs.Equalities.{holds_of}
 

@@ -7,7 +7,7 @@ use Rattle.jt_value.specs.Tree as tree
 use Rattle.jt_value.specs.Tree.{Tree}
 use Rattle.jt_ops.specs.ItemOf.{item_of}
 use Rattle.jt_ops.specs.Testing.{is_text, is_undefined}
-use Rattle.jt_filtering.specs.Single.{attribute}
+use Rattle.jt_filter_meaning.specs.Single.{attribute}
 
 text_key : (t : Tree) (s : List ℕ) → attribute t (tree.text s) ≡ item_of t (tree.text s)
 text_key tree.undefined s = refl

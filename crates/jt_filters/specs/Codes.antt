@@ -9,7 +9,7 @@ use denote.Ref.{Bor}
 use Rattle.jt_value.specs.Equality.{truth_number}
 use Rattle.jt_value.specs.Tree as tree
 use Rattle.jt_value.specs.Tree.{Tree, Items, no_items, item, Entries, no_entries, entry}
-use Rattle.jt_filtering.specs.Ordering.{fold}
+use Rattle.jt_filter_meaning.specs.Ordering.{fold}
 
 -- a number's eight bytes
 abbrev pub number_code : ℤ → List ℕ

@@ -13,8 +13,8 @@ use Rattle.jt_filters.specs.declared.inner.Judge.TheVariants as judge
 use Rattle.jt_filters.specs.declared.inner.Selection.{Selection}
 use Rattle.jt_filters.specs.declared.inner.Change.{Change}
 use Rattle.jt_filters.specs.declared.inner.Change.TheVariants as change
-use Rattle.jt_filtering.specs.Mapping.{alone, if_kept, passing, judged, part_of}
-use Rattle.jt_filtering.specs.Single.{single}
+use Rattle.jt_filter_meaning.specs.Mapping.{alone, if_kept, passing, judged, part_of}
+use Rattle.jt_filter_meaning.specs.Single.{single}
 
 -- how a judge judges
 abbrev pub judges : Judge → Tree → Result Bool Fault

@@ -9,7 +9,7 @@ use Rattle.jt_value.specs.Tree.{Tree, Items, no_items, item}
 use Rattle.jt_filters.specs.declared.operand.Operand.{Operand}
 use Rattle.jt_filters.specs.Codes.{item_code}
 use Rattle.jt_filters.specs.Operands.{tree_of}
-use Rattle.jt_filtering.specs.Ordering.{alike, has_alike}
+use Rattle.jt_filter_meaning.specs.Ordering.{alike, has_alike}
 
 -- operands as items
 abbrev pub operand_items : List Operand → Items

@@ -5,7 +5,7 @@ ghost use Rattle.jt_value.specs.View.{view};
 ghost use Rattle.jt_ops.specs.ItemOf as items;
 ghost use Rattle.jt_ops.specs.ItemOf.{item_of};
 ghost use Rattle.jt_filters.specs.Operands.{tree_of, chosen};
-ghost use Rattle.jt_filtering.specs.Single as single;
+ghost use Rattle.jt_filter_meaning.specs.Single as single;
 
 use crate::operand::Operand;
 use jt_ops::entry;

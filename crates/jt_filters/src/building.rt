@@ -1,7 +1,7 @@
 //! What a filter gives, built. Its size and nesting are tested before.
 ghost use Rattle.std.specs.Prelude.{◌∷◌, [], map};
 ghost use Rattle.jt_value.specs.View.{view};
-ghost use Rattle.jt_filtering.specs.Single.{single};
+ghost use Rattle.jt_filter_meaning.specs.Single.{single};
 ghost use Rattle.jt_filters.specs.Operands.{tree_of, Builds};
 ghost use Rattle.jt_filters.specs.Operands as operands;
 

@@ -5,7 +5,7 @@ ghost use Rattle.jt_value.specs.View.{view, items_view, entries_view};
 ghost use Rattle.jt_filters.specs.Codes as codes;
 ghost use Rattle.jt_filters.specs.Codes.{code, item_code, number_code, text_code, rows, rows_in};
 ghost use Rattle.jt_filters.specs.Operands.{tree_of};
-ghost use Rattle.jt_filtering.specs.Ordering.{fold};
+ghost use Rattle.jt_filter_meaning.specs.Ordering.{fold};
 
 use crate::operand::Operand;
 use jt_value::{NoMemory, Value};

@@ -3,7 +3,7 @@ ghost use Rattle.std.specs.Prelude.{◌≡◌, ◌∷◌, true, map, length, nat
 ghost use Rattle.jt_value.specs.View.{view};
 ghost use Rattle.jt_ops.specs.Limited.{limited_by, Answers};
 ghost use Rattle.jt_ids.specs.FilterTable.{least_values, most_values};
-ghost use Rattle.jt_filtering.specs.Filtering.{filtered};
+ghost use Rattle.jt_filter_meaning.specs.Filtering.{filtered};
 ghost use Rattle.jt_filters.specs.Operands.{tree_of, measured, Builds};
 
 use crate::building::build;

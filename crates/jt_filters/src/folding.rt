@@ -1,6 +1,6 @@
 //! Texts compared by fold, which is their ASCII lower case.
 ghost use Rattle.std.specs.Prelude.{◌≡◌};
-ghost use Rattle.jt_filtering.specs.Ordering as ordering;
+ghost use Rattle.jt_filter_meaning.specs.Ordering as ordering;
 
 /// Whether a text comes before another by fold.
 pub(crate) fn text_precedes(left: &str, right: &str) -> bool

@@ -5,7 +5,7 @@ ghost use Rattle.jt_filters.specs.Operands as operands;
 ghost use Rattle.jt_escape.specs.Joining.{IsAnswer, piece, joined_text};
 ghost use Rattle.jt_escape.specs.Joining as joins;
 ghost use Rattle.jt_value.specs.View.{view, items_view};
-ghost use Rattle.jt_filtering.specs.Listing.{on_items, joined_by};
+ghost use Rattle.jt_filter_meaning.specs.Listing.{on_items, joined_by};
 ghost use Rattle.jt_filters.specs.Operands.{tree_of, items_in, measured, text_length, led_length};
 
 use crate::item_list::{ItemList, items_of};

@@ -1,7 +1,7 @@
 //! Which items fit a filter.
 ghost use Rattle.std.specs.Prelude.{◌≡◌};
-ghost use Rattle.jt_filtering.specs.Kinds as kinds;
-ghost use Rattle.jt_filtering.specs.Kinds.{all_numbers, all_plain, have_order};
+ghost use Rattle.jt_filter_meaning.specs.Kinds as kinds;
+ghost use Rattle.jt_filter_meaning.specs.Kinds.{all_numbers, all_plain, have_order};
 ghost use Rattle.jt_filters.specs.Operands.{items_in};
 
 use crate::item_list::ItemList;

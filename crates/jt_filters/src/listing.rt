@@ -4,11 +4,11 @@ ghost use Rattle.jt_value.specs.Tree as tree;
 ghost use Rattle.jt_value.specs.Tree.{Tree, items_size, items_nesting};
 ghost use Rattle.jt_value.specs.View.{view, items_view, entries_view};
 ghost use Rattle.jt_escape.specs.Joining.{IsAnswer};
-ghost use Rattle.jt_filtering.specs.Listing.{on_items, listed, reversed, reversed_items, pairs_of, pair_items};
-ghost use Rattle.jt_filtering.specs.Listing as listing;
+ghost use Rattle.jt_filter_meaning.specs.Listing.{on_items, listed, reversed, reversed_items, pairs_of, pair_items};
+ghost use Rattle.jt_filter_meaning.specs.Listing as listing;
 ghost use Rattle.jt_filters.specs.Operands.{tree_of, items_in, measured};
-ghost use Rattle.jt_filtering.specs.Ordering.{sorted_pairs};
-ghost use Rattle.jt_filtering.specs.Ordering as ordering;
+ghost use Rattle.jt_filter_meaning.specs.Ordering.{sorted_pairs};
+ghost use Rattle.jt_filter_meaning.specs.Ordering as ordering;
 
 use crate::item_list::{ItemList, items_of};
 use crate::operand::Operand;

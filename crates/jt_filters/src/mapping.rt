@@ -2,10 +2,10 @@
 ghost use Rattle.std.specs.Prelude.{◌≡◌, map, Ok, IfOk, IfErr, Some, option_map};
 ghost use Rattle.jt_value.specs.Payload.{text_of};
 ghost use Rattle.jt_value.specs.View.{view, items_view};
-ghost use Rattle.jt_filtering.specs.Listing.{on_items};
-ghost use Rattle.jt_filtering.specs.Mapping as the;
+ghost use Rattle.jt_filter_meaning.specs.Listing.{on_items};
+ghost use Rattle.jt_filter_meaning.specs.Mapping as the;
 ghost use Rattle.jt_ids.specs.TestTable.{test_of_name};
-ghost use Rattle.jt_filtering.specs.Mapping.{named_by, filter_named, gathered, gathered_by, as_list};
+ghost use Rattle.jt_filter_meaning.specs.Mapping.{named_by, filter_named, gathered, gathered_by, as_list};
 ghost use Rattle.jt_filters.specs.Operands.{tree_of, items_in, measured, Builds};
 ghost use Rattle.jt_filters.specs.Rows.{Judges, judging, gives, Gives, changing, row_measured, RowFault};
 

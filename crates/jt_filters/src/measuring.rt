@@ -2,7 +2,7 @@
 //! slower where it is refused.
 ghost use Rattle.std.specs.Prelude.{◌≡◌, ◌∷◌, [], map};
 ghost use Rattle.jt_value.specs.View.{view};
-ghost use Rattle.jt_filtering.specs.Single.{single};
+ghost use Rattle.jt_filter_meaning.specs.Single.{single};
 ghost use Rattle.jt_filters.specs.Operands.{tree_of, measured};
 ghost use Rattle.jt_filters.specs.Operands as operands;
 

@@ -5,7 +5,7 @@ ghost use Rattle.jt_value.specs.Tree.{truth, printed, size, nesting};
 ghost use Rattle.jt_value.specs.View.{items_view, entries_view};
 ghost use Rattle.jt_ops.specs.Operands as operands;
 ghost use Rattle.jt_ops.specs.Testing as testing;
-ghost use Rattle.jt_filtering.specs.Kinds.{is_plain};
+ghost use Rattle.jt_filter_meaning.specs.Kinds.{is_plain};
 ghost use Rattle.jt_filters.specs.Operands.{tree_of, number_of, plain_of, Copies};
 
 use itoa::Buffer;

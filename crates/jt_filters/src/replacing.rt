@@ -4,7 +4,7 @@ ghost use Rattle.jt_value.specs.Tree as tree;
 ghost use Rattle.jt_value.specs.View.{view};
 ghost use Rattle.jt_escape.specs.Joining.{IsAnswer};
 ghost use Rattle.jt_filters.specs.Operands.{tree_of, measured};
-ghost use Rattle.jt_filtering.specs.Texts.{replaced, replaced_behind};
+ghost use Rattle.jt_filter_meaning.specs.Texts.{replaced, replaced_behind};
 
 use crate::operand::Operand;
 use jt_value::{Fault, NoMemory, Value, ValueError};

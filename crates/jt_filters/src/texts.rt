@@ -6,8 +6,8 @@ ghost use Rattle.jt_value.specs.View.{view};
 ghost use Rattle.jt_escape.specs.Joining.{IsAnswer};
 ghost use Rattle.jt_ops.specs.Pieces.{of_kind, written};
 ghost use Rattle.jt_filters.specs.Operands.{tree_of, measured};
-ghost use Rattle.jt_filtering.specs.Texts.{keeping_kind, unchanged, of_same_kind, escaped_once, escaped_again};
-ghost use Rattle.jt_filtering.specs.Texts as texts;
+ghost use Rattle.jt_filter_meaning.specs.Texts.{keeping_kind, unchanged, of_same_kind, escaped_once, escaped_again};
+ghost use Rattle.jt_filter_meaning.specs.Texts as texts;
 
 use crate::operand::Operand;
 use itoa::Buffer;

@@ -7,10 +7,10 @@ ghost use Rattle.jt_value.specs.Equality.{equal};
 ghost use Rattle.jt_value.specs.View.{view, items_view};
 ghost use Rattle.jt_escape.specs.Joining.{IsAnswer};
 ghost use Rattle.jt_ops.specs.Limited.{limited_by, Answers};
-ghost use Rattle.jt_filtering.specs.Listing.{on_items};
+ghost use Rattle.jt_filter_meaning.specs.Listing.{on_items};
 ghost use Rattle.jt_filters.specs.Operands.{tree_of, items_in, measured, front};
-ghost use Rattle.jt_filtering.specs.Ordering.{distinct, unseen};
-ghost use Rattle.jt_filtering.specs.Ordering as ordering;
+ghost use Rattle.jt_filter_meaning.specs.Ordering.{distinct, unseen};
+ghost use Rattle.jt_filter_meaning.specs.Ordering as ordering;
 ghost use Rattle.jt_filters.specs.Seen.{operand_items, Knows};
 
 use crate::codes::code_of;

@@ -29,7 +29,7 @@ use Rattle.jt_inherit.proofs.Growing.{reach_more, ask_more, reaches_next}
 use Rattle.jt_inherit.proofs.Leads.{names, names_to_root, templates_grow, way_grows, few_templates, templates_to_root, asked_breaks}
 use Rattle.jt_inherit.proofs.Needed.{by_templates, needed-append}
 use Rattle.jt_chains.proofs.Placed.{along_templates, map_at}
-use Rattle.jt_order.specs.View.{graph_of}
+use Rattle.jt_graph.specs.View.{graph_of}
 use Rattle.jt_chains.specs.Pages.{page_view, pages_view}
 use Rattle.jt_inherit.specs.SetView.{key_view, homes_view}
 use Rattle.jt_inherit.specs.declared.sets.HomeKey.{HomeKey}

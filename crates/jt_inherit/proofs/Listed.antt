@@ -2,8 +2,8 @@
 use Rattle.std.proofs.Common.{◌≡◌, ℕ, ◌+◌, ◌<◌, List, [], ◌∷◌, ◌++◌, length, take, get_or, sym, ap, subst, ◌∙◌, Vec, Global}
 use Rattle.std.specs.Prelude.{unwrap_or}
 use Rattle.std.proofs.lemmas.List.{take_more}
-use Rattle.jt_order.specs.Graph.{Graph, next_of}
-use Rattle.jt_order.specs.View.{graph_of}
+use Rattle.jt_graph.specs.Graph.{Graph, next_of}
+use Rattle.jt_graph.specs.View.{graph_of}
 use Rattle.jt_chains.specs.Chain as chain
 use Rattle.jt_inherit.specs.Found.{HasHomes}
 use Rattle.jt_chains.specs.Pages.{home_view}

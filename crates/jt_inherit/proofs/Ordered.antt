@@ -3,8 +3,8 @@ use Rattle.std.proofs.Common.{◌≡◌, ℕ, zero, suc, ◌<◌, ◌==◌, Bool
 use Rattle.std.specs.Prelude.{slice_get, unwrap_or}
 use Rattle.std.specs.List.{AllByRecursion}
 use Rattle.std.proofs.lemmas.Bool.Decides.{nat_tests}
-use Rattle.jt_order.specs.Graph as graph
-use Rattle.jt_order.specs.Graph.{Graph, next_of, AreOrdered}
+use Rattle.jt_graph.specs.Graph as graph
+use Rattle.jt_graph.specs.Graph.{Graph, next_of, AreOrdered}
 use Rattle.jt_chains.specs.Chain.{Sources, Home, a_chain, same_home, listed}
 use Rattle.jt_chains.specs.Includes.{included, AllIn, InOrder}
 use Rattle.jt_chains.specs.Places.{home_at}

@@ -7,10 +7,10 @@ use Rattle.std.specs.Option.{is_some, is_none}
 use Rattle.std.specs.Str.{bytes_eq}
 use Rattle.std.proofs.lemmas.Bool.{cases_lt}
 use Rattle.std.proofs.lemmas.Bool.Decides.{nat_tests}
-use Rattle.jt_order.specs.Graph as graph
-use Rattle.jt_order.specs.Graph.{Graph, next_of, IsClosed, HasCycle, IsOrder}
-use Rattle.jt_order.specs.declared.error.OrderError.{OrderError}
-use Rattle.jt_order.specs.declared.error.OrderError.TheVariants as order
+use Rattle.jt_graph.specs.Graph as graph
+use Rattle.jt_graph.specs.Graph.{Graph, next_of, IsClosed, HasCycle, IsOrder}
+use Rattle.jt_graph.specs.declared.error.OrderError.{OrderError}
+use Rattle.jt_graph.specs.declared.error.OrderError.TheVariants as order
 use Rattle.jt_scan.specs.declared.options.Options.{Options}
 use Rattle.jt_trees.specs.Texts.{among, repeated}
 use Rattle.jt_trees.specs.Expressions.{Text}

@@ -2,8 +2,8 @@
 -- that were followed.
 use Rattle.std.specs.Prelude.{◌≡◌, ℕ, ◌<◌, ◌≤◌, ◌⊎◌, true, false, Bool, IsTrue, List, [], ◌∷◌, ◌++◌, ◌||◌, length, map, filter, slice_get, Some, None}
 use Rattle.std.specs.List.{AllByRecursion}
-use Rattle.jt_order.specs.Graph.{next_of}
-use Rattle.jt_order.specs.View.{graph_of}
+use Rattle.jt_graph.specs.Graph.{next_of}
+use Rattle.jt_graph.specs.View.{graph_of}
 use Rattle.jt_trees.specs.Texts.{among, repeated}
 use Rattle.jt_trees.specs.Expressions.{Text}
 use Rattle.jt_scan.specs.declared.options.Options.{Options}

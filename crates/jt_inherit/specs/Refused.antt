@@ -1,7 +1,7 @@
 -- What becomes of a refusal of an order.
 use Rattle.std.specs.Prelude.{◌≡◌}
-use Rattle.jt_order.specs.declared.error.OrderError.{OrderError}
-use Rattle.jt_order.specs.declared.error.OrderError.TheVariants as order
+use Rattle.jt_graph.specs.declared.error.OrderError.{OrderError}
+use Rattle.jt_graph.specs.declared.error.OrderError.TheVariants as order
 use Rattle.jt_inherit.specs.declared.error.ChainError.{ChainError}
 use Rattle.jt_inherit.specs.declared.error.ChainError.TheVariants as error
 

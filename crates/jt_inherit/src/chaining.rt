@@ -2,8 +2,8 @@
 
 ghost use Rattle.std.specs.Prelude.{◌≡◌, ◌+◌, ◌*◌, ◌<◌, ◌≤◌, length, OnOk, IfOk, IfErr, MatchResult};
 ghost use Rattle.std.specs.List.{AllByRecursion};
-ghost use Rattle.jt_order.specs.Graph.{next_of};
-ghost use Rattle.jt_order.specs.View.{graph_of};
+ghost use Rattle.jt_graph.specs.Graph.{next_of};
+ghost use Rattle.jt_graph.specs.View.{graph_of};
 ghost use Rattle.jt_trees.specs.Sizes.{body_bytes};
 ghost use Rattle.jt_trees.specs.Expressions.{Text};
 ghost use Rattle.jt_chains.specs.Along.{ArePlaces, templates_at};
@@ -26,7 +26,7 @@ use crate::library::Library;
 use crate::rules::check_rules;
 use crate::shelf::Shelf;
 use jt_chains::{Chain, Home};
-use jt_order::order;
+use jt_graph::order;
 use jt_scan::Options;
 use std::alloc::{AllocError, Global};
 

@@ -3,7 +3,7 @@
 ghost use Rattle.std.specs.Prelude.{◌≡◌};
 ghost use Rattle.jt_inherit.specs.Lines as lines;
 
-use jt_order::OrderError;
+use jt_graph::OrderError;
 use jt_parse::ParseError;
 use jt_scan::ScanError;
 use std::alloc::{AllocError, AllocFailed};

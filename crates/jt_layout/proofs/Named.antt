@@ -14,11 +14,11 @@ use Rattle.jt_chains.specs.Places.{home_at}
 use Rattle.jt_chains.specs.Uses.{own_names}
 use Rattle.jt_rules.specs.World.{World}
 use Rattle.jt_meaning.specs.Layout.{in_globals, names_in}
-use Rattle.jt_uses.specs.Names.{texts}
+use Rattle.jt_names.specs.Names.{texts}
 use Rattle.jt_layout.specs.Places.{all_names, texts_of}
 use Rattle.jt_layout.proofs.Firsts.{homes_left}
 use Rattle.jt_layout.proofs.Homes.{same}
-use Rattle.jt_uses.proofs.Inserted.{inserted_both, name_cmp, key_inserted}
+use Rattle.jt_names.proofs.Inserted.{inserted_both, name_cmp, key_inserted}
 
 -- one name more goes into a set
 pub key_turn : (ks : List (Bor Text)) (i : ℕ) (d : Bor Text) (old new : List (Bor Text)) → i < length ks → new ≡ insert_key name_cmp old (get_or ks i d)

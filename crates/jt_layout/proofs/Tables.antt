@@ -16,7 +16,7 @@ use Rattle.jt_chains.specs.declared.linked.Chain.{Chain}
 use Rattle.jt_chains.specs.declared.linked.Page.{Page}
 use Rattle.jt_chains.specs.declared.parts.Block.{Block}
 use Rattle.jt_rules.specs.World.{World}
-use Rattle.jt_slots.specs.Slots.{global}
+use Rattle.jt_resolved.specs.Slots.{global}
 use Rattle.jt_meaning.specs.Layout.{in_globals, slot_in, globals_from, counted_from, of_macro, of_body, entry_keys, place_of, first_default, default_place, numbered_of, names, scopes, block_parameters, is_scoped, unit, defaults_of}
 use Rattle.jt_meaning.specs.Resolve.{first_body}
 use Rattle.jt_layout.specs.Front.{Stands, its_world, its_order, its_home}

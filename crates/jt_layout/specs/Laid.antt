@@ -11,11 +11,11 @@ use Rattle.jt_chains.specs.View.{chain_view}
 use Rattle.jt_chains.specs.declared.given.Named.{Named}
 use Rattle.jt_chains.specs.declared.parts.Macro.{Macro}
 use Rattle.jt_rules.specs.World.{World, world_of}
-use Rattle.jt_slots.specs.Slots.{global}
+use Rattle.jt_resolved.specs.Slots.{global}
 use Rattle.jt_meaning.specs.Layout.{slot_in, globals, of_chain, of_macro, of_body, keys, names, numbered_of, numbered_bodies, first_slot, unit, default_place, block_parameters}
 use Rattle.jt_meaning.specs.Resolve.{first_body, next_given}
 use Rattle.jt_layout.specs.Names.{place_in}
-use Rattle.jt_uses.specs.Names.{texts}
+use Rattle.jt_names.specs.Names.{texts}
 use Rattle.jt_layout.specs.declared.laid.Laid.{Laid}
 use Rattle.jt_layout.specs.declared.scope.Scope.{Scope}
 

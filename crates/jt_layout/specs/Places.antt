@@ -14,7 +14,7 @@ use Rattle.jt_chains.specs.Uses.{own_names}
 use Rattle.jt_rules.specs.World.{World}
 use Rattle.jt_meaning.specs.Layout.{names_in}
 use Rattle.jt_meaning.specs.Resolve.{next_given}
-use Rattle.jt_uses.specs.Names.{texts}
+use Rattle.jt_names.specs.Names.{texts}
 
 -- the place of the first of these texts that is x, where they have the places from one on
 abbrev pub first_of : Text → ℕ → List Text → Option ℕ

@@ -14,15 +14,15 @@ ghost use Rattle.jt_rules.specs.World.{world_of};
 ghost use Rattle.jt_rules.specs.declared.error.ScopeError.TheVariants as error;
 ghost use Rattle.jt_meaning.specs.Layout.{counted_from, numbered_of, is_scoped};
 ghost use Rattle.jt_meaning.specs.Resolve.{first_body};
-ghost use Rattle.jt_uses.specs.Names.{texts};
+ghost use Rattle.jt_names.specs.Names.{texts};
 ghost use Rattle.jt_layout.specs.Names.{place_in};
 ghost use Rattle.jt_layout.specs.Places.{nexts, first_of};
 
 use crate::index::Index;
 use crate::lists::{block_names, list_of};
 use jt_chains::{Block, Chain};
+use jt_names::scope_names;
 use jt_rules::ScopeError;
-use jt_uses::scope_names;
 use std::alloc::Global;
 
 /// The first body of each block.

@@ -12,7 +12,7 @@ ghost use Rattle.jt_chains.specs.View.{chain_view, sources_of};
 ghost use Rattle.jt_rules.specs.World.{world_of};
 ghost use Rattle.jt_rules.specs.declared.error.ScopeError.TheVariants as error;
 ghost use Rattle.jt_meaning.specs.Layout.{in_globals, names_in};
-ghost use Rattle.jt_uses.specs.Names.{texts};
+ghost use Rattle.jt_names.specs.Names.{texts};
 ghost use Rattle.jt_layout.specs.Names.{place_in};
 ghost use Rattle.jt_layout.specs.Places.{all_names, names_at};
 
@@ -20,8 +20,8 @@ use crate::includes::included_names;
 use crate::index::Index;
 use crate::lists::list_of;
 use jt_chains::{Chain, Home};
+use jt_names::own_names;
 use jt_rules::ScopeError;
-use jt_uses::own_names;
 use std::alloc::{AllocError, Global};
 use std::collections::{BTreeMap, BTreeSet};
 

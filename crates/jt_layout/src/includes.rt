@@ -6,7 +6,7 @@ ghost use Rattle.jt_chains.specs.Chain.{templates};
 ghost use Rattle.jt_chains.specs.Includes.{needs_by, needs_in};
 ghost use Rattle.jt_chains.specs.Places.{home_at};
 ghost use Rattle.jt_chains.specs.View.{chain_view, sources_of};
-ghost use Rattle.jt_uses.specs.Names.{texts};
+ghost use Rattle.jt_names.specs.Names.{texts};
 
 use jt_chains::Chain;
 use jt_trees::Stmt;

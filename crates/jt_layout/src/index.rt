@@ -1,7 +1,7 @@
 //! Places of names.
 
 ghost use Rattle.std.specs.Prelude.{◌≡◌, IfOk, IfErr, Some, None, if◌then◌else◌};
-ghost use Rattle.jt_uses.specs.Names.{texts};
+ghost use Rattle.jt_names.specs.Names.{texts};
 ghost use Rattle.std.specs.Str.{bytes_eq};
 ghost use Rattle.jt_trees.specs.Expressions.{Text};
 ghost use Rattle.jt_rules.specs.declared.error.ScopeError.TheVariants as error;

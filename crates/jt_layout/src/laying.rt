@@ -9,7 +9,7 @@ ghost use Rattle.jt_chains.specs.View.{chain_view};
 ghost use Rattle.jt_rules.specs.World.{World};
 ghost use Rattle.jt_rules.specs.declared.error.ScopeError.TheVariants as error;
 ghost use Rattle.jt_meaning.specs.Layout as layout;
-ghost use Rattle.jt_uses.specs.Names.{texts};
+ghost use Rattle.jt_names.specs.Names.{texts};
 ghost use Rattle.jt_layout.specs.Front.{Stands, its_world, its_order, its_home};
 ghost use Rattle.jt_layout.specs.Laid.{IsLaid, IsLaidOut};
 ghost use Rattle.jt_layout.specs.Places.{names_at};

@@ -1,7 +1,7 @@
 //! The names of templates, macros, blocks and what is given, in their order.
 
 ghost use Rattle.std.specs.Prelude.{◌≡◌, map, IfOk, string_bytes};
-ghost use Rattle.jt_uses.specs.Names.{texts};
+ghost use Rattle.jt_names.specs.Names.{texts};
 
 use jt_chains::{Block, Macro, Named, Page};
 use std::alloc::{AllocError, Global};

@@ -19,12 +19,12 @@ use Rattle.jt_image.specs.Enough.{Enough}
 use Rattle.jt_image.specs.FreeRun.{Free, Finished, Failed, Going, exec, start_machine, ComesTo}
 use Rattle.jt_image.specs.Laws.{HasRuns}
 use Rattle.jt_value.specs.Place.{Place}
-use Rattle.jt_slots.specs.Got.{Got, gives, fails, deeper, bind}
-use Rattle.jt_slots.specs.Values.{bytes_of}
-use Rattle.jt_slots.specs.Slots.{with_locals, Routine, Program, Memory, Written, SCalls, smeanings, sperformed, scalls, globals_of, smean}
+use Rattle.jt_evaluation.specs.Got.{Got, gives, fails, deeper, bind}
+use Rattle.jt_evaluation.specs.Values.{bytes_of}
+use Rattle.jt_resolved.specs.Slots.{with_locals, Routine, Program, Memory, Written, SCalls, smeanings, sperformed, scalls, globals_of, smean}
 use Rattle.jt_trees.specs.Expressions.{Text}
-use Rattle.jt_slots.specs.TheFilters.{the_filters}
-use Rattle.jt_slots.specs.Loops.{tree_at}
+use Rattle.jt_evaluation.specs.TheFilters.{the_filters}
+use Rattle.jt_evaluation.specs.Loops.{tree_at}
 use Rattle.jt_lower.specs.Asm.{flat, places, Ran, of_written, run}
 use Rattle.jt_lower.specs.Lower.{body_asm, routine_places, unit_of, constant_of, numbered, compiled}
 use Rattle.jt_lower.specs.Fits.{IsPooled, ProgramFits}

@@ -2,7 +2,7 @@
 use Rattle.std.proofs.Common.{◌≡◌, Bool, true, false, if◌then◌else◌, Option, Some, None, refl, sym, ap, ◌∙◌, subst}
 use Rattle.jt_image.specs.Config.{State}
 use Rattle.jt_value.specs.Place.{Place}
-use Rattle.jt_slots.specs.Got.{Got, gives, fails, deeper, bind, at}
+use Rattle.jt_evaluation.specs.Got.{Got, gives, fails, deeper, bind, at}
 use Rattle.jt_lower.specs.Asm.{Ran, does, stops, too_deep, bad, and_then, place_or}
 
 -- Where the meaning gives something, the run comes to the state of it, and an invariant holds of it. Where it fails, the run stops

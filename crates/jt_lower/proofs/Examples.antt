@@ -11,11 +11,11 @@ use Rattle.jt_image.specs.Ids.{operator_of, filter_of}
 use Rattle.jt_image.specs.Loops.{field_of}
 use Rattle.jt_image.specs.FreeRun.{Finished, Failed, exec, start_machine}
 use Rattle.jt_value.specs.Place.{Place}
-use Rattle.jt_slots.specs.Got.{gives, fails, deeper}
+use Rattle.jt_evaluation.specs.Got.{gives, fails, deeper}
 use Rattle.jt_trees.specs.Expressions.{Text}
-use Rattle.jt_slots.specs.TheFilters.{the_filters}
-use Rattle.jt_slots.specs.Loops as loops
-use Rattle.jt_slots.specs.Slots.{local, global, operator, filter, SExpr, pooled, variable, field, made, invoke, none, item, aside, several, SBody, put_pooled, print, if_else, for_each, capture, run, end, stmt, Routine, Program, smean}
+use Rattle.jt_evaluation.specs.TheFilters.{the_filters}
+use Rattle.jt_evaluation.specs.Loops as loops
+use Rattle.jt_resolved.specs.Slots.{local, global, operator, filter, SExpr, pooled, variable, field, made, invoke, none, item, aside, several, SBody, put_pooled, print, if_else, for_each, capture, run, end, stmt, Routine, Program, smean}
 use Rattle.jt_lower.specs.Lower.{compiled}
 use Rattle.jt_lower.specs.Fits.{TakesRow, RoutineFits, IsPooled, ProgramFits}
 

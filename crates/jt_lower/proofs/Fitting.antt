@@ -7,15 +7,15 @@ use Rattle.std.proofs.lemmas.Option.{slice_get-get_or, slice_get_within}
 use Rattle.jt_value.specs.Tree as tree
 use Rattle.jt_value.specs.Tree.{Tree}
 use Rattle.jt_trees.specs.Expressions.{Text}
-use Rattle.jt_slots.specs.Slots as slots
-use Rattle.jt_slots.specs.Slots.{Slot, local, global, Maker, SExpr, SRow, Targets, SStmt, SBody, Routine, Program}
-use Rattle.jt_slots.specs.Locals.{slot_locals, slots_locals, targets_locals, expr_locals, row_locals, condition_locals, stmt_locals, body_locals}
-use Rattle.jt_slots.specs.Pool.{Constant, own, known, constant_values, expr_values, row_values, condition_values, stmt_values, body_values, routines_values, placed, placed_expr, placed_row, placed_condition, placed_stmt, placed_body, placed_routine, placed_routines}
-use Rattle.jt_slots.specs.Size.{row_count, expr_height, row_height, condition_height, stmt_height, body_height, expr_size, row_size, condition_size, stmt_size, body_size, routines_size}
+use Rattle.jt_resolved.specs.Slots as slots
+use Rattle.jt_resolved.specs.Slots.{Slot, local, global, Maker, SExpr, SRow, Targets, SStmt, SBody, Routine, Program}
+use Rattle.jt_resolved.specs.Locals.{slot_locals, slots_locals, targets_locals, expr_locals, row_locals, condition_locals, stmt_locals, body_locals}
+use Rattle.jt_resolved.specs.Pool.{Constant, own, known, constant_values, expr_values, row_values, condition_values, stmt_values, body_values, routines_values, placed, placed_expr, placed_row, placed_condition, placed_stmt, placed_body, placed_routine, placed_routines}
+use Rattle.jt_resolved.specs.Size.{row_count, expr_height, row_height, condition_height, stmt_height, body_height, expr_size, row_size, condition_size, stmt_size, body_size, routines_size}
 use Rattle.jt_image.specs.Typed.{max_entries}
 use Rattle.jt_lower.specs.Fits.{MakerFits, TakesRow, IsBare, SlotFits, ExprFits, RowFits, SlotsFit, TargetsFit, ConditionFits, TextFits, StmtFits, BodyFits, RoutineFits, IsPooled, ProgramFits}
-use Rattle.jt_slots.specs.TheFilters.{the_filters}
-use Rattle.jt_slots.specs.Takes.{MakerTakes, HasParameters, ExprTakes, RowTakes, ConditionTakes, StmtTakes, BodyTakes}
+use Rattle.jt_evaluation.specs.TheFilters.{the_filters}
+use Rattle.jt_resolved.specs.Takes.{MakerTakes, HasParameters, ExprTakes, RowTakes, ConditionTakes, StmtTakes, BodyTakes}
 use Rattle.jt_lower.specs.Lawful.{ConstantLawful, TextLawful, SlotLawful, ExprLawful, RowLawful, SlotsLawful, TargetsLawful, ConditionLawful, StmtLawful, BodyLawful, RoutineLawful, program_with, AreLawful, AreLow}
 
 -- ---- values at their places in a pool

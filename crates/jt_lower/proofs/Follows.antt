@@ -11,7 +11,7 @@ use Rattle.jt_image.specs.Loops.{advanced}
 use Rattle.jt_image.specs.Step.{Plain, goes, faults_by, broken, plain, on_value, on_values, on_frame, with_entries, goes_on, wrong, straight, no_demand, calling, locals_of, entered, calls_unit, action, fetch}
 use Rattle.jt_value.specs.Place.{Place}
 use Rattle.jt_trees.specs.Expressions.{Text}
-use Rattle.jt_slots.specs.Slots.{SCalls}
+use Rattle.jt_resolved.specs.Slots.{SCalls}
 use Rattle.jt_image.specs.FreeRun.{Free, Failed, Going, on_action}
 use Rattle.jt_lower.proofs.Placed.{Table, placed_at, placed_exec}
 use Rattle.jt_lower.specs.Asm.{Asm, nil, one, both, choose, when, each, invoke, flat, places, Ran, does, stops, too_deep, bad, and_then, of_plain, turns, turns_left, of_written, into_buffers, called, run}

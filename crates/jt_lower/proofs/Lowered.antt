@@ -26,17 +26,17 @@ use Rattle.jt_ids.specs.declared.test_id.TestId.TheVariants as t
 use Rattle.jt_ids.specs.OpTable.{op_id, op_operands}
 use Rattle.jt_ids.specs.TestTable.{test_id}
 use Rattle.jt_ops.specs.Making.{listed, mapped}
-use Rattle.jt_slots.specs.Takes.{InPairs}
+use Rattle.jt_resolved.specs.Takes.{InPairs}
 use Rattle.jt_value.specs.Place.{Place}
-use Rattle.jt_slots.specs.Got.{Got, gives, fails, deeper, bind, checked, at}
-use Rattle.jt_slots.specs.Values.{shown, shown_text, bytes_of, as_value}
+use Rattle.jt_evaluation.specs.Got.{Got, gives, fails, deeper, bind, checked, at}
+use Rattle.jt_evaluation.specs.Values.{shown, shown_text, bytes_of, as_value}
 use Rattle.jt_trees.specs.Expressions.{Text}
-use Rattle.jt_slots.specs.TheFilters.{the_filters}
-use Rattle.jt_slots.specs.Loops.{Field, Loop, result_listed, items_of_value, tree_at}
-use Rattle.jt_slots.specs.Slots as slots
-use Rattle.jt_slots.specs.Slots.{Slot, local, global, Maker, SExpr, SRow, Targets, SStmt, SBody, Routine, Program, Memory, Valued, Listed, Written, SCalls, load, put_at, store, store_if, store_each, take, make, valued, sturns, sgone_over, in_front, svalue, svalues, skept, smeaning, smeanings}
+use Rattle.jt_evaluation.specs.TheFilters.{the_filters}
+use Rattle.jt_evaluation.specs.Loops.{Field, Loop, result_listed, items_of_value, tree_at}
+use Rattle.jt_resolved.specs.Slots as slots
+use Rattle.jt_resolved.specs.Slots.{Slot, local, global, Maker, SExpr, SRow, Targets, SStmt, SBody, Routine, Program, Memory, Valued, Listed, Written, SCalls, load, put_at, store, store_if, store_each, take, make, valued, sturns, sgone_over, in_front, svalue, svalues, skept, smeaning, smeanings}
 use Rattle.jt_lower.specs.Asm.{Asm, nil, one, both, choose, when, each, invoke, Ran, does, bad, and_then, of_plain, turns, of_written, into_buffers, called, run}
-use Rattle.jt_slots.specs.Size.{row_count}
+use Rattle.jt_resolved.specs.Size.{row_count}
 use Rattle.jt_lower.specs.Lower.{half, maker, told_as, flag, load_of, store_of, expr_asm, row_asm, store_if_of, stores_asm, take_asm, turn_asm, over_asm, kept_asm, stmt_asm, body_asm, unit_of, compiled}
 use Rattle.jt_lower.specs.Fits.{MakerFits, TakesRow, SlotFits, ExprFits, RowFits, SomeFits, SlotsFit, TargetsFit, ConditionFits, StmtFits, BodyFits}
 use Rattle.jt_lower.proofs.Told.{listed_same, has_field, IsTurn, told_same}

@@ -3,11 +3,11 @@ use Rattle.std.proofs.Common.{◌≡◌, ℕ, ◌+◌, ◌-◌, max, ◌<◌, �
 use Rattle.std.specs.Prelude.{nat_le}
 use Rattle.std.specs.Option.{is_some}
 use Rattle.std.proofs.lemmas.Bool.Decides.{nat_tests}
-use Rattle.jt_slots.specs.Slots as slots
-use Rattle.jt_slots.specs.Slots.{SExpr, none}
-use Rattle.jt_slots.specs.Size.{expr_height, row_height}
-use Rattle.jt_slots.specs.View.{entry_front, expr_view, row_view}
-use Rattle.jt_slots.proofs.ExpressionViews.{Entry, row_left}
+use Rattle.jt_resolved.specs.Slots as slots
+use Rattle.jt_resolved.specs.Slots.{SExpr, none}
+use Rattle.jt_resolved.specs.Size.{expr_height, row_height}
+use Rattle.jt_resolved.specs.View.{entry_front, expr_view, row_view}
+use Rattle.jt_resolved.proofs.ExpressionViews.{Entry, row_left}
 
 -- both are few enough where the greater one is
 pub both_low : (a b c : ℕ) → nat_le (max a b) c ≡ nat_le a c && nat_le b c

@@ -7,7 +7,7 @@ use Rattle.jt_image.specs.Config.{Machine}
 use Rattle.jt_image.specs.Step.{action, fetch}
 use Rattle.jt_image.specs.FreeRun.{Free, Stuck, Going, on_action}
 use Rattle.jt_value.specs.Place.{Place}
-use Rattle.jt_slots.specs.Slots.{Program}
+use Rattle.jt_resolved.specs.Slots.{Program}
 use Rattle.jt_lower.specs.Lower.{routine_places}
 
 -- the place of each instruction, by its unit and point

@@ -3,12 +3,12 @@ use Rattle.std.proofs.Common.{ℕ, suc, Bool, true, false, if◌then◌else◌, 
 use Rattle.jt_value.specs.Tree as tree
 use Rattle.jt_value.specs.Tree.{Tree}
 use Rattle.jt_value.specs.Place.{Place}
-use Rattle.jt_slots.specs.Got.{Got, gives, fails, deeper, bind, checked, at}
-use Rattle.jt_slots.specs.Filters.{Filters}
-use Rattle.jt_slots.specs.Values.{as_value}
-use Rattle.jt_slots.specs.Loops.{Loop, items_of_value}
-use Rattle.jt_slots.specs.Slots as slots
-use Rattle.jt_slots.specs.Slots.{SExpr, SRow, Targets, SStmt, SBody, Program, Memory, Valued, Listed, SCalls, store, take, sturns, sgone_over, in_front, svalue, svalues, skept, smeaning, smeanings}
+use Rattle.jt_evaluation.specs.Got.{Got, gives, fails, deeper, bind, checked, at}
+use Rattle.jt_evaluation.specs.Filters.{Filters}
+use Rattle.jt_evaluation.specs.Values.{as_value}
+use Rattle.jt_evaluation.specs.Loops.{Loop, items_of_value}
+use Rattle.jt_resolved.specs.Slots as slots
+use Rattle.jt_resolved.specs.Slots.{SExpr, SRow, Targets, SStmt, SBody, Program, Memory, Valued, Listed, SCalls, store, take, sturns, sgone_over, in_front, svalue, svalues, skept, smeaning, smeanings}
 use Rattle.jt_lower.specs.Fits.{IsBare, StmtFits, BodyFits}
 
 abbrev pub HasPlace : {A : Type 0} → Got A → Type 0

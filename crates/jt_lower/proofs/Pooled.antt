@@ -4,13 +4,13 @@ use Rattle.std.specs.Prelude.{slice_get, unwrap_or}
 use Rattle.jt_value.specs.Tree as tree
 use Rattle.jt_value.specs.Tree.{Tree}
 use Rattle.jt_value.specs.Place.{Place}
-use Rattle.jt_slots.specs.Got.{Got, gives, fails, deeper, bind, checked, at}
-use Rattle.jt_slots.specs.Values.{shown, bytes_of, as_value}
-use Rattle.jt_slots.specs.Slots.{with_locals, SExpr, SRow, Targets, SStmt, SBody, Routine, Memory, Valued, Listed, Written, SCalls, local, store, take, make, valued, sturns, sgone_over, in_front, svalue, svalues, skept, smeaning, smeanings, sperformed, scalls, smean_of}
-use Rattle.jt_slots.specs.Filters.{Filters}
-use Rattle.jt_slots.specs.Loops.{Loop, items_of_value, tree_at}
-use Rattle.jt_slots.specs.Slots as slots
-use Rattle.jt_slots.specs.Pool.{Constant, own, known, constant_in, constant_values, expr_values, row_values, condition_values, stmt_values, body_values, routines_values, placed, placed_expr, placed_row, placed_condition, placed_stmt, placed_body, placed_routines}
+use Rattle.jt_evaluation.specs.Got.{Got, gives, fails, deeper, bind, checked, at}
+use Rattle.jt_evaluation.specs.Values.{shown, bytes_of, as_value}
+use Rattle.jt_resolved.specs.Slots.{with_locals, SExpr, SRow, Targets, SStmt, SBody, Routine, Memory, Valued, Listed, Written, SCalls, local, store, take, make, valued, sturns, sgone_over, in_front, svalue, svalues, skept, smeaning, smeanings, sperformed, scalls, smean_of}
+use Rattle.jt_evaluation.specs.Filters.{Filters}
+use Rattle.jt_evaluation.specs.Loops.{Loop, items_of_value, tree_at}
+use Rattle.jt_resolved.specs.Slots as slots
+use Rattle.jt_resolved.specs.Pool.{Constant, own, known, constant_in, constant_values, expr_values, row_values, condition_values, stmt_values, body_values, routines_values, placed, placed_expr, placed_row, placed_condition, placed_stmt, placed_body, placed_routines}
 use Rattle.jt_lower.proofs.Fitting.{PoolAt, pool_front, pool_back, pool_whole}
 
 -- the same, and then the same at each value

@@ -5,16 +5,16 @@ use Rattle.std.proofs.lemmas.List.{at_drop_all}
 use Rattle.std.proofs.lemmas.Bool.Decides.{nat_tests}
 use Rattle.jt_value.specs.Place.{Place}
 use Rattle.jt_trees.specs.Expressions.{Text}
-use Rattle.jt_slots.specs.Slots as slots
-use Rattle.jt_slots.specs.Slots.{none}
-use Rattle.jt_slots.specs.View.{entry_front, expr_view, row_view}
+use Rattle.jt_resolved.specs.Slots as slots
+use Rattle.jt_resolved.specs.Slots.{none}
+use Rattle.jt_resolved.specs.View.{entry_front, expr_view, row_view}
 use Rattle.jt_image.specs.declared.instruction.Instruction.TheVariants as op
 use Rattle.jt_lower.specs.Asm.{Asm, one, both}
 use Rattle.jt_lower.specs.Lower.{half, expr_asm, row_asm}
 use Rattle.jt_lower.specs.Emission.{StandsFor, Puts}
 use Rattle.jt_lower.specs.declared.emitter.Emitter.{Emitter}
 use Rattle.jt_lower.proofs.Patched.{puts_nothing, puts_then}
-use Rattle.jt_slots.proofs.ExpressionViews.{Entry, row_left}
+use Rattle.jt_resolved.proofs.ExpressionViews.{Entry, row_left}
 
 pub halved : (n : ℕ) → half n ≡ n / 2
 halved zero = omega arith

@@ -16,7 +16,7 @@ use Rattle.jt_image.specs.IsCode.{total_len}
 use Rattle.jt_image.specs.Step.{fetch}
 use Rattle.jt_image.specs.Places.{place_of, place_at}
 use Rattle.jt_value.specs.Place.{Place}
-use Rattle.jt_slots.specs.Slots.{Routine, Program}
+use Rattle.jt_resolved.specs.Slots.{Routine, Program}
 use Rattle.jt_trees.specs.Expressions.{Text}
 use Rattle.jt_trees.specs.Texts.{inserted, all_inserted}
 use Rattle.jt_lower.specs.Asm.{flat, places}

@@ -20,10 +20,10 @@ use Rattle.jt_image.specs.Ids.{operands_of, filter_of, accepts, takes}
 use Rattle.jt_image.specs.Loops.{field_id}
 use Rattle.jt_image.specs.Typed.{Equal, HasSame, IsTypedUnit, IsTyped, max_entries}
 use Rattle.jt_value.specs.Place.{Place}
-use Rattle.jt_slots.specs.Slots as slots
-use Rattle.jt_slots.specs.Slots.{Slot, local, global, Maker, SExpr, SRow, Targets, SStmt, SBody, Routine, Program}
+use Rattle.jt_resolved.specs.Slots as slots
+use Rattle.jt_resolved.specs.Slots.{Slot, local, global, Maker, SExpr, SRow, Targets, SStmt, SBody, Routine, Program}
 use Rattle.jt_lower.specs.Asm.{Asm, nil, one, both, choose, when, each, invoke, flat}
-use Rattle.jt_slots.specs.Size.{row_count, expr_height, row_height, targets_height, condition_height, stmt_height, body_height}
+use Rattle.jt_resolved.specs.Size.{row_count, expr_height, row_height, targets_height, condition_height, stmt_height, body_height}
 use Rattle.jt_lower.specs.Lower.{maker, told_as, flag, load_of, store_of, expr_asm, row_asm, store_if_of, stores_asm, take_asm, turn_asm, over_asm, kept_asm, stmt_asm, body_asm, unit_of, constant_of, compiled}
 use Rattle.jt_lower.specs.Fits.{MakerFits, TakesRow, SlotFits, ExprFits, RowFits, SomeFits, SlotsFit, TargetsFit, ConditionFits, TextFits, StmtFits, BodyFits, RoutineFits, ProgramFits}
 use Rattle.jt_lower.proofs.Told.{has_field}

@@ -1,8 +1,8 @@
 -- The laws of the code of programs.
 use Rattle.jt_image.specs.IsCode.{IsCode}
 use Rattle.jt_image.specs.Laws.{CodeLaws}
-use Rattle.jt_slots.specs.Slots.{Program}
-use Rattle.jt_slots.specs.TheFilters.{the_filters}
+use Rattle.jt_resolved.specs.Slots.{Program}
+use Rattle.jt_evaluation.specs.TheFilters.{the_filters}
 use Rattle.jt_lower.specs.Lower.{compiled}
 use Rattle.jt_lower.specs.Fits.{ProgramFits}
 use Rattle.jt_lower.specs.Compiles.{DoesProgram, LowLaws}

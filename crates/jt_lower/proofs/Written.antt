@@ -15,7 +15,7 @@ use Rattle.jt_ids.specs.declared.filter_id.FilterId.{FilterId}
 use Rattle.jt_ids.specs.declared.filter_id.FilterId.TheVariants as filters
 use Rattle.jt_ids.specs.FilterTable as table
 use Rattle.jt_ids.specs.FilterTable.{filter_id}
-use Rattle.jt_filtering.specs.FilterIds.{filter_of, accepts}
+use Rattle.jt_filter_meaning.specs.FilterIds.{filter_of, accepts}
 use Rattle.jt_image.specs.declared.instruction.Instruction.TheVariants as op
 use Rattle.jt_image.specs.declared.loop_field.LoopField.{LoopField}
 use Rattle.jt_image.specs.declared.loop_field.LoopField.TheVariants as of_loop
@@ -25,9 +25,9 @@ use Rattle.jt_image.specs.IsCode.{IsInstruction, total_len, max_locals, max_inst
 use Rattle.jt_image.specs.Parts.{KeepsLimits}
 use Rattle.jt_image.specs.Typed.{max_entries}
 use Rattle.jt_value.specs.Place.{Place}
-use Rattle.jt_slots.specs.Slots as slots
-use Rattle.jt_slots.specs.Slots.{Slot, local, global, Maker, SExpr, SRow, Targets, SStmt, SBody, Routine, Program}
-use Rattle.jt_slots.specs.Size.{row_count, targets_height, expr_height, row_height, condition_height, stmt_height, body_height}
+use Rattle.jt_resolved.specs.Slots as slots
+use Rattle.jt_resolved.specs.Slots.{Slot, local, global, Maker, SExpr, SRow, Targets, SStmt, SBody, Routine, Program}
+use Rattle.jt_resolved.specs.Size.{row_count, targets_height, expr_height, row_height, condition_height, stmt_height, body_height}
 use Rattle.jt_lower.specs.Asm.{Asm, nil, one, both, choose, when, each, invoke, flat}
 use Rattle.jt_lower.specs.Lower.{half, flag, maker, told_as, load_of, store_of, store_if_of, expr_asm, row_asm, stores_asm, take_asm, kept_asm, stmt_asm, body_asm, unit_of, constant_of, compiled}
 use Rattle.jt_lower.specs.Fits.{MakerFits, TakesRow, SlotFits, ExprFits, RowFits, SomeFits, SlotsFit, TargetsFit, ConditionFits, StmtFits, BodyFits, RoutineFits, ProgramFits}

@@ -9,9 +9,9 @@ use Rattle.jt_image.specs.Config.{Entry, frame, State}
 use Rattle.jt_image.specs.Loops.{advanced}
 use Rattle.jt_image.specs.Step.{Plain, goes, faults_by, broken, on_value, on_values, on_frame, with_entries, plain}
 use Rattle.jt_value.specs.Place.{Place}
-use Rattle.jt_slots.specs.Got.{Got, gives, fails, deeper}
+use Rattle.jt_evaluation.specs.Got.{Got, gives, fails, deeper}
 use Rattle.jt_trees.specs.Expressions.{Text}
-use Rattle.jt_slots.specs.Slots.{Written, SCalls}
+use Rattle.jt_resolved.specs.Slots.{Written, SCalls}
 
 pub data Asm : Type 0 where
   nil : Asm

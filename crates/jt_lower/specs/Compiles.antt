@@ -12,17 +12,17 @@ use Rattle.jt_image.specs.Config.{Budget}
 use Rattle.jt_image.specs.Run.{Run}
 use Rattle.jt_image.specs.Enough.{Enough}
 use Rattle.jt_value.specs.Place.{Place}
-use Rattle.jt_slots.specs.Got.{gives, fails}
+use Rattle.jt_evaluation.specs.Got.{gives, fails}
 use Rattle.jt_trees.specs.Expressions.{Text}
-use Rattle.jt_slots.specs.TheFilters.{the_filters}
-use Rattle.jt_slots.specs.Slots.{Routine, Program, smean_of, smean}
-use Rattle.jt_slots.specs.Pool.{Constant, constant_in, routines_values, placed_routines}
-use Rattle.jt_slots.specs.Loops.{tree_at}
+use Rattle.jt_evaluation.specs.TheFilters.{the_filters}
+use Rattle.jt_resolved.specs.Slots.{Routine, Program, smean_of, smean}
+use Rattle.jt_resolved.specs.Pool.{Constant, constant_in, routines_values, placed_routines}
+use Rattle.jt_evaluation.specs.Loops.{tree_at}
 use Rattle.jt_lower.specs.Asm.{Asm, flat, places}
 use Rattle.jt_lower.specs.Lower.{compiled}
 use Rattle.jt_lower.specs.Fits.{ProgramFits}
 use Rattle.jt_lower.specs.Lawful.{program_with, AreLawful, AreLow}
-use Rattle.jt_slots.specs.Size.{body_height, routines_size}
+use Rattle.jt_resolved.specs.Size.{body_height, routines_size}
 
 -- A text or a fault at its place that the code ends with, for a context under a budget, is what the program means, where calls go at
 -- most so many deep; and what the program means, some budget is enough for.

@@ -8,8 +8,8 @@ use Rattle.jt_image.specs.Spelling.{wire_of}
 use Rattle.jt_image.specs.IsCode.{IsInstruction}
 use Rattle.jt_value.specs.Place.{Place}
 use Rattle.jt_trees.specs.Expressions.{Text}
-use Rattle.jt_slots.specs.View.{place_view}
-use Rattle.jt_slots.specs.declared.program.Place as given
+use Rattle.jt_resolved.specs.View.{place_view}
+use Rattle.jt_resolved.specs.declared.program.Place as given
 use Rattle.jt_lower.specs.Asm.{Asm, one, flat, places}
 use Rattle.jt_lower.specs.declared.emitter.Emitter.{Emitter}
 

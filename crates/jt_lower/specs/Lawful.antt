@@ -5,13 +5,13 @@ use Rattle.jt_value.specs.Tree as tree
 use Rattle.jt_value.specs.Tree.{Tree}
 use Rattle.jt_image.specs.Typed.{max_entries}
 use Rattle.jt_trees.specs.Expressions.{Text}
-use Rattle.jt_slots.specs.Slots as slots
-use Rattle.jt_slots.specs.Slots.{Slot, local, global, Maker, SExpr, SRow, Targets, SStmt, SBody, Routine, Program}
-use Rattle.jt_slots.specs.TheFilters.{the_filters}
-use Rattle.jt_slots.specs.Takes.{BodyTakes}
-use Rattle.jt_slots.specs.Locals.{body_locals}
-use Rattle.jt_slots.specs.Pool.{Constant, own, known, routines_values, placed_routines}
-use Rattle.jt_slots.specs.Size.{body_height}
+use Rattle.jt_resolved.specs.Slots as slots
+use Rattle.jt_resolved.specs.Slots.{Slot, local, global, Maker, SExpr, SRow, Targets, SStmt, SBody, Routine, Program}
+use Rattle.jt_evaluation.specs.TheFilters.{the_filters}
+use Rattle.jt_resolved.specs.Takes.{BodyTakes}
+use Rattle.jt_resolved.specs.Locals.{body_locals}
+use Rattle.jt_resolved.specs.Pool.{Constant, own, known, routines_values, placed_routines}
+use Rattle.jt_resolved.specs.Size.{body_height}
 use Rattle.jt_lower.specs.Fits.{IsBare, IsPooled}
 
 -- Under so many values in front of the pool, and so many globals. Locals need no law: a routine has as many as its body

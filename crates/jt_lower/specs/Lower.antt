@@ -15,11 +15,11 @@ use Rattle.jt_image.specs.Code as code
 use Rattle.jt_image.specs.Code.{Constant, Name, Section, Code}
 use Rattle.jt_value.specs.Place.{Place}
 use Rattle.jt_trees.specs.Expressions.{Text}
-use Rattle.jt_slots.specs.Loops as loops
-use Rattle.jt_slots.specs.Loops.{Field}
-use Rattle.jt_slots.specs.Size.{row_count}
-use Rattle.jt_slots.specs.Slots as slots
-use Rattle.jt_slots.specs.Slots.{Slot, local, global, Maker, SExpr, SRow, Targets, SStmt, SBody, Routine, Program}
+use Rattle.jt_evaluation.specs.Loops as loops
+use Rattle.jt_evaluation.specs.Loops.{Field}
+use Rattle.jt_resolved.specs.Size.{row_count}
+use Rattle.jt_resolved.specs.Slots as slots
+use Rattle.jt_resolved.specs.Slots.{Slot, local, global, Maker, SExpr, SRow, Targets, SStmt, SBody, Routine, Program}
 use Rattle.jt_lower.specs.Asm.{Asm, nil, one, both, choose, when, each, invoke, flat, places}
 use Rattle.jt_lower.specs.Spots.{templates_of, spot_of}
 

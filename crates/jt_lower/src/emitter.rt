@@ -4,7 +4,7 @@ ghost use Rattle.std.specs.Prelude.{◌≤◌, length};
 
 use crate::instructions::{jump_of, test_of, turn_of};
 use jt_image::{Instr, Instruction};
-use jt_slots::Place;
+use jt_resolved::Place;
 use std::alloc::{AllocError, Global};
 
 /// The instructions of a unit while it is written.

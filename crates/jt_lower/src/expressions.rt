@@ -1,18 +1,18 @@
 //! The code of resolved expressions.
 
 ghost use Rattle.std.specs.Prelude.{◌≡◌, ℕ, List, OnOk};
-ghost use Rattle.jt_slots.specs.Size.{row_count};
+ghost use Rattle.jt_resolved.specs.Size.{row_count};
 ghost use Rattle.jt_trees.specs.Expressions.{Text};
-ghost use Rattle.jt_slots.specs.Slots as slots;
-ghost use Rattle.jt_slots.specs.Slots.{none};
-ghost use Rattle.jt_slots.specs.View.{expr_view, row_view};
+ghost use Rattle.jt_resolved.specs.Slots as slots;
+ghost use Rattle.jt_resolved.specs.Slots.{none};
+ghost use Rattle.jt_resolved.specs.View.{expr_view, row_view};
 ghost use Rattle.jt_lower.specs.Lower.{expr_asm, row_asm};
 ghost use Rattle.jt_lower.specs.Emission.{StandsFor, tag_view, Puts};
 
 use crate::emitter::Emitter;
 use crate::instructions::{call_of, constant_of, flag, load_of, made_of, store_of, told_of};
 use jt_image::Instruction;
-use jt_slots::{Place, SExpr, Slot};
+use jt_resolved::{Place, SExpr, Slot};
 use std::alloc::AllocError;
 
 /// Puts the code of an expression of a tag behind the others, with so many entries above the innermost loop.

@@ -1,11 +1,11 @@
 //! How many entries the code of resolved expressions needs, above those that are there.
 
 ghost use Rattle.std.specs.Prelude.{◌≡◌, nat_le};
-ghost use Rattle.jt_slots.specs.Size.{expr_height, row_height};
-ghost use Rattle.jt_slots.specs.Slots.{none};
-ghost use Rattle.jt_slots.specs.View.{expr_view, row_view};
+ghost use Rattle.jt_resolved.specs.Size.{expr_height, row_height};
+ghost use Rattle.jt_resolved.specs.Slots.{none};
+ghost use Rattle.jt_resolved.specs.View.{expr_view, row_view};
 
-use jt_slots::SExpr;
+use jt_resolved::SExpr;
 
 /// Whether an expression needs at most so many entries.
 #[cycle(heights)]

@@ -9,7 +9,7 @@ ghost use Rattle.jt_ops.specs.Operation.{operation};
 ghost use Rattle.jt_ids.specs.OpTable.{op_operands};
 ghost use Rattle.jt_ops.specs.Testing.{as_answer, tested as tested_of};
 ghost use Rattle.jt_ids.specs.TestTable.{test_values};
-ghost use Rattle.jt_filtering.specs.Filtering.{filtered as filtered_of};
+ghost use Rattle.jt_filter_meaning.specs.Filtering.{filtered as filtered_of};
 ghost use Rattle.jt_ids.specs.FilterTable.{least_values, most_values};
 ghost use Rattle.jt_image.specs.Ids.{operator_of, filter_of, test_of};
 ghost use Rattle.jt_image.specs.Step.{listed, mapped};

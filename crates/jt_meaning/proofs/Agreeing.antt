@@ -8,13 +8,13 @@ use Rattle.jt_value.specs.Pairs.{Pairs}
 use Rattle.jt_trees.specs.Expressions.{Text}
 use Rattle.jt_trees.specs.Texts.{ascending}
 use Rattle.jt_meaning.specs.Env.{Env, read, bound, all_bound}
-use Rattle.jt_slots.specs.Values.{value_in}
+use Rattle.jt_evaluation.specs.Values.{value_in}
 use Rattle.jt_chains.specs.Chain.{Home, a_chain, a_library, same_home}
 use Rattle.jt_chains.specs.Uses.{own_names}
 use Rattle.jt_chains.specs.Includes.{included}
-use Rattle.jt_slots.specs.Loops.{tree_at}
+use Rattle.jt_evaluation.specs.Loops.{tree_at}
 use Rattle.jt_rules.specs.World.{World}
-use Rattle.jt_slots.specs.Slots.{Slot, local, global, Memory, load, put_at, store}
+use Rattle.jt_resolved.specs.Slots.{Slot, local, global, Memory, load, put_at, store}
 use Rattle.jt_meaning.specs.Layout.{Table, slot_in, globals_from, names_in, names, first_slot, globals}
 use Rattle.jt_meaning.specs.Resolve.{bound_table}
 use Rattle.jt_meaning.specs.Expressions.{seen_by}

@@ -4,15 +4,15 @@ use Rattle.std.specs.Prelude.{◌||◌}
 use Rattle.std.specs.Str.{bytes_eq}
 use Rattle.jt_value.specs.Tree.{Tree}
 use Rattle.jt_value.specs.Pairs.{Pairs}
-use Rattle.jt_slots.specs.Got.{bind, checked}
+use Rattle.jt_evaluation.specs.Got.{bind, checked}
 use Rattle.jt_trees.specs.Expressions.{Text}
 use Rattle.jt_meaning.specs.Env.{Env, read, bound, all_bound}
 use Rattle.jt_chains.specs.Chain.{Home}
-use Rattle.jt_slots.specs.Loops.{items_of_value}
+use Rattle.jt_evaluation.specs.Loops.{items_of_value}
 use Rattle.jt_trees.specs.Texts.{among}
 use Rattle.jt_rules.specs.World.{World}
 use Rattle.jt_meaning.specs.Meaning.{each_target, targets}
-use Rattle.jt_slots.specs.Slots.{Slot, local, global, Memory, load, store, store_if, store_each, take}
+use Rattle.jt_resolved.specs.Slots.{Slot, local, global, Memory, load, store, store_if, store_each, take}
 use Rattle.jt_meaning.specs.Layout.{Table, slot_in}
 use Rattle.jt_meaning.specs.Resolve.{fresh, fresh_targets, kept_slots, slot_of, set_targets}
 use Rattle.jt_meaning.proofs.Both.{Both, both, fault, bind_both, by_right, checked_both}

@@ -3,7 +3,7 @@ use Rattle.std.proofs.Common.{◌≡◌, Bool, true, false, if◌then◌else◌,
 use Rattle.std.specs.Prelude.{Result, Ok, Err}
 use Rattle.jt_value.specs.declared.fault.Fault.{Fault}
 use Rattle.jt_value.specs.Place.{Place}
-use Rattle.jt_slots.specs.Got.{Got, gives, fails, deeper, bind, checked, at}
+use Rattle.jt_evaluation.specs.Got.{Got, gives, fails, deeper, bind, checked, at}
 
 pub data Both {A B : Type 0} (R : A → B → Type 0) : Got A → Got B → Type 0 where
   both : {x : A} {y : B} → R x y → Both R (gives x) (gives y)

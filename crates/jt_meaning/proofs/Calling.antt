@@ -9,11 +9,11 @@ use Rattle.jt_trees.specs.Statements.{Parameter}
 use Rattle.jt_meaning.specs.Env.{Env, read}
 use Rattle.jt_chains.specs.Chain.{Home, a_chain, a_library, listed, BlockBody, MacroBody, macros, macro_of, libraries}
 use Rattle.jt_chains.specs.Includes.{with_source}
-use Rattle.jt_slots.specs.Filters.{default_value}
-use Rattle.jt_slots.specs.Loops.{Loop, tree_at}
+use Rattle.jt_evaluation.specs.Filters.{default_value}
+use Rattle.jt_evaluation.specs.Loops.{Loop, tree_at}
 use Rattle.jt_rules.specs.World.{World}
 use Rattle.jt_meaning.specs.Around.{Placement, Around, Called, the_macro, the_block, the_chain, Calls}
-use Rattle.jt_slots.specs.Slots.{Memory, Valued, Listed, Written, SCalls}
+use Rattle.jt_resolved.specs.Slots.{Memory, Valued, Listed, Written, SCalls}
 use Rattle.jt_meaning.specs.Layout.{Table, slot_in, Key, of_chain, of_macro, of_body, names, first_slot, globals, block_parameters, is_scoped, numbered_of, unit, default_place}
 use Rattle.jt_meaning.specs.Programs.{pool}
 use Rattle.jt_meaning.specs.Resolve.{Spot, Part, grown}

@@ -18,7 +18,7 @@ use Rattle.jt_chains.specs.Includes.{included, InOrder}
 use Rattle.jt_chains.specs.Weights.{NamesFew}
 use Rattle.jt_chains.specs.Uses.{stmt_names, body_names, own_names, scope_names_in, scope_names}
 use Rattle.jt_chains.specs.View.{Seen, sources_of}
-use Rattle.jt_slots.specs.TheFilters.{the_filters, filter_of, parameters_of, with_defaults, defaults}
+use Rattle.jt_evaluation.specs.TheFilters.{the_filters, filter_of, parameters_of, with_defaults, defaults}
 use Rattle.jt_ids.specs.declared.filter_id.FilterId.{FilterId}
 use Rattle.jt_ids.specs.FilterTable.{argument_names}
 use Rattle.jt_rules.specs.World.{World, world_of}

@@ -6,9 +6,9 @@ use Rattle.std.specs.Str.{bytes_eq}
 use Rattle.jt_trees.specs.Expressions.{Text}
 use Rattle.jt_chains.specs.Chain.{Home, a_chain, a_library, same_home, listed, BlockBody, all_bodies, MacroBody, macros, macro_of}
 use Rattle.jt_rules.specs.World.{World}
-use Rattle.jt_slots.specs.Slots.{Routine}
+use Rattle.jt_resolved.specs.Slots.{Routine}
 use Rattle.jt_meaning.specs.Layout.{Key, of_chain, of_macro, of_body, same_key, place_of, counted_from, numbered_bodies, numbered_of, entry_keys, chain_keys, unit}
-use Rattle.jt_slots.specs.Pool.{Constant}
+use Rattle.jt_resolved.specs.Pool.{Constant}
 use Rattle.jt_meaning.specs.Resolve.{chain_routine, macro_routine, body_routine}
 use Rattle.jt_meaning.specs.Programs.{body_routines, entry_routines, chain_routines, routines}
 use Rattle.std.proofs.lemmas.Bool.Decides.{Decides-eqb}

@@ -11,7 +11,7 @@ use Rattle.jt_chains.specs.Chain.{a_chain}
 use Rattle.jt_rules.specs.World.{World}
 use Rattle.jt_meaning.specs.Layout.{names}
 use Rattle.jt_meaning.specs.Resolve.{chain_routine}
-use Rattle.jt_slots.specs.Size.{body_height}
+use Rattle.jt_resolved.specs.Size.{body_height}
 use Rattle.jt_meaning.proofs.Small as w
 
 -- 53 names of one letter, and 147 of two

@@ -6,23 +6,23 @@ use Rattle.std.specs.Str.{bytes_eq}
 use Rattle.jt_value.specs.Tree as tree
 use Rattle.jt_value.specs.Tree.{Tree}
 use Rattle.jt_value.specs.Pairs.{Pairs}
-use Rattle.jt_slots.specs.Got.{gives, bind}
-use Rattle.jt_slots.specs.Slots.{with_locals, Slot, local, global, Memory, SCalls, Routine, smeanings, sperformed, scalls}
+use Rattle.jt_evaluation.specs.Got.{gives, bind}
+use Rattle.jt_resolved.specs.Slots.{with_locals, Slot, local, global, Memory, SCalls, Routine, smeanings, sperformed, scalls}
 use Rattle.jt_trees.specs.Expressions.{Text}
 use Rattle.jt_trees.specs.Statements.{Parameter, Body, end, stmt}
 use Rattle.jt_meaning.specs.Env.{Env, read, inside, top}
 use Rattle.jt_chains.specs.Chain.{Home, a_chain, same_home, listed, Template, templates, BlockBody, MacroBody, macros, macro_of}
-use Rattle.jt_slots.specs.Loops.{tree_at}
-use Rattle.jt_slots.specs.Filters.{default_value}
+use Rattle.jt_evaluation.specs.Loops.{tree_at}
+use Rattle.jt_evaluation.specs.Filters.{default_value}
 use Rattle.jt_rules.specs.World.{World}
 use Rattle.jt_meaning.specs.Around.{Placement, State, the_macro, the_block, the_chain, Calls}
 use Rattle.jt_meaning.specs.Meaning.{is_set, meaning, meanings, sets, rendered, performed, calls_below, mean}
 use Rattle.jt_chains.specs.Uses.{stmt_names, body_names, set_in}
 use Rattle.jt_chains.specs.Includes.{needs_by, needs_in, InOrder}
 use Rattle.jt_meaning.specs.Layout.{Table, slot_in, globals_from, of_macro, of_body, names, first_slot, globals, block_parameters, is_scoped, unit, defaults_of, first_default, default_in, default_place}
-use Rattle.jt_slots.specs.Pool.{Constant, constant_in, routines_values}
+use Rattle.jt_resolved.specs.Pool.{Constant, constant_in, routines_values}
 use Rattle.jt_meaning.specs.Resolve.{followed, Spot, Part, bound_table, bound_all, scoped, resolved_stmt, resolved_body, resolved_sets, top_spot, resolved_chain, chain_routine, macro_routine, body_routine}
-use Rattle.jt_slots.specs.Locals.{body_locals}
+use Rattle.jt_resolved.specs.Locals.{body_locals}
 use Rattle.jt_meaning.specs.Programs.{routines, pool}
 use Rattle.jt_meaning.proofs.Both.{Both, both, deep, bind_both, weaken, by_right}
 use Rattle.jt_meaning.proofs.Reading.{same_text, home_same, is_same, no_both, among_front, among_back, IsInner, held}

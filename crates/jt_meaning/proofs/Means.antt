@@ -4,16 +4,16 @@ use Rattle.std.specs.Prelude.{◌||◌}
 use Rattle.std.specs.Str.{bytes_eq}
 use Rattle.jt_value.specs.Tree.{Tree}
 use Rattle.jt_value.specs.Pairs.{Pairs}
-use Rattle.jt_slots.specs.Got.{Got, gives, bind}
-use Rattle.jt_slots.specs.Slots.{with_locals, global, Written, scalls, globals_of, smean}
+use Rattle.jt_evaluation.specs.Got.{Got, gives, bind}
+use Rattle.jt_resolved.specs.Slots.{with_locals, global, Written, scalls, globals_of, smean}
 use Rattle.jt_trees.specs.Expressions.{Text}
-use Rattle.jt_slots.specs.Values.{value_in}
+use Rattle.jt_evaluation.specs.Values.{value_in}
 use Rattle.jt_chains.specs.Chain.{Home, a_chain, listed}
-use Rattle.jt_slots.specs.Loops.{tree_at}
+use Rattle.jt_evaluation.specs.Loops.{tree_at}
 use Rattle.jt_rules.specs.World.{World}
 use Rattle.jt_meaning.specs.Meaning.{calls_below, mean}
 use Rattle.jt_meaning.specs.Layout.{slot_in, globals_from, names, first_in, first_slot, shared}
-use Rattle.jt_slots.specs.Pool.{constant_in, routines_values, placed_routines}
+use Rattle.jt_resolved.specs.Pool.{constant_in, routines_values, placed_routines}
 use Rattle.jt_meaning.specs.Programs.{routines, pool, count_globals, program}
 use Rattle.jt_chains.specs.Includes.{InOrder}
 use Rattle.jt_meaning.proofs.Both.{Both, both, fault, deep}

@@ -3,12 +3,12 @@ use Rattle.std.proofs.Common.{◌≡◌, ℕ, zero, suc, ◌+◌, Bool, true, fa
 use Rattle.std.specs.Prelude.{slice_get}
 use Rattle.std.specs.List.{AllByRecursion}
 use Rattle.jt_chains.specs.Chain.{Home}
-use Rattle.jt_slots.specs.Filters.{Filters}
+use Rattle.jt_evaluation.specs.Filters.{Filters}
 use Rattle.jt_rules.specs.World.{World}
-use Rattle.jt_slots.specs.Slots.{SExpr, pooled, variable, field, absent, made, conjunction, disjunction, choice, invoke, SRow, none, item, aside, SStmt, put_pooled, print, assign, if_else, for_each, capture, run, SBody, end, stmt, Routine}
-use Rattle.jt_slots.specs.Size.{row_count}
-use Rattle.jt_slots.specs.Takes.{MakerTakes, HasParameters, ExprTakes, RowTakes, ConditionTakes, StmtTakes, BodyTakes}
-use Rattle.jt_slots.specs.Pool.{Constant, expr_values, condition_values, stmt_values, body_values, placed_expr, placed_row, placed_condition, placed_stmt, placed_body, placed_routines}
+use Rattle.jt_resolved.specs.Slots.{SExpr, pooled, variable, field, absent, made, conjunction, disjunction, choice, invoke, SRow, none, item, aside, SStmt, put_pooled, print, assign, if_else, for_each, capture, run, SBody, end, stmt, Routine}
+use Rattle.jt_resolved.specs.Size.{row_count}
+use Rattle.jt_resolved.specs.Takes.{MakerTakes, HasParameters, ExprTakes, RowTakes, ConditionTakes, StmtTakes, BodyTakes}
+use Rattle.jt_resolved.specs.Pool.{Constant, expr_values, condition_values, stmt_values, body_values, placed_expr, placed_row, placed_condition, placed_stmt, placed_body, placed_routines}
 use Rattle.jt_rules.specs.Known.{ChainsKnown}
 use Rattle.jt_meaning.specs.Layout.{shared}
 use Rattle.jt_meaning.specs.Programs.{routines, program}

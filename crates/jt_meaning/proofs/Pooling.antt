@@ -4,12 +4,12 @@ use Rattle.std.specs.Prelude.{slice_get}
 use Rattle.jt_value.specs.Tree as tree
 use Rattle.jt_value.specs.Tree.{Tree}
 use Rattle.jt_value.specs.Place.{Place}
-use Rattle.jt_slots.specs.Got.{Got, gives, bind, checked, at}
-use Rattle.jt_slots.specs.Values.{shown, bytes_of, as_value}
-use Rattle.jt_slots.specs.Slots.{with_locals, SExpr, pooled, variable, field, absent, made, conjunction, disjunction, choice, invoke, SRow, none, item, aside, Targets, SStmt, put_pooled, print, assign, if_else, for_each, capture, run, SBody, end, stmt, Routine, Memory, Valued, Listed, SCalls, take, store, local, make, valued, in_front, svalue, svalues, skept, sturns, sgone_over, smeaning, smeanings, sperformed, scalls}
-use Rattle.jt_slots.specs.Loops.{Loop, items_of_value, tree_at}
-use Rattle.jt_slots.specs.Filters.{Filters}
-use Rattle.jt_slots.specs.Pool.{Constant, own, known, constant_in, constant_values, expr_values, row_values, condition_values, stmt_values, body_values, routines_values, placed, placed_expr, placed_row, placed_condition, placed_stmt, placed_body, placed_routines}
+use Rattle.jt_evaluation.specs.Got.{Got, gives, bind, checked, at}
+use Rattle.jt_evaluation.specs.Values.{shown, bytes_of, as_value}
+use Rattle.jt_resolved.specs.Slots.{with_locals, SExpr, pooled, variable, field, absent, made, conjunction, disjunction, choice, invoke, SRow, none, item, aside, Targets, SStmt, put_pooled, print, assign, if_else, for_each, capture, run, SBody, end, stmt, Routine, Memory, Valued, Listed, SCalls, take, store, local, make, valued, in_front, svalue, svalues, skept, sturns, sgone_over, smeaning, smeanings, sperformed, scalls}
+use Rattle.jt_evaluation.specs.Loops.{Loop, items_of_value, tree_at}
+use Rattle.jt_evaluation.specs.Filters.{Filters}
+use Rattle.jt_resolved.specs.Pool.{Constant, own, known, constant_in, constant_values, expr_values, row_values, condition_values, stmt_values, body_values, routines_values, placed, placed_expr, placed_row, placed_condition, placed_stmt, placed_body, placed_routines}
 use Rattle.jt_meaning.proofs.Both.{bind_ext}
 use Rattle.jt_meaning.proofs.Agreeing.{Held}
 

@@ -10,9 +10,9 @@ use Rattle.jt_value.specs.Pairs.{Pairs, look}
 use Rattle.jt_trees.specs.Expressions.{Text}
 use Rattle.jt_chains.specs.Chain.{Home, a_chain, a_library, same_home}
 use Rattle.jt_meaning.specs.Env.{Env, first_of, read, bound, all_bound}
-use Rattle.jt_slots.specs.Values.{value_in}
-use Rattle.jt_slots.specs.Loops.{tree_at}
-use Rattle.jt_slots.specs.Slots.{Slot, Memory, load, put_at}
+use Rattle.jt_evaluation.specs.Values.{value_in}
+use Rattle.jt_evaluation.specs.Loops.{tree_at}
+use Rattle.jt_resolved.specs.Slots.{Slot, Memory, load, put_at}
 use Rattle.jt_meaning.proofs.Among.{Among, AllAmong}
 
 -- ---- texts

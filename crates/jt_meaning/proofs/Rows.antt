@@ -9,7 +9,7 @@ use Rattle.jt_value.specs.View.{items_of}
 use Rattle.jt_value.specs.declared.fault.Fault.TheVariants.{Undefined, Unpack, ZeroDivide}
 use Rattle.jt_trees.specs.Expressions as e
 use Rattle.jt_trees.specs.Expressions.{no_exprs, no_pairs}
-use Rattle.jt_slots.specs.Tests.{test_named}
+use Rattle.jt_evaluation.specs.Tests.{test_named}
 use Rattle.jt_trees.specs.Statements.{end}
 use Rattle.jt_meaning.proofs.Small.{name, num, str, exprs, listing, call, Call, pair, of, Filter, Test, Binary, body, chars, print, Print, set, Set, SetBlock, With, FilterBlock, Autoescape, For, when, block, Block, Macro, Include, Import, From, extends, parameter, source, Shows, FaultsAt, IsDeeper}
 

@@ -13,11 +13,11 @@ use Rattle.jt_chains.specs.Includes.{needs_by, needs_in, needs_under, InOrder}
 use Rattle.jt_chains.specs.Rules.{is_empty, lacks_super, Reaches, KeepsRules}
 use Rattle.jt_chains.specs.Supers.{calls_super}
 use Rattle.jt_meaning.specs.Meaning.{is_set}
-use Rattle.jt_slots.specs.Slots.{Routine}
-use Rattle.jt_slots.specs.Takes.{BodyTakes}
+use Rattle.jt_resolved.specs.Slots.{Routine}
+use Rattle.jt_resolved.specs.Takes.{BodyTakes}
 use Rattle.jt_rules.specs.Known.{StmtKnown, BodyKnown, BranchesKnown, TemplatesKnown, ChainsKnown}
 use Rattle.jt_meaning.specs.Layout.{counted_from, numbered_bodies, numbered_of, block_parameters}
-use Rattle.jt_slots.specs.Pool.{Constant}
+use Rattle.jt_resolved.specs.Pool.{Constant}
 use Rattle.jt_meaning.specs.Resolve.{Spot, top_spot, place, bound_all, next_given, followed, resolved_stmt, resolved_body, resolved_sets, resolved_chain, macro_routine, body_routine}
 use Rattle.jt_meaning.specs.Programs.{body_routines, entry_routines, chain_routines}
 use Rattle.jt_rules.specs.Walk.{Within, used, all_used, broken, pairs_broken, condition_broken, filtering_broken, macro_broken, stmt_broken, body_broken, branches_broken, templates_broken, chains_broken}

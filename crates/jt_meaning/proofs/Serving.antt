@@ -10,13 +10,13 @@ use Rattle.jt_chains.specs.Chain.{Home, a_chain, BlockBody, blocks_of, blocks_in
 use Rattle.jt_rules.specs.World.{World}
 use Rattle.jt_meaning.specs.Expressions.{filter_parameters}
 use Rattle.jt_chains.specs.Includes.{needs_by, needs_in, needs_under}
-use Rattle.jt_slots.specs.Slots as slots
-use Rattle.jt_slots.specs.Slots.{Slot, local, global, one, SExpr, SBody, none, assign, capture, run, Routine}
-use Rattle.jt_slots.specs.Size.{row_count}
-use Rattle.jt_slots.specs.Takes.{HasParameters, ConditionTakes, BodyTakes}
+use Rattle.jt_resolved.specs.Slots as slots
+use Rattle.jt_resolved.specs.Slots.{Slot, local, global, one, SExpr, SBody, none, assign, capture, run, Routine}
+use Rattle.jt_resolved.specs.Size.{row_count}
+use Rattle.jt_resolved.specs.Takes.{HasParameters, ConditionTakes, BodyTakes}
 use Rattle.jt_rules.specs.Known.{ExprKnown, ConditionKnown, FilteringKnown, StmtKnown, BodyKnown, BranchesKnown}
 use Rattle.jt_meaning.specs.Layout.{Table, slot_in, of_chain, block_parameters, globals, numbered_of, unit, names, first_slot}
-use Rattle.jt_slots.specs.Pool.{Constant, known}
+use Rattle.jt_resolved.specs.Pool.{Constant, known}
 use Rattle.jt_meaning.specs.Resolve.{followed, alone, reads, handed_on, filled_some, locals_from, Spot, place, left_out, grown, bound_all, copied, scoped, first_body, resolved_row, resolved_asides, resolved_condition, resolved_filters, resolved_values, placed_body, resolved_stmt, resolved_body, resolved_choice}
 use Rattle.jt_rules.specs.Walk.{Within, filter_broken, all_used, used, broken, row_broken, pairs_broken, condition_broken, filtering_broken, stmt_broken, body_broken, branches_broken}
 use Rattle.jt_meaning.proofs.Calling.{Included}

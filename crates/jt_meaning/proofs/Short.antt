@@ -10,14 +10,14 @@ use Rattle.jt_trees.specs.Sizes.{expr_bytes, exprs_bytes, pairs_bytes, texts_byt
 use Rattle.jt_trees.specs.Statements.{Parameter, Filtering, Stmt, data_of, print, choose, for_each, set, set_block, with_values, filter_block, autoescape, macro, include, import_as, import_from, extends, block, Body, end, stmt, Branches, no_branches, branch}
 use Rattle.jt_chains.specs.Chain.{Home, a_chain, a_library, Template, templates, BlockBody, blocks_of, blocks_in, blocks_under, all_bodies, MacroBody, macros_in, macros, is_loop}
 use Rattle.jt_chains.specs.Uses.{keywords, set_in, expr_names, row_names, pair_names, condition_names, filtering_names, stmt_names, body_names, branch_names, own_names}
-use Rattle.jt_slots.specs.Filters.{default_value}
-use Rattle.jt_slots.specs.Slots as slots
-use Rattle.jt_slots.specs.Slots.{SBody, Routine}
-use Rattle.jt_slots.specs.Pool.{Constant, stmt_values, body_values, routines_values}
+use Rattle.jt_evaluation.specs.Filters.{default_value}
+use Rattle.jt_resolved.specs.Slots as slots
+use Rattle.jt_resolved.specs.Slots.{SBody, Routine}
+use Rattle.jt_resolved.specs.Pool.{Constant, stmt_values, body_values, routines_values}
 use Rattle.jt_ids.specs.declared.filter_id.FilterId.{FilterId}
 use Rattle.jt_ids.specs.declared.filter_id.FilterId.TheVariants as filter_id
 use Rattle.jt_chains.specs.View.{Seen, sources_of}
-use Rattle.jt_slots.specs.TheFilters.{the_filters, filter_of, filter_parameters, parameters_of}
+use Rattle.jt_evaluation.specs.TheFilters.{the_filters, filter_of, filter_parameters, parameters_of}
 use Rattle.jt_rules.specs.World.{World, world_of}
 use Rattle.jt_meaning.specs.Bytes.{value_bytes, IsShort}
 use Rattle.jt_meaning.specs.Layout.{names, counted_from, numbered_bodies, block_parameters, defaults_of}

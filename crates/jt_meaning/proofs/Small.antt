@@ -10,15 +10,15 @@ use Rattle.jt_value.specs.declared.fault.Fault.TheVariants as faults
 use Rattle.jt_trees.specs.declared.expression.BinaryOperator.TheVariants as o
 use Rattle.jt_trees.specs.Expressions as e
 use Rattle.jt_trees.specs.Expressions.{Expr, Exprs, no_exprs, expr, no_pairs, Text}
-use Rattle.jt_slots.specs.Got.{Got, gives, fails, deeper}
+use Rattle.jt_evaluation.specs.Got.{Got, gives, fails, deeper}
 use Rattle.jt_chains.specs.Chain.{Home, a_chain, a_library}
 use Rattle.jt_trees.specs.Statements as s
 use Rattle.jt_trees.specs.Statements.{Parameter, Filtering, Stmt, Body, end, stmt, no_branches, branch}
-use Rattle.jt_slots.specs.Loops.{items_of_value}
-use Rattle.jt_slots.specs.Filters.{Filters}
+use Rattle.jt_evaluation.specs.Loops.{items_of_value}
+use Rattle.jt_evaluation.specs.Filters.{Filters}
 use Rattle.jt_rules.specs.World.{World}
 use Rattle.jt_meaning.specs.Meaning.{mean}
-use Rattle.jt_slots.specs.Slots.{smean}
+use Rattle.jt_resolved.specs.Slots.{smean}
 use Rattle.jt_meaning.specs.Programs.{program}
 
 abbrev pub named : Text → Option ℕ

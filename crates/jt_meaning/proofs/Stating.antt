@@ -9,23 +9,23 @@ use Rattle.jt_value.specs.Pairs.{Pairs, look}
 use Rattle.jt_trees.specs.Expressions as written
 use Rattle.jt_trees.specs.Expressions.{Expr, Text}
 use Rattle.jt_value.specs.Place.{Place}
-use Rattle.jt_slots.specs.Got.{Got, gives, bind, checked, at}
-use Rattle.jt_slots.specs.Values.{shown, value_in, as_value}
+use Rattle.jt_evaluation.specs.Got.{Got, gives, bind, checked, at}
+use Rattle.jt_evaluation.specs.Values.{shown, value_in, as_value}
 use Rattle.jt_trees.specs.Statements.{Filtering, Stmt, data_of, print, choose, for_each, set, set_block, with_values, filter_block, autoescape, macro, include, import_as, import_from, extends, block, Body, end, stmt, Branches, no_branches, branch}
 use Rattle.jt_meaning.specs.Env.{Env, read, all_bound, inside, top, seen_in, seen, first_of}
 use Rattle.jt_chains.specs.Chain.{Home, a_chain, BlockBody}
-use Rattle.jt_slots.specs.Loops.{Loop, items_of_value, tree_at}
+use Rattle.jt_evaluation.specs.Loops.{Loop, items_of_value, tree_at}
 use Rattle.jt_rules.specs.World.{World}
 use Rattle.jt_meaning.specs.Around.{Placement, State, the_chain, Calls}
 use Rattle.jt_chains.specs.Uses.{keywords, expr_names, row_names, pair_names, condition_names, filtering_names, stmt_names, body_names, branch_names, set_by, set_in, set_under}
 use Rattle.jt_meaning.specs.Expressions.{block_text, value, named_values}
 use Rattle.jt_meaning.specs.Meaning.{put, within, captured, turns, gone_over, without_source, kept, through, meaning, meanings, chosen}
 use Rattle.jt_chains.specs.Includes.{needs_by, needs_in, needs_under}
-use Rattle.jt_slots.specs.Slots as slots
-use Rattle.jt_slots.specs.Slots.{Slot, local, global, Targets, one, several, SExpr, SStmt, SBody, none, assign, capture, run, Memory, Valued, Listed, Written, SCalls, load, put_at, store, store_if, take, in_front, sturns, sgone_over, svalue, svalues, skept, smeaning, smeanings}
+use Rattle.jt_resolved.specs.Slots as slots
+use Rattle.jt_resolved.specs.Slots.{Slot, local, global, Targets, one, several, SExpr, SStmt, SBody, none, assign, capture, run, Memory, Valued, Listed, Written, SCalls, load, put_at, store, store_if, take, in_front, sturns, sgone_over, svalue, svalues, skept, smeaning, smeanings}
 use Rattle.jt_meaning.specs.Layout.{Table, slot_in, globals_from, of_chain, of_body, names, first_slot, globals, block_parameters, is_scoped, numbered_of, unit}
 use Rattle.jt_meaning.specs.Programs.{pool}
-use Rattle.jt_slots.specs.Pool.{Constant, constant_in}
+use Rattle.jt_resolved.specs.Pool.{Constant, constant_in}
 use Rattle.jt_meaning.specs.Resolve.{followed, alone, fresh_targets, slot_of, set_targets, reads, handed_on, Spot, Part, place, left_out, grown, bound_table, bound_all, copied, scoped, first_body, resolved, resolved_condition, resolved_filters, resolved_values, placed_body, resolved_stmt, resolved_body, resolved_choice}
 use Rattle.jt_meaning.proofs.Both.{Both, both, bind_both, at_both, if_both, weaken, left_both, right_both, at_bind, bind_gives, bind_assoc, bind_ext, by_left, by_right, checked_both, same_both, deep}
 use Rattle.jt_meaning.proofs.Reading.{among_front, among_back, same_text, is_same, no_both, IsInner, all_inner, all_globals, all_top, read_top, held, put_here}

@@ -15,24 +15,24 @@ use Rattle.jt_value.specs.Tree as tree
 use Rattle.jt_trees.specs.Expressions as written
 use Rattle.jt_trees.specs.Expressions.{Expr, constant, name, group, list_of, attribute, item, unary, binary, when, choice, Exprs, no_exprs, expr, no_pairs, pair, Text}
 use Rattle.jt_meaning.specs.Operators.{unary_operation, Form, operation, negation, conjunction, disjunction, form, range_of}
-use Rattle.jt_slots.specs.Tests.{test_named}
+use Rattle.jt_evaluation.specs.Tests.{test_named}
 use Rattle.jt_chains.specs.Uses.{count, keywords}
 use Rattle.jt_rules.specs.Walk.{no_keywords, unless, test_broken, Within, refused, fits, reached, filter_fits, filter_broken, call_broken, broken, called_broken, row_broken, pairs_broken}
-use Rattle.jt_slots.specs.Takes.{InPairs, HasParameters, ExprTakes, RowTakes}
+use Rattle.jt_resolved.specs.Takes.{InPairs, HasParameters, ExprTakes, RowTakes}
 use Rattle.jt_rules.specs.declared.error.ScopeError.{ScopeError}
 use Rattle.jt_rules.specs.declared.error.ScopeError.TheVariants as error
 use Rattle.jt_trees.specs.Statements.{Parameter}
 use Rattle.jt_chains.specs.Chain.{Home, listed, BlockBody, bodies, from_given, MacroBody, given, Callee, a_macro, a_range, a_super, a_block, a_cycle, no_callee, callee, is_loop}
-use Rattle.jt_slots.specs.Loops.{Field, field_named}
-use Rattle.jt_slots.specs.Filters.{Filters, some_given}
+use Rattle.jt_evaluation.specs.Loops.{Field, field_named}
+use Rattle.jt_evaluation.specs.Filters.{Filters, some_given}
 use Rattle.jt_rules.specs.World.{World}
 use Rattle.jt_meaning.specs.Expressions.{filter_parameters}
-use Rattle.jt_slots.specs.Slots as slots
-use Rattle.jt_slots.specs.Slots.{Slot, operator, a_list, made, SExpr, SRow, none, Routine}
-use Rattle.jt_slots.specs.Size.{row_count}
+use Rattle.jt_resolved.specs.Slots as slots
+use Rattle.jt_resolved.specs.Slots.{Slot, operator, a_list, made, SExpr, SRow, none, Routine}
+use Rattle.jt_resolved.specs.Size.{row_count}
 use Rattle.jt_rules.specs.Known.{IsThere, ExprKnown, RowKnown, PairsKnown}
 use Rattle.jt_meaning.specs.Layout.{Table, slot_in, block_parameters, globals, numbered_of, default_place}
-use Rattle.jt_slots.specs.Pool.{Constant, own, known}
+use Rattle.jt_resolved.specs.Pool.{Constant, own, known}
 use Rattle.jt_meaning.specs.Resolve.{value_or, operation_of, turned_round, tested_by, filtered_by, in_form, field_from, locals_from, filled, filled_some, first_locals, reads, Spot, Part, grown, next_given, first_body, invoked_body, invoked_super, invoked, resolved, resolved_row, resolved_asides, resolved_entries}
 use Rattle.jt_meaning.specs.Programs.{routines}
 use Rattle.jt_meaning.proofs.Calling.{Tail}
@@ -137,7 +137,7 @@ some_zero [] xs table = refl
 some_zero (p ∷ ps) xs table = through (some_given (p ∷ ps) xs) (some_zero ps xs table)
   where
     through : (b : Bool) → row_count (filled_some ps zero xs table) ≡ reached ps xs
-        → row_count (if b then slots.item (value_or (slot_in p.name table) (own (Rattle.jt_slots.specs.Filters.default_value p.default))) (filled_some ps zero xs table) else none) ≡ (if b then suc (reached ps xs) else 0)
+        → row_count (if b then slots.item (value_or (slot_in p.name table) (own (Rattle.jt_evaluation.specs.Filters.default_value p.default))) (filled_some ps zero xs table) else none) ≡ (if b then suc (reached ps xs) else 0)
     through true e = ap suc e
     through false e = refl
 
@@ -176,7 +176,7 @@ module _ (world : World) (order : List Home) where
   some_takes l (p ∷ ps) zero xs table = through (some_given (p ∷ ps) xs) (some_takes l ps zero xs table)
     where
       d : Constant
-      d = own (Rattle.jt_slots.specs.Filters.default_value p.default)
+      d = own (Rattle.jt_evaluation.specs.Filters.default_value p.default)
 
       through : (b : Bool) → RTakes l (filled_some ps zero xs table) → RTakes l (if b then slots.item (value_or (slot_in p.name table) d) (filled_some ps zero xs table) else none)
       through true e = (slot_takes l (slot_in p.name table) d, e)

@@ -18,24 +18,24 @@ use Rattle.jt_ops.specs.Ranges.{ranged}
 use Rattle.jt_ops.specs.Making.{listed, mapped}
 use Rattle.jt_trees.specs.Expressions as written
 use Rattle.jt_trees.specs.Expressions.{Expr, constant, name, group, list_of, map_of, attribute, item, unary, binary, when, choice, Exprs, no_exprs, expr, no_pairs, pair, Text}
-use Rattle.jt_slots.specs.Got.{Got, gives, fails, deeper, bind, checked}
+use Rattle.jt_evaluation.specs.Got.{Got, gives, fails, deeper, bind, checked}
 use Rattle.jt_meaning.specs.Operators.{unary_operation, Form, operation, negation, conjunction, disjunction, form, range_of}
-use Rattle.jt_slots.specs.Tests.{test_named}
-use Rattle.jt_slots.specs.Values.{literal, as_value}
+use Rattle.jt_evaluation.specs.Tests.{test_named}
+use Rattle.jt_evaluation.specs.Values.{literal, as_value}
 use Rattle.jt_meaning.specs.Expressions.{operated, asked, turned, either, combined, filtered, filter_parameters, entries_of, field_of, cycled, block_text, super_text, seen_by, valued_text, called, value, values, named_values}
 use Rattle.jt_chains.specs.Uses.{count, keywords, expr_names, row_names, pair_names}
 use Rattle.jt_trees.specs.Statements.{Parameter}
 use Rattle.jt_meaning.specs.Env.{Env, read, top}
 use Rattle.jt_chains.specs.Chain.{Home, a_library, BlockBody, bodies, all_bodies, from_given, MacroBody, given, Callee, a_macro, a_range, a_super, a_block, a_cycle, no_callee, callee, is_loop}
-use Rattle.jt_slots.specs.Loops.{Loop, Field, index0, field_named, loop_field}
-use Rattle.jt_slots.specs.Filters.{Filters, default_value, parameters, some_given, by_name, arguments}
+use Rattle.jt_evaluation.specs.Loops.{Loop, Field, index0, field_named, loop_field}
+use Rattle.jt_evaluation.specs.Filters.{Filters, default_value, parameters, some_given, by_name, arguments}
 use Rattle.jt_rules.specs.World.{World}
 use Rattle.jt_meaning.specs.Around.{Placement, the_macro, the_block, Calls}
-use Rattle.jt_slots.specs.Slots as slots
-use Rattle.jt_slots.specs.Slots.{Slot, local, Maker, operator, a_list, a_map, SExpr, made, SRow, none, Memory, Valued, Listed, Written, SCalls, load, store, make, valued, in_front, svalue, svalues}
+use Rattle.jt_resolved.specs.Slots as slots
+use Rattle.jt_resolved.specs.Slots.{Slot, local, Maker, operator, a_list, a_map, SExpr, made, SRow, none, Memory, Valued, Listed, Written, SCalls, load, store, make, valued, in_front, svalue, svalues}
 use Rattle.jt_meaning.specs.Layout.{Table, slot_in, first_slot, of_macro, of_body, names, globals, block_parameters, is_scoped, numbered_of, numbered_bodies, counted_from, unit, default_place}
 use Rattle.jt_meaning.specs.Programs.{pool}
-use Rattle.jt_slots.specs.Pool.{Constant, own, known, constant_in}
+use Rattle.jt_resolved.specs.Pool.{Constant, own, known, constant_in}
 use Rattle.jt_meaning.specs.Resolve.{no_value, value_or, read_from, operation_of, turned_round, tested_by, filtered_by, in_form, field_from, locals_from, filled, filled_some, first_locals, reads, Spot, Part, grown, next_given, first_body, invoked_body, invoked_super, invoked, resolved, resolved_row, resolved_asides, resolved_entries}
 use Rattle.jt_meaning.proofs.Both.{Both, both, fault, deep, bind_both, if_both, weaken, right_both, bind_gives, bind_assoc, bind_ext, by_left, by_right}
 use Rattle.jt_meaning.proofs.Reading.{among_front, among_back, held, put_here}

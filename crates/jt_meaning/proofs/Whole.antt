@@ -7,18 +7,18 @@ use Rattle.std.specs.Str.{bytes_eq}
 use Rattle.jt_trees.specs.Expressions.{Text}
 use Rattle.jt_trees.specs.Statements.{Parameter, parameters_weight, Stmt, data_of, print, choose, for_each, set, set_block, with_values, filter_block, autoescape, macro, include, import_as, import_from, extends, block, stmt_weight, Body, end, stmt, body_weight, Branches, no_branches, branch, branch_weight, body_bound}
 use Rattle.jt_chains.specs.Chain.{Sources, Home, a_chain, a_library, same_home, listed, Template, templates, BlockBody, blocks_of, blocks_in, blocks_under, all_bodies, MacroBody, macros_in, macros}
-use Rattle.jt_slots.specs.Filters.{default_value}
+use Rattle.jt_evaluation.specs.Filters.{default_value}
 use Rattle.jt_rules.specs.World.{World}
 use Rattle.jt_meaning.specs.Meaning.{is_set}
 use Rattle.jt_chains.specs.Uses.{set_in}
 use Rattle.jt_meaning.specs.Layout.{first_slot, names, block_parameters, counted_from, numbered_bodies, shared, defaults_of}
-use Rattle.jt_slots.specs.Slots as slots
-use Rattle.jt_slots.specs.Slots.{SExpr, SRow, SStmt, SBody, Routine}
-use Rattle.jt_slots.specs.Pool.{Constant, expr_values, condition_values, stmt_values, body_values, routines_values, placed_expr, placed_row, placed_condition, placed_stmt, placed_body, placed_routines}
+use Rattle.jt_resolved.specs.Slots as slots
+use Rattle.jt_resolved.specs.Slots.{SExpr, SRow, SStmt, SBody, Routine}
+use Rattle.jt_resolved.specs.Pool.{Constant, expr_values, condition_values, stmt_values, body_values, routines_values, placed_expr, placed_row, placed_condition, placed_stmt, placed_body, placed_routines}
 use Rattle.jt_meaning.specs.Resolve.{followed, Part, Spot, bound_table, bound_all, scoped, resolved_stmt, resolved_body, resolved_sets, top_spot, resolved_chain, macro_routine}
 use Rattle.jt_meaning.specs.Programs.{body_routines, entry_routines, chain_routines, routines, count_globals, program}
-use Rattle.jt_slots.specs.Size.{expr_size, row_size, condition_size, stmt_size, body_size, routines_size, expr_height, row_height, condition_height, stmt_height, body_height}
-use Rattle.jt_slots.specs.Locals.{body_locals}
+use Rattle.jt_resolved.specs.Size.{expr_size, row_size, condition_size, stmt_size, body_size, routines_size, expr_height, row_height, condition_height, stmt_height, body_height}
+use Rattle.jt_resolved.specs.Locals.{body_locals}
 use Rattle.jt_meaning.specs.Measure.{stmt_own, body_own, branch_own, IsFew, HasAtMost, AreFew, IsSized}
 use Rattle.jt_chains.specs.Weights.{templates_weight, chains_weight}
 use Rattle.jt_meaning.proofs.Sizing.{parameters_few, followed_size, stmt_sized, all_sized, scope_sized}

@@ -2,11 +2,11 @@
 use Rattle.std.specs.Prelude.{ℕ, Bool, List, Option}
 use Rattle.jt_value.specs.Pairs.{Pairs}
 use Rattle.jt_value.specs.Place.{Place}
-use Rattle.jt_slots.specs.Got.{Got}
+use Rattle.jt_evaluation.specs.Got.{Got}
 use Rattle.jt_trees.specs.Expressions.{Text}
 use Rattle.jt_meaning.specs.Env.{Env}
 use Rattle.jt_chains.specs.Chain.{Home, BlockBody, MacroBody}
-use Rattle.jt_slots.specs.Loops.{Loop}
+use Rattle.jt_evaluation.specs.Loops.{Loop}
 
 -- a block's body that is being printed: the bodies behind it, and the environment of its placement
 pub record Placement : Type 0 where

@@ -3,7 +3,7 @@ use Rattle.std.specs.Prelude.{ℕ, ◌≤◌, length}
 use Rattle.std.specs.List.{AllByRecursion}
 use Rattle.jt_value.specs.Tree as tree
 use Rattle.jt_value.specs.Tree.{Tree}
-use Rattle.jt_slots.specs.Slots.{Program}
+use Rattle.jt_resolved.specs.Slots.{Program}
 
 abbrev pub value_bytes : Tree → ℕ
 value_bytes (tree.text s) = length s

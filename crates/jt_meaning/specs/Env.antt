@@ -3,7 +3,7 @@ use Rattle.std.specs.Prelude.{List, [], ◌∷◌, ◌++◌, unwrap_or}
 use Rattle.jt_value.specs.Tree.{Tree}
 use Rattle.jt_value.specs.Pairs.{Pairs, look}
 use Rattle.jt_trees.specs.Expressions.{Text}
-use Rattle.jt_slots.specs.Values.{value_in}
+use Rattle.jt_evaluation.specs.Values.{value_in}
 
 pub record Env : Type 0 where
   pub scopes : List Pairs

@@ -10,14 +10,14 @@ use Rattle.jt_ops.specs.Making.{listed, mapped}
 use Rattle.jt_trees.specs.Expressions as trees
 use Rattle.jt_trees.specs.Expressions.{Expr, constant, name, group, list_of, map_of, attribute, item, call, filter, test, unary, binary, when, choice, Exprs, no_exprs, expr, no_pairs, pair, Text}
 use Rattle.jt_meaning.specs.Operators.{unary_operation, Form, operation, negation, conjunction, disjunction, form}
-use Rattle.jt_slots.specs.Tests.{test_named}
-use Rattle.jt_slots.specs.Values.{literal, as_value}
-use Rattle.jt_slots.specs.Got.{Got, gives, deeper, bind, checked}
+use Rattle.jt_evaluation.specs.Tests.{test_named}
+use Rattle.jt_evaluation.specs.Values.{literal, as_value}
+use Rattle.jt_evaluation.specs.Got.{Got, gives, deeper, bind, checked}
 use Rattle.jt_trees.specs.Statements.{Parameter}
 use Rattle.jt_meaning.specs.Env.{Env, read, top}
 use Rattle.jt_chains.specs.Chain.{Home, a_chain, a_library, BlockBody, bodies, from_given, given, Callee, a_macro, a_range, a_super, a_block, a_cycle, no_callee, callee, is_loop}
-use Rattle.jt_slots.specs.Loops.{Loop, Field, index0, field_named, loop_field}
-use Rattle.jt_slots.specs.Filters.{Filters, parameters, arguments}
+use Rattle.jt_evaluation.specs.Loops.{Loop, Field, index0, field_named, loop_field}
+use Rattle.jt_evaluation.specs.Filters.{Filters, parameters, arguments}
 use Rattle.jt_rules.specs.World.{World}
 use Rattle.jt_meaning.specs.Around.{Placement, Around, the_macro, the_block, Calls}
 use Rattle.jt_ids.specs.declared.op_id.OpId.{OpId}
@@ -26,7 +26,7 @@ use Rattle.jt_ops.specs.Operation as operators
 use Rattle.jt_ops.specs.Operation.{as_truth}
 use Rattle.jt_ops.specs.Testing.{tested}
 use Rattle.jt_chains.specs.Uses.{keywords}
-use Rattle.jt_slots.specs.Values.{literal, as_value}
+use Rattle.jt_evaluation.specs.Values.{literal, as_value}
 
 -- an operation on values
 abbrev pub operated : OpId → List Tree → Got Tree

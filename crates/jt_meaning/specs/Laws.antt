@@ -2,7 +2,7 @@
 use Rattle.std.specs.Prelude.{◌≡◌, ℕ, ◌≤◌, false, List, ◌∷◌}
 use Rattle.std.specs.List.{AllByRecursion}
 use Rattle.jt_value.specs.Pairs.{Pairs}
-use Rattle.jt_slots.specs.Got.{Got, deeper}
+use Rattle.jt_evaluation.specs.Got.{Got, deeper}
 use Rattle.jt_trees.specs.Expressions.{Text}
 use Rattle.jt_chains.specs.Chain.{Home, a_chain}
 use Rattle.jt_chains.specs.Weights.{NamesFew}
@@ -14,13 +14,13 @@ use Rattle.jt_meaning.specs.Ascends.{Ascends}
 use Rattle.jt_meaning.specs.Layout.{names}
 use Rattle.jt_rules.specs.World.{World, world_of}
 use Rattle.jt_meaning.specs.Meaning.{mean}
-use Rattle.jt_slots.specs.Slots.{smean}
+use Rattle.jt_resolved.specs.Slots.{smean}
 use Rattle.jt_meaning.specs.Programs.{program}
 use Rattle.jt_chains.specs.Includes.{InOrder}
 use Rattle.jt_chains.specs.Rules as chains
 use Rattle.jt_rules.specs.Rules.{KeepsRules}
 use Rattle.jt_rules.specs.Known.{ChainsKnown}
-use Rattle.jt_slots.specs.Takes.{BodyTakes}
+use Rattle.jt_resolved.specs.Takes.{BodyTakes}
 use Rattle.jt_meaning.specs.Measure.{AreFew, IsSized}
 
 -- what is a text or a fault stays the same

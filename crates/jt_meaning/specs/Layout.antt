@@ -7,11 +7,11 @@ use Rattle.jt_value.specs.Tree.{Tree}
 use Rattle.jt_trees.specs.Texts.{ascending}
 use Rattle.jt_trees.specs.Expressions.{Text}
 use Rattle.jt_chains.specs.Chain.{Home, a_chain, a_library, same_home, listed, BlockBody, all_bodies, MacroBody, macros}
-use Rattle.jt_slots.specs.Filters.{default_value}
+use Rattle.jt_evaluation.specs.Filters.{default_value}
 use Rattle.jt_rules.specs.World.{World}
 use Rattle.jt_chains.specs.Uses.{own_names, scope_names}
 use Rattle.jt_chains.specs.Includes.{included}
-use Rattle.jt_slots.specs.Slots.{Slot, global}
+use Rattle.jt_resolved.specs.Slots.{Slot, global}
 
 -- where each visible name is kept, the innermost first
 abbrev pub Table : Type 0

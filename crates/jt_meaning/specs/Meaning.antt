@@ -7,13 +7,13 @@ use Rattle.jt_value.specs.Pairs.{Pairs}
 use Rattle.jt_value.specs.declared.fault.Fault.TheVariants as faults
 use Rattle.jt_trees.specs.Expressions.{Expr, Text}
 use Rattle.jt_value.specs.Place.{Place}
-use Rattle.jt_slots.specs.Got.{Got, gives, fails, deeper, bind, checked, at}
-use Rattle.jt_slots.specs.Values.{shown, as_value}
+use Rattle.jt_evaluation.specs.Got.{Got, gives, fails, deeper, bind, checked, at}
+use Rattle.jt_evaluation.specs.Values.{shown, as_value}
 use Rattle.jt_trees.specs.Statements.{Filtering, Stmt, data_of, print, choose, for_each, set, set_block, with_values, filter_block, autoescape, macro, include, import_as, import_from, extends, block, Body, end, stmt, Branches, no_branches, branch}
 use Rattle.jt_meaning.specs.Env.{Env, all_bound, inside, top, seen}
 use Rattle.jt_chains.specs.Chain.{Home, a_chain, Template, templates, bodies}
-use Rattle.jt_slots.specs.Loops.{Loop, items_of_value}
-use Rattle.jt_slots.specs.Filters.{arguments}
+use Rattle.jt_evaluation.specs.Loops.{Loop, items_of_value}
+use Rattle.jt_evaluation.specs.Filters.{arguments}
 use Rattle.jt_rules.specs.World.{World}
 use Rattle.jt_meaning.specs.Around.{Around, State, Called, the_macro, the_block, the_chain, Calls, tag}
 use Rattle.jt_chains.specs.Uses.{keywords}

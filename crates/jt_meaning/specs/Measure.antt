@@ -7,8 +7,8 @@ use Rattle.jt_chains.specs.Weights.{chains_weight}
 use Rattle.jt_chains.specs.Chain.{Sources, Home, a_library, macros, Given, one_macro, library, given}
 use Rattle.jt_rules.specs.World.{World}
 use Rattle.jt_meaning.specs.Layout.{names, scopes, block_parameters}
-use Rattle.jt_slots.specs.Slots.{Program}
-use Rattle.jt_slots.specs.Size.{body_height, routines_size}
+use Rattle.jt_resolved.specs.Slots.{Program}
+use Rattle.jt_resolved.specs.Size.{body_height, routines_size}
 
 -- ---- own weight: a macro has none where it stands, and a block what its tag needs; their bodies are units of their own
 

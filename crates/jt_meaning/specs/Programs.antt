@@ -5,8 +5,8 @@ use Rattle.jt_value.specs.Tree.{Tree}
 use Rattle.jt_chains.specs.Chain.{Home, a_chain, a_library, BlockBody, macros}
 use Rattle.jt_rules.specs.World.{World}
 use Rattle.jt_meaning.specs.Layout.{names, numbered_bodies, shared}
-use Rattle.jt_slots.specs.Slots.{Routine, Program}
-use Rattle.jt_slots.specs.Pool.{Constant, routines_values, placed_routines}
+use Rattle.jt_resolved.specs.Slots.{Routine, Program}
+use Rattle.jt_resolved.specs.Pool.{Constant, routines_values, placed_routines}
 use Rattle.jt_meaning.specs.Resolve.{chain_routine, macro_routine, body_routine}
 
 -- the chains and libraries in an order in which each stands before those that it leads to, the entry first

@@ -10,22 +10,22 @@ use Rattle.jt_ids.specs.declared.test_id.TestId.{TestId}
 use Rattle.jt_trees.specs.Expressions.{Expr, constant, name, group, list_of, map_of, attribute, item, call, filter, test, unary, binary, when, choice, Exprs, no_exprs, expr, Pairs, no_pairs, pair, Text}
 use Rattle.jt_value.specs.Place.{Place}
 use Rattle.jt_meaning.specs.Operators.{unary_operation, Form, operation, negation, conjunction, disjunction, form, range_of}
-use Rattle.jt_slots.specs.Tests.{test_named}
-use Rattle.jt_slots.specs.Values.{literal}
+use Rattle.jt_evaluation.specs.Tests.{test_named}
+use Rattle.jt_evaluation.specs.Values.{literal}
 use Rattle.jt_chains.specs.Uses.{count, keywords, set_in}
 use Rattle.jt_trees.specs.Statements.{Parameter, Filtering, Stmt, data_of, print, choose, for_each, set, set_block, with_values, filter_block, autoescape, macro, include, import_as, import_from, extends, block, Body, end, stmt, Branches, no_branches, branch}
 use Rattle.jt_chains.specs.Chain.{Home, a_chain, Template, templates, BlockBody, MacroBody, given, Callee, a_macro, a_range, a_super, a_block, a_cycle, no_callee, callee, is_loop}
-use Rattle.jt_slots.specs.Loops.{Field, index0, field_named}
-use Rattle.jt_slots.specs.Filters.{default_value, some_given}
+use Rattle.jt_evaluation.specs.Loops.{Field, index0, field_named}
+use Rattle.jt_evaluation.specs.Filters.{default_value, some_given}
 use Rattle.jt_trees.specs.Texts.{among}
 use Rattle.jt_rules.specs.World.{World}
 use Rattle.jt_meaning.specs.Expressions.{filter_parameters}
 use Rattle.jt_meaning.specs.Meaning.{is_set}
 use Rattle.jt_meaning.specs.Layout.{Table, slot_in, of_chain, of_macro, of_body, names, numbered_of, first_slot, globals, block_parameters, unit, default_place}
-use Rattle.jt_slots.specs.Slots as slots
-use Rattle.jt_slots.specs.Slots.{Slot, local, global, SExpr, pooled, variable, field, absent, made, invoke, operator, a_list, a_map, SRow, none, aside, Targets, one, several, SStmt, put_pooled, assign, if_else, capture, run, SBody, Routine}
-use Rattle.jt_slots.specs.Locals.{body_locals}
-use Rattle.jt_slots.specs.Pool.{Constant, own, known}
+use Rattle.jt_resolved.specs.Slots as slots
+use Rattle.jt_resolved.specs.Slots.{Slot, local, global, SExpr, pooled, variable, field, absent, made, invoke, operator, a_list, a_map, SRow, none, aside, Targets, one, several, SStmt, put_pooled, assign, if_else, capture, run, SBody, Routine}
+use Rattle.jt_resolved.specs.Locals.{body_locals}
+use Rattle.jt_resolved.specs.Pool.{Constant, own, known}
 
 -- ---- parts
 

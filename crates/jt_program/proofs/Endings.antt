@@ -5,13 +5,13 @@ use Rattle.clap.specs.Words.{Row, Text as Word}
 use Rattle.jt_scan.specs.declared.options.Options.{Options as ScanOptions}
 use Rattle.jt_inherit.specs.Chains.{Given}
 use Rattle.jt_trees.specs.Expressions.{Text}
-use Rattle.jt_line.specs.Line.{IsAsked, IsCommand, word_of}
-use Rattle.jt_line.specs.declared.Command.{Command}
-use Rattle.jt_line.specs.declared.Command.TheVariants as command
-use Rattle.jt_line.specs.declared.Job.{Job}
-use Rattle.jt_line.specs.declared.Options.{Options}
-use Rattle.jt_line.specs.declared.JobError.{JobError}
-use Rattle.jt_line.specs.declared.JobError.TheVariants as job_error
+use Rattle.jt_args.specs.Line.{IsAsked, IsCommand, word_of}
+use Rattle.jt_args.specs.declared.Command.{Command}
+use Rattle.jt_args.specs.declared.Command.TheVariants as command
+use Rattle.jt_args.specs.declared.Job.{Job}
+use Rattle.jt_args.specs.declared.Options.{Options}
+use Rattle.jt_args.specs.declared.JobError.{JobError}
+use Rattle.jt_args.specs.declared.JobError.TheVariants as job_error
 use Rattle.jt_budget.specs.declared.Budget.{Budget}
 use Rattle.jt_program.specs.declared.messages.Failure.{Failure}
 use Rattle.jt_program.specs.declared.messages.Failure.TheVariants as failure

@@ -5,7 +5,7 @@ use Rattle.jt_machine.specs.View.{budget_view}
 use Rattle.jt_sessions.specs.Turns.{World, max_sessions}
 use Rattle.jt_sessions.specs.declared.HostError.{HostError}
 use Rattle.jt_sessions.specs.declared.HostError.TheVariants as host_error
-use Rattle.jt_line.specs.declared.Pair.{Pair}
+use Rattle.jt_args.specs.declared.Pair.{Pair}
 use Rattle.jt_turns.specs.Outcomes.{IsNotOpened as IsFull, TakesTurns as OutcomesOf}
 use Rattle.jt_turns.specs.Standing.{HasOpen, Stands}
 use Rattle.jt_turns.specs.declared.Start.{Start}

@@ -19,12 +19,12 @@ use Rattle.jt_contexts.specs.Json.{IsContext}
 use Rattle.jt_sessions.specs.Turns.{World, max_sessions}
 use Rattle.jt_sessions.specs.declared.HostError.TheVariants as host_error
 use Rattle.jt_host.specs.Rendering.{IsRefused as IsUncompiled}
-use Rattle.jt_line.specs.Line.{IsAsked, word_of}
-use Rattle.jt_line.specs.declared.Command.{Command}
-use Rattle.jt_line.specs.declared.Command.TheVariants as command
-use Rattle.jt_line.specs.declared.Job.{Job}
-use Rattle.jt_line.specs.declared.Options.{Options as LineOptions}
-use Rattle.jt_line.specs.declared.Pair.{Pair}
+use Rattle.jt_args.specs.Line.{IsAsked, word_of}
+use Rattle.jt_args.specs.declared.Command.{Command}
+use Rattle.jt_args.specs.declared.Command.TheVariants as command
+use Rattle.jt_args.specs.declared.Job.{Job}
+use Rattle.jt_args.specs.declared.Options.{Options as LineOptions}
+use Rattle.jt_args.specs.declared.Pair.{Pair}
 use Rattle.jt_turns.specs.Lines.{fault_told, limit_name, session_lines}
 use Rattle.jt_turns.specs.Outcomes.{AreOutcomes}
 use Rattle.jt_turns.specs.Standing.{Stands}

@@ -7,8 +7,8 @@ use Rattle.jt_program.specs.declared.messages.Failure.{Failure}
 use Rattle.jt_program.specs.declared.messages.Failure.TheVariants as failure
 use Rattle.jt_program.specs.declared.files.FileError.{FileError}
 use Rattle.jt_program.specs.declared.files.FileError.TheVariants as file_error
-use Rattle.jt_line.specs.declared.JobError.{JobError}
-use Rattle.jt_line.specs.declared.JobError.TheVariants as job_error
+use Rattle.jt_args.specs.declared.JobError.{JobError}
+use Rattle.jt_args.specs.declared.JobError.TheVariants as job_error
 use Rattle.jt_image.specs.declared.ImageError.{ImageError}
 use Rattle.jt_image.specs.declared.ImageError.TheVariants as image_error
 use Rattle.jt_codegen.specs.declared.error.CompileError.{CompileError}

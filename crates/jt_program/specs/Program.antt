@@ -22,7 +22,7 @@ use Rattle.jt_budget.specs.declared.Budget.{Budget}
 use Rattle.jt_contexts.specs.Json.{IsContext, Holds}
 use Rattle.jt_host.specs.Rendering.{IsRefused as IsUncompiled, IsRendered}
 use Rattle.jt_contexts.specs.declared.ContextError.TheVariants as context_error
-use Rattle.jt_line.specs.declared.Options.{Options as LineOptions}
+use Rattle.jt_args.specs.declared.Options.{Options as LineOptions}
 use Rattle.jt_verify.specs.Refusing.{RefusalHolds}
 use Rattle.jt_machine.specs.View.{budget_view, outcome_view}
 use Rattle.jt_machine.specs.declared.Outcome.{Outcome}

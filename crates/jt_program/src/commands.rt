@@ -17,7 +17,7 @@ use jt_verify::{Verified, VerifiedView, verify, verify_view};
 use std::alloc::Global;
 
 /// How templates are read, by what the line asks for.
-pub(crate) fn scan_options(options: jt_line::Options) -> Options
+pub(crate) fn scan_options(options: jt_args::Options) -> Options
     ensures { result ≡ options_of options }
 {
     Options {

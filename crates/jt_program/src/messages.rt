@@ -4,11 +4,11 @@ ghost use Rattle.std.specs.Prelude.{◌≡◌};
 ghost use Rattle.jt_program.specs.Ending.{code_of, status_of, of_line, of_file, of_image, of_code, of_compile, of_context, of_host, of_render, of_outcome};
 
 use crate::files::FileError;
+use jt_args::JobError;
 use jt_budget::Spent;
 use jt_codegen::CompileError;
 use jt_host::{ContextError, HostError, RenderError};
 use jt_image::ImageError;
-use jt_line::JobError;
 use jt_machine::{Outcome, Place};
 use jt_value::Fault;
 use jt_verify::Refusal;

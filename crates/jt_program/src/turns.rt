@@ -1,14 +1,14 @@
 //! Images that run in turns.
 ghost use Rattle.std.specs.Prelude.{◌++◌, ◌∷◌, [], List, IfOk, IfErr, OnOk};
-ghost use Rattle.jt_line.specs.declared.Pair.{Pair as LinePair};
+ghost use Rattle.jt_args.specs.declared.Pair.{Pair as LinePair};
 ghost use Rattle.jt_program.specs.Commands.{AreOpen, IsNoStart, IsNotOpened, IsStart, TakesTurns};
 
 use crate::commands::verified_image;
 use crate::files::Files;
 use crate::messages::{Failure, no_session};
 use crate::program::{bytes_at, context_at};
+use jt_args::Pair;
 use jt_budget::Budget;
-use jt_line::Pair;
 use jt_sessions::Host;
 use jt_turns::{Start, open_session, take_turns};
 use std::alloc::Global;

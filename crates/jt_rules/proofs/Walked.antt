@@ -13,8 +13,8 @@ use Rattle.jt_trees.specs.Texts.{repeated}
 use Rattle.jt_ids.specs.declared.test_id.TestId.{TestId}
 use Rattle.jt_chains.specs.Uses.{count, keywords}
 use Rattle.jt_chains.specs.Chain.{Home, a_library, Template, MacroBody, templates, bodies, macros, public_macro, Given, one_macro, library, given, given_to, Callee, a_macro, a_range, a_super, a_block, a_cycle, no_callee, named_alone, of_library, in_library, callee, is_loop}
-use Rattle.jt_slots.specs.Loops.{Field, field_named}
-use Rattle.jt_slots.specs.Tests.{test_named}
+use Rattle.jt_evaluation.specs.Loops.{Field, field_named}
+use Rattle.jt_evaluation.specs.Tests.{test_named}
 use Rattle.jt_rules.specs.Arguments.{callee_takes, test_takes, filter_takes, names_rightly}
 use Rattle.jt_rules.specs.Rules.{ForSome, IsOnlyCalled, MisusesLoop, LoopOutside, MacroAsValue, CannotBeCalled, NotCallable, BadArguments, TooManyParameters, BrokenIn, Broken, KeepsRules, Breaks, names_counted}
 use Rattle.jt_rules.specs.Spots.{Within, Use, reads, binds, asks_loop, calls, filters, tests, declares, names_import, Spot, at, bound, named_imports, parameter_names, is_called_by_name, expr_spots, row_spots, pair_spots, condition_spots, filtering_spots, outside, stmt_spots, body_spots, branch_spots, chain_spots}

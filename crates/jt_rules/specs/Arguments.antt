@@ -10,7 +10,7 @@ use Rattle.jt_trees.specs.Texts.{among, repeated}
 use Rattle.jt_trees.specs.Statements.{Parameter}
 use Rattle.jt_chains.specs.Chain.{Callee, a_macro, a_range, a_super, a_block, a_cycle, no_callee}
 use Rattle.jt_chains.specs.Uses.{count, keywords}
-use Rattle.jt_slots.specs.Filters.{Filters, some_given}
+use Rattle.jt_evaluation.specs.Filters.{Filters, some_given}
 
 abbrev pub no_keywords : trees.Pairs → Bool
 no_keywords no_pairs = true

@@ -2,10 +2,10 @@
 use Rattle.std.specs.Prelude.{Option, Some, None, List, [], ◌∷◌}
 use Rattle.jt_trees.specs.Expressions as trees
 use Rattle.jt_trees.specs.Expressions.{Expr, constant, name, group, list_of, map_of, attribute, item, call, filter, test, unary, binary, when, choice, Exprs, no_exprs, expr, no_pairs, pair}
-use Rattle.jt_slots.specs.Tests.{test_named}
+use Rattle.jt_evaluation.specs.Tests.{test_named}
 use Rattle.jt_trees.specs.Statements.{Filtering, Stmt, data_of, print, choose, for_each, set, set_block, with_values, filter_block, autoescape, macro, include, import_as, import_from, extends, block, Body, end, stmt, Branches, no_branches, branch}
 use Rattle.jt_chains.specs.Chain.{Home, Template, templates}
-use Rattle.jt_slots.specs.Filters.{Filters}
+use Rattle.jt_evaluation.specs.Filters.{Filters}
 use Rattle.jt_rules.specs.World.{World}
 
 abbrev pub IsThere : {A : Type 0} → Option A → Type 0

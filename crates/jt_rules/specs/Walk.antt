@@ -5,14 +5,14 @@ use Rattle.std.specs.Option.{option_or, is_some}
 use Rattle.std.specs.Str.{bytes_eq}
 use Rattle.jt_trees.specs.Expressions as trees
 use Rattle.jt_trees.specs.Expressions.{Expr, constant, name, group, list_of, map_of, attribute, item, call, filter, test, unary, binary, when, choice, Exprs, no_exprs, expr, no_pairs, pair, Text}
-use Rattle.jt_slots.specs.Tests.{test_named}
+use Rattle.jt_evaluation.specs.Tests.{test_named}
 use Rattle.jt_chains.specs.Uses.{count, keywords}
 use Rattle.jt_rules.specs.declared.error.ScopeError.{ScopeError}
 use Rattle.jt_rules.specs.declared.error.ScopeError.TheVariants as error
 use Rattle.jt_trees.specs.Statements.{Parameter, Filtering, Stmt, data_of, print, choose, for_each, set, set_block, with_values, filter_block, autoescape, macro, include, import_as, import_from, extends, block, Body, end, stmt, Branches, no_branches, branch, body_bound}
 use Rattle.jt_chains.specs.Chain.{Home, Template, templates, bodies, given, given_to, Callee, a_macro, a_range, a_super, a_block, a_cycle, no_callee, callee, is_loop}
-use Rattle.jt_slots.specs.Loops.{field_named}
-use Rattle.jt_slots.specs.Filters.{Filters}
+use Rattle.jt_evaluation.specs.Loops.{field_named}
+use Rattle.jt_evaluation.specs.Filters.{Filters}
 use Rattle.jt_rules.specs.World.{World}
 pub use Rattle.jt_rules.specs.Spots.{Within, parameter_names}
 pub use Rattle.jt_rules.specs.Arguments.{no_keywords, fits, reached, is_filled, filter_fits}

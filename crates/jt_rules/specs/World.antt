@@ -2,8 +2,8 @@
 use Rattle.std.specs.Prelude.{Bool}
 use Rattle.jt_chains.specs.Chain.{Sources}
 use Rattle.jt_chains.specs.View.{Seen, sources_of}
-use Rattle.jt_slots.specs.Filters.{Filters}
-use Rattle.jt_slots.specs.TheFilters.{the_filters}
+use Rattle.jt_evaluation.specs.Filters.{Filters}
+use Rattle.jt_evaluation.specs.TheFilters.{the_filters}
 
 -- the filters, the sources, and whether a template's text begins escaped
 pub record World : Type 0 where

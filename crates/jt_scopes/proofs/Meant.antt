@@ -4,7 +4,7 @@ use Rattle.jt_chains.specs.Includes.{InOrder}
 use Rattle.jt_chains.specs.Places.{home_at}
 use Rattle.jt_chains.specs.View.{Seen}
 use Rattle.jt_rules.specs.World.{world_of}
-use Rattle.jt_slots.specs.Slots.{Program, smean}
+use Rattle.jt_resolved.specs.Slots.{Program, smean}
 use Rattle.jt_meaning.specs.Laws.{ProgramLaws}
 use Rattle.jt_meaning.specs.Programs.{program}
 use Rattle.jt_scopes.specs.Means.{Means}

@@ -7,7 +7,7 @@ use Rattle.jt_chains.specs.Includes.{InOrder}
 use Rattle.jt_chains.specs.View.{Seen}
 use Rattle.jt_rules.specs.World.{world_of}
 use Rattle.jt_meaning.specs.Meaning.{mean}
-use Rattle.jt_slots.specs.Slots.{Program, smean}
+use Rattle.jt_resolved.specs.Slots.{Program, smean}
 
 -- Where the chains and libraries stand in order, the entry's chain first, the program gives over
 -- slots, for every context and every depth of calls, what the chain means by names.

@@ -3,6 +3,6 @@
 
 mod resolving;
 
+pub use jt_resolved::Program as Resolved;
 pub use jt_rules::ScopeError;
-pub use jt_slots::Program as Resolved;
 pub use resolving::resolve;

@@ -6,15 +6,15 @@ ghost use Rattle.jt_chains.specs.View.{chain_view};
 ghost use Rattle.jt_rules.specs.Rules.{KeepsRules, Breaks};
 ghost use Rattle.jt_rules.specs.World.{world_of};
 ghost use Rattle.jt_meaning.specs.Programs.{program};
-ghost use Rattle.jt_slots.specs.View.{program_of};
+ghost use Rattle.jt_resolved.specs.View.{program_of};
 ghost use Rattle.jt_scopes.specs.Means.{Means};
 
 use jt_bind::resolved;
 use jt_chains::Chain;
 use jt_checks::check_rules;
 use jt_meaning::program_laws;
+use jt_resolved::Program;
 use jt_rules::ScopeError;
-use jt_slots::Program;
 use std::alloc::Global;
 
 /// Resolves a chain.

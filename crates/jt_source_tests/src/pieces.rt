@@ -2,7 +2,7 @@
 
 use crate::rows::rows_hold;
 use crate::shelf::{image_of, verified_of};
-use jt_line::DEFAULT;
+use jt_args::DEFAULT;
 use jt_machine::{IoSink, Sink, run_to};
 use jt_scan::Options;
 use jt_value::Context;

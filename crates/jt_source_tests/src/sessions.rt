@@ -2,8 +2,8 @@
 
 use crate::rows::rows_hold;
 use crate::shelf::{image_of, verified_of};
+use jt_args::DEFAULT;
 use jt_contexts::ContextError;
-use jt_line::DEFAULT;
 use jt_scan::{Options, ScanError};
 use jt_sessions::{Host, HostError};
 use jt_value::Context;

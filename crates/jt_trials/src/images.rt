@@ -8,10 +8,10 @@
 
 use crate::places::{Places, bytes_of};
 use crate::stop::Stop;
+use jt_args::DEFAULT;
 use jt_budget::{Budget, Spent};
 use jt_host::context_from_json;
 use jt_image::{Flaw, Image, ImageError, View, decode, encode, view};
-use jt_line::DEFAULT;
 use jt_machine::{Outcome, run, run_view};
 use jt_reference::{End, plain_end};
 use jt_value::Context;

@@ -1,9 +1,9 @@
 //! The events of a host with a session of each row.
 
 use crate::stop::Stop;
+use jt_args::DEFAULT;
 use jt_budget::Budget;
 use jt_host::{Host, HostError};
-use jt_line::DEFAULT;
 use jt_value::Context;
 use jt_verify::Verified;
 

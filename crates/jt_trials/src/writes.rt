@@ -2,9 +2,9 @@
 
 use crate::shelf::{context_of, templates_of};
 use crate::stop::Stop;
+use jt_args::DEFAULT;
 use jt_codegen::compile;
 use jt_host::context_from_json;
-use jt_line::DEFAULT;
 use jt_machine::{IoSink, RunToError, Sink, run_to};
 use jt_scan::Options;
 use jt_value::Context;

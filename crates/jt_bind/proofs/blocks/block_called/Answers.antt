@@ -1,14 +1,14 @@
 use Rattle.std.proofs.Common.{[], sym, ◌∙◌, subst}
-use Rattle.jt_slots.specs.Slots as slots
-use Rattle.jt_slots.specs.View.{expr_view}
-use Rattle.jt_slots.specs.declared.program.SExpr.TheVariants as e
-use Rattle.jt_slots.specs.Pool.{Constant}
+use Rattle.jt_resolved.specs.Slots as slots
+use Rattle.jt_resolved.specs.View.{expr_view}
+use Rattle.jt_resolved.specs.declared.program.SExpr.TheVariants as e
+use Rattle.jt_resolved.specs.Pool.{Constant}
 use Rattle.jt_meaning.specs.Layout.{block_parameters, numbered_of}
 use Rattle.jt_meaning.specs.Resolve as resolve
 use Rattle.jt_bind.specs.Scoped.{IsPlaced, RowLeads, world_in, order_in, home_in, globals_in}
 use Rattle.jt_bind.proofs.Calling.{body_called, none_called}
 use Rattle.jt_bind.proofs.LeadingRows.{invoked_placed}
-use Rattle.jt_slots.proofs.ExpressionViews.{view_Invoke}
+use Rattle.jt_resolved.proofs.ExpressionViews.{view_Invoke}
 use Rattle.jt_bind.proofs.blocks.block_called.Goals as goal
 
 pub returns-clause-placed : goal.returns-clause-placed

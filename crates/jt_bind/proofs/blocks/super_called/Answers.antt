@@ -8,17 +8,17 @@ use Rattle.jt_chains.specs.Chain.{BlockBody, all_bodies}
 use Rattle.jt_chains.specs.Parts.{block_view}
 use Rattle.jt_chains.specs.View.{chain_view}
 use Rattle.jt_chains.specs.declared.parts.Block.{Block}
-use Rattle.jt_slots.specs.Pool.{Constant}
-use Rattle.jt_slots.specs.Slots as slots
-use Rattle.jt_slots.specs.View.{expr_view}
-use Rattle.jt_slots.specs.declared.program.SExpr.TheVariants as e
+use Rattle.jt_resolved.specs.Pool.{Constant}
+use Rattle.jt_resolved.specs.Slots as slots
+use Rattle.jt_resolved.specs.View.{expr_view}
+use Rattle.jt_resolved.specs.declared.program.SExpr.TheVariants as e
 use Rattle.jt_meaning.specs.Layout.{counted_from, numbered_bodies, block_parameters}
 use Rattle.jt_meaning.specs.Resolve.{Part, invoked_super, next_given, first_locals}
 use Rattle.jt_bind.specs.Callees.{unit_of}
 use Rattle.jt_bind.specs.Scoped.{IsPlaced, part_from, part_at, world_in, order_in, home_in, spot_in}
 use Rattle.jt_bind.proofs.Calling.{body_called, none_called}
 use Rattle.jt_bind.proofs.LeadingRows.{invoked_placed}
-use Rattle.jt_slots.proofs.ExpressionViews.{view_Invoke}
+use Rattle.jt_resolved.proofs.ExpressionViews.{view_Invoke}
 use Rattle.jt_bind.proofs.Places.{counted_left, counted_end, next_within}
 use Rattle.jt_bind.proofs.blocks.super_called.Goals as goal
 

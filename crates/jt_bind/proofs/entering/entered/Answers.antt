@@ -3,7 +3,7 @@ use Rattle.std.proofs.lemmas.List.{length-map}
 use Rattle.std.specs.declared.rc.Rc.{Rc}
 use denote.Ref.{Bor}
 use Rattle.jt_trees.specs.Expressions.{Text}
-use Rattle.jt_uses.specs.Names.{texts}
+use Rattle.jt_names.specs.Names.{texts}
 use Rattle.jt_bind.specs.Scoped.{framed, globals_in, spot_in}
 use Rattle.jt_bind.specs.declared.frame.Frame.{Frame}
 use Rattle.jt_bind.proofs.Placed.{spot_bound}

@@ -1,6 +1,6 @@
 use Rattle.std.proofs.Common.{List, map, take_all, ap, ◌∙◌, arith, Global}
 use Rattle.std.specs.declared.rc.Rc.{Rc}
-use Rattle.jt_uses.specs.Names.{texts}
+use Rattle.jt_names.specs.Names.{texts}
 use Rattle.jt_bind.specs.Scoped.{framed}
 use Rattle.jt_bind.specs.declared.frame.Frame.{Frame}
 use Rattle.jt_meaning.specs.Resolve.{bound_table}

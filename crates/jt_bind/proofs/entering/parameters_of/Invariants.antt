@@ -1,6 +1,6 @@
 use Rattle.std.proofs.Common.{◌≡◌, ◌++◌, map, drop}
 use Rattle.jt_trees.specs.StatementView.{parameters_view}
-use Rattle.jt_uses.specs.Names.{texts}
+use Rattle.jt_names.specs.Names.{texts}
 use Rattle.jt_bind.proofs.entering.parameters_of.Given as goal
 
 -- what was found, and what is left

@@ -17,14 +17,14 @@ use Rattle.jt_chains.specs.Uses.{count, keywords}
 use Rattle.jt_meaning.specs.Operators.{Form, range_of}
 use Rattle.jt_meaning.specs.Resolve.{operation_of, in_form, field_from, filled, filled_some, tested_by, turned_round, locals_from, invoked}
 use Rattle.jt_meaning.specs.Expressions.{filter_parameters}
-use Rattle.jt_slots.specs.Loops.{field_named}
-use Rattle.jt_slots.specs.Pool.{Constant, own}
-use Rattle.jt_slots.specs.Slots as slots
-use Rattle.jt_slots.specs.Slots.{invoke}
-use Rattle.jt_slots.specs.TheFilters.{the_filters}
-use Rattle.jt_slots.specs.View.{expr_view as coded, row_view}
-use Rattle.jt_slots.specs.declared.program.SExpr.TheVariants as e
-use Rattle.jt_slots.specs.declared.program.Maker.TheVariants as m
+use Rattle.jt_evaluation.specs.Loops.{field_named}
+use Rattle.jt_resolved.specs.Pool.{Constant, own}
+use Rattle.jt_resolved.specs.Slots as slots
+use Rattle.jt_resolved.specs.Slots.{invoke}
+use Rattle.jt_evaluation.specs.TheFilters.{the_filters}
+use Rattle.jt_resolved.specs.View.{expr_view as coded, row_view}
+use Rattle.jt_resolved.specs.declared.program.SExpr.TheVariants as e
+use Rattle.jt_resolved.specs.declared.program.Maker.TheVariants as m
 use Rattle.jt_bind.specs.Callees.{IsCallee}
 use Rattle.jt_bind.specs.declared.callee.Callee.{Callee}
 use Rattle.jt_bind.specs.Scoped.{values, IsPlaced, world_in, order_in, callee_in, spot_in, expr_in, row_in, asides_in, entries_in, filtered_in}
@@ -34,7 +34,7 @@ use Rattle.jt_bind.proofs.Filters.{named_is, parameters_are}
 use Rattle.jt_bind.proofs.LeadingRows.{same_tree, begun, of_whole, of_left, row_both, row_item, row_aside, made_placed, invoked_placed}
 use Rattle.jt_trees.proofs.Left.{Entry, row_left, pairs_left}
 use Rattle.jt_trees.proofs.ExpressionViews.{shown_item, shown_call, shown_filter, shown_test, shown_unary, shown_binary, shown_when, shown_choice}
-use Rattle.jt_slots.proofs.ExpressionViews.{view_Made, view_Invoke}
+use Rattle.jt_resolved.proofs.ExpressionViews.{view_Made, view_Invoke}
 use Rattle.jt_bind.proofs.expressions.+resolve.Goals as goal
 
 pub resolve_row-loop-expr-preserved : goal.resolve_row-loop-expr-preserved

@@ -3,8 +3,8 @@ use Rattle.std.specs.Prelude.{max}
 use denote.Param.Weighed.{most}
 use Rattle.jt_trees.specs.ExpressionView.{exprs_view, pairs_view}
 use Rattle.jt_trees.specs.declared.expression.Expr.{size-Expr}
-use Rattle.jt_slots.specs.Pool.{Constant}
-use Rattle.jt_slots.specs.Slots.{SRow}
+use Rattle.jt_resolved.specs.Pool.{Constant}
+use Rattle.jt_resolved.specs.Slots.{SRow}
 use Rattle.jt_bind.specs.Scoped.{values, RowLeads, row_in, asides_in, entries_in}
 use Rattle.jt_bind.proofs.expressions.+resolve.Given as goal
 

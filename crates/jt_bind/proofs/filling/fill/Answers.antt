@@ -5,9 +5,9 @@ use Rattle.jt_trees.specs.ExpressionView.{pairs_view}
 use Rattle.jt_chains.specs.Uses.{keywords}
 use Rattle.jt_trees.specs.StatementView.{parameter_view, parameters_view}
 use Rattle.jt_trees.specs.declared.statement.Parameter.{Parameter}
-use Rattle.jt_slots.specs.Pool.{known}
-use Rattle.jt_slots.specs.Slots as slots
-use Rattle.jt_slots.specs.View.{slot_view}
+use Rattle.jt_resolved.specs.Pool.{known}
+use Rattle.jt_resolved.specs.Slots as slots
+use Rattle.jt_resolved.specs.View.{slot_view}
 use Rattle.jt_meaning.specs.Layout.{slot_in}
 use Rattle.jt_meaning.specs.Resolve.{filled, locals_from, value_or}
 use Rattle.jt_bind.proofs.LeadingRows.{of_whole, of_left, row_both, row_item}

@@ -4,8 +4,8 @@ use Rattle.jt_trees.specs.ExpressionView.{pairs_view}
 use Rattle.jt_chains.specs.Uses.{keywords}
 use Rattle.jt_trees.specs.StatementView.{parameter_view, parameters_view}
 use Rattle.jt_trees.specs.declared.statement.Parameter.{Parameter}
-use Rattle.jt_slots.specs.Filters.{some_given, default_value}
-use Rattle.jt_slots.specs.Pool.{own}
+use Rattle.jt_evaluation.specs.Filters.{some_given, default_value}
+use Rattle.jt_resolved.specs.Pool.{own}
 use Rattle.jt_meaning.specs.Layout.{slot_in}
 use Rattle.jt_meaning.specs.Resolve.{filled_some, locals_from, value_or}
 use Rattle.jt_bind.specs.Scoped.{values}

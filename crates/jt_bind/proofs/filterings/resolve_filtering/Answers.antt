@@ -9,9 +9,9 @@ use Rattle.jt_trees.specs.ExpressionView.{exprs_view, pairs_view}
 use Rattle.jt_ids.specs.FilterTable.{filter_id}
 use Rattle.jt_trees.specs.Expressions.{Text}
 use Rattle.jt_trees.specs.StatementView.{filtering_view}
-use Rattle.jt_slots.specs.Pool.{expr_values}
-use Rattle.jt_slots.specs.TheFilters as the
-use Rattle.jt_slots.specs.View.{expr_view}
+use Rattle.jt_resolved.specs.Pool.{expr_values}
+use Rattle.jt_evaluation.specs.TheFilters as the
+use Rattle.jt_resolved.specs.View.{expr_view}
 use Rattle.jt_bind.specs.Scoped.{values, IsPlaced, world_in, filtered_in}
 use Rattle.jt_bind.proofs.Filters.{named_is}
 use Rattle.jt_bind.proofs.filterings.resolve_filtering.Goals as goal

@@ -3,13 +3,13 @@ use Rattle.std.proofs.lemmas.List.{take_all, length-map}
 use Rattle.jt_value.specs.View.{view}
 use Rattle.jt_trees.specs.StatementView.{filterings_view}
 use Rattle.jt_trees.specs.declared.statement.Filtering.{Filtering}
-use Rattle.jt_slots.specs.Pool.{Constant}
-use Rattle.jt_slots.specs.Slots.{SExpr, variable}
-use Rattle.jt_slots.specs.View.{slot_view, expr_view}
+use Rattle.jt_resolved.specs.Pool.{Constant}
+use Rattle.jt_resolved.specs.Slots.{SExpr, variable}
+use Rattle.jt_resolved.specs.View.{slot_view, expr_view}
 use Rattle.jt_meaning.specs.Resolve.{resolved_filters}
 use Rattle.jt_bind.specs.Scoped.{values, IsPlaced, world_in, order_in, spot_in}
 use Rattle.jt_bind.proofs.FilterTags.{filters_next}
-use Rattle.jt_slots.proofs.ExpressionViews.{view_Variable}
+use Rattle.jt_resolved.proofs.ExpressionViews.{view_Variable}
 use Rattle.jt_bind.proofs.filterings.resolve_filterings.Goals as goal
 
 pub returns-clause-placed : goal.returns-clause-placed

@@ -1,7 +1,7 @@
 use Rattle.std.proofs.Common.{take}
 use Rattle.jt_trees.specs.StatementView.{filterings_view}
-use Rattle.jt_slots.specs.Slots.{variable}
-use Rattle.jt_slots.specs.View.{slot_view, expr_view}
+use Rattle.jt_resolved.specs.Slots.{variable}
+use Rattle.jt_resolved.specs.View.{slot_view, expr_view}
 use Rattle.jt_meaning.specs.Resolve.{resolved_filters}
 use Rattle.jt_bind.specs.Scoped.{values, IsPlaced, world_in, order_in, spot_in}
 use Rattle.jt_bind.proofs.filterings.resolve_filterings.Given as goal

@@ -1,12 +1,12 @@
 use Rattle.std.proofs.Common.{◌≡◌, ap, ◌∙◌}
 use Rattle.std.proofs.lemmas.Result.{IfOk-weaker}
 use Rattle.jt_meaning.specs.Resolve.{operation_of}
-use Rattle.jt_slots.specs.Slots as slots
-use Rattle.jt_slots.specs.View.{expr_view}
-use Rattle.jt_slots.specs.declared.program.SExpr.{SExpr}
-use Rattle.jt_slots.specs.declared.program.SExpr.TheVariants as e
+use Rattle.jt_resolved.specs.Slots as slots
+use Rattle.jt_resolved.specs.View.{expr_view}
+use Rattle.jt_resolved.specs.declared.program.SExpr.{SExpr}
+use Rattle.jt_resolved.specs.declared.program.SExpr.TheVariants as e
 use Rattle.jt_bind.proofs.LeadingRows.{conjunction_placed, disjunction_placed}
-use Rattle.jt_slots.proofs.ExpressionViews.{view_Conjunction, view_Disjunction}
+use Rattle.jt_resolved.proofs.ExpressionViews.{view_Conjunction, view_Disjunction}
 use Rattle.jt_bind.proofs.forms.formed.Goals as goal
 
 pub returns-in-Operation-clause-made : goal.returns-in-Operation-clause-made

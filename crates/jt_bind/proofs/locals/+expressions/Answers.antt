@@ -1,10 +1,10 @@
 use Rattle.std.proofs.Common.{max, sym, ap, ◌∙◌}
 use Rattle.std.proofs.lemmas.Result.{IfOk-weaker}
-use Rattle.jt_slots.specs.Locals.{expr_locals, row_locals}
-use Rattle.jt_slots.specs.Slots.{none}
-use Rattle.jt_slots.specs.View.{expr_view, row_view}
+use Rattle.jt_resolved.specs.Locals.{expr_locals, row_locals}
+use Rattle.jt_resolved.specs.Slots.{none}
+use Rattle.jt_resolved.specs.View.{expr_view, row_view}
 use Rattle.jt_bind.proofs.Counted.{row_step}
-use Rattle.jt_slots.proofs.ExpressionViews.{view_Made, view_Invoke}
+use Rattle.jt_resolved.proofs.ExpressionViews.{view_Made, view_Invoke}
 use Rattle.jt_bind.proofs.locals.+expressions.Goals as goal
 
 pub row_locals-loop-kept-preserved : goal.row_locals-loop-kept-preserved

@@ -1,7 +1,7 @@
 use Rattle.std.proofs.Common.{◌≡◌, drop, max}
-use Rattle.jt_slots.specs.Locals.{row_locals}
-use Rattle.jt_slots.specs.Slots.{none}
-use Rattle.jt_slots.specs.View.{row_view}
+use Rattle.jt_resolved.specs.Locals.{row_locals}
+use Rattle.jt_resolved.specs.Slots.{none}
+use Rattle.jt_resolved.specs.View.{row_view}
 use Rattle.jt_bind.proofs.locals.+expressions.Given as goal
 
 abbrev pub invariant-row_locals-loop-kept : goal.invariant-row_locals-loop-kept

@@ -1,8 +1,8 @@
 use Rattle.std.proofs.Common.{List, max, sym, ap, ◌∙◌, arith}
 use Rattle.std.proofs.lemmas.List.{at_drop_all}
-use Rattle.jt_slots.specs.Locals.{body_locals}
-use Rattle.jt_slots.specs.View.{body_view}
-use Rattle.jt_slots.specs.declared.program.SStmt.{SStmt}
+use Rattle.jt_resolved.specs.Locals.{body_locals}
+use Rattle.jt_resolved.specs.View.{body_view}
+use Rattle.jt_resolved.specs.declared.program.SStmt.{SStmt}
 use Rattle.jt_bind.specs.Stated.{Branch}
 use Rattle.jt_bind.proofs.Counted.{branches_locals, max_zero, body_step, branch_step, choice_done, loop_counted, capture_counted}
 use Rattle.jt_bind.proofs.locals.+statements.Goals as goal

@@ -1,8 +1,8 @@
 use Rattle.std.proofs.Common.{◌≡◌, ℕ, List, drop, max}
 use Rattle.jt_trees.specs.Expressions.{Text}
-use Rattle.jt_slots.specs.Locals.{body_locals}
-use Rattle.jt_slots.specs.Slots.{SBody}
-use Rattle.jt_slots.specs.View.{body_view}
+use Rattle.jt_resolved.specs.Locals.{body_locals}
+use Rattle.jt_resolved.specs.Slots.{SBody}
+use Rattle.jt_resolved.specs.View.{body_view}
 use Rattle.jt_bind.proofs.Counted.{branches_locals}
 use Rattle.jt_bind.proofs.locals.+statements.Given as goal
 

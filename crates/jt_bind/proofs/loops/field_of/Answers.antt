@@ -1,5 +1,5 @@
 use Rattle.std.proofs.Common.{sym}
-use Rattle.jt_slots.specs.Loops.{fields}
+use Rattle.jt_evaluation.specs.Loops.{fields}
 use Rattle.jt_bind.proofs.Names.{no_field}
 use Rattle.jt_bind.proofs.loops.field_of.Goals as goal
 

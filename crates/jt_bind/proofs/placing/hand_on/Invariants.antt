@@ -1,9 +1,9 @@
 use Rattle.std.proofs.Common.{drop, List, [], if◌then◌else◌}
 use Rattle.jt_value.specs.Tree.{Tree}
 use Rattle.jt_meaning.specs.Resolve.{handed_on, followed}
-use Rattle.jt_slots.specs.Pool.{Constant}
-use Rattle.jt_slots.specs.Slots.{SBody}
-use Rattle.jt_uses.specs.Names.{texts}
+use Rattle.jt_resolved.specs.Pool.{Constant}
+use Rattle.jt_resolved.specs.Slots.{SBody}
+use Rattle.jt_names.specs.Names.{texts}
 use Rattle.jt_bind.specs.Scoped.{BodyLeads, spot_in, templates_in}
 use Rattle.jt_bind.specs.Stated.{line_in}
 use Rattle.jt_bind.proofs.placing.hand_on.Given as goal

@@ -1,7 +1,7 @@
 use Rattle.std.proofs.Common.{sym, ap, ◌∙◌}
 use Rattle.std.specs.Prelude.{if◌then◌else◌}
 use Rattle.std.proofs.lemmas.Result.{IfOk-weaker}
-use Rattle.jt_slots.specs.Slots as slots
+use Rattle.jt_resolved.specs.Slots as slots
 use Rattle.jt_meaning.specs.Layout.{Table, block_parameters, numbered_of}
 use Rattle.jt_meaning.specs.Resolve.{alone, reads, first_body}
 use Rattle.jt_bind.specs.Scoped.{world_in, order_in, home_in, globals_in, spot_in, templates_in}

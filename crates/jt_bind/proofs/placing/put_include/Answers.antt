@@ -1,11 +1,11 @@
 use Rattle.std.proofs.Common.{◌≡◌, refl, ℕ, ◌<◌, [], sym, ap, ◌∙◌, subst, true, false, not, Option}
 use Rattle.std.specs.Option.{is_none}
 use Rattle.std.proofs.lemmas.Result.{IfOk-weaker}
-use Rattle.jt_slots.specs.Slots as slots
+use Rattle.jt_resolved.specs.Slots as slots
 use Rattle.jt_meaning.specs.Layout.{first_slot, names}
 use Rattle.jt_chains.specs.Chain.{a_chain}
 use Rattle.jt_layout.specs.Laid.{IsHomeAt}
-use Rattle.jt_uses.specs.Names.{texts}
+use Rattle.jt_names.specs.Names.{texts}
 use Rattle.jt_bind.specs.Scoped.{world_in, order_in, templates_in}
 use Rattle.jt_bind.proofs.LeadingBodies.{led_of, led_both}
 use Rattle.jt_bind.proofs.Standing.{no_row, absent_names, absent_unit, include_shown, include_missing}

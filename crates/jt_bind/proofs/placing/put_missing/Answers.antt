@@ -1,6 +1,6 @@
 use Rattle.std.proofs.Common.{Bool, sym, subst}
 use Rattle.std.proofs.lemmas.Result.{IfOk-weaker}
-use Rattle.jt_slots.specs.Slots as slots
+use Rattle.jt_resolved.specs.Slots as slots
 use Rattle.jt_meaning.specs.Resolve.{left_out}
 use Rattle.jt_bind.specs.Scoped.{spot_in, templates_in}
 use Rattle.jt_bind.specs.Stated.{Led}

@@ -6,8 +6,8 @@ use Rattle.jt_chains.specs.declared.linked.Chain.{Chain}
 use Rattle.jt_chains.specs.declared.linked.Page.{Page}
 use Rattle.jt_rules.specs.World.{world_of}
 use Rattle.jt_meaning.specs.Programs.{program}
-use Rattle.jt_slots.specs.View.{program_of}
-use Rattle.jt_slots.specs.declared.program.Program.{Program}
+use Rattle.jt_resolved.specs.View.{program_of}
+use Rattle.jt_resolved.specs.declared.program.Program.{Program}
 use Rattle.jt_bind.specs.Scoped.{values, world_in, order_in, templates_in}
 use Rattle.jt_bind.proofs.Made.{program_is}
 use Rattle.jt_bind.proofs.resolving.resolved.Goals as goal

@@ -2,7 +2,7 @@ use Rattle.std.proofs.Common.{[], ℕ, sym, ap, ◌∙◌, Option}
 use Rattle.std.specs.Prelude.{if◌then◌else◌}
 use Rattle.std.specs.Option.{is_some}
 use Rattle.std.proofs.lemmas.Result.{IfOk-weaker}
-use Rattle.jt_uses.specs.Names.{texts}
+use Rattle.jt_names.specs.Names.{texts}
 use Rattle.jt_bind.proofs.routines.block_parameters.Goals as goal
 
 pub returns-in-Some-clause-same : goal.returns-in-Some-clause-same

@@ -5,9 +5,9 @@ use Rattle.jt_chains.specs.Layers.{layer_view}
 use Rattle.jt_chains.specs.Pages.{home_view}
 use Rattle.jt_chains.specs.View.{chain_view}
 use Rattle.jt_chains.specs.declared.layers.Layer.{Layer}
-use Rattle.jt_slots.specs.Locals.{body_locals}
-use Rattle.jt_slots.specs.View.{body_view}
-use Rattle.jt_slots.specs.declared.program.SStmt.{SStmt}
+use Rattle.jt_resolved.specs.Locals.{body_locals}
+use Rattle.jt_resolved.specs.View.{body_view}
+use Rattle.jt_resolved.specs.declared.program.SStmt.{SStmt}
 use Rattle.jt_bind.specs.Scoped.{values, world_in, order_in, home_in, templates_in}
 use Rattle.jt_meaning.specs.Resolve.{resolved_chain}
 use Rattle.jt_bind.proofs.LeadingBodies.{led_begun, led_of}

@@ -2,7 +2,7 @@ use Rattle.std.proofs.Common.{sym, ap, ◌∙◌}
 use Rattle.std.specs.Prelude.{if◌then◌else◌}
 use Rattle.std.proofs.lemmas.Result.{IfOk-weaker}
 use Rattle.jt_trees.specs.StatementView.{stmt_view}
-use Rattle.jt_slots.specs.Slots as slots
+use Rattle.jt_resolved.specs.Slots as slots
 use Rattle.jt_bind.specs.Scoped.{templates_in}
 use Rattle.jt_bind.specs.Stated.{stmt_in}
 use Rattle.jt_bind.proofs.LeadingBodies.{led_of, led_nothing}

@@ -2,8 +2,8 @@ use Rattle.std.proofs.Common.{map, drop}
 use Rattle.jt_chains.specs.Layers.{layer_view}
 use Rattle.jt_chains.specs.View.{chain_view}
 use Rattle.jt_meaning.specs.Resolve.{followed, resolved_chain}
-use Rattle.jt_slots.specs.Pool.{Constant}
-use Rattle.jt_slots.specs.Slots.{SBody}
+use Rattle.jt_resolved.specs.Pool.{Constant}
+use Rattle.jt_resolved.specs.Slots.{SBody}
 use Rattle.jt_bind.specs.Scoped.{values, BodyLeads, world_in, order_in, home_in, templates_in}
 use Rattle.jt_bind.proofs.routines.resolve_layers.Given as goal
 

@@ -3,10 +3,10 @@ use Rattle.std.proofs.lemmas.List.{length-map}
 use denote.Ref.{Bor}
 use Rattle.jt_trees.specs.Expressions.{Text}
 use Rattle.jt_trees.specs.StatementView as written
-use Rattle.jt_slots.specs.View.{body_view}
-use Rattle.jt_slots.specs.declared.program.SStmt.{SStmt}
-use Rattle.jt_uses.specs.Names.{texts}
-use Rattle.jt_slots.specs.Locals.{body_locals}
+use Rattle.jt_resolved.specs.View.{body_view}
+use Rattle.jt_resolved.specs.declared.program.SStmt.{SStmt}
+use Rattle.jt_names.specs.Names.{texts}
+use Rattle.jt_resolved.specs.Locals.{body_locals}
 use Rattle.jt_meaning.specs.Resolve.{bound_all}
 use Rattle.jt_bind.specs.Scoped.{values, spot_in, templates_in}
 use Rattle.jt_bind.specs.Stated.{scoped_in}

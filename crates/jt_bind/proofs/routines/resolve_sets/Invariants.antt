@@ -1,8 +1,8 @@
 use Rattle.std.proofs.Common.{drop}
 use Rattle.jt_meaning.specs.Resolve.{followed, resolved_sets}
 use Rattle.jt_trees.specs.StatementView.{body_view}
-use Rattle.jt_slots.specs.Pool.{Constant}
-use Rattle.jt_slots.specs.Slots.{SBody}
+use Rattle.jt_resolved.specs.Pool.{Constant}
+use Rattle.jt_resolved.specs.Slots.{SBody}
 use Rattle.jt_bind.specs.Scoped.{values, BodyLeads, templates_in, world_in, order_in, spot_in}
 use Rattle.jt_bind.proofs.routines.resolve_sets.Given as goal
 

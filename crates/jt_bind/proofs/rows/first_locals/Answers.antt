@@ -1,12 +1,12 @@
 use Rattle.std.proofs.Common.{◌+◌, ◌<◌, length, drop, sym, append-nil, arith}
 use Rattle.std.proofs.lemmas.List.{at_drop_all}
-use Rattle.jt_slots.specs.Slots.{variable, local}
-use Rattle.jt_slots.specs.declared.program.Slot.TheVariants as s
-use Rattle.jt_slots.specs.declared.program.SExpr.TheVariants as e
+use Rattle.jt_resolved.specs.Slots.{variable, local}
+use Rattle.jt_resolved.specs.declared.program.Slot.TheVariants as s
+use Rattle.jt_resolved.specs.declared.program.SExpr.TheVariants as e
 use Rattle.jt_meaning.specs.Resolve as resolve
 use Rattle.jt_bind.proofs.Calling.{locals_next}
 use Rattle.jt_bind.proofs.LeadingRows.{of_whole, of_left, row_both, row_item}
-use Rattle.jt_slots.proofs.ExpressionViews.{view_Variable}
+use Rattle.jt_resolved.proofs.ExpressionViews.{view_Variable}
 use Rattle.jt_bind.proofs.rows.first_locals.Goals as goal
 
 pub returns-clause-read : goal.returns-clause-read

@@ -1,6 +1,6 @@
 use Rattle.std.proofs.Common.{◌≡◌, ◌++◌, map, drop}
 use Rattle.jt_trees.specs.StatementView.{parameter_view}
-use Rattle.jt_slots.specs.Filters.{default_value}
+use Rattle.jt_evaluation.specs.Filters.{default_value}
 use Rattle.jt_bind.specs.Scoped.{values}
 use Rattle.jt_bind.proofs.shared.add_defaults.Given as goal
 

@@ -6,10 +6,10 @@ use Rattle.jt_trees.specs.ExpressionView.{expr_view, pairs_view}
 use Rattle.jt_trees.specs.Statements as trees
 use Rattle.jt_trees.specs.StatementView.{names_view, filterings_view, stmt_view, body_view, branches_view}
 use Rattle.jt_trees.specs.declared.statement.Stmt.{Stmt}
-use Rattle.jt_slots.specs.Slots as slots
+use Rattle.jt_resolved.specs.Slots as slots
 use Rattle.jt_meaning.specs.Resolve.{followed, alone, bound_all, resolved_filters}
 use Rattle.jt_chains.specs.View.{chain_view}
-use Rattle.jt_uses.specs.Names.{texts}
+use Rattle.jt_names.specs.Names.{texts}
 use Rattle.jt_bind.specs.Scoped.{values, world_in, order_in, expr_in, spot_in, templates_in}
 use Rattle.jt_bind.specs.Stated.{line_in, stmt_in, body_in, choice_in, scoped_in, values_in}
 use Rattle.jt_bind.proofs.LeadingBodies.{lead_both, lead_of, lead_left, lead_same, led_of, led_both, led_begun, followed_again, choice_same, choice_other, branch_as, branch_led}

@@ -1,8 +1,8 @@
 use Rattle.std.proofs.Common.{drop}
 use Rattle.jt_meaning.specs.Resolve.{followed}
 use Rattle.jt_trees.specs.StatementView.{body_view, branches_view}
-use Rattle.jt_slots.specs.Pool.{Constant}
-use Rattle.jt_slots.specs.Slots.{SBody}
+use Rattle.jt_resolved.specs.Pool.{Constant}
+use Rattle.jt_resolved.specs.Slots.{SBody}
 use Rattle.jt_bind.specs.Scoped.{values, BodyLeads, templates_in}
 use Rattle.jt_bind.specs.Stated.{ChoiceLeads, body_in, choice_in}
 use Rattle.jt_bind.proofs.statements.+resolve.Given as goal

@@ -1,7 +1,7 @@
 use Rattle.std.proofs.Common.{ℕ, ◌+◌, List, drop, sym, ap, ◌∙◌, arith, add-one}
 use Rattle.std.proofs.lemmas.List.{at_drop_all}
 use Rattle.jt_trees.specs.ExpressionView.{expr_view, pairs_view}
-use Rattle.jt_slots.specs.Slots as slots
+use Rattle.jt_resolved.specs.Slots as slots
 use Rattle.jt_bind.specs.Scoped.{expr_in, templates_in}
 use Rattle.jt_bind.specs.Stated.{line_in, values_in}
 use Rattle.jt_bind.proofs.LeadingBodies.{lead_both, lead_of, lead_left}

@@ -1,7 +1,7 @@
 use Rattle.std.proofs.Common.{drop}
 use Rattle.jt_trees.specs.ExpressionView.{pairs_view}
-use Rattle.jt_slots.specs.Pool.{Constant}
-use Rattle.jt_slots.specs.Slots.{SBody}
+use Rattle.jt_resolved.specs.Pool.{Constant}
+use Rattle.jt_resolved.specs.Slots.{SBody}
 use Rattle.jt_bind.specs.Scoped.{values, BodyLeads, templates_in}
 use Rattle.jt_bind.specs.Stated.{values_in}
 use Rattle.jt_bind.proofs.statements.resolve_values.Given as goal

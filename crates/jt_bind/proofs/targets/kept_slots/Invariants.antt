@@ -3,7 +3,7 @@ use Rattle.std.specs.Prelude.{option_map}
 use Rattle.jt_meaning.specs.Resolve.{kept_slots}
 use Rattle.jt_bind.specs.Scoped.{spot_in}
 use Rattle.jt_trees.specs.StatementView.{names_view}
-use Rattle.jt_slots.specs.View.{slot_view}
+use Rattle.jt_resolved.specs.View.{slot_view}
 use Rattle.jt_bind.proofs.targets.kept_slots.Given as goal
 
 abbrev pub invariant-loop-place : goal.invariant-loop-place

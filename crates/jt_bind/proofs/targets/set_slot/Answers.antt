@@ -1,9 +1,9 @@
 use Rattle.std.proofs.Common.{sym, ap, ◌∙◌}
 use Rattle.std.specs.Prelude.{unwrap_or}
-use Rattle.jt_slots.specs.Slots.{local}
+use Rattle.jt_resolved.specs.Slots.{local}
 use Rattle.jt_bind.specs.Scoped.{spot_in}
 use Rattle.jt_bind.proofs.Placed.{slot_of_found, viewed_or}
-use Rattle.jt_slots.specs.View.{slot_view}
+use Rattle.jt_resolved.specs.View.{slot_view}
 use Rattle.jt_bind.proofs.targets.set_slot.Goals as goal
 
 pub returns : goal.returns

@@ -2,7 +2,7 @@ use Rattle.std.proofs.Common.{◌≡◌, Global, String, List, [], ◌∷◌, le
 use Rattle.jt_trees.specs.StatementView.{names_view}
 use Rattle.jt_meaning.specs.Layout.{Table}
 use Rattle.jt_meaning.specs.Resolve.{kept_slots, set_targets}
-use Rattle.jt_slots.specs.Slots.{several}
+use Rattle.jt_resolved.specs.Slots.{several}
 use Rattle.jt_bind.specs.Scoped.{spot_in}
 use Rattle.jt_bind.proofs.targets.set_targets.Goals.{then-names-lt1, else-names-lt1+else-names-lt2}
 use Rattle.jt_bind.proofs.targets.set_targets.Goals as goal

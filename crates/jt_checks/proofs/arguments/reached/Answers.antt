@@ -1,6 +1,6 @@
 use Rattle.std.proofs.Common.{◌≡◌, suc, ◌-◌, drop, sym, ap, ◌∙◌, arith}
 use Rattle.jt_trees.specs.StatementView.{parameters_view}
-use Rattle.jt_slots.specs.Filters.{some_given}
+use Rattle.jt_evaluation.specs.Filters.{some_given}
 use Rattle.jt_checks.specs.Standing.{texts}
 use Rattle.jt_checks.proofs.Filled.{last_reached, none_reached}
 use Rattle.jt_checks.proofs.arguments.reached.Goals as goal

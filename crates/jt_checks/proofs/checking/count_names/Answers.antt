@@ -2,7 +2,7 @@ use Rattle.std.proofs.Common.{◌≡◌, ◌+◌, length, sym, ap, ◌∙◌, ar
 use Rattle.jt_trees.specs.Texts.{ascending}
 use Rattle.jt_chains.specs.Chain.{libraries}
 use Rattle.jt_chains.specs.Uses.{own_names}
-use Rattle.jt_uses.specs.Names.{texts}
+use Rattle.jt_names.specs.Names.{texts}
 use Rattle.jt_rules.specs.Rules.{libraries_counted}
 use Rattle.jt_checks.specs.Standing.{world_in, home_in, names_of}
 use Rattle.jt_checks.proofs.Turns.{home_seen, library_free, chain_counted}

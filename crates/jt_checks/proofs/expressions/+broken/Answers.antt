@@ -1,7 +1,7 @@
 use Rattle.std.proofs.Common.{◌≡◌, ◌∙◌, Ok, refl}
 use Rattle.std.specs.Option.{option_or}
 use Rattle.jt_trees.specs.ExpressionView.{exprs_view, pairs_view}
-use Rattle.jt_slots.specs.Tests.{test_named}
+use Rattle.jt_evaluation.specs.Tests.{test_named}
 use Rattle.jt_rules.specs.Walk as rules
 use Rattle.jt_checks.specs.ScopeView.{its_world, its_home, within_view}
 use Rattle.jt_checks.proofs.Found.{its_filters, found_call, found_inner, found_filter, found_test, filter_called, test_called, item_read, binary_read, when_read, choice_read, item_called, binary_called, when_called, choice_called, row_some, row_none, pairs_some, pairs_none}

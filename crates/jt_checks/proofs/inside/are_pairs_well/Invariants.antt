@@ -1,6 +1,6 @@
 use Rattle.std.proofs.Common.{◌≡◌, drop}
 use Rattle.jt_trees.specs.ExpressionView.{pairs_view}
-use Rattle.jt_slots.specs.Inside.{pairs_well}
+use Rattle.jt_evaluation.specs.Inside.{pairs_well}
 use Rattle.jt_checks.proofs.inside.are_pairs_well.Given as goal
 
 abbrev pub invariant-loop-name : goal.invariant-loop-name

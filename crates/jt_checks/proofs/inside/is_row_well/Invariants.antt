@@ -1,6 +1,6 @@
 use Rattle.std.proofs.Common.{◌≡◌, ◌+◌, drop}
 use Rattle.jt_trees.specs.ExpressionView.{exprs_view}
-use Rattle.jt_slots.specs.Inside.{row_well}
+use Rattle.jt_evaluation.specs.Inside.{row_well}
 use Rattle.jt_checks.proofs.inside.is_row_well.Given as goal
 
 abbrev pub invariant-loop-index : goal.invariant-loop-index

@@ -2,16 +2,16 @@ use Rattle.std.proofs.Common.{◌≡◌, suc, ◌+◌, List, Some, None, drop, r
 use Rattle.std.specs.Prelude.{min, option_map}
 use Rattle.std.proofs.lemmas.Result.{IfOk-weaker}
 use Rattle.jt_image.specs.declared.instruction.Instruction.TheVariants as op
-use Rattle.jt_slots.specs.Slots as slots
-use Rattle.jt_slots.specs.Slots.{none}
-use Rattle.jt_slots.specs.declared.program.SStmt.{SStmt}
-use Rattle.jt_slots.specs.View.{slot_view, targets_view, place_view, expr_view, row_view, stmt_view, body_view, choice_view}
+use Rattle.jt_resolved.specs.Slots as slots
+use Rattle.jt_resolved.specs.Slots.{none}
+use Rattle.jt_resolved.specs.declared.program.SStmt.{SStmt}
+use Rattle.jt_resolved.specs.View.{slot_view, targets_view, place_view, expr_view, row_view, stmt_view, body_view, choice_view}
 use Rattle.jt_lower.specs.Asm.{Asm, one, both, each, when, invoke}
 use Rattle.jt_lower.specs.Lower.{flag, store_of, expr_asm, row_asm, take_asm, kept_asm, turn_asm, over_asm, body_asm, stmt_asm}
 use Rattle.jt_lower.specs.Emission.{Puts}
 use Rattle.jt_codegen.specs.Statements.{Emits}
 use Rattle.jt_codegen.proofs.Depths.{loop_depth}
-use Rattle.jt_slots.proofs.StatementViews.{view_If, view_For, view_Capture, view_PutPooled, view_Print, view_Assign, view_Run}
+use Rattle.jt_resolved.proofs.StatementViews.{view_If, view_For, view_Capture, view_PutPooled, view_Print, view_Assign, view_Run}
 use Rattle.jt_lower.proofs.Patched.{puts_then, puts_call, puts_when, puts_turns}
 use Rattle.jt_codegen.proofs.Emitting.{stands_itself, emits_one, emits_as, emits_alone, leads_more, leads_all, Opens, opens_more, emits_branches}
 use Rattle.jt_lower.proofs.Rows.{stands_raised}

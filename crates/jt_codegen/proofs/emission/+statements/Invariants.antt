@@ -1,9 +1,9 @@
 use Rattle.std.proofs.Common.{ℕ, ◌+◌, ◌*◌, List, drop}
 use Rattle.std.specs.Prelude.{max}
 use denote.Param.Weighed.{most}
-use Rattle.jt_slots.specs.declared.program.SStmt.{size-SStmt}
+use Rattle.jt_resolved.specs.declared.program.SStmt.{size-SStmt}
 use Rattle.jt_trees.specs.Expressions.{Text}
-use Rattle.jt_slots.specs.View.{body_view}
+use Rattle.jt_resolved.specs.View.{body_view}
 use Rattle.jt_lower.specs.Emission.{StandsFor}
 use Rattle.jt_codegen.proofs.Emitting.{Leads, Opens}
 use Rattle.jt_codegen.proofs.emission.+statements.Given as goal

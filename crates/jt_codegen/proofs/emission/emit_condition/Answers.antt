@@ -1,7 +1,7 @@
 use Rattle.std.proofs.Common.{refl, ap}
 use Rattle.std.specs.Prelude.{option_map}
 use Rattle.jt_image.specs.declared.instruction.Instruction.TheVariants as op
-use Rattle.jt_slots.specs.View.{targets_view, expr_view}
+use Rattle.jt_resolved.specs.View.{targets_view, expr_view}
 use Rattle.jt_lower.specs.Asm.{Asm, one, both, each}
 use Rattle.jt_lower.specs.Lower.{expr_asm, take_asm, kept_asm}
 use Rattle.jt_lower.specs.Emission.{tag_view}

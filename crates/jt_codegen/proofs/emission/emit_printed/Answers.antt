@@ -1,6 +1,6 @@
 use Rattle.std.proofs.Common.{Some, ap}
 use Rattle.jt_image.specs.declared.instruction.Instruction.TheVariants as op
-use Rattle.jt_slots.specs.View.{place_view, expr_view}
+use Rattle.jt_resolved.specs.View.{place_view, expr_view}
 use Rattle.jt_lower.specs.Asm.{one}
 use Rattle.jt_lower.specs.Lower.{flag, expr_asm}
 use Rattle.jt_lower.proofs.Patched.{puts_then}

@@ -1,6 +1,6 @@
 use Rattle.std.proofs.Common.{[], refl, subst}
 use Rattle.jt_image.specs.declared.instruction.Instruction.TheVariants as op
-use Rattle.jt_slots.specs.View.{body_view}
+use Rattle.jt_resolved.specs.View.{body_view}
 use Rattle.jt_codegen.specs.Statements.{Emits}
 use Rattle.jt_codegen.proofs.Emitting.{stands_itself}
 use Rattle.jt_codegen.proofs.Reading.{unit_emitted, unit_placed, unit_within, unit_refused}

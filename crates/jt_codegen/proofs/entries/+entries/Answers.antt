@@ -1,8 +1,8 @@
 use Rattle.std.proofs.Common.{◌+◌, ◌&&◌, arith, drop, ap, ◌∙◌}
 use Rattle.std.specs.Prelude.{nat_le}
 use Rattle.std.proofs.lemmas.List.{at_drop_all}
-use Rattle.jt_slots.specs.Size.{body_height}
-use Rattle.jt_slots.specs.View.{body_view}
+use Rattle.jt_resolved.specs.Size.{body_height}
+use Rattle.jt_resolved.specs.View.{body_view}
 use Rattle.jt_codegen.proofs.Below.{body_next, branches_low, branch_passed, condition_high, inside_high, if_passes, if_blocked, for_passes, capture_passes}
 use Rattle.jt_codegen.proofs.entries.+entries.Goals as goal
 

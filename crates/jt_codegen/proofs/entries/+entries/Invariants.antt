@@ -1,9 +1,9 @@
 use Rattle.std.proofs.Common.{◌≡◌, ℕ, List, drop}
 use Rattle.std.specs.Prelude.{nat_le}
 use Rattle.jt_trees.specs.Expressions.{Text}
-use Rattle.jt_slots.specs.Slots.{SBody}
-use Rattle.jt_slots.specs.Size.{body_height}
-use Rattle.jt_slots.specs.View.{body_view}
+use Rattle.jt_resolved.specs.Slots.{SBody}
+use Rattle.jt_resolved.specs.Size.{body_height}
+use Rattle.jt_resolved.specs.View.{body_view}
 use Rattle.jt_codegen.proofs.Below.{branches_low}
 use Rattle.jt_codegen.proofs.entries.+entries.Given as goal
 

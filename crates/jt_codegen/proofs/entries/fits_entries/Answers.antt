@@ -1,5 +1,5 @@
 use Rattle.std.proofs.Common.{refl, subst}
-use Rattle.jt_slots.specs.View.{body_view}
+use Rattle.jt_resolved.specs.View.{body_view}
 use Rattle.jt_codegen.proofs.Below.{Passes, low_more, low_not, low_all}
 use Rattle.jt_codegen.proofs.entries.fits_entries.Goals as goal
 

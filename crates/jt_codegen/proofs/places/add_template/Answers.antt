@@ -1,8 +1,8 @@
 use Rattle.std.proofs.Common.{[], ◌∷◌, sym, ap, ◌∙◌}
 use Rattle.jt_trees.specs.Texts.{all_inserted, inserted}
 use Rattle.jt_image.specs.View.{texts_view}
-use Rattle.jt_uses.specs.Names.{texts}
-use Rattle.jt_uses.proofs.Inserted.{key_inserted}
+use Rattle.jt_names.specs.Names.{texts}
+use Rattle.jt_names.proofs.Inserted.{key_inserted}
 use Rattle.jt_lower.specs.Emission.{tag_view}
 use Rattle.jt_lower.specs.Spots.{templates_in}
 use Rattle.jt_codegen.proofs.places.add_template.Goals as goal

@@ -2,7 +2,7 @@ use Rattle.std.proofs.Common.{List, sym, ap, ◌∙◌, subst}
 use Rattle.std.specs.List.{AllByRecursion}
 use Rattle.jt_image.specs.View.{texts_view}
 use Rattle.jt_trees.specs.Expressions.{Text}
-use Rattle.jt_uses.specs.Names.{texts}
+use Rattle.jt_names.specs.Names.{texts}
 use Rattle.jt_lower.specs.Emission.{places_view}
 use Rattle.jt_codegen.specs.Naming.{IsNamed}
 use Rattle.jt_codegen.proofs.Telling.{all_named}

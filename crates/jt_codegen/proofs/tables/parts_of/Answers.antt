@@ -1,7 +1,7 @@
 use Rattle.std.proofs.Common.{◌≤◌, List, map, string_bytes, arith, subst}
 use Rattle.jt_image.specs.IsCode.{total_len, max_instructions}
-use Rattle.jt_slots.specs.View.{routine_view, templates_of}
-use Rattle.jt_slots.specs.declared.program.Routine.{Routine}
+use Rattle.jt_resolved.specs.View.{routine_view, templates_of}
+use Rattle.jt_resolved.specs.declared.program.Routine.{Routine}
 use Rattle.jt_lower.specs.Lower.{unit_of}
 use Rattle.std.proofs.lemmas.List.{length-map}
 use Rattle.jt_codegen.proofs.Tabled.{numbered_len}

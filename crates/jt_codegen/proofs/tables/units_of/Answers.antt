@@ -1,7 +1,7 @@
 use Rattle.std.proofs.Common.{◌≡◌, ℕ, List, [], ◌∷◌, ◌++◌, ◌+◌, ◌-◌, Option, drop, length, sym, subst, arith}
 use Rattle.std.proofs.lemmas.Result.{err_from_is_err_and}
 use Rattle.jt_image.specs.declared.parts.Unit as given
-use Rattle.jt_slots.specs.declared.program.Place.{Place}
+use Rattle.jt_resolved.specs.declared.program.Place.{Place}
 use Rattle.jt_codegen.proofs.Tabled.{Made, tags, all_places, made_more, made_all, made_short, unit_refused, places_more, places_all}
 use Rattle.jt_codegen.proofs.tables.units_of.Goals as goal
 

@@ -1,6 +1,6 @@
 use Rattle.std.proofs.Common.{ap}
 use Rattle.jt_image.specs.declared.instruction.Instruction.TheVariants as op
-use Rattle.jt_slots.specs.View.{targets_view}
+use Rattle.jt_resolved.specs.View.{targets_view}
 use Rattle.jt_lower.specs.Asm.{one}
 use Rattle.jt_lower.specs.Lower.{take_asm}
 use Rattle.jt_lower.specs.Emission.{tag_view}

@@ -1,6 +1,6 @@
 use Rattle.std.proofs.Common.{Some, None, refl}
 use Rattle.jt_image.specs.declared.instruction.Instruction.TheVariants as op
-use Rattle.jt_slots.specs.View.{slot_view}
+use Rattle.jt_resolved.specs.View.{slot_view}
 use Rattle.jt_lower.specs.Lower.{store_of}
 use Rattle.jt_lower.specs.Emission.{tag_view}
 use Rattle.jt_codegen.proofs.Emitting.{stores_more, stores_all}

@@ -2,7 +2,7 @@ use Rattle.std.proofs.Common.{◌≡◌, length, ap, arith, subst}
 use Rattle.std.proofs.lemmas.List.{length-map}
 use Rattle.std.specs.Prelude.{option_map}
 use Rattle.jt_image.specs.declared.instruction.Instruction.TheVariants as op
-use Rattle.jt_slots.specs.View.{slot_view, targets_view}
+use Rattle.jt_resolved.specs.View.{slot_view, targets_view}
 use Rattle.jt_lower.specs.Asm.{one, both}
 use Rattle.jt_lower.specs.Lower.{store_of, stores_asm, take_asm}
 use Rattle.jt_lower.specs.Emission.{Given, tag_view, Puts}

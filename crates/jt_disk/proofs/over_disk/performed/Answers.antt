@@ -1,7 +1,7 @@
 use Rattle.std.proofs.Common.{arith}
 use Rattle.clap.specs.Walk.{texts}
 use Rattle.clap.specs.Words.{subcommand_of}
-use Rattle.jt_line.specs.Line.{program_app}
+use Rattle.jt_args.specs.Line.{program_app}
 use Rattle.jt_program.specs.Commands.{out_of}
 use Rattle.jt_disk.proofs.Images.{is_left, same_file}
 use Rattle.jt_disk.proofs.over_disk.performed.Goals as goal

@@ -1,6 +1,6 @@
 use Rattle.std.proofs.Common.{◌∷◌, map}
 use Rattle.jt_value.specs.View.{view}
-use Rattle.jt_filtering.specs.Filtering.{filtered}
+use Rattle.jt_filter_meaning.specs.Filtering.{filtered}
 use Rattle.jt_filters.specs.Operands.{tree_of}
 use Rattle.jt_filters.proofs.Applied.{faulty, refused, needs_memory}
 use Rattle.jt_filters.proofs.filters.measured_and_built.Goals as goal

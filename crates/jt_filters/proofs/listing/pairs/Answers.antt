@@ -1,7 +1,7 @@
 use Rattle.std.proofs.Common.{refl, ap, ℕ, List, ◌∙◌, string_bytes, rules}
 use Rattle.jt_value.specs.View.{view, entries_view}
 use Rattle.jt_value.proofs.Lists.{Pair}
-use Rattle.jt_filtering.specs.Listing.{pair_items, pair}
+use Rattle.jt_filter_meaning.specs.Listing.{pair_items, pair}
 use Rattle.jt_filters.proofs.Lists.{made_more, made_all}
 use Rattle.jt_filters.proofs.listing.pairs.Goals as goal
 

@@ -1,7 +1,7 @@
 use Rattle.std.proofs.Common.{◌≡◌, drop}
 use Rattle.jt_value.specs.View.{items_view, entries_view}
 use Rattle.jt_value.specs.Payload.{joined_items}
-use Rattle.jt_filtering.specs.Listing.{pair_items}
+use Rattle.jt_filter_meaning.specs.Listing.{pair_items}
 use Rattle.jt_filters.proofs.listing.pairs.Given as goal
 
 abbrev pub invariant-loop-entry : goal.invariant-loop-entry

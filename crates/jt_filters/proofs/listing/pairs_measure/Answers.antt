@@ -3,7 +3,7 @@ use Rattle.std.proofs.lemmas.List.{at_drop_all}
 use Rattle.jt_value.proofs.Lists.{Pair}
 use Rattle.jt_value.specs.Tree.{items_size, items_nesting}
 use Rattle.jt_value.specs.View.{entries_view}
-use Rattle.jt_filtering.specs.Listing.{pair_items}
+use Rattle.jt_filter_meaning.specs.Listing.{pair_items}
 use Rattle.jt_filters.proofs.listing.pairs_measure.Goals as goal
 
 pub returns-clause-size : goal.returns-clause-size

@@ -1,7 +1,7 @@
 use Rattle.std.proofs.Common.{◌≡◌, ◌+◌, ◌-◌, ◌^◌, ◌≤◌, min, max, drop}
 use Rattle.jt_value.specs.Tree.{items_size, items_nesting}
 use Rattle.jt_value.specs.View.{entries_view}
-use Rattle.jt_filtering.specs.Listing.{pair_items}
+use Rattle.jt_filter_meaning.specs.Listing.{pair_items}
 use Rattle.jt_filters.proofs.listing.pairs_measure.Given as goal
 
 abbrev pub invariant-loop-entry : goal.invariant-loop-entry

@@ -1,5 +1,5 @@
 use Rattle.std.proofs.Common.{◌≡◌, ◌+◌, ◌++◌, length, ap, arith, length-append}
-use Rattle.jt_filtering.specs.Texts.{replaced_behind}
+use Rattle.jt_filter_meaning.specs.Texts.{replaced_behind}
 use Rattle.jt_filters.proofs.Replacements.{replaced_step, behind_utf8, replaced_nowhere}
 use Rattle.jt_filters.proofs.replacing.replaced_len.Goals as goal
 

@@ -1,5 +1,5 @@
 use Rattle.std.proofs.Common.{◌++◌, List, ℕ, ap, sym, ◌∙◌, string_bytes, append_assoc}
-use Rattle.jt_filtering.specs.Texts.{replaced_behind}
+use Rattle.jt_filter_meaning.specs.Texts.{replaced_behind}
 use Rattle.jt_filters.proofs.Replacements.{replaced_step, behind_utf8, replaced_nowhere}
 use Rattle.jt_filters.proofs.replacing.replaced_text.Goals as goal
 

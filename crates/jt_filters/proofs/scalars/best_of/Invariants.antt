@@ -1,7 +1,7 @@
 use Rattle.std.proofs.Common.{◌≡◌}
 use Rattle.jt_ops.specs.ItemOf.{items_count}
 use Rattle.jt_filters.specs.Operands.{tree_of, items_in}
-use Rattle.jt_filtering.specs.Ordering.{best_of, comes_first}
+use Rattle.jt_filter_meaning.specs.Ordering.{best_of, comes_first}
 use Rattle.jt_filters.proofs.scalars.best_of.Given as goal
 
 abbrev pub invariant-loop-item : goal.invariant-loop-item

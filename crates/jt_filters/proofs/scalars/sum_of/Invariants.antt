@@ -3,7 +3,7 @@ use Rattle.jt_ops.specs.ItemOf.{items_count}
 use Rattle.jt_filters.specs.Operands.{items_in}
 use Rattle.std.specs.Prelude.{Ok}
 use Rattle.std.proofs.Common.{pos}
-use Rattle.jt_filtering.specs.Numbers.{sum_behind}
+use Rattle.jt_filter_meaning.specs.Numbers.{sum_behind}
 use Rattle.jt_filters.proofs.scalars.sum_of.Given as goal
 
 abbrev pub invariant-loop-item : goal.invariant-loop-item

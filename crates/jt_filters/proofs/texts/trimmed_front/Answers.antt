@@ -1,6 +1,6 @@
 use Rattle.std.proofs.Common.{◌≡◌, ◌<◌, true, get_or, length, refl, sym, ap, ◌∙◌, ℕ, List, arith}
 use Rattle.std.proofs.lemmas.Str.{IsCharBoundary-start, IsCharBoundary-after_ascii}
-use Rattle.jt_filtering.specs.Texts.{is_whitespace}
+use Rattle.jt_filter_meaning.specs.Texts.{is_whitespace}
 use Rattle.jt_filters.proofs.Changes.{front_white, white_ascii}
 use Rattle.jt_filters.proofs.texts.trimmed_front.Goals as goal
 

@@ -3,7 +3,7 @@ use Rattle.jt_value.specs.Payload.{joined_items}
 use Rattle.jt_value.specs.Tree.{Items, item}
 use Rattle.jt_ops.specs.ItemOf.{items_count}
 use Rattle.jt_filters.specs.Operands.{tree_of, items_in, front}
-use Rattle.jt_filtering.specs.Ordering.{unseen}
+use Rattle.jt_filter_meaning.specs.Ordering.{unseen}
 use Rattle.jt_filters.specs.Seen.{operand_items, Knows}
 use Rattle.jt_filters.proofs.Alike.{whole_next}
 use Rattle.jt_filters.proofs.Lists.{joined_none}

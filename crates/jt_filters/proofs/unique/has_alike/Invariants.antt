@@ -1,7 +1,7 @@
 use Rattle.std.proofs.Common.{◌≡◌}
 use Rattle.jt_ops.specs.ItemOf.{items_count}
 use Rattle.jt_filters.specs.Operands.{tree_of, items_in, front}
-use Rattle.jt_filtering.specs.Ordering.{has_alike}
+use Rattle.jt_filter_meaning.specs.Ordering.{has_alike}
 use Rattle.jt_filters.proofs.unique.has_alike.Given as goal
 
 abbrev pub invariant-loop-other : goal.invariant-loop-other

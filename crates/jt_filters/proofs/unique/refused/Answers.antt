@@ -2,7 +2,7 @@ use Rattle.std.proofs.Common.{refl}
 use Rattle.std.specs.Prelude.{Ok}
 use Rattle.jt_value.specs.Tree as tree
 use Rattle.jt_filters.specs.Operands.{items_in}
-use Rattle.jt_filtering.specs.Ordering.{unseen}
+use Rattle.jt_filter_meaning.specs.Ordering.{unseen}
 use Rattle.jt_filters.proofs.Applied.{refused, needs_memory}
 use Rattle.jt_filters.proofs.unique.refused.Goals as goal
 

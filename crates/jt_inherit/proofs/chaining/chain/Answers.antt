@@ -2,8 +2,8 @@ use Rattle.std.proofs.Common.{◌≡◌, ◌+◌, ◌*◌, ◌<◌, ◌≤◌, L
 use Rattle.std.proofs.lemmas.List.{length-map}
 use Rattle.std.specs.List.{AllByRecursion}
 use Rattle.std.proofs.lemmas.Result.{err_from_is_err_and}
-use Rattle.jt_order.specs.Graph.{IsClosed, IsOrder}
-use Rattle.jt_order.specs.View.{graph_of}
+use Rattle.jt_graph.specs.Graph.{IsClosed, IsOrder}
+use Rattle.jt_graph.specs.View.{graph_of}
 use Rattle.jt_chains.specs.Chain.{sources_in}
 use Rattle.jt_inherit.specs.Chains.{IsChain}
 use Rattle.jt_inherit.specs.Found.{AreFound, HasHomes, found_templates, found_homes}

@@ -1,6 +1,6 @@
 use Rattle.std.proofs.Common.{take}
 use Rattle.std.specs.List.{AllByRecursion}
-use Rattle.jt_order.specs.View.{graph_of}
+use Rattle.jt_graph.specs.View.{graph_of}
 use Rattle.jt_chains.specs.Along.{templates_at}
 use Rattle.jt_chains.specs.Chain.{sources_in}
 use Rattle.jt_inherit.specs.Found.{found_templates}

@@ -1,4 +1,4 @@
-use Rattle.jt_order.specs.View.{graph_of}
+use Rattle.jt_graph.specs.View.{graph_of}
 use Rattle.jt_inherit.specs.Found.{found_homes}
 use Rattle.jt_inherit.proofs.Listed.{homes_turn}
 use Rattle.jt_inherit.proofs.chaining.homes_in.Goals as goal

@@ -1,5 +1,5 @@
 use Rattle.std.proofs.Common.{take}
-use Rattle.jt_order.specs.View.{graph_of}
+use Rattle.jt_graph.specs.View.{graph_of}
 use Rattle.jt_inherit.specs.Found.{HasHomes, found_homes}
 use Rattle.jt_inherit.proofs.chaining.homes_in.Given as goal
 

@@ -1,6 +1,6 @@
 use Rattle.std.proofs.Common.{ap, arith}
 use Rattle.std.proofs.lemmas.List.{length-map}
-use Rattle.jt_order.specs.View.{graph_of}
+use Rattle.jt_graph.specs.View.{graph_of}
 use Rattle.jt_inherit.specs.Found.{found_templates, found_homes, root_of}
 use Rattle.jt_chains.specs.Chain.{home_name}
 use Rattle.jt_chains.specs.Pages.{pages_view}

@@ -2,7 +2,7 @@ use Rattle.std.proofs.Common.{◌≡◌, true, ◌⊎◌, ◌++◌, ◌∷◌, [
 use Rattle.std.proofs.lemmas.List.{length-map}
 use Rattle.std.specs.List.{AllByRecursion}
 use Rattle.std.proofs.lemmas.Result.{err_from_is_err_and}
-use Rattle.jt_order.specs.View.{graph_of}
+use Rattle.jt_graph.specs.View.{graph_of}
 use Rattle.jt_trees.specs.Texts.{among}
 use Rattle.jt_chains.specs.Along.{ArePlaces}
 use Rattle.jt_inherit.specs.Along.{needs_along}

@@ -7,7 +7,7 @@ use Rattle.jt_chains.specs.Places.{home_at}
 use Rattle.jt_chains.specs.View.{chain_view}
 use Rattle.jt_rules.specs.World.{world_of}
 use Rattle.jt_meaning.specs.Layout.{names_in}
-use Rattle.jt_uses.specs.Names.{texts}
+use Rattle.jt_names.specs.Names.{texts}
 use Rattle.jt_layout.specs.Places.{home_named, names_at}
 use Rattle.jt_chains.proofs.Placed.{name_of_home}
 use Rattle.jt_layout.proofs.Named.{names_turn, names_kept}

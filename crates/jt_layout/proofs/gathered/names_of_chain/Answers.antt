@@ -12,7 +12,7 @@ use Rattle.jt_chains.specs.Pages.{home_view}
 use Rattle.jt_chains.specs.View.{chain_view, sources_of}
 use Rattle.jt_rules.specs.World.{world_of}
 use Rattle.jt_meaning.specs.Layout.{names_in}
-use Rattle.jt_uses.specs.Names.{texts}
+use Rattle.jt_names.specs.Names.{texts}
 use Rattle.jt_layout.proofs.Named.{chain_turn, none_turn, names_here}
 use Rattle.jt_layout.proofs.gathered.names_of_chain.Goals as goal
 

@@ -6,7 +6,7 @@ use Rattle.jt_chains.specs.Chain.{a_chain}
 use Rattle.jt_chains.specs.View.{chain_view, sources_of}
 use Rattle.jt_rules.specs.World.{world_of}
 use Rattle.jt_meaning.specs.Layout.{names_in}
-use Rattle.jt_uses.specs.Names.{texts}
+use Rattle.jt_names.specs.Names.{texts}
 use Rattle.jt_layout.proofs.gathered.names_of_chain.Given as goal
 
 abbrev pub invariant-loop-name : goal.invariant-loop-name

@@ -1,7 +1,7 @@
 use Rattle.std.proofs.Common.{◌≡◌, ◌++◌, true, drop}
 use Rattle.jt_trees.specs.StatementView.{body_view, branches_view}
 use Rattle.jt_chains.specs.Includes.{needs_in, needs_under}
-use Rattle.jt_uses.specs.Names.{texts}
+use Rattle.jt_names.specs.Names.{texts}
 use Rattle.jt_layout.proofs.includes.+includes.Given as goal
 
 abbrev pub invariant-add_included-loop-statement : goal.invariant-add_included-loop-statement

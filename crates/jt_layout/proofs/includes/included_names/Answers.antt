@@ -8,7 +8,7 @@ use Rattle.jt_chains.specs.Includes.{needs_in}
 use Rattle.jt_chains.specs.Layers.{layer_view}
 use Rattle.jt_chains.specs.View.{chain_view}
 use Rattle.jt_chains.specs.declared.layers.Layer.{Layer}
-use Rattle.jt_uses.specs.Names.{texts}
+use Rattle.jt_names.specs.Names.{texts}
 use Rattle.jt_layout.proofs.Included.{layer_turn}
 use Rattle.jt_layout.proofs.includes.included_names.Goals as goal
 

@@ -3,15 +3,15 @@ use Rattle.std.specs.Prelude.{min}
 use Rattle.std.proofs.lemmas.Result.{IfOk-weaker}
 use Rattle.jt_image.specs.Loops.{field_id}
 use Rattle.jt_image.specs.declared.instruction.Instruction.TheVariants as op
-use Rattle.jt_slots.specs.Slots as slots
-use Rattle.jt_slots.specs.Slots.{none}
-use Rattle.jt_slots.specs.Size.{row_count}
-use Rattle.jt_slots.specs.View.{slot_view, field_view, maker_view, expr_view, row_view}
+use Rattle.jt_resolved.specs.Slots as slots
+use Rattle.jt_resolved.specs.Slots.{none}
+use Rattle.jt_resolved.specs.Size.{row_count}
+use Rattle.jt_resolved.specs.View.{slot_view, field_view, maker_view, expr_view, row_view}
 use Rattle.jt_lower.specs.Asm.{Asm, nil, one, both, choose, invoke}
 use Rattle.jt_lower.specs.Lower.{maker, told_as, flag, load_of, expr_asm, row_asm}
 use Rattle.jt_lower.specs.Emission.{Given, tag_view}
 use Rattle.jt_lower.proofs.Patched.{puts_nothing, puts_then, puts_as, puts_call, puts_choice}
-use Rattle.jt_slots.proofs.ExpressionViews.{view_Pooled, view_Variable, view_Field, view_Absent, seen_made, seen_conjunction, seen_disjunction, seen_choice, seen_invoke}
+use Rattle.jt_resolved.proofs.ExpressionViews.{view_Pooled, view_Variable, view_Field, view_Absent, seen_made, seen_conjunction, seen_disjunction, seen_choice, seen_invoke}
 use Rattle.jt_lower.proofs.Rows.{stands_raised, row_item, row_aside, row_ends}
 use Rattle.jt_lower.proofs.expressions.+expressions.Goals as goal
 use Rattle.jt_lower.proofs.expressions.+expressions.Goals.{emit_row-in-Some+in_ok-put-in-Some, emit_row-in-None}

@@ -2,9 +2,9 @@ use Rattle.std.proofs.Common.{ℕ, ◌+◌, ◌*◌, List, drop}
 use Rattle.std.specs.Prelude.{max}
 use denote.Param.Weighed.{most}
 use Rattle.jt_trees.specs.Expressions.{Text}
-use Rattle.jt_slots.specs.Slots.{none}
-use Rattle.jt_slots.specs.declared.program.SExpr.{size-SExpr}
-use Rattle.jt_slots.specs.View.{row_view}
+use Rattle.jt_resolved.specs.Slots.{none}
+use Rattle.jt_resolved.specs.declared.program.SExpr.{size-SExpr}
+use Rattle.jt_resolved.specs.View.{row_view}
 use Rattle.jt_lower.specs.Lower.{row_asm}
 use Rattle.jt_lower.specs.Emission.{StandsFor, tag_view}
 use Rattle.jt_lower.proofs.Rows.{Leaves}

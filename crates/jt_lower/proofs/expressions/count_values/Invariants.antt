@@ -1,7 +1,7 @@
 use Rattle.std.proofs.Common.{◌≡◌, ◌+◌, ◌≤◌, drop}
-use Rattle.jt_slots.specs.Slots.{none}
-use Rattle.jt_slots.specs.Size.{row_count}
-use Rattle.jt_slots.specs.View.{row_view}
+use Rattle.jt_resolved.specs.Slots.{none}
+use Rattle.jt_resolved.specs.Size.{row_count}
+use Rattle.jt_resolved.specs.View.{row_view}
 use Rattle.jt_lower.proofs.expressions.count_values.Given as goal
 
 abbrev pub invariant-loop-kept : goal.invariant-loop-kept

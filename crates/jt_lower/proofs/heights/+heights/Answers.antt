@@ -1,9 +1,9 @@
 use Rattle.std.proofs.Common.{◌-◌, sym, ap, ◌∙◌, if◌then◌else◌}
 use Rattle.std.specs.Prelude.{nat_le}
-use Rattle.jt_slots.specs.Size.{expr_height, row_height}
-use Rattle.jt_slots.specs.Slots.{none}
-use Rattle.jt_slots.specs.View.{expr_view, row_view}
-use Rattle.jt_slots.proofs.ExpressionViews.{seen_made, seen_invoke}
+use Rattle.jt_resolved.specs.Size.{expr_height, row_height}
+use Rattle.jt_resolved.specs.Slots.{none}
+use Rattle.jt_resolved.specs.View.{expr_view, row_view}
+use Rattle.jt_resolved.proofs.ExpressionViews.{seen_made, seen_invoke}
 use Rattle.jt_lower.proofs.Lows.{made_low, invoke_low, some_left, row_more}
 use Rattle.jt_lower.proofs.heights.+heights.Goals as goal
 use Rattle.jt_lower.proofs.heights.+heights.Goals.{fits_row-then-is_none, fits_row-else-is_none}

@@ -1,7 +1,7 @@
 use Rattle.std.proofs.Common.{sym, ap, ◌∙◌, subst, arith}
 use Rattle.jt_image.specs.declared.instruction.Instruction.TheVariants as op
 use Rattle.jt_image.specs.IsCode.{IsInstruction}
-use Rattle.jt_slots.specs.View.{maker_view}
+use Rattle.jt_resolved.specs.View.{maker_view}
 use Rattle.jt_lower.specs.Lower.{maker}
 use Rattle.jt_lower.proofs.Rows.{halved}
 use Rattle.jt_lower.proofs.instructions.made_of.Goals as goal

@@ -1,7 +1,7 @@
 use Rattle.std.proofs.Common.{◌≡◌, ◌∙◌, Some, ap}
 use Rattle.std.specs.Prelude.{◌==◌}
 use Rattle.jt_ops.specs.Limited.{limited, Answers}
-use Rattle.jt_filtering.specs.Filtering.{filtered}
+use Rattle.jt_filter_meaning.specs.Filtering.{filtered}
 use Rattle.jt_image.specs.Step.{filtered_by}
 use Rattle.jt_machine.specs.declared.state.State.{State}
 use Rattle.jt_machine.specs.Parts.{apply_filter, made, values_at}

@@ -1,6 +1,6 @@
 use Rattle.clap.specs.Walk.{texts}
 use Rattle.clap.specs.Words.{subcommand_of}
-use Rattle.jt_line.specs.Line.{program_app}
+use Rattle.jt_args.specs.Line.{program_app}
 use Rattle.jt_program.specs.Commands.{Answers, out_of}
 use Rattle.jt_program.proofs.Endings.{line_ends, line_writes, only_out, same_files}
 use Rattle.jt_program.proofs.program.done.Goals as goal

@@ -1,7 +1,7 @@
 use Rattle.std.proofs.Common.{◌≡◌, ◌∙◌, ◌++◌, ◌∷◌, [], List, ap, append-nil, append_assoc, length, rules, subst, sym, ℕ}
 use Rattle.std.proofs.lemmas.Result.{err_from_is_err_and}
 use Rattle.jt_machine.specs.View.{budget_view}
-use Rattle.jt_line.specs.declared.Pair.{Pair}
+use Rattle.jt_args.specs.declared.Pair.{Pair}
 use Rattle.jt_turns.specs.Standing.{HasOpen}
 use Rattle.jt_program.specs.Commands.{AreOpen}
 use Rattle.jt_program.proofs.Starting.{all_lines, has_open, nil_of, stops}

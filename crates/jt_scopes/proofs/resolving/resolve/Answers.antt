@@ -1,5 +1,5 @@
 use Rattle.jt_chains.specs.View.{chain_view}
-use Rattle.jt_slots.specs.View.{program_of}
+use Rattle.jt_resolved.specs.View.{program_of}
 use Rattle.jt_scopes.proofs.Meant.{of_answer}
 use Rattle.jt_scopes.proofs.resolving.resolve.Goals as goal
 

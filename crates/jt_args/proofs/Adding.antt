@@ -1,0 +1,54 @@
+-- Programs and commands that a loop adds to.
+use Rattle.std.proofs.Common.{◌≡◌, ◌∙◌, ◌<◌, ◌≤◌, ◌+◌, ℕ, Bool, true, false, List, [], ◌∷◌, add-one, ap, drop, get_or, length, refl, arith, sym}
+use Rattle.std.specs.Prelude.{◌||◌}
+use Rattle.std.proofs.Math.Seq.{drop-cons, drop-length}
+use Rattle.clap.specs.Words.{AddsArg, AddsSubcommand, App, app_of, rule_of, with_rule, with_subcommand}
+use Rattle.clap.specs.declared.builder.Arg.{Arg}
+use Rattle.clap.specs.declared.builder.Command.{Command}
+use Rattle.clap.specs.declared.builder.Command.TheViews.{out-Command as fields_of}
+use Rattle.jt_args.specs.declared.grammar.Argument.{Argument}
+use Rattle.jt_args.specs.declared.grammar.Form.{Form}
+use Rattle.jt_args.specs.Grammar.{app_for, rule_for, with_arguments, with_commands}
+
+or_false : (b : Bool) → (b || false) ≡ b
+or_false true = refl
+or_false false = refl
+
+none_left : {A : Type 0} (xs : List A) (i : ℕ) → i ≤ length xs → length xs ≤ i → drop i xs ≡ []
+none_left xs i most least =
+    let all : i ≡ length xs = omega (arith, most, least) in
+    ap (λ (n : ℕ). drop n xs) all ∙ drop-length xs
+
+one_less : {A : Type 0} (xs : List A) (i : ℕ) (d : A) → i < length xs → drop i xs ≡ get_or xs i d ∷ drop (i + 1) xs
+one_less xs i d below = rw add-one (drop-cons xs i d below)
+
+-- one argument more
+pub argument_added : (target : App) (old new : Command) (made : Arg) (xs : List Argument) (i : ℕ) (d : Argument)
+    → i < length xs → rule_of made ≡ rule_for (get_or xs i d) → made.global ≡ false → AddsArg old made new
+    → (with_arguments (app_of old) (drop i xs) ≡ target) × ((fields_of old).has_globals ≡ false)
+    → (with_arguments (app_of new) (drop (i + 1) xs) ≡ target) × ((fields_of new).has_globals ≡ false)
+argument_added target old new made xs i d below rule local added before =
+    let is : app_of new ≡ with_rule (app_of old) (rule_for (get_or xs i d)) = added.shape local ∙ ap (λ r. with_rule (app_of old) r) rule in
+    let rest = drop (i + 1) xs in
+    let globals = (fields_of old).has_globals in (
+      ap (λ a. with_arguments a rest) is ∙ (sym (ap (λ ys. with_arguments (app_of old) ys) (one_less xs i d below)) ∙ before.0),
+      added.globals ∙ (ap (λ b. globals || b) local ∙ (or_false globals ∙ before.1)),
+    )
+
+pub arguments_done : (target : App) (made : Command) (xs : List Argument) (i : ℕ) → i ≤ length xs → length xs ≤ i
+    → (with_arguments (app_of made) (drop i xs) ≡ target) × ((fields_of made).has_globals ≡ false)
+    → (app_of made ≡ target) × ((fields_of made).has_globals ≡ false)
+arguments_done target made xs i most least before =
+    (sym (ap (λ ys. with_arguments (app_of made) ys) (none_left xs i most least)) ∙ before.0, before.1)
+
+-- one command more
+pub command_added : (target : App) (old part new : Command) (xs : List Form) (i : ℕ) (d : Form)
+    → i < length xs → (app_of part ≡ app_for (get_or xs i d)) × ((fields_of part).has_globals ≡ false) → AddsSubcommand old part new
+    → with_commands (app_of old) (drop i xs) ≡ target → with_commands (app_of new) (drop (i + 1) xs) ≡ target
+command_added target old part new xs i d below made added before =
+    let is : app_of new ≡ with_subcommand (app_of old) (app_for (get_or xs i d)).top = added.shape made.1 ∙ ap (λ a. with_subcommand (app_of old) a.top) made.0 in
+    ap (λ a. with_commands a (drop (i + 1) xs)) is ∙ (sym (ap (λ ys. with_commands (app_of old) ys) (one_less xs i d below)) ∙ before)
+
+pub commands_done : (target : App) (made : Command) (xs : List Form) (i : ℕ) → i ≤ length xs → length xs ≤ i
+    → with_commands (app_of made) (drop i xs) ≡ target → app_of made ≡ target
+commands_done target made xs i most least before = sym (ap (λ ys. with_commands (app_of made) ys) (none_left xs i most least)) ∙ before

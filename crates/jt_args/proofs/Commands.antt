@@ -1,0 +1,99 @@
+-- A line that the program takes names one of its commands.
+use Rattle.std.proofs.Common.{◌≡◌, Bool, true, false, not, List, [], ◌∷◌, Option, Some, None, ap, subst, refl, is_some, option_map, find, cond, ◌&&◌, ◌⊎◌, inl, inr}
+use Rattle.clap.specs.Words.{App, Kinds, Shape, Text, subcommand_of, built, is_simple_and_free, is_simple}
+use Rattle.clap.specs.Faults.{check_fault, level_fault, entered_fault, walk_fault, settle_fault, defaults_fault}
+use Rattle.clap.specs.Kinds.{check_kinds, or_else}
+use Rattle.clap.specs.Simple.{built_leaf, inherited, marked_built, with_leaf_noted, argument_words, entered, label_of, names_of, rows_at}
+use Rattle.clap.specs.Facts.{explicit_source}
+use Rattle.clap.specs.Takes.{is_given}
+use Rattle.std.specs.List.{list_any}
+use Rattle.clap.specs.Walk.{Names, answers_to, finished, nothing_held, settled, stop_after, walk, walk_from, Held}
+use Rattle.clap.proofs.OnLiterals.{clap_on_literals}
+use Rattle.jt_args.specs.Line.{program_app, compile_app, check_app, run_app, render_app, turns_app, upgrade_app, IsClear, IsKnown}
+use Rattle.jt_args.proofs.Passed.{neither}
+
+-- a command is wanted, so there is one where nothing is wrong
+has_command : (help given wanted has : Bool) → check_kinds (not has && (help && given)) (not has && true) wanted ≡ [] → has ≡ true
+has_command h g w true e = refl
+has_command true true w false e = absurd (cc)
+has_command true false w false e = absurd (cc)
+has_command false g w false e = absurd (cc)
+
+-- the name is that of one of the commands
+abbrev IsOneOf : Option Text → List Shape → Type 0
+IsOneOf name [] = ⊥
+IsOneOf name (s ∷ rest) = (name ≡ Some s.name) ⊎ IsOneOf name rest
+
+-- where a command was met, it is one of those that there are
+named_in : (shapes : List Shape) (name : Text) (words : List Text) (o : Option Shape)
+    → o ≡ find (λ x. answers_to name (label_of x)) shapes
+    → is_some (option_map (λ x. rows_at x words) o) ≡ true
+    → IsOneOf (option_map (λ p. p.0) (option_map (λ x. rows_at x words) o)) shapes
+named_in shapes name words None f e = absurd (cc)
+named_in [] name words (Some x) f e = absurd (cc)
+named_in (s ∷ rest) name words (Some x) f e = found (answers_to name (label_of s)) f (λ d. named_in rest name words (Some x) d e) where
+  found : (b : Bool) → Some x ≡ cond b (Some s) (find (λ x. answers_to name (label_of x)) rest)
+      → (Some x ≡ find (λ x. answers_to name (label_of x)) rest → IsOneOf (Some x.name) rest)
+      → IsOneOf (Some x.name) (s ∷ rest)
+  found true d below = inl (ap (option_map (λ y. y.name)) d)
+  found false d below = inr (below d)
+
+met : (a : App) (shapes : List Shape) (stop : Option (Text × List Text)) → a.subs ≡ shapes → is_some (entered a stop) ≡ true
+    → IsOneOf (option_map (λ p. p.0) (entered a stop)) shapes
+met a shapes None e h = absurd (cc)
+met a shapes (Some p) e h = named_in shapes p.0 p.1 (find (λ x. answers_to p.0 (label_of x)) a.subs) (ap (find (λ x. answers_to p.0 (label_of x))) e) h
+
+pub is_clear : is_simple_and_free program_app ≡ true
+unfolding clap_on_literals
+is_clear = refl
+
+pub is_read : is_simple program_app ≡ true
+unfolding clap_on_literals
+is_read = refl
+
+last_clear : (a b c d e : Kinds) → or_else a (or_else b (or_else c (or_else d e))) ≡ [] → e ≡ []
+last_clear a b c d e h = (neither d e (neither c _ (neither b _ (neither a _ h).1).1).1).1
+
+-- a command, as clap builds it
+abbrev built_sub : App → Shape
+built_sub a = built_leaf (inherited (with_leaf_noted (marked_built program_app.top)) a.top)
+
+abbrev shapes : List Shape
+shapes = built_sub compile_app ∷ built_sub check_app ∷ built_sub run_app ∷ built_sub render_app ∷ built_sub turns_app ∷ built_sub upgrade_app ∷ []
+
+all_built : (built program_app).subs ≡ shapes
+unfolding clap_on_literals
+all_built = refl
+
+level_clear : (s : Shape) (names : Names) (h : Held) (words : List Text) (has : Bool) (below : Kinds) → s.subcommand_required ≡ true
+    → level_fault s names h words has below ≡ [] → has ≡ true
+level_clear s names h words has below want e =
+    let end = (walk s.rules names h words).held in
+    let rows = finished s.rules end in
+    let checked : check_fault s rows has ≡ [] = last_clear (walk_fault s names (walk_from h) words) below (settle_fault s.rules s.args_override_self end)
+    (defaults_fault (settled s.rules end).rows s.rules) (check_fault s rows has) e in
+    let help = s.arg_required_else_help in
+    let given = not (list_any (λ r. explicit_source r.source) rows) in
+    let wanted = not (s.subcommand_negates_reqs && has) && list_any (λ a. a.required && not (is_given a.id rows)) s.rules in
+    has_command help given wanted has (subst (λ (b : Bool). check_kinds (not has && (help && given)) (not has && b) wanted ≡ []) want checked)
+
+wants_command : (built program_app).top.subcommand_required ≡ true
+unfolding clap_on_literals
+wants_command = refl
+
+-- one of six
+of_six : (A B C D E F : Type 0) → A ⊎ (B ⊎ (C ⊎ (D ⊎ (E ⊎ (F ⊎ ⊥))))) → A ⊎ (B ⊎ (C ⊎ (D ⊎ (E ⊎ F))))
+of_six A B C D E F (inl a) = inl a
+of_six A B C D E F (inr (inl b)) = inr (inl b)
+of_six A B C D E F (inr (inr (inl c))) = inr (inr (inl c))
+of_six A B C D E F (inr (inr (inr (inl d)))) = inr (inr (inr (inl d)))
+of_six A B C D E F (inr (inr (inr (inr (inl e))))) = inr (inr (inr (inr (inl e))))
+of_six A B C D E F (inr (inr (inr (inr (inr (inl f)))))) = inr (inr (inr (inr (inr f))))
+of_six A B C D E F (inr (inr (inr (inr (inr (inr none)))))) = absurd none
+
+pub named : (words : List Text) → IsClear words → IsKnown (option_map (λ p. p.0) (subcommand_of program_app words))
+named words e =
+    let a : App = built program_app in
+    let line : List Text = argument_words program_app words in
+    let stop : Option (Text × List Text) = stop_after a.top.rules (names_of a) line in
+    of_six _ _ _ _ _ _ (met a shapes stop all_built (level_clear a.top (names_of a) nothing_held line (is_some (entered a stop)) (entered_fault a stop) wants_command e))

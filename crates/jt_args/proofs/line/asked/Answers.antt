@@ -1,0 +1,31 @@
+use Rattle.std.proofs.Common.{◌≡◌, None, Some, codes, option_map, refl, rules, subst}
+use Rattle.std.proofs.lemmas.Result.{IfErr-weaker}
+use Rattle.clap.specs.Words.{found_of, rows_of, subcommand_rows_of}
+use Rattle.jt_args.specs.Line.{ArePaired, HasNumbers}
+use Rattle.jt_args.proofs.Found.{usage_weaker}
+use Rattle.jt_args.proofs.Pairing.{at_rows, no_name, no_other}
+use Rattle.jt_args.proofs.line.asked.Goals as goal
+use Rattle.jt_args.proofs.line.asked.Goals.{in_default-via-in-Some+in_default, in_default-via-in_default}
+
+pub render_job-requires-clause-numbers : goal.render_job-requires-clause-numbers
+render_job-requires-clause-numbers c = at_rows HasNumbers (subcommand_rows_of c.args.matches.now) _ c.in-Some-render-default.ensures.rows c.requires.numbers
+
+pub turns_job-requires-clause-numbers : goal.turns_job-requires-clause-numbers
+turns_job-requires-clause-numbers c = at_rows HasNumbers (subcommand_rows_of c.args.matches.now) _ c.in-Some-turns-default.ensures.rows c.requires.numbers
+
+pub returns-in-Some-turns-default-clause-err : goal.returns-in-Some-turns-default-clause-err
+returns-in-Some-turns-default-clause-err c =
+    let is : subcommand_rows_of c.args.matches.now ≡ Some (codes "turns", rows_of (found_of c.in-Some-turns-default.found.now)) = search rules in
+    IfErr-weaker c.turns_job.result _ _ (λ e h. usage_weaker _ _ e (λ unpaired paired. unpaired (subst ArePaired is paired refl)) h) c.turns_job.ensures.err
+
+pub unreachable-unreachable : goal.unreachable-unreachable
+unreachable-unreachable c =
+    elim c.in_default.branch [
+      | in_default-via-in-Some+in_default w ↦
+          let name = w.in_default.field-0.0.now in
+          let same : option_map (λ p. p.0) (subcommand_rows_of c.args.matches.now) ≡ Some name = search rules in
+          no_other _ name same c.requires.known (search rules) (search rules) (search rules) (search rules) (search rules) (search rules)
+      | in_default-via-in_default w ↦
+          let same : option_map (λ p. p.0) (subcommand_rows_of c.args.matches.now) ≡ None = search rules in
+          no_name _ same c.requires.known
+    ]

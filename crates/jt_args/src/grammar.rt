@@ -1,0 +1,253 @@
+//! The grammar of a line, in tables.
+
+ghost use Rattle.std.specs.Prelude.{◌≡◌, false, IfOk};
+ghost use Rattle.clap.specs.Words.{app_of, rule_of};
+ghost use Rattle.jt_args.specs.Line.{program_app};
+ghost use Rattle.jt_args.specs.Grammar.{app_for, rule_for, with_commands, IsApp};
+
+use clap::builder::ValueParser;
+use clap::{Arg, ArgAction, Command};
+use std::alloc::{AllocError, Global};
+
+/// A command with its words, options and flags.
+struct Form {
+    name: &'static str,
+    about: &'static str,
+    arguments: &'static [Argument],
+}
+
+/// A word, an option or a flag.
+struct Argument {
+    name: &'static str,
+    kind: Kind,
+    help: &'static str,
+}
+
+enum Kind {
+    /// A word that has to be there.
+    Word,
+    /// A word that may be left out.
+    OptionalWord,
+    /// As many words as are given.
+    Words,
+    /// An option with one value.
+    Number(ValueParser<'static>),
+    /// An option without a value.
+    Flag,
+}
+
+const LONG: ValueParser<'static> = ValueParser::Unsigned(0, 18_446_744_073_709_551_615);
+
+const USUAL: ValueParser<'static> = ValueParser::Signed(0, 4_294_967_295);
+
+const SHORT: ValueParser<'static> = ValueParser::Signed(0, 255);
+
+const SLICES: ValueParser<'static> = ValueParser::Signed(1, 1_000_000);
+
+const DIR: Argument = Argument {
+    name: "DIR",
+    kind: Kind::Word,
+    help: "The directory of the templates",
+};
+
+const NAME: Argument = Argument {
+    name: "NAME",
+    kind: Kind::Word,
+    help: "The template's name",
+};
+
+const OUT: Argument = Argument {
+    name: "OUT",
+    kind: Kind::Word,
+    help: "The file for the image",
+};
+
+const IN: Argument = Argument {
+    name: "IN",
+    kind: Kind::Word,
+    help: "The image's file",
+};
+
+const IMAGE: Argument = Argument {
+    name: "IMAGE",
+    kind: Kind::Word,
+    help: "The image's file",
+};
+
+const CONTEXT: Argument = Argument {
+    name: "CONTEXT",
+    kind: Kind::OptionalWord,
+    help: "A file of JSON: the values of names",
+};
+
+const PAIRS: Argument = Argument {
+    name: "PAIRS",
+    kind: Kind::Words,
+    help: "The files of an image and of a context, for each session",
+};
+
+const TRIM_BLOCKS: Argument = Argument {
+    name: "trim-blocks",
+    kind: Kind::Flag,
+    help: "Drops a newline directly behind a block tag",
+};
+
+const LSTRIP_BLOCKS: Argument = Argument {
+    name: "lstrip-blocks",
+    kind: Kind::Flag,
+    help: "Drops the spaces of a line before a block tag",
+};
+
+const KEEP_TRAILING_NEWLINE: Argument = Argument {
+    name: "keep-trailing-newline",
+    kind: Kind::Flag,
+    help: "Keeps the last newline of each template",
+};
+
+const NO_AUTOESCAPE: Argument = Argument {
+    name: "no-autoescape",
+    kind: Kind::Flag,
+    help: "Escapes nothing unless a template says so",
+};
+
+const FUEL: Argument = Argument {
+    name: "fuel",
+    kind: Kind::Number(LONG),
+    help: "What the instructions may cost [default: 1000000]",
+};
+
+const DEPTH: Argument = Argument {
+    name: "depth",
+    kind: Kind::Number(USUAL),
+    help: "How many calls may be open [default: 64]",
+};
+
+const OUTPUT: Argument = Argument {
+    name: "output",
+    kind: Kind::Number(LONG),
+    help: "How many bytes may be put out [default: 1048576]",
+};
+
+const SIZE: Argument = Argument {
+    name: "size",
+    kind: Kind::Number(USUAL),
+    help: "How large a value may be [default: 1048576]",
+};
+
+const NESTING: Argument = Argument {
+    name: "nesting",
+    kind: Kind::Number(SHORT),
+    help: "How deep a value may nest [default: 32]",
+};
+
+const SLICE: Argument = Argument {
+    name: "slice",
+    kind: Kind::Number(SLICES),
+    help: "How many instructions a turn has, 1 to 1000000 [default: 100]",
+};
+
+const COMMANDS: [Form; 6] = [
+    Form {
+        name: "compile",
+        about: "Compiles a template into an image",
+        arguments: &[
+            DIR,
+            NAME,
+            OUT,
+            TRIM_BLOCKS,
+            LSTRIP_BLOCKS,
+            KEEP_TRAILING_NEWLINE,
+            NO_AUTOESCAPE,
+        ],
+    },
+    Form {
+        name: "check",
+        about: "Verifies an image",
+        arguments: &[IMAGE],
+    },
+    Form {
+        name: "run",
+        about: "Runs an image and prints its text",
+        arguments: &[IMAGE, CONTEXT, FUEL, DEPTH, OUTPUT, SIZE, NESTING],
+    },
+    Form {
+        name: "render",
+        about: "Compiles a template and prints its text",
+        arguments: &[
+            DIR,
+            NAME,
+            CONTEXT,
+            TRIM_BLOCKS,
+            LSTRIP_BLOCKS,
+            KEEP_TRAILING_NEWLINE,
+            NO_AUTOESCAPE,
+            FUEL,
+            DEPTH,
+            OUTPUT,
+            SIZE,
+            NESTING,
+        ],
+    },
+    Form {
+        name: "turns",
+        about: "Runs images, each for its context, in turns",
+        arguments: &[PAIRS, SLICE, FUEL, DEPTH, OUTPUT, SIZE, NESTING],
+    },
+    Form {
+        name: "upgrade",
+        about: "Writes an image in version 2, whose faults may have places",
+        arguments: &[IN, OUT],
+    },
+];
+
+/// The line's grammar.
+pub(crate) fn program<'a>(alloc: Global) -> Result<Command<'a>, AllocError>
+    ensures { IfOk result (λ c. app_of c ≡ program_app) }
+{
+    let program = Command::new(alloc, "jt")
+        .about("A compiler and sandbox for the Jinja template language")
+        .no_binary_name(true)
+        .disable_help_subcommand(true)
+        .subcommand_required(true);
+    add_commands(alloc, program, &COMMANDS)
+}
+
+/// Adds the commands to the program.
+fn add_commands<'a>(
+    alloc: Global,
+    mut program: Command<'a>,
+    forms: &[Form],
+) -> Result<Command<'a>, AllocError>
+    ensures { IfOk result (λ c. app_of c ≡ with_commands (app_of program.entry) forms.now) }
+{
+    for form in forms {
+        program = program.subcommand(command(alloc, form)?)?;
+    }
+    Ok(program)
+}
+
+/// A command with its arguments.
+fn command<'a>(alloc: Global, form: &Form) -> Result<Command<'a>, AllocError>
+    ensures { IsApp result (app_for form.now) }
+{
+    let mut command = Command::new(alloc, form.name).about(form.about);
+    for wanted in form.arguments {
+        command = command.arg(arg(alloc, wanted))?;
+    }
+    Ok(command)
+}
+
+/// An argument of a command.
+fn arg<'a>(alloc: Global, wanted: &Argument) -> Arg<'a>
+    ensures rule { rule_of result ≡ rule_for wanted.now }
+    ensures local { result.global ≡ false }
+{
+    let made = Arg::new(alloc, wanted.name).help(wanted.help);
+    match wanted.kind {
+        Kind::Word => made.required(true),
+        Kind::OptionalWord => made,
+        Kind::Words => made.action(ArgAction::Append),
+        Kind::Number(range) => made.long(wanted.name).value_parser(range),
+        Kind::Flag => made.long(wanted.name).action(ArgAction::SetTrue),
+    }
+}

@@ -1,0 +1,262 @@
+//! The command line.
+
+ghost use Rattle.std.specs.Prelude.{◌≡◌, ◌≢◌, ◌%◌, length, codes, option_map, string_bytes, IfOk, IfErr, IfSome, OnOk};
+ghost use Rattle.clap.specs.Words.{first_of, found_of, rows_of, one_of, kind_of};
+ghost use Rattle.clap.specs.Words.{subcommand_of, subcommand_rows_of};
+ghost use Rattle.clap.specs.Walk.{texts};
+ghost use Rattle.jt_args.specs.Line.{Takes, IsAsked, IsKnown, IsBudget, IsOptions, IsGiven, IsSlice, IsFlag, IfUsage};
+ghost use Rattle.jt_args.specs.Line.{program_app, word_of};
+ghost use Rattle.jt_args.specs.Line.{HasNumbers, HasSlice, HasSwitches, IsNumber, IsSwitch, ComeInPairs, ArePaired, pair_words, words_of_pairs};
+
+use crate::grammar::program;
+use crate::jobs;
+use crate::jobs::{DEFAULT, Job, JobError, Options, Pair, SLICE, USUAL};
+use clap::ArgMatches;
+use clap::error::ErrorKind;
+use jt_budget::Budget;
+use std::alloc::{AllocError, Global};
+
+/// Reads `words`, the line without the program's name: a command, and then its words and options.
+///
+/// A line that the program does not take is `Usage`, with the text for standard error; so is one
+/// that asks for help.
+pub fn job(alloc: Global, words: &[&str]) -> Result<Job, JobError>
+    ensures taken { OnOk result (Takes (texts words.now)) }
+    ensures asked { IfOk result (IsAsked (subcommand_of program_app (texts words.now))) }
+    ensures usage { IfErr result (IfUsage (¬ Takes (texts words.now))) }
+{
+    let Ok(program) = program(alloc) else {
+        return Err(JobError::NoMemory);
+    };
+    match program.try_get_matches_from(words) {
+        Ok(matches) => asked(alloc, &matches),
+        Err(mistake) => Err(refused(alloc, &mistake)),
+    }
+}
+
+/// The job of a line that was taken.
+fn asked(alloc: Global, matches: &ArgMatches<'_>) -> Result<Job, JobError>
+    requires known { IsKnown (option_map (λ p. p.0) (subcommand_rows_of matches.now)) }
+    requires numbers { IfSome (subcommand_rows_of matches.now) (λ p. HasNumbers p.1) }
+    requires switches { IfSome (subcommand_rows_of matches.now) (λ p. HasSwitches p.1) }
+    requires slice { IfSome (subcommand_rows_of matches.now) (λ p. HasSlice p.1) }
+    ensures ok { IfOk result (IsAsked (subcommand_rows_of matches.now)) }
+    ensures err { IfErr result (IfUsage (¬ ArePaired (subcommand_rows_of matches.now))) }
+{
+    match matches.subcommand() {
+        Some(("compile", found)) => compile_job(alloc, found),
+        Some(("check", found)) => check_job(alloc, found),
+        Some(("run", found)) => run_job(alloc, found),
+        Some(("render", found)) => render_job(alloc, found),
+        Some(("turns", found)) => turns_job(alloc, found),
+        Some(("upgrade", found)) => upgrade_job(alloc, found),
+        _ => unreachable!(),
+    }
+}
+
+fn compile_job(alloc: Global, found: &ArgMatches<'_>) -> Result<Job, JobError>
+    requires { HasSwitches (rows_of (found_of found.now)) }
+    ensures ok { IfOk result (IsAsked (Some (codes "compile", rows_of (found_of found.now)))) }
+    ensures err { IfErr result (λ e. e ≡ JobError.NoMemory) }
+{
+    let dir = String::from_str(alloc, word(found, "DIR"))?;
+    let name = String::from_str(alloc, word(found, "NAME"))?;
+    let out = String::from_str(alloc, word(found, "OUT"))?;
+    Ok(Job {
+        command: jobs::Command::Compile { dir, name, out },
+        options: options(found),
+        budget: DEFAULT,
+        slice: SLICE,
+    })
+}
+
+fn check_job(alloc: Global, found: &ArgMatches<'_>) -> Result<Job, JobError>
+    ensures ok { IfOk result (IsAsked (Some (codes "check", rows_of (found_of found.now)))) }
+    ensures err { IfErr result (λ e. e ≡ JobError.NoMemory) }
+{
+    let image = String::from_str(alloc, word(found, "IMAGE"))?;
+    Ok(Job {
+        command: jobs::Command::Check { image },
+        options: USUAL,
+        budget: DEFAULT,
+        slice: SLICE,
+    })
+}
+
+fn run_job(alloc: Global, found: &ArgMatches<'_>) -> Result<Job, JobError>
+    requires { HasNumbers (rows_of (found_of found.now)) }
+    ensures ok { IfOk result (IsAsked (Some (codes "run", rows_of (found_of found.now)))) }
+    ensures err { IfErr result (λ e. e ≡ JobError.NoMemory) }
+{
+    let image = String::from_str(alloc, word(found, "IMAGE"))?;
+    let context = context(alloc, found)?;
+    Ok(Job {
+        command: jobs::Command::Run { image, context },
+        options: USUAL,
+        budget: budget(found),
+        slice: SLICE,
+    })
+}
+
+fn render_job(alloc: Global, found: &ArgMatches<'_>) -> Result<Job, JobError>
+    requires numbers { HasNumbers (rows_of (found_of found.now)) }
+    requires switches { HasSwitches (rows_of (found_of found.now)) }
+    ensures ok { IfOk result (IsAsked (Some (codes "render", rows_of (found_of found.now)))) }
+    ensures err { IfErr result (λ e. e ≡ JobError.NoMemory) }
+{
+    let dir = String::from_str(alloc, word(found, "DIR"))?;
+    let name = String::from_str(alloc, word(found, "NAME"))?;
+    let context = context(alloc, found)?;
+    Ok(Job {
+        command: jobs::Command::Render { dir, name, context },
+        options: options(found),
+        budget: budget(found),
+        slice: SLICE,
+    })
+}
+
+fn upgrade_job(alloc: Global, found: &ArgMatches<'_>) -> Result<Job, JobError>
+    ensures ok { IfOk result (IsAsked (Some (codes "upgrade", rows_of (found_of found.now)))) }
+    ensures err { IfErr result (λ e. e ≡ JobError.NoMemory) }
+{
+    let image = String::from_str(alloc, word(found, "IN"))?;
+    let out = String::from_str(alloc, word(found, "OUT"))?;
+    Ok(Job {
+        command: jobs::Command::Upgrade { image, out },
+        options: USUAL,
+        budget: DEFAULT,
+        slice: SLICE,
+    })
+}
+
+fn turns_job(alloc: Global, found: &ArgMatches<'_>) -> Result<Job, JobError>
+    requires numbers { HasNumbers (rows_of (found_of found.now)) }
+    requires slice { HasSlice (rows_of (found_of found.now)) }
+    ensures ok { IfOk result (IsAsked (Some (codes "turns", rows_of (found_of found.now)))) }
+    ensures err { IfErr result
+        (IfUsage (¬ ComeInPairs (pair_words (rows_of (found_of found.now))))) }
+{
+    let words = found.get_strs("PAIRS").unwrap_or(&[]);
+    if words.is_empty() || words.len() % 2 != 0 {
+        return Err(JobError::Usage(String::from_str(alloc, "jt: usage\n")?));
+    }
+    let sessions = pairs(alloc, words)?;
+    Ok(Job {
+        command: jobs::Command::Turns { sessions },
+        options: USUAL,
+        budget: budget(found),
+        slice: slice(found),
+    })
+}
+
+/// The words two by two.
+fn pairs(alloc: Global, words: &[&str]) -> Result<Vec<Pair>, AllocError>
+    requires { length words.now % 2 ≡ 0 }
+    ensures { IfOk result (λ pairs. words_of_pairs pairs.items ≡ texts words.now) }
+{
+    let mut pairs = Vec::new(alloc);
+    for i in 0..words.len() / 2 {
+        let image = String::from_str(alloc, words[2 * i])?;
+        let context = String::from_str(alloc, words[2 * i + 1])?;
+        pairs.push(Pair { image, context })?;
+    }
+    Ok(pairs)
+}
+
+/// How many instructions a turn has.
+fn slice(found: &ArgMatches<'_>) -> u32
+    requires { HasSlice (rows_of (found_of found.now)) }
+    ensures { IsSlice (rows_of (found_of found.now)) result }
+{
+    number(found, "slice", SLICE)
+}
+
+/// The text of a word.
+fn word<'a>(found: &ArgMatches<'a>, name: &str) -> &'a str
+    ensures { result.now ≡ word_of name.now (rows_of (found_of found.now)) }
+{
+    found.get_str(name).unwrap_or("")
+}
+
+/// The file of the context, where one is given.
+fn context(alloc: Global, found: &ArgMatches<'_>) -> Result<Option<String>, AllocError>
+    ensures { IfOk result (λ file.
+        option_map string_bytes file ≡ first_of (codes "CONTEXT") (rows_of (found_of found.now))) }
+{
+    match found.get_str("CONTEXT") {
+        Some(file) => Ok(Some(String::from_str(alloc, file)?)),
+        None => Ok(None),
+    }
+}
+
+/// How templates are read: as usual but for the flags that were given.
+fn options(found: &ArgMatches<'_>) -> Options
+    requires { HasSwitches (rows_of (found_of found.now)) }
+    ensures { IsOptions (rows_of (found_of found.now)) result }
+{
+    Options {
+        trim_blocks: flag(found, "trim-blocks"),
+        lstrip_blocks: flag(found, "lstrip-blocks"),
+        keep_trailing_newline: flag(found, "keep-trailing-newline"),
+        autoescape: !flag(found, "no-autoescape"),
+    }
+}
+
+/// Whether a flag was given.
+fn flag(found: &ArgMatches<'_>, name: &str) -> bool
+    requires { IfSome (one_of name.now (rows_of (found_of found.now))) IsSwitch }
+    ensures { IsFlag (one_of name.now (rows_of (found_of found.now))) result }
+{
+    found.get_flag(name)
+}
+
+/// The numbers that were given, and the defaults of the others.
+fn budget(found: &ArgMatches<'_>) -> Budget
+    requires { HasNumbers (rows_of (found_of found.now)) }
+    ensures { IsBudget (rows_of (found_of found.now)) result }
+{
+    Budget {
+        fuel: long_number(found, "fuel", DEFAULT.fuel),
+        depth: number(found, "depth", DEFAULT.depth),
+        output: long_number(found, "output", DEFAULT.output),
+        size: number(found, "size", DEFAULT.size),
+        nesting: short_number(found, "nesting", DEFAULT.nesting),
+    }
+}
+
+/// A number of 64 bits.
+fn long_number(found: &ArgMatches<'_>, name: &str, default: u64) -> u64
+    requires { IfSome (one_of name.now (rows_of (found_of found.now))) (IsNumber 64) }
+    ensures { IsGiven 64 default (one_of name.now (rows_of (found_of found.now))) result }
+{
+    found.get_one(name).unwrap_or(default)
+}
+
+/// A number of 32 bits.
+fn number(found: &ArgMatches<'_>, name: &str, default: u32) -> u32
+    requires { IfSome (one_of name.now (rows_of (found_of found.now))) (IsNumber 32) }
+    ensures { IsGiven 32 default (one_of name.now (rows_of (found_of found.now))) result }
+{
+    found.get_one(name).unwrap_or(default)
+}
+
+/// A number of 8 bits.
+fn short_number(found: &ArgMatches<'_>, name: &str, default: u8) -> u8
+    requires { IfSome (one_of name.now (rows_of (found_of found.now))) (IsNumber 8) }
+    ensures { IsGiven 8 default (one_of name.now (rows_of (found_of found.now))) result }
+{
+    found.get_one(name).unwrap_or(default)
+}
+
+/// What a line that was not taken comes to.
+fn refused(alloc: Global, mistake: &clap::Error) -> JobError
+    ensures { IfUsage (kind_of mistake.now ≢ ErrorKind.OutOfMemory) result }
+{
+    if mistake.kind() == ErrorKind::OutOfMemory {
+        return JobError::NoMemory;
+    }
+    match mistake.to_string(alloc) {
+        Ok(text) => JobError::Usage(text),
+        Err(_) => JobError::NoMemory,
+    }
+}

@@ -1,0 +1,30 @@
+//! Whether a graph leads to its own numbers alone.
+
+ghost use Rattle.std.specs.Prelude.{◌<◌, ◌↔◌, IsTrue};
+ghost use Rattle.std.specs.List.{AllByRecursion};
+ghost use Rattle.jt_graph.specs.Graph.{IsClosed};
+ghost use Rattle.jt_graph.specs.View.{graph_of};
+
+/// Whether each of some numbers is less than a count.
+fn are_below(numbers: &[usize], count: usize) -> bool
+    ensures { IsTrue result ↔ AllByRecursion (λ i. i < count) numbers.now }
+{
+    for number in numbers {
+        if *number >= count {
+            return false;
+        }
+    }
+    true
+}
+
+/// Whether the numbers of a graph lead to its own numbers alone.
+pub(crate) fn is_closed(next: &[Vec<usize>]) -> bool
+    ensures { IsTrue result ↔ IsClosed (graph_of next.now) }
+{
+    for others in next {
+        if !are_below(others, next.len()) {
+            return false;
+        }
+    }
+    true
+}

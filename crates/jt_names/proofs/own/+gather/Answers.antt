@@ -1,0 +1,67 @@
+use Rattle.std.proofs.Common.{◌++◌, append_assoc, ap, refl, ◌∙◌}
+use Rattle.std.proofs.lemmas.Result.{IfOk-weaker}
+use Rattle.jt_trees.specs.ExpressionView.{expr_view, exprs_view, pairs_view}
+use Rattle.jt_chains.specs.Uses.{expr_names, row_names, pair_names}
+use Rattle.jt_trees.specs.Texts.{all_inserted}
+use Rattle.jt_names.specs.Names.{texts}
+use Rattle.jt_names.proofs.Inserted.{expression_added, entry_added, then_is}
+use Rattle.jt_trees.proofs.ExpressionViews.{shown_item, shown_binary, shown_when, shown_choice, shown_test, shown_call, shown_filter}
+use Rattle.jt_names.proofs.own.+gather.Goals as goal
+
+pub add_row-loop-expr-preserved : goal.add_row-loop-expr-preserved
+add_row-loop-expr-preserved t c =
+    let l = c.loop-expr in
+    expression_added c.args.row.now l.expr-index c.expr-item.result (texts l.names.keys) (texts c.add_expression.new.names.keys) c.loop-expr-test.true c.expr-item.is c.in_ok-add_expression.ensures ∙ l.invariant
+
+pub add_pairs-loop-value-preserved : goal.add_pairs-loop-value-preserved
+add_pairs-loop-value-preserved t c =
+    let l = c.loop-value in
+    entry_added c.args.pairs.now l.value-index c.loop-value-item.result (texts l.names.keys) (texts c.add_expression.new.names.keys) c.loop-value-test.true c.loop-value-item.is c.in_ok-add_expression.ensures ∙ l.invariant
+
+pub add_expression-returns-in-Item : goal.add_expression-returns-in-Item
+add_expression-returns-in-Item t c =
+    IfOk-weaker c.add_both.result _ _ (λ u g. g ∙ ap (λ z. all_inserted (expr_names z) (texts c.args.names.now.keys)) (shown_item c.args.expr.now c.deref-in-Item.result.now c.deref-in-Item-2.result.now c.in-Item.value c.in-Item.index c.in-Item.is c.deref-in-Item.ensures c.deref-in-Item-2.ensures)) c.add_both.ensures
+
+pub add_expression-returns-in-Binary : goal.add_expression-returns-in-Binary
+add_expression-returns-in-Binary t c =
+    IfOk-weaker c.add_both-in-Binary.result _ _ (λ u g. g ∙ ap (λ z. all_inserted (expr_names z) (texts c.args.names.now.keys)) (shown_binary c.args.expr.now c.deref-in-Binary.result.now c.deref-in-Binary-2.result.now c.in-Binary.field-0 c.in-Binary.left c.in-Binary.right c.in-Binary.is c.deref-in-Binary.ensures c.deref-in-Binary-2.ensures)) c.add_both-in-Binary.ensures
+
+pub add_expression-returns-in-When : goal.add_expression-returns-in-When
+add_expression-returns-in-When t c =
+    IfOk-weaker c.add_both-in-When.result _ _ (λ u g. g ∙ ap (λ z. all_inserted (expr_names z) (texts c.args.names.now.keys)) (shown_when c.args.expr.now c.deref-in-When.result.now c.deref-in-When-2.result.now c.in-When.condition c.in-When.value c.in-When.is c.deref-in-When.ensures c.deref-in-When-2.ensures)) c.add_both-in-When.ensures
+
+pub add_expression-returns-in-Choice : goal.add_expression-returns-in-Choice
+add_expression-returns-in-Choice t c =
+    let x = expr_names (expr_view c.deref-in-Choice.result.now) in
+    let y = expr_names (expr_view c.deref-in-Choice-2.result.now) in
+    let z = expr_names (expr_view c.deref-in-Choice-3.result.now) in
+    let old = texts c.args.names.now.keys in
+    let first = texts c.add_expression-first.new.names.keys in
+    let second = texts c.then_expression-second.new.names.keys in
+    let two = then_is c.add_expression-first.result c.then_expression-second.result x y (x ++ y) old first second c.add_expression-first.ensures c.then_expression-second.ensures refl in
+    then_is c.then_expression-second.result c.then_expression.result (x ++ y) z _ old second (texts c.then_expression.new.names.keys) two c.then_expression.ensures
+    (append_assoc x y z ∙ ap expr_names (shown_choice c.args.expr.now c.deref-in-Choice.result.now c.deref-in-Choice-2.result.now c.deref-in-Choice-3.result.now
+    c.in-Choice.condition c.in-Choice.value c.in-Choice.other c.in-Choice.is c.deref-in-Choice.ensures c.deref-in-Choice-2.ensures c.deref-in-Choice-3.ensures))
+
+pub add_expression-returns-in-Call : goal.add_expression-returns-in-Call
+add_expression-returns-in-Call t c =
+    IfOk-weaker c.then_arguments.result _ _ (λ u g. g.1 ∙ ap (λ z. all_inserted (expr_names z) (texts c.args.names.now.keys)) (shown_call c.args.expr.now c.in-Call.field-0.value c.deref-in-Call.result.now c.deref-in-Call-2.result.now
+    c.in-Call.field-0 c.in-Call.row c.in-Call.pairs c.in-Call.is refl c.deref-in-Call.ensures.value c.deref-in-Call-2.ensures.value)) c.then_arguments.ensures
+
+pub add_expression-returns-in-Filter : goal.add_expression-returns-in-Filter
+add_expression-returns-in-Filter t c =
+    let a = c.deref-in-Filter.result.now in
+    let us = c.deref-in-Filter-2.result.now in
+    let qs = c.deref-in-Filter-3.result.now in
+    then_is c.add_expression-input.result c.then_arguments-in-Filter.result (expr_names (expr_view a)) (row_names (exprs_view us) ++ pair_names (pairs_view qs)) _
+    (texts c.args.names.now.keys) (texts c.add_expression-input.new.names.keys) (texts c.then_arguments-in-Filter.new.names.keys) c.add_expression-input.ensures c.then_arguments-in-Filter.ensures
+    (ap expr_names (shown_filter c.args.expr.now a c.in-Filter.field-1 us qs c.in-Filter.value c.in-Filter.row c.in-Filter.pairs c.in-Filter.is c.deref-in-Filter.ensures c.deref-in-Filter-2.ensures.value c.deref-in-Filter-3.ensures.value))
+
+pub add_expression-returns-in-Test : goal.add_expression-returns-in-Test
+add_expression-returns-in-Test t c =
+    let a = c.deref-in-Test.result.now in
+    let us = c.deref-in-Test-2.result.now in
+    let qs = c.deref-in-Test-3.result.now in
+    then_is c.add_expression-input-in-Test.result c.then_arguments-in-Test.result (expr_names (expr_view a)) (row_names (exprs_view us) ++ pair_names (pairs_view qs)) _
+    (texts c.args.names.now.keys) (texts c.add_expression-input-in-Test.new.names.keys) (texts c.then_arguments-in-Test.new.names.keys) c.add_expression-input-in-Test.ensures c.then_arguments-in-Test.ensures
+    (ap expr_names (shown_test c.args.expr.now a c.in-Test.field-1 c.in-Test.field-2 us qs c.in-Test.value c.in-Test.row c.in-Test.pairs c.in-Test.is c.deref-in-Test.ensures c.deref-in-Test-2.ensures.value c.deref-in-Test-3.ensures.value))

@@ -1,0 +1,370 @@
+//! The different names that a chain reads or binds.
+
+ghost use Rattle.std.specs.Prelude.{◌≡◌, ◌++◌, if◌then◌else◌, [], map, option_map, IfOk, IsOk};
+ghost use Rattle.jt_trees.specs.ExpressionView.{expr_view, exprs_view, pairs_view};
+ghost use Rattle.jt_trees.specs.Texts.{inserted, all_inserted};
+ghost use Rattle.jt_chains.specs.Chain.{is_loop};
+ghost use Rattle.jt_trees.specs.StatementView.{stmt_view, body_view, branches_view, names_view, filterings_view, parameters_view};
+ghost use Rattle.jt_chains.specs.Uses.{expr_names, row_names, pair_names, condition_names, filtering_names, stmt_names, body_names, branch_names, keywords};
+ghost use Rattle.jt_names.specs.Names.{texts};
+
+use jt_trees::{Expr, Filtering, Parameter, Stmt};
+use std::alloc::AllocError;
+use std::collections::BTreeSet;
+
+/// Whether an expression is the bare name `loop`.
+fn is_loop_name(expr: &Expr) -> bool
+    ensures { result ≡ is_loop (expr_view expr.now) }
+{
+    match expr {
+        Expr::Name(name) => name.as_str() == "loop",
+        _ => false,
+    }
+}
+
+/// Adds a name.
+pub(crate) fn add_name<'a>(names: &mut BTreeSet<&'a str>, name: &'a str) -> Result<(), AllocError>
+    ensures { IfOk result (λ u. texts names.new.keys ≡ inserted name.now (texts names.old.keys)) }
+{
+    names.insert(name)?;
+    Ok(())
+}
+
+/// Adds the names of an expression.
+#[tactic(auto, using(jt_trees::proofs::ExpressionViews::view_Map))]
+#[cycle(gather)]
+fn add_expression<'a>(names: &mut BTreeSet<&'a str>, expr: &'a Expr) -> Result<(), AllocError>
+    ensures { IfOk result (λ u. texts names.new.keys
+        ≡ all_inserted (expr_names (expr_view expr.now)) (texts names.old.keys)) }
+{
+    match expr {
+        Expr::Constant(_) => Ok(()),
+        Expr::Name(name) => add_name(names, name.as_str()),
+        Expr::Group(inside) => add_expression(names, inside),
+        Expr::List(row) => add_row(names, row),
+        Expr::Map(pairs) => add_pairs(names, pairs),
+        Expr::Attribute(value, _) => add_of_attribute(names, value),
+        Expr::Item(value, index) => add_both(names, value, index),
+        Expr::Call(_, row, pairs) => then_arguments(names, Ok(()), row, pairs),
+        Expr::Filter(value, _, row, pairs) => {
+            let input = add_expression(names, value);
+            then_arguments(names, input, row, pairs)
+        }
+        Expr::Test(value, _, _, row, pairs) => {
+            let input = add_expression(names, value);
+            then_arguments(names, input, row, pairs)
+        }
+        Expr::Unary(_, operand) => add_expression(names, operand),
+        Expr::Binary(_, left, right) => add_both(names, left, right),
+        Expr::When(condition, value) => add_both(names, condition, value),
+        Expr::Choice(condition, value, other) => {
+            let first = add_expression(names, condition);
+            let second = then_expression(names, first, value);
+            then_expression(names, second, other)
+        }
+    }
+}
+
+// Each `then` function takes how it went before as a `Result`, so that the many arms of its callers have
+// no early exit: a match with many of them is dear to prove.
+
+/// Adds the names of an expression, behind others.
+#[cycle(gather)]
+fn then_expression<'a>(
+    names: &mut BTreeSet<&'a str>,
+    before: Result<(), AllocError>,
+    expr: &'a Expr,
+) -> Result<(), AllocError>
+    ensures { IfOk result (λ u. IsOk before × (texts names.new.keys
+        ≡ all_inserted (expr_names (expr_view expr.now)) (texts names.old.keys))) }
+{
+    before?;
+    add_expression(names, expr)?;
+    Ok(())
+}
+
+/// Adds the names of arguments by place and by name, behind others.
+#[tactic(auto, using(crate::proofs::Inserted::inserted_both))]
+#[cycle(gather)]
+fn then_arguments<'a>(
+    names: &mut BTreeSet<&'a str>,
+    before: Result<(), AllocError>,
+    row: &'a [Expr],
+    pairs: &'a [(String, Expr)],
+) -> Result<(), AllocError>
+    ensures { IfOk result (λ u. IsOk before × (texts names.new.keys
+        ≡ all_inserted (row_names (exprs_view row.now) ++ pair_names (pairs_view pairs.now))
+        (texts names.old.keys))) }
+{
+    before?;
+    add_row(names, row)?;
+    add_pairs(names, pairs)?;
+    Ok(())
+}
+
+/// Adds the names of two expressions.
+#[tactic(auto, using(crate::proofs::Inserted::inserted_both))]
+#[cycle(gather)]
+fn add_both<'a>(
+    names: &mut BTreeSet<&'a str>,
+    first: &'a Expr,
+    second: &'a Expr,
+) -> Result<(), AllocError>
+    ensures { IfOk result (λ u. texts names.new.keys
+        ≡ all_inserted (expr_names (expr_view first.now) ++ expr_names (expr_view second.now))
+        (texts names.old.keys)) }
+{
+    add_expression(names, first)?;
+    add_expression(names, second)?;
+    Ok(())
+}
+
+/// Adds the names of what has an attribute; `loop` is none.
+#[cycle(gather)]
+fn add_of_attribute<'a>(names: &mut BTreeSet<&'a str>, value: &'a Expr) -> Result<(), AllocError>
+    ensures { IfOk result (λ u. texts names.new.keys
+        ≡ all_inserted
+        (if is_loop (expr_view value.now) then [] else expr_names (expr_view value.now))
+        (texts names.old.keys)) }
+{
+    if is_loop_name(value) {
+        return Ok(());
+    }
+    add_expression(names, value)
+}
+
+/// Adds the names of a row of expressions.
+#[cycle(gather)]
+fn add_row<'a>(names: &mut BTreeSet<&'a str>, row: &'a [Expr]) -> Result<(), AllocError>
+    ensures { IfOk result (λ u. texts names.new.keys
+        ≡ all_inserted (row_names (exprs_view row.now)) (texts names.old.keys)) }
+{
+    for expr in row {
+        add_expression(names, expr)?;
+    }
+    Ok(())
+}
+
+/// Adds the names of values behind their keys.
+#[cycle(gather)]
+fn add_pairs<'a>(
+    names: &mut BTreeSet<&'a str>,
+    pairs: &'a [(String, Expr)],
+) -> Result<(), AllocError>
+    ensures { IfOk result (λ u. texts names.new.keys
+        ≡ all_inserted (pair_names (pairs_view pairs.now)) (texts names.old.keys)) }
+{
+    for (_, value) in pairs {
+        add_expression(names, value)?;
+    }
+    Ok(())
+}
+
+/// Adds the names of targets.
+fn add_targets<'a>(names: &mut BTreeSet<&'a str>, targets: &'a [String]) -> Result<(), AllocError>
+    ensures { IfOk result
+        (λ u. texts names.new.keys ≡ all_inserted (names_view targets.now) (texts names.old.keys)) }
+{
+    for target in targets {
+        add_name(names, target.as_str())?;
+    }
+    Ok(())
+}
+
+/// Adds the keys of pairs.
+fn add_keywords<'a>(
+    names: &mut BTreeSet<&'a str>,
+    pairs: &'a [(String, Expr)],
+) -> Result<(), AllocError>
+    ensures { IfOk result (λ u. texts names.new.keys
+        ≡ all_inserted (keywords (pairs_view pairs.now)) (texts names.old.keys)) }
+{
+    for (name, _) in pairs {
+        add_name(names, name.as_str())?;
+    }
+    Ok(())
+}
+
+/// Adds the names of parameters.
+fn add_parameters<'a>(
+    names: &mut BTreeSet<&'a str>,
+    parameters: &'a [Parameter],
+) -> Result<(), AllocError>
+    ensures { IfOk result (λ u. texts names.new.keys
+        ≡ all_inserted (map (λ p. p.name) (parameters_view parameters.now))
+        (texts names.old.keys)) }
+{
+    for parameter in parameters {
+        add_name(names, parameter.name.as_str())?;
+    }
+    Ok(())
+}
+
+/// Adds the names of a loop's condition.
+fn add_condition<'a>(
+    names: &mut BTreeSet<&'a str>,
+    condition: &'a Option<Expr>,
+) -> Result<(), AllocError>
+    ensures { IfOk result (λ u. texts names.new.keys
+        ≡ all_inserted (condition_names (option_map expr_view condition.now))
+        (texts names.old.keys)) }
+{
+    match condition {
+        Some(condition) => add_expression(names, condition),
+        None => Ok(()),
+    }
+}
+
+/// Adds the names of the filters of a filter tag, behind others.
+fn then_filterings<'a>(
+    names: &mut BTreeSet<&'a str>,
+    before: Result<(), AllocError>,
+    filterings: &'a [Filtering],
+) -> Result<(), AllocError>
+    ensures { IfOk result (λ u. IsOk before × (texts names.new.keys
+        ≡ all_inserted (filtering_names (filterings_view filterings.now)) (texts names.old.keys))) }
+{
+    before?;
+    for filtering in filterings {
+        then_arguments(names, Ok(()), &filtering.arguments, &filtering.keywords)?;
+    }
+    Ok(())
+}
+
+/// Adds the names of the values of a `with` tag, and what it binds.
+#[tactic(auto, using(crate::proofs::Inserted::inserted_both))]
+fn add_bindings<'a>(
+    names: &mut BTreeSet<&'a str>,
+    pairs: &'a [(String, Expr)],
+) -> Result<(), AllocError>
+    ensures { IfOk result (λ u. texts names.new.keys
+        ≡ all_inserted (pair_names (pairs_view pairs.now) ++ keywords (pairs_view pairs.now))
+        (texts names.old.keys)) }
+{
+    add_pairs(names, pairs)?;
+    add_keywords(names, pairs)?;
+    Ok(())
+}
+
+/// Adds the names of the head of a loop.
+#[tactic(auto, using(crate::proofs::Inserted::inserted_both))]
+fn add_head<'a>(
+    names: &mut BTreeSet<&'a str>,
+    items: &'a Expr,
+    targets: &'a [String],
+    condition: &'a Option<Expr>,
+) -> Result<(), AllocError>
+    ensures { IfOk result (λ u. texts names.new.keys
+        ≡ all_inserted (expr_names (expr_view items.now)
+        ++ (names_view targets.now ++ condition_names (option_map expr_view condition.now)))
+        (texts names.old.keys)) }
+{
+    add_expression(names, items)?;
+    add_targets(names, targets)?;
+    add_condition(names, condition)?;
+    Ok(())
+}
+
+/// Adds the names of an assignment.
+#[tactic(auto, using(crate::proofs::Inserted::inserted_both))]
+fn add_set<'a>(
+    names: &mut BTreeSet<&'a str>,
+    targets: &'a [String],
+    value: &'a Expr,
+) -> Result<(), AllocError>
+    ensures { IfOk result (λ u. texts names.new.keys
+        ≡ all_inserted (expr_names (expr_view value.now) ++ names_view targets.now)
+        (texts names.old.keys)) }
+{
+    add_expression(names, value)?;
+    add_targets(names, targets)?;
+    Ok(())
+}
+
+/// Adds the names of the branches of a choice.
+#[cycle(add)]
+fn add_branches<'a>(
+    names: &mut BTreeSet<&'a str>,
+    branches: &'a [(u32, Expr, Vec<Stmt>)],
+) -> Result<(), AllocError>
+    ensures { IfOk result (λ u. texts names.new.keys
+        ≡ all_inserted (branch_names (branches_view branches.now)) (texts names.old.keys)) }
+{
+    for (_, condition, body) in branches {
+        add_expression(names, condition)?;
+        add_statements(names, body)?;
+    }
+    Ok(())
+}
+
+/// Adds the names of a statement.
+#[tactic(auto, using(jt_trees::proofs::StatementViews::view_Set))]
+#[cycle(add)]
+fn add_statement<'a>(names: &mut BTreeSet<&'a str>, statement: &'a Stmt) -> Result<(), AllocError>
+    ensures { IfOk result (λ u. texts names.new.keys
+        ≡ all_inserted (stmt_names (stmt_view statement.now)) (texts names.old.keys)) }
+{
+    match statement {
+        Stmt::Data(_) | Stmt::Include(..) | Stmt::Import(..) | Stmt::From(..) | Stmt::Extends(..) =>
+            Ok(()),
+        Stmt::Print(_, expr) => add_expression(names, expr),
+        Stmt::If(branches, other) => {
+            let head = add_branches(names, branches);
+            then_statements(names, head, other)
+        }
+        Stmt::For(_, targets, items, condition, inside, other) => {
+            let head = add_head(names, items, targets, condition);
+            let turns = then_statements(names, head, inside);
+            then_statements(names, turns, other)
+        }
+        Stmt::Set(_, targets, value) => add_set(names, targets, value),
+        Stmt::SetBlock(_, name, inside) => {
+            let head = add_name(names, name.as_str());
+            then_statements(names, head, inside)
+        }
+        Stmt::With(_, pairs, inside) => {
+            let head = add_bindings(names, pairs);
+            then_statements(names, head, inside)
+        }
+        Stmt::FilterBlock(_, filterings, inside) => {
+            let body = add_statements(names, inside);
+            then_filterings(names, body, filterings)
+        }
+        Stmt::Autoescape(_, _, inside) => add_statements(names, inside),
+        Stmt::Macro(_, _, parameters, inside) => {
+            let head = add_parameters(names, parameters);
+            then_statements(names, head, inside)
+        }
+        Stmt::Block(_, _, _, _, inside) => add_statements(names, inside),
+    }
+}
+
+/// Adds the names of statements, behind others.
+#[cycle(add)]
+fn then_statements<'a>(
+    names: &mut BTreeSet<&'a str>,
+    before: Result<(), AllocError>,
+    body: &'a [Stmt],
+) -> Result<(), AllocError>
+    ensures { IfOk result (λ u. IsOk before × (texts names.new.keys
+        ≡ all_inserted (body_names (body_view body.now)) (texts names.old.keys))) }
+{
+    before?;
+    add_statements(names, body)?;
+    Ok(())
+}
+
+/// Adds the names of statements.
+#[cycle(add)]
+pub(crate) fn add_statements<'a>(
+    names: &mut BTreeSet<&'a str>,
+    body: &'a [Stmt],
+) -> Result<(), AllocError>
+    ensures { IfOk result (λ u. texts names.new.keys
+        ≡ all_inserted (body_names (body_view body.now)) (texts names.old.keys)) }
+{
+    for statement in body {
+        add_statement(names, statement)?;
+    }
+    Ok(())
+}

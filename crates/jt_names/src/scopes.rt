@@ -1,0 +1,104 @@
+//! The names that scopes bind: targets of loops, parameters, values of `with`, and what is set in a scope.
+
+ghost use Rattle.std.specs.Prelude.{◌≡◌, ◌++◌, map, IfOk};
+ghost use Rattle.jt_trees.specs.ExpressionView.{pairs_view};
+ghost use Rattle.jt_chains.specs.Uses.{keywords, set_in, scope_names_by, scope_names_in};
+ghost use Rattle.jt_trees.specs.StatementView.{stmt_view, body_view, parameters_view};
+ghost use Rattle.jt_names.specs.Names.{texts};
+
+use crate::sets::{add_sets, add_targets};
+use jt_trees::{Expr, Parameter, Stmt};
+use std::alloc::AllocError;
+
+/// Adds the keys of pairs.
+fn add_keys<'a>(found: &mut Vec<&'a str>, pairs: &'a [(String, Expr)]) -> Result<(), AllocError>
+    ensures { IfOk result
+        (λ _. texts found.new.items ≡ texts found.old.items ++ keywords (pairs_view pairs.now)) }
+{
+    for (name, _) in pairs {
+        found.push(name.as_str())?;
+    }
+    Ok(())
+}
+
+/// Adds the names of parameters.
+fn add_parameters<'a>(
+    found: &mut Vec<&'a str>,
+    parameters: &'a [Parameter],
+) -> Result<(), AllocError>
+    ensures { IfOk result (λ _. texts found.new.items
+        ≡ texts found.old.items ++ map (λ p. p.name) (parameters_view parameters.now)) }
+{
+    for parameter in parameters {
+        found.push(parameter.name.as_str())?;
+    }
+    Ok(())
+}
+
+/// Adds the names that the scopes in statements bind.
+#[cycle(scopes)]
+pub(crate) fn add_scopes<'a>(found: &mut Vec<&'a str>, body: &'a [Stmt]) -> Result<(), AllocError>
+    ensures { IfOk result (λ _.
+        texts found.new.items ≡ texts found.old.items ++ scope_names_in (body_view body.now)) }
+{
+    for statement in body {
+        add_scope(found, statement)?;
+    }
+    Ok(())
+}
+
+/// Adds what a scope of its own sets, and the names that the scopes in it bind.
+#[cycle(scopes)]
+fn add_inside<'a>(found: &mut Vec<&'a str>, body: &'a [Stmt]) -> Result<(), AllocError>
+    ensures { IfOk result (λ _. texts found.new.items
+        ≡ texts found.old.items
+        ++ (set_in (body_view body.now) ++ scope_names_in (body_view body.now))) }
+{
+    add_sets(found, body)?;
+    add_scopes(found, body)?;
+    Ok(())
+}
+
+/// Adds those of one statement.
+#[cycle(scopes)]
+fn add_scope<'a>(found: &mut Vec<&'a str>, statement: &'a Stmt) -> Result<(), AllocError>
+    ensures { IfOk result (λ _.
+        texts found.new.items ≡ texts found.old.items ++ scope_names_by (stmt_view statement.now)) }
+{
+    match statement {
+        Stmt::If(branches, other) => {
+            for (_, _, body) in branches {
+                add_scopes(found, body)?;
+            }
+            add_scopes(found, other)?;
+            Ok(())
+        }
+        Stmt::For(_, targets, _, _, body, other) => {
+            add_targets(found, targets)?;
+            add_inside(found, body)?;
+            add_scopes(found, other)?;
+            Ok(())
+        }
+        Stmt::SetBlock(_, _, body)
+        | Stmt::FilterBlock(_, _, body)
+        | Stmt::Autoescape(_, _, body)
+        | Stmt::Block(_, _, _, _, body) => add_inside(found, body),
+        Stmt::With(_, pairs, body) => {
+            add_keys(found, pairs)?;
+            add_inside(found, body)?;
+            Ok(())
+        }
+        Stmt::Macro(_, _, parameters, body) => {
+            add_parameters(found, parameters)?;
+            add_inside(found, body)?;
+            Ok(())
+        }
+        Stmt::Data(_)
+        | Stmt::Print(_, _)
+        | Stmt::Set(_, _, _)
+        | Stmt::Include(_, _, _, _)
+        | Stmt::Import(_, _, _)
+        | Stmt::From(_, _, _)
+        | Stmt::Extends(_, _) => Ok(()),
+    }
+}

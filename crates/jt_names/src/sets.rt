@@ -1,0 +1,69 @@
+//! The names that a body sets in its own scope.
+
+ghost use Rattle.std.specs.Prelude.{◌≡◌, ◌++◌, IfOk};
+ghost use Rattle.jt_chains.specs.Uses.{set_by, set_in};
+ghost use Rattle.jt_trees.specs.StatementView.{stmt_view, body_view, names_view};
+ghost use Rattle.jt_names.specs.Names.{texts};
+
+use jt_trees::Stmt;
+use std::alloc::AllocError;
+
+/// Adds the names of targets.
+pub(crate) fn add_targets<'a>(
+    found: &mut Vec<&'a str>,
+    targets: &'a [String],
+) -> Result<(), AllocError>
+    ensures { IfOk result
+        (λ _. texts found.new.items ≡ texts found.old.items ++ names_view targets.now) }
+{
+    for target in targets {
+        found.push(target.as_str())?;
+    }
+    Ok(())
+}
+
+/// Adds the names that statements set in their scope.
+#[cycle(sets)]
+pub(crate) fn add_sets<'a>(found: &mut Vec<&'a str>, body: &'a [Stmt]) -> Result<(), AllocError>
+    ensures { IfOk result
+        (λ _. texts found.new.items ≡ texts found.old.items ++ set_in (body_view body.now)) }
+{
+    for statement in body {
+        add_set(found, statement)?;
+    }
+    Ok(())
+}
+
+/// Adds those of one statement.
+#[cycle(sets)]
+fn add_set<'a>(found: &mut Vec<&'a str>, statement: &'a Stmt) -> Result<(), AllocError>
+    ensures { IfOk result
+        (λ _. texts found.new.items ≡ texts found.old.items ++ set_by (stmt_view statement.now)) }
+{
+    match statement {
+        Stmt::Set(_, targets, _) => add_targets(found, targets),
+        Stmt::SetBlock(_, name, _) => {
+            found.push(name.as_str())?;
+            Ok(())
+        }
+        Stmt::If(branches, other) => {
+            for (_, _, body) in branches {
+                add_sets(found, body)?;
+            }
+            add_sets(found, other)?;
+            Ok(())
+        }
+        Stmt::For(_, _, _, _, _, other) => add_sets(found, other),
+        Stmt::Data(_)
+        | Stmt::Print(_, _)
+        | Stmt::With(_, _, _)
+        | Stmt::FilterBlock(_, _, _)
+        | Stmt::Autoescape(_, _, _)
+        | Stmt::Macro(_, _, _, _)
+        | Stmt::Include(_, _, _, _)
+        | Stmt::Import(_, _, _)
+        | Stmt::From(_, _, _)
+        | Stmt::Extends(_, _)
+        | Stmt::Block(_, _, _, _, _) => Ok(()),
+    }
+}

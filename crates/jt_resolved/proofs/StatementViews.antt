@@ -1,0 +1,75 @@
+-- What a resolved statement puts in front of others.
+use Rattle.std.proofs.Common.{◌≡◌, ℕ, Bool, List, [], ◌∷◌, ◌++◌, map, Option, refl, sym, ap, ◌∙◌, rules, Vec, Global}
+use Rattle.std.specs.Prelude.{option_map}
+use Rattle.jt_trees.specs.Expressions.{Text}
+use Rattle.jt_resolved.specs.Slots as slots
+use Rattle.jt_resolved.specs.Slots.{SBody, none}
+use Rattle.jt_resolved.specs.View.{Front, slot_view, targets_view, place_view, expr_view, row_view, body_front, choice_front, stmt_step, stmt_view, body_view, choice_view}
+use Rattle.jt_resolved.specs.declared.program.Place.{Place}
+use Rattle.jt_resolved.specs.declared.program.Slot.{Slot}
+use Rattle.jt_resolved.specs.declared.program.Targets.{Targets}
+use Rattle.jt_resolved.specs.declared.program.SExpr.{SExpr}
+use Rattle.jt_resolved.specs.declared.program.SStmt.{SStmt, the_lemmas, fold-roll-SStmt}
+use Rattle.jt_resolved.specs.declared.program.SStmt.TheOpen.{SStmt-F}
+use Rattle.jt_resolved.specs.declared.program.SStmt.TheVariants as s
+use Rattle.jt_resolved.specs.declared.program.SStmt.TheVariants.{rolls-If, rolls-For, rolls-Capture}
+use Rattle.jt_resolved.proofs.ExpressionViews.{Entry}
+
+abbrev pub SBranch : Type 0
+SBranch = Place × SExpr × Vec SStmt Global
+
+abbrev Shown : Type 0
+Shown = Place × SExpr × Vec Front Global
+
+module _ (templates : List Text) where
+  -- a view of each branch that keeps place and condition, and shows each statement inside
+  choice_map : (g : SBranch → Shown) → ((b : SBranch) → (g b).0 ≡ b.0) → ((b : SBranch) → (g b).1 ≡ b.1) → ((b : SBranch) → (g b).2.items ≡ map (stmt_view templates) b.2.items)
+      → (bs : List SBranch) (other : Front) (behind : SBody ℕ) → choice_front templates (map g bs) other behind ≡ choice_view templates bs other behind
+  choice_map g p q r [] other behind = refl
+  choice_map g p q r (b ∷ bs) other behind =
+      let rest = choice_front templates (map g bs) other slots.end in
+      let shown = λ (l : Place) (e : SExpr) (fs : List Front) (z : SBody ℕ). slots.stmt (slots.if_else (place_view templates l) (expr_view e) (body_front fs slots.end) z) behind in
+      ap (λ (l : Place). shown l (g b).1 (g b).2.items rest) (p b)
+      ∙ ap (λ (e : SExpr). shown b.0 e (g b).2.items rest) (q b)
+      ∙ ap (λ (fs : List Front). shown b.0 b.1 fs rest) (r b)
+      ∙ ap (λ (z : SBody ℕ). shown b.0 b.1 (map (stmt_view templates) b.2.items) z) (choice_map g p q r bs other slots.end)
+
+  pub view_If : (bs : Vec SBranch Global) (other : Vec SStmt Global) (behind : SBody ℕ) → stmt_view templates (s.If bs other) behind ≡ choice_view templates bs.items (body_view templates other.items) behind
+  view_If bs other behind =
+      ap (λ (x : SStmt). stmt_view templates x behind) (sym (rolls-If bs other)) ∙ ap (λ (f : Front). f behind) (fold-roll-SStmt Front (stmt_step templates) (SStmt-F.If bs other))
+      ∙ choice_map _ (λ b. refl) (λ b. refl) (λ b. refl) bs.items (body_view templates other.items) behind
+
+  pub view_For : (p : Place) (xs : Targets) (e : SExpr) (c : Option SExpr) (body other : Vec SStmt Global) (behind : SBody ℕ) → stmt_view templates (s.For p xs e c body other) behind
+      ≡ slots.stmt (slots.for_each (place_view templates p) (targets_view xs) (expr_view e) (option_map expr_view c) (body_view templates body.items slots.end) (body_view templates other.items slots.end)) behind
+  view_For p xs e c body other behind =
+      ap (λ (x : SStmt). stmt_view templates x behind) (sym (rolls-For p xs e c body other)) ∙ ap (λ (f : Front). f behind) (fold-roll-SStmt Front (stmt_step templates) (SStmt-F.For p xs e c body other))
+
+  pub view_Capture : (escaping : Bool) (x : Slot) (body : Vec SStmt Global) (behind : SBody ℕ) → stmt_view templates (s.Capture escaping x body) behind ≡ slots.stmt (slots.capture escaping (slot_view x) (body_view templates body.items slots.end)) behind
+  view_Capture escaping x body behind =
+      ap (λ (z : SStmt). stmt_view templates z behind) (sym (rolls-Capture escaping x body)) ∙ ap (λ (f : Front). f behind) (fold-roll-SStmt Front (stmt_step templates) (SStmt-F.Capture escaping x body))
+
+  pub view_PutPooled : (i : ℕ) (behind : SBody ℕ) → stmt_view templates (s.PutPooled i) behind ≡ slots.stmt (slots.put_pooled i) behind
+  view_PutPooled i behind = search (rules, the_lemmas)
+
+  pub view_Print : (p : Place) (escaping : Bool) (e : SExpr) (behind : SBody ℕ) → stmt_view templates (s.Print p escaping e) behind ≡ slots.stmt (slots.print (place_view templates p) escaping (expr_view e)) behind
+  view_Print p escaping e behind = search (rules, the_lemmas)
+
+  pub view_Assign : (p : Place) (xs : Targets) (e : SExpr) (behind : SBody ℕ) → stmt_view templates (s.Assign p xs e) behind ≡ slots.stmt (slots.assign (place_view templates p) (targets_view xs) (expr_view e)) behind
+  view_Assign p xs e behind = search (rules, the_lemmas)
+
+  pub view_Run : (u : ℕ) (es : Vec Entry Global) (behind : SBody ℕ) → stmt_view templates (s.Run u es) behind ≡ slots.stmt (slots.run u (row_view es.items none)) behind
+  view_Run u es behind = search (rules, the_lemmas)
+
+  -- ---- one statement or one branch more
+
+  pub body_push : (ss : List SStmt) (x : SStmt) (behind : SBody ℕ) → body_view templates (ss ++ x ∷ []) behind ≡ body_view templates ss (stmt_view templates x behind)
+  body_push [] x behind = refl
+  body_push (y ∷ ss) x behind = ap (stmt_view templates y) (body_push ss x behind)
+
+  -- a branch in front of the other part of a choice
+  abbrev pub joined : SBranch → SBody ℕ → Front
+  joined b other behind = slots.stmt (slots.if_else (place_view templates b.0) (expr_view b.1) (body_view templates b.2.items slots.end) other) behind
+
+  pub choice_push : (bs : List SBranch) (b : SBranch) (other : Front) (behind : SBody ℕ) → choice_view templates (bs ++ b ∷ []) other behind ≡ choice_view templates bs (joined b (other slots.end)) behind
+  choice_push [] b other behind = refl
+  choice_push (d ∷ bs) b other behind = ap (λ z. joined d z behind) (choice_push bs b other slots.end)

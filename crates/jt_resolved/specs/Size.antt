@@ -1,0 +1,106 @@
+-- How large resolved trees are, in instructions and entries: what each form stands for, before any code exists.
+use Rattle.std.specs.Prelude.{ℕ, suc, ◌+◌, max, List, [], ◌∷◌, length, Option, Some, None}
+use Rattle.jt_resolved.specs.Slots.{SExpr, pooled, variable, field, absent, made, conjunction, disjunction, choice, invoke, SRow, none, item, aside, Targets, one, several, SStmt, put_pooled, print, assign, if_else, for_each, capture, run, SBody, end, stmt, Routine}
+
+-- the values of a row
+abbrev pub row_count : {K : Type 0} → SRow K → ℕ
+row_count none = 0
+row_count (item e es) = suc (row_count es)
+row_count (aside i e es) = row_count es
+
+-- storing, or unpacking and storing each
+abbrev pub targets_size : Targets → ℕ
+targets_size (one s) = 1
+targets_size (several ss) = 1 + length ss
+
+-- a value, or all of its items
+abbrev pub targets_height : Targets → ℕ
+targets_height (one s) = 1
+targets_height (several ss) = max 1 (length ss)
+
+module _ {K : Type 0} where
+  -- ---- size: the instructions that a form stands for
+
+  abbrev mutual
+    pub expr_size : SExpr K → ℕ
+    expr_size (pooled k) = 1
+    expr_size (variable s) = 1
+    expr_size (field f) = 1
+    expr_size absent = 0
+    expr_size (made k es) = row_size es + 1
+    expr_size (conjunction a b) = expr_size a + 4 + expr_size b
+    expr_size (disjunction a b) = expr_size a + 4 + expr_size b
+    expr_size (choice c a b) = expr_size c + 2 + expr_size a + expr_size b
+    -- the capture's begin and end, and the call
+    expr_size (invoke u escaping es) = row_size es + 3
+
+    pub row_size : SRow K → ℕ
+    row_size none = 0
+    row_size (item e es) = expr_size e + row_size es
+    row_size (aside i e es) = expr_size e + 1 + row_size es
+
+  -- the pass before the turns: next, item, targets, condition, keep, back, and the rewinding
+  abbrev pub condition_size : Targets → Option (SExpr K) → ℕ
+  condition_size xs None = 0
+  condition_size xs (Some c) = 5 + targets_size xs + expr_size c
+
+  abbrev mutual
+    pub stmt_size : SStmt K → ℕ
+    stmt_size (put_pooled k) = 1
+    stmt_size (print p escaping e) = expr_size e + 1
+    stmt_size (assign p xs e) = expr_size e + targets_size xs
+    -- the test, and the way past the other part
+    stmt_size (if_else p c a b) = expr_size c + 2 + body_size a + body_size b
+    -- start, next, item, targets, body, back, end, and the way past the else part
+    stmt_size (for_each p xs e c body other) = expr_size e + condition_size xs c + 6 + targets_size xs + body_size body + body_size other
+    stmt_size (capture escaping s body) = body_size body + 3
+    stmt_size (run u es) = row_size es + 1
+
+    pub body_size : SBody K → ℕ
+    body_size end = 0
+    body_size (stmt s rest) = stmt_size s + body_size rest
+
+  -- with the return of each routine
+  abbrev pub routines_size : List (Routine K) → ℕ
+  routines_size [] = 0
+  routines_size (r ∷ rs) = body_size r.body + 1 + routines_size rs
+
+  -- ---- height: the entries that a form needs, above those that are there; the value of an expression is one
+
+  abbrev mutual
+    pub expr_height : SExpr K → ℕ
+    expr_height (pooled k) = 1
+    expr_height (variable s) = 1
+    expr_height (field f) = 1
+    expr_height absent = 1
+    expr_height (made k es) = max 1 (row_height es)
+    expr_height (conjunction a b) = max (expr_height a) (max 2 (expr_height b))
+    expr_height (disjunction a b) = max (expr_height a) (max 2 (expr_height b))
+    expr_height (choice c a b) = max (expr_height c) (max (expr_height a) (expr_height b))
+    -- above the capture
+    expr_height (invoke u escaping es) = 1 + row_height es
+
+    -- each stands above the values before it
+    pub row_height : SRow K → ℕ
+    row_height none = 0
+    row_height (item e es) = max (expr_height e) (1 + row_height es)
+    row_height (aside i e es) = max (expr_height e) (row_height es)
+
+  abbrev pub condition_height : Option (SExpr K) → ℕ
+  condition_height None = 0
+  condition_height (Some c) = expr_height c
+
+  abbrev mutual
+    pub stmt_height : SStmt K → ℕ
+    stmt_height (put_pooled k) = 0
+    stmt_height (print p escaping e) = expr_height e
+    stmt_height (assign p xs e) = max (expr_height e) (targets_height xs)
+    stmt_height (if_else p c a b) = max (expr_height c) (max (body_height a) (body_height b))
+    -- targets, condition and body stand above the loop's frame
+    stmt_height (for_each p xs e c body other) = max (expr_height e) (max (1 + max (targets_height xs) (max (condition_height c) (body_height body))) (body_height other))
+    stmt_height (capture escaping s body) = 1 + body_height body
+    stmt_height (run u es) = row_height es
+
+    pub body_height : SBody K → ℕ
+    body_height end = 0
+    body_height (stmt s rest) = max (stmt_height s) (body_height rest)

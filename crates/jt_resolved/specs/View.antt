@@ -1,0 +1,134 @@
+-- What contracts see of resolved templates, and not where they lie in memory.
+use Rattle.std.specs.Prelude.{ℕ, List, [], ◌∷◌, map, string_bytes, Vec, Option, Some, None, option_map, slice_get, unwrap_or}
+use Rattle.std.specs.declared.alloc.Global.{Global}
+use Rattle.jt_value.specs.View.{view}
+use Rattle.jt_ids.specs.FilterTable.{filter_id}
+use Rattle.jt_trees.specs.Expressions.{Text}
+use Rattle.jt_value.specs.Place as place
+use Rattle.jt_evaluation.specs.Loops as loops
+use Rattle.jt_resolved.specs.Slots as slots
+use Rattle.jt_resolved.specs.Slots.{SRow, SBody}
+use Rattle.jt_resolved.specs.declared.program.Place.{Place}
+use Rattle.jt_resolved.specs.declared.program.Slot.{Slot}
+use Rattle.jt_resolved.specs.declared.program.Slot.TheVariants as s
+use Rattle.jt_resolved.specs.declared.program.Field.{Field}
+use Rattle.jt_resolved.specs.declared.program.Field.TheVariants as f
+use Rattle.jt_resolved.specs.declared.program.Maker.{Maker}
+use Rattle.jt_resolved.specs.declared.program.Maker.TheVariants as m
+use Rattle.jt_resolved.specs.declared.program.Targets.{Targets}
+use Rattle.jt_resolved.specs.declared.program.Targets.TheVariants as t
+use Rattle.jt_resolved.specs.declared.program.SExpr.{SExpr, fold-SExpr}
+use Rattle.jt_resolved.specs.declared.program.SExpr.TheOpen.{SExpr-F}
+use Rattle.jt_resolved.specs.declared.program.SStmt.{SStmt, fold-SStmt}
+use Rattle.jt_resolved.specs.declared.program.SStmt.TheOpen.{SStmt-F}
+use Rattle.jt_resolved.specs.declared.program.Routine.{Routine}
+use Rattle.jt_resolved.specs.declared.program.Program.{Program}
+
+abbrev pub slot_view : Slot → slots.Slot
+slot_view (s.Local i) = slots.local i
+slot_view (s.Global i) = slots.global i
+
+abbrev pub field_view : Field → loops.Field
+field_view f.Index = loops.index
+field_view f.Index0 = loops.index0
+field_view f.RevIndex = loops.revindex
+field_view f.RevIndex0 = loops.revindex0
+field_view f.First = loops.first
+field_view f.Last = loops.last
+field_view f.Length = loops.total
+field_view f.Previous = loops.previtem
+field_view f.Next = loops.nextitem
+
+abbrev pub maker_view : Maker → slots.Maker
+maker_view (m.Operator o) = slots.operator o
+maker_view (m.Test t) = slots.test t
+maker_view (m.Filter f escaping) = slots.filter (filter_id f) escaping
+maker_view m.List = slots.a_list
+maker_view m.Map = slots.a_map
+
+abbrev pub targets_view : Targets → slots.Targets
+targets_view (t.One s) = slots.one (slot_view s)
+targets_view (t.Several ss) = slots.several (map (option_map slot_view) ss.items)
+
+-- an expression in front of a row: an argument, or one that is kept aside
+abbrev pub entry_front : Option ℕ → slots.SExpr ℕ → SRow ℕ → SRow ℕ
+entry_front None e behind = slots.item e behind
+entry_front (Some i) e behind = slots.aside i e behind
+
+abbrev pub row_front : List (Option ℕ × slots.SExpr ℕ) → SRow ℕ → SRow ℕ
+row_front [] behind = behind
+row_front (e ∷ es) behind = entry_front e.0 e.1 (row_front es behind)
+
+-- one expression, with each expression inside already seen
+abbrev pub expr_step : SExpr-F (slots.SExpr ℕ) → slots.SExpr ℕ
+expr_step (SExpr-F.Pooled i) = slots.pooled i
+expr_step (SExpr-F.Variable s) = slots.variable (slot_view s)
+expr_step (SExpr-F.Field f) = slots.field (field_view f)
+expr_step SExpr-F.Absent = slots.absent
+expr_step (SExpr-F.Made k es) = slots.made (maker_view k) (row_front es.items slots.none)
+expr_step (SExpr-F.Conjunction a b) = slots.conjunction a.value b.value
+expr_step (SExpr-F.Disjunction a b) = slots.disjunction a.value b.value
+expr_step (SExpr-F.Choice c a b) = slots.choice c.value a.value b.value
+expr_step (SExpr-F.Invoke u escaping es) = slots.invoke u escaping (row_front es.items slots.none)
+
+abbrev pub expr_view : SExpr → slots.SExpr ℕ
+expr_view = fold-SExpr (slots.SExpr ℕ) expr_step
+
+-- expressions in front of a row
+abbrev pub row_view : List (Option ℕ × SExpr) → SRow ℕ → SRow ℕ
+row_view [] behind = behind
+row_view (e ∷ es) behind = entry_front e.0 (expr_view e.1) (row_view es behind)
+
+-- what puts statements in front of others
+abbrev pub Front : Type 0
+Front = SBody ℕ → SBody ℕ
+
+abbrev pub body_front : List Front → Front
+body_front [] behind = behind
+body_front (f ∷ fs) behind = f (body_front fs behind)
+
+module _ (templates : List Text) where
+  abbrev pub place_view : Place → place.Place
+  place_view p = record { template = unwrap_or (slice_get templates p.template) []; line = p.line }
+
+  -- each branch has the later ones in its other part, and the last one the else part
+  abbrev pub choice_front : List (Place × SExpr × Vec Front Global) → Front → Front
+  choice_front [] other behind = other behind
+  choice_front (b ∷ bs) other behind = slots.stmt (slots.if_else (place_view b.0) (expr_view b.1) (body_front b.2.items slots.end) (choice_front bs other slots.end)) behind
+
+  -- one statement, with each statement inside already seen as what it puts in front
+  abbrev pub stmt_step : SStmt-F Front → Front
+  stmt_step (SStmt-F.PutPooled i) behind = slots.stmt (slots.put_pooled i) behind
+  stmt_step (SStmt-F.Print p escaping e) behind = slots.stmt (slots.print (place_view p) escaping (expr_view e)) behind
+  stmt_step (SStmt-F.Assign p xs e) behind = slots.stmt (slots.assign (place_view p) (targets_view xs) (expr_view e)) behind
+  stmt_step (SStmt-F.If bs other) behind = choice_front bs.items (body_front other.items) behind
+  stmt_step (SStmt-F.For p xs e c body other) behind =
+      slots.stmt (slots.for_each (place_view p) (targets_view xs) (expr_view e) (option_map expr_view c) (body_front body.items slots.end) (body_front other.items slots.end)) behind
+  stmt_step (SStmt-F.Capture escaping s body) behind = slots.stmt (slots.capture escaping (slot_view s) (body_front body.items slots.end)) behind
+  stmt_step (SStmt-F.Run u es) behind = slots.stmt (slots.run u (row_view es.items slots.none)) behind
+
+  -- a statement in front of others
+  abbrev pub stmt_view : SStmt → Front
+  stmt_view = fold-SStmt Front stmt_step
+
+  -- statements in front of others
+  abbrev pub body_view : List SStmt → Front
+  body_view ss = body_front (map stmt_view ss)
+
+  abbrev pub choice_view : List (Place × SExpr × Vec SStmt Global) → Front → Front
+  choice_view [] other behind = other behind
+  choice_view (b ∷ bs) other behind = slots.stmt (slots.if_else (place_view b.0) (expr_view b.1) (body_view b.2.items slots.end) (choice_view bs other slots.end)) behind
+
+  abbrev pub routine_view : Routine → slots.Routine ℕ
+  routine_view r = record { parameters = r.parameters; locals = r.locals; body = body_view r.body.items slots.end }
+
+abbrev pub templates_of : Program → List Text
+templates_of p = map string_bytes p.templates.items
+
+abbrev pub program_of : Program → slots.Program
+program_of p = record {
+  names = map string_bytes p.names.items;
+  globals = p.globals;
+  pool = map view p.pool.items;
+  routines = map (routine_view (templates_of p)) p.routines.items;
+}
