@@ -76,7 +76,19 @@ impl Value {
         ensures { IfOk result (λ v. view v ≡ tree.map (entries_view entries.entries)) }
     {
         let pairs = entries.into_iter().collect(alloc)?;
-        Ok(Value::Map(Rc::new(alloc, ValueMap::new(pairs))?))
+        Value::from_entries(alloc, pairs)
+    }
+
+    /// A map of entries that are not copied, in their order. They are not searched for a key that stands twice: of such a one the
+    /// first value counts.
+    ///
+    /// # Errors
+    ///
+    /// `NoMemory` where a growth was refused. The entries are then dropped.
+    pub fn from_entries(alloc: Global, entries: Vec<(String, Value)>) -> Result<Value, NoMemory>
+        ensures { IfOk result (λ v. view v ≡ tree.map (entries_view entries.items)) }
+    {
+        Ok(Value::Map(Rc::new(alloc, ValueMap::new(entries))?))
     }
 
     /// The characters of a text, markup or not.
