@@ -25,21 +25,7 @@ module _ (k : Code) (u : Section) (q : ℕ) (s : Shape) (reached : Reaches k u q
   clash_at : (o : Option Shape) (f : Flaw) → ((r : Shape) → o ≡ Some r → Reaches k u q r) → ClashesAt o s f → HasClash k u q f
   clash_at o flaw.TooDeep known c = (s, reached, c)
   clash_at (Some r) flaw.DepthDiffers known c = (r, s, known r refl, reached, c)
-  clash_at (Some r) flaw.KindDiffers known c = (r, s, known r refl, reached, c.0, c.1)
-  clash_at None flaw.DepthDiffers known c = absurd c
-  clash_at None flaw.KindDiffers known c = absurd c
-  clash_at None flaw.MissingOperand known c = absurd c
-  clash_at None flaw.WrongKind known c = absurd c
-  clash_at None flaw.JumpOut known c = absurd c
-  clash_at None flaw.BadIndex known c = absurd c
-  clash_at None flaw.BadReturn known c = absurd c
-  clash_at None flaw.FallsOff known c = absurd c
-  clash_at (Some r) flaw.MissingOperand known c = absurd c
-  clash_at (Some r) flaw.WrongKind known c = absurd c
-  clash_at (Some r) flaw.JumpOut known c = absurd c
-  clash_at (Some r) flaw.BadIndex known c = absurd c
-  clash_at (Some r) flaw.BadReturn known c = absurd c
-  clash_at (Some r) flaw.FallsOff known c = absurd c
+  clash_at (Some r) flaw.KindDiffers known c = (r, s, known r refl, reached, c)
 
 pub clash_refuses : (k : Code) (u : Section) (n : ℕ) (t : Table) (w : List Path) (x : Path) (e : Refusal) → IsWorking k u t (w ++ x ∷ []) → Clashes t n x e → RefusesUnit k u n e
 clash_refuses k u n t w x e i c =
@@ -91,13 +77,7 @@ module _ (k : Code) (u : Section) (shapes : Shapes) (h : IsTypedBy Equal k u sha
   clash_untyped : (p : ℕ) (f : Flaw) → HasClash k u p f → ⊥
   clash_untyped p flaw.TooDeep c = let m = h.small p c.0 (agrees p c.0 c.1) in absurd (omega (arith, m, c.2))
   clash_untyped p flaw.DepthDiffers c = c.4 (ap (λ (x : Shape). length x) (one_shape c.0 c.1 (sym (agrees p c.0 c.2) ∙ agrees p c.1 c.3)))
-  clash_untyped p flaw.KindDiffers c = c.5 (one_shape c.0 c.1 (sym (agrees p c.0 c.2) ∙ agrees p c.1 c.3))
-  clash_untyped p flaw.MissingOperand c = c
-  clash_untyped p flaw.WrongKind c = c
-  clash_untyped p flaw.JumpOut c = c
-  clash_untyped p flaw.BadIndex c = c
-  clash_untyped p flaw.BadReturn c = c
-  clash_untyped p flaw.FallsOff c = c
+  clash_untyped p flaw.KindDiffers c = c.4.1 (one_shape c.0 c.1 (sym (agrees p c.0 c.2) ∙ agrees p c.1 c.3))
 
   flaw_untyped : (p : ℕ) (f : Flaw) → HasFlaw k u p f → ⊥
   flaw_untyped p f c = let g = h.fine p c.0 (agrees p c.0 c.1) in let e : ◌≡◌ {A = Result Leads Flaw} (Err f) (Ok g.leads) = sym c.2 ∙ g.effect in cc

@@ -12,7 +12,7 @@ ghost use Rattle.jt_verify.specs.Refusing.{RefusalHolds};
 use crate::arena::Arena;
 use crate::links::Handle;
 use crate::refusal::Refusal;
-use crate::typing::{At, EffectError, Leads, effect};
+use crate::typing::{At, EffectError, Leads};
 use jt_image::{Code, Flaw, MAX_ENTRIES, UnitHeader};
 use std::alloc::{AllocError, Global};
 
@@ -104,7 +104,7 @@ fn step<C: Code>(
         point,
         shape: path.shape,
     };
-    let found = match effect(code, at, instruction) {
+    let found = match at.effect(code, instruction) {
         Ok(found) => found,
         Err(EffectError::Flaw(flaw)) => return Err(Refusal::Flaw { flaw, unit, point }),
         Err(EffectError::TooTall(point)) => {
