@@ -1,6 +1,7 @@
 -- An arena with one node more.
 use Rattle.std.proofs.Common.{◌≡◌, ◌≢◌, ℕ, suc, ◌+◌, ◌*◌, ◌<◌, ◌≤◌, List, [], ◌∷◌, ◌++◌, length, get_or, Some, refl, sym, ap, subst, ◌∙◌, append_assoc, arith, inl, inr}
 use Rattle.std.specs.Prelude.{slice_get, slice_set}
+use Rattle.std.proofs.lemmas.Option.{slice_get_within}
 use Rattle.std.proofs.lemmas.List.{length-append, length-set, get_or_append_left, get_or_push, get_or-set_same, get_or-set_other}
 use Rattle.jt_image.specs.Effect.{Shape, pushes}
 use Rattle.jt_verify.specs.declared.links.Mark.{Mark}
@@ -9,7 +10,7 @@ use Rattle.jt_verify.specs.declared.links.Node.{Node}
 use Rattle.jt_verify.specs.declared.links.Jump.{Jump}
 use Rattle.jt_verify.specs.declared.links.Link.TheVariants as link
 use Rattle.jt_verify.specs.Arena.{Lists, shape_in, IsIn, IsKept, StandsFor, entered, lists_of, kind_of, digit_of, IsUnder, AreJumps, IsNode, AreLinks, KeepsLinks, Finding, IsSound, IsArena}
-use Rattle.jt_verify.proofs.Numbers.{same_or, node_within, node_left, node_last, node_either, padded}
+use Rattle.jt_verify.proofs.Numbers.{same_or, node_left, node_last, node_either, padded}
 use Rattle.jt_verify.proofs.Values.{pushes_end}
 use Rattle.jt_verify.proofs.Nodes.{finds_more, grow_push, is_new, found_is}
 
@@ -67,7 +68,7 @@ module _ (ns : List Node) (ls : List ℕ) (a : IsArena ns ls) (n : Node) (q : �
   sound_old : (i : ℕ) (x : Node) → slice_get ns i ≡ Some x → IsSound more r (lists_of more) i x
   sound_old i x e =
       let s = a.sound i x e in
-      let l = node_within ns i x e in
+      let l = slice_get_within ns i x e in
       let same = entered_kept x (omega (arith, s.older, l, a.len)) in
       record {
         older = s.older;
@@ -93,7 +94,7 @@ module _ (ns : List Node) (ls : List ℕ) (a : IsArena ns ls) (n : Node) (q : �
   jump_old : (i : ℕ) (x : Node) → slice_get ns i ≡ Some x → (x.jump.to ≤ i) × IsUnder (lists_of more) x.jump.to (get_or (lists_of more) (suc i) [])
   jump_old i x e =
       let j = a.jumps i x e in
-      let l = node_within ns i x e in
+      let l = slice_get_within ns i x e in
       (j.0, (j.1.0, at_old (suc i) (omega (arith, l, a.len)) ∙ j.1.1 ∙ ap (λ (s : Shape). j.1.0 ++ s) (sym (at_old x.jump.to (omega (arith, j.0, l, a.len))))))
 
   jumps_more : AreJumps more

@@ -1,6 +1,7 @@
 -- What is known of an arena: no two handles stand for one shape.
 use Rattle.std.proofs.Common.{◌≡◌, ◌≢◌, ℕ, zero, suc, ◌+◌, ◌-◌, ◌*◌, ◌/◌, ◌%◌, ◌<◌, ◌≤◌, Bool, true, false, List, [], ◌∷◌, ◌++◌, length, get_or, Some, None, Result, Err, MatchBool, refl, sym, ap, subst, ◌∙◌, arith}
 use Rattle.std.specs.Prelude.{slice_get}
+use Rattle.std.proofs.lemmas.Option.{slice_get_within}
 use Rattle.std.proofs.lemmas.List.{length-append, get_or_append_left}
 use Rattle.jt_image.specs.declared.kind.Kind.{Kind}
 use Rattle.jt_image.specs.declared.kind.Flaw.{Flaw}
@@ -13,7 +14,7 @@ use Rattle.jt_verify.specs.declared.links.Node.{Node}
 use Rattle.jt_verify.specs.declared.links.Link.{Link}
 use Rattle.jt_verify.specs.declared.links.Link.TheVariants as link
 use Rattle.jt_verify.specs.Arena.{Lists, shape_in, IsIn, entered, grow, lists_of, kind_of, digit_of, IsNode, Finds, here, along, KeepsLinks, AreLinks, Finding, IsHeight, IsArena}
-use Rattle.jt_verify.proofs.Numbers.{some_node, node_within}
+use Rattle.jt_verify.proofs.Numbers.{some_node}
 use Rattle.jt_verify.proofs.Values.{HasNoValue, pushes_same, length-pushes, pops_too_many, below_values, at_end}
 
 -- ---- looking a mark up
@@ -211,4 +212,4 @@ module _ (ns : List Node) (ls : List ℕ) (a : IsArena ns ls) where
       let x = f.2 in
       let s = a.sound f.0 x.node x.is in
       let here_is : get_or (lists_of ns) (suc f.0) [] ≡ kind_of m ∷ shape_in (lists_of ns) b = s.shape ∙ ap (λ (y : Mark). kind_of y ∷ shape_in (lists_of ns) x.node.below) x.mark ∙ ap (λ (y : Handle). kind_of m ∷ shape_in (lists_of ns) y) x.below in
-      (ap (λ (j : ℕ). get_or (lists_of ns) j []) f.1 ∙ here_is, omega (arith, f.1, node_within ns f.0 x.node x.is, a.len))
+      (ap (λ (j : ℕ). get_or (lists_of ns) j []) f.1 ∙ here_is, omega (arith, f.1, slice_get_within ns f.0 x.node x.is, a.len))

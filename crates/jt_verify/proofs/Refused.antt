@@ -9,6 +9,7 @@ use Rattle.jt_image.specs.Code.{Section, Code}
 use Rattle.jt_image.specs.Effect.{Shape, Leads, effect_of, effect_at}
 use Rattle.jt_image.specs.Typed.{Shapes, Reaches, at_start, along, IsTypedBy, IsTypedUnit, IsTyped, Equal, HasSame}
 use Rattle.jt_verify.specs.Arena.{Lists}
+use Rattle.jt_verify.specs.Differing.{DifferBy}
 use Rattle.jt_verify.specs.Refusing.{HasClash, HasFlaw, HoldsAt, RefusalHolds}
 use Rattle.jt_verify.specs.Typing.{IsTall}
 use Rattle.jt_verify.specs.Working.{Path, Table, shape_at, unit_of, ClashesAt, Clashes, StepFlaw, Steps, Comes, IsWorking, RefusesUnit}
@@ -23,9 +24,8 @@ one_shape a b e = cc
 
 module _ (k : Code) (u : Section) (q : ℕ) (s : Shape) (reached : Reaches k u q s) where
   clash_at : (o : Option Shape) (f : Flaw) → ((r : Shape) → o ≡ Some r → Reaches k u q r) → ClashesAt o s f → HasClash k u q f
-  clash_at o flaw.TooDeep known c = (s, reached, c)
-  clash_at (Some r) flaw.DepthDiffers known c = (r, s, known r refl, reached, c)
-  clash_at (Some r) flaw.KindDiffers known c = (r, s, known r refl, reached, c)
+  clash_at o f known (inl c) = inl (s, reached, c)
+  clash_at o f known (inr c) = inr (c.0, s, known c.0 c.1, reached, c.2)
 
 pub clash_refuses : (k : Code) (u : Section) (n : ℕ) (t : Table) (w : List Path) (x : Path) (e : Refusal) → IsWorking k u t (w ++ x ∷ []) → Clashes t n x e → RefusesUnit k u n e
 clash_refuses k u n t w x e i c =
@@ -35,7 +35,7 @@ clash_refuses k u n t w x e i c =
 
 -- an effect that leads to a point with too many entries brings them there
 tall_clash : (k : Code) (u : Section) (x : Path) (q : ℕ) (o : Result Leads Flaw) → Reaches k u x.point x.shape → effect_at k u x.point x.shape ≡ o → IsTall q o → HasClash k u q flaw.TooDeep
-tall_clash k u x q (Ok l) reached e h = (l.shape, along x.point x.shape l q reached e h.0, h.1)
+tall_clash k u x q (Ok l) reached e h = inl (l.shape, along x.point x.shape l q reached e h.0, (refl, h.1))
 tall_clash k u x q (Err f) reached e h = absurd h
 
 step_holds : (k : Code) (u : Section) (x : Path) (f : Flaw) (q : ℕ) → Reaches k u x.point x.shape → StepFlaw k u x.point x.shape f q → HoldsAt k u q f
@@ -59,6 +59,18 @@ unit_refused k n (refusal.Flaw f m p) is h = subst (λ (i : ℕ). RefusalHolds k
 
 -- ---- a path's shapes are those of any typing
 
+-- equal shapes do not differ
+same_differ : (s t : Shape) (f : Flaw) → s ≡ t → DifferBy s t f → ⊥
+same_differ s t flaw.DepthDiffers e d = d (ap (λ (x : Shape). length x) e)
+same_differ s t flaw.KindDiffers e d = d.1 e
+same_differ s t flaw.MissingOperand e d = d
+same_differ s t flaw.WrongKind e d = d
+same_differ s t flaw.JumpOut e d = d
+same_differ s t flaw.BadIndex e d = d
+same_differ s t flaw.BadReturn e d = d
+same_differ s t flaw.FallsOff e d = d
+same_differ s t flaw.TooDeep e d = d
+
 module _ (k : Code) (u : Section) (shapes : Shapes) (h : IsTypedBy Equal k u shapes) where
   agrees : (p : ℕ) (s : Shape) → Reaches k u p s → shapes p ≡ Some s
   agrees _ _ at_start = h.start
@@ -75,9 +87,8 @@ module _ (k : Code) (u : Section) (shapes : Shapes) (h : IsTypedBy Equal k u sha
       ok_same a b e = cc
 
   clash_untyped : (p : ℕ) (f : Flaw) → HasClash k u p f → ⊥
-  clash_untyped p flaw.TooDeep c = let m = h.small p c.0 (agrees p c.0 c.1) in absurd (omega (arith, m, c.2))
-  clash_untyped p flaw.DepthDiffers c = c.4 (ap (λ (x : Shape). length x) (one_shape c.0 c.1 (sym (agrees p c.0 c.2) ∙ agrees p c.1 c.3)))
-  clash_untyped p flaw.KindDiffers c = c.4.1 (one_shape c.0 c.1 (sym (agrees p c.0 c.2) ∙ agrees p c.1 c.3))
+  clash_untyped p f (inl c) = let m = h.small p c.0 (agrees p c.0 c.1) in absurd (omega (arith, m, c.2.1))
+  clash_untyped p f (inr c) = same_differ c.0 c.1 f (one_shape c.0 c.1 (sym (agrees p c.0 c.2) ∙ agrees p c.1 c.3)) c.4
 
   flaw_untyped : (p : ℕ) (f : Flaw) → HasFlaw k u p f → ⊥
   flaw_untyped p f c = let g = h.fine p c.0 (agrees p c.0 c.1) in let e : ◌≡◌ {A = Result Leads Flaw} (Err f) (Ok g.leads) = sym c.2 ∙ g.effect in cc

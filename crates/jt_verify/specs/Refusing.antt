@@ -1,18 +1,18 @@
 -- What a refusal says of a code.
-use Rattle.std.specs.Prelude.{◌≡◌, ◌⊎◌, ℕ, ◌<◌, length, Some, Err, slice_get}
+use Rattle.std.specs.Prelude.{◌≡◌, ◌⊎◌, ℕ, Some, Err, slice_get}
 use Rattle.jt_image.specs.declared.kind.Flaw.{Flaw}
-use Rattle.jt_image.specs.declared.kind.Flaw.TheVariants as flaw
 use Rattle.jt_image.specs.Code.{Section, Code}
 use Rattle.jt_image.specs.Effect.{Shape, effect_at}
-use Rattle.jt_image.specs.Typed.{Reaches, max_entries}
-use Rattle.jt_verify.specs.Differing.{DifferBy}
+use Rattle.jt_image.specs.Typed.{Reaches}
+use Rattle.jt_verify.specs.Differing.{IsTooDeep, DifferBy}
 use Rattle.jt_verify.specs.declared.refusal.Refusal.{Refusal}
 use Rattle.jt_verify.specs.declared.refusal.Refusal.TheVariants as refusal
 
--- paths bring a shape to the point that is too long, or two shapes that differ
+-- a path brings a shape to the point that is too long, or two paths bring shapes that differ
 abbrev pub HasClash : Code → Section → ℕ → Flaw → Type 0
-HasClash k u p flaw.TooDeep = (s : Shape) × Reaches k u p s × (max_entries < length s)
-HasClash k u p f = (s t : Shape) × Reaches k u p s × Reaches k u p t × DifferBy s t f
+HasClash k u p f =
+    ((s : Shape) × Reaches k u p s × IsTooDeep s f)
+    ⊎ ((s t : Shape) × Reaches k u p s × Reaches k u p t × DifferBy s t f)
 
 -- the instruction at the point has the flaw for a shape that a path brings there
 abbrev pub HasFlaw : Code → Section → ℕ → Flaw → Type 0

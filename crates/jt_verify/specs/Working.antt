@@ -10,7 +10,7 @@ use Rattle.jt_image.specs.Effect as effects
 use Rattle.jt_image.specs.Effect.{Shape, effect_at}
 use Rattle.jt_image.specs.Typed.{Shapes, Reaches, max_entries}
 use Rattle.jt_verify.specs.Typing.{as_list, points_of, IsTall}
-use Rattle.jt_verify.specs.Differing.{DifferBy}
+use Rattle.jt_verify.specs.Differing.{IsTooDeep, DifferBy}
 use Rattle.jt_verify.specs.Refusing.{HoldsAt}
 use Rattle.jt_verify.specs.declared.typing.Leads.{Leads}
 use Rattle.jt_verify.specs.declared.refusal.Refusal.{Refusal}
@@ -90,9 +90,7 @@ Arrives t x false = (length x.shape ≤ max_entries) × (shape_at t x.point ≡ 
 
 -- why a shape may not come to a point, where a shape may be known
 abbrev pub ClashesAt : Option Shape → Shape → Flaw → Type 0
-ClashesAt o s flaw.TooDeep = max_entries < length s
-ClashesAt (Some r) s f = DifferBy r s f
-ClashesAt None s f = ⊥
+ClashesAt o s f = IsTooDeep s f ⊎ ((r : Shape) × (o ≡ Some r) × DifferBy r s f)
 
 -- a path may not end at its point
 abbrev pub Clashes : Table → ℕ → Path → Refusal → Type 0

@@ -143,17 +143,17 @@ fn follow<C: Code>(
     unit: usize,
     header: &UnitHeader,
     path: Path,
-    shapes: &mut Vec<Option<Handle>>,
+    shapes: &mut [Option<Handle>],
     paths: &mut Vec<Path>,
 ) -> Result<(), Refusal>
     requires unit { IsUnit (C.code code.now) unit header.now }
     requires works { Works (C.code code.now) (unit_of (C.code code.now) unit) arena.old
-        shapes.old.items (paths.old.items ++ path ∷ []) }
+        shapes.old (paths.old.items ++ path ∷ []) }
     ensures ok { OnOk result (Works (C.code code.now) (unit_of (C.code code.now) unit) arena.new
-        shapes.new.items paths.new.items) }
-    ensures less { OnOk result (work_left (table_in arena.new shapes.new.items)
+        shapes.new paths.new.items) }
+    ensures less { OnOk result (work_left (table_in arena.new shapes.new)
         (paths_in arena.new paths.new.items)
-        < work_left (table_in arena.old shapes.old.items)
+        < work_left (table_in arena.old shapes.old)
         (paths_in arena.old (paths.old.items ++ path ∷ []))) }
     ensures err { IfErr result
         (λ e. RefusesUnit (C.code code.now) (unit_of (C.code code.now) unit) unit e) }
