@@ -5,7 +5,7 @@ ghost use Rattle.jt_verify.specs.Arena.{kind_of, digit_of, lists_of, IsUnder, Is
 use jt_image::Kind;
 
 /// An entry that is no value.
-#[derive(Clone, Copy)]
+#[derive(Clone, Copy, PartialEq, Eq)]
 pub(crate) enum Mark {
     Frame,
     Capture,
@@ -71,16 +71,6 @@ pub(crate) fn is_same(left: Handle, right: Handle) -> bool
     left.values == right.values && left.node == right.node
 }
 
-// Whether two marks are the same.
-fn is_same_mark(left: Mark, right: Mark) -> bool
-    ensures { MatchBool result (left ≡ right) (left ≢ right) }
-{
-    matches!(
-        (left, right),
-        (Mark::Frame, Mark::Frame) | (Mark::Capture, Mark::Capture)
-    )
-}
-
 /// The node of a number.
 pub(crate) fn node_at(nodes: &[Node], node: u32) -> Node
     requires some { 0 < node }
@@ -143,7 +133,7 @@ fn is_entry(node: Node, mark: Mark, below: Handle) -> bool
     ensures { MatchBool result ((node.mark ≡ mark) × (node.below ≡ below))
         (node.mark ≡ mark → node.below ≢ below) }
 {
-    is_same_mark(node.mark, mark) && is_same(node.below, below)
+    node.mark == mark && is_same(node.below, below)
 }
 
 /// The digits by which a mark is looked up among those on one node: the mark's, then those of the number of values between.

@@ -430,20 +430,14 @@ fn require(holds: bool, flaw: Flaw) -> Result<(), Flaw>
 fn operands_of(operator: u8) -> Option<usize>
     ensures { result ≡ option_map op_operands (operator_of operator) }
 {
-    match OpId::by_id(operator) {
-        Some(operator) => Some(operator.operands()),
-        None => None,
-    }
+    OpId::by_id(operator).map(|operator| operator.operands())
 }
 
 // Whether there is a filter of the id, and it takes that many values, its input among them.
 fn accepts(filter: u8, values: u16) -> bool
     ensures { result ≡ accepts_of (filter_of filter) values }
 {
-    match FilterId::by_id(filter) {
-        Some(filter) => filter.takes(usize::from(values)),
-        None => false,
-    }
+    FilterId::by_id(filter).is_some_and(|filter| filter.takes(usize::from(values)))
 }
 
 // Whether there is a filter of the id, it takes that many values, and the flag is one.
@@ -457,10 +451,7 @@ fn is_filter(filter: u8, values: u16, flag: u32) -> bool
 fn takes(test: u8, values: u16) -> bool
     ensures { result ≡ takes_of (test_of test) values }
 {
-    match TestId::by_id(test) {
-        Some(test) => test.takes(usize::from(values)),
-        None => false,
-    }
+    TestId::by_id(test).is_some_and(|test| test.takes(usize::from(values)))
 }
 
 fn is_text<C: Code>(code: &C, constant: u32) -> bool

@@ -1,5 +1,5 @@
 //! The verifier: it follows each path through a unit, and keeps the shape of each point that it comes to.
-ghost use Rattle.std.specs.Prelude.{◌≡◌, ◌<◌, ◌≤◌, [], ◌∷◌, ◌++◌, None, length, replicate, IfOk, IfErr, OnOk, MatchResult};
+ghost use Rattle.std.specs.Prelude.{◌≡◌, ◌<◌, ◌≤◌, [], ◌∷◌, ◌++◌, length, IfOk, IfErr, OnOk, MatchResult};
 ghost use Rattle.std.specs.List.{AllByRecursion};
 ghost use Rattle.jt_image.specs.IsCode.{IsCode};
 ghost use Rattle.jt_image.specs.Typed.{IsTyped, IsTypedUnit, Equal, max_entries};
@@ -168,17 +168,6 @@ fn follow<C: Code>(
     Ok(())
 }
 
-// Nothing is known yet.
-fn unknown_shapes(alloc: Global, len: usize) -> Result<Vec<Option<Handle>>, AllocError>
-    ensures { IfOk result (λ t. t.items ≡ replicate len None) }
-{
-    let mut shapes: Vec<Option<Handle>> = Vec::with_capacity(alloc, len)?;
-    'shapes: for _ in 0..len {
-        shapes.push(None)?;
-    }
-    Ok(shapes)
-}
-
 // Follows all paths of a unit.
 fn verify_unit<C: Code>(
     alloc: Global,
@@ -200,7 +189,7 @@ fn verify_unit<C: Code>(
         });
     }
     let mut arena = Arena::new(alloc)?;
-    let mut shapes = unknown_shapes(alloc, header.instructions)?;
+    let mut shapes: Vec<Option<Handle>> = vec![in alloc; None; header.instructions]?;
     let mut paths: Vec<Path> = Vec::new(alloc);
     paths.push(Path {
         point: 0,
