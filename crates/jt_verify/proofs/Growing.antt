@@ -104,7 +104,7 @@ module _ (ns : List Node) (ls : List ℕ) (a : IsArena ns ls) (n : Node) (q : �
   ]
 
   new_differs : (j : ℕ) → j < suc (length ns) → get_or (lists_of more) j [] ≡ get_or (lists_of more) (suc (length ns)) [] → ⊥
-  new_differs j l e = is_new ns ls a n.mark n.below lt f.2 j (omega (arith, l, a.len)) (sym (at_old j (omega (arith, l, a.len))) ∙ e ∙ at_new)
+  new_differs j l e = is_new a n.mark n.below lt f.2 j (omega (arith, l, a.len)) (sym (at_old j (omega (arith, l, a.len))) ∙ e ∙ at_new)
 
   distinct_more : (i j : ℕ) → i < length (lists_of more) → j < length (lists_of more) → get_or (lists_of more) i [] ≡ get_or (lists_of more) j [] → i ≡ j
   distinct_more i j li lj e = elim (same_or i (suc (length ns))) [
@@ -167,7 +167,7 @@ module _ (ns : List Node) (n : Node) (len : length (lists_of ns) ≡ suc (length
 
 -- what was looked up, in the lists that are meant
 pub found_pushed : (ns xs : List Node) (ls ys : List ℕ) → IsArena ns ls → (m : Mark) (b : Handle) (d k : ℕ) → xs ≡ ns → Finding xs ys m b (3 * b.node) d (link.To k) → StandsFor (lists_of ns) k (kind_of m ∷ shape_in (lists_of ns) b)
-found_pushed ns xs ls ys a m b d k e f = found_is ns ls a m b (3 * b.node) d k (f.0, f.1, subst (λ (zs : List Node). IsNode zs m b f.0) e f.2)
+found_pushed ns xs ls ys a m b d k e f = found_is a m b (3 * b.node) d k (f.0, f.1, subst (λ (zs : List Node). IsNode zs m b f.0) e f.2)
 
 pub vacant_pushed : (ns xs : List Node) (ls ys : List ℕ) (m : Mark) (b : Handle) (d q : ℕ) → xs ≡ ns → ys ≡ ls → d ≡ 2 * b.values + digit_of m → Finding xs ys m b (3 * b.node) d (link.Vacant q) → Finding ns ls m b (3 * b.node) (2 * b.values + digit_of m) (link.Vacant q)
 vacant_pushed ns xs ls ys m b d q e f g h =

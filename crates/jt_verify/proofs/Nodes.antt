@@ -97,7 +97,7 @@ head_same j k r s e = cc
 tail_same : (j k : Kind) (r s : Shape) → j ∷ r ≡ k ∷ s → r ≡ s
 tail_same j k r s e = cc
 
-module _ (ns : List Node) (ls : List ℕ) (a : IsArena ns ls) where
+module _ {ns : List Node} {ls : List ℕ} (a : IsArena ns ls) where
   -- what is known of the node of a number
   pub node_is : (k : ℕ) (n : Node) → 0 < k → slice_get ns (k - 1) ≡ Some n → (get_or (lists_of ns) k [] ≡ entered (lists_of ns) n) × (n.below.node < k) × (n.height ≡ length (entered (lists_of ns) n))
   node_is zero n l e = absurd (omega arith)
@@ -135,12 +135,6 @@ module _ (ns : List Node) (ls : List ℕ) (a : IsArena ns ls) where
 
   at_bottom : (h : Handle) → h.node ≡ 0 → get_or (lists_of ns) h.node [] ≡ []
   at_bottom h z = subst (λ (k : ℕ). get_or (lists_of ns) k [] ≡ []) (sym z) (bottom ns)
-
-  pub height_at_bottom : (h : Handle) → h.node ≡ 0 → h.values ≡ length (shape_in (lists_of ns) h)
-  height_at_bottom h z = omega (arith, length-pushes h.values (get_or (lists_of ns) h.node []), ap (λ (s : Shape). length s) (at_bottom h z))
-
-  pub height_on_node : (h : Handle) (n : Node) → 0 < h.node → slice_get ns (h.node - 1) ≡ Some n → h.values + n.height ≡ length (shape_in (lists_of ns) h)
-  height_on_node h n l e = let k = node_is h.node n l e in omega (arith, length-pushes h.values (get_or (lists_of ns) h.node []), ap (λ (s : Shape). length s) k.0, k.2)
 
   pub empty_is : (h : Handle) → h.values ≡ 0 → h.node ≡ 0 → shape_in (lists_of ns) h ≡ []
   empty_is h e z = ap (λ (v : ℕ). pushes v (get_or (lists_of ns) h.node [])) e ∙ at_bottom h z
@@ -184,6 +178,9 @@ module _ (ns : List Node) (ls : List ℕ) (a : IsArena ns ls) where
   pub height_is : (k h : ℕ) → IsHeight ns k h → h ≡ length (get_or (lists_of ns) k [])
   height_is zero h e = omega (arith, e, ap (λ (s : Shape). length s) (bottom ns))
   height_is (suc i) h w = let s = a.sound i w.0 w.1 in omega (arith, w.2, s.height, ap (λ (x : Shape). length x) s.shape)
+
+  pub height_in : (h : Handle) (n : ℕ) → IsHeight ns h.node n → h.values + n ≡ length (shape_in (lists_of ns) h)
+  height_in h n e = omega (arith, length-pushes h.values (get_or (lists_of ns) h.node []), height_is h.node n e)
 
   -- what is known of the way down from a node, which leads over so many entries
   pub way_is : (k : ℕ) (n : Node) (h : ℕ) → 0 < k → slice_get ns (k - 1) ≡ Some n → IsHeight ns n.jump.to h → (n.jump.to < k) × (h ≤ n.height) × ((i : ℕ) → n.height - h ≤ i → slice_get (get_or (lists_of ns) k []) i ≡ slice_get (get_or (lists_of ns) n.jump.to []) (i - (n.height - h)))

@@ -1,5 +1,5 @@
 -- What the parts of an effect come to, by the handles of shapes. Private clauses and proofs alone cite it.
-use Rattle.std.specs.Prelude.{◌≡◌, ◌<◌, Bool, true, false, ◌∷◌, length, Option, Result, Ok, Err}
+use Rattle.std.specs.Prelude.{◌≡◌, ℕ, ◌<◌, ◌≤◌, Bool, true, false, ◌∷◌, length, Option, Result, Ok, Err}
 use Rattle.jt_image.specs.declared.kind.Kind.{Kind}
 use Rattle.jt_image.specs.declared.kind.Kind.TheVariants as kind
 use Rattle.jt_image.specs.declared.kind.Flaw.{Flaw}
@@ -11,6 +11,11 @@ use Rattle.jt_verify.specs.Arena.{Lists, shape_in, IsIn}
 abbrev pub Requires : Bool → Flaw → Result (Unit {0}) Flaw → Type 0
 Requires b f (Ok u) = b ≡ true
 Requires b f (Err e) = (b ≡ false) × (e ≡ f)
+
+-- the point is one of so many, or it is the flaw
+abbrev pub PointIn : ℕ → ℕ → Flaw → Result ℕ Flaw → Type 0
+PointIn n p f (Ok q) = (q ≡ p) × (p < n)
+PointIn n p f (Err e) = (e ≡ f) × (n ≤ p)
 
 -- goes on with what is below an entry of the kind
 abbrev pub taking : Kind → Shape → (Shape → Result Leads Flaw) → Result Leads Flaw

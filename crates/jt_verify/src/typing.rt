@@ -75,7 +75,7 @@ pub(crate) struct At<'a> {
 }
 
 impl At<'_> {
-    ghost use Rattle.std.specs.Prelude.{◌+◌, ◌*◌, ◌^◌, [], ◌∷◌, Ok, MatchResult};
+    ghost use Rattle.std.specs.Prelude.{◌+◌, ◌*◌, ◌^◌, [], ◌∷◌, Ok};
     ghost use Rattle.std.specs.Option.{is_some};
     ghost use Rattle.jt_image.specs.Effect.{require, pops, pops_frame, on_frame, pushes, calls as calls_of, goes_on as goes_on_of, makes as makes_of, jumps as jumps_of, branches as branches_of, may_return as may_return_of, effect as effect_of};
     ghost use Rattle.jt_image.specs.Ids.{operands_of as operands_in};
@@ -83,7 +83,7 @@ impl At<'_> {
     ghost use Rattle.jt_image.specs.declared.kind.Kind.TheVariants as kind;
     ghost use Rattle.jt_image.specs.declared.kind.Flaw.TheVariants as flaw;
     ghost use Rattle.jt_verify.specs.Arena.{kind_of};
-    ghost use Rattle.jt_verify.specs.Shapes.{taking, Takes, FindsFrame};
+    ghost use Rattle.jt_verify.specs.Shapes.{PointIn, taking, Takes, FindsFrame};
     ghost use Rattle.jt_verify.specs.Typing.{Does, Fits};
 
     // The shape below an entry of that kind at the top.
@@ -111,15 +111,24 @@ impl At<'_> {
 
     // The next point, where the unit has one.
     fn next(&self) -> Result<usize, Flaw>
-        ensures { MatchResult result
-            (λ q. (q ≡ self.now.point + 1) × (q < self.now.header.now.instructions))
-            (λ f. (f ≡ flaw.FallsOff) × (self.now.header.now.instructions ≤ self.now.point + 1)) }
+        ensures { PointIn self.now.header.now.instructions (self.now.point + 1)
+            flaw.FallsOff result }
     {
         let instructions = self.header.instructions;
         if self.point + 1 >= instructions {
             return Err(Flaw::FallsOff);
         }
         Ok(self.point + 1)
+    }
+
+    // The target of a jump, where the unit has it.
+    fn target(&self, target: u32) -> Result<usize, Flaw>
+        ensures { PointIn self.now.header.now.instructions target flaw.JumpOut result }
+    {
+        if target as usize >= self.header.instructions {
+            return Err(Flaw::JumpOut);
+        }
+        Ok(target as usize)
     }
 
     // Whether so many more entries fit; too many would come to the point.
@@ -187,8 +196,7 @@ impl At<'_> {
     fn jumps(&self, target: u32) -> Result<Effect, EffectError>
         ensures { Does self.now result (λ u p s. jumps_of u target s) }
     {
-        require((target as usize) < self.header.instructions, Flaw::JumpOut)?;
-        Ok(Effect::new(self.shape, None, Some(target as usize)))
+        Ok(Effect::new(self.shape, None, Some(self.target(target)?)))
     }
 
     // To the next instruction or to the target.
@@ -197,8 +205,8 @@ impl At<'_> {
         ensures { Does self.now result
             (λ u p s. branches_of u p target (shape_in self.now.arena.now shape)) }
     {
-        require((target as usize) < self.header.instructions, Flaw::JumpOut)?;
-        Ok(Effect::new(shape, Some(self.next()?), Some(target as usize)))
+        let target = self.target(target)?;
+        Ok(Effect::new(shape, Some(self.next()?), Some(target)))
     }
 
     // One value in place of that many, to the next instruction.
