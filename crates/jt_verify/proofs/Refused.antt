@@ -1,5 +1,5 @@
 -- A refusal that holds refuses no typed code.
-use Rattle.std.proofs.Common.{◌≡◌, ℕ, List, [], ◌∷◌, ◌++◌, length, Option, Some, None, Result, Ok, Err, refl, sym, ap, subst, ◌∙◌, arith, inl, inr}
+use Rattle.std.proofs.Common.{◌≡◌, ℕ, List, [], ◌∷◌, ◌++◌, length, Option, Some, Result, Ok, Err, refl, sym, ap, subst, ◌∙◌, arith, inl, inr}
 use Rattle.std.specs.Prelude.{slice_get}
 use Rattle.std.specs.List.{AllByRecursion}
 use Rattle.jt_image.specs.declared.kind.Flaw.{Flaw}
@@ -80,9 +80,6 @@ module _ (k : Code) (u : Section) (shapes : Shapes) (h : IsTypedBy Equal k u sha
       let has = all_among (HasSame Equal shapes leads.shape) leads.points q (subst (λ (l : Leads). AllByRecursion (HasSame Equal shapes l.shape) l.points) same f.agree) a in
       subst (λ (y : Shape). shapes q ≡ Some y) has.2 has.1
     where
-      ok_of : Leads → Result Leads Flaw
-      ok_of l = Ok l
-
       ok_same : (a b : Leads) → ◌≡◌ {A = Result Leads Flaw} (Ok a) (Ok b) → a ≡ b
       ok_same a b e = cc
 

@@ -1,6 +1,6 @@
 -- Tables of shapes, and paths that wait.
 use Rattle.std.proofs.Common.{◌≡◌, ◌≢◌, ℕ, zero, suc, ◌+◌, ◌<◌, ◌⊎◌, List, [], ◌∷◌, ◌++◌, length, map, Option, Some, None, refl, sym, ap, subst, ◌∙◌, arith, inl, inr}
-use Rattle.std.specs.Prelude.{slice_get, slice_set, replicate, option_map, unwrap_or}
+use Rattle.std.specs.Prelude.{slice_set, replicate, option_map, unwrap_or}
 use Rattle.std.specs.List.{AllByRecursion}
 use Rattle.jt_image.specs.declared.code.UnitHeader.{UnitHeader}
 use Rattle.jt_image.specs.Code.{Section}

@@ -24,5 +24,6 @@ HoldsAt k u p f = HasFlaw k u p f ⊎ HasClash k u p f
 
 -- the refusal holds at the point of the unit that it names; want of memory says nothing of the code
 abbrev pub RefusalHolds : Code → Refusal → Type 0
-RefusalHolds k (refusal.Flaw f n p) = (u : Section) × (slice_get k.units n ≡ Some u) × HoldsAt k u p f
+RefusalHolds k (refusal.Flaw f n p) =
+    (u : Section) × (slice_get k.units n ≡ Some u) × HoldsAt k u p f
 RefusalHolds k refusal.NoMemory = Unit {0}

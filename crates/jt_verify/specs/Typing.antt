@@ -1,5 +1,6 @@
 -- What only private clauses cite: what the verifier's effect gives.
-use Rattle.std.specs.Prelude.{◌≡◌, ℕ, ◌+◌, ◌<◌, ◌≤◌, List, [], ◌∷◌, ◌++◌, length, Option, Some, None, Result, Ok, Err, IfOk, IsSome}
+use Rattle.std.specs.Prelude.{◌≡◌, ℕ, ◌<◌, ◌≤◌, List, [], ◌∷◌, ◌++◌, length}
+use Rattle.std.specs.Prelude.{Option, Some, None, Result, Ok, Err, IfOk, IsSome}
 use Rattle.std.specs.List.{AllByRecursion}
 use Rattle.jt_image.specs.declared.kind.Flaw.{Flaw}
 use Rattle.jt_image.specs.Code.{Section}
@@ -41,7 +42,8 @@ Fits n p (Err (errors.TooTall q)) = (q ≡ p) × (max_entries < n)
 
 -- what the effect of an instruction is; a shape that is too long is not made
 abbrev pub EffectGives : Lists → Result Effect EffectError → Result effects.Leads Flaw → Type 0
-EffectGives t (Ok e) effect = effect ≡ Ok (record { shape = marked e.mark (shape_in t e.shape); points = points_of e.leads })
+EffectGives t (Ok e) effect =
+    effect ≡ Ok (record { shape = marked e.mark (shape_in t e.shape); points = points_of e.leads })
 EffectGives t (Err (errors.Flaw f)) effect = effect ≡ Err f
 EffectGives t (Err (errors.TooTall q)) effect = IsTall q effect
 
@@ -51,8 +53,18 @@ AreWithin n l = AllByRecursion (λ p. p < n) (points_of l)
 
 -- the points lie in the unit, the shape is one of the arena's, and there is room for a mark
 abbrev pub GoesOn : At → Effect → Type 0
-GoesOn a e = AreWithin a.header.now.instructions e.leads × IsIn a.arena.now e.shape × (IsSome e.mark → length (shape_in a.arena.now e.shape) < max_entries)
+GoesOn a e =
+    AreWithin a.header.now.instructions e.leads
+    × IsIn a.arena.now e.shape
+    × (IsSome e.mark → length (shape_in a.arena.now e.shape) < max_entries)
 
--- the instruction does that here: to the unit, the point and the shape in front of it
-abbrev pub Does : At → Result Effect EffectError → (Section → ℕ → Shape → Result effects.Leads Flaw) → Type 0
-Does a result effect = ((u : Section) → a.header.now ≡ header_of u → EffectGives a.arena.now result (effect u a.point (shape_in a.arena.now a.shape))) × IfOk result (GoesOn a)
+-- what an instruction does in a unit, at a point, to a shape
+abbrev pub Doing : Type 0
+Doing = Section → ℕ → Shape → Result effects.Leads Flaw
+
+-- the instruction does that here
+abbrev pub Does : At → Result Effect EffectError → Doing → Type 0
+Does a result doing =
+    ((u : Section) → a.header.now ≡ header_of u
+    → EffectGives a.arena.now result (doing u a.point (shape_in a.arena.now a.shape)))
+    × IfOk result (GoesOn a)

@@ -4,7 +4,7 @@ ghost use Rattle.jt_image.specs.Effect.{may_return, pushes};
 ghost use Rattle.jt_image.specs.Typed.{max_entries};
 ghost use Rattle.jt_verify.specs.Arena.{shape_in, IsIn, IsKept, StandsFor, Pops, PopsMany, kind_of, lists_of, IsArena};
 
-use crate::links::{Handle, Link, Mark, Node, digits, find, height_of, is_same, jump_on, node_at};
+use crate::links::{Handle, Link, Mark, Node, digits, find, is_same, jump_on, node_at, node_of};
 use jt_image::{Flaw, Kind};
 use smallvec::SmallVec;
 use std::alloc::{AllocError, Global};
@@ -14,7 +14,8 @@ use std::marker::Model;
 #[derive(Drop)]
 pub(crate) struct Arena {
     nodes: SmallVec<Node, 32>,
-    // three of each number of a node, and of 0: to the first mark on it, and to two further ones on what it stands on
+    // three of each number of a node, and of 0: to the first mark on it, and to two further ones on
+    // what it stands on
     links: SmallVec<u32, 128>,
 }
 
@@ -48,7 +49,7 @@ impl Arena {
         ensures length { result ≡ length (shape_in self.now shape) }
         ensures fits { result < 2 ^ 33 }
     {
-        shape.values as usize + height_of(self.nodes.as_slice(), shape.node) as usize
+        shape.values as usize + node_of(self.nodes.as_slice(), shape.node).height as usize
     }
 
     /// Whether two shapes are equal.
@@ -154,7 +155,7 @@ fn kind_in(nodes: &[Node], shape: Handle, above: u32) -> Option<Kind>
         if under == 0 {
             return Some(node.mark.kind());
         }
-        let between = node.height - height_of(nodes, node.jump.to);
+        let between = node.height - node_of(nodes, node.jump.to).height;
         if under >= between {
             left = under - between;
             rest = Handle {

@@ -19,7 +19,8 @@ pub(crate) struct Leads {
     pub(crate) target: Option<usize>,
 }
 
-/// What an instruction does: the shape behind it, below a mark that it puts on top, and where it leads.
+/// What an instruction does: the shape behind it, below a mark on top if there is one, and where it
+/// leads.
 #[derive(Clone, Copy)]
 pub(crate) struct Effect {
     pub(crate) shape: Handle,
@@ -32,8 +33,11 @@ impl Effect {
 
     /// That shape, with no mark on top, at these points.
     fn new(shape: Handle, next: Option<usize>, target: Option<usize>) -> Effect
-        ensures { result ≡ record { shape = shape; mark = None;
-            leads = record { next = next; target = target } } }
+        ensures { result ≡ record {
+          shape = shape;
+          mark = None;
+          leads = record { next = next; target = target };
+        } }
     {
         Effect {
             shape,
@@ -229,7 +233,7 @@ impl At<'_> {
         Ok(Effect::new(more, Some(next), None))
     }
 
-    // The arguments of the unit that is called, and in their place what it gives, to the next instruction.
+    // What the unit that is called gives in place of its arguments, to the next instruction.
     fn calls<C: Code>(&self, code: &C, unit: u32) -> Result<Effect, EffectError>
         ensures { Does self.now result
             (λ u p s. calls_of u p (slice_get (C.code code.now).units unit) s) }

@@ -1,4 +1,5 @@
-//! The verifier: it follows each path through a unit, and keeps the shape of each point that it comes to.
+//! The verifier: it follows each path through a unit, and keeps the shape of each point that it
+//! comes to.
 ghost use Rattle.std.specs.Prelude.{◌≡◌, ◌<◌, ◌≤◌, [], ◌∷◌, ◌++◌, length, IfOk, IfErr, OnOk, MatchResult};
 ghost use Rattle.std.specs.List.{AllByRecursion};
 ghost use Rattle.jt_image.specs.IsCode.{IsCode};
@@ -209,7 +210,8 @@ fn verify_unit<C: Code>(
     Ok(())
 }
 
-/// Accepts a code exactly where it is in order. Every unit is verified, from the first on, called or not.
+/// Accepts a code exactly where it is in order. Every unit is verified, from the first on, called or
+/// not.
 pub fn verify_code<C: Code>(alloc: Global, code: &C) -> Result<(), Refusal>
     // A code that is accepted is typed.
     ensures ok { OnOk result (IsTyped (C.code code.now)) }

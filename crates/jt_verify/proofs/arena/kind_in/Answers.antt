@@ -9,16 +9,16 @@ pub returns-then-under-eq0 : goal.returns-then-under-eq0
 returns-then-under-eq0 c = rw c.kind.ensures (sym (kind_at_mark c.requires.arena.1 c.marks.rest c.node_at-node.result c.marks.left (omega (arith, c.if-rest-ne0.true)) c.node_at-node.ensures (omega (arith, c.marks-test.true, c.if-under-eq0.true))) ∙ c.marks.invariant.same)
 
 pub overflow_sub-between : goal.overflow_sub-between
-overflow_sub-between c = (way_is c.requires.arena.1 c.marks.rest.node c.node_at-node.result c.height_of.result (omega (arith, c.if-rest-ne0.true)) c.node_at-node.ensures c.height_of.ensures).1
+overflow_sub-between c = (way_is c.requires.arena.1 c.marks.rest.node c.node_at-node.result c.node_of.result (omega (arith, c.if-rest-ne0.true)) c.node_at-node.ensures c.node_of.ensures).1
 
 pub marks-preserved-then-under-between : goal.marks-preserved-then-under-between
 marks-preserved-then-under-between c =
     let node = c.node_at-node.result in
-    let below = c.marks.left - c.marks.rest.values - (node.height - c.height_of.result) in
+    let below = c.marks.left - c.marks.rest.values - (node.height - c.node_of.result.height) in
     let some : 0 < c.marks.rest.node = omega (arith, c.if-rest-ne0.true) in
-    let lower = (way_is c.requires.arena.1 c.marks.rest.node node c.height_of.result some c.node_at-node.ensures c.height_of.ensures).0 in
+    let lower = (way_is c.requires.arena.1 c.marks.rest.node node c.node_of.result some c.node_at-node.ensures c.node_of.ensures).0 in
     record {
-      same = sym (kind_far_under c.requires.arena.1 c.marks.rest node c.height_of.result c.marks.left below some c.node_at-node.ensures c.height_of.ensures (omega (arith, c.marks-test.true, c.if-under-between.true))) ∙ c.marks.invariant.same;
+      same = sym (kind_far_under c.requires.arena.1 c.marks.rest node c.node_of.result c.marks.left below some c.node_at-node.ensures c.node_of.ensures (omega (arith, c.marks-test.true, c.if-under-between.true))) ∙ c.marks.invariant.same;
       inside = omega (arith, lower, c.marks.invariant.inside);
     }
 
