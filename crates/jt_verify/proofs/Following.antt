@@ -1,7 +1,8 @@
 -- What a unit's table and paths say stays true while paths are followed.
 use Rattle.std.proofs.Common.{◌≡◌, ℕ, ◌<◌, ◌≤◌, List, [], ◌∷◌, ◌++◌, length, Option, Some, None, Ok, refl, sym, subst, ◌∙◌, arith, inl, inr}
 use Rattle.std.specs.Prelude.{slice_set, replicate}
-use Rattle.std.proofs.lemmas.List.{length-set, length-append}
+use Rattle.std.proofs.lemmas.List.{length-set, length-append, length-replicate}
+use Rattle.jt_image.proofs.Passed.{all_weaker}
 use Rattle.jt_image.specs.Code.{Section, Code}
 use Rattle.jt_image.specs.Effect.{Shape, effect_at}
 use Rattle.jt_image.specs.Typed.{Reaches, at_start, along, IsTypedUnit, Equal, HasSame, Among, max_entries}
@@ -9,7 +10,7 @@ use Rattle.jt_verify.specs.Typing.{as_list, points_of, AreWithin}
 use Rattle.jt_verify.specs.Working.{Path, Table, shape_at, work_left, IsDue, IsFollowed, Comes, IsWorking, sent}
 use Rattle.jt_verify.specs.declared.typing.Leads.{Leads}
 use Rattle.jt_verify.proofs.Numbers.{same_or}
-use Rattle.jt_verify.proofs.Tables.{set_here, set_there, set_keeps, set_gives, unknown-set, none_at, length-replicate, among_swapped, all_weaker, all_among, all_of, waits_left, waits_right, waits_either, waits_sent, all_to, paths_last, paths_append, paths_sent}
+use Rattle.jt_verify.proofs.Tables.{set_here, set_there, set_keeps, set_gives, unknown-set, none_at, among_swapped, all_among, all_of, waits_left, waits_right, waits_either, waits_sent, all_to, paths_last, paths_append, paths_sent}
 
 -- ---- a path that ends where its shape is known
 
@@ -118,7 +119,7 @@ in_table k u t w x i = omega (arith, (paths_last (Comes k u) w x i.coming).0.0, 
 
 pub starts : (k : Code) (u : Section) (n : ℕ) → n ≡ length u.code → 0 < n → IsWorking k u (replicate n None) (record { point = 0; shape = [] } ∷ [])
 starts k u n is some = record {
-  len = length-replicate n ∙ is;
+  len = length-replicate n None ∙ is;
   start = inr (inl (refl, refl));
   small = λ p s e. absurd (not_known p s e);
   reached = λ p s e. absurd (not_known p s e);

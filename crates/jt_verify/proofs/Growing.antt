@@ -1,6 +1,7 @@
 -- An arena with one node more.
 use Rattle.std.proofs.Common.{◌≡◌, ◌≢◌, ℕ, suc, ◌+◌, ◌*◌, ◌<◌, ◌≤◌, List, [], ◌∷◌, ◌++◌, length, get_or, Some, refl, sym, ap, subst, ◌∙◌, append_assoc, arith, inl, inr}
 use Rattle.std.specs.Prelude.{slice_get, slice_set}
+use Rattle.std.proofs.lemmas.Option.{slice_get_within}
 use Rattle.std.proofs.lemmas.List.{length-append, length-set, get_or_append_left, get_or_push, get_or-set_same, get_or-set_other}
 use Rattle.jt_image.specs.Effect.{Shape, pushes}
 use Rattle.jt_verify.specs.declared.links.Mark.{Mark}
@@ -9,7 +10,7 @@ use Rattle.jt_verify.specs.declared.links.Node.{Node}
 use Rattle.jt_verify.specs.declared.links.Jump.{Jump}
 use Rattle.jt_verify.specs.declared.links.Link.TheVariants as link
 use Rattle.jt_verify.specs.Arena.{Lists, shape_in, IsIn, IsKept, StandsFor, entered, lists_of, kind_of, digit_of, IsUnder, AreJumps, IsNode, AreLinks, KeepsLinks, Finding, IsSound, IsArena}
-use Rattle.jt_verify.proofs.Numbers.{same_or, node_within, node_left, node_last, node_either, padded}
+use Rattle.jt_verify.proofs.Numbers.{same_or, node_left, node_last, node_either, padded}
 use Rattle.jt_verify.proofs.Values.{pushes_end}
 use Rattle.jt_verify.proofs.Nodes.{finds_more, grow_push, is_new, found_is}
 
@@ -67,7 +68,7 @@ module _ (ns : List Node) (ls : List ℕ) (a : IsArena ns ls) (n : Node) (q : �
   sound_old : (i : ℕ) (x : Node) → slice_get ns i ≡ Some x → IsSound more r (lists_of more) i x
   sound_old i x e =
       let s = a.sound i x e in
-      let l = node_within ns i x e in
+      let l = slice_get_within ns i x e in
       let same = entered_kept x (omega (arith, s.older, l, a.len)) in
       record {
         older = s.older;
@@ -93,7 +94,7 @@ module _ (ns : List Node) (ls : List ℕ) (a : IsArena ns ls) (n : Node) (q : �
   jump_old : (i : ℕ) (x : Node) → slice_get ns i ≡ Some x → (x.jump.to ≤ i) × IsUnder (lists_of more) x.jump.to (get_or (lists_of more) (suc i) [])
   jump_old i x e =
       let j = a.jumps i x e in
-      let l = node_within ns i x e in
+      let l = slice_get_within ns i x e in
       (j.0, (j.1.0, at_old (suc i) (omega (arith, l, a.len)) ∙ j.1.1 ∙ ap (λ (s : Shape). j.1.0 ++ s) (sym (at_old x.jump.to (omega (arith, j.0, l, a.len))))))
 
   jumps_more : AreJumps more
@@ -103,7 +104,7 @@ module _ (ns : List Node) (ls : List ℕ) (a : IsArena ns ls) (n : Node) (q : �
   ]
 
   new_differs : (j : ℕ) → j < suc (length ns) → get_or (lists_of more) j [] ≡ get_or (lists_of more) (suc (length ns)) [] → ⊥
-  new_differs j l e = is_new ns ls a n.mark n.below lt f.2 j (omega (arith, l, a.len)) (sym (at_old j (omega (arith, l, a.len))) ∙ e ∙ at_new)
+  new_differs j l e = is_new a n.mark n.below lt f.2 j (omega (arith, l, a.len)) (sym (at_old j (omega (arith, l, a.len))) ∙ e ∙ at_new)
 
   distinct_more : (i j : ℕ) → i < length (lists_of more) → j < length (lists_of more) → get_or (lists_of more) i [] ≡ get_or (lists_of more) j [] → i ≡ j
   distinct_more i j li lj e = elim (same_or i (suc (length ns))) [
@@ -166,7 +167,7 @@ module _ (ns : List Node) (n : Node) (len : length (lists_of ns) ≡ suc (length
 
 -- what was looked up, in the lists that are meant
 pub found_pushed : (ns xs : List Node) (ls ys : List ℕ) → IsArena ns ls → (m : Mark) (b : Handle) (d k : ℕ) → xs ≡ ns → Finding xs ys m b (3 * b.node) d (link.To k) → StandsFor (lists_of ns) k (kind_of m ∷ shape_in (lists_of ns) b)
-found_pushed ns xs ls ys a m b d k e f = found_is ns ls a m b (3 * b.node) d k (f.0, f.1, subst (λ (zs : List Node). IsNode zs m b f.0) e f.2)
+found_pushed ns xs ls ys a m b d k e f = found_is a m b (3 * b.node) d k (f.0, f.1, subst (λ (zs : List Node). IsNode zs m b f.0) e f.2)
 
 pub vacant_pushed : (ns xs : List Node) (ls ys : List ℕ) (m : Mark) (b : Handle) (d q : ℕ) → xs ≡ ns → ys ≡ ls → d ≡ 2 * b.values + digit_of m → Finding xs ys m b (3 * b.node) d (link.Vacant q) → Finding ns ls m b (3 * b.node) (2 * b.values + digit_of m) (link.Vacant q)
 vacant_pushed ns xs ls ys m b d q e f g h =

@@ -1,6 +1,7 @@
 -- What is known of an arena: no two handles stand for one shape.
 use Rattle.std.proofs.Common.{◌≡◌, ◌≢◌, ℕ, zero, suc, ◌+◌, ◌-◌, ◌*◌, ◌/◌, ◌%◌, ◌<◌, ◌≤◌, Bool, true, false, List, [], ◌∷◌, ◌++◌, length, get_or, Some, None, Result, Err, MatchBool, refl, sym, ap, subst, ◌∙◌, arith}
 use Rattle.std.specs.Prelude.{slice_get}
+use Rattle.std.proofs.lemmas.Option.{slice_get_within}
 use Rattle.std.proofs.lemmas.List.{length-append, get_or_append_left}
 use Rattle.jt_image.specs.declared.kind.Kind.{Kind}
 use Rattle.jt_image.specs.declared.kind.Flaw.{Flaw}
@@ -12,8 +13,8 @@ use Rattle.jt_verify.specs.declared.links.Handle.{Handle}
 use Rattle.jt_verify.specs.declared.links.Node.{Node}
 use Rattle.jt_verify.specs.declared.links.Link.{Link}
 use Rattle.jt_verify.specs.declared.links.Link.TheVariants as link
-use Rattle.jt_verify.specs.Arena.{Lists, shape_in, IsIn, entered, grow, lists_of, kind_of, digit_of, IsNode, Finds, here, along, KeepsLinks, AreLinks, Finding, IsHeight, IsArena}
-use Rattle.jt_verify.proofs.Numbers.{some_node, node_within}
+use Rattle.jt_verify.specs.Arena.{Lists, shape_in, IsIn, entered, grow, lists_of, kind_of, digit_of, IsNode, Finds, here, along, KeepsLinks, AreLinks, Finding, IsAt, IsArena}
+use Rattle.jt_verify.proofs.Numbers.{some_node}
 use Rattle.jt_verify.proofs.Values.{HasNoValue, pushes_same, length-pushes, pops_too_many, below_values, at_end}
 
 -- ---- looking a mark up
@@ -96,7 +97,7 @@ head_same j k r s e = cc
 tail_same : (j k : Kind) (r s : Shape) → j ∷ r ≡ k ∷ s → r ≡ s
 tail_same j k r s e = cc
 
-module _ (ns : List Node) (ls : List ℕ) (a : IsArena ns ls) where
+module _ {ns : List Node} {ls : List ℕ} (a : IsArena ns ls) where
   -- what is known of the node of a number
   pub node_is : (k : ℕ) (n : Node) → 0 < k → slice_get ns (k - 1) ≡ Some n → (get_or (lists_of ns) k [] ≡ entered (lists_of ns) n) × (n.below.node < k) × (n.height ≡ length (entered (lists_of ns) n))
   node_is zero n l e = absurd (omega arith)
@@ -134,12 +135,6 @@ module _ (ns : List Node) (ls : List ℕ) (a : IsArena ns ls) where
 
   at_bottom : (h : Handle) → h.node ≡ 0 → get_or (lists_of ns) h.node [] ≡ []
   at_bottom h z = subst (λ (k : ℕ). get_or (lists_of ns) k [] ≡ []) (sym z) (bottom ns)
-
-  pub height_at_bottom : (h : Handle) → h.node ≡ 0 → h.values ≡ length (shape_in (lists_of ns) h)
-  height_at_bottom h z = omega (arith, length-pushes h.values (get_or (lists_of ns) h.node []), ap (λ (s : Shape). length s) (at_bottom h z))
-
-  pub height_on_node : (h : Handle) (n : Node) → 0 < h.node → slice_get ns (h.node - 1) ≡ Some n → h.values + n.height ≡ length (shape_in (lists_of ns) h)
-  height_on_node h n l e = let k = node_is h.node n l e in omega (arith, length-pushes h.values (get_or (lists_of ns) h.node []), ap (λ (s : Shape). length s) k.0, k.2)
 
   pub empty_is : (h : Handle) → h.values ≡ 0 → h.node ≡ 0 → shape_in (lists_of ns) h ≡ []
   empty_is h e z = ap (λ (v : ℕ). pushes v (get_or (lists_of ns) h.node [])) e ∙ at_bottom h z
@@ -180,29 +175,32 @@ module _ (ns : List Node) (ls : List ℕ) (a : IsArena ns ls) where
       let left : i - h.values ≡ suc j = omega (arith, e) in
       below_values h.values (get_or (lists_of ns) h.node []) i (omega (arith, e)) ∙ ap (λ (s : Shape). slice_get s (i - h.values)) k.0 ∙ ap (λ (x : ℕ). slice_get (entered (lists_of ns) n) x) left
 
-  pub height_is : (k h : ℕ) → IsHeight ns k h → h ≡ length (get_or (lists_of ns) k [])
-  height_is zero h e = omega (arith, e, ap (λ (s : Shape). length s) (bottom ns))
-  height_is (suc i) h w = let s = a.sound i w.0 w.1 in omega (arith, w.2, s.height, ap (λ (x : Shape). length x) s.shape)
+  pub height_is : (k : ℕ) (n : Node) → IsAt ns k n → n.height ≡ length (get_or (lists_of ns) k [])
+  height_is zero n e = omega (arith, e.0, ap (λ (s : Shape). length s) (bottom ns))
+  height_is (suc i) n e = let s = a.sound i n e in omega (arith, s.height, ap (λ (x : Shape). length x) s.shape)
+
+  pub height_in : (h : Handle) (n : Node) → IsAt ns h.node n → h.values + n.height ≡ length (shape_in (lists_of ns) h)
+  height_in h n e = omega (arith, length-pushes h.values (get_or (lists_of ns) h.node []), height_is h.node n e)
 
   -- what is known of the way down from a node, which leads over so many entries
-  pub way_is : (k : ℕ) (n : Node) (h : ℕ) → 0 < k → slice_get ns (k - 1) ≡ Some n → IsHeight ns n.jump.to h → (n.jump.to < k) × (h ≤ n.height) × ((i : ℕ) → n.height - h ≤ i → slice_get (get_or (lists_of ns) k []) i ≡ slice_get (get_or (lists_of ns) n.jump.to []) (i - (n.height - h)))
-  way_is zero n h l is e = absurd (omega arith)
-  way_is (suc j) n h l is e =
+  pub way_is : (k : ℕ) (n m : Node) → 0 < k → slice_get ns (k - 1) ≡ Some n → IsAt ns n.jump.to m → (n.jump.to < k) × (m.height ≤ n.height) × ((i : ℕ) → n.height - m.height ≤ i → slice_get (get_or (lists_of ns) k []) i ≡ slice_get (get_or (lists_of ns) n.jump.to []) (i - (n.height - m.height)))
+  way_is zero n m l is e = absurd (omega arith)
+  way_is (suc j) n m l is e =
       let same : suc j - 1 ≡ j = omega arith in
       let at = subst (λ (x : ℕ). slice_get ns x ≡ Some n) same is in
       let s = a.sound j n at in
       let w = a.jumps j n at in
-      let tall : n.height ≡ length w.1.0 + h = omega (arith, s.height, ap (λ (x : Shape). length x) s.shape, ap (λ (x : Shape). length x) w.1.1, length-append w.1.0 (get_or (lists_of ns) n.jump.to []), height_is n.jump.to h e) in
-      let over : length w.1.0 ≡ n.height - h = omega (arith, tall) in (
+      let tall : n.height ≡ length w.1.0 + m.height = omega (arith, s.height, ap (λ (x : Shape). length x) s.shape, ap (λ (x : Shape). length x) w.1.1, length-append w.1.0 (get_or (lists_of ns) n.jump.to []), height_is n.jump.to m e) in
+      let over : length w.1.0 ≡ n.height - m.height = omega (arith, tall) in (
         omega (arith, w.0),
         omega (arith, tall),
         λ i low. ap (λ (x : Shape). slice_get x i) w.1.1 ∙ at_end w.1.0 (get_or (lists_of ns) n.jump.to []) i (omega (arith, low, over)) ∙ ap (λ (d : ℕ). slice_get (get_or (lists_of ns) n.jump.to []) (i - d)) over,
       )
 
-  pub kind_far_under : (h : Handle) (n : Node) (d i j : ℕ) → 0 < h.node → slice_get ns (h.node - 1) ≡ Some n → IsHeight ns n.jump.to d → i ≡ h.values + (n.height - d) + j → slice_get (shape_in (lists_of ns) h) i ≡ slice_get (get_or (lists_of ns) n.jump.to []) j
-  kind_far_under h n d i j l is e f =
-      let w = way_is h.node n d l is e in
-      let left : i - h.values - (n.height - d) ≡ j = omega (arith, f) in
+  pub kind_far_under : (h : Handle) (n m : Node) (i j : ℕ) → 0 < h.node → slice_get ns (h.node - 1) ≡ Some n → IsAt ns n.jump.to m → i ≡ h.values + (n.height - m.height) + j → slice_get (shape_in (lists_of ns) h) i ≡ slice_get (get_or (lists_of ns) n.jump.to []) j
+  kind_far_under h n m i j l is e f =
+      let w = way_is h.node n m l is e in
+      let left : i - h.values - (n.height - m.height) ≡ j = omega (arith, f) in
       below_values h.values (get_or (lists_of ns) h.node []) i (omega (arith, f)) ∙ w.2 (i - h.values) (omega (arith, f)) ∙ ap (λ (x : ℕ). slice_get (get_or (lists_of ns) n.jump.to []) x) left
 
   -- a node that is found is that mark on that handle
@@ -211,4 +209,4 @@ module _ (ns : List Node) (ls : List ℕ) (a : IsArena ns ls) where
       let x = f.2 in
       let s = a.sound f.0 x.node x.is in
       let here_is : get_or (lists_of ns) (suc f.0) [] ≡ kind_of m ∷ shape_in (lists_of ns) b = s.shape ∙ ap (λ (y : Mark). kind_of y ∷ shape_in (lists_of ns) x.node.below) x.mark ∙ ap (λ (y : Handle). kind_of m ∷ shape_in (lists_of ns) y) x.below in
-      (ap (λ (j : ℕ). get_or (lists_of ns) j []) f.1 ∙ here_is, omega (arith, f.1, node_within ns f.0 x.node x.is, a.len))
+      (ap (λ (j : ℕ). get_or (lists_of ns) j []) f.1 ∙ here_is, omega (arith, f.1, slice_get_within ns f.0 x.node x.is, a.len))

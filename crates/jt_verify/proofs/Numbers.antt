@@ -9,11 +9,6 @@ same_or zero (suc b) = inr (λ e. absurd cc)
 same_or (suc a) zero = inr (λ e. absurd cc)
 same_or (suc a) (suc b) = elim (same_or a b) [ inl e ↦ inl (ap suc e) | inr n ↦ inr (λ (e : suc a ≡ suc b). n (omega arith)) ]
 
-pub node_within : (ns : List Node) (i : ℕ) (n : Node) → slice_get ns i ≡ Some n → i < length ns
-node_within [] i n e = absurd cc
-node_within (x ∷ ns) zero n e = omega arith
-node_within (x ∷ ns) (suc i) n e = omega (arith, node_within ns i n e)
-
 pub some_node : (ns : List Node) (i : ℕ) → i < length ns → (n : Node) × (slice_get ns i ≡ Some n)
 some_node [] i lt = absurd (omega arith)
 some_node (x ∷ ns) zero lt = (x, refl)

@@ -1,5 +1,5 @@
 -- A refusal that holds refuses no typed code.
-use Rattle.std.proofs.Common.{◌≡◌, ℕ, List, [], ◌∷◌, ◌++◌, length, Option, Some, None, Result, Ok, Err, refl, sym, ap, subst, ◌∙◌, arith, inl, inr}
+use Rattle.std.proofs.Common.{◌≡◌, ℕ, List, [], ◌∷◌, ◌++◌, length, Option, Some, Result, Ok, Err, refl, sym, ap, subst, ◌∙◌, arith, inl, inr}
 use Rattle.std.specs.Prelude.{slice_get}
 use Rattle.std.specs.List.{AllByRecursion}
 use Rattle.jt_image.specs.declared.kind.Flaw.{Flaw}
@@ -9,6 +9,7 @@ use Rattle.jt_image.specs.Code.{Section, Code}
 use Rattle.jt_image.specs.Effect.{Shape, Leads, effect_of, effect_at}
 use Rattle.jt_image.specs.Typed.{Shapes, Reaches, at_start, along, IsTypedBy, IsTypedUnit, IsTyped, Equal, HasSame}
 use Rattle.jt_verify.specs.Arena.{Lists}
+use Rattle.jt_verify.specs.Differing.{DifferBy}
 use Rattle.jt_verify.specs.Refusing.{HasClash, HasFlaw, HoldsAt, RefusalHolds}
 use Rattle.jt_verify.specs.Typing.{IsTall}
 use Rattle.jt_verify.specs.Working.{Path, Table, shape_at, unit_of, ClashesAt, Clashes, StepFlaw, Steps, Comes, IsWorking, RefusesUnit}
@@ -23,23 +24,8 @@ one_shape a b e = cc
 
 module _ (k : Code) (u : Section) (q : ℕ) (s : Shape) (reached : Reaches k u q s) where
   clash_at : (o : Option Shape) (f : Flaw) → ((r : Shape) → o ≡ Some r → Reaches k u q r) → ClashesAt o s f → HasClash k u q f
-  clash_at o flaw.TooDeep known c = (s, reached, c)
-  clash_at (Some r) flaw.DepthDiffers known c = (r, s, known r refl, reached, c)
-  clash_at (Some r) flaw.KindDiffers known c = (r, s, known r refl, reached, c.0, c.1)
-  clash_at None flaw.DepthDiffers known c = absurd c
-  clash_at None flaw.KindDiffers known c = absurd c
-  clash_at None flaw.MissingOperand known c = absurd c
-  clash_at None flaw.WrongKind known c = absurd c
-  clash_at None flaw.JumpOut known c = absurd c
-  clash_at None flaw.BadIndex known c = absurd c
-  clash_at None flaw.BadReturn known c = absurd c
-  clash_at None flaw.FallsOff known c = absurd c
-  clash_at (Some r) flaw.MissingOperand known c = absurd c
-  clash_at (Some r) flaw.WrongKind known c = absurd c
-  clash_at (Some r) flaw.JumpOut known c = absurd c
-  clash_at (Some r) flaw.BadIndex known c = absurd c
-  clash_at (Some r) flaw.BadReturn known c = absurd c
-  clash_at (Some r) flaw.FallsOff known c = absurd c
+  clash_at o f known (inl c) = inl (s, reached, c)
+  clash_at o f known (inr c) = inr (c.0, s, known c.0 c.1, reached, c.2)
 
 pub clash_refuses : (k : Code) (u : Section) (n : ℕ) (t : Table) (w : List Path) (x : Path) (e : Refusal) → IsWorking k u t (w ++ x ∷ []) → Clashes t n x e → RefusesUnit k u n e
 clash_refuses k u n t w x e i c =
@@ -49,7 +35,7 @@ clash_refuses k u n t w x e i c =
 
 -- an effect that leads to a point with too many entries brings them there
 tall_clash : (k : Code) (u : Section) (x : Path) (q : ℕ) (o : Result Leads Flaw) → Reaches k u x.point x.shape → effect_at k u x.point x.shape ≡ o → IsTall q o → HasClash k u q flaw.TooDeep
-tall_clash k u x q (Ok l) reached e h = (l.shape, along x.point x.shape l q reached e h.0, h.1)
+tall_clash k u x q (Ok l) reached e h = inl (l.shape, along x.point x.shape l q reached e h.0, (refl, h.1))
 tall_clash k u x q (Err f) reached e h = absurd h
 
 step_holds : (k : Code) (u : Section) (x : Path) (f : Flaw) (q : ℕ) → Reaches k u x.point x.shape → StepFlaw k u x.point x.shape f q → HoldsAt k u q f
@@ -73,6 +59,18 @@ unit_refused k n (refusal.Flaw f m p) is h = subst (λ (i : ℕ). RefusalHolds k
 
 -- ---- a path's shapes are those of any typing
 
+-- equal shapes do not differ
+same_differ : (s t : Shape) (f : Flaw) → s ≡ t → DifferBy s t f → ⊥
+same_differ s t flaw.DepthDiffers e d = d (ap (λ (x : Shape). length x) e)
+same_differ s t flaw.KindDiffers e d = d.1 e
+same_differ s t flaw.MissingOperand e d = d
+same_differ s t flaw.WrongKind e d = d
+same_differ s t flaw.JumpOut e d = d
+same_differ s t flaw.BadIndex e d = d
+same_differ s t flaw.BadReturn e d = d
+same_differ s t flaw.FallsOff e d = d
+same_differ s t flaw.TooDeep e d = d
+
 module _ (k : Code) (u : Section) (shapes : Shapes) (h : IsTypedBy Equal k u shapes) where
   agrees : (p : ℕ) (s : Shape) → Reaches k u p s → shapes p ≡ Some s
   agrees _ _ at_start = h.start
@@ -82,22 +80,12 @@ module _ (k : Code) (u : Section) (shapes : Shapes) (h : IsTypedBy Equal k u sha
       let has = all_among (HasSame Equal shapes leads.shape) leads.points q (subst (λ (l : Leads). AllByRecursion (HasSame Equal shapes l.shape) l.points) same f.agree) a in
       subst (λ (y : Shape). shapes q ≡ Some y) has.2 has.1
     where
-      ok_of : Leads → Result Leads Flaw
-      ok_of l = Ok l
-
       ok_same : (a b : Leads) → ◌≡◌ {A = Result Leads Flaw} (Ok a) (Ok b) → a ≡ b
       ok_same a b e = cc
 
   clash_untyped : (p : ℕ) (f : Flaw) → HasClash k u p f → ⊥
-  clash_untyped p flaw.TooDeep c = let m = h.small p c.0 (agrees p c.0 c.1) in absurd (omega (arith, m, c.2))
-  clash_untyped p flaw.DepthDiffers c = c.4 (ap (λ (x : Shape). length x) (one_shape c.0 c.1 (sym (agrees p c.0 c.2) ∙ agrees p c.1 c.3)))
-  clash_untyped p flaw.KindDiffers c = c.5 (one_shape c.0 c.1 (sym (agrees p c.0 c.2) ∙ agrees p c.1 c.3))
-  clash_untyped p flaw.MissingOperand c = c
-  clash_untyped p flaw.WrongKind c = c
-  clash_untyped p flaw.JumpOut c = c
-  clash_untyped p flaw.BadIndex c = c
-  clash_untyped p flaw.BadReturn c = c
-  clash_untyped p flaw.FallsOff c = c
+  clash_untyped p f (inl c) = let m = h.small p c.0 (agrees p c.0 c.1) in absurd (omega (arith, m, c.2.1))
+  clash_untyped p f (inr c) = same_differ c.0 c.1 f (one_shape c.0 c.1 (sym (agrees p c.0 c.2) ∙ agrees p c.1 c.3)) c.4
 
   flaw_untyped : (p : ℕ) (f : Flaw) → HasFlaw k u p f → ⊥
   flaw_untyped p f c = let g = h.fine p c.0 (agrees p c.0 c.1) in let e : ◌≡◌ {A = Result Leads Flaw} (Err f) (Ok g.leads) = sym c.2 ∙ g.effect in cc

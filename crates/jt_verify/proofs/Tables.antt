@@ -1,6 +1,6 @@
 -- Tables of shapes, and paths that wait.
 use Rattle.std.proofs.Common.{◌≡◌, ◌≢◌, ℕ, zero, suc, ◌+◌, ◌<◌, ◌⊎◌, List, [], ◌∷◌, ◌++◌, length, map, Option, Some, None, refl, sym, ap, subst, ◌∙◌, arith, inl, inr}
-use Rattle.std.specs.Prelude.{slice_get, slice_set, replicate, option_map, unwrap_or}
+use Rattle.std.specs.Prelude.{slice_set, replicate, option_map, unwrap_or}
 use Rattle.std.specs.List.{AllByRecursion}
 use Rattle.jt_image.specs.declared.code.UnitHeader.{UnitHeader}
 use Rattle.jt_image.specs.Code.{Section}
@@ -49,13 +49,6 @@ none_at zero q = refl
 none_at (suc n) zero = refl
 none_at (suc n) (suc q) = none_at n q
 
-abbrev none_shape : Option Shape
-none_shape = None
-
-pub length-replicate : (n : ℕ) → length (replicate n none_shape) ≡ n
-length-replicate zero = refl
-length-replicate (suc n) = ap suc (length-replicate n)
-
 -- ---- lists of points
 
 pub among_left : (q : ℕ) (xs ys : List ℕ) → Among q xs → Among q (xs ++ ys)
@@ -76,10 +69,6 @@ among_swapped q (x ∷ xs) ys (inr h) = longer q ys xs (among_swapped q xs ys h)
     longer q [] xs h = inr h
     longer q (y ∷ ys) xs (inl e) = inl e
     longer q (y ∷ ys) xs (inr h) = inr (longer q ys xs h)
-
-pub all_weaker : (P Q : ℕ → Type 0) (xs : List ℕ) → ((x : ℕ) → P x → Q x) → AllByRecursion P xs → AllByRecursion Q xs
-all_weaker P Q [] h a = tt
-all_weaker P Q (x ∷ xs) h a = (h x a.0, all_weaker P Q xs h a.1)
 
 pub all_among : (P : ℕ → Type 0) (xs : List ℕ) (q : ℕ) → AllByRecursion P xs → Among q xs → P q
 all_among P [] q a h = absurd h
@@ -132,8 +121,3 @@ paths_sent P s (p ∷ ps) h = (h p (inl refl), paths_sent P s ps (λ q a. h q (i
 pub some_section : (o : Option Section) (d : Section) (h : UnitHeader) → option_map header_of o ≡ Some h → o ≡ Some (unwrap_or o d)
 some_section None d h e = absurd cc
 some_section (Some u) d h e = refl
-
-pub section_within : (us : List Section) (n : ℕ) (u : Section) → slice_get us n ≡ Some u → n < length us
-section_within [] n u e = absurd cc
-section_within (v ∷ us) zero u e = omega arith
-section_within (v ∷ us) (suc n) u e = omega (arith, section_within us n u e)

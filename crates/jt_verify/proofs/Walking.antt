@@ -83,7 +83,7 @@ paths_push t w x = map-append (path_in t) w (x ∷ [])
 
 -- ---- a path is followed
 
-module _ (k : Code) (u : Section) (t : Lists) (hs : List (Option Handle)) (w : List Waiting) (x : Waiting) (i : Works k u t hs (w ++ x ∷ [])) where
+module _ {k : Code} {u : Section} {t : Lists} {hs : List (Option Handle)} (w : List Waiting) (x : Waiting) (i : Works k u t hs (w ++ x ∷ [])) where
   working : IsWorking k u (table_in t hs) (paths_in t w ++ path_in t x ∷ [])
   working = subst (λ (v : List Path). IsWorking k u (table_in t hs) v) (paths_push t w x) i.working
 
@@ -112,7 +112,7 @@ module _ (k : Code) (u : Section) (t : Lists) (hs : List (Option Handle)) (w : L
   pub less_met : work_left (table_in t hs) (paths_in t w) < work_left (table_in t hs) (paths_in t (w ++ x ∷ []))
   less_met = subst (λ (v : List Path). work_left (table_in t hs) (paths_in t w) < work_left (table_in t hs) v) (sym (paths_push t w x)) (less_if_met (table_in t hs) (paths_in t w) (path_in t x))
 
-  module _ (r : Lists) (kept : IsKept t r) (l : Leads) (h : Handle) (inside : IsIn r h) (none : shape_at (table_in t hs) x.point ≡ None) where
+  module _ {r : Lists} (kept : IsKept t r) (l : Leads) (h : Handle) (inside : IsIn r h) (none : shape_at (table_in t hs) x.point ≡ None) where
     tables : table_in r (slice_set hs x.point (Some x.shape)) ≡ slice_set (table_in t hs) x.point (Some (shape_in t x.shape))
     tables =
         map-set (option_map (shape_in r)) hs x.point (Some x.shape)

@@ -1,5 +1,7 @@
--- What an arena of shapes holds: the lists that its nodes stand for, each once. Private clauses and proofs alone cite it.
-use Rattle.std.specs.Prelude.{◌≡◌, ℕ, zero, suc, ◌+◌, ◌*◌, ◌/◌, ◌%◌, ◌<◌, ◌≤◌, List, [], ◌∷◌, ◌++◌, length, get_or, Option, Some, None, Result, Ok, Err, slice_get}
+-- What an arena of shapes holds: the lists that its nodes stand for, each once. Private clauses and
+-- proofs alone cite it.
+use Rattle.std.specs.Prelude.{◌≡◌, ℕ, zero, suc, ◌+◌, ◌*◌, ◌/◌, ◌%◌, ◌<◌, ◌≤◌, List, [], ◌∷◌, ◌++◌}
+use Rattle.std.specs.Prelude.{length, get_or, Option, Some, None, Result, Ok, Err, slice_get}
 use Rattle.jt_image.specs.declared.kind.Kind.{Kind}
 use Rattle.jt_image.specs.declared.kind.Kind.TheVariants as kind
 use Rattle.jt_image.specs.declared.kind.Flaw.{Flaw}
@@ -8,7 +10,6 @@ use Rattle.jt_verify.specs.declared.links.Mark.{Mark}
 use Rattle.jt_verify.specs.declared.links.Mark.TheVariants as mark
 use Rattle.jt_verify.specs.declared.links.Handle.{Handle}
 use Rattle.jt_verify.specs.declared.links.Node.{Node}
-use Rattle.jt_verify.specs.declared.links.Jump.{Jump}
 use Rattle.jt_verify.specs.declared.links.Link.{Link}
 use Rattle.jt_verify.specs.declared.links.Link.TheVariants as link
 
@@ -44,7 +45,10 @@ Pops t s (Some p) = (s ≡ p.0 ∷ shape_in t p.1) × IsIn t p.1
 
 -- what is below that many values, or the flaw is named
 abbrev pub PopsMany : Lists → ℕ → Shape → Result Handle Flaw → Type 0
-PopsMany t n s (Ok h) = ((go : Shape → Result Leads Flaw) → pops_many n s go ≡ go (shape_in t h)) × IsIn t h × (length (shape_in t h) + n ≡ length s)
+PopsMany t n s (Ok h) =
+    ((go : Shape → Result Leads Flaw) → pops_many n s go ≡ go (shape_in t h))
+    × IsIn t h
+    × (length (shape_in t h) + n ≡ length s)
 PopsMany t n s (Err f) = (go : Shape → Result Leads Flaw) → pops_many n s go ≡ Err f
 
 -- ---- the nodes and links of an arena
@@ -66,19 +70,15 @@ lists_of ns = grow ([] ∷ []) ns
 abbrev pub IsUnder : Lists → ℕ → Shape → Type 0
 IsUnder t k s = (r : Shape) × (s ≡ r ++ get_or t k [])
 
--- the number of entries up to a node; none up to number 0
-abbrev pub IsHeight : List Node → ℕ → ℕ → Type 0
-IsHeight ns zero h = h ≡ 0
-IsHeight ns (suc i) h = (n : Node) × (slice_get ns i ≡ Some n) × (n.height ≡ h)
-
--- the way down from a node; none from number 0
-abbrev pub IsJump : List Node → ℕ → Jump → Type 0
-IsJump ns zero j = j.to ≡ 0
-IsJump ns (suc i) j = (n : Node) × (slice_get ns i ≡ Some n) × (n.jump ≡ j)
+-- the node of a number; number 0 is none, and no entries lead up to it, and no way down
+abbrev pub IsAt : List Node → ℕ → Node → Type 0
+IsAt ns zero n = (n.height ≡ 0) × (n.jump.to ≡ 0)
+IsAt ns (suc i) n = slice_get ns i ≡ Some n
 
 -- ways down lead to older nodes, whose shapes lie under those that they lead from
 abbrev pub AreJumps : List Node → Type 0
-AreJumps ns = (i : ℕ) (n : Node) → slice_get ns i ≡ Some n → (n.jump.to ≤ i) × IsUnder (lists_of ns) n.jump.to (get_or (lists_of ns) (suc i) [])
+AreJumps ns = (i : ℕ) (n : Node) → slice_get ns i ≡ Some n
+    → (n.jump.to ≤ i) × IsUnder (lists_of ns) n.jump.to (get_or (lists_of ns) (suc i) [])
 
 abbrev pub digit_of : Mark → ℕ
 digit_of mark.Frame = 0
@@ -94,7 +94,8 @@ pub record IsNode (ns : List Node) (m : Mark) (b : Handle) (i : ℕ) : Type 0 wh
 -- links lead from the place to that mark on that handle, which is node i
 pub data Finds (ns : List Node) (ls : List ℕ) (m : Mark) (b : Handle) : ℕ → ℕ → ℕ → Type 0 where
   here : (p d i : ℕ) → get_or ls p 0 ≡ suc i → IsNode ns m b i → Finds ns ls m b p d i
-  along : (p d i k : ℕ) → get_or ls p 0 ≡ suc k → Finds ns ls m b (3 * suc k + 1 + d % 2) (d / 2) i → Finds ns ls m b p d i
+  along : (p d i k : ℕ) → get_or ls p 0 ≡ suc k
+      → Finds ns ls m b (3 * suc k + 1 + d % 2) (d / 2) i → Finds ns ls m b p d i
 
 -- each link leads to a node that is newer than the one whose link it is
 pub record AreLinks (n : ℕ) (ls : List ℕ) : Type 0 where
@@ -107,12 +108,17 @@ KeepsLinks ls r = (p k : ℕ) → get_or ls p 0 ≡ suc k → get_or r p 0 ≡ s
 
 -- a link at q to that mark on that handle is led to from p
 abbrev pub LeadsTo : List ℕ → Mark → Handle → ℕ → ℕ → ℕ → Type 0
-LeadsTo ls m b p d q = (ns : List Node) (r : List ℕ) (i : ℕ) → KeepsLinks ls r → get_or r q 0 ≡ suc i → IsNode ns m b i → Finds ns r m b p d i
+LeadsTo ls m b p d q = (ns : List Node) (r : List ℕ) (i : ℕ)
+    → KeepsLinks ls r → get_or r q 0 ≡ suc i → IsNode ns m b i → Finds ns r m b p d i
 
 -- the node that is looked up, or the place where its link would be
 abbrev pub Finding : List Node → List ℕ → Mark → Handle → ℕ → ℕ → Link → Type 0
 Finding ns ls m b p d (link.To n) = (i : ℕ) × (n ≡ suc i) × IsNode ns m b i
-Finding ns ls m b p d (link.Vacant q) = (get_or ls q 0 ≡ 0) × (q < 3 * (length ns + 1)) × ((i : ℕ) → Finds ns ls m b p d i → ⊥) × LeadsTo ls m b p d q
+Finding ns ls m b p d (link.Vacant q) =
+    (get_or ls q 0 ≡ 0)
+    × (q < 3 * (length ns + 1))
+    × ((i : ℕ) → Finds ns ls m b p d i → ⊥)
+    × LeadsTo ls m b p d q
 
 -- node i stands on an older one, and is found from there; its height is the length of its shape
 pub record IsSound (ns : List Node) (ls : List ℕ) (t : Lists) (i : ℕ) (n : Node) : Type 0 where
@@ -127,4 +133,5 @@ pub record IsArena (ns : List Node) (ls : List ℕ) : Type 0 where
   pub links : AreLinks (length ns) ls
   pub jumps : AreJumps ns
   pub sound : (i : ℕ) (n : Node) → slice_get ns i ≡ Some n → IsSound ns ls (lists_of ns) i n
-  pub distinct : (i j : ℕ) → i < length (lists_of ns) → j < length (lists_of ns) → get_or (lists_of ns) i [] ≡ get_or (lists_of ns) j [] → i ≡ j
+  pub distinct : (i j : ℕ) → i < length (lists_of ns) → j < length (lists_of ns)
+      → get_or (lists_of ns) i [] ≡ get_or (lists_of ns) j [] → i ≡ j

@@ -1,10 +1,15 @@
 -- How two shapes differ.
-use Rattle.std.specs.Prelude.{◌≡◌, ◌≢◌, length, Result, Ok, Err}
+use Rattle.std.specs.Prelude.{◌≡◌, ◌≢◌, ◌<◌, length, Result, Ok, Err}
 use Rattle.jt_image.specs.declared.kind.Flaw.{Flaw}
 use Rattle.jt_image.specs.declared.kind.Flaw.TheVariants as flaw
 use Rattle.jt_image.specs.Effect.{Shape}
+use Rattle.jt_image.specs.Typed.{max_entries}
 use Rattle.jt_verify.specs.declared.refusal.Refusal.{Refusal}
 use Rattle.jt_verify.specs.declared.refusal.Refusal.TheVariants as refusal
+
+-- a shape of more entries than a shape may have
+abbrev pub IsTooDeep : Shape → Flaw → Type 0
+IsTooDeep s f = (f ≡ flaw.TooDeep) × (max_entries < length s)
 
 -- shapes of other lengths, or of one length with other kinds
 abbrev pub DifferBy : Shape → Shape → Flaw → Type 0

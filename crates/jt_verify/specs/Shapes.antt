@@ -1,39 +1,36 @@
--- What is below the top of a shape. Private clauses and proofs alone cite it.
-use Rattle.std.specs.Prelude.{◌≡◌, ◌<◌, [], ◌∷◌, length, Result, Ok, Err}
+-- What the parts of an effect come to, by the handles of shapes. Private clauses and proofs alone
+-- cite it.
+use Rattle.std.specs.Prelude.{◌≡◌, ℕ, ◌<◌, ◌≤◌, Bool, true, false, ◌∷◌, length}
+use Rattle.std.specs.Prelude.{Option, Result, Ok, Err}
 use Rattle.jt_image.specs.declared.kind.Kind.{Kind}
 use Rattle.jt_image.specs.declared.kind.Kind.TheVariants as kind
 use Rattle.jt_image.specs.declared.kind.Flaw.{Flaw}
-use Rattle.jt_image.specs.declared.kind.Flaw.TheVariants as flaw
-use Rattle.jt_image.specs.Effect.{Shape}
+use Rattle.jt_image.specs.Effect.{Shape, Leads, pops, pops_frame, pops_capture, on_frame}
 use Rattle.jt_verify.specs.declared.links.Handle.{Handle}
 use Rattle.jt_verify.specs.Arena.{Lists, shape_in, IsIn}
 
--- what is below a value at the top
-abbrev pub below_value : Shape → Result Shape Flaw
-below_value [] = Err flaw.MissingOperand
-below_value (kind.Value ∷ s) = Ok s
-below_value (kind.Frame ∷ s) = Err flaw.WrongKind
-below_value (kind.Capture ∷ s) = Err flaw.WrongKind
+-- the test holds, or it is the flaw
+abbrev pub Requires : Bool → Flaw → Result (Unit {0}) Flaw → Type 0
+Requires b f (Ok u) = b ≡ true
+Requires b f (Err e) = (b ≡ false) × (e ≡ f)
 
--- what is below a loop at the top
-abbrev pub below_frame : Shape → Result Shape Flaw
-below_frame [] = Err flaw.MissingOperand
-below_frame (kind.Frame ∷ s) = Ok s
-below_frame (kind.Value ∷ s) = Err flaw.WrongKind
-below_frame (kind.Capture ∷ s) = Err flaw.WrongKind
+-- the point is one of so many, or it is the flaw
+abbrev pub PointIn : ℕ → ℕ → Flaw → Result ℕ Flaw → Type 0
+PointIn n p f (Ok q) = (q ≡ p) × (p < n)
+PointIn n p f (Err e) = (e ≡ f) × (n ≤ p)
 
--- what is below a capture at the top
-abbrev pub below_capture : Shape → Result Shape Flaw
-below_capture [] = Err flaw.MissingOperand
-below_capture (kind.Capture ∷ s) = Ok s
-below_capture (kind.Value ∷ s) = Err flaw.WrongKind
-below_capture (kind.Frame ∷ s) = Err flaw.WrongKind
+-- goes on with what is below an entry of the kind
+abbrev pub taking : Kind → Shape → (Shape → Result Leads Flaw) → Result Leads Flaw
+taking kind.Value s go = pops s go
+taking kind.Frame s go = pops_frame s go
+taking kind.Capture s go = pops_capture s go
 
--- the handle is what is below the top, or the flaw is named
-abbrev pub Below : Lists → Result Shape Flaw → Result Handle Flaw → Type 0
-Below t below (Ok h) = below ≡ Ok (shape_in t h)
-Below t below (Err f) = below ≡ Err f
+-- what is below an entry of the kind at the top, or the flaw is named
+abbrev pub Takes : Lists → Kind → Shape → Result Handle Flaw → Type 0
+Takes t k s (Ok h) = (s ≡ k ∷ shape_in t h) × IsIn t h × (length (shape_in t h) < length s)
+Takes t k s (Err f) = (go : Shape → Result Leads Flaw) → taking k s go ≡ Err f
 
--- the shape is that kind on the handle
-abbrev pub IsTopped : Lists → Kind → Handle → Shape → Type 0
-IsTopped t k b s = (s ≡ k ∷ shape_in t b) × IsIn t b × (length (shape_in t b) < length s)
+-- the entry is a loop, or the flaw is named
+abbrev pub FindsFrame : Option Kind → Result (Unit {0}) Flaw → Type 0
+FindsFrame o (Ok u) = (go : Result Leads Flaw) → on_frame o go ≡ go
+FindsFrame o (Err f) = (go : Result Leads Flaw) → on_frame o go ≡ Err f

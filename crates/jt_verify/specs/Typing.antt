@@ -1,17 +1,20 @@
 -- What only private clauses cite: what the verifier's effect gives.
-use Rattle.std.specs.Prelude.{◌≡◌, ℕ, ◌<◌, ◌≤◌, List, [], ◌∷◌, ◌++◌, length, Option, Some, None, Result, Ok, Err}
+use Rattle.std.specs.Prelude.{◌≡◌, ℕ, ◌<◌, ◌≤◌, List, [], ◌∷◌, ◌++◌, length}
+use Rattle.std.specs.Prelude.{Option, Some, None, Result, Ok, Err, IfOk, IsSome}
 use Rattle.std.specs.List.{AllByRecursion}
 use Rattle.jt_image.specs.declared.kind.Flaw.{Flaw}
+use Rattle.jt_image.specs.Code.{Section}
 use Rattle.jt_image.specs.Effect as effects
-use Rattle.jt_image.specs.Effect.{Shape, on_frame}
+use Rattle.jt_image.specs.Effect.{Shape}
+use Rattle.jt_image.specs.Readers.{header_of}
 use Rattle.jt_image.specs.Typed.{Among, max_entries}
-use Rattle.jt_image.specs.declared.kind.Kind.{Kind}
 use Rattle.jt_verify.specs.declared.links.Mark.{Mark}
 use Rattle.jt_verify.specs.declared.typing.Leads.{Leads}
-use Rattle.jt_verify.specs.declared.typing.Outcome.{Outcome}
+use Rattle.jt_verify.specs.declared.typing.Effect.{Effect}
 use Rattle.jt_verify.specs.declared.typing.EffectError.{EffectError}
 use Rattle.jt_verify.specs.declared.typing.EffectError.TheVariants as errors
-use Rattle.jt_verify.specs.Arena.{Lists, shape_in, kind_of}
+use Rattle.jt_verify.specs.declared.typing.At.{At}
+use Rattle.jt_verify.specs.Arena.{Lists, shape_in, IsIn, kind_of}
 
 abbrev pub as_list : Option ℕ → List ℕ
 as_list None = []
@@ -38,16 +41,30 @@ Fits n p (Err (errors.Flaw f)) = ⊥
 Fits n p (Err (errors.TooTall q)) = (q ≡ p) × (max_entries < n)
 
 -- what the effect of an instruction is; a shape that is too long is not made
-abbrev pub EffectGives : Lists → Result Outcome EffectError → Result effects.Leads Flaw → Type 0
-EffectGives t (Ok e) effect = effect ≡ Ok (record { shape = marked e.mark (shape_in t e.shape); points = points_of e.leads })
+abbrev pub EffectGives : Lists → Result Effect EffectError → Result effects.Leads Flaw → Type 0
+EffectGives t (Ok e) effect =
+    effect ≡ Ok (record { shape = marked e.mark (shape_in t e.shape); points = points_of e.leads })
 EffectGives t (Err (errors.Flaw f)) effect = effect ≡ Err f
 EffectGives t (Err (errors.TooTall q)) effect = IsTall q effect
-
--- the entry is a loop, or the flaw is named
-abbrev pub FindsFrame : Option Kind → Result (Unit {0}) Flaw → Type 0
-FindsFrame o (Ok u) = (go : Result effects.Leads Flaw) → on_frame o go ≡ go
-FindsFrame o (Err f) = (go : Result effects.Leads Flaw) → on_frame o go ≡ Err f
 
 -- the points lie in a code of so many instructions
 abbrev pub AreWithin : ℕ → Leads → Type 0
 AreWithin n l = AllByRecursion (λ p. p < n) (points_of l)
+
+-- the points lie in the unit, the shape is one of the arena's, and there is room for a mark
+abbrev pub GoesOn : At → Effect → Type 0
+GoesOn a e =
+    AreWithin a.header.now.instructions e.leads
+    × IsIn a.arena.now e.shape
+    × (IsSome e.mark → length (shape_in a.arena.now e.shape) < max_entries)
+
+-- what an instruction does in a unit, at a point, to a shape
+abbrev pub Doing : Type 0
+Doing = Section → ℕ → Shape → Result effects.Leads Flaw
+
+-- the instruction does that here
+abbrev pub Does : At → Result Effect EffectError → Doing → Type 0
+Does a result doing =
+    ((u : Section) → a.header.now ≡ header_of u
+    → EffectGives a.arena.now result (doing u a.point (shape_in a.arena.now a.shape)))
+    × IfOk result (GoesOn a)

@@ -1,5 +1,7 @@
 -- What only private clauses cite: what is known of a unit while it is verified.
-use Rattle.std.specs.Prelude.{◌≡◌, ◌≢◌, ◌⊎◌, ℕ, ◌+◌, ◌<◌, ◌≤◌, Bool, true, false, List, [], ◌∷◌, ◌++◌, length, map, Option, Some, None, option_map, unwrap_or, Result, Ok, Err, slice_get}
+use Rattle.std.specs.Prelude.{◌≡◌, ◌⊎◌, ℕ, ◌+◌, ◌<◌, ◌≤◌, Bool, true, false, List, [], ◌∷◌, ◌++◌}
+use Rattle.std.specs.Prelude.{length, map, Option, Some, None, option_map, unwrap_or}
+use Rattle.std.specs.Prelude.{Result, Ok, Err, slice_get}
 use Rattle.std.specs.List.{AllByRecursion}
 use Rattle.jt_image.specs.declared.kind.Flaw.{Flaw}
 use Rattle.jt_image.specs.declared.kind.Flaw.TheVariants as flaw
@@ -10,6 +12,7 @@ use Rattle.jt_image.specs.Effect as effects
 use Rattle.jt_image.specs.Effect.{Shape, effect_at}
 use Rattle.jt_image.specs.Typed.{Shapes, Reaches, max_entries}
 use Rattle.jt_verify.specs.Typing.{as_list, points_of, IsTall}
+use Rattle.jt_verify.specs.Differing.{IsTooDeep, DifferBy}
 use Rattle.jt_verify.specs.Refusing.{HoldsAt}
 use Rattle.jt_verify.specs.declared.typing.Leads.{Leads}
 use Rattle.jt_verify.specs.declared.refusal.Refusal.{Refusal}
@@ -21,7 +24,8 @@ use Rattle.jt_verify.specs.Arena.{Lists, shape_in, IsIn}
 
 -- a unit of a code; one outside its table is empty, but none is asked for
 abbrev pub unit_of : Code → ℕ → Section
-unit_of k n = unwrap_or (slice_get k.units n) (record { parameters = 0; kind = 0; locals = 0; code = [] })
+unit_of k n =
+    unwrap_or (slice_get k.units n) (record { parameters = 0; kind = 0; locals = 0; code = [] })
 
 -- there is such a unit, with these numbers
 pub record IsUnit (k : Code) (n : ℕ) (h : UnitHeader) : Type 0 where
@@ -64,7 +68,8 @@ abbrev pub IsDue : Table → List Path → Shape → ℕ → Type 0
 IsDue t w s q = (shape_at t q ≡ Some s) ⊎ Waits w s q
 
 -- the effect at a point has no flaw, and what it gives is due at each successor
-pub record IsFollowed (k : Code) (u : Section) (t : Table) (w : List Path) (p : ℕ) (s : Shape) : Type 0 where
+pub record IsFollowed (k : Code) (u : Section) (t : Table) (w : List Path) (p : ℕ) (s : Shape)
+    : Type 0 where
   pub leads : effects.Leads
   pub effect : effect_at k u p s ≡ Ok leads
   pub due : AllByRecursion (IsDue t w leads.shape) leads.points
@@ -89,22 +94,23 @@ Arrives t x false = (length x.shape ≤ max_entries) × (shape_at t x.point ≡ 
 
 -- why a shape may not come to a point, where a shape may be known
 abbrev pub ClashesAt : Option Shape → Shape → Flaw → Type 0
-ClashesAt o s flaw.TooDeep = max_entries < length s
-ClashesAt (Some r) s flaw.DepthDiffers = length r ≢ length s
-ClashesAt (Some r) s flaw.KindDiffers = (length r ≡ length s) × (r ≢ s)
-ClashesAt o s f = ⊥
+ClashesAt o s f = IsTooDeep s f ⊎ ((r : Shape) × (o ≡ Some r) × DifferBy r s f)
 
 -- a path may not end at its point
 abbrev pub Clashes : Table → ℕ → Path → Refusal → Type 0
-Clashes t n x r = (f : Flaw) × (r ≡ refusal.Flaw f n x.point) × ClashesAt (shape_at t x.point) x.shape f
+Clashes t n x r =
+    (f : Flaw) × (r ≡ refusal.Flaw f n x.point) × ClashesAt (shape_at t x.point) x.shape f
 
 -- the effect at a point has the flaw, or it leads to q with a shape that is too long
 abbrev pub StepFlaw : Code → Section → ℕ → Shape → Flaw → ℕ → Type 0
-StepFlaw k u p s f q = ((q ≡ p) × (effect_at k u p s ≡ Err f)) ⊎ ((f ≡ flaw.TooDeep) × IsTall q (effect_at k u p s))
+StepFlaw k u p s f q =
+    ((q ≡ p) × (effect_at k u p s ≡ Err f))
+    ⊎ ((f ≡ flaw.TooDeep) × IsTall q (effect_at k u p s))
 
 -- the effect at a point of unit n
 abbrev pub Steps : Lists → Code → Section → ℕ → ℕ → Shape → Result After Refusal → Type 0
-Steps t k u n p s (Ok a) = effect_at k u p s ≡ Ok (record { shape = shape_in t a.shape; points = points_of a.leads })
+Steps t k u n p s (Ok a) =
+    effect_at k u p s ≡ Ok (record { shape = shape_in t a.shape; points = points_of a.leads })
 Steps t k u n p s (Err (refusal.Flaw f m q)) = (m ≡ n) × StepFlaw k u p s f q
 Steps t k u n p s (Err refusal.NoMemory) = Unit {0}
 
@@ -138,7 +144,8 @@ IsInIf t None = Unit {0}
 IsInIf t (Some h) = IsIn t h
 
 -- all handles are the arena's, and what they stand for is what is known of the unit
-pub record Works (k : Code) (u : Section) (t : Lists) (hs : List (Option Handle)) (w : List Waiting) : Type 0 where
+pub record Works (k : Code) (u : Section) (t : Lists) (hs : List (Option Handle)) (w : List Waiting)
+    : Type 0 where
   pub table : AllByRecursion (IsInIf t) hs
   pub paths : AllByRecursion (IsInPath t) w
   pub working : IsWorking k u (table_in t hs) (paths_in t w)

@@ -1,10 +1,10 @@
 //! The shapes of a unit, each kept once.
-ghost use Rattle.std.specs.Prelude.{◌≡◌, ◌≢◌, ℕ, ◌+◌, ◌-◌, ◌^◌, ◌<◌, ◌≤◌, [], ◌∷◌, ◌++◌, length, slice_get, slice_set, IfOk, OnOk, OnErr, MatchBool};
+ghost use Rattle.std.specs.Prelude.{◌≡◌, ◌≢◌, ℕ, List, ◌+◌, ◌-◌, ◌^◌, ◌<◌, ◌≤◌, [], ◌∷◌, ◌++◌, length, slice_get, slice_set, IfOk, OnOk, OnErr, MatchBool};
 ghost use Rattle.jt_image.specs.Effect.{may_return, pushes};
 ghost use Rattle.jt_image.specs.Typed.{max_entries};
 ghost use Rattle.jt_verify.specs.Arena.{shape_in, IsIn, IsKept, StandsFor, Pops, PopsMany, kind_of, lists_of, IsArena};
 
-use crate::links::{Handle, Link, Mark, Node, digits, find, height_of, is_same, jump_on, node_at};
+use crate::links::{Handle, Link, Mark, Node, digits, find, is_same, jump_on, node_at, node_of};
 use jt_image::{Flaw, Kind};
 use smallvec::SmallVec;
 use std::alloc::{AllocError, Global};
@@ -14,7 +14,8 @@ use std::marker::Model;
 #[derive(Drop)]
 pub(crate) struct Arena {
     nodes: SmallVec<Node, 32>,
-    // three of each number of a node, and of 0: to the first mark on it, and to two further ones on what it stands on
+    // three of each number of a node, and of 0: to the first mark on it, and to two further ones on
+    // what it stands on
     links: SmallVec<u32, 128>,
 }
 
@@ -48,11 +49,7 @@ impl Arena {
         ensures length { result ≡ length (shape_in self.now shape) }
         ensures fits { result < 2 ^ 33 }
     {
-        let nodes = self.nodes.as_slice();
-        if shape.node == 0 {
-            return shape.values as usize;
-        }
-        shape.values as usize + node_at(nodes, shape.node).height as usize
+        shape.values as usize + node_of(self.nodes.as_slice(), shape.node).height as usize
     }
 
     /// Whether two shapes are equal.
@@ -126,32 +123,7 @@ impl Arena {
         requires { IsIn self.now shape }
         ensures { result ≡ slice_get (shape_in self.now shape) above }
     {
-        let nodes = self.nodes.as_slice();
-        let mut rest = shape;
-        let mut left = above;
-        'marks: while left >= rest.values && rest.node != 0 {
-            let node = node_at(nodes, rest.node);
-            let under = left - rest.values;
-            if under == 0 {
-                return Some(node.mark.kind());
-            }
-            let between = node.height - height_of(nodes, node.jump.to);
-            if under >= between {
-                left = under - between;
-                rest = Handle {
-                    values: 0,
-                    node: node.jump.to,
-                };
-            } else {
-                left = under - 1;
-                rest = node.below;
-            }
-        }
-        if left < rest.values {
-            Some(Kind::Value)
-        } else {
-            None
-        }
+        kind_in(self.nodes.as_slice(), shape, above)
     }
 
     /// A mark on top of a shape that is not too long, with what was there before.
@@ -166,6 +138,39 @@ impl Arena {
         let height = self.height(shape) as u32 + 1;
         let node = push_in(&mut self.nodes, &mut self.links, shape, mark, height)?;
         Ok(Handle { values: 0, node })
+    }
+}
+
+// The kind of the entry that has so many entries above it, by the nodes of an arena.
+fn kind_in(nodes: &[Node], shape: Handle, above: u32) -> Option<Kind>
+    requires arena { (ls : List ℕ) × IsArena nodes.now ls }
+    requires within { IsIn (lists_of nodes.now) shape }
+    ensures { result ≡ slice_get (shape_in (lists_of nodes.now) shape) above }
+{
+    let mut rest = shape;
+    let mut left = above;
+    'marks: while left >= rest.values && rest.node != 0 {
+        let node = node_at(nodes, rest.node);
+        let under = left - rest.values;
+        if under == 0 {
+            return Some(node.mark.kind());
+        }
+        let between = node.height - node_of(nodes, node.jump.to).height;
+        if under >= between {
+            left = under - between;
+            rest = Handle {
+                values: 0,
+                node: node.jump.to,
+            };
+        } else {
+            left = under - 1;
+            rest = node.below;
+        }
+    }
+    if left < rest.values {
+        Some(Kind::Value)
+    } else {
+        None
     }
 }
 

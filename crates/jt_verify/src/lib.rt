@@ -1,4 +1,5 @@
-//! Verifies codes: each point that is reached has one shape, and every instruction there is in order.
+//! Verifies codes: each point that is reached has one shape, and every instruction there is in
+//! order.
 #![tactic(auto)]
 
 mod arena;

@@ -1,11 +1,11 @@
 //! The nodes of an arena, and the links by which a node is found from the one that it stands on.
 ghost use Rattle.std.specs.Prelude.{◌≡◌, ◌≢◌, ◌+◌, ◌-◌, ◌*◌, ◌<◌, ◌≤◌, [], length, get_or, slice_get, Some, MatchBool};
-ghost use Rattle.jt_verify.specs.Arena.{kind_of, digit_of, lists_of, IsUnder, IsHeight, IsJump, AreJumps, AreLinks, Finding};
+ghost use Rattle.jt_verify.specs.Arena.{kind_of, digit_of, lists_of, IsUnder, IsAt, AreJumps, AreLinks, Finding};
 
 use jt_image::Kind;
 
 /// An entry that is no value.
-#[derive(Clone, Copy)]
+#[derive(Clone, Copy, PartialEq, Eq)]
 pub(crate) enum Mark {
     Frame,
     Capture,
@@ -23,7 +23,8 @@ impl Mark {
     }
 }
 
-/// A shape of an arena: so many values on top of a node. Number 0 is no node: nothing lies below the values.
+/// A shape of an arena: so many values on top of a node. Number 0 is no node: nothing lies below the
+/// values.
 #[derive(Clone, Copy)]
 pub(crate) struct Handle {
     pub(crate) values: u32,
@@ -37,7 +38,8 @@ pub(crate) struct Jump {
     pub(crate) over: u32,
 }
 
-/// An entry that is no value, the shape below it, the number of entries up to this one, and a way further down.
+/// An entry that is no value, the shape below it, the number of entries up to this one, and a way
+/// further down.
 #[derive(Clone, Copy)]
 pub(crate) struct Node {
     pub(crate) mark: Mark,
@@ -46,14 +48,23 @@ pub(crate) struct Node {
     pub(crate) jump: Jump,
 }
 
-impl Default for Node {
-    fn default() -> Node {
+impl Node {
+    // What stands for number 0.
+    fn none() -> Node
+        ensures { (result.height ≡ 0) × (result.jump.to ≡ 0) }
+    {
         Node {
             mark: Mark::Frame,
             below: Handle { values: 0, node: 0 },
             height: 0,
             jump: Jump { to: 0, over: 0 },
         }
+    }
+}
+
+impl Default for Node {
+    fn default() -> Node {
+        Node::none()
     }
 }
 
@@ -71,16 +82,6 @@ pub(crate) fn is_same(left: Handle, right: Handle) -> bool
     left.values == right.values && left.node == right.node
 }
 
-// Whether two marks are the same.
-fn is_same_mark(left: Mark, right: Mark) -> bool
-    ensures { MatchBool result (left ≡ right) (left ≢ right) }
-{
-    matches!(
-        (left, right),
-        (Mark::Frame, Mark::Frame) | (Mark::Capture, Mark::Capture)
-    )
-}
-
 /// The node of a number.
 pub(crate) fn node_at(nodes: &[Node], node: u32) -> Node
     requires some { 0 < node }
@@ -90,37 +91,27 @@ pub(crate) fn node_at(nodes: &[Node], node: u32) -> Node
     nodes[node as usize - 1]
 }
 
-/// The number of entries up to a node.
-pub(crate) fn height_of(nodes: &[Node], node: u32) -> u32
+/// The node of a number. Number 0 is none: no entries lead up to it, and no way leads down.
+pub(crate) fn node_of(nodes: &[Node], node: u32) -> Node
     requires { node ≤ length nodes.now }
-    ensures { IsHeight nodes.now node result }
+    ensures { IsAt nodes.now node result }
 {
     if node == 0 {
-        return 0;
+        return Node::none();
     }
-    node_at(nodes, node).height
+    node_at(nodes, node)
 }
 
-// The way down from a node; there is none from number 0.
-fn jump_of(nodes: &[Node], node: u32) -> Jump
-    requires { node ≤ length nodes.now }
-    ensures { IsJump nodes.now node result }
-{
-    if node == 0 {
-        return Jump { to: 0, over: 0 };
-    }
-    node_at(nodes, node).jump
-}
-
-/// The way down for a new node on this one: two ways of one length become one, so that from any node a few steps lead to any node below.
+/// The way down for a new node on this one: two ways of one length become one, so that from any node
+/// a few steps lead to any node below.
 pub(crate) fn jump_on(nodes: &[Node], below: u32) -> Jump
     requires within { below ≤ length nodes.now }
     requires jumps { AreJumps nodes.now }
     ensures older { result.to ≤ below }
     ensures under { IsUnder (lists_of nodes.now) result.to (get_or (lists_of nodes.now) below []) }
 {
-    let near = jump_of(nodes, below);
-    let far = jump_of(nodes, near.to);
+    let near = node_of(nodes, below).jump;
+    let far = node_of(nodes, near.to).jump;
     if near.over == far.over {
         return Jump {
             to: far.to,
@@ -143,10 +134,11 @@ fn is_entry(node: Node, mark: Mark, below: Handle) -> bool
     ensures { MatchBool result ((node.mark ≡ mark) × (node.below ≡ below))
         (node.mark ≡ mark → node.below ≢ below) }
 {
-    is_same_mark(node.mark, mark) && is_same(node.below, below)
+    node.mark == mark && is_same(node.below, below)
 }
 
-/// The digits by which a mark is looked up among those on one node: the mark's, then those of the number of values between.
+/// The digits by which a mark is looked up among those on one node: the mark's, then those of the
+/// number of values between.
 pub(crate) fn digits(mark: Mark, values: u32) -> usize
     ensures { result ≡ 2 * values + digit_of mark }
 {
@@ -156,7 +148,8 @@ pub(crate) fn digits(mark: Mark, values: u32) -> usize
     }
 }
 
-/// Looks a mark on a shape up, from a place on: at each node that is another one, the next digit says by which link to go on.
+/// Looks a mark on a shape up, from a place on: at each node that is another one, the next digit says
+/// by which link to go on.
 pub(crate) fn find(
     nodes: &[Node],
     links: &[u32],

@@ -1,5 +1,5 @@
 //! Shapes: the kinds of the entries of an activation.
-ghost use Rattle.std.specs.Prelude.{◌≡◌, ◌≢◌, [], ◌∷◌, length, OnOk, OnErr, MatchBool, MatchResult};
+ghost use Rattle.std.specs.Prelude.{◌≡◌, [], ◌∷◌, length, OnOk, OnErr, MatchResult};
 ghost use Rattle.jt_verify.specs.Differing.{Differ};
 
 use crate::refusal::Refusal;
@@ -9,33 +9,11 @@ use smallvec::SmallVec;
 use std::alloc::Global;
 use std::marker::Model;
 
-/// The kind of an entry.
-#[derive(Clone, Copy)]
-struct Entry {
-    kind: Kind,
-}
-
-impl Model for Entry {
-    ghost use Rattle.jt_image.specs.declared.kind.Kind.{Kind};
-
-    ghost Value = { Kind };
-
-    ghost view = { λ e. e.kind };
-
-    ghost inverse = { λ k. record { kind = k } };
-}
-
-impl Default for Entry {
-    fn default() -> Entry {
-        Entry { kind: Kind::Value }
-    }
-}
-
 /// The kinds of the entries. Contracts see the top first.
 #[derive(Drop)]
 pub struct Shape {
     // the top is last; none until an allocator comes with the first entry
-    entries: Option<SmallVec<Entry, 32>>,
+    entries: Option<SmallVec<Kind, 32>>,
 }
 
 impl Model for Shape {
@@ -73,16 +51,10 @@ impl Shape {
         ensures err { OnErr result (self.new ≡ self.old) }
     {
         match &mut self.entries {
-            Some(entries) => {
-                if entries.push(Entry { kind }).is_err() {
-                    return Err(NoMemory);
-                }
-            }
+            Some(entries) => entries.push(kind)?,
             None => {
                 let mut entries = SmallVec::new(alloc);
-                if entries.push(Entry { kind }).is_err() {
-                    return Err(NoMemory);
-                }
+                entries.push(kind)?;
                 self.entries = Some(entries);
             }
         }
@@ -90,31 +62,8 @@ impl Shape {
     }
 }
 
-// Whether two kinds are the same.
-fn is_same(left: Kind, right: Kind) -> bool
-    ensures { MatchBool result (left ≡ right) (left ≢ right) }
-{
-    matches!(
-        (left, right),
-        (Kind::Value, Kind::Value) | (Kind::Frame, Kind::Frame) | (Kind::Capture, Kind::Capture)
-    )
-}
-
-// Whether lists of one length have the same kinds.
-fn are_same(left: &[Entry], right: &[Entry]) -> bool
-    requires { length left.now ≡ length right.now }
-    ensures { MatchBool result (left.now ≡ right.now) (left.now ≢ right.now) }
-{
-    'entries: for index in 0..left.len() {
-        let (ours, theirs) = (left[index], right[index]);
-        if !is_same(ours.kind, theirs.kind) {
-            return false;
-        }
-    }
-    true
-}
-
-/// Joins two paths that meet: their shapes have to be equal. `join` knows no place, so a refusal names unit 0 and point 0.
+/// Joins two paths that meet: their shapes have to be equal. `join` knows no place, so a refusal names
+/// unit 0 and point 0.
 pub fn join(left: &Shape, right: &Shape) -> Result<(), Refusal>
     ensures { MatchResult result (λ _. left.now ≡ right.now) (λ e. Differ left.now right.now e) }
 {
@@ -128,7 +77,7 @@ pub fn join(left: &Shape, right: &Shape) -> Result<(), Refusal>
     let (Some(left), Some(right)) = (&left.entries, &right.entries) else {
         return Ok(());
     };
-    if !are_same(left.as_slice(), right.as_slice()) {
+    if left.as_slice() != right.as_slice() {
         return Err(Refusal::Flaw {
             flaw: Flaw::KindDiffers,
             unit: 0,

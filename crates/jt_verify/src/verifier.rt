@@ -1,5 +1,6 @@
-//! The verifier: it follows each path through a unit, and keeps the shape of each point that it comes to.
-ghost use Rattle.std.specs.Prelude.{◌≡◌, ◌<◌, ◌≤◌, [], ◌∷◌, ◌++◌, None, length, replicate, IfOk, IfErr, OnOk, MatchResult};
+//! The verifier: it follows each path through a unit, and keeps the shape of each point that it
+//! comes to.
+ghost use Rattle.std.specs.Prelude.{◌≡◌, ◌<◌, ◌≤◌, [], ◌∷◌, ◌++◌, length, IfOk, IfErr, OnOk, MatchResult};
 ghost use Rattle.std.specs.List.{AllByRecursion};
 ghost use Rattle.jt_image.specs.IsCode.{IsCode};
 ghost use Rattle.jt_image.specs.Typed.{IsTyped, IsTypedUnit, Equal, max_entries};
@@ -12,7 +13,7 @@ ghost use Rattle.jt_verify.specs.Refusing.{RefusalHolds};
 use crate::arena::Arena;
 use crate::links::Handle;
 use crate::refusal::Refusal;
-use crate::typing::{At, EffectError, Leads, effect};
+use crate::typing::{At, EffectError, Leads};
 use jt_image::{Code, Flaw, MAX_ENTRIES, UnitHeader};
 use std::alloc::{AllocError, Global};
 
@@ -104,7 +105,7 @@ fn step<C: Code>(
         point,
         shape: path.shape,
     };
-    let found = match effect(code, at, instruction) {
+    let found = match at.effect(code, instruction) {
         Ok(found) => found,
         Err(EffectError::Flaw(flaw)) => return Err(Refusal::Flaw { flaw, unit, point }),
         Err(EffectError::TooTall(point)) => {
@@ -143,17 +144,17 @@ fn follow<C: Code>(
     unit: usize,
     header: &UnitHeader,
     path: Path,
-    shapes: &mut Vec<Option<Handle>>,
+    shapes: &mut [Option<Handle>],
     paths: &mut Vec<Path>,
 ) -> Result<(), Refusal>
     requires unit { IsUnit (C.code code.now) unit header.now }
     requires works { Works (C.code code.now) (unit_of (C.code code.now) unit) arena.old
-        shapes.old.items (paths.old.items ++ path ∷ []) }
+        shapes.old (paths.old.items ++ path ∷ []) }
     ensures ok { OnOk result (Works (C.code code.now) (unit_of (C.code code.now) unit) arena.new
-        shapes.new.items paths.new.items) }
-    ensures less { OnOk result (work_left (table_in arena.new shapes.new.items)
+        shapes.new paths.new.items) }
+    ensures less { OnOk result (work_left (table_in arena.new shapes.new)
         (paths_in arena.new paths.new.items)
-        < work_left (table_in arena.old shapes.old.items)
+        < work_left (table_in arena.old shapes.old)
         (paths_in arena.old (paths.old.items ++ path ∷ []))) }
     ensures err { IfErr result
         (λ e. RefusesUnit (C.code code.now) (unit_of (C.code code.now) unit) unit e) }
@@ -166,17 +167,6 @@ fn follow<C: Code>(
     shapes[path.point] = Some(path.shape);
     send(paths, after.leads, after.shape)?;
     Ok(())
-}
-
-// Nothing is known yet.
-fn unknown_shapes(alloc: Global, len: usize) -> Result<Vec<Option<Handle>>, AllocError>
-    ensures { IfOk result (λ t. t.items ≡ replicate len None) }
-{
-    let mut shapes: Vec<Option<Handle>> = Vec::with_capacity(alloc, len)?;
-    'shapes: for _ in 0..len {
-        shapes.push(None)?;
-    }
-    Ok(shapes)
 }
 
 // Follows all paths of a unit.
@@ -200,7 +190,7 @@ fn verify_unit<C: Code>(
         });
     }
     let mut arena = Arena::new(alloc)?;
-    let mut shapes = unknown_shapes(alloc, header.instructions)?;
+    let mut shapes: Vec<Option<Handle>> = vec![in alloc; None; header.instructions]?;
     let mut paths: Vec<Path> = Vec::new(alloc);
     paths.push(Path {
         point: 0,
@@ -220,7 +210,8 @@ fn verify_unit<C: Code>(
     Ok(())
 }
 
-/// Accepts a code exactly where it is in order. Every unit is verified, from the first on, called or not.
+/// Accepts a code exactly where it is in order. Every unit is verified, from the first on, called or
+/// not.
 pub fn verify_code<C: Code>(alloc: Global, code: &C) -> Result<(), Refusal>
     // A code that is accepted is typed.
     ensures ok { OnOk result (IsTyped (C.code code.now)) }

@@ -3,16 +3,14 @@ use Rattle.jt_verify.specs.Arena.{lists_of}
 use Rattle.jt_verify.proofs.Ways.{under_same, jump_is, further}
 use Rattle.jt_verify.proofs.links.jump_on.Goals as goal
 
-pub jump_of-far-requires : goal.jump_of-far-requires
-jump_of-far-requires c =
-    let way = jump_is c.args.nodes.now c.requires.jumps c.args.below c.jump_of-near.result c.jump_of-near.ensures in
-    omega (arith, way.0, c.requires.within)
+pub node_of-requires-2 : goal.node_of-requires-2
+node_of-requires-2 c = omega (arith, (jump_is c.args.nodes.now c.requires.jumps c.args.below c.node_of.result c.node_of.ensures).0, c.requires.within)
 
 pub returns-then-near-far-clause-older : goal.returns-then-near-far-clause-older
-returns-then-near-far-clause-older c = (further c.args.nodes.now c.requires.jumps c.args.below c.jump_of-near.result c.jump_of-far.result c.jump_of-near.ensures c.jump_of-far.ensures).0
+returns-then-near-far-clause-older c = (further c.args.nodes.now c.requires.jumps c.args.below c.node_of.result c.node_of-2.result c.node_of.ensures c.node_of-2.ensures).0
 
 pub returns-then-near-far-clause-under : goal.returns-then-near-far-clause-under
-returns-then-near-far-clause-under c = (further c.args.nodes.now c.requires.jumps c.args.below c.jump_of-near.result c.jump_of-far.result c.jump_of-near.ensures c.jump_of-far.ensures).1
+returns-then-near-far-clause-under c = (further c.args.nodes.now c.requires.jumps c.args.below c.node_of.result c.node_of-2.result c.node_of.ensures c.node_of-2.ensures).1
 
 pub returns-clause-under : goal.returns-clause-under
 returns-clause-under c = under_same (lists_of c.args.nodes.now) c.args.below

@@ -1,5 +1,6 @@
 use Rattle.std.proofs.Common.{arith, rules, sym, ◌∙◌}
-use Rattle.jt_verify.proofs.Tables.{some_section, section_within}
+use Rattle.std.proofs.lemmas.Option.{slice_get_within}
+use Rattle.jt_verify.proofs.Tables.{some_section}
 use Rattle.jt_verify.proofs.Refused.{unit_refused, exact}
 use Rattle.jt_verify.proofs.verifier.verify_code.Goals as goal
 
@@ -12,4 +13,4 @@ returns-in_err-verify_unit-clause-exact g c =
     search (rules, e)
 
 pub returns-clause-ok : goal.returns-clause-ok
-returns-clause-ok g c = λ n u e. c.units.invariant n u (omega (arith, section_within _ n u e, c.units-test.false, c.units-unit-end.ensures.count)) e
+returns-clause-ok g c = λ n u e. c.units.invariant n u (omega (arith, slice_get_within _ n u e, c.units-test.false, c.units-unit-end.ensures.count)) e

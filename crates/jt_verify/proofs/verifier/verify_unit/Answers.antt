@@ -1,4 +1,4 @@
-use Rattle.std.proofs.Common.{arith, ap}
+use Rattle.std.proofs.Common.{arith, ap, rules}
 use Rattle.jt_image.specs.declared.code.UnitHeader.{UnitHeader}
 use Rattle.jt_verify.specs.Working.{unit_of}
 use Rattle.jt_verify.proofs.Walking.{works_at_start, works_done}
@@ -16,7 +16,8 @@ paths-init g c =
     let k = g.C.Code.code c.args.code.now in
     let len = ap (λ (h : UnitHeader). h.instructions) c.requires.unit.header in
     let i = works_at_start k (unit_of k c.args.unit) c.args.header.now.instructions len (omega (arith, c.if-header-eq0.false)) in
-    rw (c.in_ok-push.ensures.items, c.new-paths.ensures.items, c.in_ok-shapes.ensures, c.in_ok-arena.ensures) i
+    let unknown = c.in_ok-shapes.ensures.items_if_clones_equal (search rules) in
+    rw (c.in_ok-push.ensures.items, c.new-paths.ensures.items, unknown, c.in_ok-arena.ensures) i
 
 pub returns-clause-ok : goal.returns-clause-ok
 returns-clause-ok g c =

@@ -7,5 +7,5 @@ pub returns : goal.returns
 returns c =
     let left = c.args.left in
     let right = c.args.right in
-    let is = equal_is c.self.inside.nodes.items c.self.inside.links.items c.self.invariant c.is_same.result left right in
+    let is = equal_is c.self.invariant c.is_same.result left right in
     subst (λ (t : Lists). IsIn t left → IsIn t right → MatchBool c.is_same.result (shape_in t left ≡ shape_in t right) (shape_in t left ≢ shape_in t right)) c.self.view_is (λ l m. is l m c.is_same.ensures) c.requires.left c.requires.right

@@ -18,12 +18,11 @@ returns-then-count-shape c =
 
 pub returns-then-shape-eq0 : goal.returns-then-shape-eq0
 returns-then-shape-eq0 c =
-    let is = pops_nothing c.self.inside.nodes.items c.self.inside.links.items c.self.invariant c.args.shape c.args.count (omega (arith, c.if-count-shape.false)) c.if-shape-eq0.true in
+    let is = pops_nothing c.self.invariant c.args.shape c.args.count (omega (arith, c.if-count-shape.false)) c.if-shape-eq0.true in
     subst (λ (t : Lists). (go : Shape → Result Leads Flaw) → pops_many c.args.count (shape_in t c.args.shape) go ≡ Err flaw.MissingOperand) c.self.view_is is
 
 pub returns : goal.returns
 returns c =
-    let ns = c.self.inside.nodes.items in
     let within = subst (λ (t : Lists). IsIn t c.args.shape) (sym c.self.view_is) c.requires in
-    let is = pops_a_mark ns c.self.inside.links.items c.self.invariant c.args.shape c.args.count (omega (arith, c.if-count-shape.false)) (omega (arith, c.if-shape-eq0.false)) within in
+    let is = pops_a_mark c.self.invariant c.args.shape c.args.count (omega (arith, c.if-count-shape.false)) (omega (arith, c.if-shape-eq0.false)) within in
     subst (λ (t : Lists). (go : Shape → Result Leads Flaw) → pops_many c.args.count (shape_in t c.args.shape) go ≡ Err flaw.WrongKind) c.self.view_is is
