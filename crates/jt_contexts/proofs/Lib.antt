@@ -1,2 +1,3 @@
 mod Members
+mod KeyOrder
 mod Turns

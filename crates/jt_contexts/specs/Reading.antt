@@ -1,14 +1,13 @@
 -- What only private clauses cite: what tokens spell, read one after another.
-use Rattle.std.specs.Prelude.{◌≡◌, ℕ, List, length, map, Option, Some, String}
+use Rattle.std.specs.Prelude.{◌≡◌, ℕ, List, length, Some, String}
 use Rattle.std.specs.declared.alloc.Global.{Global}
 use Rattle.json.specs.Token.{Token}
 use Rattle.json.specs.Json.{value, items, members}
 use Rattle.serde_json.specs.Data.{Data, Items, Members, no_members}
 use Rattle.serde_json.specs.Read.{of_json, of_items, of_members, converted}
-use Rattle.jt_value.specs.Tree as tree
 use Rattle.jt_value.specs.Tree.{Tree}
 use Rattle.jt_value.specs.Pairs.{pairs}
-use Rattle.jt_value.specs.View.{view, items_view}
+use Rattle.jt_value.specs.View.{items_view}
 use Rattle.jt_value.specs.declared.value.Value.{Value}
 use Rattle.jt_contexts.specs.Json.{value_of, items_of, pairs_in}
 

@@ -10,7 +10,6 @@ ghost use Rattle.jt_contexts.specs.Json.{IsContext, Holds, Flaw, ItemsFlaw, Memb
 use crate::error::ContextError;
 use crate::numbers::number_value;
 use crate::reading::{Unread, read_context};
-use indexmap::IndexMap;
 use jt_value::{Context, Value};
 use serde_json::Map;
 use std::alloc::Global;
@@ -91,7 +90,9 @@ fn value_of(alloc: Global, json: serde_json::Value) -> Result<Value, ContextErro
         serde_json::Value::Number(number) => number_value(&number),
         serde_json::Value::String(text) => Ok(Value::from_text(text)?),
         serde_json::Value::Array(items) => Ok(Value::list(alloc, items_of(alloc, items)?)?),
-        serde_json::Value::Object(members) => Ok(Value::map(alloc, entries_of(alloc, members)?)?),
+        serde_json::Value::Object(members) => {
+            Ok(Value::from_entries(alloc, entries_of(alloc, members)?)?)
+        }
     }
 }
 
@@ -114,17 +115,15 @@ fn items_of(alloc: Global, items: Vec<serde_json::Value>) -> Result<Vec<Value>, 
 fn entries_of(
     alloc: Global,
     members: Map<String, serde_json::Value>,
-) -> Result<IndexMap<String, Value>, ContextError>
+) -> Result<Vec<(String, Value)>, ContextError>
     ensures ok { IfOk result
-        (λ m. entries_of_json (members_view members.entries) ≡ Some (entries_view m.entries)) }
+        (λ es. entries_of_json (members_view members.entries) ≡ Some (entries_view es.items)) }
     ensures err { IfErr result (MembersFlaw (members_view members.entries)) }
 {
-    let mut entries = IndexMap::new(alloc);
+    let mut entries = Vec::with_capacity(alloc, members.len())?;
     for (key, member) in members {
         let value = value_of(alloc, member)?;
-        if entries.insert(key, value).is_err() {
-            return Err(ContextError::NoMemory);
-        }
+        entries.push((key, value))?;
     }
     Ok(entries)
 }

@@ -4,6 +4,7 @@
 mod contexts;
 mod error;
 mod numbers;
+mod ordering;
 mod reading;
 
 pub use contexts::context_from_json;

@@ -1,17 +1,19 @@
 //! Contexts read in one pass over the tokens of JSON.
 ghost use Rattle.std.specs.Prelude.{◌≡◌, ◌<◌, length, Some, IfOk, OnOk};
+ghost use Rattle.std.specs.List.Sorted.{IsStrictlySortedBy};
+ghost use Rattle.std.specs.Map.{keys_of};
+ghost use Rattle.std.specs.String.{string_cmp};
 ghost use Rattle.jt_value.specs.ContextView.{pairs_of};
 ghost use Rattle.jt_value.specs.Pairs.{pairs};
 ghost use Rattle.jt_value.specs.Tree as tree;
-ghost use Rattle.jt_value.specs.View.{view, entries_view};
+ghost use Rattle.jt_value.specs.View.{view};
 ghost use Rattle.jt_contexts.specs.Json.{IsContext};
 ghost use Rattle.jt_contexts.specs.Reading.{Spells, SpellsItems, SpellsMembers};
 
 use crate::numbers::whole_number;
-use indexmap::IndexMap;
+use crate::ordering::{FEW, in_order};
 use json::{Invalid, Reader, Scratch, Token};
 use jt_value::{Context, NoMemory, Value};
-use serde_json::Map;
 use std::alloc::{AllocError, AllocFailed, Global};
 
 const MAX_DEPTH: usize = 127;
@@ -58,37 +60,25 @@ pub(crate) fn read_context(alloc: Global, text: &str) -> Result<Context, Unread>
     let Some(Token::BeginObject) = reader.next() else {
         return Err(Unread::NoContext);
     };
-    let found = read_members(alloc, &mut reader, MAX_DEPTH - 1)?;
+    let members = read_members(alloc, &mut reader, MAX_DEPTH - 1)?;
     if reader.next().is_some() {
         return Err(Unread::NoContext);
     }
-    context_of(alloc, found)
+    context_of(alloc, members)
 }
 
 /// The context of members in the order of their names.
-fn context_of(alloc: Global, found: Map<String, Value>) -> Result<Context, Unread>
-    ensures { IfOk result (λ c. pairs_of c ≡ pairs found.entries) }
+fn context_of(alloc: Global, members: Vec<(String, Value)>) -> Result<Context, Unread>
+    requires { IsStrictlySortedBy string_cmp (keys_of members.items) }
+    ensures { IfOk result (λ c. pairs_of c ≡ pairs members.items) }
 {
     let mut context = Context::new(alloc);
-    for (name, value) in found {
+    for (name, value) in members {
         if context.insert(name, value).is_err() {
             return Err(Unread::NoMemory);
         }
     }
     Ok(context)
-}
-
-/// The map of members in the order of their keys.
-fn map_of(alloc: Global, found: Map<String, Value>) -> Result<Value, Unread>
-    ensures { IfOk result (λ v. view v ≡ tree.map (entries_view found.entries)) }
-{
-    let mut entries = IndexMap::with_capacity(alloc, found.len())?;
-    for (key, value) in found {
-        if entries.insert(key, value).is_err() {
-            return Err(Unread::NoMemory);
-        }
-    }
-    Ok(Value::map(alloc, entries)?)
 }
 
 /// The value that the next tokens spell, nested no deeper than the number.
@@ -112,8 +102,8 @@ fn read(alloc: Global, reader: &mut Reader<'_>, depth: usize) -> Result<Value, U
             Ok(Value::list(alloc, items)?)
         }
         Token::BeginObject if depth > 0 => {
-            let found = read_members(alloc, reader, depth - 1)?;
-            map_of(alloc, found)
+            let members = read_members(alloc, reader, depth - 1)?;
+            Ok(Value::from_entries(alloc, members)?)
         }
         _ => Err(Unread::NoContext),
     }
@@ -142,15 +132,17 @@ fn read_members(
     alloc: Global,
     reader: &mut Reader<'_>,
     depth: usize,
-) -> Result<Map<String, Value>, Unread>
-    ensures ok { IfOk result (λ m. SpellsMembers depth reader.old m.entries reader.new) }
+) -> Result<Vec<(String, Value)>, Unread>
+    ensures ok { IfOk result (λ es. SpellsMembers depth reader.old es.items reader.new) }
+    ensures ordered { IfOk result (λ es. IsStrictlySortedBy string_cmp (keys_of es.items)) }
     ensures shorter { OnOk result (length reader.new < length reader.old) }
 {
-    let mut found = Map::new(alloc);
+    let mut found = Vec::with_capacity(alloc, FEW)?;
     'members: while let Some(name) = reader.next_key()? {
         let key = String::from_str(alloc, name)?;
         let member = read(alloc, reader, depth)?;
-        drop(found.insert(key, member)?);
+        found.push((key, member))?;
     }
-    Ok(found)
+    let members = in_order(alloc, found)?;
+    Ok(members)
 }

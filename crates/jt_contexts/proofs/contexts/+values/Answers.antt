@@ -1,16 +1,14 @@
-use Rattle.std.proofs.Common.{◌≡◌, ◌∙◌, ◌++◌, [], ◌∷◌, Some, ap, append_assoc, map, string_bytes, string_cmp, subst, sym, refl, append-nil}
-use Rattle.std.specs.List.Sorted.{IsStrictlySortedBy}
-use Rattle.std.specs.Map.{keys_of}
+use Rattle.std.proofs.Common.{◌≡◌, ◌∙◌, ◌++◌, [], ◌∷◌, Some, ap, append_assoc, map, string_bytes, sym, refl, append-nil}
 use Rattle.std.proofs.lemmas.List.{map-append}
 use Rattle.std.proofs.lemmas.Result.{err_from_is_err_and}
 use Rattle.jt_value.specs.Pairs.{pairs}
 use Rattle.jt_value.specs.View.{view}
-use Rattle.jt_contexts.proofs.Members.{Member, entries_from, item_flaw, items_from, member_flaw, nil_of, one_more, put_last, shown, unless_failed, value_in}
-use Rattle.jt_value.proofs.Names.{put-insert_entry}
+use Rattle.jt_contexts.specs.KeyOrder.{Entry}
+use Rattle.jt_contexts.proofs.Members.{Member, entries_from, item_flaw, items_from, member_flaw, nil_of, one_more, shown, value_in}
 use Rattle.jt_contexts.proofs.contexts.+values.Goals as goal
 
 pub entries_of-loop-key-init : goal.entries_of-loop-key-init
-entries_of-loop-key-init t c = (sym c.into_iter-key-iterator.ensures.into_iter_gives.0, ap (λ es. map Some (pairs es)) (sym c.new-entries.ensures.empty))
+entries_of-loop-key-init t c = (sym c.into_iter-key-iterator.ensures.into_iter_gives.0, ap (λ es. map Some (pairs es)) (sym c.in_ok-entries.ensures.items))
 
 pub entries_of-returns-in_err-value-clause-err : goal.entries_of-returns-in_err-value-clause-err
 entries_of-returns-in_err-value-clause-err t c =
@@ -18,7 +16,7 @@ entries_of-returns-in_err-value-clause-err t c =
     let m : Member = (c.in-Some.key, c.in-Some.member) in
     let left = c.next.new.self in
     let all : c.args.members.entries ≡ done ++ m ∷ left = c.loop-key.invariant.0 ∙ ap (λ es. done ++ es) c.in-Some.ensures.steps in
-    let p = err_from_is_err_and c.from_residual.result c.from_residual.ensures.1 in
+    let p = err_from_is_err_and c.from_residual-in_err-value.result c.from_residual-in_err-value.ensures.1 in
     rw (p.1, p.2, all) (member_flaw done m left c.in_err-value.field-0.0 c.in_err-value.ensures.err)
 
 pub entries_of-loop-key-preserved : goal.entries_of-loop-key-preserved
@@ -27,20 +25,18 @@ entries_of-loop-key-preserved t c =
     let m : Member = (c.in-Some.key, c.in-Some.member) in
     let left = c.next.new.self in
     let all : c.args.members.entries ≡ done ++ m ∷ left = c.loop-key.invariant.0 ∙ ap (λ es. done ++ es) c.in-Some.ensures.steps in
-    let ordered = subst (λ es. IsStrictlySortedBy string_cmp (keys_of es)) all c.into_iter-key-iterator.ensures.into_iter_gives.5 in
-    let new = unless_failed c.insert.result _ c.if-is_err.ensures.value c.insert.ensures.entries in
-    let old = pairs c.loop-key.entries.entries in
-    let last = put_last done m left old (view c.in_ok-value.value) ordered c.loop-key.invariant.1 in
-    let given : shown m ≡ Some (string_bytes c.in-Some.key, view c.in_ok-value.value) = rw c.in_ok-value.ensures.ok refl in
-    let now : pairs c.insert.new.self.entries ≡ old ++ (string_bytes c.in-Some.key, view c.in_ok-value.value) ∷ [] =
-    ap pairs new ∙ (put-insert_entry c.in-Some.key c.in_ok-value.value c.loop-key.entries.entries ∙ last) in
-    (all ∙ sym (append_assoc done (m ∷ []) left), rw now (one_more shown done old m (string_bytes c.in-Some.key, view c.in_ok-value.value) c.loop-key.invariant.1 given))
+    let x : Entry = (c.in-Some.key, c.in_ok-value.value) in
+    let old = pairs c.loop-key.entries.items in
+    let given : shown m ≡ Some (string_bytes x.0, view x.1) = rw c.in_ok-value.ensures.ok refl in
+    let now : pairs c.push.new.self.items ≡ old ++ (string_bytes x.0, view x.1) ∷ [] =
+    ap pairs c.in_ok-push.ensures.items ∙ map-append (λ e. (string_bytes e.0, view e.1)) c.loop-key.entries.items (x ∷ []) in
+    (all ∙ sym (append_assoc done (m ∷ []) left), rw now (one_more shown done old m (string_bytes x.0, view x.1) c.loop-key.invariant.1 given))
 
 pub entries_of-returns-clause-ok : goal.entries_of-returns-clause-ok
 entries_of-returns-clause-ok t c =
     let done = c.loop-key.yielded in
     let all : c.args.members.entries ≡ done = c.loop-key.invariant.0 ∙ (ap (λ es. done ++ es) c.in-None.ensures.steps.0 ∙ append-nil done) in
-    rw all (entries_from done c.loop-key.entries.entries c.loop-key.invariant.1)
+    rw all (entries_from done c.loop-key.entries.items c.loop-key.invariant.1)
 
 pub items_of-loop-item-init : goal.items_of-loop-item-init
 items_of-loop-item-init t c = (sym c.into_iter-item-iterator.ensures.into_iter_gives.0, ap (λ vs. map Some (map view vs)) (sym c.in_ok-values.ensures.items))

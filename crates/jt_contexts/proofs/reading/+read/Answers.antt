@@ -1,7 +1,8 @@
-use Rattle.std.proofs.Common.{◌≡◌, ◌∙◌, ◌++◌, ◌-◌, ◌<◌, ℤ, [], ◌∷◌, length, map, Option, Some, None, option_map, string_bytes, w64, sym, ap, refl, arith, rules}
+use Rattle.std.proofs.Common.{◌≡◌, ◌∙◌, ◌++◌, ◌-◌, ◌<◌, ℤ, [], ◌∷◌, length, map, Option, Some, None, option_map, string_bytes, string_cmp, subst, w64, sym, ap, refl, arith, rules}
 use mir.Val.{to_z, of_z}
+use Rattle.std.specs.List.Sorted.{IsStrictlySortedBy}
+use Rattle.std.specs.Map.{keys_of}
 use Rattle.std.proofs.lemmas.List.{map-append}
-use Rattle.std.proofs.lemmas.Result.{IfOk-weaker}
 use Rattle.json.specs.Token.{Token}
 use Rattle.json.specs.Json.{parse_map, after_end_array, read_key, items, members, value}
 use Rattle.json.specs.Reads.{token_of}
@@ -12,6 +13,8 @@ use Rattle.jt_value.specs.Tree as tree
 use Rattle.jt_value.specs.Pairs.{pairs}
 use Rattle.jt_value.specs.View.{view}
 use Rattle.jt_contexts.specs.Json.{value_of, pairs_in}
+use Rattle.jt_contexts.specs.KeyOrder.{in_order}
+use Rattle.jt_contexts.proofs.KeyOrder.{is_in_order, put_all-more}
 use Rattle.jt_contexts.proofs.Members.{one_more}
 use Rattle.jt_contexts.proofs.Turns.{all_items, before, converted-array, converted-object, entries_in, item_read, items_over, member_read, members_over, none_before, one_more_item, pairs-put, whole_data}
 use Rattle.jt_contexts.proofs.reading.+read.Goals as goal
@@ -69,17 +72,16 @@ read-returns-in_ok-list-in-BeginArray-clause-ok t c =
       is = ap (option_map tree.list) found.is ∙ ap Some (sym c.in_ok-list-in-BeginArray.ensures);
     }
 
-pub read-returns-in_ok-found-in-BeginObject-clause-ok : goal.read-returns-in_ok-found-in-BeginObject-clause-ok
-read-returns-in_ok-found-in-BeginObject-clause-ok t c =
+pub read-returns-in_ok-from_entries-in-BeginObject-clause-ok : goal.read-returns-in_ok-from_entries-in-BeginObject-clause-ok
+read-returns-in_ok-from_entries-in-BeginObject-clause-ok t c =
     let first : c.args.reader.now ≡ token_of c.in_ok-token.token ∷ c.next.new.self = grind arith in
     let opened = ap (converted of_json) (ap (value c.args.depth) (first ∙ ap (λ k. token_of k ∷ c.next.new.self) c.in-BeginObject.is) ∙ value-begin_object c.args.depth c.next.new.self (omega arith)) ∙ converted-object (members (value (c.args.depth - 1)) (length c.next.new.self) c.next.new.self) in
-    let found = c.in_ok-found-in-BeginObject.ensures.ok in
-    IfOk-weaker c.map_of.result _ _
-    (λ v h. record {
+    let found = c.in_ok-members-in-BeginObject.ensures.ok in
+    record {
       spelt = object found.spelt;
       read = opened ∙ ap (parse_map object) found.read;
-      is = ap (option_map tree.map) (entries_in found.spelt c.in_ok-found-in-BeginObject.found.entries found.is) ∙ ap Some (sym h);
-    }) c.map_of.ensures
+      is = ap (option_map tree.map) (entries_in found.spelt c.in_ok-members-in-BeginObject.members.items found.is) ∙ ap Some (sym c.in_ok-from_entries-in-BeginObject.ensures);
+    }
 
 pub read_items-items-init : goal.read_items-items-init
 read_items-items-init t c = record {
@@ -131,7 +133,7 @@ read_members-members-init t c = record {
   enough = omega arith;
   read = refl;
   shorter = omega arith;
-  are = ap (λ es. Some (pairs es)) (sym c.new-found.ensures.empty);
+  are = ap (λ es. Some (pairs (in_order es))) (sym c.in_ok-found.ensures.items);
 }
 
 pub read_members-members-preserved : goal.read_members-members-preserved
@@ -150,13 +152,14 @@ read_members-members-preserved t c =
     let lesser = done.shorter in
     let d = done.ok.spelt in
     let copied : string_bytes c.in_ok-key.key ≡ k = search rules in
+    let now = ap in_order c.in_ok-push.ensures.items ∙ put_all-more [] l.found.items (c.in_ok-key.key, v) in
     record {
       so_far = put k d old;
       turns = n - 1;
       enough = omega (arith, l.invariant.enough);
       read = l.invariant.read ∙ member_read p old n k l.reader s r d (omega (arith, l.invariant.enough)) named done.ok.read;
       shorter = omega (arith, l.invariant.shorter);
-      are = ap (λ name. pairs_in (put name d old)) (sym copied) ∙ pairs-put old l.found.entries c.in_ok-key.key d v l.invariant.are done.ok.is ∙ ap (λ es. Some (pairs es)) (sym c.in_ok-insert.ensures.entries);
+      are = ap (λ name. pairs_in (put name d old)) (sym copied) ∙ pairs-put old (in_order l.found.items) c.in_ok-key.key d v l.invariant.are done.ok.is ∙ ap (λ es. Some (pairs es)) (sym now);
     }
 
 pub read_members-returns-clause-ok : goal.read_members-returns-clause-ok
@@ -165,5 +168,8 @@ read_members-returns-clause-ok t c =
     record {
       spelt = l.invariant.so_far;
       read = l.invariant.read ∙ members_over (value c.args.depth) l.invariant.so_far l.invariant.turns l.reader c.next_key.new.self l.invariant.enough (grind arith);
-      is = l.invariant.are;
+      is = l.invariant.are ∙ ap (λ es. Some (pairs es)) (sym c.in_ok-members.ensures);
     }
+
+pub read_members-returns-clause-ordered : goal.read_members-returns-clause-ordered
+read_members-returns-clause-ordered t c = subst (λ es. IsStrictlySortedBy string_cmp (keys_of es)) (sym c.in_ok-members.ensures) (is_in_order c.members.found.items)

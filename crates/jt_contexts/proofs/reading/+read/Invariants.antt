@@ -6,6 +6,7 @@ use Rattle.jt_value.specs.Pairs.{pairs}
 use Rattle.jt_value.specs.View.{view}
 use Rattle.jt_contexts.specs.Json.{value_of, pairs_in}
 use Rattle.jt_contexts.proofs.Turns.{before}
+use Rattle.jt_contexts.specs.KeyOrder.{in_order}
 use Rattle.jt_contexts.proofs.reading.+read.Given as goal
 
 abbrev pub decreases-read : goal.decreases-read
@@ -39,7 +40,7 @@ invariant-read_members-members l = record {
   enough : length l.reader ≤ turns;
   read : converted (λ ms. of_members ms no_members) (members (value l.depth) (length l.initial.reader) l.initial.reader) ≡ converted (λ ms. of_members ms so_far) (members (value l.depth) turns l.reader);
   shorter : length l.reader ≤ length l.initial.reader;
-  are : pairs_in so_far ≡ Some (pairs l.found.entries);
+  are : pairs_in so_far ≡ Some (pairs (in_order l.found.items));
 }
 
 abbrev pub decreases-read_members-members : goal.decreases-read_members-members

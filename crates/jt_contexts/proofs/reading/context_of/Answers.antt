@@ -1,10 +1,9 @@
 use Rattle.std.proofs.Common.{◌≡◌, ◌∙◌, ◌++◌, [], ◌∷◌, ap, append_assoc, append-nil, string_bytes, string_cmp, subst, sym}
 use Rattle.std.specs.List.Sorted.{IsStrictlySortedBy}
 use Rattle.std.specs.Map.{keys_of}
-use Rattle.jt_value.specs.ContextView.{pairs_of}
 use Rattle.jt_value.specs.Pairs.{Pairs, pairs, put}
 use Rattle.jt_value.specs.View.{view}
-use Rattle.jt_contexts.proofs.Members.{unless_failed}
+use Rattle.jt_contexts.proofs.Members.{nil_of, unless_failed}
 use Rattle.jt_contexts.proofs.Turns.{Entry, put_last}
 use Rattle.jt_contexts.proofs.reading.context_of.Goals as goal
 
@@ -15,14 +14,16 @@ pub loop-name-preserved : goal.loop-name-preserved
 loop-name-preserved c =
     let done = c.loop-name.yielded in
     let m : Entry = (c.in-Some.name, c.in-Some.value) in
-    let left = c.next.new.self in
-    let all : c.args.found.entries ≡ done ++ m ∷ left = c.loop-name.invariant.0 ∙ ap (λ es. done ++ es) c.in-Some.ensures.steps in
-    let ordered = subst (λ es. IsStrictlySortedBy string_cmp (keys_of es)) all c.into_iter-name-iterator.ensures.into_iter_gives.5 in
+    let left = c.next.new.self.rest.items in
+    let all : c.args.members.items ≡ done ++ m ∷ left = c.loop-name.invariant.0 ∙ ap (λ es. done ++ es) c.in-Some.ensures.steps.0 in
+    let ordered = subst (λ es. IsStrictlySortedBy string_cmp (keys_of es)) all c.requires in
     let new = unless_failed c.insert.result _ c.if-is_err.ensures.value c.insert.ensures.ok in
     (all ∙ sym (append_assoc done (m ∷ []) left), new ∙ ap (λ (ps : Pairs). put (string_bytes c.in-Some.name) (view c.in-Some.value) ps) c.loop-name.invariant.1 ∙ put_last done m left ordered)
 
 pub returns : goal.returns
 returns c =
     let done = c.loop-name.yielded in
-    let all : c.args.found.entries ≡ done = c.loop-name.invariant.0 ∙ (ap (λ es. done ++ es) c.in-None.ensures.steps.0 ∙ append-nil done) in
+    let left = c.loop-name.name-iterator.rest in
+    let none : left.items ≡ [] = nil_of left.items left.len (sym left.ok.0) c.in-None.ensures.steps.0 in
+    let all : c.args.members.items ≡ done = c.loop-name.invariant.0 ∙ (ap (λ es. done ++ es) none ∙ append-nil done) in
     c.loop-name.invariant.1 ∙ ap pairs (sym all)

@@ -16,7 +16,7 @@ returns c =
     let behind = c.next.new.self in
     let begun : c.in_ok-reader.reader ≡ Token.begin_object ∷ behind = c.in-Some-BeginObject.ensures.value ∙ ap (λ k. token_of k ∷ behind) c.in-Some-BeginObject.field-0-is in
     let all : tokens text ≡ Token.begin_object ∷ behind = sym c.in_ok-reader.ensures.ok ∙ begun in
-    let found = c.in_ok-found.ensures.ok in
+    let found = c.in_ok-members.ensures.ok in
     let over : c.read_members.new.reader ≡ [] = search rules in
     let read =
     ap (converted of_json) (ap (value 127) all ∙ value-begin_object 127 behind (omega arith)) ∙ converted-object (members (value 126) (length behind) behind)
