@@ -3,7 +3,6 @@ use Rattle.std.proofs.Common.{◌≡◌, ◌≢◌, ℕ, zero, suc, ◌+◌, ◌
 use Rattle.std.specs.Prelude.{slice_get}
 use Rattle.std.proofs.lemmas.Option.{slice_get_within}
 use Rattle.std.proofs.lemmas.List.{length-append, get_or_append_left}
-use Rattle.jt_image.specs.declared.kind.Kind.{Kind}
 use Rattle.jt_image.specs.declared.kind.Flaw.{Flaw}
 use Rattle.jt_image.specs.declared.kind.Flaw.TheVariants as flaw
 use Rattle.jt_image.specs.Effect.{Shape, Leads, pops, pops_many, pushes}
@@ -43,12 +42,10 @@ module _ (ns : List Node) (ls : List ℕ) (m : Mark) (b : Handle) where
       same : suc k - 1 ≡ k
       same = omega arith
 
-      one : (x y : Node) → Some x ≡ Some y → x ≡ y
-      one x y q = cc
-
       differs : IsNode ns m b k → ⊥
       differs x =
-          let nodes = one n x.node (sym is ∙ subst (λ (j : ℕ). slice_get ns j ≡ Some x.node) (sym same) x.is) in
+          let found : Some n ≡ Some x.node = sym is ∙ subst (λ (j : ℕ). slice_get ns j ≡ Some x.node) (sym same) x.is in
+          let nodes : n ≡ x.node = cc in
           other (ap (λ (y : Node). y.mark) nodes ∙ x.mark) (ap (λ (y : Node). y.below) nodes ∙ x.below)
 
   pub found_here : (p d k : ℕ) (n : Node) → 0 < k → slice_get ns (k - 1) ≡ Some n → n.mark ≡ m → n.below ≡ b → Finding ns ls m b p d (link.To k)
@@ -91,12 +88,6 @@ kind_same mark.Capture mark.Frame e = absurd cc
 handle_same : (h g : Handle) → h.values ≡ g.values → h.node ≡ g.node → h ≡ g
 handle_same h g e f = subst (λ (n : ℕ). h ≡ record { values = g.values; node = n }) f (subst (λ (v : ℕ). h ≡ record { values = v; node = h.node }) e refl)
 
-head_same : (j k : Kind) (r s : Shape) → j ∷ r ≡ k ∷ s → j ≡ k
-head_same j k r s e = cc
-
-tail_same : (j k : Kind) (r s : Shape) → j ∷ r ≡ k ∷ s → r ≡ s
-tail_same j k r s e = cc
-
 module _ {ns : List Node} {ls : List ℕ} (a : IsArena ns ls) where
   -- what is known of the node of a number
   pub node_is : (k : ℕ) (n : Node) → 0 < k → slice_get ns (k - 1) ≡ Some n → (get_or (lists_of ns) k [] ≡ entered (lists_of ns) n) × (n.below.node < k) × (n.height ≡ length (entered (lists_of ns) n))
@@ -125,9 +116,9 @@ module _ {ns : List Node} {ls : List ℕ} (a : IsArena ns ls) where
   is_new m b lt none (suc j) l e =
       let n = some_node ns j (omega (arith, a.len)) in
       let s = a.sound j n.0 n.1 in
-      let same : entered (lists_of ns) n.0 ≡ kind_of m ∷ shape_in (lists_of ns) b = sym s.shape ∙ e in
-      let marks = kind_same n.0.mark m (head_same (kind_of n.0.mark) (kind_of m) (shape_in (lists_of ns) n.0.below) (shape_in (lists_of ns) b) same) in
-      let shapes = tail_same (kind_of n.0.mark) (kind_of m) (shape_in (lists_of ns) n.0.below) (shape_in (lists_of ns) b) same in
+      let same : kind_of n.0.mark ∷ shape_in (lists_of ns) n.0.below ≡ kind_of m ∷ shape_in (lists_of ns) b = sym s.shape ∙ e in
+      let marks = kind_same n.0.mark m cc in
+      let shapes : shape_in (lists_of ns) n.0.below ≡ shape_in (lists_of ns) b = cc in
       let below = handles_same n.0.below b (omega (arith, s.older, a.len, l)) lt shapes in
       none j (subst (λ (x : Handle). Finds ns ls m x (3 * x.node) (2 * x.values + digit_of m) j) below (subst (λ (y : Mark). Finds ns ls y n.0.below (3 * n.0.below.node) (2 * n.0.below.values + digit_of y) j) marks s.found))
 

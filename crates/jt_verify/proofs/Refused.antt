@@ -17,9 +17,6 @@ use Rattle.jt_verify.specs.declared.refusal.Refusal.{Refusal}
 use Rattle.jt_verify.specs.declared.refusal.Refusal.TheVariants as refusal
 use Rattle.jt_verify.proofs.Tables.{all_among, paths_last}
 
-one_shape : (a b : Shape) → Some a ≡ Some b → a ≡ b
-one_shape a b e = cc
-
 -- ---- what is refused holds
 
 module _ (k : Code) (u : Section) (q : ℕ) (s : Shape) (reached : Reaches k u q s) where
@@ -76,16 +73,14 @@ module _ (k : Code) (u : Section) (shapes : Shapes) (h : IsTypedBy Equal k u sha
   agrees _ _ at_start = h.start
   agrees _ _ (along p r leads q before e a) =
       let f = h.fine p r (agrees p r before) in
-      let same : f.leads ≡ leads = ok_same f.leads leads (sym f.effect ∙ e) in
+      let both : ◌≡◌ {A = Result Leads Flaw} (Ok f.leads) (Ok leads) = sym f.effect ∙ e in
+      let same : f.leads ≡ leads = cc in
       let has = all_among (HasSame Equal shapes leads.shape) leads.points q (subst (λ (l : Leads). AllByRecursion (HasSame Equal shapes l.shape) l.points) same f.agree) a in
       subst (λ (y : Shape). shapes q ≡ Some y) has.2 has.1
-    where
-      ok_same : (a b : Leads) → ◌≡◌ {A = Result Leads Flaw} (Ok a) (Ok b) → a ≡ b
-      ok_same a b e = cc
 
   clash_untyped : (p : ℕ) (f : Flaw) → HasClash k u p f → ⊥
   clash_untyped p f (inl c) = let m = h.small p c.0 (agrees p c.0 c.1) in absurd (omega (arith, m, c.2.1))
-  clash_untyped p f (inr c) = same_differ c.0 c.1 f (one_shape c.0 c.1 (sym (agrees p c.0 c.2) ∙ agrees p c.1 c.3)) c.4
+  clash_untyped p f (inr c) = let e : Some c.0 ≡ Some c.1 = sym (agrees p c.0 c.2) ∙ agrees p c.1 c.3 in let same : c.0 ≡ c.1 = cc in same_differ c.0 c.1 f same c.4
 
   flaw_untyped : (p : ℕ) (f : Flaw) → HasFlaw k u p f → ⊥
   flaw_untyped p f c = let g = h.fine p c.0 (agrees p c.0 c.1) in let e : ◌≡◌ {A = Result Leads Flaw} (Err f) (Ok g.leads) = sym c.2 ∙ g.effect in cc

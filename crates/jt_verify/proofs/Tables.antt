@@ -38,10 +38,7 @@ set_keeps t p s none q r e =
 
 -- what is found at the new place is the new shape
 pub set_gives : (t : Table) (p : ℕ) (s : Shape) → p < length t → (q : ℕ) (r : Shape) → q ≡ p → shape_at (slice_set t p (Some s)) q ≡ Some r → s ≡ r
-set_gives t p s lt q r same e = one_shape s r (sym (set_here t p s lt) ∙ subst (λ (n : ℕ). shape_at (slice_set t p (Some s)) n ≡ Some r) same e)
-  where
-    one_shape : (a b : Shape) → Some a ≡ Some b → a ≡ b
-    one_shape a b e = cc
+set_gives t p s lt q r same e = let f : Some s ≡ Some r = sym (set_here t p s lt) ∙ subst (λ (n : ℕ). shape_at (slice_set t p (Some s)) n ≡ Some r) same e in cc
 
 -- a table of unknown shapes
 pub none_at : (n q : ℕ) → shape_at (replicate n None) q ≡ None

@@ -25,10 +25,6 @@ module _ (ns : List Node) (a : AreJumps ns) where
 -- ---- the node of a number
 
 module _ (ns : List Node) where
-  pub at_none : (k : ℕ) (n : Node) → k ≡ 0 → (n.height ≡ 0) × (n.jump.to ≡ 0) → IsAt ns k n
-  at_none zero n e h = h
-  at_none (suc k) n e h = absurd (omega arith)
-
   pub at_some : (k : ℕ) (n : Node) → 0 < k → slice_get ns (k - 1) ≡ Some n → IsAt ns k n
   at_some zero n l e = absurd (omega arith)
   at_some (suc i) n l e = let same : suc i - 1 ≡ i = omega arith in subst (λ (j : ℕ). slice_get ns j ≡ Some n) same e
