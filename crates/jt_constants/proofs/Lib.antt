@@ -1,0 +1,6 @@
+mod Front
+mod Same
+mod Runs
+mod Typed
+mod Sizes
+mod Lawful
