@@ -4,3 +4,4 @@ mod Runs
 mod Typed
 mod Sizes
 mod Lawful
+mod Growing

@@ -1,2 +1,3 @@
 pub mod Merged
+pub mod Keys
 pub mod Laws

@@ -4,6 +4,7 @@ ghost use Rattle.std.specs.Prelude.{◌≡◌, ◌<◌, ◌^◌, length, map, If
 ghost use Rattle.jt_value.specs.View.{view};
 ghost use Rattle.jt_image.specs.View.{constant_view, constants_view};
 ghost use Rattle.jt_constants.specs.Merged.{constant_of, each_once, new_places};
+ghost use Rattle.jt_constants.specs.Keys.{key_view};
 
 use jt_image::Constant;
 use jt_value::Value;
@@ -58,7 +59,9 @@ pub fn constant_table(alloc: Global, pool: &[Value]) -> Result<ConstantTable, Al
 }
 
 /// What tells a value of a pool from others. A pool has no lists and maps.
-fn key_of(value: &Value) -> Key<'_> {
+fn key_of(value: &Value) -> Key<'_>
+    ensures { key_view result ≡ constant_of (view value.now) }
+{
     match value {
         Value::Undefined => Key::Undefined,
         Value::None => Key::None,
@@ -71,7 +74,9 @@ fn key_of(value: &Value) -> Key<'_> {
 }
 
 /// The constant of a key.
-fn constant_of(alloc: Global, key: Key<'_>) -> Result<Constant, AllocError> {
+fn constant_of(alloc: Global, key: Key<'_>) -> Result<Constant, AllocError>
+    ensures { IfOk result (λ c. constant_view c ≡ key_view key.entry) }
+{
     match key {
         Key::Undefined => Ok(Constant::Undefined),
         Key::None => Ok(Constant::None),
