@@ -1,5 +1,4 @@
 -- The laws of codes in which equal constants have been made one.
-use Rattle.jt_image.specs.Code.{Code}
 use Rattle.jt_constants.specs.Laws.{MergedLaws}
 use Rattle.jt_constants.specs.Merged.{new_places}
 use Rattle.jt_constants.proofs.Same.{fewer}

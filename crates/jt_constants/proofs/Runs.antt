@@ -1,5 +1,5 @@
 -- The runs of a code in which equal constants have been made one.
-use Rattle.std.proofs.Common.{◌≡◌, ℕ, zero, suc, ◌+◌, List, [], ◌∷◌, length, map, take, replicate, Option, Some, None, refl, sym, ap, ◌∙◌, arith}
+use Rattle.std.proofs.Common.{◌≡◌, ℕ, zero, suc, ◌+◌, List, [], ◌∷◌, map, take, replicate, Option, Some, None, refl, sym, ap, ◌∙◌, arith}
 use Rattle.std.specs.Prelude.{slice_get, option_map}
 use Rattle.std.specs.Option.{option_and_then}
 use Rattle.std.proofs.lemmas.List.{length-map}
@@ -16,7 +16,7 @@ use Rattle.jt_image.specs.Config.{Machine}
 use Rattle.jt_image.specs.Step.{Action, goes_on, ends, faulty, wrong, straight, push, put, constant_value, text_of, calls_unit, action, fetch}
 use Rattle.jt_image.specs.Run.{locals_of, filled, entry_locals}
 use Rattle.jt_image.specs.FreeRun.{Free, on_action, exec_at, exec, start_machine, ComesTo}
-use Rattle.jt_constants.specs.Merged.{new_places, moved, with_places, moved_unit, merged}
+use Rattle.jt_constants.specs.Merged.{new_places, with_places, moved_unit, merged}
 use Rattle.jt_constants.proofs.Same.{reads}
 
 pub total_taken : (places : List ℕ) (n : ℕ) (us : List Section) → total_len (take n (map (moved_unit places) us)) ≡ total_len (take n us)

@@ -1,14 +1,14 @@
 -- How large a code is in which equal constants have been made one.
-use Rattle.std.proofs.Common.{◌≡◌, ℕ, zero, suc, ◌+◌, ◌≤◌, ◌^◌, Bool, true, false, List, [], ◌∷◌, ◌++◌, length, map, fold, refl, sym, ap, ◌∙◌, arith, length-append, if◌then◌else◌}
+use Rattle.std.proofs.Common.{◌≡◌, ℕ, ◌+◌, ◌≤◌, ◌^◌, Bool, true, false, List, [], ◌∷◌, ◌++◌, length, map, fold, refl, ap, arith, length-append, if◌then◌else◌}
 use Rattle.std.specs.List.{list_any, flat_map, AllByRecursion}
 use Rattle.std.proofs.lemmas.List.{length-map}
 use Rattle.std.proofs.lemmas.List.Concat.{flat_map-cons, flat_map-append}
 use Rattle.jt_image.specs.declared.instruction.Instruction.{Instruction}
 use Rattle.jt_image.specs.declared.instruction.Instruction.TheVariants as op
-use Rattle.jt_image.specs.Code.{Constant, Section, Code}
+use Rattle.jt_image.specs.Code.{Constant, Section}
 use Rattle.jt_image.specs.IsCode.{IsInstruction, total_len}
 use Rattle.jt_image.specs.Spelling.{constant_bytes}
-use Rattle.jt_constants.specs.Merged.{same, with_new, each_once, new_places, moved, with_places, moved_unit, merged}
+use Rattle.jt_constants.specs.Merged.{same, with_new, each_once, new_places, with_places, moved_unit}
 use Rattle.jt_constants.proofs.Same.{has_room}
 
 abbrev bytes : List Constant → ℕ

@@ -1,5 +1,5 @@
 -- A typed code is typed when equal constants have been made one.
-use Rattle.std.proofs.Common.{◌≡◌, ℕ, zero, suc, ◌+◌, ◌*◌, List, [], ◌∷◌, length, map, Option, Some, None, Result, Ok, refl, sym, ap, ◌∙◌, subst}
+use Rattle.std.proofs.Common.{◌≡◌, ℕ, ◌+◌, ◌*◌, List, [], ◌∷◌, length, Option, Some, None, Ok, refl, sym, ap, ◌∙◌, subst}
 use Rattle.std.specs.Prelude.{slice_get, nat_lt, option_map, ◌&&◌}
 use Rattle.std.specs.Option.{is_some}
 use Rattle.std.proofs.lemmas.List.{length-map}
@@ -7,14 +7,13 @@ use Rattle.std.proofs.lemmas.Option.{slice_get-map, same_Some}
 use Rattle.jt_image.specs.declared.instruction.Instruction.{Instruction}
 use Rattle.jt_image.specs.declared.instruction.Instruction.TheVariants as op
 use Rattle.jt_image.specs.declared.kind.Kind.TheVariants as kind
-use Rattle.jt_image.specs.declared.kind.Flaw.{Flaw}
 use Rattle.jt_image.specs.declared.kind.Flaw.TheVariants as flaw
-use Rattle.jt_image.specs.Code.{Constant, is_text, Section, Code}
-use Rattle.jt_image.specs.Effect.{Shape, Leads, require, pops, pops_many, pops_frame, pops_capture, on_frame, pushes, goes_on, makes, jumps, branches, gives, calls, effect, effect_of, effect_at}
+use Rattle.jt_image.specs.Code.{is_text, Section, Code}
+use Rattle.jt_image.specs.Effect.{Shape, require, pops, pops_many, pops_frame, pops_capture, on_frame, pushes, goes_on, makes, jumps, branches, gives, calls, effect, effect_of, effect_at}
 use Rattle.jt_image.specs.Ids.{operator_of, operands_of, filter_of, accepts, test_of, takes}
 use Rattle.jt_image.specs.Loops.{field_of}
 use Rattle.jt_image.specs.Typed.{Equal, IsTypedUnit, IsTyped}
-use Rattle.jt_constants.specs.Merged.{each_once, new_places, moved, with_places, moved_unit, merged}
+use Rattle.jt_constants.specs.Merged.{new_places, with_places, moved_unit, merged}
 use Rattle.jt_constants.proofs.Same.{reads, inside}
 
 module _ (k : Code) (u : Section) where

@@ -1,5 +1,5 @@
 -- What holds of every code in which equal constants have been made one.
-use Rattle.std.specs.Prelude.{◌≡◌, ℕ, ◌≤◌, ◌^◌, List, length, map}
+use Rattle.std.specs.Prelude.{◌≡◌, ◌≤◌, ◌^◌, List, length, map}
 use Rattle.std.specs.List.{flat_map, AllByRecursion}
 use Rattle.jt_value.specs.Pairs.{Pairs}
 use Rattle.jt_image.specs.Code.{Constant, Section, Code}

@@ -1,8 +1,7 @@
-use Rattle.std.proofs.Common.{◌≡◌, List, Some, map, ◌+◌, ◌∙◌, sym, ap, subst, arith}
-use Rattle.jt_image.specs.Code.{Section}
-use Rattle.jt_image.specs.Parts.{each_of, section_of_unit}
+use Rattle.std.proofs.Common.{◌∙◌, sym, ap, arith}
+use Rattle.jt_image.specs.Parts.{section_of_unit}
 use Rattle.jt_constants.specs.Merged.{moved_unit}
-use Rattle.jt_constants.proofs.Front.{changed, changed_more, whole}
+use Rattle.jt_constants.proofs.Front.{changed_more, whole}
 use Rattle.jt_constants.proofs.moving.move_constants.Goals as goal
 
 pub loop-at-preserved : goal.loop-at-preserved

@@ -1,10 +1,8 @@
-use Rattle.std.proofs.Common.{◌≡◌, List, Some, map, get_or, refl, ◌+◌, ◌∙◌, sym, ap, subst, arith}
-use Rattle.jt_image.specs.declared.instruction.Instruction.{Instruction as SpecInstruction}
+use Rattle.std.proofs.Common.{get_or, refl, arith}
 use Rattle.jt_image.specs.declared.wire.Instr.{Instr}
 use Rattle.jt_image.specs.Reading.{instruction_of}
-use Rattle.jt_image.specs.Parts.{each_of}
 use Rattle.jt_constants.specs.Merged.{with_places}
-use Rattle.jt_constants.proofs.Front.{changed, changed_more, whole}
+use Rattle.jt_constants.proofs.Front.{changed_more, whole}
 use Rattle.jt_constants.proofs.moving.move_instructions.Goals as goal
 
 pub loop-at-preserved : goal.loop-at-preserved

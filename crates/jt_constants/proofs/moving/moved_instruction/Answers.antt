@@ -1,10 +1,9 @@
 use Rattle.std.proofs.Common.{◌≡◌, ℕ, Some, refl, sym, ap, ◌∙◌}
 use Rattle.std.proofs.lemmas.Option.{same_Some}
-use Rattle.jt_image.specs.declared.instruction.Instruction.{Instruction as SpecInstruction}
 use Rattle.jt_image.specs.declared.instruction.Instruction.TheVariants as op
 use Rattle.jt_image.specs.Reading.{instruction_of}
 use Rattle.jt_image.specs.Spelling.{wire_of}
-use Rattle.jt_constants.specs.Merged.{moved, with_places}
+use Rattle.jt_constants.specs.Merged.{with_places}
 use Rattle.jt_constants.proofs.moving.moved_instruction.Goals as goal
 
 read_const : (n : ℕ) → instruction_of (wire_of (op.Const n)) ≡ Some (op.Const n)

@@ -1,12 +1,10 @@
-use Rattle.std.proofs.Common.{◌≡◌, ℕ, ◌+◌, ◌≤◌, List, [], ◌∷◌, ◌++◌, length, cond, Vec, Global, Option, Some, None, refl, sym, ap, ◌∙◌, subst, arith}
+use Rattle.std.proofs.Common.{◌≡◌, ℕ, ◌+◌, List, [], ◌∷◌, ◌++◌, length, cond, Vec, Global, Some, sym, ap, ◌∙◌, subst, arith}
 use Rattle.std.specs.BTreeMap.{get}
 use Rattle.std.proofs.lemmas.List.{length-map, map-append}
-use Rattle.jt_value.specs.View.{view}
 use Rattle.jt_image.specs.Code.{Constant}
 use Rattle.jt_image.specs.View.{constant_view, constants_view}
-use Rattle.jt_constants.specs.Merged.{constant_of}
 use Rattle.jt_constants.specs.Keys.{key_view}
-use Rattle.jt_constants.proofs.Growing.{key_cmp, Knows, Holds, holds_none, holds_all, place_of, known_absent, knows_more, turn_there, turn_absent, left_so}
+use Rattle.jt_constants.proofs.Growing.{key_cmp, Holds, holds_none, holds_all, place_of, known_absent, knows_more, turn_there, turn_absent, left_so}
 use Rattle.jt_constants.proofs.table.constant_table.Goals.{in-Some, in-None+in_ok-insert-in-None+in_ok-constant_of-in-None+in_ok-push-in-None}
 use Rattle.jt_constants.proofs.table.constant_table.Goals as goal
 use Rattle.std.specs.Map.{lookup}
