@@ -1,7 +1,7 @@
-mod Front
-mod Same
-mod Runs
-mod Typed
-mod Sizes
-mod Lawful
-mod Growing
+pub mod Front
+pub mod Same
+pub mod Runs
+pub mod Typed
+pub mod Sizes
+pub mod Lawful
+pub mod Growing
