@@ -77,7 +77,7 @@ parameters_of [] = 0
 parameters_of (r ∷ rs) = r.parameters + parameters_of rs
 
 parameters_append : (rs qs : List (Routine Constant)) → parameters_of (rs ++ qs) ≡ parameters_of rs + parameters_of qs
-parameters_append [] qs = refl
+parameters_append [] qs = omega arith
 parameters_append (r ∷ rs) qs = omega (arith, parameters_append rs qs)
 
 units_parameters : (rs : List (Routine Constant)) (n : ℕ) → all_parameters (map unit_of (placed_routines rs n)) ≡ parameters_of rs
