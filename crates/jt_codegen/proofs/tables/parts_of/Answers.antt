@@ -12,7 +12,7 @@ use Rattle.jt_image.specs.IsCode.{total_len, max_instructions}
 use Rattle.jt_resolved.specs.View.{routine_view, templates_of, program_of}
 use Rattle.jt_resolved.specs.declared.program.Routine.{Routine}
 use Rattle.jt_lower.specs.Lower.{unit_of}
-use Rattle.std.proofs.lemmas.List.{length-map}
+use Rattle.std.proofs.lemmas.List.{length-map, with_items_is}
 use Rattle.jt_codegen.specs.Units.{RefusesUnits}
 use Rattle.jt_codegen.proofs.Merging.{ps}
 use Rattle.jt_codegen.proofs.Tabled.{numbered_len, units_refused, parts_are}
@@ -56,4 +56,5 @@ returns-clause-emitted c =
       templates = c.in_ok-named.named.templates;
       spots = c.in_ok-named.named.spots;
     } in
-    parts_are p parts code.units.items c.deref-3.result.now read (λ us e. c.move_constants.ensures us (ap (each_of section_of_unit) c.deref_mut.ensures.value ∙ e)) at refl (search rules) (search rules) once (search rules) (search rules)
+    let len : length c.move_constants.new.units ≡ code.units.len = omega (arith, c.move_constants.auto.units, ap length c.deref_mut.ensures.value, code.units.ok.0) in
+    parts_are p parts code.units.items c.deref-3.result.now read (λ us e. ap (each_of section_of_unit) (with_items_is code.units c.move_constants.new.units len) ∙ c.move_constants.ensures us (ap (each_of section_of_unit) c.deref_mut.ensures.value ∙ e)) at refl (search rules) (search rules) once (search rules) (search rules)
