@@ -1,13 +1,9 @@
 -- Units before and after constants have got their places in the table.
-use Rattle.std.proofs.Common.{◌≡◌, ℕ, ◌+◌, ◌*◌, ◌<◌, ◌≤◌, ◌^◌, List, [], ◌∷◌, length, map, Option, Some, refl, sym, ap, ◌∙◌, subst, arith}
-use Rattle.std.specs.Prelude.{option_map}
+use Rattle.std.proofs.Common.{◌≡◌, ℕ, ◌+◌, ◌*◌, ◌<◌, ◌≤◌, ◌^◌, List, [], ◌∷◌, length, map, refl, ap, arith}
 use Rattle.std.specs.List.{AllByRecursion}
-use Rattle.std.proofs.lemmas.List.{length-map}
-use Rattle.jt_value.specs.View.{view}
-use Rattle.jt_image.specs.Code.{Constant, Section, Code}
-use Rattle.jt_image.specs.IsCode.{IsInstruction, total_len, max_locals, max_instructions}
-use Rattle.jt_image.specs.Parts.{IsWritable, each_of, section_of_unit, code_with, code_of_parts}
-use Rattle.jt_image.specs.declared.parts.Parts.{Parts}
+use Rattle.jt_image.specs.Code.{Section}
+use Rattle.jt_image.specs.IsCode.{IsInstruction, max_locals, max_instructions}
+use Rattle.jt_image.specs.Parts.{IsWritable}
 use Rattle.jt_resolved.specs.Slots.{Program}
 use Rattle.jt_constants.specs.Merged.{new_places, moved_unit}
 use Rattle.jt_constants.proofs.Sizes.{units_len}

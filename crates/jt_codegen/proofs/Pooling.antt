@@ -1,11 +1,9 @@
 -- How many values a program's pool has: one, one for each parameter of a macro, and one for each instruction at most.
-use Rattle.std.proofs.Common.{◌≡◌, ℕ, suc, ◌+◌, ◌*◌, ◌<◌, ◌≤◌, ◌^◌, List, [], ◌∷◌, ◌++◌, length, map, Option, Some, None, refl, sym, ap, ◌∙◌, subst, arith, length-append}
+use Rattle.std.proofs.Common.{◌≡◌, ℕ, ◌+◌, ◌≤◌, List, [], ◌∷◌, ◌++◌, length, map, Option, Some, None, refl, ap, arith, length-append}
 use Rattle.std.specs.Prelude.{flat_map}
-use Rattle.std.proofs.lemmas.List.{length-map, map-append}
+use Rattle.std.proofs.lemmas.List.{length-map}
 use Rattle.std.proofs.lemmas.List.Concat.{flat_map-cons}
-use Rattle.jt_value.specs.Tree as tree
 use Rattle.jt_value.specs.Tree.{Tree}
-use Rattle.jt_image.specs.IsCode.{total_len}
 use Rattle.jt_trees.specs.Statements.{Parameter}
 use Rattle.jt_chains.specs.Chain.{Home, MacroBody, macros}
 use Rattle.jt_evaluation.specs.Filters.{default_value}
@@ -16,11 +14,11 @@ use Rattle.jt_meaning.specs.Resolve.{macro_routine}
 use Rattle.jt_resolved.specs.Slots as slots
 use Rattle.jt_resolved.specs.Slots.{SExpr, SRow, Targets, SStmt, SBody, Routine, Program}
 use Rattle.jt_resolved.specs.Pool.{Constant, own, known, constant_values, expr_values, row_values, condition_values, stmt_values, body_values, routines_values, placed_routines}
-use Rattle.jt_resolved.specs.Size.{targets_size, expr_size, row_size, condition_size, stmt_size, body_size, routines_size}
+use Rattle.jt_resolved.specs.Size.{expr_size, row_size, condition_size, stmt_size, body_size, routines_size}
 use Rattle.jt_lower.specs.Compiles.{LowLaws}
-use Rattle.jt_lower.specs.Lower.{unit_of, lowered, compiled}
+use Rattle.jt_lower.specs.Lower.{unit_of}
 use Rattle.jt_constants.specs.Merged.{moved_unit}
-use Rattle.jt_codegen.specs.Units.{FitsImage, HasFewValues}
+use Rattle.jt_codegen.specs.Units.{HasFewValues}
 use Rattle.jt_codegen.proofs.Merging.{ps, all_parameters, parameters_bound, parameters_moved}
 
 -- ---- each value takes an instruction
