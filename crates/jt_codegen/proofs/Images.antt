@@ -41,16 +41,18 @@ use Rattle.jt_resolved.specs.declared.program.Routine as given_routine
 use Rattle.jt_lower.specs.Compiles.{LowLaws}
 use Rattle.jt_lower.specs.Fits.{ProgramFits}
 use Rattle.jt_lower.specs.Lawful.{AreLow}
-use Rattle.jt_lower.specs.Lower.{places_of, compiled}
+use Rattle.jt_lower.specs.Lower.{unit_of, places_of, compiled}
 use Rattle.jt_codegen.specs.Compiled.{IsOnlyChain, IsCompiled}
 use Rattle.jt_codegen.specs.Limits.{NeedsTooMany}
 use Rattle.jt_codegen.specs.Refusals.{of_chain, of_scope, of_emit, Breaks, HasProgram, NamesLimit}
-use Rattle.jt_codegen.specs.Units.{FitsImage, RefusesCode}
+use Rattle.jt_codegen.specs.Units.{FitsImage, HasFewValues, RefusesCode}
 use Rattle.jt_codegen.specs.declared.emission.EmitError.{EmitError}
 use Rattle.jt_codegen.specs.declared.emission.EmitError.TheVariants as emit_error
 use Rattle.jt_codegen.proofs.Chained.{fits, by_order}
 use Rattle.jt_codegen.proofs.Importing.{all_count}
 use Rattle.jt_codegen.proofs.Lawful.{few_globals}
+use Rattle.jt_codegen.proofs.Merging.{ps, moved_all}
+use Rattle.jt_codegen.proofs.Pooling.{few_values}
 use Rattle.jt_codegen.proofs.Read.{all_each, names_all, own_all, all_short}
 use Rattle.jt_codegen.proofs.Routines.{parameters_few}
 use Rattle.jt_codegen.proofs.Spelled.{read_named}
@@ -165,8 +167,18 @@ module _ (code : CodeLaws) (low : LowLaws) (programs : ProgramLaws) (given : Giv
       subst (λ (r : Program). HasTables (compiled r)) (sym (of_entry q same ∙ begun))
       (tables world entry is.included named tags (names_all (λ x. 0 < length x) world (own_all (λ x. 0 < length x) c.templates some) order (a_chain entry)) (programs.ascends world order (a_chain entry)) (omega (arith, few_globals world order (a_chain entry))))
 
+  -- its pool isn't too long, where an image has place for its code
+  pub few_of : (q : Program) → IsOf q → HasFewValues q
+  few_of q same = subst HasFewValues (sym (of_entry q same)) (few_values world c.order low (a_chain entry))
+
   lows : (q : Program) → IsOf q → Low q → AreLow (routines world c.order)
   lows q same h = low.low (routines world c.order) (length (shared world c.order)) (subst Low (of_entry q same) h)
+
+  -- it fits
+  pub fits_of : (q : Program) → IsOf q → Low q → ProgramFits q
+  fits_of q same h =
+      let lows_begun : AreLow (routines world order) = subst (λ (o : List Home). AreLow (routines world o)) is.begins (lows q same h) in
+      subst ProgramFits (sym (of_entry q same ∙ begun)) (fits low programs given entry options c the kept lows_begun)
 
   pub image_compiled : (q : Program) (k : Code) → IsOf q → Low q → k ≡ compiled q → IsCode k → IsCompiled given entry options k
   image_compiled q k same few held whole =
@@ -226,7 +238,7 @@ module _ (code : CodeLaws) (low : LowLaws) (programs : ProgramLaws) (given : Giv
       pub fits_small : (q : Program) → IsOf q → FitsImage (compiled q)
       fits_small q same =
           subst (λ (r : Program). FitsImage (compiled r)) (sym (of_entry q same ∙ begun))
-          (small_fits code low world order p sized weight texts few_chains named (few_names (sources_of c) order) tags fitting (parameters_few world (a_chain entry) is.included (length (shared world order)) are_few))
+          (small_fits code low world order p sized weight texts few_chains named (few_names (sources_of c) order) tags fitting (moved_all (λ parameters kind locals. parameters ≤ 200) (ps p) (map unit_of p.routines) (parameters_few world (a_chain entry) is.included (length (shared world order)) are_few)))
 
   pub stack_not_small : (q : Program) → IsOf q → ¬ (Low q) → chains_weight (sources_of c) c.order ≤ chains_len given (sources_of c) c.order → ¬ (IsSmall given entry options)
   stack_not_small q same n weighs = λ small. n (low_small weighs small q same)

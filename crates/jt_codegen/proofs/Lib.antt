@@ -19,3 +19,5 @@ pub mod Tagged
 pub mod Lined
 pub mod Fewer
 pub mod Named
+pub mod Merging
+pub mod Pooling

@@ -1,5 +1,5 @@
 -- The tables of the code of a chain are in order.
-use Rattle.std.proofs.Common.{◌≢◌, ℕ, suc, ◌+◌, ◌<◌, ◌≤◌, List, [], ◌∷◌, length, map, refl, ◌∙◌, arith}
+use Rattle.std.proofs.Common.{◌≢◌, ℕ, suc, ◌+◌, ◌<◌, ◌≤◌, List, [], ◌∷◌, length, map, refl, sym, ◌∙◌, arith}
 use Rattle.std.specs.List.{AllByRecursion}
 use Rattle.std.proofs.lemmas.List.{length-map}
 use Rattle.jt_image.specs.IsCode.{Ascend, AreDistinct}
@@ -15,7 +15,10 @@ use Rattle.jt_resolved.specs.Slots.{Routine}
 use Rattle.jt_resolved.specs.Pool.{placed_routine}
 use Rattle.jt_lower.specs.Lower.{unit_of, numbered, places_of, compiled}
 use Rattle.jt_lower.specs.Spots.{templates_of, spot_of}
+use Rattle.jt_constants.specs.Merged.{moved_unit}
+use Rattle.jt_constants.proofs.Sizes.{units_len}
 use Rattle.jt_lower.proofs.Spots.{places_len}
+use Rattle.jt_codegen.proofs.Merging.{ps, moved_all}
 use Rattle.jt_codegen.proofs.Named.{IsTag, are_templates, are_spots}
 use Rattle.jt_codegen.proofs.Tagged.{OnTag}
 use Rattle.jt_codegen.proofs.Routines.{parameters_within}
@@ -62,9 +65,9 @@ tables world entry rest ns tags some ascends few =
         ascend = numbered_ascend p.names ascends;
         distinct = numbered_distinct 0 p.names;
       };
-      units = emitting p.routines (parameters_within world order (length (shared world order)));
-      entry = record { entry = unit_of (placed_routine (chain_routine world order entry) (length (shared world order))); is = refl; emits = refl; plain = refl };
+      units = moved_all (λ parameters kind locals. (kind ≤ 1) × (parameters ≤ locals)) (ps p) (map unit_of p.routines) (emitting p.routines (parameters_within world order (length (shared world order))));
+      entry = record { entry = moved_unit (ps p) (unit_of (placed_routine (chain_routine world order entry) (length (shared world order)))); is = refl; emits = refl; plain = refl };
       templates = are_templates ns (places_of p) tags;
       spots = are_spots ns (places_of p) tags;
-      placed = length-map (places_of p) (spot_of (templates_of (places_of p))) ∙ places_len p.routines;
+      placed = length-map (places_of p) (spot_of (templates_of (places_of p))) ∙ places_len p.routines ∙ sym (units_len (ps p) (map unit_of p.routines));
     }

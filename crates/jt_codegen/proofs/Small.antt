@@ -1,5 +1,5 @@
 -- The code of small chains has place in an image.
-use Rattle.std.proofs.Common.{◌≡◌, ℕ, suc, ◌+◌, ◌*◌, max, ◌<◌, ◌≤◌, ◌^◌, true, false, List, [], ◌∷◌, ◌++◌, length, map, refl, ap, ◌∙◌, arith, length-append}
+use Rattle.std.proofs.Common.{◌≡◌, ℕ, suc, ◌+◌, ◌*◌, max, ◌<◌, ◌≤◌, ◌^◌, true, false, List, [], ◌∷◌, ◌++◌, length, map, refl, sym, ap, ◌∙◌, arith, length-append}
 use Rattle.std.proofs.lemmas.List.{length-map}
 use Rattle.std.specs.Int.{w16, w32, w64, to_le_bytes, cast_unsigned}
 use Rattle.std.specs.List.{flat_map, AllByRecursion}
@@ -25,10 +25,14 @@ use Rattle.jt_lower.specs.Compiles.{LowLaws}
 use Rattle.jt_lower.specs.Fits.{ProgramFits}
 use Rattle.jt_lower.specs.Lower.{unit_of, constant_of, numbered, places_of, compiled}
 use Rattle.jt_lower.specs.Spots.{templates_of, spot_of}
+use Rattle.jt_constants.specs.Merged.{moved_unit}
+use Rattle.jt_constants.proofs.Same.{fewer}
+use Rattle.jt_constants.proofs.Sizes.{shorter, units_len}
 use Rattle.jt_lower.proofs.Spots.{places_len}
 use Rattle.jt_codegen.proofs.Named.{IsTag, few_templates, short_templates, templates_spelled, spots_spelled}
 use Rattle.jt_codegen.proofs.Tagged.{OnTag}
 use Rattle.jt_codegen.specs.Units.{FitsImage}
+use Rattle.jt_codegen.proofs.Merging.{ps, moved_all}
 use Rattle.jt_codegen.proofs.Read.{all_each}
 use Rattle.jt_codegen.proofs.Tabled.{numbered_len}
 use Rattle.jt_codegen.proofs.Ordered.{numbered_texts}
@@ -98,7 +102,7 @@ module _ (laws : CodeLaws) (low : LowLaws) (world : World) (order : List Home) (
     ss = map (spot_of ts) (places_of p)
 
     count_spots : length ss ≡ total_len (compiled p).units
-    count_spots = length-map (places_of p) (spot_of ts) ∙ places_len p.routines
+    count_spots = length-map (places_of p) (spot_of ts) ∙ places_len p.routines ∙ sym (units_len (ps p) (map unit_of p.routines))
 
     count_templates : length ts ≤ 20000
     count_templates = omega (arith, few_templates ns (places_of p) tags, named, few, weight)
@@ -113,16 +117,16 @@ module _ (laws : CodeLaws) (low : LowLaws) (world : World) (order : List Home) (
     limits = record {
       names = omega (arith, sized.names, numbered_len 0 p.names);
       texts = numbered_texts (λ x. length x ≤ max_count) 0 p.names (all_each (λ x. length x ≤ 2000) (λ x. length x ≤ max_count) (λ x h. omega (arith, h)) p.names short.names);
-      constants = omega (arith, sized.constants, weight, length-map p.pool constant_of);
-      units = omega (arith, sized.units, weight, few, length-map p.routines unit_of);
-      locals = units_locals (200 + chains_weight world.sources order) p.routines (omega (arith, weight)) sized.locals;
+      constants = omega (arith, sized.constants, weight, length-map p.pool constant_of, fewer (map constant_of p.pool));
+      units = omega (arith, sized.units, weight, few, length-map p.routines unit_of, length-map (map unit_of p.routines) (moved_unit (ps p)));
+      locals = moved_all (λ parameters kind locals. locals ≤ max_locals) (ps p) (map unit_of p.routines) (units_locals (200 + chains_weight world.sources order) p.routines (omega (arith, weight)) sized.locals);
       instructions = omega (arith, low.sized p, sized.instructions, weight, few);
       templates = omega (arith, count_templates);
       template_texts = all_each (λ t. length t ≤ 255) (λ t. length t ≤ max_count) (λ t h. omega (arith, h)) ts (short_templates ns (places_of p) tags);
-      bytes = omega (arith, laws.spelled (compiled p), spelled, templates_spelled ts (short_templates ns (places_of p) tags), count_templates, spots_spelled ss, count_spots, names_spelled 0 p.names short.names, constants_spelled p.pool short.pool, length-map p.routines unit_of, low.sized p, sized.names, sized.constants, sized.units, sized.instructions, weight, few);
+      bytes = omega (arith, laws.spelled (compiled p), spelled, templates_spelled ts (short_templates ns (places_of p) tags), count_templates, spots_spelled ss, count_spots, names_spelled 0 p.names short.names, constants_spelled p.pool short.pool, shorter (map constant_of p.pool), length-map p.routines unit_of, length-map (map unit_of p.routines) (moved_unit (ps p)), low.sized p, sized.names, sized.constants, sized.units, sized.instructions, weight, few);
     }
 
     pub small_fits : ProgramFits p → AllByRecursion (λ u. u.parameters ≤ 200) (compiled p).units → FitsImage (compiled p)
     small_fits fit parameters =
         let globals : p.globals < 2 ^ 16 = omega (arith, sized.globals, weight, few) in
-        record { globals = globals; limits = limits; writable = units_writable (compiled p).units parameters (low.written p fit globals limits) }
+        record { globals = globals; limits = limits; writable = units_writable (compiled p).units parameters (low.written p fit globals (omega (arith, sized.constants, weight)) limits) }

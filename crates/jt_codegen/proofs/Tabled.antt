@@ -1,25 +1,30 @@
 -- The tables and the units of a program.
-use Rattle.std.proofs.Common.{◌≡◌, ℕ, suc, ◌+◌, ◌-◌, ◌<◌, ◌≤◌, List, [], ◌∷◌, ◌++◌, length, drop, get_or, map, Option, Some, None, String, string_bytes, Global, refl, sym, ap, ◌∙◌, subst, arith, append_assoc, append-nil}
+use Rattle.std.proofs.Common.{◌≡◌, ℕ, suc, ◌+◌, ◌-◌, ◌<◌, ◌≤◌, List, [], ◌∷◌, ◌++◌, length, drop, get_or, map, ◌^◌, Option, Some, None, String, string_bytes, Global, refl, sym, ap, ◌∙◌, subst, arith, append_assoc, append-nil}
 use Rattle.std.specs.Prelude.{option_map, flat_map}
 use Rattle.std.proofs.lemmas.List.{map-append, drop_more, at_drop_all}
-use Rattle.jt_image.specs.Code.{Section}
+use Rattle.jt_image.specs.Code.{Section, Code}
 use Rattle.jt_image.specs.declared.instruction.Instruction.{Instruction}
 use Rattle.jt_image.specs.declared.wire.Instr.{Instr}
 use Rattle.jt_image.specs.Reading.{instruction_of}
 use Rattle.jt_image.specs.IsCode.{total_len, max_instructions}
 use Rattle.jt_image.specs.declared.parts.Unit as given
-use Rattle.jt_image.specs.View.{name_view, names_view}
-use Rattle.jt_image.specs.Parts.{in_front, each_of, section_of_unit}
+use Rattle.jt_image.specs.View.{name_view, names_view, constants_view, texts_view, spots_view}
+use Rattle.jt_image.specs.Parts.{in_front, each_of, section_of_unit, code_with, code_of_parts}
+use Rattle.jt_image.specs.declared.parts.Parts.{Parts}
+use Rattle.jt_constants.specs.Merged.{moved_unit}
 use Rattle.jt_trees.specs.Expressions.{Text}
 use Rattle.jt_resolved.specs.View.{routine_view, templates_of, program_of}
 use Rattle.jt_resolved.specs.declared.program.Routine.{Routine}
 use Rattle.jt_resolved.specs.declared.program.Program.{Program}
 use Rattle.jt_value.specs.Place as place
 use Rattle.jt_resolved.specs.declared.program.Place.{Place}
+use Rattle.jt_lower.specs.Compiles.{LowLaws}
 use Rattle.jt_lower.specs.Emission.{tag_view, places_view}
+use Rattle.jt_lower.specs.Fits.{ProgramFits}
 use Rattle.jt_lower.specs.Spots as spots
 use Rattle.jt_lower.specs.Lower.{unit_of, numbered, routine_places, places_of, compiled}
 use Rattle.jt_codegen.specs.Units.{FitUnits, Refuses, RefusesUnits, RefusesTemplates, RefusesCode}
+use Rattle.jt_codegen.proofs.Merging.{ps, units_fit}
 use Rattle.jt_codegen.specs.declared.emission.EmitError.{EmitError}
 use Rattle.jt_codegen.specs.declared.emission.EmitError.TheVariants as error
 
@@ -158,9 +163,23 @@ module _ (templates : List Text) where
 
 -- ---- the whole
 
-pub units_refused : (e : EmitError) (p : Program) → RefusesUnits e (units (templates_of p) p.routines.items) → RefusesCode e (compiled (program_of p))
-units_refused error.NoMemory p r = tt
-units_refused error.CodeTooLong p r = λ fits. r (record { locals = fits.limits.locals; len = fits.limits.instructions; writable = fits.writable })
+pub units_refused : (low : LowLaws) (e : EmitError) (p : Program) → ProgramFits (program_of p) → length (program_of p).pool < 2 ^ 32 → RefusesUnits e (units (templates_of p) p.routines.items) → RefusesCode e (compiled (program_of p))
+units_refused low error.NoMemory p fit few r = tt
+units_refused low error.CodeTooLong p fit few r = λ fits. r (units_fit low (program_of p) fit few fits)
+
+-- the parts with the units whose constants have their places
+same_code : (parts : Parts) (us : List Section) (k : Code) → parts.version ≡ k.version → parts.globals ≡ k.globals → names_view parts.names.items ≡ k.names → constants_view parts.constants.items ≡ k.constants → us ≡ k.units → texts_view parts.templates.items ≡ k.templates → spots_view parts.spots.items ≡ k.spots
+    → code_with parts us ≡ k
+same_code parts us k v g n c u t s = λ j. record { version = v j; globals = g j; names = n j; constants = c j; units = u j; templates = t j; spots = s j }
+
+pub parts_are : (p : Program) (parts : Parts) (before : List given.Unit) (places : List ℕ) → each_of section_of_unit before ≡ Some (units (templates_of p) p.routines.items)
+    → ((us : List Section) → each_of section_of_unit before ≡ Some us → each_of section_of_unit parts.units.items ≡ Some (map (moved_unit places) us)) → places ≡ ps (program_of p)
+    → parts.version ≡ (compiled (program_of p)).version → parts.globals ≡ p.globals → names_view parts.names.items ≡ (compiled (program_of p)).names → constants_view parts.constants.items ≡ (compiled (program_of p)).constants
+    → texts_view parts.templates.items ≡ (compiled (program_of p)).templates → spots_view parts.spots.items ≡ (compiled (program_of p)).spots → code_of_parts parts ≡ Some (compiled (program_of p))
+parts_are p parts before places read moves at v g n c t s =
+    let us = units (templates_of p) p.routines.items in
+    ap (option_map (code_with parts)) (moves us read ∙ ap (λ (l : List ℕ). Some (map (moved_unit l) us)) at)
+    ∙ ap Some (same_code parts (map (moved_unit (ps (program_of p))) us) (compiled (program_of p)) v g n c refl t s)
 
 pub templates_refused : (e : EmitError) (p : Program) → RefusesTemplates e (spots.templates_of (places_of (program_of p))) → RefusesCode e (compiled (program_of p))
 templates_refused error.NoMemory p r = tt

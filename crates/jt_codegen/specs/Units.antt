@@ -6,6 +6,8 @@ use Rattle.jt_image.specs.IsCode.{total_len, max_count, max_locals, max_instruct
 use Rattle.jt_image.specs.Parts.{KeepsLimits, IsWritable}
 use Rattle.jt_image.specs.declared.error.ImageError.{ImageError}
 use Rattle.jt_image.specs.declared.error.ImageError.TheVariants as image_error
+use Rattle.jt_resolved.specs.Slots.{Program}
+use Rattle.jt_lower.specs.Lower.{compiled}
 use Rattle.jt_codegen.specs.declared.emission.EmitError.{EmitError}
 use Rattle.jt_codegen.specs.declared.emission.EmitError.TheVariants as error
 
@@ -41,6 +43,10 @@ pub record FitsImage (k : Code) : Type 0 where
   pub globals : k.globals < 2 ^ 16
   pub limits : KeepsLimits k
   pub writable : AllByRecursion IsWritable k.units
+
+-- where an image has place for the code of the program, the places of its pool have place in fields
+abbrev pub HasFewValues : Program → Type 0
+HasFewValues p = FitsImage (compiled p) → length p.pool < 2 ^ 32
 
 -- what a refusal says of a whole code
 abbrev pub RefusesCode : EmitError → Code → Type 0

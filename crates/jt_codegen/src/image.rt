@@ -4,8 +4,9 @@ ghost use Rattle.std.specs.Prelude.{◌≡◌, IfOk, IfErr};
 ghost use Rattle.jt_image.specs.IsCode.{IsCode};
 ghost use Rattle.jt_image.specs.Parts.{HasTables};
 ghost use Rattle.jt_resolved.specs.View.{program_of};
+ghost use Rattle.jt_lower.specs.Fits.{ProgramFits};
 ghost use Rattle.jt_lower.specs.Lower.{compiled};
-ghost use Rattle.jt_codegen.specs.Units.{RefusesCode, of_image};
+ghost use Rattle.jt_codegen.specs.Units.{RefusesCode, HasFewValues, of_image};
 
 use crate::emission::EmitError;
 use crate::tables::parts_of;
@@ -20,7 +21,9 @@ use std::alloc::Global;
 /// `CodeTooLong` where an image has no place for it, `NoMemory` where a growth was refused.
 #[tactic(auto, using(crate::proofs::Refused::assembly_refused))]
 pub(crate) fn image_of(alloc: Global, program: &Program) -> Result<Image, EmitError>
-    requires { HasTables (compiled (program_of program.now)) }
+    requires tables { HasTables (compiled (program_of program.now)) }
+    requires fits { ProgramFits (program_of program.now) }
+    requires few { HasFewValues (program_of program.now) }
     ensures is { IfOk result (λ image. image ≡ compiled (program_of program.now)) }
     ensures whole { IfOk result (λ image. IsCode image) }
     ensures refused { IfErr result (λ e. RefusesCode e (compiled (program_of program.now))) }

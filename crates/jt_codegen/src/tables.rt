@@ -1,23 +1,24 @@
 //! The parts of an image: the tables of names and constants, and the code.
 
 ghost use Rattle.std.specs.Prelude.{◌≡◌, ◌≤◌, List, length, map, string_bytes, Some, IfOk, IfErr};
-ghost use Rattle.jt_value.specs.View.{view};
 ghost use Rattle.jt_image.specs.IsCode.{total_len, max_count, max_instructions};
 ghost use Rattle.jt_image.specs.Parts.{each_of, section_of_unit, code_of_parts};
-ghost use Rattle.jt_image.specs.View.{names_view, constant_view, constants_view};
+ghost use Rattle.jt_image.specs.View.{names_view};
 ghost use Rattle.jt_trees.specs.Expressions.{Text};
 ghost use Rattle.jt_resolved.specs.View.{routine_view, program_of};
 ghost use Rattle.std.specs.List.{flat_map};
-ghost use Rattle.jt_lower.specs.Lower.{constant_of, numbered, unit_of, routine_places, compiled};
+ghost use Rattle.jt_lower.specs.Lower.{numbered, unit_of, routine_places, compiled};
+ghost use Rattle.jt_lower.specs.Fits.{ProgramFits};
 ghost use Rattle.jt_lower.specs.Emission.{places_view};
-ghost use Rattle.jt_codegen.specs.Units.{RefusesUnits, RefusesCode};
+ghost use Rattle.jt_codegen.specs.Units.{RefusesUnits, RefusesCode, HasFewValues};
 ghost use Rattle.jt_codegen.specs.declared.emission.EmitError.TheVariants.{NoMemory};
 
 use crate::emission::{EmitError, emit_unit};
 use crate::places::told_places;
-use jt_image::{Constant, MAX_COUNT, MAX_INSTRUCTIONS, Parts, Unit, Version};
+use jt_constants::{constant_table, move_constants};
+use jt_image::{MAX_COUNT, MAX_INSTRUCTIONS, Parts, Unit, Version};
+use jt_lower::low_laws;
 use jt_resolved::{Place, Program, Routine};
-use jt_value::Value;
 use std::alloc::Global;
 
 /// The parts of the image of a program.
@@ -26,6 +27,8 @@ use std::alloc::Global;
 ///
 /// `CodeTooLong` where an image has no place for them, `NoMemory` where a growth was refused.
 pub(crate) fn parts_of(alloc: Global, program: &Program) -> Result<Parts, EmitError>
+    requires fits { ProgramFits (program_of program.now) }
+    requires few { HasFewValues (program_of program.now) }
     ensures emitted { IfOk result
         (λ p. code_of_parts p ≡ Some (compiled (program_of program.now))) }
     // a code that is too long is refused before it is built
@@ -33,19 +36,25 @@ pub(crate) fn parts_of(alloc: Global, program: &Program) -> Result<Parts, EmitEr
         (λ p. total_len (compiled (program_of program.now)).units ≤ max_instructions) }
     ensures refused { IfErr result (λ e. RefusesCode e (compiled (program_of program.now))) }
 {
+    low_laws();
     let Ok(globals) = u16::try_from(program.globals) else {
         return Err(EmitError::CodeTooLong);
     };
     if program.names.len() > MAX_COUNT {
         return Err(EmitError::CodeTooLong);
     }
-    let code = units_of(alloc, &program.routines)?;
+    if program.pool.len() > u32::MAX as usize {
+        return Err(EmitError::CodeTooLong);
+    }
+    let table = constant_table(alloc, &program.pool)?;
+    let mut code = units_of(alloc, &program.routines)?;
+    move_constants(&mut code.units, &table.places);
     let named = told_places(alloc, &program.templates, &code.places)?;
     Ok(Parts {
         version: Version::Two,
         globals,
         names: names_of(alloc, &program.names)?,
-        constants: constants_of(alloc, &program.pool)?,
+        constants: table.constants,
         units: code.units,
         templates: named.templates,
         spots: named.spots,
@@ -100,40 +109,4 @@ fn names_of(alloc: Global, names: &[String]) -> Result<Vec<(u16, String)>, EmitE
         slot += 1;
     }
     Ok(numbered)
-}
-
-/// The values of a pool as constants.
-fn constants_of(alloc: Global, pool: &[Value]) -> Result<Vec<Constant>, EmitError>
-    ensures held { IfOk result
-        (λ cs. constants_view cs.items ≡ map constant_of (map view pool.now)) }
-    ensures refused { IfErr result (λ e. e ≡ NoMemory) }
-{
-    let mut constants = Vec::with_capacity(alloc, pool.len())?;
-    for value in pool {
-        let constant = constant_of(alloc, value)?;
-        constants.push(constant)?;
-    }
-    Ok(constants)
-}
-
-/// A value of a pool as a constant. A pool has no lists and maps.
-fn constant_of(alloc: Global, value: &Value) -> Result<Constant, EmitError>
-    ensures held { IfOk result (λ c. constant_view c ≡ constant_of (view value.now)) }
-    ensures refused { IfErr result (λ e. e ≡ NoMemory) }
-{
-    match value {
-        Value::Undefined => Ok(Constant::Undefined),
-        Value::None => Ok(Constant::None),
-        Value::Bool(truth) => Ok(Constant::Bool(*truth)),
-        Value::Int(number) => Ok(Constant::Int(*number)),
-        Value::Text(text) => {
-            let copy = String::from_str(alloc, text.as_str())?;
-            Ok(Constant::Text(copy))
-        }
-        Value::Markup(text) => {
-            let copy = String::from_str(alloc, text.as_str())?;
-            Ok(Constant::Markup(copy))
-        }
-        Value::List(_) | Value::Map(_) => Ok(Constant::Undefined),
-    }
 }

@@ -26,7 +26,8 @@ use Rattle.jt_trees.specs.Expressions.{Text}
 use Rattle.jt_evaluation.specs.TheFilters.{the_filters}
 use Rattle.jt_evaluation.specs.Loops.{tree_at}
 use Rattle.jt_lower.specs.Asm.{flat, places, Ran, of_written, run}
-use Rattle.jt_lower.specs.Lower.{body_asm, routine_places, unit_of, constant_of, numbered, compiled}
+use Rattle.jt_constants.specs.Laws.{MergedLaws}
+use Rattle.jt_lower.specs.Lower.{body_asm, routine_places, unit_of, constant_of, numbered, lowered, compiled}
 use Rattle.jt_lower.specs.Fits.{IsPooled, ProgramFits}
 use Rattle.jt_lower.proofs.Placed.{Table, placed_exec, place_in, table_of}
 use Rattle.jt_lower.proofs.Does.{Does}
@@ -66,7 +67,7 @@ text_of_slot : (o : Option Tree) → ((t : Tree) → o ≡ Some t → IsPooled t
 text_of_slot None h = refl
 text_of_slot (Some t) h = text_same t (h t refl)
 
-pub has_pool : (p : Program) → ProgramFits p → HasPool (compiled p) p.pool
+pub has_pool : (p : Program) → ProgramFits p → HasPool (lowered p) p.pool
 has_pool p fit =
     record {
       values = λ i. ap constant_value (slice_get-map constant_of p.pool i) ∙ value_of_slot (slice_get p.pool i) (fit.pooled i);
@@ -145,7 +146,7 @@ written m = gives (record { text = m.out; globals = m.globals })
 
 module _ (p : Program) (fit : ProgramFits p) where
   abbrev k : Code
-  k = compiled p
+  k = lowered p
 
   abbrev table : Table
   table = table_of p
@@ -321,20 +322,21 @@ module _ (p : Program) (fit : ProgramFits p) where
   comes : (x : Pairs) (o : Free) → (j : ℕ) × (placed_exec k table j (start_machine k x) ≡ o) → ComesTo k x o
   comes x o e = (e.0, sym (told_same k table (tells p) e.0 (start_machine k x)) ∙ e.1)
 
-  module _ (runs : HasRuns k) where
-    pub enough_text : (x : Pairs) (n : ℕ) (t : Text) → smean the_filters p x n ≡ gives t → Enough k x (config.text t)
-    enough_text x n t e = runs.enough_text x t (comes x (Finished t) (subst (Follows k table (start_machine k x) n) e (follows x n)))
+  -- the same of the code in which equal constants stand once
+  module _ (merges : MergedLaws) (runs : HasRuns (compiled p)) where
+    pub enough_text : (x : Pairs) (n : ℕ) (t : Text) → smean the_filters p x n ≡ gives t → Enough (compiled p) x (config.text t)
+    enough_text x n t e = runs.enough_text x t (merges.came k x (Finished t) (comes x (Finished t) (subst (Follows k table (start_machine k x) n) e (follows x n))))
 
-    pub enough_fault : (x : Pairs) (n : ℕ) (f : Fault) (q : Option Place) → smean the_filters p x n ≡ fails f q → Enough k x (config.fault f q)
-    enough_fault x n f q e = runs.enough_fault x f q (comes x (Failed f q) (subst (Follows k table (start_machine k x) n) e (follows x n)))
+    pub enough_fault : (x : Pairs) (n : ℕ) (f : Fault) (q : Option Place) → smean the_filters p x n ≡ fails f q → Enough (compiled p) x (config.fault f q)
+    enough_fault x n f q e = runs.enough_fault x f q (merges.came k x (Failed f q) (comes x (Failed f q) (subst (Follows k table (start_machine k x) n) e (follows x n))))
 
-    pub text_means : (x : Pairs) (b : config.Budget) (t : Text) → Run k x b (config.text t) → (n : ℕ) × (smean the_filters p x n ≡ gives t)
+    pub text_means : (x : Pairs) (b : config.Budget) (t : Text) → Run (compiled p) x b (config.text t) → (n : ℕ) × (smean the_filters p x n ≡ gives t)
     text_means x b t r =
-        let e = runs.text x b t r in
+        let e = merges.comes k x (Finished t) (runs.text x b t r) in
         (e.0, text_meant t (smean the_filters p x e.0) (over_free x e.0 (Finished t) (λ w. cc) e.1))
 
     -- a fault of the machine has the place that the meaning says
-    pub fault_means : (x : Pairs) (b : config.Budget) (f : Fault) (q : Option Place) → Run k x b (config.fault f q) → (n : ℕ) × (smean the_filters p x n ≡ fails f q)
+    pub fault_means : (x : Pairs) (b : config.Budget) (f : Fault) (q : Option Place) → Run (compiled p) x b (config.fault f q) → (n : ℕ) × (smean the_filters p x n ≡ fails f q)
     fault_means x b f q r =
-        let e = runs.fault x b f q r in
+        let e = merges.comes k x (Failed f q) (runs.fault x b f q r) in
         (e.0, fault_meant f q (smean the_filters p x e.0) (over_free x e.0 (Failed f q) (λ w. cc) e.1))

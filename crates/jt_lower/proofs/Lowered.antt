@@ -37,7 +37,7 @@ use Rattle.jt_resolved.specs.Slots as slots
 use Rattle.jt_resolved.specs.Slots.{Slot, local, global, Maker, SExpr, SRow, Targets, SStmt, SBody, Routine, Program, Memory, Valued, Listed, Written, SCalls, load, put_at, store, store_if, store_each, take, make, valued, sturns, sgone_over, in_front, svalue, svalues, skept, smeaning, smeanings}
 use Rattle.jt_lower.specs.Asm.{Asm, nil, one, both, choose, when, each, invoke, Ran, does, bad, and_then, of_plain, turns, of_written, into_buffers, called, run}
 use Rattle.jt_resolved.specs.Size.{row_count}
-use Rattle.jt_lower.specs.Lower.{half, maker, told_as, flag, load_of, store_of, expr_asm, row_asm, store_if_of, stores_asm, take_asm, turn_asm, over_asm, kept_asm, stmt_asm, body_asm, unit_of, compiled}
+use Rattle.jt_lower.specs.Lower.{half, maker, told_as, flag, load_of, store_of, expr_asm, row_asm, store_if_of, stores_asm, take_asm, turn_asm, over_asm, kept_asm, stmt_asm, body_asm, unit_of, lowered}
 use Rattle.jt_lower.specs.Fits.{MakerFits, TakesRow, SlotFits, ExprFits, RowFits, SomeFits, SlotsFit, TargetsFit, ConditionFits, StmtFits, BodyFits}
 use Rattle.jt_lower.proofs.Told.{listed_same, has_field, IsTurn, told_same}
 use Rattle.jt_lower.proofs.Does.{Does, same_run, same_meaning, then_does, then_gives, finished, carried, mapped_does, placed, either, and_then_assoc}
@@ -193,9 +193,9 @@ wrong_count [] (v ∷ vs) m h = refl
 wrong_count (s ∷ ss) [] m h = refl
 wrong_count (s ∷ ss) (v ∷ vs) m h = ap (λ g. bind g (λ n. gives (store_if s v n))) (wrong_count ss vs m (λ e. h (ap suc e)))
 
-module _ (p : Program) (call : SCalls) (has : HasPool (compiled p) p.pool) (keep : CallsKeep p.globals call) (count : ℕ) where
+module _ (p : Program) (call : SCalls) (has : HasPool (lowered p) p.pool) (keep : CallsKeep p.globals call) (count : ℕ) where
   abbrev k : Code
-  k = compiled p
+  k = lowered p
 
   abbrev code : Asm → State → Ran
   code a s = run k call a s

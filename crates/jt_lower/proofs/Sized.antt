@@ -6,7 +6,7 @@ use Rattle.jt_value.specs.Place.{Place}
 use Rattle.jt_resolved.specs.Slots as slots
 use Rattle.jt_resolved.specs.Slots.{Slot, SExpr, SRow, Targets, SStmt, SBody, Routine, Program}
 use Rattle.jt_lower.specs.Asm.{Asm, nil, one, both, choose, when, each, invoke, flat}
-use Rattle.jt_lower.specs.Lower.{expr_asm, row_asm, stores_asm, take_asm, kept_asm, stmt_asm, body_asm, unit_of, compiled}
+use Rattle.jt_lower.specs.Lower.{expr_asm, row_asm, stores_asm, take_asm, kept_asm, stmt_asm, body_asm, unit_of, lowered}
 use Rattle.jt_resolved.specs.Size.{expr_size, row_size, targets_size, condition_size, stmt_size, body_size, routines_size}
 
 abbrev pub asm_size : Asm → ℕ
@@ -80,5 +80,5 @@ units_sized : (rs : List (Routine ℕ)) → total_len (map unit_of rs) ≡ routi
 units_sized [] = refl
 units_sized (r ∷ rs) = omega (arith, length-append (flat (body_asm r.body 0) 0) (op.Return ∷ []), flat_size (body_asm r.body 0) 0, body_sized r.body 0, units_sized rs)
 
-pub program_sized : (p : Program) → total_len (compiled p).units ≡ routines_size p.routines
+pub program_sized : (p : Program) → total_len (lowered p).units ≡ routines_size p.routines
 program_sized p = units_sized p.routines

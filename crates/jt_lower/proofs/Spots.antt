@@ -21,7 +21,7 @@ use Rattle.jt_trees.specs.Expressions.{Text}
 use Rattle.jt_trees.specs.Texts.{inserted, all_inserted}
 use Rattle.jt_lower.specs.Asm.{flat, places}
 use Rattle.jt_lower.specs.Spots.{templates_in, templates_of, number_of, spot_of}
-use Rattle.jt_lower.specs.Lower.{body_asm, routine_places, places_of, unit_of, compiled}
+use Rattle.jt_lower.specs.Lower.{body_asm, routine_places, places_of, unit_of, lowered}
 use Rattle.jt_lower.proofs.Placed.{place_in, table_of}
 use Rattle.jt_lower.proofs.Follows.{placed}
 
@@ -152,14 +152,14 @@ module _ (p : Program) where
 
   at_unit : (u n : ℕ) (x : Section × Instruction) (o : Option (Routine ℕ)) → slice_get p.routines u ≡ o
       → option_and_then (λ (s : Section). option_and_then (λ (i : Instruction). Some (s, i)) (slice_get s.code n)) (option_map unit_of o) ≡ Some x
-      → place_at (compiled p) u n ≡ place_in (option_map routine_places o) n
+      → place_at (lowered p) u n ≡ place_in (option_map routine_places o) n
   at_unit u n x None is e = absurd cc
   at_unit u n x (Some r) is e = within (slice_get (unit_of r).code n) refl e
     where
       number : ℕ
       number = total_len (take u (map unit_of p.routines)) + n
 
-      within : (o : Option Instruction) → slice_get (unit_of r).code n ≡ o → option_and_then (λ (i : Instruction). Some (unit_of r, i)) o ≡ Some x → place_at (compiled p) u n ≡ option_and_then (λ q. q) (slice_get (routine_places r) n)
+      within : (o : Option Instruction) → slice_get (unit_of r).code n ≡ o → option_and_then (λ (i : Instruction). Some (unit_of r, i)) o ≡ Some x → place_at (lowered p) u n ≡ option_and_then (λ q. q) (slice_get (routine_places r) n)
       within None there e' = absurd cc
       within (Some i) there e' =
           let here : slice_get qs number ≡ slice_get (routine_places r) n = at_number p.routines u n r is (slice_get_within (unit_of r).code n i there) in
@@ -167,7 +167,7 @@ module _ (p : Program) where
           ∙ told number (slice_get qs number) refl
           ∙ ap (λ (o : Option (Option Place)). option_and_then (λ q. q) o) here
 
-pub tells : (p : Program) (u n : ℕ) (x : Section × Instruction) → fetch (compiled p) u n ≡ Some x → place_at (compiled p) u n ≡ table_of p u n
+pub tells : (p : Program) (u n : ℕ) (x : Section × Instruction) → fetch (lowered p) u n ≡ Some x → place_at (lowered p) u n ≡ table_of p u n
 tells p u n x e =
     at_unit p u n x (slice_get p.routines u) refl (ap (option_and_then (λ (s : Section). option_and_then (λ (i : Instruction). Some (s, i)) (slice_get s.code n))) (sym (slice_get-map unit_of p.routines u)) ∙ e)
     ∙ ap (λ (o : Option (List (Option Place))). place_in o n) (sym (slice_get-map routine_places p.routines u))

@@ -24,7 +24,7 @@ use Rattle.jt_resolved.specs.Slots as slots
 use Rattle.jt_resolved.specs.Slots.{Slot, local, global, Maker, SExpr, SRow, Targets, SStmt, SBody, Routine, Program}
 use Rattle.jt_lower.specs.Asm.{Asm, nil, one, both, choose, when, each, invoke, flat}
 use Rattle.jt_resolved.specs.Size.{row_count, expr_height, row_height, targets_height, condition_height, stmt_height, body_height}
-use Rattle.jt_lower.specs.Lower.{maker, told_as, flag, load_of, store_of, expr_asm, row_asm, store_if_of, stores_asm, take_asm, turn_asm, over_asm, kept_asm, stmt_asm, body_asm, unit_of, constant_of, compiled}
+use Rattle.jt_lower.specs.Lower.{maker, told_as, flag, load_of, store_of, expr_asm, row_asm, store_if_of, stores_asm, take_asm, turn_asm, over_asm, kept_asm, stmt_asm, body_asm, unit_of, constant_of, lowered}
 use Rattle.jt_lower.specs.Fits.{MakerFits, TakesRow, SlotFits, ExprFits, RowFits, SomeFits, SlotsFit, TargetsFit, ConditionFits, TextFits, StmtFits, BodyFits, RoutineFits, ProgramFits}
 use Rattle.jt_lower.proofs.Told.{has_field}
 use Rattle.jt_lower.proofs.Lowered.{lt_true, eq_true, has_operator, has_test, halved}
@@ -248,7 +248,7 @@ some_targets (slots.several ss) = omega arith
 
 module _ (p : Program) (count : ℕ) where
   abbrev k : Code
-  k = compiled p
+  k = lowered p
 
   abbrev Leading : Asm → Shape → Shape → Type 0
   Leading a S T = Types k count a S T
@@ -439,9 +439,9 @@ module _ (p : Program) (count : ℕ) where
     body_types (slots.stmt s rest) inside h S f fr le = (S, stmt_types s inside h S f.0 fr (omega arith), body_types rest inside h S f.1 fr (omega arith))
 
 -- a routine's unit
-unit_typed : (p : Program) (r : Routine ℕ) → RoutineFits p r → IsTypedUnit Equal (compiled p) (unit_of r)
+unit_typed : (p : Program) (r : Routine ℕ) → RoutineFits p r → IsTypedUnit Equal (lowered p) (unit_of r)
 unit_typed p r f =
-    let k = compiled p in
+    let k = lowered p in
     let n = r.locals in
     let u = unit_of r in
     let a = body_asm r.body 0 in
@@ -473,15 +473,15 @@ unit_typed p r f =
     some_is : (a b : Shape) (o : Option Shape) → o ≡ Some a → o ≡ Some b → a ≡ b
     some_is a b o e f = cc
 
-typed_unit : (p : Program) → ProgramFits p → (n : ℕ) (o : Option (Routine ℕ)) (u : Section) → slice_get p.routines n ≡ o → slice_get (compiled p).units n ≡ Some u → IsTypedUnit Equal (compiled p) u
+typed_unit : (p : Program) → ProgramFits p → (n : ℕ) (o : Option (Routine ℕ)) (u : Section) → slice_get p.routines n ≡ o → slice_get (lowered p).units n ≡ Some u → IsTypedUnit Equal (lowered p) u
 typed_unit p f n None u is e =
-    let none : slice_get (compiled p).units n ≡ None = slice_get-map unit_of p.routines n ∙ ap (option_map unit_of) is in
+    let none : slice_get (lowered p).units n ≡ None = slice_get-map unit_of p.routines n ∙ ap (option_map unit_of) is in
     absurd cc
 typed_unit p f n (Some r) u is e =
-    let some : slice_get (compiled p).units n ≡ Some (unit_of r) = slice_get-map unit_of p.routines n ∙ ap (option_map unit_of) is in
+    let some : slice_get (lowered p).units n ≡ Some (unit_of r) = slice_get-map unit_of p.routines n ∙ ap (option_map unit_of) is in
     let same : unit_of r ≡ u = cc in
-    subst (IsTypedUnit Equal (compiled p)) same (unit_typed p r (f.routines n r is))
+    subst (IsTypedUnit Equal (lowered p)) same (unit_typed p r (f.routines n r is))
 
 -- the code of every program that fits is typed
-pub compiled_typed : (p : Program) → ProgramFits p → IsTyped (compiled p)
-compiled_typed p f = λ n u e. typed_unit p f n (slice_get p.routines n) u refl e
+pub lowered_typed : (p : Program) → ProgramFits p → IsTyped (lowered p)
+lowered_typed p f = λ n u e. typed_unit p f n (slice_get p.routines n) u refl e

@@ -1,28 +1,41 @@
 -- The laws of the code of programs.
+use Rattle.std.proofs.Common.{◌∙◌}
 use Rattle.jt_image.specs.IsCode.{IsCode}
 use Rattle.jt_image.specs.Laws.{CodeLaws}
+use Rattle.jt_constants.specs.Laws.{MergedLaws}
 use Rattle.jt_resolved.specs.Slots.{Program}
 use Rattle.jt_evaluation.specs.TheFilters.{the_filters}
-use Rattle.jt_lower.specs.Lower.{compiled}
+use Rattle.jt_lower.specs.Lower.{lowered, compiled}
 use Rattle.jt_lower.specs.Fits.{ProgramFits}
 use Rattle.jt_lower.specs.Compiles.{DoesProgram, LowLaws}
 use Rattle.jt_lower.proofs.Fitting.{lawful_fits, placed_low, same_size}
 use Rattle.jt_lower.proofs.Pooled.{pooled_same}
 use Rattle.jt_lower.proofs.Follows.{placed}
 use Rattle.jt_lower.proofs.Sized.{program_sized}
-use Rattle.jt_lower.proofs.Written.{program_written}
-use Rattle.jt_lower.proofs.Typed.{compiled_typed}
+use Rattle.jt_lower.proofs.Written.{lowered_written, program_written}
+use Rattle.jt_lower.proofs.Typed.{lowered_typed}
 use Rattle.jt_lower.proofs.Correct.{text_means, fault_means, enough_text, enough_fault}
 
-does_program : CodeLaws → (p : Program) → ProgramFits p → IsCode (compiled p) → DoesProgram p
-does_program laws p fit whole =
-    let runs = laws.runs (compiled p) whole (compiled_typed p fit) in
+does_program : CodeLaws → MergedLaws → (p : Program) → ProgramFits p → IsCode (compiled p) → DoesProgram p
+does_program laws merges p fit whole =
+    let runs = laws.runs (compiled p) whole (merges.typed (lowered p) (lowered_typed p fit)) in
     record {
-      texts = λ x b t r. text_means p fit runs x b t r;
-      faults = λ x b f q r. fault_means p fit runs x b f q r;
-      enough_text = λ x n t e. enough_text p fit runs x n t e;
-      enough_fault = λ x n f q e. enough_fault p fit runs x n f q e;
+      texts = λ x b t r. text_means p fit merges runs x b t r;
+      faults = λ x b f q r. fault_means p fit merges runs x b f q r;
+      enough_text = λ x n t e. enough_text p fit merges runs x n t e;
+      enough_fault = λ x n f q e. enough_fault p fit merges runs x n f q e;
     }
 
-pub laws_hold : CodeLaws → LowLaws
-laws_hold laws = record { fits = lawful_fits; pooled = pooled_same the_filters; typed = compiled_typed; right = does_program laws; one_place = placed; sized = program_sized; low = placed_low; written = program_written; same_size = same_size }
+pub laws_hold : CodeLaws → MergedLaws → LowLaws
+laws_hold laws merges = record {
+  fits = lawful_fits;
+  pooled = pooled_same the_filters;
+  typed = λ p fit. merges.typed (lowered p) (lowered_typed p fit);
+  right = does_program laws merges;
+  one_place = placed;
+  sized = λ p. merges.sized (lowered p) ∙ program_sized p;
+  low = placed_low;
+  emitted = lowered_written;
+  written = program_written;
+  same_size = same_size;
+}

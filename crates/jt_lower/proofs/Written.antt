@@ -28,8 +28,10 @@ use Rattle.jt_value.specs.Place.{Place}
 use Rattle.jt_resolved.specs.Slots as slots
 use Rattle.jt_resolved.specs.Slots.{Slot, local, global, Maker, SExpr, SRow, Targets, SStmt, SBody, Routine, Program}
 use Rattle.jt_resolved.specs.Size.{row_count, targets_height, expr_height, row_height, condition_height, stmt_height, body_height}
+use Rattle.jt_constants.specs.Merged.{new_places, moved_unit}
+use Rattle.jt_constants.proofs.Sizes.{units_len, units_room}
 use Rattle.jt_lower.specs.Asm.{Asm, nil, one, both, choose, when, each, invoke, flat}
-use Rattle.jt_lower.specs.Lower.{half, flag, maker, told_as, load_of, store_of, store_if_of, expr_asm, row_asm, stores_asm, take_asm, kept_asm, stmt_asm, body_asm, unit_of, constant_of, compiled}
+use Rattle.jt_lower.specs.Lower.{half, flag, maker, told_as, load_of, store_of, store_if_of, expr_asm, row_asm, stores_asm, take_asm, kept_asm, stmt_asm, body_asm, unit_of, constant_of, lowered, compiled}
 use Rattle.jt_lower.specs.Fits.{MakerFits, TakesRow, SlotFits, ExprFits, RowFits, SomeFits, SlotsFit, TargetsFit, ConditionFits, StmtFits, BodyFits, RoutineFits, ProgramFits}
 use Rattle.jt_lower.proofs.Sized.{asm_size, flat_size}
 use Rattle.jt_lower.proofs.Fitting.{all_append}
@@ -285,6 +287,18 @@ routines_written p pool globals units [] fits locals len = tt
 routines_written p pool globals units (r ∷ rs) fits locals len =
     (routine_written p r pool globals units locals.0 (omega (arith, len)) (fits 0 r refl), routines_written p pool globals units rs (λ u s e. fits (suc u) s e) locals.1 (omega (arith, len)))
 
-pub program_written : (p : Program) → ProgramFits p → p.globals < 2 ^ 16 → KeepsLimits (compiled p) → AllByRecursion (λ u. AllByRecursion IsInstruction u.code) (compiled p).units
-program_written p fit globals limits =
-    routines_written p (omega (arith, limits.constants, length-map p.pool constant_of)) (omega (arith, globals)) (omega (arith, limits.units, length-map p.routines unit_of)) p.routines fit.routines limits.locals limits.instructions
+-- locals are those of before
+locals_before : (places : List ℕ) (us : List Section) → AllByRecursion (λ u. u.locals ≤ max_locals) (map (moved_unit places) us) → AllByRecursion (λ u. u.locals ≤ max_locals) us
+locals_before places [] h = tt
+locals_before places (u ∷ us) h = (h.0, locals_before places us h.1)
+
+-- before constants have their places in the table
+pub lowered_written : (p : Program) → ProgramFits p → p.globals < 2 ^ 16 → length p.pool ≤ 2 ^ 32 → KeepsLimits (compiled p) → AllByRecursion Written (map unit_of p.routines)
+lowered_written p fit globals pool limits =
+    let places = new_places (lowered p).constants in
+    let us = map unit_of p.routines in
+    let units : length p.routines ≤ 2 ^ 32 = omega (arith, limits.units, length-map us (moved_unit places), length-map p.routines unit_of) in
+    routines_written p pool (omega (arith, globals)) units p.routines fit.routines (locals_before places us limits.locals) (omega (arith, limits.instructions, units_len places us))
+
+pub program_written : (p : Program) → ProgramFits p → p.globals < 2 ^ 16 → length p.pool ≤ 2 ^ 32 → KeepsLimits (compiled p) → AllByRecursion Written (compiled p).units
+program_written p fit globals pool limits = units_room (lowered p).constants (omega (arith, pool, length-map p.pool constant_of)) (map unit_of p.routines) (lowered_written p fit globals pool limits)

@@ -1,5 +1,5 @@
 -- What it is for the code of a program to be right.
-use Rattle.std.specs.Prelude.{◌≡◌, ℕ, ◌<◌, ◌≤◌, ◌^◌, List, ◌++◌, Option, length}
+use Rattle.std.specs.Prelude.{◌≡◌, ℕ, ◌<◌, ◌≤◌, ◌^◌, List, ◌++◌, Option, length, map}
 use Rattle.std.specs.List.{AllByRecursion}
 use Rattle.jt_value.specs.Tree.{Tree}
 use Rattle.jt_value.specs.Pairs.{Pairs}
@@ -19,7 +19,7 @@ use Rattle.jt_resolved.specs.Slots.{Routine, Program, smean_of, smean}
 use Rattle.jt_resolved.specs.Pool.{Constant, constant_in, routines_values, placed_routines}
 use Rattle.jt_evaluation.specs.Loops.{tree_at}
 use Rattle.jt_lower.specs.Asm.{Asm, flat, places}
-use Rattle.jt_lower.specs.Lower.{compiled}
+use Rattle.jt_lower.specs.Lower.{unit_of, compiled}
 use Rattle.jt_lower.specs.Fits.{ProgramFits}
 use Rattle.jt_lower.specs.Lawful.{program_with, AreLawful, AreLow}
 use Rattle.jt_resolved.specs.Size.{body_height, routines_size}
@@ -45,6 +45,8 @@ pub record LowLaws : Type 0 where
   pub sized : (p : Program) → total_len (compiled p).units ≡ routines_size p.routines
   -- constants that have got their places need as many entries as before
   pub low : (rs : List (Routine Constant)) (n : ℕ) → AllByRecursion (λ r. body_height r.body ≤ max_entries) (placed_routines rs n) → AreLow rs
-  -- where the limits of images are kept, the fields of each instruction have place for what it holds
-  pub written : (p : Program) → ProgramFits p → p.globals < 2 ^ 16 → KeepsLimits (compiled p) → AllByRecursion (λ u. AllByRecursion IsInstruction u.code) (compiled p).units
+  -- where the limits of images are kept, the fields of each instruction have place for what it holds, before constants have their places in the table and
+  -- then: the pool may be larger than the table
+  pub emitted : (p : Program) → ProgramFits p → p.globals < 2 ^ 16 → length p.pool ≤ 2 ^ 32 → KeepsLimits (compiled p) → AllByRecursion (λ u. AllByRecursion IsInstruction u.code) (map unit_of p.routines)
+  pub written : (p : Program) → ProgramFits p → p.globals < 2 ^ 16 → length p.pool ≤ 2 ^ 32 → KeepsLimits (compiled p) → AllByRecursion (λ u. AllByRecursion IsInstruction u.code) (compiled p).units
   pub same_size : (rs : List (Routine Constant)) (n : ℕ) → routines_size (placed_routines rs n) ≡ routines_size rs

@@ -1,8 +1,6 @@
 -- The code of resolved programs, its jumps still in pairs.
 use Rattle.std.specs.Prelude.{ℕ, zero, suc, Bool, true, false, List, [], ◌∷◌, ◌++◌, length, map, Option, Some, None}
 use Rattle.std.specs.List.{flat_map}
-use Rattle.jt_value.specs.Tree as tree
-use Rattle.jt_value.specs.Tree.{Tree}
 use Rattle.jt_ids.specs.OpTable.{op_id}
 use Rattle.jt_ids.specs.TestTable.{test_id}
 use Rattle.jt_image.specs.declared.instruction.Instruction.{Instruction}
@@ -11,8 +9,9 @@ use Rattle.jt_image.specs.declared.loop_field.LoopField.{LoopField}
 use Rattle.jt_image.specs.declared.loop_field.LoopField.TheVariants as of_loop
 use Rattle.jt_image.specs.Loops.{field_id}
 use Rattle.jt_image.specs.declared.version.Version.TheVariants as version
-use Rattle.jt_image.specs.Code as code
-use Rattle.jt_image.specs.Code.{Constant, Name, Section, Code}
+use Rattle.jt_image.specs.Code.{Name, Section, Code}
+pub use Rattle.jt_constants.specs.Merged.{constant_of}
+use Rattle.jt_constants.specs.Merged.{merged}
 use Rattle.jt_value.specs.Place.{Place}
 use Rattle.jt_trees.specs.Expressions.{Text}
 use Rattle.jt_evaluation.specs.Loops as loops
@@ -127,17 +126,6 @@ abbrev mutual
 abbrev pub unit_of : Routine ℕ → Section
 unit_of r = record { parameters = r.parameters; kind = 0; locals = r.locals; code = flat (body_asm r.body 0) 0 ++ op.Return ∷ [] }
 
--- the values of a pool are constants; it has no lists and maps
-abbrev pub constant_of : Tree → Constant
-constant_of tree.undefined = code.undefined
-constant_of tree.nothing = code.nothing
-constant_of (tree.truth_value b) = code.truth_value b
-constant_of (tree.number z) = code.number z
-constant_of (tree.text s) = code.text s
-constant_of (tree.markup s) = code.markup s
-constant_of (tree.list ts) = code.undefined
-constant_of (tree.map es) = code.undefined
-
 -- each name with its slot
 abbrev pub numbered : ℕ → List Text → List Name
 numbered n [] = []
@@ -151,9 +139,9 @@ routine_places r = places (body_asm r.body 0) ++ None ∷ []
 abbrev pub places_of : Program → List (Option Place)
 places_of p = flat_map routine_places p.routines
 
--- the code of a program
-abbrev pub compiled : Program → Code
-compiled p =
+-- the code of a program, with a constant for each place of the pool
+abbrev pub lowered : Program → Code
+lowered p =
     record {
       version = version.Two;
       globals = p.globals;
@@ -163,3 +151,7 @@ compiled p =
       templates = templates_of (places_of p);
       spots = map (spot_of (templates_of (places_of p))) (places_of p);
     }
+
+-- the code of a program, in which equal constants stand once
+abbrev pub compiled : Program → Code
+compiled p = merged (lowered p)

@@ -2,7 +2,7 @@ use Rattle.std.proofs.lemmas.Result.{err_from_is_err_and}
 use Rattle.jt_chains.specs.View.{chain_view}
 use Rattle.jt_resolved.specs.View.{program_of}
 use Rattle.jt_codegen.proofs.Chained.{only_chain}
-use Rattle.jt_codegen.proofs.Images.{low_of, high_of, chain_refused, rule_refused, tables_of, image_compiled, stack_refused, stack_not_small, code_refused, code_not_small}
+use Rattle.jt_codegen.proofs.Images.{low_of, high_of, chain_refused, rule_refused, tables_of, fits_of, few_of, image_compiled, stack_refused, stack_not_small, code_refused, code_not_small}
 use Rattle.jt_codegen.proofs.compiling.compile.Goals as goal
 
 pub returns-in_err-chain-clause-refused : goal.returns-in_err-chain-clause-refused
@@ -35,9 +35,23 @@ returns-then-not-fits_entries-clause-small g c =
     (program_of q) c.in_ok-program.ensures.resolved high c.in_ok-chain.ensures.weighs in
     λ limit. not_small
 
-pub image_of-requires : goal.image_of-requires
-image_of-requires g c =
+pub image_of-requires-clause-tables : goal.image_of-requires-clause-tables
+image_of-requires-clause-tables g c =
     tables_of c.code_laws.ensures c.low_laws.ensures c.program_laws.ensures (g.L.Library.sources c.args.library.now) c.args.entry.now c.args.options (chain_view c.in_ok-chain.chain)
+    (only_chain (g.L.Library.sources c.args.library.now) c.args.entry.now c.args.options (chain_view c.in_ok-chain.chain) c.in_ok-chain.ensures.chained c.in_ok-chain.ensures.only) c.in_ok-program.ensures.kept
+    (program_of c.in_ok-program.program) c.in_ok-program.ensures.resolved
+
+pub image_of-requires-clause-fits : goal.image_of-requires-clause-fits
+image_of-requires-clause-fits g c =
+    let q = c.in_ok-program.program in
+    let low = low_of q c.deref.result.now c.fits_entries.result c.deref.ensures.value c.fits_entries.ensures c.if-not-fits_entries.false in
+    fits_of c.code_laws.ensures c.low_laws.ensures c.program_laws.ensures (g.L.Library.sources c.args.library.now) c.args.entry.now c.args.options (chain_view c.in_ok-chain.chain)
+    (only_chain (g.L.Library.sources c.args.library.now) c.args.entry.now c.args.options (chain_view c.in_ok-chain.chain) c.in_ok-chain.ensures.chained c.in_ok-chain.ensures.only) c.in_ok-program.ensures.kept
+    (program_of q) c.in_ok-program.ensures.resolved low
+
+pub image_of-requires-clause-few : goal.image_of-requires-clause-few
+image_of-requires-clause-few g c =
+    few_of c.code_laws.ensures c.low_laws.ensures c.program_laws.ensures (g.L.Library.sources c.args.library.now) c.args.entry.now c.args.options (chain_view c.in_ok-chain.chain)
     (only_chain (g.L.Library.sources c.args.library.now) c.args.entry.now c.args.options (chain_view c.in_ok-chain.chain) c.in_ok-chain.ensures.chained c.in_ok-chain.ensures.only) c.in_ok-program.ensures.kept
     (program_of c.in_ok-program.program) c.in_ok-program.ensures.resolved
 

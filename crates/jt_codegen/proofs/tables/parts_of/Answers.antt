@@ -1,10 +1,21 @@
-use Rattle.std.proofs.Common.{◌≤◌, List, map, string_bytes, arith, subst}
+use Rattle.std.proofs.Common.{◌≡◌, ◌<◌, ◌≤◌, ◌^◌, List, Some, length, map, string_bytes, arith, refl, ap, ◌∙◌, subst, rules}
+use Rattle.std.proofs.lemmas.Result.{err_from_is_err_and}
+use Rattle.jt_value.specs.View.{view}
+use Rattle.jt_value.specs.declared.value.Value.{Value}
+use Rattle.std.specs.Vec.{with_items}
+use Rattle.jt_image.specs.declared.parts.Parts.{Parts}
+use Rattle.jt_image.specs.declared.version.Version.TheVariants as version
+use Rattle.jt_image.specs.Parts.{each_of, section_of_unit}
+use Rattle.jt_constants.specs.Merged.{constant_of, each_once, new_places}
+use Rattle.jt_constants.proofs.Sizes.{units_len}
 use Rattle.jt_image.specs.IsCode.{total_len, max_instructions}
-use Rattle.jt_resolved.specs.View.{routine_view, templates_of}
+use Rattle.jt_resolved.specs.View.{routine_view, templates_of, program_of}
 use Rattle.jt_resolved.specs.declared.program.Routine.{Routine}
 use Rattle.jt_lower.specs.Lower.{unit_of}
-use Rattle.std.proofs.lemmas.List.{length-map}
-use Rattle.jt_codegen.proofs.Tabled.{numbered_len}
+use Rattle.std.proofs.lemmas.List.{length-map, with_items_is}
+use Rattle.jt_codegen.specs.Units.{RefusesUnits}
+use Rattle.jt_codegen.proofs.Merging.{ps}
+use Rattle.jt_codegen.proofs.Tabled.{numbered_len, units_refused, parts_are}
 use Rattle.jt_codegen.proofs.tables.parts_of.Goals as goal
 
 pub returns-then-len-gt-MAX_COUNT-clause-refused : goal.returns-then-len-gt-MAX_COUNT-clause-refused
@@ -14,5 +25,36 @@ returns-then-len-gt-MAX_COUNT-clause-refused c = λ fits.
 
 pub returns-clause-short : goal.returns-clause-short
 returns-clause-short c =
-    let ts = templates_of c.args.program.now in
-    subst (λ (rs : List Routine). total_len (map unit_of (map (routine_view ts) rs)) ≤ max_instructions) c.deref.ensures.value (c.in_ok-code.ensures.short ts)
+    let p = c.args.program.now in
+    let ts = templates_of p in
+    let short : total_len (map unit_of (map (routine_view ts) p.routines.items)) ≤ max_instructions = subst (λ (rs : List Routine). total_len (map unit_of (map (routine_view ts) rs)) ≤ max_instructions) c.deref-2.ensures.value (c.in_ok-code.ensures.short ts) in
+    omega (arith, short, units_len (ps (program_of p)) (map unit_of (map (routine_view ts) p.routines.items)))
+
+pub returns-in_err-code-clause-refused : goal.returns-in_err-code-clause-refused
+returns-in_err-code-clause-refused c =
+    let p = c.args.program.now in
+    let ts = templates_of p in
+    let e = c.in_err-code.field-0.0 in
+    let told = err_from_is_err_and c.from_residual-in_err-code.result c.from_residual-in_err-code.ensures.1 in
+    let few : length (program_of p).pool < 2 ^ 32 = omega (arith, length-map p.pool.items view, c.len-2.ensures, p.pool.ok.0, c.if-len.false) in
+    rw (told.1, told.2) (units_refused c.low_laws.ensures e p c.requires.fits few (subst (λ (rs : List Routine). RefusesUnits e (map unit_of (map (routine_view ts) rs))) c.deref-2.ensures.value (c.in_err-code.ensures.refused ts)))
+
+pub returns-clause-emitted : goal.returns-clause-emitted
+returns-clause-emitted c =
+    let p = c.args.program.now in
+    let ts = templates_of p in
+    let code = c.in_ok-code.code in
+    let read = subst (λ (rs : List Routine). each_of section_of_unit code.units.items ≡ Some (map unit_of (map (routine_view ts) rs))) c.deref-2.ensures.value (c.in_ok-code.ensures.emitted ts) in
+    let at = c.deref-3.ensures.value ∙ c.in_ok-table.ensures.places ∙ ap (λ (vs : List Value). new_places (map constant_of (map view vs))) c.deref.ensures.value in
+    let once = c.in_ok-table.ensures.once ∙ ap (λ (vs : List Value). each_once (map constant_of (map view vs))) c.deref.ensures.value in
+    let parts : Parts = record {
+      version = version.Two;
+      globals = c.in-Ok.globals;
+      names = c.in_ok-names_of.field-0;
+      constants = c.in_ok-table.table.constants;
+      units = with_items code.units c.move_constants.new.units;
+      templates = c.in_ok-named.named.templates;
+      spots = c.in_ok-named.named.spots;
+    } in
+    let len : length c.move_constants.new.units ≡ code.units.len = omega (arith, c.move_constants.auto.units, ap length c.deref_mut.ensures.value, code.units.ok.0) in
+    parts_are p parts code.units.items c.deref-3.result.now read (λ us e. ap (each_of section_of_unit) (with_items_is code.units c.move_constants.new.units len) ∙ c.move_constants.ensures us (ap (each_of section_of_unit) c.deref_mut.ensures.value ∙ e)) at refl (search rules) (search rules) once (search rules) (search rules)

@@ -1,0 +1,88 @@
+//! The table of constants of a pool of values.
+
+ghost use Rattle.std.specs.Prelude.{◌≡◌, ◌<◌, ◌^◌, length, map, IfOk};
+ghost use Rattle.jt_value.specs.View.{view};
+ghost use Rattle.jt_image.specs.View.{constant_view, constants_view};
+ghost use Rattle.jt_constants.specs.Merged.{constant_of, each_once, new_places};
+ghost use Rattle.jt_constants.specs.Keys.{key_view};
+
+use jt_image::Constant;
+use jt_value::Value;
+use std::alloc::{AllocError, Global};
+use std::collections::BTreeMap;
+
+/// The constants of a pool, each once.
+#[derive(Drop)]
+pub struct ConstantTable {
+    /// The constants, in the order of their first places in the pool.
+    pub constants: Vec<Constant>,
+    /// Where each value of the pool stands among them.
+    pub places: Vec<u32>,
+}
+
+/// What tells constants apart.
+#[derive(Clone, Copy, PartialEq, Eq, PartialOrd, Ord)]
+enum Key<'a> {
+    Undefined,
+    None,
+    Bool(bool),
+    Int(i64),
+    Text(&'a str),
+    Markup(&'a str),
+}
+
+/// The table of the constants of a pool.
+pub fn constant_table(alloc: Global, pool: &[Value]) -> Result<ConstantTable, AllocError>
+    requires few { length pool.now < 2 ^ 32 }
+    ensures once { IfOk result (λ t. constants_view t.constants.items
+        ≡ each_once (map constant_of (map view pool.now))) }
+    ensures places { IfOk result (λ t. t.places.items
+        ≡ new_places (map constant_of (map view pool.now))) }
+{
+    let mut constants = Vec::new(alloc);
+    let mut places = Vec::with_capacity(alloc, pool.len())?;
+    let mut known = BTreeMap::new(alloc);
+    for value in pool {
+        let key = key_of(value);
+        let place = match known.get(&key) {
+            Some(place) => *place,
+            None => {
+                let place = constants.len() as u32;
+                known.insert(key, place)?;
+                constants.push(constant_of(alloc, key)?)?;
+                place
+            }
+        };
+        places.push(place)?;
+    }
+    Ok(ConstantTable { constants, places })
+}
+
+/// What tells a value of a pool from others. A pool has no lists and maps.
+fn key_of(value: &Value) -> Key<'_>
+    ensures { key_view result ≡ constant_of (view value.now) }
+{
+    match value {
+        Value::Undefined => Key::Undefined,
+        Value::None => Key::None,
+        Value::Bool(truth) => Key::Bool(*truth),
+        Value::Int(number) => Key::Int(*number),
+        Value::Text(text) => Key::Text(text.as_str()),
+        Value::Markup(text) => Key::Markup(text.as_str()),
+        Value::List(_) | Value::Map(_) => Key::Undefined,
+    }
+}
+
+/// The constant of a key.
+fn constant_of(alloc: Global, key: Key<'_>) -> Result<Constant, AllocError>
+    ensures { IfOk result (λ c. constant_view c ≡ key_view key.entry) }
+{
+    match key {
+        Key::Undefined => Ok(Constant::Undefined),
+        Key::None => Ok(Constant::None),
+        Key::Bool(truth) => Ok(Constant::Bool(truth)),
+        Key::Int(number) => Ok(Constant::Int(number)),
+        Key::Text(text) => Ok(Constant::Text(String::from_str(alloc, text)?)),
+        Key::Markup(text) => Ok(Constant::Markup(String::from_str(alloc, text)?)),
+    }
+}
