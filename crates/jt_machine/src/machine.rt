@@ -211,13 +211,13 @@ fn take_steps<C: Code>(
     code_laws();
     let mut left = u64::from(k);
     let mut made = Made::new(alloc);
-    let mut pause = 0u8;
+    let mut ahead = None;
     'steps: loop {
-        left = hurry(code, state, left, &mut pause);
+        left = hurry(code, state, left, &mut ahead);
         if left == 0 {
             return Ok(None);
         }
-        if let Some(outcome) = step(alloc, code, &mut made, state)? {
+        if let Some(outcome) = step(alloc, code, &mut made, state, ahead)? {
             return Ok(Some(outcome));
         }
         left -= 1;

@@ -120,11 +120,11 @@ fn write_code<C: Code, W: Sink>(
     }
     let mut state = start(alloc, code, context, budget)?;
     let mut made = Made::new(alloc);
-    let mut pause = 0u8;
+    let mut ahead = None;
     'steps: loop {
         send(&mut state, sink)?;
-        hurry(code, &mut state, u64::MAX, &mut pause);
-        if let Some(outcome) = step(alloc, code, &mut made, &mut state)? {
+        hurry(code, &mut state, u64::MAX, &mut ahead);
+        if let Some(outcome) = step(alloc, code, &mut made, &mut state, ahead)? {
             return Ok(close(outcome, sink)?);
         }
     }
