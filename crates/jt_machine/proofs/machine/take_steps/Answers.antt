@@ -17,7 +17,7 @@ steps-init g c =
       within = omega arith;
       so_far = ap (λ (n : ℕ). after (g.C.Code.code c.args.code.now) n (config_view c.args.state.now)) none;
       reached = c.requires.reached;
-      made = subst (λ (es : List (ℕ × Value)). AreMade (g.C.Code.code c.args.code.now) es) (sym c.new-made.ensures.empty) tt;
+      made = subst (λ (es : List (ℕ × Value)). AreMade (g.C.Code.code c.args.code.now) es) (sym c.new-made.ensures.items) tt;
     }
 
 pub step-requires-clause-not_wrong : goal.step-requires-clause-not_wrong

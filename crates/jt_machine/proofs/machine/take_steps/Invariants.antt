@@ -10,7 +10,7 @@ invariant-steps g l = record {
   within : l.left ≤ l.k;
   so_far : after (g.C.Code.code l.code) (l.k - l.left) (config_view l.fn.state) ≡ Goes (config_view l.state);
   reached : IsReached (g.C.Code.code l.code) l.state;
-  made : AreMade (g.C.Code.code l.code) l.made.entries;
+  made : AreMade (g.C.Code.code l.code) l.made.items;
 }
 
 abbrev pub decreases-steps : goal.decreases-steps

@@ -17,7 +17,7 @@ steps-init g c =
       reached = (0, ap Goes (sym c.in_ok-state.ensures.state));
       same = λ o e. rw c.in_ok-state.ensures.state at e;
       depth = c.in_ok-state.ensures.depth;
-      made = subst (λ (es : List (ℕ × Value)). AreMade (g.C.Code.code c.args.code.now) es) (sym c.new-made.ensures.empty) tt;
+      made = subst (λ (es : List (ℕ × Value)). AreMade (g.C.Code.code c.args.code.now) es) (sym c.new-made.ensures.items) tt;
     }
 
 pub step-requires-clause-not_wrong : goal.step-requires-clause-not_wrong

@@ -12,7 +12,7 @@ invariant-steps g l = record {
   reached : Reached (g.C.Code.code l.code) (pairs_of l.fn.context) (budget_view l.fn.budget) (config_view l.state);
   same : (o : Outcome) → Ending (g.C.Code.code l.code) (config_view l.state) o → Ending (g.C.Code.code l.code) (start (g.C.Code.code l.code) (pairs_of l.fn.context) (budget_view l.fn.budget)) o;
   depth : l.state.left.depth + length l.state.stack.callers < 2 ^ 32;
-  made : AreMade (g.C.Code.code l.code) l.made.entries;
+  made : AreMade (g.C.Code.code l.code) l.made.items;
 }
 
 abbrev pub decreases-steps : goal.decreases-steps

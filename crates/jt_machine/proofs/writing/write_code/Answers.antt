@@ -21,7 +21,7 @@ steps-init g c =
       so_far = nothing_yet k x b (g.W.Sink.taken c.args.sink.now) (config_view c.in_ok-state.state) c.in_ok-state.ensures.state;
       works = c.requires.works;
       depth = c.in_ok-state.ensures.depth;
-      made = subst (λ (es : List (ℕ × Value)). AreMade (g.C.Code.code c.args.code.now) es) (sym c.new-made.ensures.empty) tt;
+      made = subst (λ (es : List (ℕ × Value)). AreMade (g.C.Code.code c.args.code.now) es) (sym c.new-made.ensures.items) tt;
     }
 
 pub step-requires-clause-not_wrong : goal.step-requires-clause-not_wrong

@@ -10,7 +10,7 @@ invariant-steps g l = record {
   so_far : SoFar (g.C.Code.code l.code) (pairs_of l.fn.context) (budget_view l.fn.budget) (g.W.Sink.taken l.fn.sink) (g.W.Sink.taken l.sink) (config_view l.state);
   works : g.W.Sink.failed l.sink ≡ false;
   depth : l.state.left.depth + length l.state.stack.callers < 2 ^ 32;
-  made : AreMade (g.C.Code.code l.code) l.made.entries;
+  made : AreMade (g.C.Code.code l.code) l.made.items;
 }
 
 abbrev pub decreases-steps : goal.decreases-steps
