@@ -13,3 +13,4 @@ pub mod Spreading
 pub mod Holding
 pub mod Weighing
 pub mod Growing
+mod Sharing

@@ -12,4 +12,5 @@ pub mod Session
 pub mod SessionCode
 pub mod StageView
 pub mod AtOnce
+pub mod Made
 pub mod Growing

@@ -1,8 +1,27 @@
 //! Output that escaped texts take.
-ghost use Rattle.std.specs.Prelude.{◌≡◌, ◌-◌, ◌<◌, ◌≤◌, IfErr, OnOk, length};
+ghost use Rattle.std.specs.Prelude.{◌≡◌, ◌-◌, ◌<◌, ◌≤◌, ◌∷◌, [], true, IfErr, OnOk, length};
 ghost use Rattle.jt_escape.specs.Escaping.{escaped, escaped_byte};
 
 use jt_budget::{Budget, Spent};
+
+// Whether a byte is written as it is.
+fn is_kept(byte: u8) -> bool
+    ensures { result ≡ true → escaped_byte byte ≡ byte ∷ [] }
+{
+    !matches!(byte, b'&' | b'<' | b'>' | b'\'' | b'"')
+}
+
+/// Whether a text is written as it is.
+pub(crate) fn is_plain(text: &str) -> bool
+    ensures { result ≡ true → escaped text.now ≡ text.now }
+{
+    'bytes: for byte in text.as_bytes() {
+        if !is_kept(*byte) {
+            return false;
+        }
+    }
+    true
+}
 
 // How many bytes are written for one.
 fn escaped_len(byte: u8) -> u64

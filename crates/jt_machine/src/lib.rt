@@ -4,6 +4,7 @@
 mod at_once;
 mod calls;
 mod captures;
+mod constants;
 mod entries;
 mod escaping;
 mod items;

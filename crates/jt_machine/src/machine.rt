@@ -12,6 +12,7 @@ ghost use Rattle.jt_machine.specs.StageView.{stage_view, IsReached, IsUnderway};
 ghost use Rattle.jt_machine.specs.View.{config_view, next_view};
 
 use crate::at_once::hurry;
+use crate::constants::Made;
 use crate::outcome::{Outcome, Progress};
 use crate::start::{context_passes, start};
 use crate::state::State;
@@ -209,12 +210,14 @@ fn take_steps<C: Code>(
 {
     code_laws();
     let mut left = u64::from(k);
+    let mut made = Made::new(alloc);
+    let mut ahead = None;
     'steps: loop {
-        left = hurry(code, state, left);
+        left = hurry(code, state, left, &mut ahead);
         if left == 0 {
             return Ok(None);
         }
-        if let Some(outcome) = step(alloc, code, state)? {
+        if let Some(outcome) = step(alloc, code, &mut made, state, ahead)? {
             return Ok(Some(outcome));
         }
         left -= 1;

@@ -10,6 +10,7 @@ ghost use Rattle.jt_machine.specs.Growing.{MayWant};
 ghost use Rattle.jt_machine.specs.View.{budget_view, outcome_view};
 
 use crate::at_once::hurry;
+use crate::constants::Made;
 use crate::outcome::Outcome;
 use crate::start::{context_passes, start};
 use crate::step::step;
@@ -78,9 +79,11 @@ fn run_code<C: Code>(
         return Ok(Outcome::Spent(spent));
     }
     let mut state = start(alloc, code, context, budget)?;
+    let mut made = Made::new(alloc);
+    let mut ahead = None;
     'steps: loop {
-        hurry(code, &mut state, u64::MAX);
-        if let Some(outcome) = step(alloc, code, &mut state)? {
+        hurry(code, &mut state, u64::MAX, &mut ahead);
+        if let Some(outcome) = step(alloc, code, &mut made, &mut state, ahead)? {
             return Ok(outcome);
         }
     }

@@ -13,6 +13,7 @@ ghost use Rattle.jt_machine.specs.Sinks.{TookFront};
 ghost use Rattle.jt_machine.specs.View.{budget_view, config_view, outcome_view};
 
 use crate::at_once::hurry;
+use crate::constants::Made;
 use crate::outcome::{Ended, Outcome};
 use crate::sink::{Sink, SinkFailed, put_all};
 use crate::start::{context_passes, start};
@@ -118,10 +119,12 @@ fn write_code<C: Code, W: Sink>(
         return Ok(Ended::Spent(spent));
     }
     let mut state = start(alloc, code, context, budget)?;
+    let mut made = Made::new(alloc);
+    let mut ahead = None;
     'steps: loop {
         send(&mut state, sink)?;
-        hurry(code, &mut state, u64::MAX);
-        if let Some(outcome) = step(alloc, code, &mut state)? {
+        hurry(code, &mut state, u64::MAX, &mut ahead);
+        if let Some(outcome) = step(alloc, code, &mut made, &mut state, ahead)? {
             return Ok(close(outcome, sink)?);
         }
     }

@@ -1,6 +1,8 @@
-use Rattle.std.proofs.Common.{◌≡◌, ◌∙◌, ℕ, ◌-◌, ◌<◌, refl, ap, arith}
+use Rattle.std.proofs.Common.{◌≡◌, ◌∙◌, ℕ, ◌-◌, ◌<◌, refl, ap, arith, List, sym, subst}
+use Rattle.jt_value.specs.declared.value.Value.{Value}
 use Rattle.jt_image.specs.Run.{next, Goes, Ends, after}
 use Rattle.jt_machine.specs.Growing.{ComesToGrow}
+use Rattle.jt_machine.specs.Made.{AreMade}
 use Rattle.jt_machine.specs.View.{config_view, outcome_view}
 use Rattle.jt_machine.proofs.AtOnce.{slice_gone, slice_on, underway_gone}
 use Rattle.jt_machine.proofs.Pieces.{on_err}
@@ -15,6 +17,7 @@ steps-init g c =
       within = omega arith;
       so_far = ap (λ (n : ℕ). after (g.C.Code.code c.args.code.now) n (config_view c.args.state.now)) none;
       reached = c.requires.reached;
+      made = subst (λ (es : List (ℕ × Value)). AreMade (g.C.Code.code c.args.code.now) es) (sym c.new-made.ensures.items) tt;
     }
 
 pub step-requires-clause-not_wrong : goal.step-requires-clause-not_wrong
@@ -45,6 +48,7 @@ steps-preserved g c =
       within = omega (arith, c.steps.invariant.within, c.hurry-left.ensures.left, c.hurry-left.ensures.gone.fuel);
       so_far = slice_on k c.args.k c.hurry-left.result (config_view c.args.state.now) (config_view c.hurry-left.new.state) (config_view c.step.new.state) (omega arith) (omega (arith, c.steps.invariant.within, c.hurry-left.ensures.left, c.hurry-left.ensures.gone.fuel)) far e;
       reached = reached_on c.code_laws.ensures k c.requires.whole c.requires.typed c.hurry-left.new.state c.step.new.state r e;
+      made = c.in_ok-outcome.ensures.made;
     }
 
 pub steps-smaller : goal.steps-smaller

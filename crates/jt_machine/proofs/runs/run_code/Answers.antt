@@ -1,7 +1,9 @@
-use Rattle.std.proofs.Common.{◌≡◌, ◌∙◌, sym, refl, ap, inl, inr, None, List, length, arith}
+use Rattle.std.proofs.Common.{◌≡◌, ◌∙◌, sym, refl, ap, inl, inr, None, List, length, arith, ℕ, subst}
 use Rattle.jt_value.specs.ContextView.{pairs_of}
+use Rattle.jt_value.specs.declared.value.Value.{Value}
 use Rattle.jt_image.specs.Config.{Caller}
 use Rattle.jt_image.specs.Run.{next, Goes, Ends, passed, start}
+use Rattle.jt_machine.specs.Made.{AreMade}
 use Rattle.jt_machine.specs.View.{budget_view, config_view, outcome_view}
 use Rattle.jt_machine.specs.Growing.{ComesToGrow}
 use Rattle.jt_machine.proofs.Pieces.{on_err}
@@ -15,6 +17,7 @@ steps-init g c =
       reached = (0, ap Goes (sym c.in_ok-state.ensures.state));
       same = λ o e. rw c.in_ok-state.ensures.state at e;
       depth = c.in_ok-state.ensures.depth;
+      made = subst (λ (es : List (ℕ × Value)). AreMade (g.C.Code.code c.args.code.now) es) (sym c.new-made.ensures.items) tt;
     }
 
 pub step-requires-clause-not_wrong : goal.step-requires-clause-not_wrong
@@ -47,6 +50,7 @@ steps-preserved g c =
       reached = reached_next k (pairs_of c.args.context.now) (budget_view c.args.budget) (config_view c.hurry.new.state) (config_view c.step.new.state) r e;
       same = λ o r. c.steps.invariant.same o (ending_gone k c.steps.state c.hurry.new.state o c.hurry.ensures.gone (ending_back k (config_view c.hurry.new.state) (config_view c.step.new.state) o e r));
       depth = omega (arith, c.steps.invariant.depth, c.hurry.ensures.gone.depth, ap (λ (waiting : List Caller). length waiting) c.hurry.ensures.gone.callers, (reached_sound c.code_laws.ensures k c.requires.whole c.requires.typed (pairs_of c.args.context.now) (budget_view c.args.budget) (config_view c.hurry.new.state) r).depth (config_view c.step.new.state) e);
+      made = c.in_ok-outcome.ensures.made;
     }
 
 pub steps-smaller : goal.steps-smaller

@@ -1,9 +1,11 @@
-use Rattle.std.proofs.Common.{◌≡◌, ◌∙◌, List, [], None, length, sym, refl, ap, inl, inr, arith}
+use Rattle.std.proofs.Common.{◌≡◌, ◌∙◌, List, [], None, length, sym, refl, ap, inl, inr, arith, ℕ, subst}
 use Rattle.std.proofs.KnownBytes.{Appends-nil}
 use Rattle.jt_value.specs.ContextView.{pairs_of}
+use Rattle.jt_value.specs.declared.value.Value.{Value}
 use Rattle.jt_image.specs.Config.{Caller, Config}
 use Rattle.jt_image.specs.Run.{next, start, Goes, Ends, passed}
 use Rattle.jt_machine.specs.Emitting.{emitted_by}
+use Rattle.jt_machine.specs.Made.{AreMade}
 use Rattle.jt_machine.specs.View.{budget_view, config_view, outcome_view}
 use Rattle.jt_machine.proofs.AtOnce.{sent_gone}
 use Rattle.jt_machine.proofs.Pieces.{nothing_yet, was_sent, went_on, whole_run, cut_short, text_is, on_err}
@@ -19,6 +21,7 @@ steps-init g c =
       so_far = nothing_yet k x b (g.W.Sink.taken c.args.sink.now) (config_view c.in_ok-state.state) c.in_ok-state.ensures.state;
       works = c.requires.works;
       depth = c.in_ok-state.ensures.depth;
+      made = subst (λ (es : List (ℕ × Value)). AreMade (g.C.Code.code c.args.code.now) es) (sym c.new-made.ensures.items) tt;
     }
 
 pub step-requires-clause-not_wrong : goal.step-requires-clause-not_wrong
@@ -44,6 +47,7 @@ steps-preserved g c =
       so_far = went_on k x b (g.W.Sink.taken c.args.sink.now) (g.W.Sink.taken c.send.new.sink) (config_view c.hurry.new.state) (config_view c.step.new.state) tt s.so_far e;
       works = c.in_ok-send.ensures.works;
       depth = omega (arith, c.steps.invariant.depth, ap (λ (y : Config). y.left.depth) c.in_ok-send.ensures.emptied, ap (λ (y : Config). length y.machine.callers) c.in_ok-send.ensures.emptied, c.hurry.ensures.gone.depth, ap (λ (waiting : List Caller). length waiting) c.hurry.ensures.gone.callers, s.sound.depth (config_view c.step.new.state) e);
+      made = c.in_ok-outcome.ensures.made;
     }
 
 pub steps-smaller : goal.steps-smaller
