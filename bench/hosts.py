@@ -1,8 +1,8 @@
 #!/usr/bin/env python3
 """Times renderings in one process: bench/hosts.py SECONDS, with JT_LIBRARY the shared library of bindings/build.sh
 
-The workloads are the folders of examples/ and of speed/templates/. Of each it prints, in microseconds a rendering, and behind a × how
-many times as much as `jt` beside it takes,
+The workloads are the folders of examples/ and of speed/templates/. Of each it prints, in microseconds of the processor a rendering, and
+behind a × how many times as much as `jt` beside it takes,
 
     run      of an image that was compiled before, for a context in JSON: `jt`
     whole    of sources, for a context in JSON: `jt`
@@ -46,14 +46,14 @@ def workloads():
 
 
 def took(call, wanted, seconds):
-    """Microseconds a call, over some seconds; none where it does not give what is wanted."""
+    """Microseconds of the processor a call, over some seconds; none where it does not give what is wanted."""
     if call() != wanted:
         return None
-    count, begin = 0, time.perf_counter()
-    while time.perf_counter() - begin < seconds:
+    count, begin = 0, time.process_time()
+    while time.process_time() - begin < seconds:
         call()
         count += 1
-    return (time.perf_counter() - begin) / count * 1e6
+    return (time.process_time() - begin) / count * 1e6
 
 
 def beside(micros, own):

@@ -18,11 +18,12 @@ static const char usual[] =
     "{\"a\": \"<&>\", \"b\": [1, 2, [\"x\"]], \"c\": {\"k\": true, \"l\": null}, \"n\": -7, \"x\": \"word\"}";
 static const char looking[] =
     "{% macro m(v, d) %}{% if v is mapping %}{% for k, w in v | items %}{{ k }}={% if d %}{{ m(w, d - 1) }}"
-    "{% endif %};{% endfor %}{% elif v is string %}{{ v | upper }}{{ v | e | length }}{% elif v is iterable %}"
-    "{% for w in v %}{% if d %}{{ m(w, d - 1) }}{% endif %},{% endfor %}{% elif v is none %}-{% else %}{{ v }}"
-    "{% endif %}{% endmacro %}{{ m(a, 4) }}{{ m(b, 4) }}{{ a | default('?') }}{{ a == b }}{{ a ~ b }}"
-    "{% if a is defined and b is defined %}{{ a in [b] }}{{ [a, b] | unique | length }}{{ a | string }}"
-    "{% endif %}{% for v in [a, b] | select | sort %}{{ loop.index }}{{ v }}{% endfor %}";
+    "{% endif %};{% endfor %}{% elif v is string %}{{ v | upper }}{{ v | e | length }}{% elif v is integer %}"
+    "{{ v }}{{ v is even }}{% elif v is boolean or v is none or v is undefined %}{{ v }}{% else %}"
+    "{% for w in v %}{% if d %}{{ m(w, d - 1) }}{% endif %},{% endfor %}{% endif %}{% endmacro %}"
+    "{{ m(a, 4) }}{{ m(b, 4) }}{{ a == b }}{{ a in [b] }}{{ [a, b] | unique | length }}"
+    "{% for v in [b, a] if v %}{{ loop.index }}{% endfor %}{{ a | default('?') }}{{ a ~ b }}"
+    "{{ a | int + b }}{{ [a, b] | sort | first }}";
 static uint8_t told[ROOM], also[ROOM];
 
 static void demand(int holds, const char *what) {
@@ -124,12 +125,18 @@ void source(const uint8_t *data, size_t size) {
     }
 }
 
-/* A context is read, and the template ends, or it is refused; and once more it is the same. */
+/* A context is read, and the template that looks at it ends, or it is refused; and once more it is the same. */
 void context(const uint8_t *data, size_t size) {
+    static uint8_t made[ROOM];
     static struct templates given;
-    split(&given, (const uint8_t *)looking, sizeof looking - 1);
-    const struct jt_answer first = render(&given, data, size, told);
-    const struct jt_answer again = render(&given, data, size, also);
+    static struct jt_answer looks;
+    if (looks.length == 0) {
+        split(&given, (const uint8_t *)looking, sizeof looking - 1);
+        looks = compile(&given, made);
+        demand(looks.status == JT_DONE && looks.length <= ROOM, "the template that looks compiles");
+    }
+    const struct jt_answer first = jt_run(made, looks.length, data, size, budget, told, ROOM);
+    const struct jt_answer again = jt_run(made, looks.length, data, size, budget, also, ROOM);
     demand(is_ended(first) || is_refused(first, told, "X"), "a context is read or refused");
     demand(same(first, told, again, also), "the same context gives the same");
 }

@@ -1,14 +1,13 @@
 //! Times renderings by `jt` and by tera in one process: engines SECONDS CONTEXTS FOLDER ..
 //!
 //! A FOLDER is one of bench/speed/templates, whose context is CONTEXTS/NAME.json (make_contexts.py
-//! makes them). Of each it prints microseconds a rendering, and behind a × how many times as much as
-//! `jt` beside it takes: of templates that were compiled before, for a context in JSON (`run`), of
-//! sources (`whole`), and, for tera, for a context that was read before (`ready`). The texts have to
-//! be the same, so tera escapes as `jt` does.
+//! makes them). Of each it prints microseconds of the processor a rendering, and behind a × how many
+//! times as much as `jt` beside it takes: of templates that were compiled before, for a context in
+//! JSON (`run`), of sources (`whole`), and, for tera, for a context that was read before (`ready`).
+//! The texts have to be the same, so tera escapes as `jt` does.
 
 use std::error::Error;
 use std::path::Path;
-use std::time::{Duration, Instant};
 use std::{env, fs};
 
 type Outcome = Result<String, Box<dyn Error>>;
@@ -68,18 +67,34 @@ fn rendered(tera: &tera::Tera, json: &str) -> Outcome {
     Ok(tera.render("main", &context)?)
 }
 
+/// The seconds of the processor that this process has taken, as Linux tells.
+fn processor_seconds() -> f64 {
+    #[repr(C)]
+    struct Time {
+        seconds: i64,
+        nanoseconds: i64,
+    }
+    extern "C" {
+        fn clock_gettime(clock: i32, time: *mut Time) -> i32;
+    }
+    let mut time = Time { seconds: 0, nanoseconds: 0 };
+    // SAFETY: the clock of the process is number 2, and `time` is a `timespec`.
+    assert_eq!(unsafe { clock_gettime(2, &mut time) }, 0);
+    time.seconds as f64 + time.nanoseconds as f64 / 1e9
+}
+
 /// Microseconds a call; none where it does not give what is wanted.
-fn took(call: impl Fn() -> Outcome, wanted: &str, time: Duration) -> Option<f64> {
+fn took(call: impl Fn() -> Outcome, wanted: &str, seconds: f64) -> Option<f64> {
     if call().ok()? != wanted {
         return None;
     }
-    let begin = Instant::now();
+    let begin = processor_seconds();
     let mut count = 0;
-    while begin.elapsed() < time {
+    while processor_seconds() - begin < seconds {
         call().ok()?;
         count += 1;
     }
-    Some(begin.elapsed().as_secs_f64() / f64::from(count) * 1e6)
+    Some((processor_seconds() - begin) / f64::from(count) * 1e6)
 }
 
 fn beside(micros: Option<f64>, own: Option<f64>) -> String {
@@ -94,7 +109,7 @@ fn main() -> Result<(), Box<dyn Error>> {
     let [seconds, contexts, folders @ ..] = words.as_slice() else {
         return Err("usage: engines SECONDS CONTEXTS FOLDER ..".into());
     };
-    let time = Duration::from_secs_f64(seconds.parse()?);
+    let seconds: f64 = seconds.parse()?;
     for folder in folders.iter().map(Path::new) {
         let name = folder.file_name().ok_or("a folder has a name")?.to_string_lossy();
         let json = fs::read_to_string(Path::new(contexts).join(format!("{name}.json")))?;
@@ -105,8 +120,8 @@ fn main() -> Result<(), Box<dyn Error>> {
         let context = jt::Context::from_json(json.as_str());
         let image = template.compile()?;
         let wanted = text_of(image.run(&context, BUDGET)?)?;
-        let run = took(|| text_of(image.run(&context, BUDGET)?), &wanted, time);
-        let whole = took(|| text_of(template.render(&context, BUDGET)?), &wanted, time);
+        let run = took(|| text_of(image.run(&context, BUDGET)?), &wanted, seconds);
+        let whole = took(|| text_of(template.render(&context, BUDGET)?), &wanted, seconds);
         print!(
             "{name}: {} bytes, run {:.0}, whole {:.0}",
             wanted.len(),
@@ -118,9 +133,9 @@ fn main() -> Result<(), Box<dyn Error>> {
             continue;
         };
         let ready = tera::Context::from_value(serde_json::from_str(&json)?)?;
-        let other = took(|| rendered(&tera, &json), &wanted, time);
-        let at_once = took(|| Ok(tera.render("main", &ready)?), &wanted, time);
-        let all = took(|| rendered(&loaded(&sources)?, &json), &wanted, time);
+        let other = took(|| rendered(&tera, &json), &wanted, seconds);
+        let at_once = took(|| Ok(tera.render("main", &ready)?), &wanted, seconds);
+        let all = took(|| rendered(&loaded(&sources)?, &json), &wanted, seconds);
         println!(
             ", tera {}, ready {}, tera whole {}",
             beside(other, run),
