@@ -10,6 +10,7 @@ Documents are README.md, CONTRIBUTING.md, CHANGELOG.md and those of docs/, at an
     of each `Type::call`           that a crate with a type of this name has such a call
     of each call of contracts.md   that the crate of its heading has it; of each module of definitions.md, that it is in specs/
     of each example of errors.md and from-jinja.md (a line with ` => ` in a code block or a table)     that it is a row of rows/
+    of each code block behind a line that ends with a link to a file of code and a colon     that the file has these lines
     of README.md                   that it has at most 7,000 bytes, and the crates in the order of crates.txt, each behind those it names
     of docs/                       that each document is reached by links from README.md
 
@@ -18,10 +19,12 @@ What is wrong is printed. The last line is 'N passed, M failed', and the status 
 import pathlib
 import re
 import sys
+import textwrap
 
 ROOT = pathlib.Path(__file__).resolve().parent.parent
 MOST = 7000
 LINK = re.compile(r"(?<!!)\[[^\]]*\]\(([^)\s]+)\)")
+QUOTED = re.compile(r"\[[^\]]*\]\(([^)\s]+\.(?:rt|rs|c|py))\):\n\n((?: {4}.*\n|\n(?= {4}))+)")
 FOLDERS = "crates|rows|docs|bench|examples|bindings"
 PATH = re.compile(rf"(?<![\w/.])(?:\.ci/\w+|(?:{FOLDERS})/[\w./*+-]*[\w*/])")
 PLACED = re.compile(r"((?:crates)/[\w./-]+\.rt):(\d+) `(\w+)`")
@@ -32,6 +35,8 @@ CALL = re.compile(r"`([A-Z]\w*)::([a-z]\w*)`")
 HEADING = re.compile(r"^#+ (.*)$", re.M)
 ITEM = r"\b(?:fn|struct|enum|trait|type|const|mod)\s+{0}\b|\bpub use [^;]*\b{0}\b"
 SHOWING = ("errors.md", "from-jinja.md")
+# the examples of which embedding.md shows lines
+HOSTS = ("main.rt", "example.c", "hello.rs", "example.py")
 # types of the kit, whose calls documents name
 KIT = {"Rc", "Vec", "String", "Write"}
 
@@ -78,6 +83,13 @@ def examples(text):
         elif line.startswith("|"):
             for cell in re.findall(r"`([^`]* => [^`]*)`", line):
                 yield cell.replace("\\|", "|")
+
+
+def stands_in(block, text):
+    """Whether lines stand behind one another in a text, at any indent."""
+    wanted, lines = textwrap.dedent(block).strip().splitlines(), text.splitlines()
+    slices = (lines[at : at + len(wanted)] for at in range(len(lines)))
+    return any(textwrap.dedent("\n".join(it)).splitlines() == wanted for it in slices)
 
 
 def declared():
@@ -143,6 +155,17 @@ class Checks:
             for name in NAMED.findall(call[1]) if call and crate else []:
                 self.holds(re.search(ITEM.format(name), code.get(crate, "")), file, f"{crate} has no {name}")
 
+    def quoted(self, file, text):
+        """The lines that a document shows of files of code; of embedding.md some of each host."""
+        named = set()
+        for path, block in QUOTED.findall(text):
+            to = (file.parent / path).resolve()
+            named.add(to.name)
+            there = to.exists() and stands_in(block, to.read_text(encoding="utf-8"))
+            self.holds(there, file, f"{path} has no lines as {block.strip().splitlines()[0]}")
+        for host in HOSTS if file.name == "embedding.md" else ():
+            self.holds(host in named, file, f"it shows nothing of {host}")
+
     def defined(self, file, text):
         """Of definitions.md: the modules that the rows of its tables name stand in specs/ of the crates that they name."""
         for line in text.splitlines():
@@ -179,6 +202,7 @@ def main():
         leads[file] = checks.links(file, text)
         checks.paths(file, text)
         checks.names(file, text, code)
+        checks.quoted(file, text)
         if file.name in SHOWING:
             shown = list(examples(text))
             checks.holds(shown, file, "it shows no row")

@@ -1,14 +1,29 @@
 #!/bin/bash
-# Throws mixtures and changes of the rows at the static library: bench/fuzz/run.sh LIBRARY [COUNT [SEED]] makes COUNT inputs (100000) of
-# the rows of rows/templates.txt and rows/values.txt, from SEED (1) on, and stops at the first that does what no input may do.
-# With clang and `-DLIBFUZZER -fsanitize=fuzzer`, or under AFL++, the same file is a harness for those: the inputs stand in FOLDER where
-# SEEDS=FOLDER is given.
+# Fuzzes the static library by libFuzzer, with coverage: bench/fuzz/run.sh TARGET SECONDS FOLDER
+# TARGET is image, source or context: fuzz.c says what each asks. FOLDER keeps, between runs, the library compiled with counters of
+# the branches that it takes (which bench/static_library.py makes over what `rt ci` has proved), the inputs, which begin with those of
+# rows/, and each input that did what none may do, as TARGET-crash-.. and the like; one such ends the run, and the status is not 0.
+# It needs clang with its libFuzzer; CLANG names it.
 set -euo pipefail
-library=$(realpath "${1:?usage: bench/fuzz/run.sh LIBRARY [COUNT [SEED]]}")
+usage='usage: bench/fuzz/run.sh image|source|context SECONDS FOLDER'
+target=${1:?$usage} seconds=${2:?$usage}
+mkdir -p "${3:?$usage}"
+folder=$(realpath "$3")
 cd "$(dirname "$0")/../.."
-room=$(mktemp -d)
-trap 'rm -rf "$room"' EXIT
-seeds=${SEEDS:-$room}
-python3 bench/fuzz/seeds.py "$seeds"
-"${CC:-cc}" -O1 -g -Wall -Wextra -o "$room/fuzz" bench/fuzz/fuzz.c bindings/c/heap.c "$library"
-"$room/fuzz" "${3:-1}" "${2:-100000}" "$seeds"/*.seed
+library=$folder/libjt_ffi.a
+if [ ! -f "$library" ]; then
+    bench/static_library.py jt_ffi "$library" -fsanitize-coverage=inline-8bit-counters,pc-table,trace-cmp
+fi
+built() {
+    "${CLANG:-clang}" -O1 -g -Wall -Wextra -fsanitize=fuzzer -DTARGET="$1" -o "$folder/fuzz-$1" \
+        bench/fuzz/fuzz.c bindings/c/heap.c "$library"
+}
+if [ ! -d "$folder/seeds" ]; then
+    python3 bench/fuzz/seeds.py "$folder/seeds"
+    built seed
+    IMAGES=$folder/seeds/image "$folder/fuzz-seed" "$folder"/seeds/source/* 2> /dev/null
+fi
+built "$target"
+mkdir -p "$folder/$target"
+exec "$folder/fuzz-$target" -max_total_time="$seconds" -max_len=4096 -timeout=10 -rss_limit_mb=2048 -dict="$folder/seeds/words" \
+    -print_final_stats=1 -artifact_prefix="$folder/$target-" "$folder/$target" "$folder/seeds/$target"

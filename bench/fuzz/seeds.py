@@ -1,21 +1,62 @@
 #!/usr/bin/env python3
-"""Writes inputs for fuzz.c, of rows that are one template with or without a context: seeds.py FOLDER"""
+"""Writes inputs for the targets of fuzz.c, of rows: seeds.py FOLDER
+
+FOLDER/source gets the templates of a row, FOLDER/context the contexts, and FOLDER/image the images whose bytes stand in a row;
+FOLDER/words gets the words of all of them, as a dictionary of libFuzzer.
+"""
+import collections
+import json
 import pathlib
+import re
 import sys
 
-MOST = 64
-ROWS = pathlib.Path(__file__).resolve().parent.parent.parent / "rows"
+ROOT = pathlib.Path(__file__).resolve().parent.parent.parent
+sys.path.insert(0, str(ROOT / "rows"))
+import run  # noqa: E402
+
+LONGEST = 2048
+NAMED = re.compile(r"([\w.-]+): (.*)", re.S)
+WORD = re.compile(r"\b[A-Za-z_]{2,16}\b|\{%-?|-?%\}|\{\{-?|-?\}\}|[=!<>]=|\*\*|//|\{#|#\}", re.A)
+OFTEN = 3
+OTHERS = "uv"
+
+
+def rows(*names):
+    """What is asked by the rows of some files, each part by itself."""
+    for name in names:
+        for line in (ROOT / "rows" / name).read_text(encoding="utf-8").splitlines():
+            asked, is_row, _ = line.partition(" => ")
+            if is_row and not line.startswith(("#", "==")):
+                yield [run.unfolded(part) for part in asked.split("¦")]
+
+
+def templates(parts):
+    """The input of a row's templates, whose names become those that the target knows, or none where there are too many."""
+    *others, source = [part for part in parts if not part.startswith(("{\"", "{}", "[", "--"))] or [""]
+    named = [NAMED.fullmatch(part) for part in others]
+    if len(named) > len(OTHERS) or not all(named):
+        return None
+    sources = [source, *(it[2] for it in named)]
+    for it, to in zip(named, OTHERS):
+        sources = [re.sub(rf"(['\"]){re.escape(it[1])}\1", rf"\1{to}\1", text) for text in sources]
+    return "\0".join(sources)
+
+
+def put(folder, kind, inputs):
+    """Writes inputs, each once, that are not too long."""
+    (folder / kind).mkdir(parents=True, exist_ok=True)
+    for number, data in enumerate(sorted(it for it in set(inputs) if len(it) <= LONGEST)):
+        (folder / kind / f"{number:04}").write_bytes(data)
+
+
 folder = pathlib.Path(sys.argv[1])
-found = []
-for name in ("templates.txt", "values.txt"):
-    for line in (ROWS / name).read_text(encoding="utf-8").splitlines():
-        parts = line.partition(" => ")[0].split("¦")
-        if " => " not in line or line.startswith("#") or any(sign in line for sign in "⟨∅⌧␀"):
-            continue
-        contexts = [part for part in parts[:-1] if part.startswith("{")]
-        if len(parts) - 1 == len(contexts) <= 1:
-            source = parts[-1].replace("␤", "\n").replace("␠", " ")
-            found.append(f"{source}\0{contexts[0] if contexts else '{}'}\0".encode() + b"\0\x20\1\0\x60\x80")
-step = max(1, len(found) // MOST)
-for number, data in enumerate(found[::step][:MOST]):
-    (folder / f"{number:02}.seed").write_bytes(data)
+asked = list(rows("templates.txt", "values.txt", "imports.txt", "faults.txt", "refusals.txt", "documents.txt"))
+sources = [run.bytes_of(text) for text in map(templates, asked) if text]
+contexts = [run.bytes_of(part) for parts in asked for part in parts if part.startswith(("{\"", "{}", "["))]
+contexts += [json.dumps({"a": value, "b": [value, "é<&>\n"]}).encode() for value in (None, True, -1, 9007199254740993, "", [], {}, {"k": [{}]})]
+images = [re.match(r"bytes ([0-9a-f ]+)", parts[0]) for parts in rows("images.txt")]
+put(folder, "source", sources)
+put(folder, "context", contexts)
+put(folder, "image", [bytes.fromhex(it[1]) for it in images if it and len(it[1].replace(" ", "")) % 2 == 0])
+counts = collections.Counter(word for it in sources if len(it) <= LONGEST for word in set(WORD.findall(run.text_of(it))))
+(folder / "words").write_text("".join(f'"{word}"\n' for word, count in sorted(counts.items()) if count >= OFTEN))

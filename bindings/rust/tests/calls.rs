@@ -1,11 +1,15 @@
 use jt::{Budget, Context, Error, Image, Options, Outcome, Place, Spent, Template};
 
+fn none() -> Context {
+    Context::from_json("{}")
+}
+
 fn template(source: &str) -> Template {
     Template::new("t", &[("t", source)], Options::default())
 }
 
 fn rendered(source: &str) -> Result<Outcome, Error> {
-    template(source).render(&Context::default(), Budget::default())
+    template(source).render(&none(), Budget::default())
 }
 
 fn code<T>(result: Result<T, Error>) -> String {
@@ -39,10 +43,7 @@ fn each_number_of_a_budget() {
         (Budget { size: 1, ..usual }, Spent::Size),
         (Budget { nesting: 1, ..usual }, Spent::Nesting),
     ] {
-        assert_eq!(
-            template(source).render(&Context::default(), budget),
-            Ok(Outcome::Spent(wanted))
-        );
+        assert_eq!(template(source).render(&none(), budget), Ok(Outcome::Spent(wanted)));
     }
 }
 
@@ -78,8 +79,8 @@ fn options_are_kept_apart() {
         ("{% if true %}\na{% endif %}", Options { trim_blocks: true, ..usual }, "a"),
         ("  {% if true %}a{% endif %}", Options { lstrip_blocks: true, ..usual }, "a"),
     ] {
-        let outcome = Template::new("t", &[("t", source)], options)
-            .render(&Context::default(), Budget::default());
+        let outcome =
+            Template::new("t", &[("t", source)], options).render(&none(), Budget::default());
         assert_eq!(outcome, Ok(Outcome::Text(wanted.into())));
     }
 }

@@ -1,5 +1,6 @@
 -- What the host promises of a letter.
-use Rattle.std.specs.Prelude.{ℕ, List, false, true}
+use Rattle.std.specs.Prelude.{◌≡◌, ℕ, List, Option, Some, String, false, true}
+use Rattle.std.specs.declared.alloc.Global.{Global}
 use Rattle.jt_host.specs.Code.{Code}
 use Rattle.jt_host.specs.Json.{IsContext}
 use Rattle.jt_host.specs.Pairs.{Pairs}
@@ -8,6 +9,7 @@ use Rattle.jt_host.specs.View.{budget_view, outcome_view}
 use Rattle.jt_host.specs.declared.Budget.{Budget}
 use Rattle.jt_host.specs.declared.Options.{Options}
 use Rattle.jt_host.specs.declared.Outcome.{Outcome}
+use Rattle.jt_host.specs.declared.Outcome.TheVariants as outcome
 
 -- what is printed is escaped, and all else is as it stands
 abbrev pub usual : Options
@@ -16,3 +18,8 @@ usual = record { trim_blocks = false; lstrip_blocks = false; keep_trailing_newli
 -- a run of the code for the context that the text spells ends so
 abbrev pub IsWritten : Code → List ℕ → Budget → Outcome → Type 0
 IsWritten k json b o = (x : Pairs) × IsContext json x × Run k x (budget_view b) (outcome_view o)
+
+-- the line that tells a text is the text; of all other lines no more is said
+abbrev pub IsLine : Option Outcome → String Global → Type 0
+IsLine (Some (outcome.Text text)) line = line ≡ text
+IsLine _ _ = Unit {0}

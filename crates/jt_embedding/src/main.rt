@@ -1,16 +1,18 @@
 //! A host of templates over jt_host alone: sources, an image, and a letter for each of three contexts.
+//!
+//! Read first: `main`; what is proved of the image is said at `accepted`, of a letter at `written`.
 #![tactic(auto)]
 
-ghost use Rattle.std.specs.Prelude.{◌≡◌, IfSome, codes, option_map};
+ghost use Rattle.std.specs.Prelude.{◌≡◌, IfOk, IfSome, codes, option_map};
 ghost use Rattle.std.specs.List.{find};
 ghost use Rattle.std.specs.Str.{bytes_eq};
 ghost use Rattle.jt_host.specs.Compiled.{IsCompiled};
-ghost use Rattle.jt_embedding.specs.Letters.{IsWritten, usual};
+ghost use Rattle.jt_embedding.specs.Letters.{IsLine, IsWritten, usual};
 
 use jt_host::{
     Budget, Library, Options, Outcome, Verified, compile, context_from_json, run, verify,
 };
-use std::alloc::Global;
+use std::alloc::{AllocError, Global};
 use std::io;
 
 const BUDGET: Budget = Budget {
@@ -57,15 +59,8 @@ fn main(rt: HostRuntime) -> io::Result<()> {
         "{\"name\": \"<Ben>\"}",
         "{\"name\": []}",
     ] {
-        match written(rt.alloc(), &letter, json) {
-            Some(Outcome::Text(text)) => println!(rt; "{text}")?,
-            Some(Outcome::Fault(fault, Some(place))) => {
-                println!(rt; "fault {fault} in {} line {}", place.template, place.line)?
-            }
-            Some(Outcome::Fault(fault, None)) => println!(rt; "fault {fault}")?,
-            Some(Outcome::Spent(spent)) => println!(rt; "spent {spent}")?,
-            None => println!(rt; "no context, or no memory")?,
-        }
+        let outcome = written(rt.alloc(), &letter, json);
+        println!(rt; "{}", line(rt.alloc(), outcome)?)?;
     }
     Ok(())
 }
@@ -84,4 +79,19 @@ fn written(alloc: Global, letter: &Verified, json: &str) -> Option<Outcome>
 {
     let context = context_from_json(alloc, json).ok()?;
     run(alloc, letter, &context, BUDGET).ok()
+}
+
+/// The line that tells how a run ended.
+fn line(alloc: Global, outcome: Option<Outcome>) -> Result<String, AllocError>
+    ensures { IfOk result (λ line. IsLine outcome line) }
+{
+    match outcome {
+        Some(Outcome::Text(text)) => Ok(text),
+        Some(Outcome::Fault(fault, Some(place))) => {
+            format!(in alloc; "fault {fault} in {} line {}", place.template, place.line)
+        }
+        Some(Outcome::Fault(fault, None)) => format!(in alloc; "fault {fault}"),
+        Some(Outcome::Spent(spent)) => format!(in alloc; "spent {spent}"),
+        None => String::from_str(alloc, "no context, or no memory"),
+    }
 }
