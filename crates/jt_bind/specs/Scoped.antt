@@ -18,7 +18,7 @@ use Rattle.jt_resolved.specs.Pool.{Constant, expr_values, row_values, body_value
 use Rattle.jt_trees.specs.Expressions as trees
 use Rattle.jt_resolved.specs.Slots as slots
 use Rattle.jt_resolved.specs.Slots.{SRow, SBody}
-use Rattle.jt_resolved.specs.View.{row_view, body_view}
+use Rattle.jt_resolved.specs.View.{row_view, body_view, expr_view}
 use Rattle.jt_resolved.specs.declared.program.SExpr.{SExpr}
 use Rattle.jt_resolved.specs.declared.program.SStmt.{SStmt}
 use Rattle.jt_meaning.specs.Layout.{Table, globals, numbered_bodies}
@@ -103,6 +103,10 @@ module _ (s : Scope) where
   -- what the parts of a tree are resolved to
   abbrev pub expr_in : trees.Expr → Spot → slots.SExpr Constant
   expr_in e p = resolve.resolved world_in order_in e (spot_in p)
+
+  -- what an expression is resolved to, with the values that it puts at the end of a pool
+  abbrev pub IsResolved : Spot → trees.Expr → SExpr → Vec Value Global → Vec Value Global → Type 0
+  IsResolved p t e old new = IsPlaced (expr_in t p) (expr_view e) (values old) (values new)
 
   abbrev pub row_in : trees.Exprs → Spot → SRow Constant → SRow Constant
   row_in ts p left = resolve.resolved_row world_in order_in ts (spot_in p) left

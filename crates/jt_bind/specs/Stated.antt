@@ -2,6 +2,7 @@
 use Rattle.std.specs.Prelude.{◌≡◌, ℕ, Bool, ◌+◌, List, [], ◌++◌, length, Option, Some, None, option_map, Vec, if◌then◌else◌, ◌==◌}
 use Rattle.std.specs.declared.alloc.Global.{Global}
 use Rattle.jt_value.specs.Tree.{Tree}
+use Rattle.jt_value.specs.declared.value.Value.{Value}
 use Rattle.jt_trees.specs.Statements as trees
 use Rattle.jt_trees.specs.Expressions.{Text}
 use Rattle.jt_trees.specs.Statements.{Branches}
@@ -20,7 +21,7 @@ use Rattle.jt_meaning.specs.Resolve as resolve
 use Rattle.jt_meaning.specs.Resolve.{followed}
 use Rattle.jt_layout.specs.declared.scope.Scope.{Scope}
 use Rattle.jt_bind.specs.declared.spot.Spot.{Spot}
-use Rattle.jt_bind.specs.Scoped.{IsPlaced, BodyLeads, world_in, order_in, home_in, spot_in, templates_in}
+use Rattle.jt_bind.specs.Scoped.{values, IsPlaced, BodyLeads, world_in, order_in, home_in, spot_in, templates_in}
 
 -- the place of a branch's tag, its condition and its statements
 abbrev pub Branch : Type 0
@@ -72,6 +73,14 @@ module _ (s : Scope) where
 
   abbrev pub stmt_in : trees.Stmt → Spot → SBody Constant
   stmt_in t p = resolve.resolved_stmt (world_in s) (order_in s) t (spot_in s p)
+
+  -- all of a body is put behind other statements, and its values at the end of a pool
+  abbrev pub BodyLed : SBody Constant → Vec SStmt Global → Vec SStmt Global → Vec Value Global → Vec Value Global → Type 0
+  BodyLed whole before after old new = Led (templates_in s) whole before.items after.items (values old) (values new)
+
+  -- so is what a statement is resolved to
+  abbrev pub StmtLed : Spot → trees.Stmt → Vec SStmt Global → Vec SStmt Global → Vec Value Global → Vec Value Global → Type 0
+  StmtLed p t = BodyLed (stmt_in t p)
 
   abbrev pub body_in : trees.Body → Spot → SBody Constant
   body_in b p = resolve.resolved_body (world_in s) (order_in s) b (spot_in s p)

@@ -1,6 +1,6 @@
 //! Bodies of blocks that are called.
 
-ghost use Rattle.std.specs.Prelude.{◌≡◌, ℕ, List, [], IfOk, IfErr};
+ghost use Rattle.std.specs.Prelude.{◌≡◌, ℕ, List, [], IfOk};
 ghost use Rattle.jt_value.specs.Tree.{Tree};
 ghost use Rattle.jt_names.specs.Names.{texts};
 ghost use Rattle.jt_chains.specs.Chain as chain;
@@ -9,7 +9,6 @@ ghost use Rattle.jt_meaning.specs.Layout as layout;
 ghost use Rattle.jt_meaning.specs.Resolve as resolve;
 ghost use Rattle.jt_bind.specs.Callees.{unit_of};
 ghost use Rattle.jt_bind.specs.Scoped.{IsPlaced, RowLeads, world_in, order_in, home_in, spot_in};
-ghost use Rattle.jt_rules.specs.declared.error.ScopeError.TheVariants as error;
 ghost use Rattle.jt_resolved.specs.Pool.{Constant};
 ghost use Rattle.jt_resolved.specs.Slots as slots;
 ghost use Rattle.jt_resolved.specs.View.{expr_view};
@@ -19,17 +18,16 @@ use crate::rows::{first_locals, reads};
 use crate::spot::Spot;
 use jt_layout::Scope;
 use jt_resolved::SExpr;
-use jt_rules::ScopeError;
+use jt_value::NoMemory;
 use std::alloc::Global;
 
 /// The unit of the first body of a block, if it has one.
-pub(crate) fn first_body(scope: &Scope<'_>, name: &str) -> Result<Option<usize>, ScopeError>
+pub(crate) fn first_body(scope: &Scope<'_>, name: &str) -> Result<Option<usize>, NoMemory>
     requires { IsLaidOut scope.now }
-    ensures found { IfOk result (λ u. u
+    ensures { IfOk result (λ u. u
         ≡ unit_of (world_in scope.now) (order_in scope.now) (home_in scope.now)
         (resolve.first_body
         (layout.numbered_of (world_in scope.now) (home_in scope.now) name.now))) }
-    ensures refused { IfErr result (λ e. e ≡ error.NoMemory) }
 {
     let here = &scope.homes[scope.home];
     match here.first_bodies.place(name) {
@@ -58,13 +56,12 @@ pub(crate) fn block_arguments(
     scope: &Scope<'_>,
     spot: &Spot<'_, '_>,
     name: &str,
-) -> Result<Vec<(Option<usize>, SExpr)>, ScopeError>
+) -> Result<Vec<(Option<usize>, SExpr)>, NoMemory>
     requires { IsLaidOut scope.now }
-    ensures read { IfOk result (λ row. (p : List Tree)
+    ensures { IfOk result (λ row. (p : List Tree)
         → RowLeads (resolve.reads (spot_in scope.now spot.now).table (layout.block_parameters
         (world_in scope.now) (order_in scope.now) (home_in scope.now) name.now)) slots.none []
         row.items p p) }
-    ensures refused { IfErr result (λ e. e ≡ error.NoMemory) }
 {
     reads(alloc, scope, spot, parameters_of(scope, name))
 }
@@ -76,13 +73,12 @@ pub(crate) fn block_called(
     scope: &Scope<'_>,
     spot: &Spot<'_, '_>,
     name: &str,
-) -> Result<SExpr, ScopeError>
+) -> Result<SExpr, NoMemory>
     requires { IsLaidOut scope.now }
-    ensures placed { IfOk result (λ e. (row asides : slots.SRow Constant → slots.SRow Constant)
+    ensures { IfOk result (λ e. (row asides : slots.SRow Constant → slots.SRow Constant)
         (n : ℕ) (ks : layout.Table) (p : List Tree)
         → IsPlaced (resolve.invoked (world_in scope.now) (order_in scope.now)
         (chain.a_block name.now) (spot_in scope.now spot.now) row asides n ks) (expr_view e) p p) }
-    ensures refused { IfErr result (λ e. e ≡ error.NoMemory) }
 {
     let Some(unit) = first_body(scope, name)? else {
         return Ok(absent());
@@ -97,12 +93,11 @@ pub(crate) fn super_called(
     alloc: Global,
     scope: &Scope<'_>,
     spot: &Spot<'_, '_>,
-) -> Result<SExpr, ScopeError>
+) -> Result<SExpr, NoMemory>
     requires { IsLaidOut scope.now }
-    ensures placed { IfOk result (λ e. (p : List Tree)
+    ensures { IfOk result (λ e. (p : List Tree)
         → IsPlaced (resolve.invoked_super (world_in scope.now) (order_in scope.now)
         (spot_in scope.now spot.now) (spot_in scope.now spot.now).part) (expr_view e) p p) }
-    ensures refused { IfErr result (λ e. e ≡ error.NoMemory) }
 {
     let here = &scope.homes[scope.home];
     let Some(place) = spot.body else {

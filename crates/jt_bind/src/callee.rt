@@ -1,6 +1,6 @@
 //! What stands in front of the arguments of a call.
 
-ghost use Rattle.std.specs.Prelude.{◌≡◌, ◌<◌, false, length, List, Option, None, Some, option_map, codes, IfOk, IfErr};
+ghost use Rattle.std.specs.Prelude.{◌≡◌, ◌<◌, false, length, List, Option, None, Some, option_map, codes, IfOk};
 ghost use Rattle.std.specs.Str.{bytes_eq};
 ghost use Rattle.jt_trees.specs.Expressions as trees;
 ghost use Rattle.jt_trees.specs.Expressions.{Text};
@@ -14,13 +14,12 @@ ghost use Rattle.jt_layout.specs.Laid.{IsLaidOut};
 ghost use Rattle.jt_bind.specs.Callees.{IsCallee, IsLaidThere, library_of, of_home};
 ghost use Rattle.jt_bind.specs.Scoped.{world_in, order_in, home_in, given_in, callee_in};
 ghost use Rattle.jt_rules.specs.World.{World};
-ghost use Rattle.jt_rules.specs.declared.error.ScopeError.TheVariants as error;
 
 use crate::lookup::more;
 use jt_chains::Given;
 use jt_layout::Scope;
-use jt_rules::ScopeError;
 use jt_trees::{Expr, Parameter};
+use jt_value::NoMemory;
 
 /// How a macro is called: its parameters, its unit, and the place of its first default.
 #[derive(Clone, Copy)]
@@ -44,14 +43,10 @@ pub(crate) enum Callee<'s> {
 }
 
 /// What an expression in front of the arguments of a call names.
-pub(crate) fn callee_of<'s>(
-    scope: &'s Scope<'_>,
-    called: &'s Expr,
-) -> Result<Callee<'s>, ScopeError>
+pub(crate) fn callee_of<'s>(scope: &'s Scope<'_>, called: &'s Expr) -> Result<Callee<'s>, NoMemory>
     requires { IsLaidOut scope.now }
-    ensures named { IfOk result (λ k. IsCallee (world_in scope.now) (order_in scope.now) k
+    ensures { IfOk result (λ k. IsCallee (world_in scope.now) (order_in scope.now) k
         (callee_in scope.now (written.expr_view called.now))) }
-    ensures refused { IfErr result (λ e. e ≡ error.NoMemory) }
 {
     match called {
         Expr::Name(name) => callee_named(scope, name.as_str()),
@@ -61,11 +56,10 @@ pub(crate) fn callee_of<'s>(
 }
 
 /// What a name stands for that is called: what it is given to hides what else has its name.
-fn callee_named<'s>(scope: &'s Scope<'_>, name: &str) -> Result<Callee<'s>, ScopeError>
+fn callee_named<'s>(scope: &'s Scope<'_>, name: &str) -> Result<Callee<'s>, NoMemory>
     requires { IsLaidOut scope.now }
-    ensures named { IfOk result (λ k. IsCallee (world_in scope.now) (order_in scope.now) k
+    ensures { IfOk result (λ k. IsCallee (world_in scope.now) (order_in scope.now) k
         (callee_in scope.now (trees.name name.now))) }
-    ensures refused { IfErr result (λ e. e ≡ error.NoMemory) }
 {
     match given_named(scope, name) {
         Some(given) => callee_given(scope, given),
@@ -100,15 +94,14 @@ fn built_in<'s>(name: &str) -> Callee<'s>
 }
 
 /// What a name stands for that is given to something: a library itself can't be called.
-fn callee_given<'s>(scope: &'s Scope<'_>, given: Given<'_>) -> Result<Callee<'s>, ScopeError>
+fn callee_given<'s>(scope: &'s Scope<'_>, given: Given<'_>) -> Result<Callee<'s>, NoMemory>
     requires { IsLaidOut scope.now }
-    ensures named { IfOk result (λ k. (x : Text)
+    ensures { IfOk result (λ k. (x : Text)
         → given_to x (given_in scope.now)
         ≡ Some (given_view (chain_view scope.now.chain.now).templates (home_in scope.now)
         given.entry)
         → IsCallee (world_in scope.now) (order_in scope.now) k
         (callee_in scope.now (trees.name x))) }
-    ensures refused { IfErr result (λ e. e ≡ error.NoMemory) }
 {
     match given {
         Given::Own(found) => macro_at(scope, scope.home, found.name),
@@ -118,14 +111,13 @@ fn callee_given<'s>(scope: &'s Scope<'_>, given: Given<'_>) -> Result<Callee<'s>
 }
 
 /// The macro of a name of the chain or library at a place.
-fn macro_at<'s>(scope: &'s Scope<'_>, home: usize, name: &str) -> Result<Callee<'s>, ScopeError>
+fn macro_at<'s>(scope: &'s Scope<'_>, home: usize, name: &str) -> Result<Callee<'s>, NoMemory>
     requires laid { IsLaidOut scope.now }
     requires there { home < length scope.now.homes.items }
-    ensures named { IfOk result (λ k. IsCallee (world_in scope.now) (order_in scope.now) k
+    ensures { IfOk result (λ k. IsCallee (world_in scope.now) (order_in scope.now) k
         (of_home (home_at (order_in scope.now) home)
         (macro_of name.now (macros (world_in scope.now).sources
         (home_at (order_in scope.now) home))))) }
-    ensures refused { IfErr result (λ e. e ≡ error.NoMemory) }
 {
     let there = &scope.homes[home];
     let Some(place) = there.called.place(name) else {
@@ -144,13 +136,12 @@ fn library_macro<'s>(
     scope: &'s Scope<'_>,
     library: &str,
     name: &str,
-) -> Result<Callee<'s>, ScopeError>
+) -> Result<Callee<'s>, NoMemory>
     requires { IsLaidOut scope.now }
-    ensures named { IfOk result (λ k.
+    ensures { IfOk result (λ k.
         IsLaidThere (world_in scope.now) (order_in scope.now) (a_library library.now) name.now
         → IsCallee (world_in scope.now) (order_in scope.now) k (of_home (a_library library.now)
         (macro_of name.now (macros (world_in scope.now).sources (a_library library.now))))) }
-    ensures refused { IfErr result (λ e. e ≡ error.NoMemory) }
 {
     match scope.libraries.place(library) {
         Some(place) => macro_at(scope, place, name),
@@ -159,11 +150,10 @@ fn library_macro<'s>(
 }
 
 /// What an attribute stands for that is called.
-fn callee_by<'s>(scope: &'s Scope<'_>, of: &Expr, name: &'s str) -> Result<Callee<'s>, ScopeError>
+fn callee_by<'s>(scope: &'s Scope<'_>, of: &Expr, name: &'s str) -> Result<Callee<'s>, NoMemory>
     requires { IsLaidOut scope.now }
-    ensures named { IfOk result (λ k. IsCallee (world_in scope.now) (order_in scope.now) k
+    ensures { IfOk result (λ k. IsCallee (world_in scope.now) (order_in scope.now) k
         (callee_in scope.now (trees.attribute (written.expr_view of.now) name.now))) }
-    ensures refused { IfErr result (λ e. e ≡ error.NoMemory) }
 {
     match of {
         Expr::Name(of) => member_of(scope, of.as_str(), name),
@@ -172,11 +162,10 @@ fn callee_by<'s>(scope: &'s Scope<'_>, of: &Expr, name: &'s str) -> Result<Calle
 }
 
 /// A block by `self`, `cycle` of a loop, or a macro of a library.
-fn member_of<'s>(scope: &'s Scope<'_>, of: &str, name: &'s str) -> Result<Callee<'s>, ScopeError>
+fn member_of<'s>(scope: &'s Scope<'_>, of: &str, name: &'s str) -> Result<Callee<'s>, NoMemory>
     requires { IsLaidOut scope.now }
-    ensures named { IfOk result (λ k. IsCallee (world_in scope.now) (order_in scope.now) k
+    ensures { IfOk result (λ k. IsCallee (world_in scope.now) (order_in scope.now) k
         (callee_in scope.now (trees.attribute (trees.name of.now) name.now))) }
-    ensures refused { IfErr result (λ e. e ≡ error.NoMemory) }
 {
     match of {
         "self" => Ok(Callee::Block(name)),
@@ -187,13 +176,12 @@ fn member_of<'s>(scope: &'s Scope<'_>, of: &str, name: &'s str) -> Result<Callee
 }
 
 /// A macro of a library by the name that the library has here: private ones are not there.
-fn imported_macro<'s>(scope: &'s Scope<'_>, of: &str, name: &str) -> Result<Callee<'s>, ScopeError>
+fn imported_macro<'s>(scope: &'s Scope<'_>, of: &str, name: &str) -> Result<Callee<'s>, NoMemory>
     requires laid { IsLaidOut scope.now }
     requires not_self { bytes_eq of.now (codes "self") ≡ false }
     requires not_loop { bytes_eq of.now (codes "loop") ≡ false }
-    ensures named { IfOk result (λ k. IsCallee (world_in scope.now) (order_in scope.now) k
+    ensures { IfOk result (λ k. IsCallee (world_in scope.now) (order_in scope.now) k
         (callee_in scope.now (trees.attribute (trees.name of.now) name.now))) }
-    ensures refused { IfErr result (λ e. e ≡ error.NoMemory) }
 {
     let Some(library) = library_named(scope, of) else {
         return Ok(Callee::Unknown);

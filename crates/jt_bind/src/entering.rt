@@ -1,6 +1,6 @@
 //! Scopes that statements enter: names in locals of their own.
 
-ghost use Rattle.std.specs.Prelude.{◌≡◌, List, map, IfOk, IfErr};
+ghost use Rattle.std.specs.Prelude.{◌≡◌, List, map, IfOk};
 ghost use Rattle.std.specs.declared.alloc.Global.{Global};
 ghost use Rattle.std.specs.declared.rc.Rc.{Rc};
 ghost use denote.Ref.{Bor};
@@ -13,7 +13,6 @@ ghost use Rattle.jt_layout.specs.declared.scope.Scope.{Scope};
 ghost use Rattle.jt_meaning.specs.Resolve.{bound_all, bound_table, copied};
 ghost use Rattle.jt_bind.specs.Scoped.{BodyLeads, framed, spot_in, templates_in};
 ghost use Rattle.jt_trees.specs.StatementView.{names_view, parameters_view};
-ghost use Rattle.jt_rules.specs.declared.error.ScopeError.TheVariants as error;
 ghost use Rattle.jt_resolved.specs.Pool.{Constant};
 ghost use Rattle.jt_resolved.specs.Slots.{SBody};
 ghost use Rattle.jt_value.specs.Tree.{Tree};
@@ -26,8 +25,8 @@ use crate::putting::put_assign;
 use crate::spot::Spot;
 use jt_layout::Scope;
 use jt_resolved::{SStmt, Slot, Targets};
-use jt_rules::ScopeError;
 use jt_trees::{Expr, Parameter};
+use jt_value::NoMemory;
 use std::alloc::Global;
 use std::rc::Rc;
 
@@ -44,12 +43,11 @@ fn framed_by<'a>(
     alloc: Global,
     spot: &Spot<'_, 'a>,
     names: Vec<&'a str>,
-) -> Result<Vec<Rc<Frame<'a>>>, ScopeError>
-    ensures framed { IfOk result (λ fs. (t : Table)
+) -> Result<Vec<Rc<Frame<'a>>>, NoMemory>
+    ensures { IfOk result (λ fs. (t : Table)
         → framed (map (λ f. f.value) fs.items) t
         ≡ bound_table (texts names.entry.items) spot.now.free
         (framed (map (λ f. f.value) spot.now.frames.now) t)) }
-    ensures refused { IfErr result (λ e. e ≡ error.NoMemory) }
 {
     let mut frames = Vec::new(alloc);
     for frame in spot.frames {
@@ -65,12 +63,11 @@ pub(crate) fn entered<'a>(
     alloc: Global,
     spot: &Spot<'_, 'a>,
     names: Vec<&'a str>,
-) -> Result<Inside<'a>, ScopeError>
-    ensures bound { IfOk result (λ i. (s : Scope) (fr : Bor (List (Rc Frame Global)))
+) -> Result<Inside<'a>, NoMemory>
+    ensures { IfOk result (λ i. (s : Scope) (fr : Bor (List (Rc Frame Global)))
         → fr.now ≡ i.frames.items
         → spot_in s (record spot.now { frames = fr; free = i.free })
         ≡ bound_all (texts names.entry.items) (spot_in s spot.now)) }
-    ensures refused { IfErr result (λ e. e ≡ error.NoMemory) }
 {
     let free = more(spot.free, names.len())?;
     let frames = framed_by(alloc, spot, names)?;
@@ -84,13 +81,12 @@ pub(crate) fn put_copies(
     spot: &Spot<'_, '_>,
     names: &[&str],
     done: &mut Vec<SStmt>,
-) -> Result<(), ScopeError>
+) -> Result<(), NoMemory>
     requires { IsLaidOut scope.now }
-    ensures put { IfOk result (λ u. (behind : SBody Constant) (p : List Tree)
+    ensures { IfOk result (λ u. (behind : SBody Constant) (p : List Tree)
         → BodyLeads (templates_in scope.now) (copied (line_in scope.now spot.now 1)
         (spot_in scope.now spot.now).table spot.now.free (texts names.now) behind) behind
         done.old.items done.new.items p p) }
-    ensures refused { IfErr result (λ e. e ≡ error.NoMemory) }
 {
     let mut local = spot.free;
     for name in names {
@@ -102,9 +98,8 @@ pub(crate) fn put_copies(
 }
 
 /// Texts as they stand in a tree.
-pub(crate) fn texts_of<'a>(alloc: Global, names: &'a [String]) -> Result<Vec<&'a str>, ScopeError>
-    ensures same { IfOk result (λ ks. texts ks.items ≡ names_view names.now) }
-    ensures refused { IfErr result (λ e. e ≡ error.NoMemory) }
+pub(crate) fn texts_of<'a>(alloc: Global, names: &'a [String]) -> Result<Vec<&'a str>, NoMemory>
+    ensures { IfOk result (λ ks. texts ks.items ≡ names_view names.now) }
 {
     let mut found = Vec::with_capacity(alloc, names.len())?;
     for name in names {
@@ -117,9 +112,8 @@ pub(crate) fn texts_of<'a>(alloc: Global, names: &'a [String]) -> Result<Vec<&'a
 pub(crate) fn keywords_of<'a>(
     alloc: Global,
     pairs: &'a [(String, Expr)],
-) -> Result<Vec<&'a str>, ScopeError>
-    ensures same { IfOk result (λ ks. texts ks.items ≡ keywords (pairs_view pairs.now)) }
-    ensures refused { IfErr result (λ e. e ≡ error.NoMemory) }
+) -> Result<Vec<&'a str>, NoMemory>
+    ensures { IfOk result (λ ks. texts ks.items ≡ keywords (pairs_view pairs.now)) }
 {
     let mut found = Vec::with_capacity(alloc, pairs.len())?;
     for (key, _) in pairs {
@@ -132,10 +126,9 @@ pub(crate) fn keywords_of<'a>(
 pub(crate) fn parameters_of<'a>(
     alloc: Global,
     parameters: &'a [Parameter],
-) -> Result<Vec<&'a str>, ScopeError>
-    ensures same { IfOk result
+) -> Result<Vec<&'a str>, NoMemory>
+    ensures { IfOk result
         (λ ks. texts ks.items ≡ map (λ p. p.name) (parameters_view parameters.now)) }
-    ensures refused { IfErr result (λ e. e ≡ error.NoMemory) }
 {
     let mut found = Vec::with_capacity(alloc, parameters.len())?;
     for parameter in parameters {

@@ -1,6 +1,6 @@
 //! Resolves expressions: names to slots, literals and keys to places of a pool.
 
-ghost use Rattle.std.specs.Prelude.{◌≡◌, length, pos, List, IfOk, IfErr, Some};
+ghost use Rattle.std.specs.Prelude.{length, pos, List, IfOk, Some};
 ghost use Rattle.jt_value.specs.Tree as tree;
 ghost use Rattle.jt_value.specs.Tree.{Tree};
 ghost use Rattle.jt_trees.specs.Expressions as trees;
@@ -11,13 +11,12 @@ ghost use Rattle.jt_meaning.specs.Operators as operators;
 ghost use Rattle.jt_meaning.specs.Resolve as resolve;
 ghost use Rattle.jt_ids.specs.declared.op_id.OpId.TheVariants as op;
 ghost use Rattle.jt_trees.specs.StatementView.{parameters_view};
-ghost use Rattle.jt_rules.specs.declared.error.ScopeError.TheVariants as error;
 ghost use Rattle.jt_evaluation.specs.Loops.{index0};
 ghost use Rattle.jt_resolved.specs.Pool.{Constant, own};
 ghost use Rattle.jt_resolved.specs.Slots as slots;
 ghost use Rattle.jt_resolved.specs.View.{expr_view};
 ghost use Rattle.jt_layout.specs.Laid.{IsLaidOut};
-ghost use Rattle.jt_bind.specs.Scoped.{values, IsPlaced, RowLeads, expr_in, row_in, asides_in, entries_in, filtered_in};
+ghost use Rattle.jt_bind.specs.Scoped.{values, IsPlaced, RowLeads, row_in, asides_in, entries_in, filtered_in, IsResolved};
 
 use crate::blocks::{block_called, super_called};
 use crate::callee::{Callee, Signature, callee_of};
@@ -35,9 +34,8 @@ use jt_evaluation::{filter_of, filter_parameters, test_of};
 use jt_ids::{FilterId, OpId};
 use jt_layout::Scope;
 use jt_resolved::{Maker, SExpr};
-use jt_rules::ScopeError;
 use jt_trees::{BinaryOperator, Expr};
-use jt_value::Value;
+use jt_value::{NoMemory, Value};
 use std::alloc::Global;
 
 /// Resolves an expression.
@@ -49,12 +47,10 @@ pub(crate) fn resolve_expression(
     spot: &Spot<'_, '_>,
     expr: &Expr,
     pool: &mut Vec<Value>,
-) -> Result<SExpr, ScopeError>
+) -> Result<SExpr, NoMemory>
     requires { IsLaidOut scope.now }
-    ensures placed { IfOk result (λ e. IsPlaced
-        (expr_in scope.now (written.expr_view expr.now) spot.now) (expr_view e) (values pool.old)
-        (values pool.new)) }
-    ensures refused { IfErr result (λ e. e ≡ error.NoMemory) }
+    ensures { IfOk result (λ e. IsResolved scope.now spot.now (written.expr_view expr.now) e
+        pool.old pool.new) }
 {
     match expr {
         Expr::Constant(literal) => add_value(pool, literal_value(alloc, literal)?),
@@ -95,12 +91,10 @@ fn resolve_list(
     spot: &Spot<'_, '_>,
     row: &[Expr],
     pool: &mut Vec<Value>,
-) -> Result<SExpr, ScopeError>
+) -> Result<SExpr, NoMemory>
     requires { IsLaidOut scope.now }
-    ensures placed { IfOk result (λ e. IsPlaced
-        (expr_in scope.now (trees.list_of (written.exprs_view row.now)) spot.now) (expr_view e)
-        (values pool.old) (values pool.new)) }
-    ensures refused { IfErr result (λ e. e ≡ error.NoMemory) }
+    ensures { IfOk result (λ e. IsResolved scope.now spot.now
+        (trees.list_of (written.exprs_view row.now)) e pool.old pool.new) }
 {
     let mut items = Vec::new(alloc);
     resolve_row(alloc, scope, spot, row, &mut items, pool)?;
@@ -115,12 +109,10 @@ fn resolve_map(
     spot: &Spot<'_, '_>,
     pairs: &[(String, Expr)],
     pool: &mut Vec<Value>,
-) -> Result<SExpr, ScopeError>
+) -> Result<SExpr, NoMemory>
     requires { IsLaidOut scope.now }
-    ensures placed { IfOk result (λ e. IsPlaced
-        (expr_in scope.now (trees.map_of (written.pairs_view pairs.now)) spot.now) (expr_view e)
-        (values pool.old) (values pool.new)) }
-    ensures refused { IfErr result (λ e. e ≡ error.NoMemory) }
+    ensures { IfOk result (λ e. IsResolved scope.now spot.now
+        (trees.map_of (written.pairs_view pairs.now)) e pool.old pool.new) }
 {
     let mut entries = Vec::new(alloc);
     resolve_entries(alloc, scope, spot, pairs, &mut entries, pool)?;
@@ -136,12 +128,10 @@ fn resolve_attribute(
     value: &Expr,
     key: &str,
     pool: &mut Vec<Value>,
-) -> Result<SExpr, ScopeError>
+) -> Result<SExpr, NoMemory>
     requires { IsLaidOut scope.now }
-    ensures placed { IfOk result (λ e. IsPlaced
-        (expr_in scope.now (trees.attribute (written.expr_view value.now) key.now) spot.now)
-        (expr_view e) (values pool.old) (values pool.new)) }
-    ensures refused { IfErr result (λ e. e ≡ error.NoMemory) }
+    ensures { IfOk result (λ e. IsResolved scope.now spot.now
+        (trees.attribute (written.expr_view value.now) key.now) e pool.old pool.new) }
 {
     if is_loop_name(value) {
         return Ok(told(field_of(key)));
@@ -160,12 +150,11 @@ fn resolve_item(
     value: &Expr,
     index: &Expr,
     pool: &mut Vec<Value>,
-) -> Result<SExpr, ScopeError>
+) -> Result<SExpr, NoMemory>
     requires { IsLaidOut scope.now }
-    ensures placed { IfOk result (λ e. IsPlaced (expr_in scope.now
-        (trees.item (written.expr_view value.now) (written.expr_view index.now)) spot.now)
-        (expr_view e) (values pool.old) (values pool.new)) }
-    ensures refused { IfErr result (λ e. e ≡ error.NoMemory) }
+    ensures { IfOk result (λ e. IsResolved scope.now spot.now
+        (trees.item (written.expr_view value.now) (written.expr_view index.now)) e pool.old
+        pool.new) }
 {
     let whole = resolve_expression(alloc, scope, spot, value, pool)?;
     let place = resolve_expression(alloc, scope, spot, index, pool)?;
@@ -182,12 +171,11 @@ fn resolve_binary(
     left: &Expr,
     right: &Expr,
     pool: &mut Vec<Value>,
-) -> Result<SExpr, ScopeError>
+) -> Result<SExpr, NoMemory>
     requires { IsLaidOut scope.now }
-    ensures placed { IfOk result (λ e. IsPlaced (expr_in scope.now
-        (trees.binary operator (written.expr_view left.now) (written.expr_view right.now)) spot.now)
-        (expr_view e) (values pool.old) (values pool.new)) }
-    ensures refused { IfErr result (λ e. e ≡ error.NoMemory) }
+    ensures { IfOk result (λ e. IsResolved scope.now spot.now
+        (trees.binary operator (written.expr_view left.now) (written.expr_view right.now)) e
+        pool.old pool.new) }
 {
     let first = resolve_expression(alloc, scope, spot, left, pool)?;
     let second = resolve_expression(alloc, scope, spot, right, pool)?;
@@ -203,12 +191,11 @@ fn resolve_when(
     condition: &Expr,
     value: &Expr,
     pool: &mut Vec<Value>,
-) -> Result<SExpr, ScopeError>
+) -> Result<SExpr, NoMemory>
     requires { IsLaidOut scope.now }
-    ensures placed { IfOk result (λ e. IsPlaced (expr_in scope.now
-        (trees.when (written.expr_view condition.now) (written.expr_view value.now)) spot.now)
-        (expr_view e) (values pool.old) (values pool.new)) }
-    ensures refused { IfErr result (λ e. e ≡ error.NoMemory) }
+    ensures { IfOk result (λ e. IsResolved scope.now spot.now
+        (trees.when (written.expr_view condition.now) (written.expr_view value.now)) e pool.old
+        pool.new) }
 {
     let asked = resolve_expression(alloc, scope, spot, condition, pool)?;
     let first = resolve_expression(alloc, scope, spot, value, pool)?;
@@ -225,13 +212,11 @@ fn resolve_choice(
     value: &Expr,
     other: &Expr,
     pool: &mut Vec<Value>,
-) -> Result<SExpr, ScopeError>
+) -> Result<SExpr, NoMemory>
     requires { IsLaidOut scope.now }
-    ensures placed { IfOk result (λ e. IsPlaced (expr_in scope.now (trees.choice
-        (written.expr_view condition.now) (written.expr_view value.now)
-        (written.expr_view other.now)) spot.now) (expr_view e) (values pool.old)
-        (values pool.new)) }
-    ensures refused { IfErr result (λ e. e ≡ error.NoMemory) }
+    ensures { IfOk result (λ e. IsResolved scope.now spot.now
+        (trees.choice (written.expr_view condition.now) (written.expr_view value.now)
+        (written.expr_view other.now)) e pool.old pool.new) }
 {
     let asked = resolve_expression(alloc, scope, spot, condition, pool)?;
     let first = resolve_expression(alloc, scope, spot, value, pool)?;
@@ -250,13 +235,11 @@ fn resolve_test(
     name: &str,
     row: &[Expr],
     pool: &mut Vec<Value>,
-) -> Result<SExpr, ScopeError>
+) -> Result<SExpr, NoMemory>
     requires { IsLaidOut scope.now }
-    ensures placed { IfOk result (λ e. (ps : trees.Pairs)
-        → IsPlaced (expr_in scope.now
-        (trees.test (written.expr_view value.now) negated name.now (written.exprs_view row.now) ps)
-        spot.now) (expr_view e) (values pool.old) (values pool.new)) }
-    ensures refused { IfErr result (λ e. e ≡ error.NoMemory) }
+    ensures { IfOk result (λ e. (ps : trees.Pairs)
+        → IsResolved scope.now spot.now (trees.test (written.expr_view value.now) negated name.now
+        (written.exprs_view row.now) ps) e pool.old pool.new) }
 {
     match test_of(name) {
         None => turned(alloc, negated, absent()),
@@ -280,13 +263,11 @@ fn resolve_filter(
     row: &[Expr],
     pairs: &[(String, Expr)],
     pool: &mut Vec<Value>,
-) -> Result<SExpr, ScopeError>
+) -> Result<SExpr, NoMemory>
     requires { IsLaidOut scope.now }
-    ensures placed { IfOk result (λ e. IsPlaced (expr_in scope.now (trees.filter
-        (written.expr_view value.now) name.now (written.exprs_view row.now)
-        (written.pairs_view pairs.now)) spot.now) (expr_view e) (values pool.old)
-        (values pool.new)) }
-    ensures refused { IfErr result (λ e. e ≡ error.NoMemory) }
+    ensures { IfOk result (λ e. IsResolved scope.now spot.now
+        (trees.filter (written.expr_view value.now) name.now (written.exprs_view row.now)
+        (written.pairs_view pairs.now)) e pool.old pool.new) }
 {
     match filter_of(name, row, pairs) {
         None => Ok(absent()),
@@ -308,13 +289,12 @@ pub(crate) fn resolve_filtered(
     row: &[Expr],
     pairs: &[(String, Expr)],
     pool: &mut Vec<Value>,
-) -> Result<SExpr, ScopeError>
+) -> Result<SExpr, NoMemory>
     requires { IsLaidOut scope.now }
-    ensures placed { IfOk result (λ e. (c : slots.SExpr Constant) (p : List Tree)
+    ensures { IfOk result (λ e. (c : slots.SExpr Constant) (p : List Tree)
         → IsPlaced c (expr_view value) p (values pool.old)
         → IsPlaced (filtered_in scope.now (Some (filter_id filter)) c (written.exprs_view row.now)
         (written.pairs_view pairs.now) spot.now) (expr_view e) p (values pool.new)) }
-    ensures refused { IfErr result (λ e. e ≡ error.NoMemory) }
 {
     let mut given = row_of(alloc, value)?;
     resolve_given(alloc, scope, spot, row, pairs, &mut given, pool)?;
@@ -341,12 +321,11 @@ fn resolve_call(
     row: &[Expr],
     pairs: &[(String, Expr)],
     pool: &mut Vec<Value>,
-) -> Result<SExpr, ScopeError>
+) -> Result<SExpr, NoMemory>
     requires { IsLaidOut scope.now }
-    ensures placed { IfOk result (λ e. IsPlaced (expr_in scope.now (trees.call
-        (written.expr_view called.now) (written.exprs_view row.now) (written.pairs_view pairs.now))
-        spot.now) (expr_view e) (values pool.old) (values pool.new)) }
-    ensures refused { IfErr result (λ e. e ≡ error.NoMemory) }
+    ensures { IfOk result (λ e. IsResolved scope.now spot.now
+        (trees.call (written.expr_view called.now) (written.exprs_view row.now)
+        (written.pairs_view pairs.now)) e pool.old pool.new) }
 {
     match callee_of(&*scope, &*called)? {
         Callee::Macro(signature) => {
@@ -370,16 +349,15 @@ fn resolve_macro(
     row: &[Expr],
     pairs: &[(String, Expr)],
     pool: &mut Vec<Value>,
-) -> Result<SExpr, ScopeError>
+) -> Result<SExpr, NoMemory>
     requires { IsLaidOut scope.now }
-    ensures placed { IfOk result (λ e. IsPlaced (slots.invoke signature.entry.unit spot.now.escaping
+    ensures { IfOk result (λ e. IsPlaced (slots.invoke signature.entry.unit spot.now.escaping
         (row_in scope.now (written.exprs_view row.now) spot.now (asides_in scope.now
         (written.pairs_view pairs.now) spot.now (resolve.filled
         (parameters_view signature.entry.parameters.now) (length row.now)
         signature.entry.first_default
         (resolve.locals_from spot.now.free (keywords (written.pairs_view pairs.now)))))))
         (expr_view e) (values pool.old) (values pool.new)) }
-    ensures refused { IfErr result (λ e. e ≡ error.NoMemory) }
 {
     let mut given = Vec::new(alloc);
     resolve_given(alloc, scope, spot, row, pairs, &mut given, pool)?;
@@ -402,13 +380,12 @@ fn resolve_range(
     spot: &Spot<'_, '_>,
     row: &[Expr],
     pool: &mut Vec<Value>,
-) -> Result<SExpr, ScopeError>
+) -> Result<SExpr, NoMemory>
     requires { IsLaidOut scope.now }
-    ensures placed { IfOk result (λ e. IsPlaced (slots.made
+    ensures { IfOk result (λ e. IsPlaced (slots.made
         (slots.operator (operators.range_of (length row.now)))
         (row_in scope.now (written.exprs_view row.now) spot.now slots.none)) (expr_view e)
         (values pool.old) (values pool.new)) }
-    ensures refused { IfErr result (λ e. e ≡ error.NoMemory) }
 {
     let mut operands = Vec::new(alloc);
     resolve_row(alloc, scope, spot, row, &mut operands, pool)?;
@@ -423,15 +400,14 @@ fn resolve_cycle(
     spot: &Spot<'_, '_>,
     row: &[Expr],
     pool: &mut Vec<Value>,
-) -> Result<SExpr, ScopeError>
+) -> Result<SExpr, NoMemory>
     requires { IsLaidOut scope.now }
-    ensures placed { IfOk result (λ e. IsPlaced (resolve.operation_of op.Item
+    ensures { IfOk result (λ e. IsPlaced (resolve.operation_of op.Item
         (slots.made slots.a_list
         (row_in scope.now (written.exprs_view row.now) spot.now slots.none))
         (resolve.operation_of op.Remainder (slots.field index0)
         (slots.pooled (own (tree.number (pos (length row.now))))))) (expr_view e) (values pool.old)
         (values pool.new)) }
-    ensures refused { IfErr result (λ e. e ≡ error.NoMemory) }
 {
     let items = resolve_list(alloc, scope, spot, row, pool)?;
     let turn = turn_among(alloc, row.len(), pool)?;
@@ -447,12 +423,11 @@ pub(crate) fn resolve_row(
     row: &[Expr],
     done: &mut Vec<(Option<usize>, SExpr)>,
     pool: &mut Vec<Value>,
-) -> Result<(), ScopeError>
+) -> Result<(), NoMemory>
     requires { IsLaidOut scope.now }
-    ensures led { IfOk result (λ u. (left : slots.SRow Constant)
+    ensures { IfOk result (λ u. (left : slots.SRow Constant)
         → RowLeads (row_in scope.now (written.exprs_view row.now) spot.now left) left done.old.items
         done.new.items (values pool.old) (values pool.new)) }
-    ensures refused { IfErr result (λ e. e ≡ error.NoMemory) }
 {
     for expr in row {
         let next = resolve_expression(alloc, scope, spot, expr, pool)?;
@@ -470,12 +445,11 @@ pub(crate) fn resolve_asides(
     pairs: &[(String, Expr)],
     done: &mut Vec<(Option<usize>, SExpr)>,
     pool: &mut Vec<Value>,
-) -> Result<(), ScopeError>
+) -> Result<(), NoMemory>
     requires { IsLaidOut scope.now }
-    ensures led { IfOk result (λ u. (left : slots.SRow Constant)
+    ensures { IfOk result (λ u. (left : slots.SRow Constant)
         → RowLeads (asides_in scope.now (written.pairs_view pairs.now) spot.now left) left
         done.old.items done.new.items (values pool.old) (values pool.new)) }
-    ensures refused { IfErr result (λ e. e ≡ error.NoMemory) }
 {
     let mut here = *spot;
     for (_, value) in pairs {
@@ -496,13 +470,12 @@ fn resolve_given(
     pairs: &[(String, Expr)],
     done: &mut Vec<(Option<usize>, SExpr)>,
     pool: &mut Vec<Value>,
-) -> Result<(), ScopeError>
+) -> Result<(), NoMemory>
     requires { IsLaidOut scope.now }
-    ensures led { IfOk result (λ u. (left : slots.SRow Constant)
+    ensures { IfOk result (λ u. (left : slots.SRow Constant)
         → RowLeads (row_in scope.now (written.exprs_view row.now) spot.now
         (asides_in scope.now (written.pairs_view pairs.now) spot.now left)) left done.old.items
         done.new.items (values pool.old) (values pool.new)) }
-    ensures refused { IfErr result (λ e. e ≡ error.NoMemory) }
 {
     resolve_row(alloc, scope, spot, row, done, pool)?;
     resolve_asides(alloc, scope, spot, pairs, done, pool)
@@ -517,12 +490,11 @@ fn resolve_entries(
     pairs: &[(String, Expr)],
     done: &mut Vec<(Option<usize>, SExpr)>,
     pool: &mut Vec<Value>,
-) -> Result<(), ScopeError>
+) -> Result<(), NoMemory>
     requires { IsLaidOut scope.now }
-    ensures led { IfOk result (λ u. RowLeads
+    ensures { IfOk result (λ u. RowLeads
         (entries_in scope.now (written.pairs_view pairs.now) spot.now) slots.none done.old.items
         done.new.items (values pool.old) (values pool.new)) }
-    ensures refused { IfErr result (λ e. e ≡ error.NoMemory) }
 {
     for (key, value) in pairs {
         let place = add_text(alloc, key.as_str(), pool)?;

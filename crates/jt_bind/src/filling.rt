@@ -1,6 +1,6 @@
 //! Parameters that no argument by place fills.
 
-ghost use Rattle.std.specs.Prelude.{◌≡◌, List, drop, IfOk, IfErr};
+ghost use Rattle.std.specs.Prelude.{◌≡◌, List, drop, IfOk};
 ghost use Rattle.jt_value.specs.Tree.{Tree};
 ghost use Rattle.jt_value.specs.View.{view};
 ghost use Rattle.jt_trees.specs.ExpressionView as written;
@@ -10,7 +10,6 @@ ghost use Rattle.jt_meaning.specs.Resolve as resolve;
 ghost use Rattle.jt_bind.specs.Scoped.{values, IsPlaced, RowLeads};
 ghost use Rattle.jt_trees.specs.Texts.{among};
 ghost use Rattle.jt_trees.specs.StatementView.{parameter_view, parameters_view};
-ghost use Rattle.jt_rules.specs.declared.error.ScopeError.TheVariants as error;
 ghost use Rattle.jt_evaluation.specs.Filters.{some_given, default_value};
 ghost use Rattle.jt_resolved.specs.Pool.{own};
 ghost use Rattle.jt_resolved.specs.Slots as slots;
@@ -20,9 +19,8 @@ use crate::forms::literal_value;
 use crate::lookup::{kept, more, value_or};
 use crate::pool::add_value;
 use jt_resolved::SExpr;
-use jt_rules::ScopeError;
 use jt_trees::{Expr, Parameter};
-use jt_value::Value;
+use jt_value::{NoMemory, Value};
 use std::alloc::Global;
 
 /// Fills the parameters of a macro behind those that are given by place: each has what was kept
@@ -34,12 +32,11 @@ pub(crate) fn fill(
     pairs: &[(String, Expr)],
     free: usize,
     done: &mut Vec<(Option<usize>, SExpr)>,
-) -> Result<(), ScopeError>
-    ensures filled { IfOk result (λ u. (p : List Tree)
+) -> Result<(), NoMemory>
+    ensures { IfOk result (λ u. (p : List Tree)
         → RowLeads (resolve.filled (parameters_view parameters.now) given first_default
         (resolve.locals_from free (keywords (written.pairs_view pairs.now)))) slots.none
         done.old.items done.new.items p p) }
-    ensures refused { IfErr result (λ e. e ≡ error.NoMemory) }
 {
     let mut default = more(first_default, given)?;
     for parameter in behind(parameters, given) {
@@ -71,12 +68,11 @@ pub(crate) fn fill_some(
     free: usize,
     done: &mut Vec<(Option<usize>, SExpr)>,
     pool: &mut Vec<Value>,
-) -> Result<(), ScopeError>
-    ensures filled { IfOk result (λ u. RowLeads (resolve.filled_some
+) -> Result<(), NoMemory>
+    ensures { IfOk result (λ u. RowLeads (resolve.filled_some
         (parameters_view parameters.now) given (keywords (written.pairs_view pairs.now))
         (resolve.locals_from free (keywords (written.pairs_view pairs.now)))) slots.none
         done.old.items done.new.items (values pool.old) (values pool.new)) }
-    ensures refused { IfErr result (λ e. e ≡ error.NoMemory) }
 {
     let rest = behind(parameters, given);
     for (place, parameter) in rest.iter().enumerate() {
@@ -97,13 +93,12 @@ fn given_or_default(
     pairs: &[(String, Expr)],
     free: usize,
     pool: &mut Vec<Value>,
-) -> Result<SExpr, ScopeError>
-    ensures placed { IfOk result (λ e. IsPlaced (resolve.value_or (slot_in
+) -> Result<SExpr, NoMemory>
+    ensures { IfOk result (λ e. IsPlaced (resolve.value_or (slot_in
         (parameter_view parameter.now).name
         (resolve.locals_from free (keywords (written.pairs_view pairs.now))))
         (own (default_value (parameter_view parameter.now).default))) (expr_view e)
         (values pool.old) (values pool.new)) }
-    ensures refused { IfErr result (λ e. e ≡ error.NoMemory) }
 {
     match kept(pairs, free, parameter.name.as_str())? {
         Some(slot) => Ok(SExpr::Variable(slot)),
@@ -112,10 +107,9 @@ fn given_or_default(
 }
 
 /// The default of a parameter; undefined where it has none.
-fn default_of(alloc: Global, parameter: &Parameter) -> Result<Value, ScopeError>
-    ensures valued { IfOk result
+fn default_of(alloc: Global, parameter: &Parameter) -> Result<Value, NoMemory>
+    ensures { IfOk result
         (λ v. view v ≡ default_value (parameter_view parameter.now).default) }
-    ensures refused { IfErr result (λ e. e ≡ error.NoMemory) }
 {
     match &parameter.default {
         Some(literal) => literal_value(alloc, literal),

@@ -1,10 +1,9 @@
 //! Resolves the filters of a filter tag.
 
-ghost use Rattle.std.specs.Prelude.{◌≡◌, List, length, IfOk, IfErr};
+ghost use Rattle.std.specs.Prelude.{◌≡◌, List, length, IfOk};
 ghost use Rattle.jt_value.specs.Tree.{Tree};
 ghost use Rattle.jt_trees.specs.StatementView.{filtering_view, filterings_view};
 ghost use Rattle.jt_meaning.specs.Resolve.{resolved_filters};
-ghost use Rattle.jt_rules.specs.declared.error.ScopeError.TheVariants as error;
 ghost use Rattle.jt_resolved.specs.Pool.{Constant};
 ghost use Rattle.jt_resolved.specs.Slots as slots;
 ghost use Rattle.jt_resolved.specs.View.{slot_view, expr_view};
@@ -17,9 +16,8 @@ use crate::spot::Spot;
 use jt_evaluation::filter_of;
 use jt_layout::Scope;
 use jt_resolved::{SExpr, Slot};
-use jt_rules::ScopeError;
 use jt_trees::Filtering;
-use jt_value::Value;
+use jt_value::{NoMemory, Value};
 use std::alloc::Global;
 
 /// Puts the value of a slot through each filter.
@@ -30,12 +28,11 @@ pub(crate) fn resolve_filterings(
     filterings: &[Filtering],
     value: Slot,
     pool: &mut Vec<Value>,
-) -> Result<SExpr, ScopeError>
+) -> Result<SExpr, NoMemory>
     requires { IsLaidOut scope.now }
-    ensures placed { IfOk result (λ e. IsPlaced (resolved_filters (world_in scope.now)
+    ensures { IfOk result (λ e. IsPlaced (resolved_filters (world_in scope.now)
         (order_in scope.now) (filterings_view filterings.now) (spot_in scope.now spot.now)
         (slots.variable (slot_view value))) (expr_view e) (values pool.old) (values pool.new)) }
-    ensures refused { IfErr result (λ e. e ≡ error.NoMemory) }
 {
     let start = pool.len();
     let mut resolved = SExpr::Variable(value);
@@ -55,16 +52,15 @@ fn resolve_filtering(
     start: usize,
     value: SExpr,
     pool: &mut Vec<Value>,
-) -> Result<SExpr, ScopeError>
+) -> Result<SExpr, NoMemory>
     requires { IsLaidOut scope.now }
-    ensures placed { IfOk result (λ e. (c : slots.SExpr Constant) (p : List Tree)
+    ensures { IfOk result (λ e. (c : slots.SExpr Constant) (p : List Tree)
         → length p ≡ start
         → IsPlaced c (expr_view value) p (values pool.old)
         → IsPlaced (filtered_in scope.now ((world_in scope.now).filters.named
         (filtering_view filtering.now).name (filtering_view filtering.now).arguments
         (filtering_view filtering.now).keywords) c (filtering_view filtering.now).arguments
         (filtering_view filtering.now).keywords spot.now) (expr_view e) p (values pool.new)) }
-    ensures refused { IfErr result (λ e. e ≡ error.NoMemory) }
 {
     let row = filtering.arguments.as_slice();
     let pairs = filtering.keywords.as_slice();

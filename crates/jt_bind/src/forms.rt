@@ -1,6 +1,6 @@
 //! What the operators and tests of the language stand for.
 
-ghost use Rattle.std.specs.Prelude.{◌≡◌, pos, IfOk, IfErr, List};
+ghost use Rattle.std.specs.Prelude.{◌≡◌, pos, IfOk, List};
 ghost use Rattle.jt_value.specs.Tree as tree;
 ghost use Rattle.jt_value.specs.Tree.{Tree};
 ghost use Rattle.jt_value.specs.View.{view};
@@ -8,7 +8,6 @@ ghost use Rattle.jt_trees.specs.ExpressionView.{literal_view};
 ghost use Rattle.jt_meaning.specs.Operators as operators;
 ghost use Rattle.jt_ids.specs.declared.op_id.OpId.TheVariants.{Remainder};
 ghost use Rattle.jt_meaning.specs.Resolve as resolve;
-ghost use Rattle.jt_rules.specs.declared.error.ScopeError.TheVariants as error;
 ghost use Rattle.jt_evaluation.specs.Loops.{index0};
 ghost use Rattle.jt_resolved.specs.Pool.{Constant, own};
 ghost use Rattle.jt_resolved.specs.Slots as slots;
@@ -20,9 +19,8 @@ ghost use Rattle.jt_bind.specs.Scoped.{values, IsPlaced};
 use crate::pool::add_value;
 use jt_ids::OpId;
 use jt_resolved::{Field, Maker, SExpr};
-use jt_rules::ScopeError;
 use jt_trees::{BinaryOperator, Literal, UnaryOperator};
-use jt_value::Value;
+use jt_value::{NoMemory, Value};
 use std::alloc::Global;
 
 /// How an operator between operands works.
@@ -39,9 +37,8 @@ pub(crate) enum Form {
 }
 
 /// The value of a literal.
-pub(crate) fn literal_value(alloc: Global, constant: &Literal) -> Result<Value, ScopeError>
-    ensures valued { IfOk result (λ v. view v ≡ literal (literal_view constant.now)) }
-    ensures refused { IfErr result (λ e. e ≡ error.NoMemory) }
+pub(crate) fn literal_value(alloc: Global, constant: &Literal) -> Result<Value, NoMemory>
+    ensures { IfOk result (λ v. view v ≡ literal (literal_view constant.now)) }
 {
     match constant {
         Literal::Number(number) => Ok(Value::Int(*number)),
@@ -110,11 +107,10 @@ fn join(escaping: bool) -> OpId
 }
 
 /// An operation on one operand.
-pub(crate) fn on_one(alloc: Global, op: OpId, operand: SExpr) -> Result<SExpr, ScopeError>
-    ensures made { IfOk result (λ e. (a : slots.SExpr Constant) (p q : List Tree)
+pub(crate) fn on_one(alloc: Global, op: OpId, operand: SExpr) -> Result<SExpr, NoMemory>
+    ensures { IfOk result (λ e. (a : slots.SExpr Constant) (p q : List Tree)
         → IsPlaced a (expr_view operand) p q
         → IsPlaced (slots.made (slots.operator op) (slots.item a slots.none)) (expr_view e) p q) }
-    ensures refused { IfErr result (λ e. e ≡ error.NoMemory) }
 {
     let mut row = Vec::new(alloc);
     row.push((None, operand))?;
@@ -122,17 +118,11 @@ pub(crate) fn on_one(alloc: Global, op: OpId, operand: SExpr) -> Result<SExpr, S
 }
 
 /// An operation on two operands.
-pub(crate) fn on_two(
-    alloc: Global,
-    op: OpId,
-    left: SExpr,
-    right: SExpr,
-) -> Result<SExpr, ScopeError>
-    ensures made { IfOk result (λ e. (a b : slots.SExpr Constant) (p q r : List Tree)
+pub(crate) fn on_two(alloc: Global, op: OpId, left: SExpr, right: SExpr) -> Result<SExpr, NoMemory>
+    ensures { IfOk result (λ e. (a b : slots.SExpr Constant) (p q r : List Tree)
         → IsPlaced a (expr_view left) p q
         → IsPlaced b (expr_view right) q r
         → IsPlaced (resolve.operation_of op a b) (expr_view e) p r) }
-    ensures refused { IfErr result (λ e. e ≡ error.NoMemory) }
 {
     let mut row = Vec::new(alloc);
     row.push((None, left))?;
@@ -141,11 +131,10 @@ pub(crate) fn on_two(
 }
 
 /// Its truth turned round, where the flag says so.
-pub(crate) fn turned(alloc: Global, negated: bool, inside: SExpr) -> Result<SExpr, ScopeError>
-    ensures made { IfOk result (λ e. (a : slots.SExpr Constant) (p q : List Tree)
+pub(crate) fn turned(alloc: Global, negated: bool, inside: SExpr) -> Result<SExpr, NoMemory>
+    ensures { IfOk result (λ e. (a : slots.SExpr Constant) (p q : List Tree)
         → IsPlaced a (expr_view inside) p q
         → IsPlaced (resolve.turned_round negated a) (expr_view e) p q) }
-    ensures refused { IfErr result (λ e. e ≡ error.NoMemory) }
 {
     if negated {
         on_one(alloc, OpId::Not, inside)
@@ -160,12 +149,11 @@ pub(crate) fn formed(
     form: Form,
     left: SExpr,
     right: SExpr,
-) -> Result<SExpr, ScopeError>
-    ensures made { IfOk result (λ e. (a b : slots.SExpr Constant) (p q r : List Tree)
+) -> Result<SExpr, NoMemory>
+    ensures { IfOk result (λ e. (a b : slots.SExpr Constant) (p q r : List Tree)
         → IsPlaced a (expr_view left) p q
         → IsPlaced b (expr_view right) q r
         → IsPlaced (resolve.in_form (form_view form) a b) (expr_view e) p r) }
-    ensures refused { IfErr result (λ e. e ≡ error.NoMemory) }
 {
     match form {
         Form::Operation(op) => on_two(alloc, op, left, right),
@@ -190,13 +178,12 @@ pub(crate) fn chosen(
     condition: SExpr,
     value: SExpr,
     other: SExpr,
-) -> Result<SExpr, ScopeError>
-    ensures made { IfOk result (λ e. (c a b : slots.SExpr Constant) (p q r s : List Tree)
+) -> Result<SExpr, NoMemory>
+    ensures { IfOk result (λ e. (c a b : slots.SExpr Constant) (p q r s : List Tree)
         → IsPlaced c (expr_view condition) p q
         → IsPlaced a (expr_view value) q r
         → IsPlaced b (expr_view other) r s
         → IsPlaced (slots.choice c a b) (expr_view e) p s) }
-    ensures refused { IfErr result (λ e. e ≡ error.NoMemory) }
 {
     let asked = Box::new(alloc, condition)?;
     let first = Box::new(alloc, value)?;
@@ -208,11 +195,10 @@ pub(crate) fn turn_among(
     alloc: Global,
     count: usize,
     pool: &mut Vec<Value>,
-) -> Result<SExpr, ScopeError>
-    ensures placed { IfOk result (λ e. IsPlaced (resolve.operation_of Remainder (slots.field index0)
+) -> Result<SExpr, NoMemory>
+    ensures { IfOk result (λ e. IsPlaced (resolve.operation_of Remainder (slots.field index0)
         (slots.pooled (own (tree.number (pos count))))) (expr_view e) (values pool.old)
         (values pool.new)) }
-    ensures refused { IfErr result (λ e. e ≡ error.NoMemory) }
 {
     let number = number_of(count)?;
     let items = add_value(pool, number)?;
@@ -220,12 +206,11 @@ pub(crate) fn turn_among(
 }
 
 /// A count as a value.
-fn number_of(count: usize) -> Result<Value, ScopeError>
-    ensures valued { IfOk result (λ v. view v ≡ tree.number (pos count)) }
-    ensures refused { IfErr result (λ e. e ≡ error.NoMemory) }
+fn number_of(count: usize) -> Result<Value, NoMemory>
+    ensures { IfOk result (λ v. view v ≡ tree.number (pos count)) }
 {
     match i64::try_from(count) {
         Ok(count) => Ok(Value::Int(count)),
-        Err(_) => Err(ScopeError::NoMemory),
+        Err(_) => Err(NoMemory),
     }
 }

@@ -1,15 +1,14 @@
 //! Names of a scope, in locals one behind the other.
 
-ghost use Rattle.std.specs.Prelude.{◌≡◌, IfOk, IfErr, None};
+ghost use Rattle.std.specs.Prelude.{◌≡◌, IfOk, None};
 ghost use Rattle.jt_trees.specs.Expressions.{Text};
-ghost use Rattle.jt_rules.specs.declared.error.ScopeError.TheVariants as error;
 ghost use Rattle.jt_layout.specs.Names.{place_in};
 ghost use Rattle.jt_names.specs.Names.{texts};
 ghost use Rattle.jt_bind.specs.Names.{last_among};
 
 use crate::lookup::more;
 use jt_layout::Index;
-use jt_rules::ScopeError;
+use jt_value::NoMemory;
 use std::alloc::Global;
 
 /// Names in locals from one on. Of a name that comes again the last one counts.
@@ -24,10 +23,9 @@ pub(crate) struct Frame<'a> {
 
 impl<'a> Frame<'a> {
     /// The names, in locals from the first one on.
-    pub(crate) fn new(alloc: Global, names: Vec<&'a str>, first: usize) -> Result<Self, ScopeError>
+    pub(crate) fn new(alloc: Global, names: Vec<&'a str>, first: usize) -> Result<Self, NoMemory>
         ensures named { IfOk result (λ f. texts f.names.items ≡ texts names.entry.items) }
         ensures first { IfOk result (λ f. f.first ≡ first) }
-        ensures refused { IfErr result (λ e. e ≡ error.NoMemory) }
     {
         let mut index = Index::new(alloc);
         let mut local = first;

@@ -1,17 +1,15 @@
 //! The routines of all chains and libraries.
 
-ghost use Rattle.std.specs.Prelude.{◌≡◌, [], IfOk, IfErr};
+ghost use Rattle.std.specs.Prelude.{[], IfOk};
 ghost use Rattle.jt_layout.specs.Laid.{IsLaidOut};
 ghost use Rattle.jt_meaning.specs.Programs as programs;
 ghost use Rattle.jt_bind.specs.Scoped.{values, world_in, order_in, templates_in};
-ghost use Rattle.jt_rules.specs.declared.error.ScopeError.TheVariants as error;
 ghost use Rattle.jt_bind.specs.Routines.{AreRoutines};
 
 use crate::routines::resolve_home;
 use jt_layout::Scope;
 use jt_resolved::Routine;
-use jt_rules::ScopeError;
-use jt_value::Value;
+use jt_value::{NoMemory, Value};
 use std::alloc::Global;
 
 /// Resolves the chains and libraries one after the other.
@@ -19,12 +17,11 @@ pub(crate) fn resolve_homes(
     alloc: Global,
     mut scope: Scope<'_>,
     pool: &mut Vec<Value>,
-) -> Result<Vec<Routine>, ScopeError>
+) -> Result<Vec<Routine>, NoMemory>
     requires { IsLaidOut scope }
-    ensures put { IfOk result (λ rs. AreRoutines (templates_in scope.entry)
+    ensures { IfOk result (λ rs. AreRoutines (templates_in scope.entry)
         (programs.routines (world_in scope.entry) (order_in scope.entry)) [] rs.items
         (values pool.old) (values pool.new)) }
-    ensures refused { IfErr result (λ e. e ≡ error.NoMemory) }
 {
     let mut routines = Vec::new(alloc);
     for home in 0..scope.homes.len() {

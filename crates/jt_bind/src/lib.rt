@@ -29,5 +29,5 @@ mod spot;
 mod statements;
 mod targets;
 
-pub use jt_rules::ScopeError;
+pub use jt_value::NoMemory;
 pub use resolving::resolved;

@@ -1,8 +1,7 @@
 //! How many locals resolved statements use: one more than the last one that is stored or loaded.
 
-ghost use Rattle.std.specs.Prelude.{◌≡◌, ℕ, List, max, option_map, map, IfOk, IfErr};
+ghost use Rattle.std.specs.Prelude.{◌≡◌, ℕ, List, max, option_map, map, IfOk};
 ghost use Rattle.jt_trees.specs.Expressions.{Text};
-ghost use Rattle.jt_rules.specs.declared.error.ScopeError.TheVariants as error;
 ghost use Rattle.jt_bind.specs.Counts as counts;
 ghost use Rattle.jt_resolved.specs.Locals as locals;
 ghost use Rattle.jt_resolved.specs.Slots as slots;
@@ -11,7 +10,7 @@ ghost use Rattle.jt_resolved.specs.View.{slot_view, targets_view, expr_view, row
 
 use crate::lookup::more;
 use jt_resolved::{SExpr, SStmt, Slot, Targets};
-use jt_rules::ScopeError;
+use jt_value::NoMemory;
 
 /// The larger one of two numbers.
 pub(crate) fn larger(left: usize, right: usize) -> usize
@@ -21,9 +20,8 @@ pub(crate) fn larger(left: usize, right: usize) -> usize
 }
 
 /// The locals of a slot.
-fn slot_locals(slot: Slot) -> Result<usize, ScopeError>
-    ensures counted { IfOk result (λ n. n ≡ locals.slot_locals (slot_view slot)) }
-    ensures refused { IfErr result (λ e. e ≡ error.NoMemory) }
+fn slot_locals(slot: Slot) -> Result<usize, NoMemory>
+    ensures { IfOk result (λ n. n ≡ locals.slot_locals (slot_view slot)) }
 {
     match slot {
         Slot::Local(local) => more(local, 1),
@@ -32,9 +30,8 @@ fn slot_locals(slot: Slot) -> Result<usize, ScopeError>
 }
 
 /// The locals of a slot, or of none.
-fn target_locals(slot: Option<Slot>) -> Result<usize, ScopeError>
-    ensures counted { IfOk result (λ n. n ≡ counts.target_locals (option_map slot_view slot)) }
-    ensures refused { IfErr result (λ e. e ≡ error.NoMemory) }
+fn target_locals(slot: Option<Slot>) -> Result<usize, NoMemory>
+    ensures { IfOk result (λ n. n ≡ counts.target_locals (option_map slot_view slot)) }
 {
     match slot {
         Some(slot) => slot_locals(slot),
@@ -43,9 +40,8 @@ fn target_locals(slot: Option<Slot>) -> Result<usize, ScopeError>
 }
 
 /// The local that something is kept aside in, if it is.
-fn aside_locals(kept: Option<usize>) -> Result<usize, ScopeError>
-    ensures counted { IfOk result (λ n. n ≡ counts.aside_locals kept) }
-    ensures refused { IfErr result (λ e. e ≡ error.NoMemory) }
+fn aside_locals(kept: Option<usize>) -> Result<usize, NoMemory>
+    ensures { IfOk result (λ n. n ≡ counts.aside_locals kept) }
 {
     match kept {
         Some(local) => more(local, 1),
@@ -54,10 +50,9 @@ fn aside_locals(kept: Option<usize>) -> Result<usize, ScopeError>
 }
 
 /// The locals of slots.
-fn slots_locals(slots: &[Option<Slot>]) -> Result<usize, ScopeError>
-    ensures counted { IfOk result
+fn slots_locals(slots: &[Option<Slot>]) -> Result<usize, NoMemory>
+    ensures { IfOk result
         (λ n. n ≡ locals.slots_locals (map (option_map slot_view) slots.now)) }
-    ensures refused { IfErr result (λ e. e ≡ error.NoMemory) }
 {
     let mut most = 0;
     for slot in slots {
@@ -67,9 +62,8 @@ fn slots_locals(slots: &[Option<Slot>]) -> Result<usize, ScopeError>
 }
 
 /// The locals of what takes a value.
-fn targets_locals(targets: &Targets) -> Result<usize, ScopeError>
-    ensures counted { IfOk result (λ n. n ≡ locals.targets_locals (targets_view targets.now)) }
-    ensures refused { IfErr result (λ e. e ≡ error.NoMemory) }
+fn targets_locals(targets: &Targets) -> Result<usize, NoMemory>
+    ensures { IfOk result (λ n. n ≡ locals.targets_locals (targets_view targets.now)) }
 {
     match targets {
         Targets::One(slot) => slot_locals(*slot),
@@ -79,9 +73,8 @@ fn targets_locals(targets: &Targets) -> Result<usize, ScopeError>
 
 /// The locals of an expression.
 #[cycle(expressions)]
-fn expr_locals(expr: &SExpr) -> Result<usize, ScopeError>
-    ensures counted { IfOk result (λ n. n ≡ locals.expr_locals (expr_view expr.now)) }
-    ensures refused { IfErr result (λ e. e ≡ error.NoMemory) }
+fn expr_locals(expr: &SExpr) -> Result<usize, NoMemory>
+    ensures { IfOk result (λ n. n ≡ locals.expr_locals (expr_view expr.now)) }
 {
     match expr {
         SExpr::Pooled(_) => Ok(0),
@@ -108,9 +101,8 @@ fn expr_locals(expr: &SExpr) -> Result<usize, ScopeError>
 
 /// The locals of a row.
 #[cycle(expressions)]
-fn row_locals(row: &[(Option<usize>, SExpr)]) -> Result<usize, ScopeError>
-    ensures counted { IfOk result (λ n. n ≡ locals.row_locals (row_view row.now slots.none)) }
-    ensures refused { IfErr result (λ e. e ≡ error.NoMemory) }
+fn row_locals(row: &[(Option<usize>, SExpr)]) -> Result<usize, NoMemory>
+    ensures { IfOk result (λ n. n ≡ locals.row_locals (row_view row.now slots.none)) }
 {
     let mut most = 0;
     for (kept, expr) in row {
@@ -121,10 +113,9 @@ fn row_locals(row: &[(Option<usize>, SExpr)]) -> Result<usize, ScopeError>
 }
 
 /// The locals of a condition, if there is one.
-fn condition_locals(condition: &Option<SExpr>) -> Result<usize, ScopeError>
-    ensures counted { IfOk result
+fn condition_locals(condition: &Option<SExpr>) -> Result<usize, NoMemory>
+    ensures { IfOk result
         (λ n. n ≡ locals.condition_locals (option_map expr_view condition.now)) }
-    ensures refused { IfErr result (λ e. e ≡ error.NoMemory) }
 {
     match condition {
         Some(condition) => expr_locals(condition),
@@ -134,11 +125,10 @@ fn condition_locals(condition: &Option<SExpr>) -> Result<usize, ScopeError>
 
 /// The locals of a statement.
 #[cycle(statements)]
-fn stmt_locals(statement: &SStmt) -> Result<usize, ScopeError>
-    ensures counted { IfOk result (λ n. (templates : List Text) (behind : SBody ℕ)
+fn stmt_locals(statement: &SStmt) -> Result<usize, NoMemory>
+    ensures { IfOk result (λ n. (templates : List Text) (behind : SBody ℕ)
         → locals.body_locals (stmt_view templates statement.now behind)
         ≡ max n (locals.body_locals behind)) }
-    ensures refused { IfErr result (λ e. e ≡ error.NoMemory) }
 {
     match statement {
         SStmt::PutPooled(_) => Ok(0),
@@ -173,11 +163,10 @@ fn stmt_locals(statement: &SStmt) -> Result<usize, ScopeError>
 
 /// The locals of statements.
 #[cycle(statements)]
-pub(crate) fn body_locals(body: &[SStmt]) -> Result<usize, ScopeError>
-    ensures counted { IfOk result (λ n. (templates : List Text) (behind : SBody ℕ)
+pub(crate) fn body_locals(body: &[SStmt]) -> Result<usize, NoMemory>
+    ensures { IfOk result (λ n. (templates : List Text) (behind : SBody ℕ)
         → locals.body_locals (body_view templates body.now behind)
         ≡ max n (locals.body_locals behind)) }
-    ensures refused { IfErr result (λ e. e ≡ error.NoMemory) }
 {
     let mut most = 0;
     for statement in body {

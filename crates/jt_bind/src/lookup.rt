@@ -1,12 +1,11 @@
 //! What names read.
 
-ghost use Rattle.std.specs.Prelude.{◌≡◌, ◌+◌, List, option_map, IfOk, IfErr};
+ghost use Rattle.std.specs.Prelude.{◌≡◌, ◌+◌, List, option_map, IfOk};
 ghost use Rattle.jt_value.specs.Tree.{Tree};
 ghost use Rattle.jt_trees.specs.ExpressionView as written;
 ghost use Rattle.jt_chains.specs.Uses.{keywords};
 ghost use Rattle.jt_meaning.specs.Layout.{slot_in};
 ghost use Rattle.jt_meaning.specs.Resolve as resolve;
-ghost use Rattle.jt_rules.specs.declared.error.ScopeError.TheVariants as error;
 ghost use Rattle.jt_resolved.specs.Pool.{known};
 ghost use Rattle.jt_resolved.specs.Slots as slots;
 ghost use Rattle.jt_resolved.specs.View.{slot_view, expr_view};
@@ -16,15 +15,14 @@ ghost use Rattle.jt_bind.specs.Scoped.{IsPlaced, globals_in, spot_in};
 use crate::spot::Spot;
 use jt_layout::Scope;
 use jt_resolved::{SExpr, Slot};
-use jt_rules::ScopeError;
 use jt_trees::Expr;
+use jt_value::NoMemory;
 
 /// One more, or so many more.
-pub(crate) fn more(count: usize, by: usize) -> Result<usize, ScopeError>
-    ensures added { IfOk result (λ n. n ≡ count + by) }
-    ensures refused { IfErr result (λ e. e ≡ error.NoMemory) }
+pub(crate) fn more(count: usize, by: usize) -> Result<usize, NoMemory>
+    ensures { IfOk result (λ n. n ≡ count + by) }
 {
-    count.checked_add(by).ok_or(ScopeError::NoMemory)
+    count.checked_add(by).ok_or(NoMemory)
 }
 
 /// What a slot holds, or the value at a place of the pool.
@@ -93,10 +91,9 @@ pub(crate) fn kept(
     pairs: &[(String, Expr)],
     free: usize,
     name: &str,
-) -> Result<Option<Slot>, ScopeError>
-    ensures kept { IfOk result (λ s. option_map slot_view s
+) -> Result<Option<Slot>, NoMemory>
+    ensures { IfOk result (λ s. option_map slot_view s
         ≡ slot_in name.now (resolve.locals_from free (keywords (written.pairs_view pairs.now)))) }
-    ensures refused { IfErr result (λ e. e ≡ error.NoMemory) }
 {
     let mut local = free;
     for (key, _) in pairs {

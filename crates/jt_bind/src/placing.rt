@@ -1,13 +1,12 @@
 //! Blocks where their tags stand, and included chains.
 
-ghost use Rattle.std.specs.Prelude.{◌≡◌, ℕ, Bool, List, [], IfOk, IfErr, if◌then◌else◌};
+ghost use Rattle.std.specs.Prelude.{◌≡◌, ℕ, Bool, List, [], IfOk, if◌then◌else◌};
 ghost use Rattle.jt_layout.specs.Laid.{IsLaidOut};
 ghost use Rattle.jt_layout.specs.declared.scope.Scope.{Scope};
 ghost use Rattle.jt_meaning.specs.Resolve as resolve;
 ghost use Rattle.jt_meaning.specs.Layout.{slot_in};
 ghost use Rattle.jt_bind.specs.Scoped.{IsPlaced, globals_in, spot_in, templates_in};
 ghost use Rattle.jt_trees.specs.Statements as trees;
-ghost use Rattle.jt_rules.specs.declared.error.ScopeError.TheVariants as error;
 ghost use Rattle.jt_resolved.specs.View.{expr_view};
 ghost use Rattle.jt_names.specs.Names.{texts};
 ghost use Rattle.jt_value.specs.Tree.{Tree};
@@ -20,7 +19,7 @@ use crate::putting::{put_assign, put_print, put_run};
 use crate::spot::Spot;
 use jt_layout::Scope;
 use jt_resolved::{SExpr, SStmt, Slot, Targets};
-use jt_rules::ScopeError;
+use jt_value::NoMemory;
 use std::alloc::Global;
 
 /// What an included chain is handed under a name: what the name reads, or nothing.
@@ -47,13 +46,12 @@ fn hand_on(
     first: usize,
     names: &[&str],
     done: &mut Vec<SStmt>,
-) -> Result<(), ScopeError>
+) -> Result<(), NoMemory>
     requires { IsLaidOut scope.now }
-    ensures put { IfOk result (λ u. (p : List Tree)
+    ensures { IfOk result (λ u. (p : List Tree)
         → Led (templates_in scope.now) (resolve.handed_on (line_in scope.now spot.now line)
         (if with_context then (spot_in scope.now spot.now).table else []) first (texts names.now))
         done.old.items done.new.items p p) }
-    ensures refused { IfErr result (λ e. e ≡ error.NoMemory) }
 {
     let mut global = first;
     for name in names {
@@ -71,11 +69,10 @@ fn put_missing(
     line: u32,
     ignore_missing: bool,
     done: &mut Vec<SStmt>,
-) -> Result<(), ScopeError>
-    ensures put { IfOk result (λ u. (s : Scope) (p : List Tree)
+) -> Result<(), NoMemory>
+    ensures { IfOk result (λ u. (s : Scope) (p : List Tree)
         → Led (templates_in s) (resolve.left_out (spot_in s spot.now) line ignore_missing)
         done.old.items done.new.items p p) }
-    ensures refused { IfErr result (λ e. e ≡ error.NoMemory) }
 {
     if ignore_missing {
         return Ok(());
@@ -93,13 +90,12 @@ pub(crate) fn put_include(
     ignore_missing: bool,
     with_context: bool,
     done: &mut Vec<SStmt>,
-) -> Result<(), ScopeError>
+) -> Result<(), NoMemory>
     requires { IsLaidOut scope.now }
-    ensures put { IfOk result (λ u. (p : List Tree)
+    ensures { IfOk result (λ u. (p : List Tree)
         → Led (templates_in scope.now)
         (stmt_in scope.now (trees.include line name.now ignore_missing with_context) spot.now)
         done.old.items done.new.items p p) }
-    ensures refused { IfErr result (λ e. e ≡ error.NoMemory) }
 {
     if scope.sources.place(name).is_none() {
         return put_missing(spot, line, ignore_missing, done);
@@ -138,13 +134,12 @@ pub(crate) fn put_block(
     name: &str,
     scoped: bool,
     done: &mut Vec<SStmt>,
-) -> Result<(), ScopeError>
+) -> Result<(), NoMemory>
     requires { IsLaidOut scope.now }
-    ensures put { IfOk result (λ u. (line : ℕ) (required : Bool) (body : Body) (p : List Tree)
+    ensures { IfOk result (λ u. (line : ℕ) (required : Bool) (body : Body) (p : List Tree)
         → Led (templates_in scope.now)
         (stmt_in scope.now (trees.block line name.now scoped required body) spot.now) done.old.items
         done.new.items p p) }
-    ensures refused { IfErr result (λ e. e ≡ error.NoMemory) }
 {
     let Some(unit) = first_body(scope, name)? else {
         return put_print(spot, 1, absent(), done);

@@ -1,24 +1,21 @@
 //! The pool of values that resolving fills.
 
-ghost use Rattle.std.specs.Prelude.{◌≡◌, IfOk, IfErr};
+ghost use Rattle.std.specs.Prelude.{IfOk};
 ghost use Rattle.jt_value.specs.Tree as tree;
 ghost use Rattle.jt_value.specs.View.{view};
-ghost use Rattle.jt_rules.specs.declared.error.ScopeError.TheVariants as error;
 ghost use Rattle.jt_resolved.specs.Pool.{own};
 ghost use Rattle.jt_resolved.specs.Slots as slots;
 ghost use Rattle.jt_resolved.specs.View.{expr_view};
 ghost use Rattle.jt_bind.specs.Scoped.{values, IsPlaced};
 
 use jt_resolved::SExpr;
-use jt_rules::ScopeError;
-use jt_value::Value;
+use jt_value::{NoMemory, Value};
 use std::alloc::Global;
 
 /// Puts a value at the end of the pool, and gives the expression that it is.
-pub(crate) fn add_value(pool: &mut Vec<Value>, value: Value) -> Result<SExpr, ScopeError>
-    ensures placed { IfOk result (λ e. IsPlaced (slots.pooled (own (view value))) (expr_view e)
+pub(crate) fn add_value(pool: &mut Vec<Value>, value: Value) -> Result<SExpr, NoMemory>
+    ensures { IfOk result (λ e. IsPlaced (slots.pooled (own (view value))) (expr_view e)
         (values pool.old) (values pool.new)) }
-    ensures refused { IfErr result (λ e. e ≡ error.NoMemory) }
 {
     let place = pool.len();
     pool.push(value)?;
@@ -26,14 +23,9 @@ pub(crate) fn add_value(pool: &mut Vec<Value>, value: Value) -> Result<SExpr, Sc
 }
 
 /// Puts a text at the end of the pool, and gives the expression that it is.
-pub(crate) fn add_text(
-    alloc: Global,
-    text: &str,
-    pool: &mut Vec<Value>,
-) -> Result<SExpr, ScopeError>
-    ensures placed { IfOk result (λ e. IsPlaced (slots.pooled (own (tree.text text.now)))
+pub(crate) fn add_text(alloc: Global, text: &str, pool: &mut Vec<Value>) -> Result<SExpr, NoMemory>
+    ensures { IfOk result (λ e. IsPlaced (slots.pooled (own (tree.text text.now)))
         (expr_view e) (values pool.old) (values pool.new)) }
-    ensures refused { IfErr result (λ e. e ≡ error.NoMemory) }
 {
     add_value(pool, Value::text(alloc, text)?)
 }

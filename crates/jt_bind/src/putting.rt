@@ -1,13 +1,12 @@
 //! Puts resolved statements behind others.
 
-ghost use Rattle.std.specs.Prelude.{◌≡◌, List, Option, [], IfOk, IfErr};
+ghost use Rattle.std.specs.Prelude.{List, Option, [], IfOk};
 ghost use Rattle.jt_value.specs.Tree as tree;
 ghost use Rattle.jt_value.specs.Tree.{Tree};
 ghost use Rattle.jt_layout.specs.declared.scope.Scope.{Scope};
 ghost use Rattle.jt_meaning.specs.Resolve.{alone};
 ghost use Rattle.jt_bind.specs.Scoped.{values, IsPlaced, RowLeads, templates_in};
 ghost use Rattle.jt_trees.specs.Expressions.{Text};
-ghost use Rattle.jt_rules.specs.declared.error.ScopeError.TheVariants as error;
 ghost use Rattle.jt_resolved.specs.Pool.{Constant, own};
 ghost use Rattle.jt_resolved.specs.Slots as slots;
 ghost use Rattle.jt_resolved.specs.Slots.{SBody, SRow};
@@ -16,8 +15,7 @@ ghost use Rattle.jt_bind.specs.Stated.{Led, IsBody, IsAsked, ChoiceLeads, line_i
 
 use crate::spot::Spot;
 use jt_resolved::{Place, SExpr, SStmt, Slot, Targets};
-use jt_rules::ScopeError;
-use jt_value::Value;
+use jt_value::{NoMemory, Value};
 use std::alloc::Global;
 
 /// Puts a text outside tags behind other statements.
@@ -26,11 +24,10 @@ pub(crate) fn put_data(
     text: &str,
     done: &mut Vec<SStmt>,
     pool: &mut Vec<Value>,
-) -> Result<(), ScopeError>
-    ensures put { IfOk result (λ u. (templates : List Text)
+) -> Result<(), NoMemory>
+    ensures { IfOk result (λ u. (templates : List Text)
         → Led templates (alone (slots.put_pooled (own (tree.text text.now)))) done.old.items
         done.new.items (values pool.old) (values pool.new)) }
-    ensures refused { IfErr result (λ e. e ≡ error.NoMemory) }
 {
     let place = pool.len();
     pool.push(Value::text(alloc, text)?)?;
@@ -44,12 +41,11 @@ pub(crate) fn put_print(
     line: u32,
     value: SExpr,
     done: &mut Vec<SStmt>,
-) -> Result<(), ScopeError>
-    ensures put { IfOk result (λ u. (s : Scope) (c : slots.SExpr Constant) (p q : List Tree)
+) -> Result<(), NoMemory>
+    ensures { IfOk result (λ u. (s : Scope) (c : slots.SExpr Constant) (p q : List Tree)
         → IsPlaced c (expr_view value) p q
         → Led (templates_in s) (alone (slots.print (line_in s spot.now line) spot.now.escaping c))
         done.old.items done.new.items p q) }
-    ensures refused { IfErr result (λ e. e ≡ error.NoMemory) }
 {
     let place = Place {
         template: spot.template,
@@ -66,13 +62,12 @@ pub(crate) fn put_assign(
     targets: Targets,
     value: SExpr,
     done: &mut Vec<SStmt>,
-) -> Result<(), ScopeError>
-    ensures put { IfOk result (λ u. (s : Scope) (c : slots.SExpr Constant) (p q : List Tree)
+) -> Result<(), NoMemory>
+    ensures { IfOk result (λ u. (s : Scope) (c : slots.SExpr Constant) (p q : List Tree)
         → IsPlaced c (expr_view value) p q
         → Led (templates_in s)
         (alone (slots.assign (line_in s spot.now line) (targets_view targets) c)) done.old.items
         done.new.items p q) }
-    ensures refused { IfErr result (λ e. e ≡ error.NoMemory) }
 {
     let place = Place {
         template: spot.template,
@@ -87,13 +82,12 @@ pub(crate) fn put_choice(
     branches: Vec<(Place, SExpr, Vec<SStmt>)>,
     other: Vec<SStmt>,
     done: &mut Vec<SStmt>,
-) -> Result<(), ScopeError>
-    ensures put { IfOk result (λ u. (templates : List Text) (whole last : SBody Constant)
+) -> Result<(), NoMemory>
+    ensures { IfOk result (λ u. (templates : List Text) (whole last : SBody Constant)
         (p q r : List Tree)
         → ChoiceLeads templates whole last branches.items p q
         → IsBody templates last other.items q r
         → Led templates whole done.old.items done.new.items p r) }
-    ensures refused { IfErr result (λ e. e ≡ error.NoMemory) }
 {
     done.push(SStmt::If(branches, other))?;
     Ok(())
@@ -109,8 +103,8 @@ pub(crate) fn put_loop(
     body: Vec<SStmt>,
     other: Vec<SStmt>,
     done: &mut Vec<SStmt>,
-) -> Result<(), ScopeError>
-    ensures put { IfOk result (λ u. (s : Scope) (c : slots.SExpr Constant)
+) -> Result<(), NoMemory>
+    ensures { IfOk result (λ u. (s : Scope) (c : slots.SExpr Constant)
         (k : Option (slots.SExpr Constant)) (turn last : SBody Constant) (p q r t v : List Tree)
         → IsPlaced c (expr_view items) p q
         → IsAsked k condition q r
@@ -119,7 +113,6 @@ pub(crate) fn put_loop(
         → Led (templates_in s)
         (alone (slots.for_each (line_in s spot.now line) (targets_view targets) c k turn last))
         done.old.items done.new.items p v) }
-    ensures refused { IfErr result (λ e. e ≡ error.NoMemory) }
 {
     let place = Place {
         template: spot.template,
@@ -135,13 +128,12 @@ pub(crate) fn put_capture(
     slot: Slot,
     body: Vec<SStmt>,
     done: &mut Vec<SStmt>,
-) -> Result<(), ScopeError>
-    ensures put { IfOk result (λ u. (templates : List Text) (whole : SBody Constant)
+) -> Result<(), NoMemory>
+    ensures { IfOk result (λ u. (templates : List Text) (whole : SBody Constant)
         (p q : List Tree)
         → IsBody templates whole body.items p q
         → Led templates (alone (slots.capture escaping (slot_view slot) whole)) done.old.items
         done.new.items p q) }
-    ensures refused { IfErr result (λ e. e ≡ error.NoMemory) }
 {
     done.push(SStmt::Capture(escaping, slot, body))?;
     Ok(())
@@ -152,11 +144,10 @@ pub(crate) fn put_run(
     unit: usize,
     row: Vec<(Option<usize>, SExpr)>,
     done: &mut Vec<SStmt>,
-) -> Result<(), ScopeError>
-    ensures put { IfOk result (λ u. (templates : List Text) (es : SRow Constant) (p q : List Tree)
+) -> Result<(), NoMemory>
+    ensures { IfOk result (λ u. (templates : List Text) (es : SRow Constant) (p q : List Tree)
         → RowLeads es slots.none [] row.items p q
         → Led templates (alone (slots.run unit es)) done.old.items done.new.items p q) }
-    ensures refused { IfErr result (λ e. e ≡ error.NoMemory) }
 {
     done.push(SStmt::Run(unit, row))?;
     Ok(())

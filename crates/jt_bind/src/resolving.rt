@@ -1,12 +1,11 @@
 //! Resolves a chain: its names to slots, and its literals and data to places of a pool.
 
-ghost use Rattle.std.specs.Prelude.{◌≡◌, IfOk, IfErr};
+ghost use Rattle.std.specs.Prelude.{◌≡◌, IfOk};
 ghost use Rattle.jt_chains.specs.Places.{home_at};
 ghost use Rattle.jt_chains.specs.View.{chain_view};
 ghost use Rattle.jt_rules.specs.World.{world_of};
 ghost use Rattle.jt_meaning.specs.Programs.{program};
 ghost use Rattle.jt_resolved.specs.View.{program_of};
-ghost use Rattle.jt_rules.specs.declared.error.ScopeError.TheVariants as error;
 
 use crate::homes::resolve_homes;
 use crate::program_names::{count_globals, entry_names, template_names};
@@ -14,7 +13,7 @@ use crate::shared::shared_values;
 use jt_chains::Chain;
 use jt_layout::lay_out;
 use jt_resolved::Program;
-use jt_rules::ScopeError;
+use jt_value::NoMemory;
 use std::alloc::Global;
 
 /// Resolves a chain, whether or not it keeps the rules.
@@ -22,11 +21,10 @@ use std::alloc::Global;
 /// # Errors
 ///
 /// `NoMemory` where a growth was refused.
-pub fn resolved(alloc: Global, chain: &Chain) -> Result<Program, ScopeError>
-    ensures resolved { IfOk result (λ p. program_of p
+pub fn resolved(alloc: Global, chain: &Chain) -> Result<Program, NoMemory>
+    ensures { IfOk result (λ p. program_of p
         ≡ program (world_of (chain_view chain.now)) (chain_view chain.now).order
         (home_at (chain_view chain.now).order 0)) }
-    ensures refused { IfErr result (λ e. e ≡ error.NoMemory) }
 {
     let scope = lay_out(alloc, chain)?;
     let templates = template_names(alloc, &chain.templates)?;

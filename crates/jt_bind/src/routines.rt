@@ -1,6 +1,6 @@
 //! Resolves the routines of a chain or a library: the chain, its macros, and the bodies of its blocks.
 
-ghost use Rattle.std.specs.Prelude.{◌≡◌, map, IfOk, IfErr, if◌then◌else◌};
+ghost use Rattle.std.specs.Prelude.{◌≡◌, map, IfOk, if◌then◌else◌};
 ghost use Rattle.jt_chains.specs.Chain.{a_chain, macros};
 ghost use Rattle.jt_chains.specs.Layers.{layer_view};
 ghost use Rattle.jt_chains.specs.Parts.{name_at};
@@ -14,11 +14,10 @@ ghost use Rattle.jt_meaning.specs.Resolve as resolve;
 ghost use Rattle.jt_bind.specs.Scoped.{values, world_in, order_in, home_in, spot_in, templates_in};
 ghost use Rattle.jt_trees.specs.Expressions.{Text};
 ghost use Rattle.jt_trees.specs.StatementView.{stmt_view, body_view};
-ghost use Rattle.jt_rules.specs.declared.error.ScopeError.TheVariants as error;
 ghost use Rattle.jt_resolved.specs.Slots as slots;
 ghost use Rattle.jt_names.specs.Names.{texts};
 ghost use Rattle.jt_bind.specs.Routines.{IsRoutine, AreRoutines, AllLed};
-ghost use Rattle.jt_bind.specs.Stated.{Led, stmt_in, layer_in};
+ghost use Rattle.jt_bind.specs.Stated.{stmt_in, layer_in, BodyLed};
 
 use crate::entering::parameters_of;
 use crate::locals::{body_locals, larger};
@@ -27,9 +26,8 @@ use crate::statements::{resolve_body, resolve_statement, resolve_within};
 use jt_chains::Layer;
 use jt_layout::Scope;
 use jt_resolved::{Routine, SStmt};
-use jt_rules::ScopeError;
 use jt_trees::Stmt;
-use jt_value::Value;
+use jt_value::{NoMemory, Value};
 use std::alloc::Global;
 
 /// At the top of a template, where names are globals.
@@ -55,13 +53,12 @@ fn resolve_routine<'a>(
     body: &'a [Stmt],
     parameters: Vec<&'a str>,
     pool: &mut Vec<Value>,
-) -> Result<Routine, ScopeError>
+) -> Result<Routine, NoMemory>
     requires { IsLaidOut scope.now }
-    ensures made { IfOk result (λ r. IsRoutine (templates_in scope.now)
+    ensures { IfOk result (λ r. IsRoutine (templates_in scope.now)
         (resolve.resolved_routine (world_in scope.now) (order_in scope.now)
         (texts parameters.entry.items) (body_view body.now) (spot_in scope.now spot.now)) r
         (values pool.old) (values pool.new)) }
-    ensures refused { IfErr result (λ e. e ≡ error.NoMemory) }
 {
     let count = parameters.len();
     let mut done = Vec::new(alloc);
@@ -104,12 +101,11 @@ fn resolve_if_set<'a>(
     statement: &'a Stmt,
     done: &mut Vec<SStmt>,
     pool: &mut Vec<Value>,
-) -> Result<(), ScopeError>
+) -> Result<(), NoMemory>
     requires { IsLaidOut scope.now }
-    ensures led { IfOk result (λ u. Led (templates_in scope.now) (if is_set
-        (stmt_view statement.now) then stmt_in scope.now (stmt_view statement.now) spot.now else
-        slots.end) done.old.items done.new.items (values pool.old) (values pool.new)) }
-    ensures refused { IfErr result (λ e. e ≡ error.NoMemory) }
+    ensures { IfOk result (λ u. BodyLed scope.now (if is_set (stmt_view statement.now) then stmt_in
+        scope.now (stmt_view statement.now) spot.now else slots.end) done.old done.new pool.old
+        pool.new) }
 {
     if sets_names(statement) {
         return resolve_statement(alloc, scope, spot, statement, done, pool);
@@ -125,12 +121,11 @@ fn resolve_sets<'a>(
     body: &'a [Stmt],
     done: &mut Vec<SStmt>,
     pool: &mut Vec<Value>,
-) -> Result<(), ScopeError>
+) -> Result<(), NoMemory>
     requires { IsLaidOut scope.now }
-    ensures led { IfOk result (λ u. Led (templates_in scope.now) (resolve.resolved_sets
-        (world_in scope.now) (order_in scope.now) (body_view body.now) (spot_in scope.now spot.now))
-        done.old.items done.new.items (values pool.old) (values pool.new)) }
-    ensures refused { IfErr result (λ e. e ≡ error.NoMemory) }
+    ensures { IfOk result (λ u. BodyLed scope.now (resolve.resolved_sets (world_in scope.now)
+        (order_in scope.now) (body_view body.now) (spot_in scope.now spot.now)) done.old done.new
+        pool.old pool.new) }
 {
     for statement in body {
         resolve_if_set(alloc, scope, spot, statement, done, pool)?;
@@ -146,12 +141,11 @@ fn resolve_layer<'a>(
     is_root: bool,
     done: &mut Vec<SStmt>,
     pool: &mut Vec<Value>,
-) -> Result<(), ScopeError>
+) -> Result<(), NoMemory>
     requires { IsLaidOut scope.now }
-    ensures led { IfOk result (λ u. Led (templates_in scope.now) (layer_in scope.now
-        (layer_view (chain_view scope.now.chain.now).templates layer.now) is_root) done.old.items
-        done.new.items (values pool.old) (values pool.new)) }
-    ensures refused { IfErr result (λ e. e ≡ error.NoMemory) }
+    ensures { IfOk result (λ u. BodyLed scope.now (layer_in scope.now
+        (layer_view (chain_view scope.now.chain.now).templates layer.now) is_root) done.old done.new
+        pool.old pool.new) }
 {
     let spot = top_spot(scope, layer.template);
     if is_root {
@@ -167,13 +161,12 @@ fn resolve_layers<'a>(
     layers: &[Layer<'a>],
     done: &mut Vec<SStmt>,
     pool: &mut Vec<Value>,
-) -> Result<(), ScopeError>
+) -> Result<(), NoMemory>
     requires { IsLaidOut scope.now }
-    ensures led { IfOk result (λ u. Led (templates_in scope.now) (resolve.resolved_chain
-        (world_in scope.now) (order_in scope.now) (home_in scope.now)
-        (map (layer_view (chain_view scope.now.chain.now).templates) layers.now)) done.old.items
-        done.new.items (values pool.old) (values pool.new)) }
-    ensures refused { IfErr result (λ e. e ≡ error.NoMemory) }
+    ensures { IfOk result (λ u. BodyLed scope.now (resolve.resolved_chain (world_in scope.now)
+        (order_in scope.now) (home_in scope.now) (map
+        (layer_view (chain_view scope.now.chain.now).templates) layers.now)) done.old done.new
+        pool.old pool.new) }
 {
     for (place, layer) in layers.iter().enumerate() {
         let is_root = place + 1 == layers.len();
@@ -187,14 +180,13 @@ fn resolve_chain<'a>(
     alloc: Global,
     scope: &Scope<'a>,
     pool: &mut Vec<Value>,
-) -> Result<Routine, ScopeError>
+) -> Result<Routine, NoMemory>
     requires { IsLaidOut scope.now }
-    ensures made { IfOk result (λ r. (n : Text)
+    ensures { IfOk result (λ r. (n : Text)
         → home_in scope.now ≡ a_chain n
         → IsRoutine (templates_in scope.now)
         (resolve.chain_routine (world_in scope.now) (order_in scope.now) n) r (values pool.old)
         (values pool.new)) }
-    ensures refused { IfErr result (λ e. e ≡ error.NoMemory) }
 {
     let layers = scope.chain.layers(alloc, scope.home)?;
     let mut done = Vec::new(alloc);
@@ -213,12 +205,11 @@ fn resolve_entry<'a>(
     scope: &Scope<'a>,
     routines: &mut Vec<Routine>,
     pool: &mut Vec<Value>,
-) -> Result<(), ScopeError>
+) -> Result<(), NoMemory>
     requires { IsLaidOut scope.now }
-    ensures put { IfOk result (λ u. AllLed (templates_in scope.now)
+    ensures { IfOk result (λ u. AllLed (templates_in scope.now)
         (programs.entry_routines (world_in scope.now) (order_in scope.now) (home_in scope.now))
         routines.old.items routines.new.items (values pool.old) (values pool.new)) }
-    ensures refused { IfErr result (λ e. e ≡ error.NoMemory) }
 {
     let here = &scope.homes[scope.home];
     if here.is_library {
@@ -234,13 +225,12 @@ fn resolve_macros<'a>(
     scope: &Scope<'a>,
     routines: &mut Vec<Routine>,
     pool: &mut Vec<Value>,
-) -> Result<(), ScopeError>
+) -> Result<(), NoMemory>
     requires { IsLaidOut scope.now }
-    ensures put { IfOk result (λ u. AllLed (templates_in scope.now) (map
+    ensures { IfOk result (λ u. AllLed (templates_in scope.now) (map
         (resolve.macro_routine (world_in scope.now) (order_in scope.now) (home_in scope.now))
         (macros (world_in scope.now).sources (home_in scope.now))) routines.old.items
         routines.new.items (values pool.old) (values pool.new)) }
-    ensures refused { IfErr result (λ e. e ≡ error.NoMemory) }
 {
     let here = &scope.homes[scope.home];
     for called in here.macros.iter() {
@@ -252,9 +242,8 @@ fn resolve_macros<'a>(
 }
 
 /// The same names in memory of their own.
-fn names_again<'a>(alloc: Global, names: &[&'a str]) -> Result<Vec<&'a str>, ScopeError>
-    ensures same { IfOk result (λ ks. texts ks.items ≡ texts names.now) }
-    ensures refused { IfErr result (λ e. e ≡ error.NoMemory) }
+fn names_again<'a>(alloc: Global, names: &[&'a str]) -> Result<Vec<&'a str>, NoMemory>
+    ensures { IfOk result (λ ks. texts ks.items ≡ texts names.now) }
 {
     let mut found = Vec::with_capacity(alloc, names.len())?;
     for name in names {
@@ -268,12 +257,11 @@ fn block_parameters<'a>(
     alloc: Global,
     scope: &Scope<'a>,
     name: &str,
-) -> Result<Vec<&'a str>, ScopeError>
+) -> Result<Vec<&'a str>, NoMemory>
     requires { IsLaidOut scope.now }
-    ensures same { IfOk result (λ ks. texts ks.items
+    ensures { IfOk result (λ ks. texts ks.items
         ≡ layout.block_parameters (world_in scope.now) (order_in scope.now) (home_in scope.now)
         name.now) }
-    ensures refused { IfErr result (λ e. e ≡ error.NoMemory) }
 {
     let here = &scope.homes[scope.home];
     match here.scoped.place(name) {
@@ -288,13 +276,12 @@ fn resolve_blocks<'a>(
     scope: &Scope<'a>,
     routines: &mut Vec<Routine>,
     pool: &mut Vec<Value>,
-) -> Result<(), ScopeError>
+) -> Result<(), NoMemory>
     requires { IsLaidOut scope.now }
-    ensures put { IfOk result (λ u. AllLed (templates_in scope.now) (programs.body_routines
+    ensures { IfOk result (λ u. AllLed (templates_in scope.now) (programs.body_routines
         (world_in scope.now) (order_in scope.now) (home_in scope.now)
         (numbered_bodies (world_in scope.now) (home_in scope.now))) routines.old.items
         routines.new.items (values pool.old) (values pool.new)) }
-    ensures refused { IfErr result (λ e. e ≡ error.NoMemory) }
 {
     let here = &scope.homes[scope.home];
     for (place, block) in here.blocks.iter().enumerate() {
@@ -317,12 +304,11 @@ pub(crate) fn resolve_home<'a>(
     scope: &Scope<'a>,
     routines: &mut Vec<Routine>,
     pool: &mut Vec<Value>,
-) -> Result<(), ScopeError>
+) -> Result<(), NoMemory>
     requires { IsLaidOut scope.now }
-    ensures put { IfOk result (λ u. AreRoutines (templates_in scope.now)
+    ensures { IfOk result (λ u. AreRoutines (templates_in scope.now)
         (programs.chain_routines (world_in scope.now) (order_in scope.now) (home_in scope.now))
         routines.old.items routines.new.items (values pool.old) (values pool.new)) }
-    ensures refused { IfErr result (λ e. e ≡ error.NoMemory) }
 {
     resolve_entry(alloc, scope, routines, pool)?;
     resolve_macros(alloc, scope, routines, pool)?;

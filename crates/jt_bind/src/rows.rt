@@ -1,20 +1,19 @@
 //! Rows of what names read.
 
-ghost use Rattle.std.specs.Prelude.{◌≡◌, List, [], ◌∷◌, length, None, IfOk, IfErr};
+ghost use Rattle.std.specs.Prelude.{◌≡◌, List, [], ◌∷◌, length, None, IfOk};
 ghost use Rattle.jt_value.specs.Tree.{Tree};
 ghost use Rattle.jt_trees.specs.Expressions.{Text};
 ghost use Rattle.jt_names.specs.Names.{texts};
 ghost use Rattle.jt_layout.specs.Laid.{IsLaidOut};
 ghost use Rattle.jt_meaning.specs.Resolve as resolve;
 ghost use Rattle.jt_bind.specs.Scoped.{RowLeads, spot_in};
-ghost use Rattle.jt_rules.specs.declared.error.ScopeError.TheVariants as error;
 ghost use Rattle.jt_resolved.specs.Slots as slots;
 
 use crate::lookup::{reading, slot};
 use crate::spot::Spot;
 use jt_layout::Scope;
 use jt_resolved::{SExpr, Slot};
-use jt_rules::ScopeError;
+use jt_value::NoMemory;
 use std::alloc::Global;
 
 /// What names read, in a row.
@@ -23,12 +22,11 @@ pub(crate) fn reads(
     scope: &Scope<'_>,
     spot: &Spot<'_, '_>,
     names: &[&str],
-) -> Result<Vec<(Option<usize>, SExpr)>, ScopeError>
+) -> Result<Vec<(Option<usize>, SExpr)>, NoMemory>
     requires { IsLaidOut scope.now }
-    ensures read { IfOk result (λ row. (p : List Tree)
+    ensures { IfOk result (λ row. (p : List Tree)
         → RowLeads (resolve.reads (spot_in scope.now spot.now).table (texts names.now)) slots.none
         [] row.items p p) }
-    ensures refused { IfErr result (λ e. e ≡ error.NoMemory) }
 {
     let mut row = Vec::new(alloc);
     for name in names {
@@ -41,11 +39,10 @@ pub(crate) fn reads(
 pub(crate) fn first_locals(
     alloc: Global,
     count: usize,
-) -> Result<Vec<(Option<usize>, SExpr)>, ScopeError>
-    ensures read { IfOk result (λ row. (xs : List Text) (p : List Tree)
+) -> Result<Vec<(Option<usize>, SExpr)>, NoMemory>
+    ensures { IfOk result (λ row. (xs : List Text) (p : List Tree)
         → length xs ≡ count
         → RowLeads (resolve.first_locals 0 xs) slots.none [] row.items p p) }
-    ensures refused { IfErr result (λ e. e ≡ error.NoMemory) }
 {
     let mut row = Vec::new(alloc);
     for local in 0..count {
@@ -55,9 +52,8 @@ pub(crate) fn first_locals(
 }
 
 /// A row of one expression.
-pub(crate) fn row_of(alloc: Global, first: SExpr) -> Result<Vec<(Option<usize>, SExpr)>, ScopeError>
-    ensures alone { IfOk result (λ row. row.items ≡ (None, first) ∷ []) }
-    ensures refused { IfErr result (λ e. e ≡ error.NoMemory) }
+pub(crate) fn row_of(alloc: Global, first: SExpr) -> Result<Vec<(Option<usize>, SExpr)>, NoMemory>
+    ensures { IfOk result (λ row. row.items ≡ (None, first) ∷ []) }
 {
     Ok(vec![in alloc; (None, first)]?)
 }

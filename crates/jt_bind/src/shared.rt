@@ -1,6 +1,6 @@
 //! The values in front of a pool.
 
-ghost use Rattle.std.specs.Prelude.{◌≡◌, ◌++◌, List, map, IfOk, IfErr};
+ghost use Rattle.std.specs.Prelude.{◌≡◌, ◌++◌, List, map, IfOk};
 ghost use Rattle.jt_chains.specs.Chain.{Template};
 ghost use Rattle.jt_chains.specs.Parts.{macro_view};
 ghost use Rattle.jt_layout.specs.Laid.{IsLaidOut};
@@ -8,22 +8,19 @@ ghost use Rattle.jt_meaning.specs.Layout as layout;
 ghost use Rattle.jt_meaning.specs.Layout.{defaults_of};
 ghost use Rattle.jt_bind.specs.Scoped.{values, world_in, order_in};
 ghost use Rattle.jt_trees.specs.StatementView.{parameter_view};
-ghost use Rattle.jt_rules.specs.declared.error.ScopeError.TheVariants as error;
 ghost use Rattle.jt_evaluation.specs.Filters.{default_value};
 ghost use Rattle.jt_value.specs.View.{view};
 
 use jt_chains::Macro;
 use jt_layout::Scope;
-use jt_rules::ScopeError;
 use jt_trees::{Literal, Parameter};
-use jt_value::Value;
+use jt_value::{NoMemory, Value};
 use std::alloc::Global;
 
 /// The default of a parameter; undefined where it has none.
-fn default_of(alloc: Global, parameter: &Parameter) -> Result<Value, ScopeError>
-    ensures valued { IfOk result
+fn default_of(alloc: Global, parameter: &Parameter) -> Result<Value, NoMemory>
+    ensures { IfOk result
         (λ v. view v ≡ default_value (parameter_view parameter.now).default) }
-    ensures refused { IfErr result (λ e. e ≡ error.NoMemory) }
 {
     match &parameter.default {
         None => Ok(Value::Undefined),
@@ -39,10 +36,9 @@ fn add_defaults(
     alloc: Global,
     parameters: &[Parameter],
     pool: &mut Vec<Value>,
-) -> Result<(), ScopeError>
-    ensures added { IfOk result (λ _. values pool.new
+) -> Result<(), NoMemory>
+    ensures { IfOk result (λ _. values pool.new
         ≡ values pool.old ++ map (λ p. default_value (parameter_view p).default) parameters.now) }
-    ensures refused { IfErr result (λ e. e ≡ error.NoMemory) }
 {
     for parameter in parameters {
         pool.push(default_of(alloc, parameter)?)?;
@@ -51,10 +47,9 @@ fn add_defaults(
 }
 
 /// Adds the defaults of macros.
-fn add_macros(alloc: Global, macros: &[Macro<'_>], pool: &mut Vec<Value>) -> Result<(), ScopeError>
-    ensures added { IfOk result (λ _. (ts : List Template)
+fn add_macros(alloc: Global, macros: &[Macro<'_>], pool: &mut Vec<Value>) -> Result<(), NoMemory>
+    ensures { IfOk result (λ _. (ts : List Template)
         → values pool.new ≡ values pool.old ++ defaults_of (map (macro_view ts) macros.now)) }
-    ensures refused { IfErr result (λ e. e ≡ error.NoMemory) }
 {
     for entry in macros {
         add_defaults(alloc, entry.parameters, pool)?;
@@ -63,11 +58,10 @@ fn add_macros(alloc: Global, macros: &[Macro<'_>], pool: &mut Vec<Value>) -> Res
 }
 
 /// A pool with undefined and the defaults of all macros.
-pub(crate) fn shared_values(alloc: Global, scope: &Scope<'_>) -> Result<Vec<Value>, ScopeError>
+pub(crate) fn shared_values(alloc: Global, scope: &Scope<'_>) -> Result<Vec<Value>, NoMemory>
     requires { IsLaidOut scope.now }
-    ensures shared { IfOk result
+    ensures { IfOk result
         (λ vs. values vs ≡ layout.shared (world_in scope.now) (order_in scope.now)) }
-    ensures refused { IfErr result (λ e. e ≡ error.NoMemory) }
 {
     let mut pool = Vec::new(alloc);
     pool.push(Value::Undefined)?;

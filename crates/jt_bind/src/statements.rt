@@ -1,17 +1,16 @@
 //! Resolves statements: names to slots, and literals and data to places of a pool.
 
-ghost use Rattle.std.specs.Prelude.{◌≡◌, ℕ, option_map, IfOk, IfErr};
+ghost use Rattle.std.specs.Prelude.{ℕ, option_map, IfOk};
 ghost use Rattle.jt_trees.specs.ExpressionView as written;
 ghost use Rattle.jt_layout.specs.Laid.{IsLaidOut};
 ghost use Rattle.jt_meaning.specs.Resolve as resolve;
 ghost use Rattle.jt_bind.specs.Scoped.{values, BodyLeads, expr_in, spot_in, templates_in, world_in, order_in};
 ghost use Rattle.jt_trees.specs.Statements as trees;
 ghost use Rattle.jt_trees.specs.StatementView.{stmt_view, body_view, filterings_view, names_view};
-ghost use Rattle.jt_rules.specs.declared.error.ScopeError.TheVariants as error;
 ghost use Rattle.jt_resolved.specs.Pool.{Constant};
 ghost use Rattle.jt_resolved.specs.Slots.{SBody};
 ghost use Rattle.jt_names.specs.Names.{texts};
-ghost use Rattle.jt_bind.specs.Stated.{Led, IsBody, IsAsked, IsBranch, IsTurn, line_in, stmt_in, body_in, scoped_in, values_in};
+ghost use Rattle.jt_bind.specs.Stated.{IsBody, IsAsked, IsBranch, IsTurn, line_in, body_in, scoped_in, values_in, StmtLed, BodyLed};
 
 use crate::entering::{entered, keywords_of, put_copies, texts_of};
 use crate::expressions::resolve_expression;
@@ -24,9 +23,8 @@ use crate::targets::{fresh_targets, set_slot, set_targets};
 use jt_layout::Scope;
 use jt_names::set_names;
 use jt_resolved::{Place, SExpr, SStmt, Slot, Targets};
-use jt_rules::ScopeError;
 use jt_trees::{Expr, Filtering, Stmt};
-use jt_value::Value;
+use jt_value::{NoMemory, Value};
 use std::alloc::Global;
 
 /// Resolves statements, behind others that are resolved.
@@ -38,12 +36,10 @@ pub(crate) fn resolve_body<'a>(
     body: &'a [Stmt],
     done: &mut Vec<SStmt>,
     pool: &mut Vec<Value>,
-) -> Result<(), ScopeError>
+) -> Result<(), NoMemory>
     requires { IsLaidOut scope.now }
-    ensures led { IfOk result (λ u. Led (templates_in scope.now)
-        (body_in scope.now (body_view body.now) spot.now) done.old.items done.new.items
-        (values pool.old) (values pool.new)) }
-    ensures refused { IfErr result (λ e. e ≡ error.NoMemory) }
+    ensures { IfOk result (λ u. BodyLed scope.now (body_in scope.now (body_view body.now) spot.now)
+        done.old done.new pool.old pool.new) }
 {
     for statement in body {
         resolve_statement(alloc, scope, spot, statement, done, pool)?;
@@ -60,12 +56,10 @@ pub(crate) fn resolve_statement<'a>(
     statement: &'a Stmt,
     done: &mut Vec<SStmt>,
     pool: &mut Vec<Value>,
-) -> Result<(), ScopeError>
+) -> Result<(), NoMemory>
     requires { IsLaidOut scope.now }
-    ensures led { IfOk result (λ u. Led (templates_in scope.now)
-        (stmt_in scope.now (stmt_view statement.now) spot.now) done.old.items done.new.items
-        (values pool.old) (values pool.new)) }
-    ensures refused { IfErr result (λ e. e ≡ error.NoMemory) }
+    ensures { IfOk result (λ u. StmtLed scope.now spot.now (stmt_view statement.now) done.old
+        done.new pool.old pool.new) }
 {
     match statement {
         Stmt::Data(text) => put_data(alloc, text, done, pool),
@@ -130,13 +124,12 @@ fn resolve_branch<'a>(
     line: u32,
     condition: &Expr,
     pool: &mut Vec<Value>,
-) -> Result<(Place, SExpr, Vec<SStmt>), ScopeError>
+) -> Result<(Place, SExpr, Vec<SStmt>), NoMemory>
     requires { IsLaidOut scope.now }
-    ensures made { IfOk result (λ b. IsBranch (templates_in scope.now)
+    ensures { IfOk result (λ b. IsBranch (templates_in scope.now)
         (line_in scope.now spot.now line)
         (expr_in scope.now (written.expr_view condition.now) spot.now)
         (body_in scope.now (body_view body.now) spot.now) b (values pool.old) (values pool.new)) }
-    ensures refused { IfErr result (λ e. e ≡ error.NoMemory) }
 {
     let place = Place {
         template: spot.template,
@@ -157,15 +150,14 @@ fn resolve_turn<'a>(
     names: &'a [String],
     condition: &Option<Expr>,
     pool: &mut Vec<Value>,
-) -> Result<(Option<SExpr>, Vec<SStmt>), ScopeError>
+) -> Result<(Option<SExpr>, Vec<SStmt>), NoMemory>
     requires { IsLaidOut scope.now }
-    ensures led { IfOk result (λ t. IsTurn scope.now (resolve.resolved_condition
+    ensures { IfOk result (λ t. IsTurn scope.now (resolve.resolved_condition
         (world_in scope.now) (order_in scope.now) (option_map written.expr_view condition.now)
         (resolve.bound_all (names_view names.now) (spot_in scope.now spot.now)))
         (scoped_in scope.now (body_view body.now)
         (resolve.bound_all (names_view names.now) (spot_in scope.now spot.now))) t.0 t.1.items
         (values pool.old) (values pool.new)) }
-    ensures refused { IfErr result (λ e. e ≡ error.NoMemory) }
 {
     let inner = entered(alloc, spot, texts_of(alloc, names)?)?;
     let inside = Spot {
@@ -189,13 +181,11 @@ pub(crate) fn resolve_within<'a>(
     names: Vec<&'a str>,
     done: &mut Vec<SStmt>,
     pool: &mut Vec<Value>,
-) -> Result<(), ScopeError>
+) -> Result<(), NoMemory>
     requires { IsLaidOut scope.now }
-    ensures led { IfOk result (λ u. Led (templates_in scope.now) (scoped_in scope.now
-        (body_view body.now)
-        (resolve.bound_all (texts names.entry.items) (spot_in scope.now spot.now))) done.old.items
-        done.new.items (values pool.old) (values pool.new)) }
-    ensures refused { IfErr result (λ e. e ≡ error.NoMemory) }
+    ensures { IfOk result (λ u. BodyLed scope.now (scoped_in scope.now (body_view body.now)
+        (resolve.bound_all (texts names.entry.items) (spot_in scope.now spot.now))) done.old
+        done.new pool.old pool.new) }
 {
     let inner = entered(alloc, spot, names)?;
     let inside = Spot {
@@ -216,12 +206,10 @@ fn resolve_scoped<'a>(
     body: &'a [Stmt],
     done: &mut Vec<SStmt>,
     pool: &mut Vec<Value>,
-) -> Result<(), ScopeError>
+) -> Result<(), NoMemory>
     requires { IsLaidOut scope.now }
-    ensures led { IfOk result (λ u. Led (templates_in scope.now)
-        (scoped_in scope.now (body_view body.now) (spot_in scope.now spot.now)) done.old.items
-        done.new.items (values pool.old) (values pool.new)) }
-    ensures refused { IfErr result (λ e. e ≡ error.NoMemory) }
+    ensures { IfOk result (λ u. BodyLed scope.now (scoped_in scope.now (body_view body.now)
+        (spot_in scope.now spot.now)) done.old done.new pool.old pool.new) }
 {
     let names = set_names(alloc, body)?;
     put_copies(scope, spot, &names, done)?;
@@ -242,12 +230,11 @@ fn resolve_inside<'a>(
     spot: &Spot<'_, 'a>,
     body: &'a [Stmt],
     pool: &mut Vec<Value>,
-) -> Result<Vec<SStmt>, ScopeError>
+) -> Result<Vec<SStmt>, NoMemory>
     requires { IsLaidOut scope.now }
-    ensures led { IfOk result (λ ss. IsBody (templates_in scope.now)
+    ensures { IfOk result (λ ss. IsBody (templates_in scope.now)
         (scoped_in scope.now (body_view body.now) (spot_in scope.now spot.now)) ss.items
         (values pool.old) (values pool.new)) }
-    ensures refused { IfErr result (λ e. e ≡ error.NoMemory) }
 {
     let mut done = Vec::new(alloc);
     resolve_scoped(alloc, scope, spot, body, &mut done, pool)?;
@@ -262,12 +249,11 @@ fn resolve_whole<'a>(
     spot: &Spot<'_, 'a>,
     body: &'a [Stmt],
     pool: &mut Vec<Value>,
-) -> Result<Vec<SStmt>, ScopeError>
+) -> Result<Vec<SStmt>, NoMemory>
     requires { IsLaidOut scope.now }
-    ensures led { IfOk result (λ ss. IsBody (templates_in scope.now)
+    ensures { IfOk result (λ ss. IsBody (templates_in scope.now)
         (body_in scope.now (body_view body.now) spot.now) ss.items (values pool.old)
         (values pool.new)) }
-    ensures refused { IfErr result (λ e. e ≡ error.NoMemory) }
 {
     let mut done = Vec::new(alloc);
     resolve_body(alloc, scope, spot, body, &mut done, pool)?;
@@ -285,12 +271,11 @@ fn resolve_filtered<'a>(
     filterings: &[Filtering],
     done: &mut Vec<SStmt>,
     pool: &mut Vec<Value>,
-) -> Result<(), ScopeError>
+) -> Result<(), NoMemory>
     requires { IsLaidOut scope.now }
-    ensures led { IfOk result (λ u. Led (templates_in scope.now) (stmt_in scope.now
-        (trees.filter_block line (filterings_view filterings.now) (body_view body.now)) spot.now)
-        done.old.items done.new.items (values pool.old) (values pool.new)) }
-    ensures refused { IfErr result (λ e. e ≡ error.NoMemory) }
+    ensures { IfOk result (λ u. StmtLed scope.now spot.now
+        (trees.filter_block line (filterings_view filterings.now) (body_view body.now)) done.old
+        done.new pool.old pool.new) }
 {
     let kept = Slot::Local(spot.free);
     let free = more(spot.free, 1)?;
@@ -311,13 +296,10 @@ fn resolve_set_block<'a>(
     name: &str,
     done: &mut Vec<SStmt>,
     pool: &mut Vec<Value>,
-) -> Result<(), ScopeError>
+) -> Result<(), NoMemory>
     requires { IsLaidOut scope.now }
-    ensures led { IfOk result (λ u. (line : ℕ)
-        → Led (templates_in scope.now)
-        (stmt_in scope.now (trees.set_block line name.now (body_view body.now)) spot.now)
-        done.old.items done.new.items (values pool.old) (values pool.new)) }
-    ensures refused { IfErr result (λ e. e ≡ error.NoMemory) }
+    ensures { IfOk result (λ u. (line : ℕ) → StmtLed scope.now spot.now
+        (trees.set_block line name.now (body_view body.now)) done.old done.new pool.old pool.new) }
 {
     let text = resolve_inside(alloc, scope, spot, body, pool)?;
     put_capture(spot.escaping, set_slot(scope, spot, name), text, done)
@@ -334,12 +316,11 @@ fn resolve_with<'a>(
     pairs: &'a [(String, Expr)],
     done: &mut Vec<SStmt>,
     pool: &mut Vec<Value>,
-) -> Result<(), ScopeError>
+) -> Result<(), NoMemory>
     requires { IsLaidOut scope.now }
-    ensures led { IfOk result (λ u. Led (templates_in scope.now) (stmt_in scope.now
-        (trees.with_values line (written.pairs_view pairs.now) (body_view body.now)) spot.now)
-        done.old.items done.new.items (values pool.old) (values pool.new)) }
-    ensures refused { IfErr result (λ e. e ≡ error.NoMemory) }
+    ensures { IfOk result (λ u. StmtLed scope.now spot.now
+        (trees.with_values line (written.pairs_view pairs.now) (body_view body.now)) done.old
+        done.new pool.old pool.new) }
 {
     resolve_values(alloc, scope, spot, line, pairs, done, pool)?;
     let names = keywords_of(alloc, pairs)?;
@@ -356,13 +337,10 @@ fn resolve_escaping<'a>(
     escaping: bool,
     done: &mut Vec<SStmt>,
     pool: &mut Vec<Value>,
-) -> Result<(), ScopeError>
+) -> Result<(), NoMemory>
     requires { IsLaidOut scope.now }
-    ensures led { IfOk result (λ u. (line : ℕ)
-        → Led (templates_in scope.now)
-        (stmt_in scope.now (trees.autoescape line escaping (body_view body.now)) spot.now)
-        done.old.items done.new.items (values pool.old) (values pool.new)) }
-    ensures refused { IfErr result (λ e. e ≡ error.NoMemory) }
+    ensures { IfOk result (λ u. (line : ℕ) → StmtLed scope.now spot.now
+        (trees.autoescape line escaping (body_view body.now)) done.old done.new pool.old pool.new) }
 {
     let inside = Spot { escaping, ..*spot };
     resolve_scoped(alloc, scope, &inside, body, done, pool)
@@ -377,12 +355,10 @@ fn resolve_print(
     value: &Expr,
     done: &mut Vec<SStmt>,
     pool: &mut Vec<Value>,
-) -> Result<(), ScopeError>
+) -> Result<(), NoMemory>
     requires { IsLaidOut scope.now }
-    ensures led { IfOk result (λ u. Led (templates_in scope.now)
-        (stmt_in scope.now (trees.print line (written.expr_view value.now)) spot.now) done.old.items
-        done.new.items (values pool.old) (values pool.new)) }
-    ensures refused { IfErr result (λ e. e ≡ error.NoMemory) }
+    ensures { IfOk result (λ u. StmtLed scope.now spot.now
+        (trees.print line (written.expr_view value.now)) done.old done.new pool.old pool.new) }
 {
     let shown = resolve_expression(alloc, scope, spot, value, pool)?;
     put_print(spot, line, shown, done)
@@ -398,12 +374,11 @@ fn resolve_set(
     value: &Expr,
     done: &mut Vec<SStmt>,
     pool: &mut Vec<Value>,
-) -> Result<(), ScopeError>
+) -> Result<(), NoMemory>
     requires { IsLaidOut scope.now }
-    ensures led { IfOk result (λ u. Led (templates_in scope.now) (stmt_in scope.now
-        (trees.set line (names_view names.now) (written.expr_view value.now)) spot.now)
-        done.old.items done.new.items (values pool.old) (values pool.new)) }
-    ensures refused { IfErr result (λ e. e ≡ error.NoMemory) }
+    ensures { IfOk result (λ u. StmtLed scope.now spot.now
+        (trees.set line (names_view names.now) (written.expr_view value.now)) done.old done.new
+        pool.old pool.new) }
 {
     let given = resolve_expression(alloc, scope, spot, value, pool)?;
     let targets = set_targets(alloc, scope, spot, names)?;
@@ -417,12 +392,11 @@ fn resolve_condition(
     spot: &Spot<'_, '_>,
     condition: &Option<Expr>,
     pool: &mut Vec<Value>,
-) -> Result<Option<SExpr>, ScopeError>
+) -> Result<Option<SExpr>, NoMemory>
     requires { IsLaidOut scope.now }
-    ensures asked { IfOk result (λ k. IsAsked (resolve.resolved_condition (world_in scope.now)
+    ensures { IfOk result (λ k. IsAsked (resolve.resolved_condition (world_in scope.now)
         (order_in scope.now) (option_map written.expr_view condition.now)
         (spot_in scope.now spot.now)) k (values pool.old) (values pool.new)) }
-    ensures refused { IfErr result (λ e. e ≡ error.NoMemory) }
 {
     match condition {
         Some(condition) => Ok(Some(resolve_expression(alloc, scope, spot, condition, pool)?)),
@@ -440,13 +414,12 @@ fn resolve_values(
     pairs: &[(String, Expr)],
     done: &mut Vec<SStmt>,
     pool: &mut Vec<Value>,
-) -> Result<(), ScopeError>
+) -> Result<(), NoMemory>
     requires { IsLaidOut scope.now }
-    ensures led { IfOk result (λ u. (behind : SBody Constant)
+    ensures { IfOk result (λ u. (behind : SBody Constant)
         → BodyLeads (templates_in scope.now)
         (values_in scope.now (written.pairs_view pairs.now) spot.now line behind) behind
         done.old.items done.new.items (values pool.old) (values pool.new)) }
-    ensures refused { IfErr result (λ e. e ≡ error.NoMemory) }
 {
     let mut here = *spot;
     for (_, value) in pairs {

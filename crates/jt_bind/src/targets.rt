@@ -1,13 +1,12 @@
 //! What takes a value: the slots of names that are set, and the locals of a loop's targets.
 
-ghost use Rattle.std.specs.Prelude.{◌≡◌, None, map, IfOk, IfErr, option_map};
+ghost use Rattle.std.specs.Prelude.{◌≡◌, None, map, IfOk, option_map};
 ghost use Rattle.jt_layout.specs.Laid.{IsLaidOut};
 ghost use Rattle.jt_meaning.specs.Resolve as resolve;
 ghost use Rattle.jt_meaning.specs.Layout.{slot_in};
 ghost use Rattle.jt_bind.specs.Names.{last_among};
 ghost use Rattle.jt_bind.specs.Scoped.{spot_in};
 ghost use Rattle.jt_trees.specs.StatementView.{names_view};
-ghost use Rattle.jt_rules.specs.declared.error.ScopeError.TheVariants as error;
 ghost use Rattle.jt_resolved.specs.View.{slot_view, targets_view};
 ghost use Rattle.jt_names.specs.Names.{texts};
 ghost use Rattle.jt_bind.specs.Stated.{slot_if};
@@ -18,7 +17,7 @@ use crate::lookup::{more, slot};
 use crate::spot::Spot;
 use jt_layout::Scope;
 use jt_resolved::{Slot, Targets};
-use jt_rules::ScopeError;
+use jt_value::NoMemory;
 use std::alloc::Global;
 
 /// The slot of a name that is set.
@@ -60,11 +59,10 @@ fn kept_slots(
     scope: &Scope<'_>,
     spot: &Spot<'_, '_>,
     names: &[String],
-) -> Result<Vec<Option<Slot>>, ScopeError>
+) -> Result<Vec<Option<Slot>>, NoMemory>
     requires { IsLaidOut scope.now }
-    ensures kept { IfOk result (λ ss. map (option_map slot_view) ss.items
+    ensures { IfOk result (λ ss. map (option_map slot_view) ss.items
         ≡ resolve.kept_slots (spot_in scope.now spot.now).table (names_view names.now)) }
-    ensures refused { IfErr result (λ e. e ≡ error.NoMemory) }
 {
     let last = Frame::new(alloc, texts_of(alloc, names)?, 0)?;
     let mut slots = Vec::with_capacity(alloc, names.len())?;
@@ -80,11 +78,10 @@ pub(crate) fn set_targets(
     scope: &Scope<'_>,
     spot: &Spot<'_, '_>,
     names: &[String],
-) -> Result<Targets, ScopeError>
+) -> Result<Targets, NoMemory>
     requires { IsLaidOut scope.now }
-    ensures taken { IfOk result (λ t. targets_view t
+    ensures { IfOk result (λ t. targets_view t
         ≡ resolve.set_targets (spot_in scope.now spot.now).table (names_view names.now)) }
-    ensures refused { IfErr result (λ e. e ≡ error.NoMemory) }
 {
     if let [name] = names {
         return Ok(Targets::One(set_slot(scope, spot, name)));
@@ -93,14 +90,9 @@ pub(crate) fn set_targets(
 }
 
 /// Locals from one on.
-fn fresh_slots(
-    alloc: Global,
-    first: usize,
-    names: &[String],
-) -> Result<Vec<Option<Slot>>, ScopeError>
-    ensures fresh { IfOk result
+fn fresh_slots(alloc: Global, first: usize, names: &[String]) -> Result<Vec<Option<Slot>>, NoMemory>
+    ensures { IfOk result
         (λ ss. map (option_map slot_view) ss.items ≡ resolve.fresh first (names_view names.now)) }
-    ensures refused { IfErr result (λ e. e ≡ error.NoMemory) }
 {
     let mut slots = Vec::with_capacity(alloc, names.len())?;
     let mut local = first;
@@ -116,10 +108,9 @@ pub(crate) fn fresh_targets(
     alloc: Global,
     first: usize,
     names: &[String],
-) -> Result<Targets, ScopeError>
-    ensures taken { IfOk result
+) -> Result<Targets, NoMemory>
+    ensures { IfOk result
         (λ t. targets_view t ≡ resolve.fresh_targets first (names_view names.now)) }
-    ensures refused { IfErr result (λ e. e ≡ error.NoMemory) }
 {
     if let [_] = names {
         return Ok(Targets::One(Slot::Local(first)));

@@ -1,6 +1,6 @@
 //! The bodies of the blocks of a chain.
 
-ghost use Rattle.std.specs.Prelude.{◌≡◌, ◌<◌, ◌&&◌, List, length, map, IfOk, IfErr};
+ghost use Rattle.std.specs.Prelude.{◌≡◌, ◌<◌, ◌&&◌, List, length, map, IfOk};
 ghost use Rattle.std.specs.List.{list_any};
 ghost use Rattle.std.specs.Option.{is_some};
 ghost use Rattle.std.specs.Str.{bytes_eq};
@@ -11,7 +11,6 @@ ghost use Rattle.jt_chains.specs.Places.{home_at};
 ghost use Rattle.jt_chains.specs.Uses as uses;
 ghost use Rattle.jt_chains.specs.View.{chain_view, sources_of};
 ghost use Rattle.jt_rules.specs.World.{world_of};
-ghost use Rattle.jt_rules.specs.declared.error.ScopeError.TheVariants as error;
 ghost use Rattle.jt_meaning.specs.Layout.{counted_from, numbered_of, is_scoped};
 ghost use Rattle.jt_meaning.specs.Resolve.{first_body};
 ghost use Rattle.jt_names.specs.Names.{texts};
@@ -22,24 +21,22 @@ use crate::index::Index;
 use crate::lists::{block_names, list_of};
 use jt_chains::{Block, Chain};
 use jt_names::scope_names;
-use jt_rules::ScopeError;
+use jt_value::NoMemory;
 use std::alloc::Global;
 
 /// The first body of each block.
-fn first_bodies<'a>(alloc: Global, blocks: &[Block<'a>]) -> Result<Index<'a>, ScopeError>
-    ensures placed { IfOk result (λ i. (x : Text)
+fn first_bodies<'a>(alloc: Global, blocks: &[Block<'a>]) -> Result<Index<'a>, NoMemory>
+    ensures { IfOk result (λ i. (x : Text)
         → place_in i.places x ≡ first_of x 0 (map (λ k. k.name.now) blocks.now)) }
-    ensures refused { IfErr result (λ e. e ≡ error.NoMemory) }
 {
     let names = block_names(alloc, blocks)?;
     Index::of(alloc, &names, 0)
 }
 
 /// For each body the next one of its block that is not required.
-fn next_bodies(alloc: Global, blocks: &[Block<'_>]) -> Result<Vec<Option<usize>>, ScopeError>
-    ensures next { IfOk result (λ ns.
+fn next_bodies(alloc: Global, blocks: &[Block<'_>]) -> Result<Vec<Option<usize>>, NoMemory>
+    ensures { IfOk result (λ ns.
         (ts : List Template) → ns.items ≡ nexts (counted_from 0 (map (block_view ts) blocks.now))) }
-    ensures refused { IfErr result (λ e. e ≡ error.NoMemory) }
 {
     let mut given = Index::new(alloc);
     let mut next = vec![in alloc; None; blocks.len()]?;
@@ -57,11 +54,10 @@ fn next_bodies(alloc: Global, blocks: &[Block<'_>]) -> Result<Vec<Option<usize>>
 }
 
 /// The blocks of which a tag says `scoped`.
-fn scoped_blocks<'a>(alloc: Global, blocks: &[Block<'a>]) -> Result<Index<'a>, ScopeError>
-    ensures scoped { IfOk result (λ i. (ts : List Template) (x : Text)
+fn scoped_blocks<'a>(alloc: Global, blocks: &[Block<'a>]) -> Result<Index<'a>, NoMemory>
+    ensures { IfOk result (λ i. (ts : List Template) (x : Text)
         → is_some (place_in i.places x)
         ≡ list_any (λ b. b.scoped && bytes_eq b.name x) (map (block_view ts) blocks.now)) }
-    ensures refused { IfErr result (λ e. e ≡ error.NoMemory) }
 {
     let mut scoped = Index::new(alloc);
     for block in blocks {
@@ -90,7 +86,7 @@ pub(crate) fn bodies_of<'a>(
     alloc: Global,
     chain: &'a Chain,
     home: usize,
-) -> Result<Bodies<'a>, ScopeError>
+) -> Result<Bodies<'a>, NoMemory>
     requires { home < length chain.now.homes.items }
     ensures all { IfOk result (λ b. map (block_view (chain_view chain.now).templates) b.all.items
         ≡ all_bodies (sources_of (chain_view chain.now)) chain.now.autoescape
@@ -105,7 +101,6 @@ pub(crate) fn bodies_of<'a>(
         (home_at (chain_view chain.now).order home)) }
     ensures scoped { IfOk result (λ b. (x : Text) → is_some (place_in b.scoped.places x) ≡
         is_scoped (world_of (chain_view chain.now)) (home_at (chain_view chain.now).order home) x) }
-    ensures refused { IfErr result (λ e. e ≡ error.NoMemory) }
 {
     let scope_names = list_of(alloc, scope_names(alloc, chain, home)?)?;
     let all = chain.blocks(alloc, home)?;

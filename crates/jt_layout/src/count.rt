@@ -1,14 +1,12 @@
 //! Sums of places.
 
-ghost use Rattle.std.specs.Prelude.{◌≡◌, ◌+◌, IfOk, IfErr};
-ghost use Rattle.jt_rules.specs.declared.error.ScopeError.TheVariants as error;
+ghost use Rattle.std.specs.Prelude.{◌≡◌, ◌+◌, IfOk};
 
-use jt_rules::ScopeError;
+use jt_value::NoMemory;
 
 /// So many more.
-pub(crate) fn more(count: usize, by: usize) -> Result<usize, ScopeError>
-    ensures added { IfOk result (λ n. n ≡ count + by) }
-    ensures refused { IfErr result (λ e. e ≡ error.NoMemory) }
+pub(crate) fn more(count: usize, by: usize) -> Result<usize, NoMemory>
+    ensures { IfOk result (λ n. n ≡ count + by) }
 {
-    count.checked_add(by).ok_or(ScopeError::NoMemory)
+    count.checked_add(by).ok_or(NoMemory)
 }

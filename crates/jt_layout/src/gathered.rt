@@ -1,6 +1,6 @@
 //! The names of chains, from the last one to the first.
 
-ghost use Rattle.std.specs.Prelude.{◌≡◌, ◌<◌, ◌+◌, false, [], length, drop, IfOk, IfErr, if◌then◌else◌, string_bytes};
+ghost use Rattle.std.specs.Prelude.{◌≡◌, ◌<◌, ◌+◌, false, [], length, drop, IfOk, if◌then◌else◌, string_bytes};
 ghost use Rattle.std.specs.Option.{is_none};
 ghost use Rattle.std.specs.Str.{bytes_eq};
 ghost use Rattle.jt_trees.specs.Texts.{all_inserted};
@@ -10,7 +10,6 @@ ghost use Rattle.jt_chains.specs.Pages.{home_view};
 ghost use Rattle.jt_chains.specs.Places.{home_at};
 ghost use Rattle.jt_chains.specs.View.{chain_view, sources_of};
 ghost use Rattle.jt_rules.specs.World.{world_of};
-ghost use Rattle.jt_rules.specs.declared.error.ScopeError.TheVariants as error;
 ghost use Rattle.jt_meaning.specs.Layout.{in_globals, names_in};
 ghost use Rattle.jt_names.specs.Names.{texts};
 ghost use Rattle.jt_layout.specs.Names.{place_in};
@@ -21,7 +20,7 @@ use crate::index::Index;
 use crate::lists::list_of;
 use jt_chains::{Chain, Home};
 use jt_names::own_names;
-use jt_rules::ScopeError;
+use jt_value::NoMemory;
 use std::alloc::{AllocError, Global};
 use std::collections::{BTreeMap, BTreeSet};
 
@@ -42,12 +41,11 @@ impl<'a> Gathered<'a> {
     }
 
     /// Gives a chain its names, in the stead of earlier ones.
-    fn put(&mut self, chain: &'a str, names: Vec<&'a str>) -> Result<(), ScopeError>
-        ensures put { IfOk result (λ u. (x : Text)
+    fn put(&mut self, chain: &'a str, names: Vec<&'a str>) -> Result<(), NoMemory>
+        ensures { IfOk result (λ u. (x : Text)
             → names_at self.new.names x
             ≡ (if bytes_eq chain.now x then texts names.entry.items else names_at self.old.names
             x)) }
-        ensures refused { IfErr result (λ e. e ≡ error.NoMemory) }
     {
         self.names.insert(chain, names)?;
         Ok(())
@@ -129,13 +127,12 @@ pub(crate) fn gather<'a>(
     alloc: Global,
     chain: &'a Chain,
     sources: &Index<'a>,
-) -> Result<Gathered<'a>, ScopeError>
+) -> Result<Gathered<'a>, NoMemory>
     requires { (x : Text)
         → is_none (place_in sources.now.places x) ≡ is_none (sources_of (chain_view chain.now) x) }
-    ensures gathered { IfOk result (λ g. (x : Text)
+    ensures { IfOk result (λ g. (x : Text)
         → names_at g.names x
         ≡ names_in (world_of (chain_view chain.now)) (chain_view chain.now).order (a_chain x)) }
-    ensures refused { IfErr result (λ e. e ≡ error.NoMemory) }
 {
     let mut gathered = Gathered::new(alloc);
     let mut left = chain.homes.len();

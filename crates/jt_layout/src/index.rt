@@ -1,15 +1,14 @@
 //! Places of names.
 
-ghost use Rattle.std.specs.Prelude.{◌≡◌, IfOk, IfErr, Some, None, if◌then◌else◌};
+ghost use Rattle.std.specs.Prelude.{◌≡◌, IfOk, Some, None, if◌then◌else◌};
 ghost use Rattle.jt_names.specs.Names.{texts};
 ghost use Rattle.std.specs.Str.{bytes_eq};
 ghost use Rattle.jt_trees.specs.Expressions.{Text};
-ghost use Rattle.jt_rules.specs.declared.error.ScopeError.TheVariants as error;
 ghost use Rattle.jt_layout.specs.Names.{place_in};
 ghost use Rattle.jt_layout.specs.Places.{first_of};
 
 use crate::count::more;
-use jt_rules::ScopeError;
+use jt_value::NoMemory;
 use std::alloc::Global;
 use std::collections::BTreeMap;
 
@@ -30,10 +29,9 @@ impl<'a> Index<'a> {
     }
 
     /// The places of names, from one on; the first of a name counts.
-    pub(crate) fn of(alloc: Global, names: &[&'a str], first: usize) -> Result<Self, ScopeError>
-        ensures placed { IfOk result
+    pub(crate) fn of(alloc: Global, names: &[&'a str], first: usize) -> Result<Self, NoMemory>
+        ensures { IfOk result
             (λ i. (x : Text) → place_in i.places x ≡ first_of x first (texts names.now)) }
-        ensures refused { IfErr result (λ e. e ≡ error.NoMemory) }
     {
         let mut index = Index::new(alloc);
         let mut left = names.len();
@@ -45,11 +43,10 @@ impl<'a> Index<'a> {
     }
 
     /// Gives a name its place, in the stead of an earlier one.
-    pub fn put(&mut self, name: &'a str, place: usize) -> Result<(), ScopeError>
-        ensures put { IfOk result (λ u. (x : Text)
+    pub fn put(&mut self, name: &'a str, place: usize) -> Result<(), NoMemory>
+        ensures { IfOk result (λ u. (x : Text)
             → place_in self.new.places x
             ≡ (if bytes_eq name.now x then Some place else place_in self.old.places x)) }
-        ensures refused { IfErr result (λ e. e ≡ error.NoMemory) }
     {
         self.places.insert(name, place)?;
         Ok(())

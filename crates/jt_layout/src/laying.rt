@@ -1,13 +1,12 @@
 //! Lays out the chains and libraries that an entry's includes and imports reach.
 
-ghost use Rattle.std.specs.Prelude.{◌≡◌, ◌<◌, ◌+◌, ℕ, true, false, length, drop, IfOk, IfErr, get_or};
+ghost use Rattle.std.specs.Prelude.{◌≡◌, ◌<◌, ◌+◌, ℕ, true, false, length, drop, IfOk, get_or};
 ghost use Rattle.std.specs.Option.{is_none};
 ghost use Rattle.jt_trees.specs.Expressions.{Text};
 ghost use Rattle.jt_chains.specs.Chain.{a_chain};
 ghost use Rattle.jt_chains.specs.Pages.{home_view};
 ghost use Rattle.jt_chains.specs.View.{chain_view};
 ghost use Rattle.jt_rules.specs.World.{World};
-ghost use Rattle.jt_rules.specs.declared.error.ScopeError.TheVariants as error;
 ghost use Rattle.jt_meaning.specs.Layout as layout;
 ghost use Rattle.jt_names.specs.Names.{texts};
 ghost use Rattle.jt_layout.specs.Front.{Stands, its_world, its_order, its_home};
@@ -27,7 +26,7 @@ use crate::macros::macros_of;
 use crate::places::home_places;
 use crate::scope::Scope;
 use jt_chains::{Chain, Home};
-use jt_rules::ScopeError;
+use jt_value::NoMemory;
 use std::alloc::Global;
 
 /// The table of a chain or a library, and what is in front of the next one.
@@ -62,13 +61,12 @@ fn entries_of(home: &Home) -> usize
 }
 
 /// The places of a chain with these counts, and with this end of its defaults.
-fn places_of(front: Front, counts: Counts, end: usize) -> Result<Places, ScopeError>
+fn places_of(front: Front, counts: Counts, end: usize) -> Result<Places, NoMemory>
     ensures macro_unit { IfOk result (λ p. p.macro_unit ≡ front.unit + counts.entries) }
     ensures body_unit { IfOk result (λ p. p.body_unit ≡ p.macro_unit + counts.macros) }
     ensures slot { IfOk result (λ p. p.behind.slot ≡ front.slot + counts.names) }
     ensures unit { IfOk result (λ p. p.behind.unit ≡ p.body_unit + counts.bodies) }
     ensures default { IfOk result (λ p. p.behind.default ≡ end) }
-    ensures refused { IfErr result (λ e. e ≡ error.NoMemory) }
 {
     let macro_unit = more(front.unit, counts.entries)?;
     let body_unit = more(macro_unit, counts.macros)?;
@@ -92,7 +90,7 @@ fn lay_chain<'a>(
     home: usize,
     names: Vec<&'a str>,
     front: Front,
-) -> Result<Placed<'a>, ScopeError>
+) -> Result<Placed<'a>, NoMemory>
     requires stands { home < length chain.now.homes.items }
     requires named { texts names.items
         ≡ layout.names (its_world chain.now) (its_order chain.now) (its_home chain.now home) }
@@ -102,7 +100,6 @@ fn lay_chain<'a>(
         (chain_view chain.now).templates (its_home chain.now home) p.laid) }
     ensures behind { IfOk result (λ p. Stands (its_world chain.now) (its_order chain.now)
         (drop (home + 1) (its_order chain.now)) p.behind) }
-    ensures refused { IfErr result (λ e. e ≡ error.NoMemory) }
 {
     let itself = &chain.homes[home];
     let slots = Index::of(alloc, &names, front.slot)?;
@@ -153,7 +150,7 @@ fn lay_chains<'a>(
     alloc: Global,
     chain: &'a Chain,
     mut gathered: Gathered<'a>,
-) -> Result<Tables<'a>, ScopeError>
+) -> Result<Tables<'a>, NoMemory>
     requires { (x : Text)
         → names_at gathered.names x
         ≡ layout.names (its_world chain.now) (its_order chain.now) (a_chain x) }
@@ -165,7 +162,6 @@ fn lay_chains<'a>(
     ensures all { IfOk result (λ t. length t.homes.items ≡ length chain.now.homes.items) }
     ensures units { IfOk result
         (λ t. t.units ≡ length (layout.keys (its_world chain.now) (its_order chain.now))) }
-    ensures refused { IfErr result (λ e. e ≡ error.NoMemory) }
 {
     let mut homes = Vec::with_capacity(alloc, chain.homes.len())?;
     let mut front = Front {
@@ -190,12 +186,11 @@ fn lay_chains<'a>(
 /// # Errors
 ///
 /// `NoMemory` where a growth was refused.
-pub fn lay_out(alloc: Global, chain: &Chain) -> Result<Scope<'_>, ScopeError>
+pub fn lay_out(alloc: Global, chain: &Chain) -> Result<Scope<'_>, NoMemory>
     ensures laid { IfOk result (λ s. IsLaidOut s) }
     ensures chain { IfOk result (λ s. s.chain.now ≡ chain.now) }
     ensures first { IfOk result (λ s. s.home ≡ 0) }
     ensures all { IfOk result (λ s. length s.homes.items ≡ length chain.now.homes.items) }
-    ensures refused { IfErr result (λ e. e ≡ error.NoMemory) }
 {
     let sources = Index::of(alloc, &template_names(alloc, &chain.templates)?, 0)?;
     let places = home_places(alloc, &chain.homes, false)?;

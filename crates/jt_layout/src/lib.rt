@@ -17,7 +17,7 @@ mod places;
 mod scope;
 
 pub use index::Index;
-pub use jt_rules::ScopeError;
+pub use jt_value::NoMemory;
 pub use laid::Laid;
 pub use laying::lay_out;
 pub use scope::Scope;

@@ -1,12 +1,11 @@
 //! The macros of a chain by their names, and the places of their defaults.
 
-ghost use Rattle.std.specs.Prelude.{◌≡◌, ◌<◌, ◌+◌, List, length, map, IfOk, IfErr};
+ghost use Rattle.std.specs.Prelude.{◌≡◌, ◌<◌, ◌+◌, List, length, map, IfOk};
 ghost use Rattle.jt_trees.specs.Expressions.{Text};
 ghost use Rattle.jt_chains.specs.Chain.{Template, macros};
 ghost use Rattle.jt_chains.specs.Parts.{macro_view};
 ghost use Rattle.jt_chains.specs.Places.{home_at};
 ghost use Rattle.jt_chains.specs.View.{chain_view, sources_of};
-ghost use Rattle.jt_rules.specs.declared.error.ScopeError.TheVariants as error;
 ghost use Rattle.jt_meaning.specs.Layout.{defaults_of};
 ghost use Rattle.jt_layout.specs.Names.{place_in};
 ghost use Rattle.jt_layout.specs.Places.{first_of, defaults_from};
@@ -15,7 +14,7 @@ use crate::count::more;
 use crate::index::Index;
 use crate::lists::macro_names;
 use jt_chains::{Chain, Macro};
-use jt_rules::ScopeError;
+use jt_value::NoMemory;
 use std::alloc::Global;
 
 /// The place of the first default of each macro, and the one behind all of them.
@@ -26,12 +25,11 @@ pub(crate) struct Defaults {
 }
 
 /// The places of the defaults of macros, from one on.
-fn default_places(alloc: Global, macros: &[Macro<'_>], first: usize) -> Result<Defaults, ScopeError>
+fn default_places(alloc: Global, macros: &[Macro<'_>], first: usize) -> Result<Defaults, NoMemory>
     ensures placed { IfOk result (λ d. (ts : List Template)
         → d.places.items ≡ defaults_from first (map (macro_view ts) macros.now)) }
     ensures ended { IfOk result (λ d. (ts : List Template)
         → d.end ≡ first + length (defaults_of (map (macro_view ts) macros.now))) }
-    ensures refused { IfErr result (λ e. e ≡ error.NoMemory) }
 {
     let mut places = Vec::with_capacity(alloc, macros.len())?;
     let mut end = first;
@@ -57,7 +55,7 @@ pub(crate) fn macros_of<'a>(
     chain: &'a Chain,
     home: usize,
     first: usize,
-) -> Result<Macros<'a>, ScopeError>
+) -> Result<Macros<'a>, NoMemory>
     requires { home < length chain.now.homes.items }
     ensures all { IfOk result (λ m. map (macro_view (chain_view chain.now).templates) m.all.items ≡
         macros (sources_of (chain_view chain.now)) (home_at (chain_view chain.now).order home)) }
@@ -70,7 +68,6 @@ pub(crate) fn macros_of<'a>(
         ≡ first
         + length (defaults_of
         (macros (sources_of (chain_view chain.now)) (home_at (chain_view chain.now).order home)))) }
-    ensures refused { IfErr result (λ e. e ≡ error.NoMemory) }
 {
     let all = chain.macros(alloc, home)?;
     let names = macro_names(alloc, &all)?;

@@ -1,15 +1,14 @@
 //! The places of chains and libraries.
 
-ghost use Rattle.std.specs.Prelude.{◌≡◌, map, IfOk, IfErr};
+ghost use Rattle.std.specs.Prelude.{◌≡◌, map, IfOk};
 ghost use Rattle.jt_trees.specs.Expressions.{Text};
 ghost use Rattle.jt_chains.specs.Pages.{home_view};
-ghost use Rattle.jt_rules.specs.declared.error.ScopeError.TheVariants as error;
 ghost use Rattle.jt_layout.specs.Names.{place_in};
 ghost use Rattle.jt_layout.specs.Places.{home_named, first_home};
 
 use crate::index::Index;
 use jt_chains::Home;
-use jt_rules::ScopeError;
+use jt_value::NoMemory;
 use std::alloc::Global;
 
 /// The places of the chains, or of the libraries, by their names: one of each may have the same name.
@@ -17,10 +16,9 @@ pub(crate) fn home_places<'a>(
     alloc: Global,
     homes: &'a [Home],
     libraries: bool,
-) -> Result<Index<'a>, ScopeError>
-    ensures placed { IfOk result (λ i. (x : Text)
+) -> Result<Index<'a>, NoMemory>
+    ensures { IfOk result (λ i. (x : Text)
         → place_in i.places x ≡ first_home (home_named libraries x) 0 (map home_view homes.now)) }
-    ensures refused { IfErr result (λ e. e ≡ error.NoMemory) }
 {
     let mut places = Index::new(alloc);
     let mut left = homes.len();

@@ -1,5 +1,5 @@
 -- The program of a chain means what the chain means.
-use Rattle.std.proofs.Common.{◌≡◌, ◌∙◌, ap, subst, Result, Ok, Err, IfOk}
+use Rattle.std.proofs.Common.{◌≡◌, ◌∙◌, ap, subst}
 use Rattle.jt_chains.specs.Includes.{InOrder}
 use Rattle.jt_chains.specs.Places.{home_at}
 use Rattle.jt_chains.specs.View.{Seen}
@@ -13,8 +13,3 @@ pub meant : (laws : ProgramLaws) (c : Seen) (p : Program) → p ≡ program (wor
 meant laws c p is entry rest ordered in_order context n =
     ap (λ (q : Program). smean (world_of c).filters q context n) (is ∙ ap (λ hs. program (world_of c) hs (home_at hs 0)) ordered)
     ∙ laws.means (world_of c) entry rest (subst (InOrder (world_of c).sources) ordered in_order) context n
-
-pub of_answer : {P E : Type 0} (r : Result P E) (view : P → Program) (laws : ProgramLaws) (c : Seen)
-    → IfOk r (λ p. view p ≡ program (world_of c) c.order (home_at c.order 0)) → IfOk r (λ p. Means c (view p))
-of_answer (Ok p) view laws c is = meant laws c (view p) is
-of_answer (Err e) view laws c is = is

@@ -36,5 +36,5 @@ pub fn resolve(alloc: Global, chain: &Chain) -> Result<Program, ScopeError>
 {
     program_laws();
     check_rules(alloc, chain)?;
-    resolved(alloc, chain)
+    Ok(resolved(alloc, chain)?)
 }

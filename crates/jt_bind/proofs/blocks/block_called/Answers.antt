@@ -11,8 +11,8 @@ use Rattle.jt_bind.proofs.LeadingRows.{invoked_placed}
 use Rattle.jt_resolved.proofs.ExpressionViews.{view_Invoke}
 use Rattle.jt_bind.proofs.blocks.block_called.Goals as goal
 
-pub returns-clause-placed : goal.returns-clause-placed
-returns-clause-placed c = λ row asides n ks p.
+pub returns : goal.returns
+returns c = λ row asides n ks p.
     let s = c.args.scope.now in
     let escaping = c.args.spot.now.escaping in
     let u = c.in-Some.unit in
@@ -20,12 +20,12 @@ returns-clause-placed c = λ row asides n ks p.
     let es = resolve.reads (globals_in s) xs in
     let P : slots.SExpr Constant → Type 0 = λ z. IsPlaced z (expr_view (e.Invoke u escaping c.in_ok-row.row)) p p in
     let Q : resolve.Spot → Type 0 = λ sp. RowLeads (resolve.reads sp.table xs) slots.none [] c.in_ok-row.row.items p p in
-    subst P (body_called (world_in s) (order_in s) (home_in s) escaping (resolve.first_body (numbered_of (world_in s) (home_in s) c.args.name.now)) u es (sym c.in-Some.is ∙ c.in_ok-unit.ensures.found))
-    (invoked_placed u escaping es c.in_ok-row.row.items _ p p (subst Q (c.outside.ensures s) (c.in_ok-row.ensures.read p)) (view_Invoke u escaping c.in_ok-row.row))
+    subst P (body_called (world_in s) (order_in s) (home_in s) escaping (resolve.first_body (numbered_of (world_in s) (home_in s) c.args.name.now)) u es (sym c.in-Some.is ∙ c.in_ok-unit.ensures))
+    (invoked_placed u escaping es c.in_ok-row.row.items _ p p (subst Q (c.outside.ensures s) (c.in_ok-row.ensures p)) (view_Invoke u escaping c.in_ok-row.row))
 
-pub returns-in_default-clause-placed : goal.returns-in_default-clause-placed
-returns-in_default-clause-placed c = λ row asides n ks p.
+pub returns-in_default : goal.returns-in_default
+returns-in_default c = λ row asides n ks p.
     let s = c.args.scope.now in
     let es = resolve.reads (globals_in s) (block_parameters (world_in s) (order_in s) (home_in s) c.args.name.now) in
     let P : slots.SExpr Constant → Type 0 = λ z. IsPlaced z (expr_view c.absent.result) p p in
-    subst P (none_called (world_in s) (order_in s) (home_in s) c.args.spot.now.escaping (resolve.first_body (numbered_of (world_in s) (home_in s) c.args.name.now)) es (sym c.in_default.is ∙ c.in_ok-unit.ensures.found)) (c.absent.ensures p)
+    subst P (none_called (world_in s) (order_in s) (home_in s) c.args.spot.now.escaping (resolve.first_body (numbered_of (world_in s) (home_in s) c.args.name.now)) es (sym c.in_default.is ∙ c.in_ok-unit.ensures)) (c.absent.ensures p)

@@ -11,8 +11,8 @@ use Rattle.jt_bind.specs.Scoped.{world_in, order_in, home_in}
 use Rattle.jt_bind.proofs.Places.{first_within}
 use Rattle.jt_bind.proofs.blocks.first_body.Goals as goal
 
-pub returns-in_ok-more-in-Some-clause-found : goal.returns-in_ok-more-in-Some-clause-found
-returns-in_ok-more-in-Some-clause-found c =
+pub returns-in_ok-more-in-Some : goal.returns-in_ok-more-in-Some
+returns-in_ok-more-in-Some c =
     let scope = c.args.scope.now in
     let world = world_in scope in
     let x = c.args.name.now in
@@ -23,4 +23,4 @@ returns-in_ok-more-in-Some-clause-found c =
     let same : length here.blocks.items ≡ length (all_bodies world.sources world.escaping (home_in scope)) = sym (length-map here.blocks.items (block_view (chain_view scope.chain.now).templates)) ∙ ap length laid.all_blocks in
     let within : i < 0 + length (all_bodies world.sources world.escaping (home_in scope)) = first_within (λ b. bytes_eq b.1.name x) 0 i (all_bodies world.sources world.escaping (home_in scope)) first in
     let below : i < length here.blocks.items = omega arith in
-    ap Some (c.in_ok-more-in-Some.ensures.added ∙ laid.body_units i below) ∙ sym (ap (unit_of world (order_in scope) (home_in scope)) first)
+    ap Some (c.in_ok-more-in-Some.ensures ∙ laid.body_units i below) ∙ sym (ap (unit_of world (order_in scope) (home_in scope)) first)

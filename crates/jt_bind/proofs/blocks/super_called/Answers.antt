@@ -22,14 +22,14 @@ use Rattle.jt_resolved.proofs.ExpressionViews.{view_Invoke}
 use Rattle.jt_bind.proofs.Places.{counted_left, counted_end, next_within}
 use Rattle.jt_bind.proofs.blocks.super_called.Goals as goal
 
-pub returns-in_default-clause-placed : goal.returns-in_default-clause-placed
-returns-in_default-clause-placed c = λ p.
+pub returns-in_default : goal.returns-in_default
+returns-in_default c = λ p.
     let s = c.args.scope.now in
     let P : Option Part → Type 0 = λ o. IsPlaced (invoked_super (world_in s) (order_in s) (spot_in s c.args.spot.now) o) (expr_view c.absent.result) p p in
     subst P (sym (ap (part_at (numbered_bodies (world_in s) (home_in s))) c.in_default.is)) (c.absent.ensures p)
 
-pub returns-in_default-get-clause-placed : goal.returns-in_default-get-clause-placed
-returns-in_default-get-clause-placed c = λ p.
+pub returns-in_default-get : goal.returns-in_default-get
+returns-in_default-get c = λ p.
     let s = c.args.scope.now in
     let world = world_in s in
     let order = order_in s in
@@ -47,8 +47,8 @@ returns-in_default-get-clause-placed c = λ p.
     let P : Option Part → Type 0 = λ o. IsPlaced (invoked_super world order sp o) (expr_view c.absent-in_default-get.result) p p in
     subst P (sym (ap (part_at (numbered_bodies world h)) c.in-Some.is ∙ ap part_from (counted_end i bs past))) (c.absent-in_default-get.ensures p)
 
-pub returns-in_default-index-clause-placed : goal.returns-in_default-index-clause-placed
-returns-in_default-index-clause-placed c = λ p.
+pub returns-in_default-index : goal.returns-in_default-index
+returns-in_default-index c = λ p.
     let s = c.args.scope.now in
     let world = world_in s in
     let order = order_in s in
@@ -80,8 +80,8 @@ returns-in_default-index-clause-placed c = λ p.
     subst P (sym (ap (part_at (numbered_bodies world h)) c.in-Some.is ∙ ap part_from left))
     (subst Q (none_called world order h escaping (next_given behind) es (ap (unit_of world order h) (sym c.in_default-index.is ∙ next))) (c.absent-in_default-index.ensures p))
 
-pub returns-clause-placed : goal.returns-clause-placed
-returns-clause-placed c = λ p.
+pub returns : goal.returns
+returns c = λ p.
     let s = c.args.scope.now in
     let world = world_in s in
     let order = order_in s in
@@ -114,9 +114,9 @@ returns-clause-placed c = λ p.
     let found : next_given behind ≡ Some k = sym next ∙ c.in-Some-index.is in
     let within : k < suc i + length (drop (i + 1) bs) = next_within (λ (z : ℕ × BlockBody). bytes_eq z.1.name body.name.now) (suc i) k (drop (i + 1) bs) found in
     let below : k < length here.blocks.items = omega (arith, length-drop (i + 1) bs) in
-    let unit : Some u ≡ unit_of world order h (next_given behind) = ap Some (c.in_ok-unit.ensures.added ∙ laid.body_units k below) ∙ sym (ap (unit_of world order h) found) in
+    let unit : Some u ≡ unit_of world order h (next_given behind) = ap Some (c.in_ok-unit.ensures ∙ laid.body_units k below) ∙ sym (ap (unit_of world order h) found) in
     let n : length xs ≡ length c.parameters_of.result.now = sym (ap length c.parameters_of.ensures) ∙ length-map c.parameters_of.result.now (λ k. k.now) in
     let P : Option Part → Type 0 = λ o. IsPlaced (invoked_super world order sp o) (expr_view (e.Invoke u escaping row)) p p in
     let Q : slots.SExpr Constant → Type 0 = λ z. IsPlaced z (expr_view (e.Invoke u escaping row)) p p in
     subst P (sym (ap (part_at (numbered_bodies world h)) c.in-Some.is ∙ ap part_from left))
-    (subst Q (body_called world order h escaping (next_given behind) u es unit) (invoked_placed u escaping es row.items _ p p (c.in_ok-row.ensures.read xs p n) (view_Invoke u escaping row)))
+    (subst Q (body_called world order h escaping (next_given behind) u es unit) (invoked_placed u escaping es row.items _ p p (c.in_ok-row.ensures xs p n) (view_Invoke u escaping row)))

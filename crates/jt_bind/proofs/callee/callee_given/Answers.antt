@@ -11,8 +11,8 @@ use Rattle.jt_bind.specs.Scoped.{world_in, order_in, home_in, given_in, callee_i
 use Rattle.jt_bind.proofs.Imported.{called_there}
 use Rattle.jt_bind.proofs.callee.callee_given.Goals as goal
 
-pub returns-in-Own-clause-named : goal.returns-in-Own-clause-named
-returns-in-Own-clause-named c =
+pub returns-in-Own : goal.returns-in-Own
+returns-in-Own c =
     IfOk-weaker c.macro_at.result _ _ (λ k h x e.
     let scope = c.args.scope.now in
     let ts = (chain_view scope.chain.now).templates in
@@ -21,10 +21,10 @@ returns-in-Own-clause-named c =
     let is : given_to x (given_in scope) ≡ Some (one_macro own b) = e ∙ ap (λ g. Some (given_view ts own g)) c.in-Own.is in
     let called : callee_in scope (trees.name x) ≡ a_macro own b = ap (λ o. named_alone (world_in scope).sources o x) is in
     let P : chain.Callee → Type 0 = λ z. IsCallee (world_in scope) (order_in scope) k z in
-    subst P (ap (of_home own) (called_there scope c.requires (trees.name x) own b called).0 ∙ sym called) h) c.macro_at.ensures.named
+    subst P (ap (of_home own) (called_there scope c.requires (trees.name x) own b called).0 ∙ sym called) h) c.macro_at.ensures
 
-pub returns-in-Imported-clause-named : goal.returns-in-Imported-clause-named
-returns-in-Imported-clause-named c =
+pub returns-in-Imported : goal.returns-in-Imported
+returns-in-Imported c =
     IfOk-weaker c.library_macro.result _ _ (λ k h x e.
     let scope = c.args.scope.now in
     let ts = (chain_view scope.chain.now).templates in
@@ -34,9 +34,9 @@ returns-in-Imported-clause-named c =
     let called : callee_in scope (trees.name x) ≡ a_macro there b = ap (λ o. named_alone (world_in scope).sources o x) is in
     let found = called_there scope c.requires (trees.name x) there b called in
     let P : chain.Callee → Type 0 = λ z. IsCallee (world_in scope) (order_in scope) k z in
-    subst P (ap (of_home there) found.0 ∙ sym called) (h (λ m q. found.1))) c.library_macro.ensures.named
+    subst P (ap (of_home there) found.0 ∙ sym called) (h (λ m q. found.1))) c.library_macro.ensures
 
-pub returns-in-Library-clause-named : goal.returns-in-Library-clause-named
-returns-in-Library-clause-named c = λ x e.
+pub returns-in-Library : goal.returns-in-Library
+returns-in-Library c = λ x e.
     let scope = c.args.scope.now in
     ap (λ o. named_alone (world_in scope).sources o x) (e ∙ ap (λ g. Some (given_view (chain_view scope.chain.now).templates (home_in scope) g)) c.in-Library.is)

@@ -8,16 +8,16 @@ use Rattle.jt_bind.specs.Callees.{IsCallee}
 use Rattle.jt_bind.specs.Scoped.{world_in, order_in, home_in, given_in}
 use Rattle.jt_bind.proofs.callee.callee_named.Goals as goal
 
-pub returns-in-Some-clause-named : goal.returns-in-Some-clause-named
-returns-in-Some-clause-named c =
+pub returns-in-Some : goal.returns-in-Some
+returns-in-Some c =
     let scope = c.args.scope.now in
     let x = c.args.name.now in
     let V = given_view (chain_view scope.chain.now).templates (home_in scope) in
     let given : given_to x (given_in scope) ≡ Some (V c.in-Some.given) = sym c.given_named.ensures ∙ ap (option_map V) c.in-Some.is in
-    IfOk-weaker c.callee_given.result _ _ (λ k h. h x given) c.callee_given.ensures.named
+    IfOk-weaker c.callee_given.result _ _ (λ k h. h x given) c.callee_given.ensures
 
-pub returns-in-None-clause-named : goal.returns-in-None-clause-named
-returns-in-None-clause-named c =
+pub returns-in-None : goal.returns-in-None
+returns-in-None c =
     let scope = c.args.scope.now in
     let x = c.args.name.now in
     let V = given_view (chain_view scope.chain.now).templates (home_in scope) in

@@ -7,10 +7,10 @@ use Rattle.jt_bind.specs.Scoped.{world_in, order_in, callee_in}
 use Rattle.jt_trees.proofs.ExpressionViews.{shown_attribute}
 use Rattle.jt_bind.proofs.callee.callee_of.Goals as goal
 
-pub returns-in-Attribute-clause-named : goal.returns-in-Attribute-clause-named
-returns-in-Attribute-clause-named c =
+pub returns-in-Attribute : goal.returns-in-Attribute
+returns-in-Attribute c =
     let scope = c.args.scope.now in
     let of = c.deref.result.now in
     IfOk-weaker c.callee_by.result _ _ (λ k h.
     let P : trees.Expr → Type 0 = λ t. IsCallee (world_in scope) (order_in scope) k (callee_in scope t) in
-    subst P (ap (λ x. trees.attribute (expr_view of) x) c.as_str-in-Attribute.ensures.value ∙ shown_attribute c.args.called.now of c.in-Attribute.of c.in-Attribute.name c.in-Attribute.is c.deref.ensures) h) c.callee_by.ensures.named
+    subst P (ap (λ x. trees.attribute (expr_view of) x) c.as_str-in-Attribute.ensures.value ∙ shown_attribute c.args.called.now of c.in-Attribute.of c.in-Attribute.name c.in-Attribute.is c.deref.ensures) h) c.callee_by.ensures

@@ -11,8 +11,8 @@ use Rattle.jt_bind.specs.Scoped.{world_in, order_in, given_in, callee_in}
 use Rattle.jt_bind.proofs.Imported.{called_there, member_is, no_library, private_is, public_is}
 use Rattle.jt_bind.proofs.callee.imported_macro.Goals as goal
 
-pub returns-in_default-clause-named : goal.returns-in_default-clause-named
-returns-in_default-clause-named c =
+pub returns-in_default : goal.returns-in_default
+returns-in_default c =
     let scope = c.args.scope.now in
     let of = c.args.of.now in
     let x = c.args.name.now in
@@ -21,8 +21,8 @@ returns-in_default-clause-named c =
     let none : library_of o ≡ None = sym c.library_named.ensures ∙ ap (option_map (λ (n : Bor Text). n.now)) c.in_default.is in
     member_is sources (given_in scope) of x c.requires.not_self c.requires.not_loop ∙ no_library sources o x none
 
-pub returns-then-is_private-clause-named : goal.returns-then-is_private-clause-named
-returns-then-is_private-clause-named c =
+pub returns-then-is_private : goal.returns-then-is_private
+returns-then-is_private c =
     let scope = c.args.scope.now in
     let of = c.args.of.now in
     let x = c.args.name.now in
@@ -32,8 +32,8 @@ returns-then-is_private-clause-named c =
     let some : library_of o ≡ Some n = sym c.library_named.ensures ∙ ap (option_map (λ (z : Bor Text). z.now)) c.in-Some.is in
     member_is sources (given_in scope) of x c.requires.not_self c.requires.not_loop ∙ private_is sources o x n some (sym c.is_private.ensures ∙ c.if-is_private.true)
 
-pub returns-clause-named : goal.returns-clause-named
-returns-clause-named c =
+pub returns : goal.returns
+returns c =
     let scope = c.args.scope.now in
     let of = c.args.of.now in
     let x = c.args.name.now in
@@ -46,4 +46,4 @@ returns-clause-named c =
     member_is sources (given_in scope) of x c.requires.not_self c.requires.not_loop ∙ public_is sources o x n some (sym c.is_private.ensures ∙ c.if-is_private.false) in
     IfOk-weaker c.library_macro.result _ _ (λ k h.
     let P : chain.Callee → Type 0 = λ z. IsCallee (world_in scope) (order_in scope) k z in
-    subst P (sym whole) (h (λ m q. (called_there scope c.requires.laid f (a_library n) m (whole ∙ ap (of_home (a_library n)) q)).1))) c.library_macro.ensures.named
+    subst P (sym whole) (h (λ m q. (called_there scope c.requires.laid f (a_library n) m (whole ∙ ap (of_home (a_library n)) q)).1))) c.library_macro.ensures

@@ -10,8 +10,8 @@ use Rattle.jt_bind.specs.Callees.{of_home}
 use Rattle.jt_bind.specs.Scoped.{world_in, order_in}
 use Rattle.jt_bind.proofs.callee.macro_at.Goals as goal
 
-pub returns-in_default-clause-named : goal.returns-in_default-clause-named
-returns-in_default-clause-named c =
+pub returns-in_default : goal.returns-in_default
+returns-in_default c =
     let scope = c.args.scope.now in
     let x = c.args.name.now in
     let h = home_at (order_in scope) c.args.home in
@@ -20,8 +20,8 @@ returns-in_default-clause-named c =
     let P : Option ℕ → Type 0 = λ o. IsCalled (world_in scope) (order_in scope) (chain_view scope.chain.now).templates h there x o in
     ap (of_home h) (subst P (sym c.place.ensures ∙ c.in_default.is) (laid.by_names x))
 
-pub returns-clause-named : goal.returns-clause-named
-returns-clause-named c =
+pub returns : goal.returns
+returns c =
     let scope = c.args.scope.now in
     let x = c.args.name.now in
     let h = home_at (order_in scope) c.args.home in
@@ -37,7 +37,7 @@ returns-clause-named c =
       (
         record {
           takes = ap (λ (m : Macro). parameters_view m.parameters.now) found;
-          runs = c.in_ok-more.ensures.added ∙ at.macro_unit;
+          runs = c.in_ok-more.ensures ∙ at.macro_unit;
           defaults = c.index.ensures ∙ get_or_from_slice_get there.defaults.items i _ c.index.result.now at.first_default;
         },
         ap (of_home h) at.meant,

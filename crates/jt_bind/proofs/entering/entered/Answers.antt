@@ -9,10 +9,10 @@ use Rattle.jt_bind.specs.declared.frame.Frame.{Frame}
 use Rattle.jt_bind.proofs.Placed.{spot_bound}
 use Rattle.jt_bind.proofs.entering.entered.Goals as goal
 
-pub returns-clause-bound : goal.returns-clause-bound
-returns-clause-bound c = λ s fr e.
+pub returns : goal.returns
+returns c = λ s fr e.
     let spot = c.args.spot.now in
     let names = c.args.names in
     spot_bound (spot_in s spot) (texts names.items) (framed (map (λ f. f.value) fr.now) (globals_in s)) c.in_ok-free.free
-    (ap (λ (z : List (Rc Frame Global)). framed (map (λ f. f.value) z) (globals_in s)) e ∙ c.in_ok-frames.ensures.framed (globals_in s))
-    (c.in_ok-free.ensures.added ∙ ap (λ n. spot.free + n) (c.len.ensures ∙ names.ok.0 ∙ sym (length-map names.items (λ (k : Bor Text). k.now))))
+    (ap (λ (z : List (Rc Frame Global)). framed (map (λ f. f.value) z) (globals_in s)) e ∙ c.in_ok-frames.ensures (globals_in s))
+    (c.in_ok-free.ensures ∙ ap (λ n. spot.free + n) (c.len.ensures ∙ names.ok.0 ∙ sym (length-map names.items (λ (k : Bor Text). k.now))))

@@ -7,8 +7,8 @@ use Rattle.jt_meaning.specs.Resolve.{bound_table}
 use Rattle.jt_bind.proofs.Placed.{entered_more}
 use Rattle.jt_bind.proofs.entering.framed_by.Goals as goal
 
-pub returns-clause-framed : goal.returns-clause-framed
-returns-clause-framed c = λ t.
+pub returns : goal.returns
+returns c = λ t.
     let l = c.loop-frame in
     let around = c.args.spot.now.frames.now in
     let xs = texts c.args.names.items in

@@ -18,10 +18,10 @@ loop-name-preserved c = λ behind p.
     let spot = c.args.spot.now in
     lead_both (templates_in scope) _ _ _ _ _ _ _ _ _ (l.invariant behind p)
     (copy_step (templates_in scope) (line_in scope spot 1) (spot_in scope spot).table c.args.names.now l.name-index l.local c.in_ok-local.local _ _ (expr_view c.reading-value.result) l.done.items c.put_assign.new.done.items
-    c.slot.ensures c.loop-name-test.true c.in_ok-local.ensures.added (λ k q r. c.in_ok-put_assign.ensures.put scope k q r) c.reading-value.ensures behind p)
+    c.slot.ensures c.loop-name-test.true c.in_ok-local.ensures (λ k q r. c.in_ok-put_assign.ensures scope k q r) c.reading-value.ensures behind p)
 
-pub returns-clause-put : goal.returns-clause-put
-returns-clause-put c = λ behind p.
+pub returns : goal.returns
+returns c = λ behind p.
     let l = c.loop-name in
     let scope = c.args.scope.now in
     let spot = c.args.spot.now in

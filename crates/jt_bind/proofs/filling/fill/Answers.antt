@@ -14,8 +14,8 @@ use Rattle.jt_bind.proofs.LeadingRows.{of_whole, of_left, row_both, row_item}
 use Rattle.jt_bind.proofs.Parameters.{filled_behind, parameters_behind, parameters_left}
 use Rattle.jt_bind.proofs.filling.fill.Goals as goal
 
-pub returns-clause-filled : goal.returns-clause-filled
-returns-clause-filled c = λ p.
+pub returns : goal.returns
+returns c = λ p.
     let l = c.loop-parameter in
     let ps = c.args.parameters.now in
     let qs = c.behind-parameter-items.result.now in
@@ -23,7 +23,7 @@ returns-clause-filled c = λ p.
     let d = c.args.first_default in
     let ks = locals_from c.args.free (keywords (pairs_view c.args.pairs.now)) in
     of_whole _ _ _ _ _ _ _ (sym (filled_behind (parameters_view ps) g d ks ∙ ap (λ z. filled z 0 (d + g) ks) (parameters_behind ps qs g c.behind-parameter-items.ensures)
-    ∙ ap (λ (n : ℕ). filled (parameters_view qs) 0 n ks) (sym c.in_ok-default.ensures.added)))
+    ∙ ap (λ (n : ℕ). filled (parameters_view qs) 0 n ks) (sym c.in_ok-default.ensures)))
     (of_left _ _ _ _ _ _ _ (at_drop_all (λ (z : List Parameter). filled (parameters_view z) 0 l.default ks) qs l.parameter-index (omega arith)) (l.invariant p))
 
 pub loop-parameter-preserved : goal.loop-parameter-preserved
@@ -34,9 +34,9 @@ loop-parameter-preserved c = λ p.
     let ks = locals_from c.args.free (keywords (pairs_view c.args.pairs.now)) in
     let rest = parameters_view (drop (l.parameter-index + 1) qs) in
     let slot = option_map slot_view c.in_ok-slot.slot in
-    let found : slot ≡ slot_in (parameter_view x).name ks = c.in_ok-slot.ensures.kept ∙ ap (λ k. slot_in k ks) c.as_str.ensures.value in
+    let found : slot ≡ slot_in (parameter_view x).name ks = c.in_ok-slot.ensures ∙ ap (λ k. slot_in k ks) c.as_str.ensures.value in
     row_both _ _ _ _ _ _ _ _ _ (l.invariant p)
     (of_whole _ _ _ _ _ _ _ (ap (λ o. slots.item (value_or o (known l.default)) (filled rest 0 c.in_ok-default-2.default ks)) found
-    ∙ ap (λ (n : ℕ). slots.item (value_or (slot_in (parameter_view x).name ks) (known l.default)) (filled rest 0 n ks)) (c.in_ok-default-2.ensures.added ∙ add-one l.default)
+    ∙ ap (λ (n : ℕ). slots.item (value_or (slot_in (parameter_view x).name ks) (known l.default)) (filled rest 0 n ks)) (c.in_ok-default-2.ensures ∙ add-one l.default)
     ∙ ap (λ z. filled z 0 l.default ks) (sym (parameters_left qs l.parameter-index x c.loop-parameter-test.true c.parameter-item.is)))
     (row_item (value_or slot (known l.default)) (filled rest 0 c.in_ok-default-2.default ks) c.value_or.result l.done.items _ p p (c.value_or.ensures p) c.in_ok-push.ensures.items))

@@ -13,8 +13,8 @@ use Rattle.jt_bind.proofs.LeadingRows.{of_whole, of_left, row_both, row_item}
 use Rattle.jt_bind.proofs.Parameters.{filled_some_behind, none_filled, one_filled, parameters_behind, parameters_left}
 use Rattle.jt_bind.proofs.filling.fill_some.Goals as goal
 
-pub returns-clause-filled : goal.returns-clause-filled
-returns-clause-filled c =
+pub returns : goal.returns
+returns c =
     let l = c.loop-place in
     let ps = c.args.parameters.now in
     let qs = c.behind-rest.result.now in
@@ -23,8 +23,8 @@ returns-clause-filled c =
     of_whole _ _ _ _ _ _ _ (sym (filled_some_behind (parameters_view ps) c.args.given xs ks ∙ ap (λ z. filled_some z 0 xs ks) (parameters_behind ps qs c.args.given c.behind-rest.ensures)))
     (of_left _ _ _ _ _ _ _ (at_drop_all (λ (z : List Parameter). filled_some (parameters_view z) 0 xs ks) qs l.place (omega arith)) l.invariant)
 
-pub returns-then-not-is_some_given-clause-filled : goal.returns-then-not-is_some_given-clause-filled
-returns-then-not-is_some_given-clause-filled c =
+pub returns-then-not-is_some_given : goal.returns-then-not-is_some_given
+returns-then-not-is_some_given c =
     let l = c.loop-place in
     let ps = c.args.parameters.now in
     let qs = c.behind-rest.result.now in
@@ -48,4 +48,4 @@ loop-place-preserved c =
     let given : some_given (parameter_view x ∷ rest) xs ≡ true = sym (ap (λ z. some_given z xs) left) ∙ sym (ap (λ (z : List Parameter). some_given (parameters_view z) xs) whole) ∙ sym c.is_some_given.ensures ∙ c.if-not-is_some_given.false in
     row_both _ _ _ _ _ _ _ _ _ l.invariant
     (of_whole _ _ _ _ _ _ _ (sym (ap (λ z. filled_some z 0 xs ks) left ∙ one_filled (parameter_view x) rest xs ks given))
-    (row_item (value_or (slot_in (parameter_view x).name ks) (own (default_value (parameter_view x).default))) (filled_some rest 0 xs ks) c.in_ok-value.value l.done.items _ (values l.pool) _ c.in_ok-value.ensures.placed c.in_ok-push.ensures.items))
+    (row_item (value_or (slot_in (parameter_view x).name ks) (own (default_value (parameter_view x).default))) (filled_some rest 0 xs ks) c.in_ok-value.value l.done.items _ (values l.pool) _ c.in_ok-value.ensures c.in_ok-push.ensures.items))

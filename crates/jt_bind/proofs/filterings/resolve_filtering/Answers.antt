@@ -20,8 +20,8 @@ use Rattle.jt_bind.proofs.filterings.resolve_filtering.Goals as goal
 written_as : {x y : Text} {ts us : trees.Exprs} {ps qs : trees.Pairs} → x ≡ y → ts ≡ us → ps ≡ qs → the.filter_written x ts ps ≡ the.filter_written y us qs
 written_as {y = y} {ts = ts} {us = us} {ps = ps} e f g = ap (λ z. the.filter_written z ts ps) e ∙ ap (λ z. the.filter_written y z ps) f ∙ ap (the.filter_written y us) g
 
-pub returns-in_default-clause-placed : goal.returns-in_default-clause-placed
-returns-in_default-clause-placed c = λ k p n h.
+pub returns-in_default : goal.returns-in_default
+returns-in_default c = λ k p n h.
     let s = c.args.scope.now in
     let f = filtering_view c.args.filtering.now in
     let row : exprs_view c.as_slice-row.result.now ≡ f.arguments = ap exprs_view c.as_slice-row.ensures.value in
@@ -34,8 +34,8 @@ returns-in_default-clause-placed c = λ k p n h.
     sym (take_at p (expr_values k) c.args.start n) ∙ ap (take c.args.start) (sym h.pooled) ∙ take-map view c.args.start c.args.pool.now.items ∙ ap (map view) (sym c.truncate.ensures.items) in
     subst P (sym named) (subst Q cut (c.absent.ensures p))
 
-pub returns-clause-placed : goal.returns-clause-placed
-returns-clause-placed c =
+pub returns : goal.returns
+returns c =
     let s = c.args.scope.now in
     let spot = c.args.spot.now in
     let f = filtering_view c.args.filtering.now in
@@ -49,4 +49,4 @@ returns-clause-placed c =
     let O : Option ℕ → Type 0 = λ o. IsPlaced (filtered_in s o k f.arguments f.keywords spot) (expr_view e) p r in
     let R : trees.Exprs → Type 0 = λ ts. IsPlaced (filtered_in s (Some (filter_id c.in-Some.filter)) k ts f.keywords spot) (expr_view e) p r in
     let S : trees.Pairs → Type 0 = λ ps. IsPlaced (filtered_in s (Some (filter_id c.in-Some.filter)) k (exprs_view c.as_slice-row.result.now) ps spot) (expr_view e) p r in
-    subst O (sym named) (subst R row (subst S pairs (h k p g)))) c.resolve_filtered.ensures.placed
+    subst O (sym named) (subst R row (subst S pairs (h k p g)))) c.resolve_filtered.ensures

@@ -12,8 +12,8 @@ use Rattle.jt_bind.proofs.FilterTags.{filters_next}
 use Rattle.jt_resolved.proofs.ExpressionViews.{view_Variable}
 use Rattle.jt_bind.proofs.filterings.resolve_filterings.Goals as goal
 
-pub returns-clause-placed : goal.returns-clause-placed
-returns-clause-placed c =
+pub returns : goal.returns
+returns c =
     let l = c.loop-filtering in
     let s = c.args.scope.now in
     let P : List Filtering → Type 0 = λ fs. IsPlaced (resolved_filters (world_in s) (order_in s) (filterings_view fs) (spot_in s c.args.spot.now) (variable (slot_view c.args.value))) (expr_view l.resolved) (values c.args.pool.now) (values l.pool) in
@@ -33,4 +33,4 @@ loop-filtering-preserved c =
     let start : length old ≡ c.len-start.result = length-map c.args.pool.now.items view ∙ omega (arith, c.len-start.ensures, c.args.pool.now.ok.0) in
     let P : SExpr Constant → Type 0 = λ z. IsPlaced z (expr_view c.in_ok-resolved.resolved) old (values c.resolve_filtering.new.pool) in
     subst P (filters_next s spot fs l.filtering-index c.filtering-item.result e c.loop-filtering-test.true c.filtering-item.is)
-    (c.in_ok-resolved.ensures.placed _ old start l.invariant)
+    (c.in_ok-resolved.ensures _ old start l.invariant)

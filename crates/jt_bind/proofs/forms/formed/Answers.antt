@@ -9,15 +9,15 @@ use Rattle.jt_bind.proofs.LeadingRows.{conjunction_placed, disjunction_placed}
 use Rattle.jt_resolved.proofs.ExpressionViews.{view_Conjunction, view_Disjunction}
 use Rattle.jt_bind.proofs.forms.formed.Goals as goal
 
-pub returns-in-Operation-clause-made : goal.returns-in-Operation-clause-made
-returns-in-Operation-clause-made c = rw c.in-Operation.is c.on_two.ensures.made
+pub returns-in-Operation : goal.returns-in-Operation
+returns-in-Operation c = rw c.in-Operation.is c.on_two.ensures
 
-pub returns-in_ok-inside-in-Negation-clause-made : goal.returns-in_ok-inside-in-Negation-clause-made
-returns-in_ok-inside-in-Negation-clause-made c =
-    rw c.in-Negation.is (IfOk-weaker c.on_one.result _ _ (λ e h a b p q r f g. h (operation_of c.in-Negation.op a b) p r (c.in_ok-inside-in-Negation.ensures.made a b p q r f g)) c.on_one.ensures.made)
+pub returns-in_ok-inside-in-Negation : goal.returns-in_ok-inside-in-Negation
+returns-in_ok-inside-in-Negation c =
+    rw c.in-Negation.is (IfOk-weaker c.on_one.result _ _ (λ e h a b p q r f g. h (operation_of c.in-Negation.op a b) p r (c.in_ok-inside-in-Negation.ensures a b p q r f g)) c.on_one.ensures)
 
-pub returns-in_ok-new-in-Conjunction-clause-made : goal.returns-in_ok-new-in-Conjunction-clause-made
-returns-in_ok-new-in-Conjunction-clause-made c =
+pub returns-in_ok-new-in-Conjunction : goal.returns-in_ok-new-in-Conjunction
+returns-in_ok-new-in-Conjunction c =
     let first = c.in_ok-first-in-Conjunction.first in
     let second = c.in_ok-new-in-Conjunction.field-0 in
     let shown : expr_view (e.Conjunction first second) ≡ slots.conjunction (expr_view c.args.left) (expr_view c.args.right) =
@@ -25,8 +25,8 @@ returns-in_ok-new-in-Conjunction-clause-made c =
     ∙ ap (λ (z : SExpr). slots.conjunction (expr_view c.args.left) (expr_view z)) c.in_ok-new-in-Conjunction.ensures.ok in
     rw c.in-Conjunction.is (λ a b p q r f g. conjunction_placed a b (expr_view c.args.left) (expr_view c.args.right) (expr_view (e.Conjunction first second)) p q r f g shown)
 
-pub returns-in_ok-new-in-Disjunction-clause-made : goal.returns-in_ok-new-in-Disjunction-clause-made
-returns-in_ok-new-in-Disjunction-clause-made c =
+pub returns-in_ok-new-in-Disjunction : goal.returns-in_ok-new-in-Disjunction
+returns-in_ok-new-in-Disjunction c =
     let first = c.in_ok-first-in-Disjunction.first in
     let second = c.in_ok-new-in-Disjunction.field-0 in
     let shown : expr_view (e.Disjunction first second) ≡ slots.disjunction (expr_view c.args.left) (expr_view c.args.right) =

@@ -12,8 +12,8 @@ use Rattle.jt_bind.specs.Scoped.{values, IsPlaced}
 use Rattle.jt_resolved.proofs.ExpressionViews.{view_Field}
 use Rattle.jt_bind.proofs.forms.turn_among.Goals as goal
 
-pub returns-clause-placed : goal.returns-clause-placed
-returns-clause-placed c =
+pub returns : goal.returns
+returns c =
     let P : Tree → Type 0 = λ v. IsPlaced (slots.pooled (own v)) (expr_view c.in_ok-items.items) (values c.args.pool.now) (values c.add_value.new.pool) in
     IfOk-weaker c.on_two.result _ _ (λ e h. h (slots.field index0) (slots.pooled (own (tree.number (pos c.args.count)))) (values c.args.pool.now) _ _
-    (record { shown = view_Field f.Index0; pooled = sym (append-nil (values c.args.pool.now)) }) (subst P c.in_ok-number.ensures.valued c.in_ok-items.ensures.placed)) c.on_two.ensures.made
+    (record { shown = view_Field f.Index0; pooled = sym (append-nil (values c.args.pool.now)) }) (subst P c.in_ok-number.ensures c.in_ok-items.ensures)) c.on_two.ensures

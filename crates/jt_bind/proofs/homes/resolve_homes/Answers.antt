@@ -47,7 +47,7 @@ loop-home-preserved c =
     let in_order : i < length O = omega (arith, lt, l.invariant.laid.all_homes, same) in
     let Put : Chain → Type 0 = (λ ch. AreRoutines (map (λ t. t.name) (chain_view ch).templates) (programs.chain_routines (world_of (chain_view ch)) (chain_view ch).order (home_at (chain_view ch).order i))
     l.routines.items c.resolve_home.new.routines.items (values l.pool) (values c.resolve_home.new.pool)) in
-    let put = subst Put l.invariant.same c.in_ok-resolve_home.ensures.put in
+    let put = subst Put l.invariant.same c.in_ok-resolve_home.ensures in
     let Left : List Home → Type 0 = (λ hs. RoutinesLead ts all (flat_map (programs.chain_routines W O) hs) [] l.routines.items old (values l.pool)) in
     let left = subst Left (homes_left O i in_order) l.invariant.lead in
     record {
@@ -57,8 +57,8 @@ loop-home-preserved c =
           (values c.resolve_home.new.pool) left put;
     }
 
-pub returns-clause-put : goal.returns-clause-put
-returns-clause-put c =
+pub returns : goal.returns
+returns c =
     let l = c.loop-home in
     let s = c.args.scope in
     let ts = templates_in s in

@@ -10,14 +10,14 @@ use Rattle.jt_bind.proofs.locals.+expressions.Goals as goal
 pub row_locals-loop-kept-preserved : goal.row_locals-loop-kept-preserved
 row_locals-loop-kept-preserved t c =
     let l = c.loop-kept in
-    row_step c.args.row.now l.kept-index c.loop-kept-item.result c.in_ok-given.given c.in_ok-aside_locals.field-0 l.most _ _ c.loop-kept-test.true c.loop-kept-item.is c.in_ok-given.ensures.counted c.in_ok-aside_locals.ensures.counted
+    row_step c.args.row.now l.kept-index c.loop-kept-item.result c.in_ok-given.given c.in_ok-aside_locals.field-0 l.most _ _ c.loop-kept-test.true c.loop-kept-item.is c.in_ok-given.ensures c.in_ok-aside_locals.ensures
     (c.larger-most.ensures ∙ ap (max l.most) c.larger.ensures) l.invariant
 
-pub expr_locals-returns-in-Made-clause-counted : goal.expr_locals-returns-in-Made-clause-counted
-expr_locals-returns-in-Made-clause-counted t c =
-    IfOk-weaker c.row_locals.result _ _ (λ n h. h ∙ ap (λ l. row_locals (row_view l none)) c.deref.ensures.value ∙ sym (ap expr_locals (ap expr_view c.in-Made.is ∙ view_Made c.in-Made.field-0 c.in-Made.row))) c.row_locals.ensures.counted
+pub expr_locals-returns-in-Made : goal.expr_locals-returns-in-Made
+expr_locals-returns-in-Made t c =
+    IfOk-weaker c.row_locals.result _ _ (λ n h. h ∙ ap (λ l. row_locals (row_view l none)) c.deref.ensures.value ∙ sym (ap expr_locals (ap expr_view c.in-Made.is ∙ view_Made c.in-Made.field-0 c.in-Made.row))) c.row_locals.ensures
 
-pub expr_locals-returns-in-Invoke-clause-counted : goal.expr_locals-returns-in-Invoke-clause-counted
-expr_locals-returns-in-Invoke-clause-counted t c =
+pub expr_locals-returns-in-Invoke : goal.expr_locals-returns-in-Invoke
+expr_locals-returns-in-Invoke t c =
     IfOk-weaker c.row_locals-in-Invoke.result _ _ (λ n h. h ∙ ap (λ l. row_locals (row_view l none)) c.deref-in-Invoke.ensures.value ∙ sym (ap expr_locals (ap expr_view c.in-Invoke.is ∙ view_Invoke c.in-Invoke.field-0 c.in-Invoke.field-1 c.in-Invoke.row)))
-    c.row_locals-in-Invoke.ensures.counted
+    c.row_locals-in-Invoke.ensures

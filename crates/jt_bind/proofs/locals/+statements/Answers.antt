@@ -10,11 +10,11 @@ use Rattle.jt_bind.proofs.locals.+statements.Goals as goal
 pub body_locals-loop-statement-preserved : goal.body_locals-loop-statement-preserved
 body_locals-loop-statement-preserved t c = λ ts behind.
     let l = c.loop-statement in
-    body_step ts c.args.body.now l.statement-index c.statement-item.result c.in_ok-stmt_locals.field-0 l.most c.larger-most.result behind _ c.loop-statement-test.true c.statement-item.is (λ b. c.in_ok-stmt_locals.ensures.counted ts b) c.larger-most.ensures
+    body_step ts c.args.body.now l.statement-index c.statement-item.result c.in_ok-stmt_locals.field-0 l.most c.larger-most.result behind _ c.loop-statement-test.true c.statement-item.is (λ b. c.in_ok-stmt_locals.ensures ts b) c.larger-most.ensures
     (l.invariant ts behind)
 
-pub body_locals-returns-clause-counted : goal.body_locals-returns-clause-counted
-body_locals-returns-clause-counted t c = λ ts behind.
+pub body_locals-returns : goal.body_locals-returns
+body_locals-returns t c = λ ts behind.
     let l = c.loop-statement in
     sym (l.invariant ts behind) ∙ at_drop_all (λ (z : List SStmt). max l.most (body_locals (body_view ts z behind))) c.args.body.now l.statement-index (omega arith)
 
@@ -22,29 +22,29 @@ pub stmt_locals-loop-condition-preserved : goal.stmt_locals-loop-condition-prese
 stmt_locals-loop-condition-preserved t c = λ ts.
     let l = c.loop-condition in
     branch_step ts c.deref-condition-items.result.now l.condition-index c.loop-condition-item.result c.deref-in-loop-condition.result.now c.in_ok-asked-in-If.asked c.in_ok-body_locals-in-If.field-0 l.most c.larger-most.result _
-    c.loop-condition-test.true c.loop-condition-item.is c.deref-in-loop-condition.ensures.value c.in_ok-asked-in-If.ensures.counted (λ z. c.in_ok-body_locals-in-If.ensures.counted ts z) (c.larger-most.ensures ∙ ap (max l.most) c.larger-in-loop-condition.ensures) (l.invariant ts)
+    c.loop-condition-test.true c.loop-condition-item.is c.deref-in-loop-condition.ensures.value c.in_ok-asked-in-If.ensures (λ z. c.in_ok-body_locals-in-If.ensures ts z) (c.larger-most.ensures ∙ ap (max l.most) c.larger-in-loop-condition.ensures) (l.invariant ts)
 
-pub stmt_locals-returns-after-loop-condition-clause-counted : goal.stmt_locals-returns-after-loop-condition-clause-counted
-stmt_locals-returns-after-loop-condition-clause-counted t c = λ ts behind.
+pub stmt_locals-returns-after-loop-condition : goal.stmt_locals-returns-after-loop-condition
+stmt_locals-returns-after-loop-condition t c = λ ts behind.
     let l = c.loop-condition in
     let first = c.in_ok-most-in-If.most in
     choice_done ts c.args.statement.now behind c.in-If.branches c.in-If.other first l.most c.in-If.is
-    (λ b. sym (ap (λ (z : List SStmt). body_locals (body_view ts z b)) c.deref.ensures.value) ∙ c.in_ok-most-in-If.ensures.counted ts b)
+    (λ b. sym (ap (λ (z : List SStmt). body_locals (body_view ts z b)) c.deref.ensures.value) ∙ c.in_ok-most-in-If.ensures ts b)
     (sym (max_zero l.most) ∙ sym (at_drop_all (λ (z : List Branch). max l.most (branches_locals ts z)) c.deref-condition-items.result.now l.condition-index (omega arith)) ∙ l.invariant ts
     ∙ ap (λ (z : List Branch). max first (branches_locals ts z)) c.deref-condition-items.ensures.value)
 
-pub stmt_locals-returns-in_ok-last-in-For-clause-counted : goal.stmt_locals-returns-in_ok-last-in-For-clause-counted
-stmt_locals-returns-in_ok-last-in-For-clause-counted t c = λ ts behind.
+pub stmt_locals-returns-in_ok-last-in-For : goal.stmt_locals-returns-in_ok-last-in-For
+stmt_locals-returns-in_ok-last-in-For t c = λ ts behind.
     let m = c.in_ok-taken-in-For.taken in
     let n = c.in_ok-given-in-For.given in
     let k = c.in_ok-asked-in-For.asked in
     loop_counted ts c.args.statement.now behind c.in-For.field-0 c.in-For.targets c.in-For.items c.in-For.condition c.in-For.body c.in-For.other m n k c.in_ok-turn-in-For.turn c.in_ok-last-in-For.last c.larger-in-For-4.result c.in-For.is
-    c.in_ok-taken-in-For.ensures.counted c.in_ok-given-in-For.ensures.counted c.in_ok-asked-in-For.ensures.counted
-    (λ b. sym (ap (λ (z : List SStmt). body_locals (body_view ts z b)) c.deref-in-For.ensures.value) ∙ c.in_ok-turn-in-For.ensures.counted ts b)
-    (λ b. sym (ap (λ (z : List SStmt). body_locals (body_view ts z b)) c.deref-in-For-2.ensures.value) ∙ c.in_ok-last-in-For.ensures.counted ts b)
+    c.in_ok-taken-in-For.ensures c.in_ok-given-in-For.ensures c.in_ok-asked-in-For.ensures
+    (λ b. sym (ap (λ (z : List SStmt). body_locals (body_view ts z b)) c.deref-in-For.ensures.value) ∙ c.in_ok-turn-in-For.ensures ts b)
+    (λ b. sym (ap (λ (z : List SStmt). body_locals (body_view ts z b)) c.deref-in-For-2.ensures.value) ∙ c.in_ok-last-in-For.ensures ts b)
     (c.larger-in-For-4.ensures ∙ ap (max m) (c.larger-in-For-3.ensures ∙ ap (λ u. max u c.larger-in-For-2.result) c.larger-in-For.ensures ∙ ap (max (max n k)) c.larger-in-For-2.ensures))
 
-pub stmt_locals-returns-in_ok-body_locals-in-Capture-clause-counted : goal.stmt_locals-returns-in_ok-body_locals-in-Capture-clause-counted
-stmt_locals-returns-in_ok-body_locals-in-Capture-clause-counted t c = λ ts behind.
+pub stmt_locals-returns-in_ok-body_locals-in-Capture : goal.stmt_locals-returns-in_ok-body_locals-in-Capture
+stmt_locals-returns-in_ok-body_locals-in-Capture t c = λ ts behind.
     capture_counted ts c.args.statement.now behind c.in-Capture.field-0 c.in-Capture.slot c.in-Capture.body c.in_ok-kept-in-Capture.kept c.in_ok-body_locals-in-Capture.field-0 c.larger-in-Capture.result c.in-Capture.is
-    c.in_ok-kept-in-Capture.ensures.counted (λ b. sym (ap (λ (z : List SStmt). body_locals (body_view ts z b)) c.deref-in-Capture.ensures.value) ∙ c.in_ok-body_locals-in-Capture.ensures.counted ts b) c.larger-in-Capture.ensures
+    c.in_ok-kept-in-Capture.ensures (λ b. sym (ap (λ (z : List SStmt). body_locals (body_view ts z b)) c.deref-in-Capture.ensures.value) ∙ c.in_ok-body_locals-in-Capture.ensures ts b) c.larger-in-Capture.ensures

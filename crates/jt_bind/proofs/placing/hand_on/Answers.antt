@@ -19,10 +19,10 @@ loop-name-preserved c = λ left p.
     let spot = c.args.spot.now in
     lead_both (templates_in scope) _ _ _ _ _ _ _ _ _ (l.invariant left p)
     (hand_step (templates_in scope) (line_in scope spot c.args.line) (if c.args.with_context then (spot_in scope spot).table else []) c.args.names.now l.name-index l.global c.in_ok-global.global _ (expr_view c.handed-value.result) l.done.items c.put_assign.new.done.items
-    c.loop-name-test.true c.in_ok-global.ensures.added (λ k q r. c.in_ok-put_assign.ensures.put scope k q r) c.handed-value.ensures left p)
+    c.loop-name-test.true c.in_ok-global.ensures (λ k q r. c.in_ok-put_assign.ensures scope k q r) c.handed-value.ensures left p)
 
-pub returns-clause-put : goal.returns-clause-put
-returns-clause-put c = λ p left.
+pub returns : goal.returns
+returns c = λ p left.
     let l = c.loop-name in
     let scope = c.args.scope.now in
     let spot = c.args.spot.now in

@@ -9,8 +9,8 @@ use Rattle.jt_bind.proofs.LeadingBodies.{led_of}
 use Rattle.jt_bind.proofs.Standing.{block_run, block_absent}
 use Rattle.jt_bind.proofs.placing.put_block.Goals as goal
 
-pub returns-clause-put : goal.returns-clause-put
-returns-clause-put c =
+pub returns : goal.returns
+returns c =
     let scope = c.args.scope.now in
     let spot = c.args.spot.now in
     let name = c.args.name.now in
@@ -18,15 +18,15 @@ returns-clause-put c =
     let table : Table = if c.args.scoped then (spot_in scope spot).table else globals_in scope in
     IfOk-weaker c.put_run.result _ _ (λ u h line required body p. led_of (templates_in scope) _ _ _ _ _ _
     (ap (λ (t : Table). alone (slots.run c.in-Some.unit (reads t ps))) (c.seen_by.ensures scope)
-    ∙ block_run (world_in scope) (order_in scope) (spot_in scope spot) (first_body (numbered_of (world_in scope) (home_in scope) name)) name table c.in-Some.unit (sym c.in-Some.is ∙ c.in_ok-unit.ensures.found))
-    (h (templates_in scope) _ _ _ (c.in_ok-row.ensures.read p))) c.put_run.ensures.put
+    ∙ block_run (world_in scope) (order_in scope) (spot_in scope spot) (first_body (numbered_of (world_in scope) (home_in scope) name)) name table c.in-Some.unit (sym c.in-Some.is ∙ c.in_ok-unit.ensures))
+    (h (templates_in scope) _ _ _ (c.in_ok-row.ensures p))) c.put_run.ensures
 
-pub returns-in_default-clause-put : goal.returns-in_default-clause-put
-returns-in_default-clause-put c =
+pub returns-in_default : goal.returns-in_default
+returns-in_default c =
     let scope = c.args.scope.now in
     let spot = c.args.spot.now in
     let name = c.args.name.now in
     let table : Table = if c.args.scoped then (spot_in scope spot).table else globals_in scope in
     IfOk-weaker c.put_print.result _ _ (λ u h line required body p. led_of (templates_in scope) _ _ _ _ _ _
-    (block_absent (world_in scope) (order_in scope) (spot_in scope spot) (first_body (numbered_of (world_in scope) (home_in scope) name)) name table (sym c.in_default.is ∙ c.in_ok-unit.ensures.found))
-    (h scope slots.absent p p (c.absent.ensures p))) c.put_print.ensures.put
+    (block_absent (world_in scope) (order_in scope) (spot_in scope spot) (first_body (numbered_of (world_in scope) (home_in scope) name)) name table (sym c.in_default.is ∙ c.in_ok-unit.ensures))
+    (h scope slots.absent p p (c.absent.ensures p))) c.put_print.ensures

@@ -11,8 +11,8 @@ use Rattle.jt_bind.proofs.LeadingBodies.{led_of, led_both}
 use Rattle.jt_bind.proofs.Standing.{no_row, absent_names, absent_unit, include_shown, include_missing}
 use Rattle.jt_bind.proofs.placing.put_include.Goals as goal
 
-pub returns-in_default-clause-put : goal.returns-in_default-clause-put
-returns-in_default-clause-put c =
+pub returns-in_default : goal.returns-in_default
+returns-in_default c =
     let scope = c.args.scope.now in
     let x = c.args.name.now in
     let T = templates_in scope in
@@ -22,10 +22,10 @@ returns-in_default-clause-put c =
     IfOk-weaker c.put_run.result _ _ (λ u h p. led_of T _ _ _ _ _ _
     (include_shown scope c.args.spot.now c.args.line x c.args.ignore_missing c.args.with_context (first_slot (world_in scope) (order_in scope) (a_chain x)) [] scope.units there refl (sym (absent_names (world_in scope) (order_in scope) (a_chain x) absent))
     (c.requires.all_units ∙ sym (absent_unit (world_in scope) (order_in scope) x absent)))
-    (h T slots.none p p (no_row _ c.new.ensures.items p))) c.put_run.ensures.put
+    (h T slots.none p p (no_row _ c.new.ensures.items p))) c.put_run.ensures
 
-pub returns-clause-put : goal.returns-clause-put
-returns-clause-put c =
+pub returns : goal.returns
+returns c =
     let scope = c.args.scope.now in
     let x = c.args.name.now in
     let T = templates_in scope in
@@ -41,12 +41,12 @@ returns-clause-put c =
     IfOk-weaker c.put_run-2.result _ _ (λ u h p. led_of T _ _ _ _ _ _
     (include_shown scope c.args.spot.now c.args.line x c.args.ignore_missing c.args.with_context chain.first_slot (texts c.deref.result.now) chain.unit there (laid.from ∙ ap (first_slot world order) at.1)
     (ap texts c.deref.ensures.value ∙ laid.named ∙ ap (names world order) at.1) (laid.chain_unit x at.1))
-    (led_both T _ _ _ _ _ _ _ _ (c.in_ok-hand_on.ensures.put p) (h T slots.none p p (no_row _ c.new-2.ensures.items p)))) c.put_run-2.ensures.put
+    (led_both T _ _ _ _ _ _ _ _ (c.in_ok-hand_on.ensures p) (h T slots.none p p (no_row _ c.new-2.ensures.items p)))) c.put_run-2.ensures
 
-pub returns-then-is_none-clause-put : goal.returns-then-is_none-clause-put
-returns-then-is_none-clause-put c =
+pub returns-then-is_none : goal.returns-then-is_none
+returns-then-is_none c =
     let scope = c.args.scope.now in
     let x = c.args.name.now in
     let none : is_none ((world_in scope).sources x) ≡ true = sym (c.requires.sources x) ∙ ap is_none (sym c.place.ensures) ∙ ap not (c.is_none.ensures ∙ ap not c.if-is_none.true) in
     IfOk-weaker c.put_missing.result _ _ (λ u h p. led_of (templates_in scope) _ _ _ _ _ _
-    (include_missing scope c.args.spot.now c.args.line x c.args.ignore_missing c.args.with_context none) (h scope p)) c.put_missing.ensures.put
+    (include_missing scope c.args.spot.now c.args.line x c.args.ignore_missing c.args.with_context none) (h scope p)) c.put_missing.ensures

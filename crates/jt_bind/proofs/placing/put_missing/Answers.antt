@@ -7,14 +7,14 @@ use Rattle.jt_bind.specs.Stated.{Led}
 use Rattle.jt_bind.proofs.LeadingBodies.{led_nothing}
 use Rattle.jt_bind.proofs.placing.put_missing.Goals as goal
 
-pub returns-then-ignore_missing-clause-put : goal.returns-then-ignore_missing-clause-put
-returns-then-ignore_missing-clause-put c = λ s p.
+pub returns-then-ignore_missing : goal.returns-then-ignore_missing
+returns-then-ignore_missing c = λ s p.
     let es = c.args.done.now.items in
     let P : Bool → Type 0 = λ b. Led (templates_in s) (left_out (spot_in s c.args.spot.now) c.args.line b) es es p p in
     subst P (sym c.if-ignore_missing.true) (led_nothing (templates_in s) es p)
 
-pub returns-clause-put : goal.returns-clause-put
-returns-clause-put c =
+pub returns : goal.returns
+returns c =
     IfOk-weaker c.put_print.result _ _ (λ u h s p.
     let P : Bool → Type 0 = λ b. Led (templates_in s) (left_out (spot_in s c.args.spot.now) c.args.line b) c.args.done.now.items c.put_print.new.done.items p p in
-    subst P (sym c.if-ignore_missing.false) (h s slots.absent p p (c.absent.ensures p))) c.put_print.ensures.put
+    subst P (sym c.if-ignore_missing.false) (h s slots.absent p p (c.absent.ensures p))) c.put_print.ensures

@@ -23,4 +23,4 @@ loop-home-preserved c =
     let named : length home.names.items ≡ length (layout.names W O (home_at O i)) = sym (length-map home.names.items (λ (k : Bor Text). k.now)) ∙ ap length laid.named in
     let left : programs.count_globals W O (drop i O) ≡ length (layout.names W O (home_at O i)) + programs.count_globals W O (drop (i + 1) O) =
     ap (programs.count_globals W O) (homes_left O i (omega (arith, lt, c.requires.all_homes))) in
-    omega (arith, c.in_ok-globals.ensures.added, c.len.ensures, home.names.ok.0, named, left, l.invariant)
+    omega (arith, c.in_ok-globals.ensures, c.len.ensures, home.names.ok.0, named, left, l.invariant)

@@ -5,7 +5,7 @@ use Rattle.jt_bind.proofs.LeadingBodies.{assign_led}
 use Rattle.jt_bind.proofs.Placed.{place_shown}
 use Rattle.jt_bind.proofs.putting.put_assign.Goals as goal
 
-pub returns-clause-put : goal.returns-clause-put
-returns-clause-put c = λ s k p q h.
+pub returns : goal.returns
+returns c = λ s k p q h.
     assign_led (templates_in s) (record { template = c.args.spot.now.template; line = c.args.line }) (line_in s c.args.spot.now c.args.line) c.args.targets k c.args.value c.args.done.now.items c.push.new.self.items p q
     (place_shown (chain_view s.chain.now).templates c.args.spot.now.template c.args.line) h c.in_ok-push.ensures.items

@@ -6,7 +6,7 @@ use Rattle.jt_bind.specs.Scoped.{values}
 use Rattle.jt_bind.proofs.LeadingBodies.{data_led, value_push}
 use Rattle.jt_bind.proofs.putting.put_data.Goals as goal
 
-pub returns-clause-put : goal.returns-clause-put
-returns-clause-put c = λ templates.
+pub returns : goal.returns
+returns c = λ templates.
     data_led templates (tree.text c.args.text.now) c.len-place.result c.args.done.now.items c.push-2.new.self.items (values c.args.pool.now) (values c.push.new.self)
     (c.len-place.ensures ∙ c.args.pool.now.ok.0 ∙ sym (length-map c.args.pool.now.items view)) (value_push c.args.pool.now.items c.push.new.self.items c.in_ok-text.field-0 (tree.text c.args.text.now) c.in_ok-push.ensures.items c.in_ok-text.ensures) c.in_ok-push-2.ensures.items

@@ -12,8 +12,8 @@ use Rattle.jt_bind.specs.Scoped.{values, world_in, order_in, templates_in}
 use Rattle.jt_bind.proofs.Made.{program_is}
 use Rattle.jt_bind.proofs.resolving.resolved.Goals as goal
 
-pub returns-clause-resolved : goal.returns-clause-resolved
-returns-clause-resolved c =
+pub returns : goal.returns
+returns c =
     let s = c.in_ok-scope.scope in
     let same = c.in_ok-scope.ensures.chain in
     let p : Program = record {
@@ -24,6 +24,6 @@ returns-clause-resolved c =
       routines = c.in_ok-routines.routines;
     } in
     let Is : Chain → Type 0 = (λ ch. program_of p ≡ program (world_of (chain_view ch)) (chain_view ch).order (home_at (chain_view ch).order 0)) in
-    let templates = c.in_ok-templates.ensures.same ∙ ap (λ (ps : List Page). map (λ t. t.name) (pages_view ps)) c.deref.ensures.value ∙ ap (λ (ch : Chain). map (λ t. t.name) (chain_view ch).templates) (sym same) in
-    subst Is same (program_is (world_in s) (order_in s) (home_at (order_in s) 0) (templates_in s) p templates c.in_ok-names.ensures.named c.in_ok-globals.ensures.counted (values c.in_ok-pool.pool) c.in_ok-pool.ensures.shared
-    c.in_ok-routines.ensures.put)
+    let templates = c.in_ok-templates.ensures ∙ ap (λ (ps : List Page). map (λ t. t.name) (pages_view ps)) c.deref.ensures.value ∙ ap (λ (ch : Chain). map (λ t. t.name) (chain_view ch).templates) (sym same) in
+    subst Is same (program_is (world_in s) (order_in s) (home_at (order_in s) 0) (templates_in s) p templates c.in_ok-names.ensures c.in_ok-globals.ensures (values c.in_ok-pool.pool) c.in_ok-pool.ensures
+    c.in_ok-routines.ensures)

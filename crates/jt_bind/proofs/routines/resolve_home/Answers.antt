@@ -3,7 +3,7 @@ use Rattle.jt_bind.specs.Scoped.{templates_in}
 use Rattle.jt_bind.proofs.Routing.{all_both, all_done}
 use Rattle.jt_bind.proofs.routines.resolve_home.Goals as goal
 
-pub returns-clause-put : goal.returns-clause-put
-returns-clause-put c =
+pub returns : goal.returns
+returns c =
     let T = templates_in c.args.scope.now in
-    IfOk-weaker c.resolve_blocks.result _ _ (λ u h. all_done T _ _ _ _ _ (all_both T _ _ _ _ _ _ _ _ c.in_ok-resolve_entry.ensures.put (all_both T _ _ _ _ _ _ _ _ c.in_ok-resolve_macros.ensures.put h))) c.resolve_blocks.ensures.put
+    IfOk-weaker c.resolve_blocks.result _ _ (λ u h. all_done T _ _ _ _ _ (all_both T _ _ _ _ _ _ _ _ c.in_ok-resolve_entry.ensures (all_both T _ _ _ _ _ _ _ _ c.in_ok-resolve_macros.ensures h))) c.resolve_blocks.ensures

@@ -8,14 +8,14 @@ use Rattle.jt_bind.specs.Stated.{stmt_in}
 use Rattle.jt_bind.proofs.LeadingBodies.{led_of, led_nothing}
 use Rattle.jt_bind.proofs.routines.resolve_if_set.Goals as goal
 
-pub returns-then-sets_names-clause-led : goal.returns-then-sets_names-clause-led
-returns-then-sets_names-clause-led c =
+pub returns-then-sets_names : goal.returns-then-sets_names
+returns-then-sets_names c =
     let x = stmt_view c.args.statement.now in
     let whole = stmt_in c.args.scope.now x c.args.spot.now in
-    IfOk-weaker c.resolve_statement.result _ _ (λ u h. led_of (templates_in c.args.scope.now) whole _ _ _ _ _ (ap (λ b. if b then whole else slots.end) (sym c.if-sets_names.true ∙ c.sets_names.ensures)) h) c.resolve_statement.ensures.led
+    IfOk-weaker c.resolve_statement.result _ _ (λ u h. led_of (templates_in c.args.scope.now) whole _ _ _ _ _ (ap (λ b. if b then whole else slots.end) (sym c.if-sets_names.true ∙ c.sets_names.ensures)) h) c.resolve_statement.ensures
 
-pub returns-clause-led : goal.returns-clause-led
-returns-clause-led c =
+pub returns : goal.returns
+returns c =
     let x = stmt_view c.args.statement.now in
     let whole = stmt_in c.args.scope.now x c.args.spot.now in
     led_of (templates_in c.args.scope.now) slots.end _ _ _ _ _ (ap (λ b. if b then whole else slots.end) (sym c.if-sets_names.false ∙ c.sets_names.ensures)) (led_nothing (templates_in c.args.scope.now) _ _)

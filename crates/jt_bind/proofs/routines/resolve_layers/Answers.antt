@@ -9,8 +9,8 @@ use Rattle.jt_bind.proofs.LeadingBodies.{lead_both, lead_of, lead_left}
 use Rattle.jt_bind.proofs.Chained.{layers_turn, root_here}
 use Rattle.jt_bind.proofs.routines.resolve_layers.Goals as goal
 
-pub returns-clause-led : goal.returns-clause-led
-returns-clause-led c = λ left.
+pub returns : goal.returns
+returns c = λ left.
     let l = c.loop-place in
     let scope = c.args.scope.now in
     lead_left (templates_in scope) _ _ _ _ _ _ _
@@ -24,4 +24,4 @@ loop-place-preserved c = λ left.
     let rest = resolved_chain (world_in scope) (order_in scope) (home_in scope) (map (layer_view ts) (drop (l.place + 1) c.args.layers.now)) in
     lead_both (templates_in scope) _ _ _ _ _ _ _ _ _ (l.invariant left)
     (lead_of (templates_in scope) _ _ _ _ _ _ _ (layers_turn scope ts c.args.layers.now l.place c.index-layers-place.result _ left c.loop-place-test.true c.index-layers-place.is (root_here ts c.args.layers.now l.place _ c.loop-place-test.true refl))
-    (c.in_ok-resolve_layer.ensures.led (followed rest left)))
+    (c.in_ok-resolve_layer.ensures (followed rest left)))

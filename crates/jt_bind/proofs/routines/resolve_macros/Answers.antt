@@ -10,8 +10,8 @@ use Rattle.jt_bind.proofs.Routing.{routines_both, routines_of, routines_left}
 use Rattle.jt_bind.proofs.Numbered.{macro_lead, macros_same}
 use Rattle.jt_bind.proofs.routines.resolve_macros.Goals as goal
 
-pub returns-clause-put : goal.returns-clause-put
-returns-clause-put c = λ left.
+pub returns : goal.returns
+returns c = λ left.
     let l = c.loop-called in
     let scope = c.args.scope.now in
     let T = templates_in scope in
@@ -28,4 +28,4 @@ loop-called-preserved c = λ left.
     let scope = c.args.scope.now in
     let ms = c.deref-called-items.result.now in
     routines_both (templates_in scope) _ _ _ _ _ _ _ _ _ (l.invariant left)
-    (macro_lead scope ms l.called-index c.called-item.result _ _ left _ _ _ _ _ c.loop-called-test.true c.called-item.is c.in_ok-parameters.ensures.same c.top_spot-spot.ensures c.in_ok-resolve_routine.ensures.made c.in_ok-push.ensures.items)
+    (macro_lead scope ms l.called-index c.called-item.result _ _ left _ _ _ _ _ c.loop-called-test.true c.called-item.is c.in_ok-parameters.ensures c.top_spot-spot.ensures c.in_ok-resolve_routine.ensures c.in_ok-push.ensures.items)

@@ -14,8 +14,8 @@ use Rattle.jt_bind.proofs.LeadingBodies.{led_begun}
 use Rattle.jt_bind.proofs.Routing.{locals_same, routine_made}
 use Rattle.jt_bind.proofs.routines.resolve_routine.Goals as goal
 
-pub returns-clause-made : goal.returns-clause-made
-returns-clause-made c =
+pub returns : goal.returns
+returns c =
     let scope = c.args.scope.now in
     let T = templates_in scope in
     let names = c.args.parameters in
@@ -23,8 +23,8 @@ returns-clause-made c =
     let body = c.resolve_within.new.done in
     let p = values c.args.pool.now in
     let q = values c.resolve_within.new.pool in
-    let led = led_begun T whole _ _ _ p q c.new-done.ensures.items c.in_ok-resolve_within.ensures.led in
+    let led = led_begun T whole _ _ _ p q c.new-done.ensures.items c.in_ok-resolve_within.ensures in
     let count = c.len-count.ensures ∙ names.ok.0 ∙ sym (length-map names.items (λ (k : Bor Text). k.now)) in
     routine_made T c.len-count.result (length (texts names.items)) whole body c.larger-locals.result (max (length (texts names.items)) (body_locals whole)) p q led count
     (c.larger-locals.ensures ∙ ap (λ n. max n c.in_ok-body_locals.field-0) count ∙ ap (max (length (texts names.items))) (locals_same T whole body.items p q c.in_ok-body_locals.field-0 led
-    (λ b. sym (ap (λ (z : List SStmt). body_locals (body_view T z b)) c.deref.ensures.value) ∙ c.in_ok-body_locals.ensures.counted T b)))
+    (λ b. sym (ap (λ (z : List SStmt). body_locals (body_view T z b)) c.deref.ensures.value) ∙ c.in_ok-body_locals.ensures T b)))

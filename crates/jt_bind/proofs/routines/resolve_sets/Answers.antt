@@ -23,10 +23,10 @@ loop-statement-preserved c = λ left.
     lead_both (templates_in scope) _ _ _ _ _ _ _ _ _ (l.invariant left)
     (lead_of (templates_in scope) _ _ _ _ _ _ _ (sets_next (is_set (stmt_view x)) (stmt_in scope (stmt_view x) spot) rest left
     ∙ ap (λ b. followed (resolved_sets (world_in scope) (order_in scope) b sp) left) (sym (statements_left ss l.statement-index x c.loop-statement-test.true c.statement-item.is)))
-    (c.in_ok-resolve_if_set.ensures.led (followed rest left)))
+    (c.in_ok-resolve_if_set.ensures (followed rest left)))
 
-pub returns-clause-led : goal.returns-clause-led
-returns-clause-led c = λ left.
+pub returns : goal.returns
+returns c = λ left.
     let l = c.loop-statement in
     let scope = c.args.scope.now in
     lead_left (templates_in scope) _ _ _ _ _ _ _

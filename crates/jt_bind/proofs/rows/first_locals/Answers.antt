@@ -9,8 +9,8 @@ use Rattle.jt_bind.proofs.LeadingRows.{of_whole, of_left, row_both, row_item}
 use Rattle.jt_resolved.proofs.ExpressionViews.{view_Variable}
 use Rattle.jt_bind.proofs.rows.first_locals.Goals as goal
 
-pub returns-clause-read : goal.returns-clause-read
-returns-clause-read c = λ xs p n.
+pub returns : goal.returns
+returns c = λ xs p n.
     let l = c.loop-local in
     of_left _ _ _ _ _ _ _ (at_drop_all (resolve.first_locals l.local) xs l.local (omega arith)) (l.invariant xs p n)
 

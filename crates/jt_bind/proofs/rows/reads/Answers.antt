@@ -12,8 +12,8 @@ use Rattle.jt_bind.proofs.Calling.{reads_next}
 use Rattle.jt_bind.proofs.LeadingRows.{of_whole, of_left, row_both, row_item}
 use Rattle.jt_bind.proofs.rows.reads.Goals as goal
 
-pub returns-clause-read : goal.returns-clause-read
-returns-clause-read c = λ p.
+pub returns : goal.returns
+returns c = λ p.
     let l = c.loop-name in
     let table = (spot_in c.args.scope.now c.args.spot.now).table in
     of_left _ _ _ _ _ _ _ (at_drop_all (λ (z : List (Bor Text)). resolve.reads table (texts z)) c.args.names.now l.name-index (omega arith)) (l.invariant p)

@@ -18,5 +18,5 @@ loop-home-preserved c =
     let items = c.deref-home-items.ensures.value in
     let lt : i < length s.homes.items = omega (arith, c.loop-home-test.true, ap length items) in
     let laid = c.requires.each i c.home-item.result lt (c.home-item.is ∙ ap (λ ls. get_or ls i c.home-item.result) items) in
-    let put = c.in_ok-add_macros.ensures.added ts ∙ ap (λ ms. values l.pool ++ defaults_of (map (macro_view ts) ms)) c.deref.ensures.value ∙ ap (λ ms. values l.pool ++ defaults_of ms) laid.all_macros in
+    let put = c.in_ok-add_macros.ensures ts ∙ ap (λ ms. values l.pool ++ defaults_of (map (macro_view ts) ms)) c.deref.ensures.value ∙ ap (λ ms. values l.pool ++ defaults_of ms) laid.all_macros in
     part_put (values l.pool) _ _ _ _ put (ap (λ hs. values l.pool ++ flat_map (λ h. defaults_of (macros (world_in s).sources h)) hs) (sym (homes_left (order_in s) i (omega (arith, lt, c.requires.all_homes)))) ∙ l.invariant)

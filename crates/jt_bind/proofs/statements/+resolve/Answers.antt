@@ -33,58 +33,58 @@ resolve_body-loop-statement-preserved t c = λ left.
     lead_both (templates_in scope) _ _ _ _ _ _ _ _ _ (l.invariant left)
     (lead_of (templates_in scope) _ _ _ _ _ _ _ (sym (followed_again (stmt_in scope (stmt_view x) spot) rest left)
     ∙ ap (λ b. followed (body_in scope b spot) left) (sym (statements_left ss l.statement-index x c.loop-statement-test.true c.statement-item.is)))
-    (c.in_ok-resolve_statement.ensures.led (followed rest left)))
+    (c.in_ok-resolve_statement.ensures (followed rest left)))
 
-pub resolve_body-returns-clause-led : goal.resolve_body-returns-clause-led
-resolve_body-returns-clause-led t c = λ left.
+pub resolve_body-returns : goal.resolve_body-returns
+resolve_body-returns t c = λ left.
     let l = c.loop-statement in
     let scope = c.args.scope.now in
     lead_left (templates_in scope) _ _ _ _ _ _ _
     (at_drop_all (λ (z : List Stmt). followed (body_in scope (body_view z) c.args.spot.now) left) c.args.body.now l.statement-index (omega arith)) (l.invariant left)
 
-pub resolve_whole-returns-clause-led : goal.resolve_whole-returns-clause-led
-resolve_whole-returns-clause-led t c =
-    led_begun (templates_in c.args.scope.now) _ _ _ _ _ _ c.new-done.ensures.items c.in_ok-resolve_body.ensures.led
+pub resolve_whole-returns : goal.resolve_whole-returns
+resolve_whole-returns t c =
+    led_begun (templates_in c.args.scope.now) _ _ _ _ _ _ c.new-done.ensures.items c.in_ok-resolve_body.ensures
 
-pub resolve_inside-returns-clause-led : goal.resolve_inside-returns-clause-led
-resolve_inside-returns-clause-led t c =
-    led_begun (templates_in c.args.scope.now) _ _ _ _ _ _ c.new-done.ensures.items c.in_ok-resolve_scoped.ensures.led
+pub resolve_inside-returns : goal.resolve_inside-returns
+resolve_inside-returns t c =
+    led_begun (templates_in c.args.scope.now) _ _ _ _ _ _ c.new-done.ensures.items c.in_ok-resolve_scoped.ensures
 
 -- ---- scopes
 
-pub resolve_scoped-returns-clause-led : goal.resolve_scoped-returns-clause-led
-resolve_scoped-returns-clause-led t c =
+pub resolve_scoped-returns : goal.resolve_scoped-returns
+resolve_scoped-returns t c =
     let scope = c.args.scope.now in
     let spot = c.args.spot.now in
     let b = body_view c.args.body.now in
     let sp = spot_in scope spot in
     let same = ap texts c.deref.ensures.value ∙ c.in_ok-names.ensures in
-    IfOk-weaker c.resolve_body.result _ _ (λ u h. scope_led scope b sp (record spot { frames = c.deref-2.result; free = c.in_ok-inner.inner.free }) _ _ _ _ _ (c.in_ok-inner.ensures.bound scope c.deref-2.result c.deref-2.ensures.value ∙ ap (λ xs. bound_all xs sp) c.in_ok-names.ensures)
-    (copies_as scope sp (texts c.deref.result.now) b _ _ _ same (λ behind. c.in_ok-put_copies.ensures.put behind (values c.args.pool.now))) h) c.resolve_body.ensures.led
+    IfOk-weaker c.resolve_body.result _ _ (λ u h. scope_led scope b sp (record spot { frames = c.deref-2.result; free = c.in_ok-inner.inner.free }) _ _ _ _ _ (c.in_ok-inner.ensures scope c.deref-2.result c.deref-2.ensures.value ∙ ap (λ xs. bound_all xs sp) c.in_ok-names.ensures)
+    (copies_as scope sp (texts c.deref.result.now) b _ _ _ same (λ behind. c.in_ok-put_copies.ensures behind (values c.args.pool.now))) h) c.resolve_body.ensures
 
-pub resolve_within-returns-clause-led : goal.resolve_within-returns-clause-led
-resolve_within-returns-clause-led t c =
+pub resolve_within-returns : goal.resolve_within-returns
+resolve_within-returns t c =
     let scope = c.args.scope.now in
-    IfOk-weaker c.resolve_scoped.result _ _ (λ u h. scoped_as scope (body_view c.args.body.now) _ _ _ _ _ _ (c.in_ok-inner.ensures.bound scope c.deref.result c.deref.ensures.value) h) c.resolve_scoped.ensures.led
+    IfOk-weaker c.resolve_scoped.result _ _ (λ u h. scoped_as scope (body_view c.args.body.now) _ _ _ _ _ _ (c.in_ok-inner.ensures scope c.deref.result c.deref.ensures.value) h) c.resolve_scoped.ensures
 
-pub resolve_turn-returns-clause-led : goal.resolve_turn-returns-clause-led
-resolve_turn-returns-clause-led t c =
+pub resolve_turn-returns : goal.resolve_turn-returns
+resolve_turn-returns t c =
     let scope = c.args.scope.now in
     let sp = spot_in scope c.args.spot.now in
-    turn_as scope (body_view c.args.body.now) _ _ _ _ _ _ _ _ (c.in_ok-inner.ensures.bound scope c.deref.result c.deref.ensures.value ∙ ap (λ xs. bound_all xs sp) c.in_ok-texts_of.ensures.same) c.in_ok-asked.ensures.asked c.in_ok-turn.ensures.led
+    turn_as scope (body_view c.args.body.now) _ _ _ _ _ _ _ _ (c.in_ok-inner.ensures scope c.deref.result c.deref.ensures.value ∙ ap (λ xs. bound_all xs sp) c.in_ok-texts_of.ensures) c.in_ok-asked.ensures c.in_ok-turn.ensures
 
 -- ---- parts of statements
 
-pub resolve_branch-returns-clause-made : goal.resolve_branch-returns-clause-made
-resolve_branch-returns-clause-made t c = record {
+pub resolve_branch-returns : goal.resolve_branch-returns
+resolve_branch-returns t c = record {
   between = values c.resolve_expression.new.pool;
   stands = place_shown (chain_view c.args.scope.now.chain.now).templates c.args.spot.now.template c.args.line;
-  asked = c.in_ok-asked.ensures.placed;
-  taken = c.in_ok-taken.ensures.led;
+  asked = c.in_ok-asked.ensures;
+  taken = c.in_ok-taken.ensures;
 }
 
-pub resolve_filtered-returns-clause-led : goal.resolve_filtered-returns-clause-led
-resolve_filtered-returns-clause-led t c =
+pub resolve_filtered-returns : goal.resolve_filtered-returns
+resolve_filtered-returns t c =
     let scope = c.args.scope.now in
     let spot = c.args.spot.now in
     let T = templates_in scope in
@@ -93,45 +93,45 @@ resolve_filtered-returns-clause-led t c =
     let inside = spot_in scope (record spot { free = c.in_ok-free.free }) in
     let first = alone (slots.capture spot.escaping (slots.local spot.free) (scoped_in scope b inside)) in
     let second = alone (slots.print (line_in scope spot c.args.line) spot.escaping (resolved_filters (world_in scope) (order_in scope) fs inside (slots.variable (slots.local spot.free)))) in
-    IfOk-weaker c.put_print.result _ _ (λ u h. led_of T (followed first second) _ _ _ _ _ (filter_shown scope spot c.args.line fs b c.in_ok-free.free c.in_ok-free.ensures.added)
-    (led_both T first second _ _ _ _ _ _ (c.in_ok-put_capture.ensures.put T _ _ _ c.in_ok-text.ensures.led) (h scope _ _ _ c.in_ok-shown.ensures.placed))) c.put_print.ensures.put
+    IfOk-weaker c.put_print.result _ _ (λ u h. led_of T (followed first second) _ _ _ _ _ (filter_shown scope spot c.args.line fs b c.in_ok-free.free c.in_ok-free.ensures)
+    (led_both T first second _ _ _ _ _ _ (c.in_ok-put_capture.ensures T _ _ _ c.in_ok-text.ensures) (h scope _ _ _ c.in_ok-shown.ensures))) c.put_print.ensures
 
-pub resolve_set_block-returns-clause-led : goal.resolve_set_block-returns-clause-led
-resolve_set_block-returns-clause-led t c =
+pub resolve_set_block-returns : goal.resolve_set_block-returns
+resolve_set_block-returns t c =
     let scope = c.args.scope.now in
     let spot = c.args.spot.now in
     let sp = spot_in scope spot in
     let T = templates_in scope in
     let b = body_view c.args.body.now in
     IfOk-weaker c.put_capture.result _ _ (λ u h. λ line. led_of T _ (stmt_in scope (trees.set_block line c.args.name.now b) spot) _ _ _ _
-    (ap (λ z. alone (slots.capture spot.escaping z (scoped_in scope b sp))) c.set_slot.ensures) (h T _ _ _ c.in_ok-text.ensures.led)) c.put_capture.ensures.put
+    (ap (λ z. alone (slots.capture spot.escaping z (scoped_in scope b sp))) c.set_slot.ensures) (h T _ _ _ c.in_ok-text.ensures)) c.put_capture.ensures
 
-pub resolve_with-returns-clause-led : goal.resolve_with-returns-clause-led
-resolve_with-returns-clause-led t c =
+pub resolve_with-returns : goal.resolve_with-returns
+resolve_with-returns t c =
     let scope = c.args.scope.now in
     let spot = c.args.spot.now in
     let sp = spot_in scope spot in
     let ps = pairs_view c.args.pairs.now in
     let b = body_view c.args.body.now in
     IfOk-weaker c.resolve_within.result _ _ (λ u h. led_of (templates_in scope) _ (stmt_in scope (trees.with_values c.args.line ps b) spot) _ _ _ _
-    (ap (λ w. values_in scope ps spot c.args.line (scoped_in scope b (bound_all w sp))) c.in_ok-names.ensures.same)
-    (values_led scope spot ps c.args.line _ _ _ _ _ _ _ c.in_ok-resolve_values.ensures.led h)) c.resolve_within.ensures.led
+    (ap (λ w. values_in scope ps spot c.args.line (scoped_in scope b (bound_all w sp))) c.in_ok-names.ensures)
+    (values_led scope spot ps c.args.line _ _ _ _ _ _ _ c.in_ok-resolve_values.ensures h)) c.resolve_within.ensures
 
-pub resolve_escaping-returns-clause-led : goal.resolve_escaping-returns-clause-led
-resolve_escaping-returns-clause-led t c =
-    IfOk-weaker c.resolve_scoped.result _ _ (λ u h. λ line. h) c.resolve_scoped.ensures.led
+pub resolve_escaping-returns : goal.resolve_escaping-returns
+resolve_escaping-returns t c =
+    IfOk-weaker c.resolve_scoped.result _ _ (λ u h. λ line. h) c.resolve_scoped.ensures
 
 -- ---- statements
 
-pub resolve_statement-returns-in-Data-clause-led : goal.resolve_statement-returns-in-Data-clause-led
-resolve_statement-returns-in-Data-clause-led t c =
+pub resolve_statement-returns-in-Data : goal.resolve_statement-returns-in-Data
+resolve_statement-returns-in-Data t c =
     let scope = c.args.scope.now in
     IfOk-weaker c.put_data.result _ _ (λ u h. stmt_as scope c.args.spot.now (trees.data_of c.deref.result.now) (stmt_view c.args.statement.now) _ _ _ _
-    (ap trees.data_of c.deref.ensures ∙ sym (ap stmt_view c.in-Data.is ∙ view_Data c.in-Data.text)) (h (templates_in scope))) c.put_data.ensures.put
+    (ap trees.data_of c.deref.ensures ∙ sym (ap stmt_view c.in-Data.is ∙ view_Data c.in-Data.text)) (h (templates_in scope))) c.put_data.ensures
 
-pub resolve_statement-returns-in-Print-clause-led : goal.resolve_statement-returns-in-Print-clause-led
-resolve_statement-returns-in-Print-clause-led t c =
-    IfOk-weaker c.resolve_print.result _ _ (λ u h. stmt_as c.args.scope.now c.args.spot.now _ _ _ _ _ _ (sym (ap stmt_view c.in-Print.is ∙ view_Print c.in-Print.line c.in-Print.value)) h) c.resolve_print.ensures.led
+pub resolve_statement-returns-in-Print : goal.resolve_statement-returns-in-Print
+resolve_statement-returns-in-Print t c =
+    IfOk-weaker c.resolve_print.result _ _ (λ u h. stmt_as c.args.scope.now c.args.spot.now _ _ _ _ _ _ (sym (ap stmt_view c.in-Print.is ∙ view_Print c.in-Print.line c.in-Print.value)) h) c.resolve_print.ensures
 
 pub resolve_statement-loop-line-init : goal.resolve_statement-loop-line-init
 resolve_statement-loop-line-init t c = λ other. choice_same (templates_in c.args.scope.now) _ _ _ c.in_ok-made-in-If.ensures.items
@@ -147,10 +147,10 @@ resolve_statement-loop-line-preserved t c = λ other.
     let rest = choice_in scope (branches_view (drop (l.line-index + 1) bs)) spot other in
     let here = choice_other T _ _ _ _ _ _ (ap (λ b. choice_in scope b spot other) (branches_left bs l.line-index x c.loop-line-test.true c.loop-line-item.is)) (l.invariant other) in
     branch_led T _ rest (body_in scope (body_view x.2.items) spot) (line_in scope spot x.0) (expr_in scope (expr_view x.1) spot) _ _ _ _ _ _ here
-    (branch_as T _ _ _ _ _ _ _ (ap (λ z. body_in scope (body_view z) spot) c.deref-in-loop-line.ensures.value) c.in_ok-resolve_branch-in-If.ensures.made) c.in_ok-push-in-If.ensures.items
+    (branch_as T _ _ _ _ _ _ _ (ap (λ z. body_in scope (body_view z) spot) c.deref-in-loop-line.ensures.value) c.in_ok-resolve_branch-in-If.ensures) c.in_ok-push-in-If.ensures.items
 
-pub resolve_statement-returns-in_ok-last-in-If-clause-led : goal.resolve_statement-returns-in_ok-last-in-If-clause-led
-resolve_statement-returns-in_ok-last-in-If-clause-led t c =
+pub resolve_statement-returns-in_ok-last-in-If : goal.resolve_statement-returns-in_ok-last-in-If
+resolve_statement-returns-in_ok-last-in-If t c =
     let l = c.loop-line in
     let scope = c.args.scope.now in
     let spot = c.args.spot.now in
@@ -159,84 +159,84 @@ resolve_statement-returns-in_ok-last-in-If-clause-led t c =
     let T = templates_in scope in
     let last = body_in scope (body_view us) spot in
     IfOk-weaker c.put_choice.result _ _ (λ u h. led_of T _ _ _ _ _ _ (if_shown scope spot c.args.statement.now c.in-If.branches c.in-If.other bs us c.in-If.is c.deref-line-items.ensures.value c.deref-in-If.ensures.value)
-    (h T _ _ _ _ _ (choice_other T _ _ _ _ _ _ (at_drop_all (λ (z : List Branch). choice_in scope (branches_view z) spot last) bs l.line-index (omega arith)) (l.invariant last)) c.in_ok-last-in-If.ensures.led)) c.put_choice.ensures.put
+    (h T _ _ _ _ _ (choice_other T _ _ _ _ _ _ (at_drop_all (λ (z : List Branch). choice_in scope (branches_view z) spot last) bs l.line-index (omega arith)) (l.invariant last)) c.in_ok-last-in-If.ensures)) c.put_choice.ensures
 
-pub resolve_statement-returns-in_ok-targets-in-For-clause-led : goal.resolve_statement-returns-in_ok-targets-in-For-clause-led
-resolve_statement-returns-in_ok-targets-in-For-clause-led t c =
+pub resolve_statement-returns-in_ok-targets-in-For : goal.resolve_statement-returns-in_ok-targets-in-For
+resolve_statement-returns-in_ok-targets-in-For t c =
     let scope = c.args.scope.now in
     let T = templates_in scope in
-    let turn = c.in_ok-turn-in-For.ensures.led in
+    let turn = c.in_ok-turn-in-For.ensures in
     IfOk-weaker c.put_loop.result _ _ (λ u h. led_of T _ _ _ _ _ _
     (loop_shown scope c.args.spot.now c.args.statement.now c.in-For.line c.in-For.names c.in-For.value c.in-For.condition c.in-For.body c.in-For.other c.deref-in-For-2.result.now c.deref-in-For-4.result.now c.deref-in-For.result.now c.deref-in-For-3.result.now _
-    c.in-For.is c.deref-in-For-2.ensures.value c.deref-in-For-4.ensures.value c.deref-in-For.ensures.value c.deref-in-For-3.ensures.value c.in_ok-targets-in-For.ensures.taken)
-    (h scope _ _ _ _ _ _ _ _ _ c.in_ok-items-in-For.ensures.placed turn.asked turn.taken c.in_ok-last-in-For.ensures.led)) c.put_loop.ensures.put
+    c.in-For.is c.deref-in-For-2.ensures.value c.deref-in-For-4.ensures.value c.deref-in-For.ensures.value c.deref-in-For-3.ensures.value c.in_ok-targets-in-For.ensures)
+    (h scope _ _ _ _ _ _ _ _ _ c.in_ok-items-in-For.ensures turn.asked turn.taken c.in_ok-last-in-For.ensures)) c.put_loop.ensures
 
-pub resolve_statement-returns-in-Set-clause-led : goal.resolve_statement-returns-in-Set-clause-led
-resolve_statement-returns-in-Set-clause-led t c =
+pub resolve_statement-returns-in-Set : goal.resolve_statement-returns-in-Set
+resolve_statement-returns-in-Set t c =
     IfOk-weaker c.resolve_set.result _ _ (λ u h. stmt_as c.args.scope.now c.args.spot.now _ _ _ _ _ _ (ap (λ z. trees.set c.in-Set.line (names_view z) (expr_view c.in-Set.value)) c.deref-in-Set.ensures.value
-    ∙ sym (ap stmt_view c.in-Set.is ∙ view_Set c.in-Set.line c.in-Set.names c.in-Set.value)) h) c.resolve_set.ensures.led
+    ∙ sym (ap stmt_view c.in-Set.is ∙ view_Set c.in-Set.line c.in-Set.names c.in-Set.value)) h) c.resolve_set.ensures
 
-pub resolve_statement-returns-in-SetBlock-clause-led : goal.resolve_statement-returns-in-SetBlock-clause-led
-resolve_statement-returns-in-SetBlock-clause-led t c =
+pub resolve_statement-returns-in-SetBlock : goal.resolve_statement-returns-in-SetBlock
+resolve_statement-returns-in-SetBlock t c =
     let v = c.in-SetBlock in
     let us = c.deref-in-SetBlock.result.now in
     IfOk-weaker c.resolve_set_block.result _ _ (λ u h. stmt_as c.args.scope.now c.args.spot.now _ _ _ _ _ _
     (ap (λ z. trees.set_block v.field-0 z (body_view us)) c.deref-in-SetBlock-2.ensures ∙ ap (λ z. trees.set_block v.field-0 (string_bytes v.name) (body_view z)) c.deref-in-SetBlock.ensures.value
-    ∙ sym (ap stmt_view v.is ∙ view_SetBlock v.field-0 v.name v.body)) (h v.field-0)) c.resolve_set_block.ensures.led
+    ∙ sym (ap stmt_view v.is ∙ view_SetBlock v.field-0 v.name v.body)) (h v.field-0)) c.resolve_set_block.ensures
 
-pub resolve_statement-returns-in-With-clause-led : goal.resolve_statement-returns-in-With-clause-led
-resolve_statement-returns-in-With-clause-led t c =
+pub resolve_statement-returns-in-With : goal.resolve_statement-returns-in-With
+resolve_statement-returns-in-With t c =
     let v = c.in-With in
     let us = c.deref-in-With.result.now in
     IfOk-weaker c.resolve_with.result _ _ (λ u h. stmt_as c.args.scope.now c.args.spot.now _ _ _ _ _ _
     (ap (λ z. trees.with_values v.line (pairs_view z) (body_view us)) c.deref-in-With-2.ensures.value ∙ ap (λ z. trees.with_values v.line (pairs_view v.pairs.items) (body_view z)) c.deref-in-With.ensures.value
-    ∙ sym (ap stmt_view v.is ∙ view_With v.line v.pairs v.body)) h) c.resolve_with.ensures.led
+    ∙ sym (ap stmt_view v.is ∙ view_With v.line v.pairs v.body)) h) c.resolve_with.ensures
 
-pub resolve_statement-returns-in-FilterBlock-clause-led : goal.resolve_statement-returns-in-FilterBlock-clause-led
-resolve_statement-returns-in-FilterBlock-clause-led t c =
+pub resolve_statement-returns-in-FilterBlock : goal.resolve_statement-returns-in-FilterBlock
+resolve_statement-returns-in-FilterBlock t c =
     let us = c.deref-in-FilterBlock.result.now in
     IfOk-weaker c.resolve_filtered.result _ _ (λ u h. stmt_as c.args.scope.now c.args.spot.now _ _ _ _ _ _
     (ap (λ z. trees.filter_block c.in-FilterBlock.line (filterings_view z) (body_view us)) c.deref-in-FilterBlock-2.ensures.value ∙ ap (λ z. trees.filter_block c.in-FilterBlock.line (filterings_view c.in-FilterBlock.filterings.items) (body_view z)) c.deref-in-FilterBlock.ensures.value
-    ∙ sym (ap stmt_view c.in-FilterBlock.is ∙ view_FilterBlock c.in-FilterBlock.line c.in-FilterBlock.filterings c.in-FilterBlock.body)) h) c.resolve_filtered.ensures.led
+    ∙ sym (ap stmt_view c.in-FilterBlock.is ∙ view_FilterBlock c.in-FilterBlock.line c.in-FilterBlock.filterings c.in-FilterBlock.body)) h) c.resolve_filtered.ensures
 
-pub resolve_statement-returns-in-Autoescape-clause-led : goal.resolve_statement-returns-in-Autoescape-clause-led
-resolve_statement-returns-in-Autoescape-clause-led t c =
+pub resolve_statement-returns-in-Autoescape : goal.resolve_statement-returns-in-Autoescape
+resolve_statement-returns-in-Autoescape t c =
     let v = c.in-Autoescape in
     IfOk-weaker c.resolve_escaping.result _ _ (λ u h. stmt_as c.args.scope.now c.args.spot.now _ _ _ _ _ _
-    (ap (λ z. trees.autoescape v.field-0 v.escaping (body_view z)) c.deref-in-Autoescape.ensures.value ∙ sym (ap stmt_view v.is ∙ view_Autoescape v.field-0 v.escaping v.body)) (h v.field-0)) c.resolve_escaping.ensures.led
+    (ap (λ z. trees.autoescape v.field-0 v.escaping (body_view z)) c.deref-in-Autoescape.ensures.value ∙ sym (ap stmt_view v.is ∙ view_Autoescape v.field-0 v.escaping v.body)) (h v.field-0)) c.resolve_escaping.ensures
 
-pub resolve_statement-returns-in-Macro-clause-led : goal.resolve_statement-returns-in-Macro-clause-led
-resolve_statement-returns-in-Macro-clause-led t c = λ left.
+pub resolve_statement-returns-in-Macro : goal.resolve_statement-returns-in-Macro
+resolve_statement-returns-in-Macro t c = λ left.
     let T = templates_in c.args.scope.now in
     lead_of T left _ left _ _ _ _ (sym (ap (λ z. followed (stmt_in c.args.scope.now z c.args.spot.now) left) (ap stmt_view c.in-Macro.is ∙ view_Macro c.in-Macro.field-0 c.in-Macro.field-1 c.in-Macro.field-2 c.in-Macro.field-3))) (lead_same T left _ _)
 
-pub resolve_statement-returns-in-Import-clause-led : goal.resolve_statement-returns-in-Import-clause-led
-resolve_statement-returns-in-Import-clause-led t c = λ left.
+pub resolve_statement-returns-in-Import : goal.resolve_statement-returns-in-Import
+resolve_statement-returns-in-Import t c = λ left.
     let T = templates_in c.args.scope.now in
     lead_of T left _ left _ _ _ _ (sym (ap (λ z. followed (stmt_in c.args.scope.now z c.args.spot.now) left) (ap stmt_view c.in-Import.is ∙ view_Import c.in-Import.field-0 c.in-Import.field-1 c.in-Import.field-2))) (lead_same T left _ _)
 
-pub resolve_statement-returns-in-From-clause-led : goal.resolve_statement-returns-in-From-clause-led
-resolve_statement-returns-in-From-clause-led t c = λ left.
+pub resolve_statement-returns-in-From : goal.resolve_statement-returns-in-From
+resolve_statement-returns-in-From t c = λ left.
     let T = templates_in c.args.scope.now in
     lead_of T left _ left _ _ _ _ (sym (ap (λ z. followed (stmt_in c.args.scope.now z c.args.spot.now) left) (ap stmt_view c.in-From.is ∙ view_From c.in-From.field-0 c.in-From.field-1 c.in-From.field-2))) (lead_same T left _ _)
 
-pub resolve_statement-returns-in-Extends-clause-led : goal.resolve_statement-returns-in-Extends-clause-led
-resolve_statement-returns-in-Extends-clause-led t c = λ left.
+pub resolve_statement-returns-in-Extends : goal.resolve_statement-returns-in-Extends
+resolve_statement-returns-in-Extends t c = λ left.
     let T = templates_in c.args.scope.now in
     lead_of T left _ left _ _ _ _ (sym (ap (λ z. followed (stmt_in c.args.scope.now z c.args.spot.now) left) (ap stmt_view c.in-Extends.is ∙ view_Extends c.in-Extends.field-0 c.in-Extends.field-1))) (lead_same T left _ _)
 
-pub resolve_statement-returns-in-Include-clause-led : goal.resolve_statement-returns-in-Include-clause-led
-resolve_statement-returns-in-Include-clause-led t c =
+pub resolve_statement-returns-in-Include : goal.resolve_statement-returns-in-Include
+resolve_statement-returns-in-Include t c =
     IfOk-weaker c.put_include.result _ _ (λ u h. stmt_as c.args.scope.now c.args.spot.now _ _ _ _ _ _
     (ap (λ z. trees.include c.in-Include.line z c.in-Include.ignore_missing c.in-Include.with_context) c.deref-in-Include.ensures ∙ sym (ap stmt_view c.in-Include.is ∙ view_Include c.in-Include.line c.in-Include.name c.in-Include.ignore_missing c.in-Include.with_context))
-    (h (values c.args.pool.now))) c.put_include.ensures.put
+    (h (values c.args.pool.now))) c.put_include.ensures
 
-pub resolve_statement-returns-in-Block-clause-led : goal.resolve_statement-returns-in-Block-clause-led
-resolve_statement-returns-in-Block-clause-led t c =
+pub resolve_statement-returns-in-Block : goal.resolve_statement-returns-in-Block
+resolve_statement-returns-in-Block t c =
     IfOk-weaker c.put_block.result _ _ (λ u h. stmt_as c.args.scope.now c.args.spot.now _ _ _ _ _ _
     (ap (λ z. trees.block c.in-Block.field-0 z c.in-Block.scoped c.in-Block.field-3 (body_view c.in-Block.field-4.items)) c.deref-in-Block.ensures
     ∙ sym (ap stmt_view c.in-Block.is ∙ view_Block c.in-Block.field-0 c.in-Block.name c.in-Block.scoped c.in-Block.field-3 c.in-Block.field-4))
-    (h c.in-Block.field-0 c.in-Block.field-3 (body_view c.in-Block.field-4.items) (values c.args.pool.now))) c.put_block.ensures.put
+    (h c.in-Block.field-0 c.in-Block.field-3 (body_view c.in-Block.field-4.items) (values c.args.pool.now))) c.put_block.ensures
 
 -- ---- each part is smaller
 

@@ -8,8 +8,8 @@ use Rattle.jt_bind.proofs.LeadingBodies.{lead_both, lead_of, lead_left}
 use Rattle.jt_trees.proofs.Left.{Entry, pairs_left}
 use Rattle.jt_bind.proofs.statements.resolve_values.Goals as goal
 
-pub returns-clause-led : goal.returns-clause-led
-returns-clause-led c = λ behind.
+pub returns : goal.returns
+returns c = λ behind.
     let l = c.loop-value in
     lead_left (templates_in c.args.scope.now) _ _ _ _ _ _ _ (at_drop_all (λ (z : List Entry). values_in c.args.scope.now (pairs_view z) l.here c.args.line behind) c.args.pairs.now l.value-index (omega arith)) (l.invariant behind)
 
@@ -24,6 +24,6 @@ loop-value-preserved c = λ behind.
     let line = line_in scope l.here c.args.line in
     let value = expr_in scope (expr_view x.1) l.here in
     lead_both T _ _ _ _ _ _ _ _ _ (l.invariant behind)
-    (lead_of T _ _ _ _ _ _ _ (ap (λ (n : ℕ). slots.stmt (slots.assign line (slots.one (slots.local l.here.free)) value) (values_in scope rest (record l.here { free = n }) c.args.line behind)) (c.in_ok-here.ensures.added ∙ add-one l.here.free)
+    (lead_of T _ _ _ _ _ _ _ (ap (λ (n : ℕ). slots.stmt (slots.assign line (slots.one (slots.local l.here.free)) value) (values_in scope rest (record l.here { free = n }) c.args.line behind)) (c.in_ok-here.ensures ∙ add-one l.here.free)
     ∙ ap (λ r. values_in scope r l.here c.args.line behind) (sym (pairs_left ps l.value-index x c.loop-value-test.true c.loop-value-item.is)))
-    (c.in_ok-put_assign.ensures.put scope value _ _ c.in_ok-given.ensures.placed (values_in scope rest (record l.here { free = c.in_ok-here.field-0 }) c.args.line behind)))
+    (c.in_ok-put_assign.ensures scope value _ _ c.in_ok-given.ensures (values_in scope rest (record l.here { free = c.in_ok-here.field-0 }) c.args.line behind)))

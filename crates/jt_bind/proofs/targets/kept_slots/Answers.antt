@@ -7,4 +7,4 @@ pub loop-place-preserved : goal.loop-place-preserved
 loop-place-preserved c =
     let l = c.loop-place in
     kept_step (spot_in c.args.scope.now c.args.spot.now).table c.args.names.now l.place c.index-names-place.result c.in_ok-last.last l.slots.items c.push.new.self.items c.kept_slot.result
-    c.loop-place-test.true c.index-names-place.is (c.in_ok-last.ensures.named ∙ c.in_ok-texts_of.ensures.same) c.in_ok-last.ensures.first c.kept_slot.ensures c.as_str.ensures.value c.in_ok-push.ensures.items l.invariant
+    c.loop-place-test.true c.index-names-place.is (c.in_ok-last.ensures.named ∙ c.in_ok-texts_of.ensures) c.in_ok-last.ensures.first c.kept_slot.ensures c.as_str.ensures.value c.in_ok-push.ensures.items l.invariant

@@ -13,7 +13,7 @@ several_take t [] n = refl
 several_take t (k ∷ []) n = absurd (n refl)
 several_take t (k ∷ l ∷ ks) n = refl
 
-pub returns-clause-taken : goal.returns-clause-taken
-returns-clause-taken c =
-    ap several c.in_ok-kept_slots.ensures.kept
+pub returns : goal.returns
+returns c =
+    ap several c.in_ok-kept_slots.ensures
     ∙ several_take (spot_in c.args.scope.now c.args.spot.now).table c.args.names.now (λ e. elim c.if-names-lt1.branch [ then-names-lt1 w ↦ grind arith | else-names-lt1+else-names-lt2 w ↦ grind arith ])

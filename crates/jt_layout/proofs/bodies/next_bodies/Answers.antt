@@ -33,6 +33,6 @@ loop-left-preserved c =
     record {
       within = omega arith;
       size = grind (arith, common_steps, l.invariant.size);
-      given = λ ts x. given_turn ts bs i l.left b lt c.index-blocks-left.is more x _ _ c.if-block.false (c.in_ok-put.ensures.put x) (l.invariant.given ts x);
+      given = λ ts x. given_turn ts bs i l.left b lt c.index-blocks-left.is more x _ _ c.if-block.false (c.in_ok-put.ensures x) (l.invariant.given ts x);
       done = λ ts. nexts_turn ts bs i l.left b lt c.index-blocks-left.is more c.place.result l.next.items room (c.place.ensures ∙ l.invariant.given ts b.name.now) (l.invariant.done ts);
     }

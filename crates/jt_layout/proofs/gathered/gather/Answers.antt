@@ -46,7 +46,7 @@ loop-left-preserved c =
     let is : home_at order i ≡ a_chain n = name_of_home hs i c.index-itself.result.now lt c.index-itself.ensures ∙ ap (λ b. home_named b n) c.if-itself.false in
     record {
       within = omega arith;
-      found = λ x. c.in_ok-put.ensures.put x
+      found = λ x. c.in_ok-put.ensures x
           ∙ ap (λ n. if bytes_eq n x then texts c.in_ok-names.names.items else names_at l.gathered.names x) c.as_str.ensures.value
           ∙ names_turn world order i lt' (texts c.in_ok-names.names.items) (names_at l.gathered.names x) n x is (c.in_ok-names.ensures)
           (l.invariant.found x ∙ ap (λ k. names_in world (drop k order) (a_chain x)) more);

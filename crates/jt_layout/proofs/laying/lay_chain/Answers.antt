@@ -60,7 +60,7 @@ returns-clause-laid c =
     record {
       kind = kind_named k.is_library (string_bytes k.name) ∙ ap is_library (sym is);
       named = c.requires.named;
-      in_slots = λ x. slots_laid a i lt f s (texts c.deref.result.now) x _ named (c.in_ok-slots.ensures.placed x) ∙ ap (λ n. layout.slot_in x (layout.globals_from n (layout.names W O h))) (sym slot);
+      in_slots = λ x. slots_laid a i lt f s (texts c.deref.result.now) x _ named (c.in_ok-slots.ensures x) ∙ ap (λ n. layout.slot_in x (layout.globals_from n (layout.names W O h))) (sym slot);
       from = sym slot;
       chain_unit = λ n e. sym (chain_unit W O h (rest a i lt f) f s n e);
       all_macros = c.in_ok-macros.ensures.all;

@@ -14,10 +14,10 @@ use Rattle.jt_layout.proofs.laying.lay_out.Goals as goal
 pub gather-requires : goal.gather-requires
 gather-requires c =
     let names = ap texts c.deref-2.ensures.value ∙ c.in_ok-template_names.ensures ∙ ap (map (λ (p : Page). string_bytes p.name)) c.deref.ensures.value in
-    λ x. sources_laid c.args.chain.now.templates.items x _ (c.in_ok-sources.ensures.placed x ∙ ap (first_of x 0) names)
+    λ x. sources_laid c.args.chain.now.templates.items x _ (c.in_ok-sources.ensures x ∙ ap (first_of x 0) names)
 
 pub lay_chains-requires : goal.lay_chains-requires
-lay_chains-requires c = λ x. c.in_ok-gathered.ensures.gathered x
+lay_chains-requires c = λ x. c.in_ok-gathered.ensures x
 
 pub returns-clause-laid : goal.returns-clause-laid
 returns-clause-laid c =
@@ -29,7 +29,7 @@ returns-clause-laid c =
       all_homes = count ∙ sym (length-map a.homes.items home_view);
       each = λ i l lt e. c.in_ok-tables.ensures.each i l lt e;
       all_units = c.in_ok-tables.ensures.units;
-      chains = λ x. is_home (a_chain x) (its_order a) _ (c.in_ok-places.ensures.placed x ∙ ap (λ (hs : List Home). first_home (a_chain x) 0 (map home_view hs)) c.deref-3.ensures.value);
-      libraries = λ x. is_home (a_library x) (its_order a) _ (c.in_ok-libraries.ensures.placed x ∙ ap (λ (hs : List Home). first_home (a_library x) 0 (map home_view hs)) c.deref-4.ensures.value);
-      sources = λ x. sources_laid a.templates.items x _ (c.in_ok-sources.ensures.placed x ∙ ap (first_of x 0) names);
+      chains = λ x. is_home (a_chain x) (its_order a) _ (c.in_ok-places.ensures x ∙ ap (λ (hs : List Home). first_home (a_chain x) 0 (map home_view hs)) c.deref-3.ensures.value);
+      libraries = λ x. is_home (a_library x) (its_order a) _ (c.in_ok-libraries.ensures x ∙ ap (λ (hs : List Home). first_home (a_library x) 0 (map home_view hs)) c.deref-4.ensures.value);
+      sources = λ x. sources_laid a.templates.items x _ (c.in_ok-sources.ensures x ∙ ap (first_of x 0) names);
     }

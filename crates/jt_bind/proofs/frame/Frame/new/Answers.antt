@@ -20,5 +20,5 @@ invariant_of-result c =
 pub loop-name-preserved : goal.loop-name-preserved
 loop-name-preserved c = λ x.
     let l = c.loop-name in
-    placed_next c.deref-name-items.result.now l.name-index _ x l.local c.in_ok-local.local (place_in l.index.places x) (place_in c.put.new.self.places x) c.loop-name-test.true c.in_ok-local.ensures.added (c.in_ok-put.ensures.put x)
+    placed_next c.deref-name-items.result.now l.name-index _ x l.local c.in_ok-local.local (place_in l.index.places x) (place_in c.put.new.self.places x) c.loop-name-test.true c.in_ok-local.ensures (c.in_ok-put.ensures x)
     ∙ l.invariant x

@@ -8,7 +8,7 @@ use Rattle.jt_layout.specs.Places.{texts_of}
 use Rattle.jt_layout.proofs.Named.{names_put}
 use Rattle.jt_layout.proofs.gathered.Gathered.put.Goals as goal
 
-pub returns-clause-put : goal.returns-clause-put
-returns-clause-put c = λ x.
+pub returns : goal.returns
+returns c = λ x.
     ap texts_of (btree_map_updates_str c.args.chain.now c.args.self.now.names c.insert.new.self _ c.in_ok-insert.ensures.updates x)
     ∙ names_put (bytes_eq c.args.chain.now x) c.args.names (get_by (λ k. slice_cmp nat_cmp x k.now) c.args.self.now.names)
