@@ -46,12 +46,14 @@ fn status(
     Ok(performed(alloc, &words, disk, out, errors))
 }
 
-/// The statuses of two lines over a disk of two templates, what a sink took of both that fails behind `left` bytes,
+/// The statuses of two lines over a disk of three templates and a context, what a sink took of both that fails behind `left` bytes,
 /// and what was said.
 fn ended(alloc: Global, left: usize, lines: &str) -> Result<String, Fail> {
     let mut disk = Disk::new(alloc);
     disk.put("d/a", b"x{{ 1 }}")?;
     disk.put("d/e/b", b"y")?;
+    disk.put("d/faulty", b"{{ no.x }}")?;
+    disk.put("none", b"{}")?;
     let taken = String::new(alloc);
     let mut out = IoSink::new(Flaky { taken, left });
     let mut errors = IoSink::new(Flaky {
@@ -72,6 +74,11 @@ const ROWS: &str = "9: compile d a out ; run out => 0 0 [x1][]
     9: compile d b out ; run out => 3 5 [][jt: refused C1 Missing/jt: file out/]
     9: compile d a d/a ; run out => 0 5 [][jt: file out/]
     9: check d/a ; run out => 3 5 [][jt: refused I1 BadMagic/jt: file out/]
+    9: render d faulty ; turns => 1 2 [][jt: fault F2 Undefined in faulty line 1/jt: usage/]
+    9: compile d a out ; run out --fuel 1 => 0 4 [][jt: spent Fuel/]
+    9: compile d a out ; upgrade out new => 0 0 [][]
+    99: compile d a out ; turns out none => 0 0 [1 text 2:x1/][]
+    99: compile d a out ; check out => 0 0 [ok units=1 instructions=4/][]
     9: run d/b ; run memory => 5 6 [][jt: file d/b/jt: no memory/]
     9: compile memory a out ; run out => 3 5 [][jt: refused C1 Missing/jt: file out/]
     9: run a\u{1b}b ; run \u{7f} => 5 5 [][jt: file a\\x1bb/jt: file \\x7f/]

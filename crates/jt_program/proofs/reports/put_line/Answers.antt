@@ -1,4 +1,4 @@
-use Rattle.std.proofs.Common.{Err, List, subst, sym, ℕ}
+use Rattle.std.proofs.Common.{◌+◌, Err, List, subst, sym, ℕ}
 use Rattle.std.proofs.lemmas.Result.{err_from_is_err_and}
 use Rattle.jt_turns.specs.Shown.{shown}
 use Rattle.jt_program.specs.Telling.{Puts}
