@@ -42,7 +42,7 @@ LAYERS = [
     ("jt_sessions", "src/sessions.rt", "turn", "turns"),
     ("jt_args", "src/line.rt", "job", "asked"),
     ("jt_host", "src/rendering.rt", "render", "rendered"),
-    ("jt_turns", "src/turns.rt", "take_turns", ""),
+    ("jt_turns", "src/turns.rt", "run", ""),
     ("jt_program", "src/program.rt", "perform", "ends"),
 ]
 

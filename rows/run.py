@@ -26,7 +26,8 @@ A section of commands begins with the files of the room that its rows run in, ea
     file PATH = text      a file with this text
     bytes PATH = 00ff     a file with these bytes, two digits each
     zeros PATH = 1000     a file of so many zeros
-    link PATH = TO        a link, to TO beside it
+    link PATH = TARGET    a link to a path, as it is seen from the link
+    fifo PATH = none      a pipe that nobody writes
     make words            what the program does in the room; it has to answer `0 [][]`
 
 A row of commands is `step ; step => wanted ; wanted`. A step is the words of a line (∅ alone is a line without words), with any of
@@ -46,6 +47,7 @@ import pathlib
 import re
 import resource
 import shutil
+import stat
 import subprocess
 import sys
 import tempfile
@@ -179,13 +181,15 @@ def furnish(program, room, line):
         if found != "0 [][]":
             raise Malformed(f"{line}: {found[:200]}")
         return True
-    if word not in ("file", "bytes", "zeros", "link"):
+    if word not in ("file", "bytes", "zeros", "link", "fifo"):
         return False
     path, is_there, text = rest.partition(" = ")
     if not is_there:
         raise Malformed(f"{line}: no file")
     if word == "link":
         os.symlink(unfolded(text), room / unfolded(path))
+    elif word == "fifo":
+        os.mkfifo(room / unfolded(path))
     elif word == "zeros":
         put(room, path, b"")
         os.truncate(room / path, int(text))
@@ -251,6 +255,8 @@ def cut(text, most=400):
 
 def copied(file, to):
     """Copies a file; a huge one, which no row writes, has the same bytes under two names."""
+    if stat.S_ISFIFO(os.stat(file).st_mode):
+        return os.mkfifo(to)
     return os.link(file, to) if os.stat(file).st_size > HUGE else shutil.copy(file, to)
 
 

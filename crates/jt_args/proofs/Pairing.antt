@@ -8,7 +8,7 @@ use Rattle.jt_budget.specs.declared.Budget.{Budget}
 use Rattle.jt_args.specs.declared.jobs.Command.{Command}
 use Rattle.jt_args.specs.declared.jobs.Command.TheVariants as command
 use Rattle.jt_args.specs.declared.jobs.Job.{Job}
-use Rattle.jt_args.specs.declared.jobs.Options.{Options}
+use Rattle.jt_scan.specs.declared.Options.{Options}
 use Rattle.jt_args.specs.declared.jobs.Pair.{Pair}
 use Rattle.jt_args.specs.Line.{ArePaired, ComeInPairs, IsAsked, IsCommand, IsKnown, pair_words, words_of_pairs}
 use Rattle.std.specs.Prelude.{IfSome, slice_get, string_bytes, unwrap_or}

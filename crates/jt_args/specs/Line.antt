@@ -8,7 +8,7 @@ use Rattle.clap.specs.Words.{App, Row, Rule, Text, all_of, first_of, new_app, ne
 use Rattle.clap.specs.declared.builder.ArgAction.TheVariants.{Append, SetTrue}
 use Rattle.clap.specs.declared.builder.ValueParser.{ValueParser}
 use Rattle.clap.specs.declared.builder.ValueParser.TheVariants as parser
-use Rattle.jt_args.specs.declared.jobs.Options.{Options}
+use Rattle.jt_scan.specs.declared.Options.{Options}
 use Rattle.jt_budget.specs.declared.Budget.{Budget}
 use Rattle.jt_args.specs.declared.jobs.Command.{Command}
 use Rattle.jt_args.specs.declared.jobs.Command.TheVariants as command

@@ -1,6 +1,7 @@
 //! What a line asks for.
 
 use jt_budget::Budget;
+use jt_scan::Options;
 use std::alloc::AllocError;
 use thiserror::Error;
 
@@ -46,23 +47,11 @@ pub struct Pair {
     pub context: String,
 }
 
-/// How templates are read.
-#[derive(Clone, Copy, Debug, PartialEq, Eq)]
-pub struct Options {
-    /// Drops one LF directly behind a block tag.
-    pub trim_blocks: bool,
-    /// Drops the spaces and tabs of a line before a block tag.
-    pub lstrip_blocks: bool,
-    /// Keeps one LF at the end of a source, which is dropped otherwise.
-    pub keep_trailing_newline: bool,
-    /// Whether what is printed is escaped at first.
-    pub autoescape: bool,
-}
-
 /// A command with its options and numbers. Those that it does not take are the usual ones.
 #[derive(Debug, Drop, PartialEq, Eq)]
 pub struct Job {
     pub command: Command,
+    /// How templates are read.
     pub options: Options,
     pub budget: Budget,
     /// How many instructions a turn has.
@@ -102,11 +91,3 @@ pub const DEFAULT: Budget = Budget {
 
 /// How many instructions a turn has where the line does not say.
 pub const SLICE: u32 = 100;
-
-/// How templates are read where the line does not say.
-pub const USUAL: Options = Options {
-    trim_blocks: false,
-    lstrip_blocks: false,
-    keep_trailing_newline: false,
-    autoescape: true,
-};

@@ -5,5 +5,6 @@ mod grammar;
 mod jobs;
 mod line;
 
-pub use jobs::{Command, DEFAULT, Job, JobError, Options, Pair, SLICE, USUAL};
+pub use jobs::{Command, DEFAULT, Job, JobError, Pair, SLICE};
+pub use jt_scan::Options;
 pub use line::job;

@@ -10,10 +10,11 @@ ghost use Rattle.jt_args.specs.Line.{HasNumbers, HasSlice, HasSwitches, IsNumber
 
 use crate::grammar::program;
 use crate::jobs;
-use crate::jobs::{DEFAULT, Job, JobError, Options, Pair, SLICE, USUAL};
+use crate::jobs::{DEFAULT, Job, JobError, Pair, SLICE};
 use clap::ArgMatches;
 use clap::error::ErrorKind;
 use jt_budget::Budget;
+use jt_scan::Options;
 use std::alloc::{AllocError, Global};
 
 /// Reads `words`, the line without the program's name: a command, and then its words and options.
@@ -77,7 +78,7 @@ fn check_job(alloc: Global, found: &ArgMatches<'_>) -> Result<Job, JobError>
     let image = String::from_str(alloc, word(found, "IMAGE"))?;
     Ok(Job {
         command: jobs::Command::Check { image },
-        options: USUAL,
+        options: Options::new(),
         budget: DEFAULT,
         slice: SLICE,
     })
@@ -92,7 +93,7 @@ fn run_job(alloc: Global, found: &ArgMatches<'_>) -> Result<Job, JobError>
     let context = context(alloc, found)?;
     Ok(Job {
         command: jobs::Command::Run { image, context },
-        options: USUAL,
+        options: Options::new(),
         budget: budget(found),
         slice: SLICE,
     })
@@ -123,7 +124,7 @@ fn upgrade_job(alloc: Global, found: &ArgMatches<'_>) -> Result<Job, JobError>
     let out = String::from_str(alloc, word(found, "OUT"))?;
     Ok(Job {
         command: jobs::Command::Upgrade { image, out },
-        options: USUAL,
+        options: Options::new(),
         budget: DEFAULT,
         slice: SLICE,
     })
@@ -143,7 +144,7 @@ fn turns_job(alloc: Global, found: &ArgMatches<'_>) -> Result<Job, JobError>
     let sessions = pairs(alloc, words)?;
     Ok(Job {
         command: jobs::Command::Turns { sessions },
-        options: USUAL,
+        options: Options::new(),
         budget: budget(found),
         slice: slice(found),
     })

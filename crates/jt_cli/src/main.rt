@@ -2,14 +2,14 @@
 #![tactic(auto)]
 
 use jt_machine::IoSink;
-use jt_program::{Failure, Machine, perform, report};
+use jt_program::{Failure, SystemFiles, perform, report};
 use std::io;
 use std::process::ExitCode;
 
 fn main(rt: HostRuntime) -> ExitCode {
     let status = match arguments(&rt) {
         Ok(words) => perform_on(&rt, words.as_slice()),
-        Err(error) => report(&mut rt.stderr(), &unread(&error)),
+        Err(error) => report(&mut IoSink::new(rt.stderr()), &unread(&error)),
     };
     ExitCode::from(status)
 }
@@ -35,15 +35,15 @@ fn perform_on(rt: &HostRuntime, words: &[String]) -> u8 {
     let mut texts = Vec::new(alloc);
     for word in words {
         if texts.push(word.as_str()).is_err() {
-            return report(&mut rt.stderr(), &Failure::NoMemory);
+            return report(&mut IoSink::new(rt.stderr()), &Failure::NoMemory);
         }
     }
-    let mut files = Machine::new(rt);
+    let mut files = SystemFiles::new(rt);
     perform(
         alloc,
         texts.as_slice(),
         &mut files,
         &mut IoSink::new(rt.stdout()),
-        &mut rt.stderr(),
+        &mut IoSink::new(rt.stderr()),
     )
 }

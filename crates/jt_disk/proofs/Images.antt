@@ -7,13 +7,14 @@ use Rattle.jt_budget.specs.declared.Budget.{Budget}
 use Rattle.jt_args.specs.Line.{IsCommand}
 use Rattle.jt_args.specs.declared.Command.{Command}
 use Rattle.jt_args.specs.declared.Command.TheVariants as command
-use Rattle.jt_args.specs.declared.Options.{Options}
+use Rattle.jt_scan.specs.declared.Options.{Options}
 use Rattle.jt_program.specs.declared.Failure.{Failure}
 use Rattle.jt_program.specs.declared.Failure.TheVariants as failure
-use Rattle.jt_program.specs.Commands.{Answers, ChangesOnly, CommandEnds, Ending, Tells}
+use Rattle.jt_program.specs.Commands.{Answers, ChangesOnly, CommandEnds, Ending}
+use Rattle.jt_program.specs.Telling.{Tells}
 use Rattle.jt_program.specs.Ending.{code_of, status_of}
 use Rattle.jt_program.specs.Files.{IsLibrary, IsSource, path_in}
-use Rattle.jt_program.specs.Program.{IsImage, scan_options}
+use Rattle.jt_program.specs.Program.{IsImage}
 use Rattle.jt_disk.specs.declared.disk.Disk.{Disk}
 use Rattle.jt_disk.specs.Disk.{AreNamesIn, IsName, file_at, known_of}
 use Rattle.jt_disk.specs.Images.{AreTextsIn, HoldsImage, HoldsUpgrade, IfCompiled, IfUpgraded}
@@ -64,7 +65,7 @@ image_held old new name rows (command.Compile dir template out) o b n text is (o
       asked = is.4;
       bytes = written.0;
       held = subst (λ (path : List ℕ). file_at new path ≡ Some written.0) is.3 written.1;
-      image = subst (λ (t : List ℕ). IsImage compiles.sources t (scan_options o) written.0) is.2 written.2;
+      image = subst (λ (t : List ℕ). IsImage compiles.sources t o written.0) is.2 written.2;
     }
 image_held old new name rows (command.Upgrade image out) o b n text is ends named = absurd (two_names (sym named ∙ is.0))
 image_held old new name rows k o b n text is ends named = absurd (cc)

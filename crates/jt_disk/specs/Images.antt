@@ -3,9 +3,9 @@ use Rattle.std.specs.Prelude.{◌≡◌, ◌↔◌, ℕ, List, Option, Some, Non
 use Rattle.std.specs.Str.{IsUtf8}
 use Rattle.clap.specs.Words.{Row, Text as Word}
 use Rattle.jt_args.specs.Line.{IsOptions, word_of}
-use Rattle.jt_args.specs.declared.Options.{Options}
+use Rattle.jt_scan.specs.declared.Options.{Options}
 use Rattle.jt_program.specs.Files.{path_in}
-use Rattle.jt_program.specs.Program.{IsImage, IsUpgraded, scan_options}
+use Rattle.jt_program.specs.Program.{IsImage, IsUpgraded}
 use Rattle.jt_disk.specs.declared.disk.Disk.{Disk}
 use Rattle.jt_disk.specs.Disk.{IsName, file_at}
 
@@ -22,7 +22,7 @@ pub record HoldsImage (old new : Disk) (rows : List Row) : Type 0 where
   pub asked : IsOptions rows options
   pub bytes : List ℕ
   pub held : file_at new (word_of (codes "OUT") rows) ≡ Some bytes
-  pub image : IsImage sources (word_of (codes "NAME") rows) (scan_options options) bytes
+  pub image : IsImage sources (word_of (codes "NAME") rows) options bytes
 
 -- so it is where the line is one of `compile`
 abbrev pub IfCompiled : Disk → Disk → Option (Word × List Row) → Type 0

@@ -4,7 +4,8 @@ ghost use Rattle.std.specs.Prelude.{◌≡◌, ◌≢◌, ◌⊎◌, ℕ, List, 
 ghost use Rattle.clap.specs.Walk.{texts};
 ghost use Rattle.clap.specs.Words.{subcommand_of};
 ghost use Rattle.jt_args.specs.Line.{Asks, Takes, program_app};
-ghost use Rattle.jt_program.specs.Commands.{Answers, Ending, Explains, Tells, out_of};
+ghost use Rattle.jt_program.specs.Commands.{Answers, Ending, out_of};
+ghost use Rattle.jt_program.specs.Telling.{Explains, Tells};
 ghost use Rattle.jt_disk.specs.Disk.{file_at, known_of};
 ghost use Rattle.jt_disk.specs.Images.{IfCompiled, IfUpgraded};
 
@@ -12,10 +13,9 @@ use crate::disk::Disk;
 use jt_machine::Sink;
 use jt_program::perform;
 use std::alloc::Global;
-use std::io::Write;
 
 /// Does over a disk what `words` ask for, and answers the status.
-pub fn performed<W: Sink, E: Write>(
+pub fn performed<W: Sink, E: Sink>(
     alloc: Global,
     words: &[&str],
     disk: &mut Disk,
@@ -42,7 +42,7 @@ pub fn performed<W: Sink, E: Write>(
         × Answers (known_of disk.old) (known_of disk.new)
         (subcommand_of program_app (texts words.now)) e
         × Tells (W.taken out.old) (W.taken out.new) (W.failed out.new) e result
-        × Explains (E.contents errors.old) (E.contents errors.new) e result }
+        × Explains (E.taken errors.old) (E.taken errors.new) (E.failed errors.new) e result }
     ensures usage { ¬ Takes (texts words.now) → (result ≡ 2) ⊎ (result ≡ 6) }
     ensures taken { Takes (texts words.now) → result ≢ 2 }
 {

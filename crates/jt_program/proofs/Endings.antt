@@ -2,14 +2,13 @@
 use Rattle.std.proofs.Common.{◌≡◌, ◌≢◌, ◌⊎◌, Contains, inl, inr, ⊎_elim, ℕ, List, Option, None, Some, String, Global, Err, ap, codes, option_map, refl, string_bytes, subst}
 use Rattle.std.specs.Io.KnownBytes.{Keeps}
 use Rattle.clap.specs.Words.{Row, Text as Word}
-use Rattle.jt_scan.specs.declared.options.Options.{Options as ScanOptions}
+use Rattle.jt_scan.specs.declared.Options.{Options}
 use Rattle.jt_inherit.specs.Chains.{Given}
 use Rattle.jt_trees.specs.Expressions.{Text}
 use Rattle.jt_args.specs.Line.{IsAsked, IsCommand, word_of}
 use Rattle.jt_args.specs.declared.Command.{Command}
 use Rattle.jt_args.specs.declared.Command.TheVariants as command
 use Rattle.jt_args.specs.declared.Job.{Job}
-use Rattle.jt_args.specs.declared.Options.{Options}
 use Rattle.jt_args.specs.declared.JobError.{JobError}
 use Rattle.jt_args.specs.declared.JobError.TheVariants as job_error
 use Rattle.jt_budget.specs.declared.Budget.{Budget}
@@ -43,7 +42,7 @@ module _ (files : Known) where
   unread_context asks context e h = absurd h
 
   -- the file for an image fails, or memory runs out
-  pub unwritten : (after : Known) (dir name out : Text) (options : ScanOptions) (sources : Given) (e : Failure) → IsLibrary files dir sources
+  pub unwritten : (after : Known) (dir name out : Text) (options : Options) (sources : Given) (e : Failure) → IsLibrary files dir sources
       → IsUnread files (IsPath out) None (Err e) → IsUnread files (IsOfDirectory files dir) None (Err e) ⊎ Compiles files after dir name out options (Err e)
   unwritten after dir name out options sources (failure.File path) library h =
       let at : string_bytes path ≡ out = ⊎_elim (λ asked. asked) (λ none. absurd none) h.1 in

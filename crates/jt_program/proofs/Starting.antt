@@ -7,7 +7,7 @@ use Rattle.jt_sessions.specs.declared.HostError.{HostError}
 use Rattle.jt_sessions.specs.declared.HostError.TheVariants as host_error
 use Rattle.jt_args.specs.declared.Pair.{Pair}
 use Rattle.jt_turns.specs.Outcomes.{IsNotOpened as IsFull, TakesTurns as OutcomesOf}
-use Rattle.jt_turns.specs.Standing.{HasOpen, Stands}
+use Rattle.jt_turns.specs.Standing.{Stands}
 use Rattle.jt_turns.specs.declared.Start.{Start}
 use Rattle.jt_program.specs.declared.messages.Failure.{Failure}
 use Rattle.jt_program.specs.declared.messages.Failure.TheVariants as failure
@@ -64,10 +64,6 @@ module _ (files : Known) where
       let few : length before ≤ max_sessions = omega (arith, n, most) in
       let at : StopsAt files all e = record { before = before; pair = p; after = after; parts = parts; starts = ss; opened = starts; few = few; why = why } in
       at
-
-  -- as many sessions are open as there are pairs
-  pub has_open : (b : Budget) (ps : List Pair) (w : World) → AreOpen files b ps w → HasOpen (length ps) w
-  has_open b ps w (ss, starts, stands) = (budget_view b, ss, stands, as_many ps ss starts)
 
   -- the lines of sessions that are open
   pub all_lines : (b : Budget) (ps : List Pair) (w : World) (text : String Global) → AreOpen files b ps w

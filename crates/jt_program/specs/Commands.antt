@@ -1,20 +1,16 @@
 -- What each command comes to: what it reads from the files, how it ends and what it leaves.
-use Rattle.std.specs.Prelude.{◌≡◌, ◌≢◌, ◌↔◌, ◌⊎◌, ◌≤◌, ℕ, Bool, flat_map, true, false, List, [], ◌∷◌, ◌++◌, length, Option, Some, None, option_map, Result, Ok, Err, String, codes, string_bytes}
-use Rattle.std.specs.Borrow.{Bor}
+use Rattle.std.specs.Prelude.{◌≡◌, ◌≢◌, ◌↔◌, ◌⊎◌, ◌≤◌, ℕ, List, [], ◌∷◌, ◌++◌, length, Option, Some, None, Result, Ok, Err, String, codes, string_bytes}
 use Rattle.std.specs.Fmt.{decimal}
 use Rattle.std.specs.declared.alloc.Global.{Global}
-use Rattle.std.specs.Io.KnownBytes.{Appends, Keeps}
 use Rattle.clap.specs.Words.{Row, Text as Word}
-use Rattle.jt_scan.specs.declared.options.Options.{Options as ScanOptions}
+use Rattle.jt_scan.specs.declared.Options.{Options}
 use Rattle.jt_value.specs.Pairs.{Pairs}
 use Rattle.jt_inherit.specs.Chains.{Given}
 use Rattle.jt_trees.specs.Expressions.{Text}
 use Rattle.jt_value.specs.ContextView.{pairs_of}
-use Rattle.jt_value.specs.Place.{Place}
-use Rattle.jt_value.specs.declared.Fault.{Fault}
 use Rattle.jt_budget.specs.declared.Budget.{Budget}
-use Rattle.jt_image.specs.Config.{Limit, Outcome}
-use Rattle.jt_machine.specs.View.{budget_view, limit_view, place_view}
+use Rattle.jt_image.specs.Config.{Outcome}
+use Rattle.jt_machine.specs.View.{budget_view}
 use Rattle.jt_contexts.specs.Json.{IsContext}
 use Rattle.jt_sessions.specs.Turns.{World, max_sessions}
 use Rattle.jt_sessions.specs.declared.HostError.TheVariants as host_error
@@ -23,18 +19,15 @@ use Rattle.jt_args.specs.Line.{IsAsked, word_of}
 use Rattle.jt_args.specs.declared.Command.{Command}
 use Rattle.jt_args.specs.declared.Command.TheVariants as command
 use Rattle.jt_args.specs.declared.Job.{Job}
-use Rattle.jt_args.specs.declared.Options.{Options as LineOptions}
 use Rattle.jt_args.specs.declared.Pair.{Pair}
-use Rattle.jt_turns.specs.Lines.{fault_told, limit_name, session_lines}
+use Rattle.jt_turns.specs.Lines.{session_lines}
 use Rattle.jt_turns.specs.Outcomes.{AreOutcomes}
 use Rattle.jt_turns.specs.Standing.{Stands}
 use Rattle.jt_turns.specs.declared.Start.{Start}
 use Rattle.jt_program.specs.declared.messages.Failure.{Failure}
 use Rattle.jt_program.specs.declared.messages.Failure.TheVariants as failure
-use Rattle.jt_machine.specs.Sinks.{TookFront}
-use Rattle.jt_program.specs.Ending.{code_of, status_of}
 use Rattle.jt_program.specs.Files.{Known, IsLibrary, IsOfDirectory}
-use Rattle.jt_program.specs.Program.{ComesTo, IsCounted, IsImage, IsImageOf, IsNoContext, IsNoImage, IsNoUpgrade, IsUpgraded, RendersTo, scan_options}
+use Rattle.jt_program.specs.Program.{ComesTo, IsCounted, IsImage, IsImageOf, IsNoContext, IsNoImage, IsNoUpgrade, IsUpgraded, RendersTo}
 
 -- how a command ends: with the text that it prints, or with a failure
 abbrev pub Ending : Type 0
@@ -84,7 +77,7 @@ IsChecked bytes (Ok text) = (n : ℕ × ℕ) × IsCounted bytes n × (string_byt
 IsChecked bytes (Err e) = IsNoImage bytes e
 
 -- the file at a path holds an image of the entry's template, and nothing is printed; or why not: that file fails, or there is no image
-abbrev pub IsWritten : Known → Known → Text → Given → Text → ScanOptions → Ending → Type 0
+abbrev pub IsWritten : Known → Known → Text → Given → Text → Options → Ending → Type 0
 IsWritten files after out sources entry options (Ok text) =
     (string_bytes text ≡ []) × ((bytes : List ℕ) × after.holds out bytes × IsImage sources entry options bytes)
 IsWritten files after out sources entry options (Err (failure.File path)) = IsPath out (string_bytes path) × files.fails out
@@ -115,7 +108,7 @@ module _ (files : Known) where
     pub comes : ComesTo bytes pairs b e
 
   -- the template of a name, from the files of a directory, is rendered for a context
-  pub record Renders (dir name : Text) (options : ScanOptions) (context : Option (String Global)) (b : Budget) (e : Ending) : Type 0 where
+  pub record Renders (dir name : Text) (options : Options) (context : Option (String Global)) (b : Budget) (e : Ending) : Type 0 where
     pub sources : Given
     pub library : IsLibrary files dir sources
     pub pairs : Pairs
@@ -172,7 +165,7 @@ module _ (files : Known) where
 
 module _ (files after : Known) where
   -- the template of a name, from the files of a directory, is compiled to an image at a path
-  pub record Compiles (dir name out : Text) (options : ScanOptions) (e : Ending) : Type 0 where
+  pub record Compiles (dir name out : Text) (options : Options) (e : Ending) : Type 0 where
     pub sources : Given
     pub library : IsLibrary files dir sources
     pub written : IsWritten files after out sources name options e
@@ -188,17 +181,17 @@ module _ (files after : Known) where
   ChangesOnly path = (other bytes : List ℕ) → other ≢ path → (after.holds other bytes) ↔ (files.holds other bytes)
 
   -- What a command comes to, by what is known of the files before it and after it.
-  abbrev pub CommandEnds : Command → LineOptions → Budget → Ending → Type 0
+  abbrev pub CommandEnds : Command → Options → Budget → Ending → Type 0
   CommandEnds (command.Compile dir name out) o b e = ChangesOnly (string_bytes out)
       × (IsUnread files (IsOfDirectory files (string_bytes dir)) None e
-      ⊎ Compiles (string_bytes dir) (string_bytes name) (string_bytes out) (scan_options o) e)
+      ⊎ Compiles (string_bytes dir) (string_bytes name) (string_bytes out) o e)
   CommandEnds (command.Check image) o b e =
       IsUnread files (IsPath (string_bytes image)) None e ⊎ Checks files (string_bytes image) e
   CommandEnds (command.Run image context) o b e =
       IsUnread files (IsPath (string_bytes image)) context e ⊎ Runs files (string_bytes image) context b e
   CommandEnds (command.Render dir name context) o b e =
       IsUnread files (IsOfDirectory files (string_bytes dir)) context e
-      ⊎ Renders files (string_bytes dir) (string_bytes name) (scan_options o) context b e
+      ⊎ Renders files (string_bytes dir) (string_bytes name) o context b e
   CommandEnds (command.Turns sessions) o b e = TakesTurns files sessions.items b e
   CommandEnds (command.Upgrade image out) o b e = ChangesOnly (string_bytes out)
       × (IsUnread files (IsPath (string_bytes image)) None e ⊎ Upgrades (string_bytes image) (string_bytes out) e)
@@ -220,7 +213,7 @@ module _ (files after : Known) where
 
 module _ (files : Known) where
   -- the template of a name, from the files of a directory, compiles to an image
-  pub record HasImage (dir name : Text) (options : ScanOptions) : Type 0 where
+  pub record HasImage (dir name : Text) (options : Options) : Type 0 where
     pub sources : Given
     pub library : IsLibrary files dir sources
     pub bytes : List ℕ
@@ -234,8 +227,8 @@ module _ (files : Known) where
     pub upgraded : IsUpgraded bytes new
 
   -- the command has an image to write
-  abbrev pub WritesImage : Command → LineOptions → Type 0
-  WritesImage (command.Compile dir name out) o = HasImage (string_bytes dir) (string_bytes name) (scan_options o)
+  abbrev pub WritesImage : Command → Options → Type 0
+  WritesImage (command.Compile dir name out) o = HasImage (string_bytes dir) (string_bytes name) o
   WritesImage (command.Upgrade image out) o = HasUpgrade (string_bytes image)
   WritesImage c o = ⊥
 
@@ -255,44 +248,3 @@ abbrev pub IsWriting : Command → Type 0
 IsWriting (command.Compile dir name out) = Unit {0}
 IsWriting (command.Upgrade image out) = Unit {0}
 IsWriting c = ⊥
-
--- ---- what the program tells
-
--- The status, and what stands on standard output behind what stood there: the whole text of a command that is
--- done, and status 0; or, with status 5, a beginning of it, and only where the sink has failed; and nothing of one
--- that failed.
-abbrev pub Tells : Option (List ℕ) → Option (List ℕ) → Bool → Ending → ℕ → Type 0
-Tells old new sink_failed (Ok text) status =
-    ((status ≡ 0) × (sink_failed ≡ false) × Appends old new (string_bytes text))
-    ⊎ ((status ≡ 5) × (sink_failed ≡ true) × TookFront (string_bytes text) old new)
-Tells old new sink_failed (Err e) status = (status ≡ code_of (status_of e)) × Keeps old new
-
--- texts, one behind the other
-abbrev pub texts_of : List (Bor Text) → Text
-texts_of = flat_map (λ s. s.now)
-
--- the line that names a fault, with its place if it has one
-abbrev pub fault_line : Fault → Option Place → Text
-fault_line f q = codes "jt: fault " ++ fault_told f q
-
--- the line that names a number of the budget, which was spent
-abbrev pub spent_line : Limit → Text
-spent_line l = codes "jt: spent " ++ (limit_name l ++ codes "\n")
-
--- the line that names a file
-abbrev pub file_line : Text → Text
-file_line path = codes "jt: file " ++ (path ++ codes "\n")
-
--- What stands on standard error behind what stood there: the line of a fault, a spent number or a file, or a beginning of that
--- line, where no more was taken. Of the other lines nothing is said.
-abbrev pub Says : Option (List ℕ) → Option (List ℕ) → Failure → Type 0
-Says old new (failure.Fault f q) = TookFront (fault_line f (option_map place_view q)) old new
-Says old new (failure.Spent s) = TookFront (spent_line (limit_view s)) old new
-Says old new (failure.File path) = TookFront (file_line (string_bytes path)) old new
-Says old new failure.Output = TookFront (file_line (codes "-")) old new
-Says old new e = Unit {0}
-
--- what it says of a command that failed, and of one that is done whose text could not be written
-abbrev pub Explains : Option (List ℕ) → Option (List ℕ) → Ending → ℕ → Type 0
-Explains old new (Ok text) status = status ≢ 0 → Says old new failure.Output
-Explains old new (Err e) status = Says old new e

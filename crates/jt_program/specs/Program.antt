@@ -2,7 +2,7 @@
 use Rattle.std.specs.Prelude.{◌≡◌, ◌≢◌, ◌⊎◌, ℕ, List, length, Result, Ok, Err, String, Vec}
 use Rattle.std.specs.declared.alloc.Global.{Global}
 use Rattle.std.specs.Str.{IsUtf8}
-use Rattle.jt_scan.specs.declared.options.Options.{Options}
+use Rattle.jt_scan.specs.declared.Options.{Options}
 use Rattle.jt_value.specs.Pairs.{Pairs}
 use Rattle.jt_value.specs.ContextView.{pairs_of}
 use Rattle.jt_value.specs.declared.Context.{Context}
@@ -22,17 +22,12 @@ use Rattle.jt_budget.specs.declared.Budget.{Budget}
 use Rattle.jt_contexts.specs.Json.{IsContext, Holds}
 use Rattle.jt_host.specs.Rendering.{IsRefused as IsUncompiled, IsRendered}
 use Rattle.jt_contexts.specs.declared.ContextError.TheVariants as context_error
-use Rattle.jt_args.specs.declared.Options.{Options as LineOptions}
 use Rattle.jt_verify.specs.Refusing.{RefusalHolds}
 use Rattle.jt_machine.specs.View.{budget_view, outcome_view}
 use Rattle.jt_machine.specs.declared.Outcome.{Outcome}
 use Rattle.jt_machine.specs.declared.Outcome.TheVariants as outcome
 use Rattle.jt_program.specs.declared.messages.Failure.{Failure}
 use Rattle.jt_program.specs.declared.messages.Failure.TheVariants as failure
-
--- how templates are read, by what the line asks for
-abbrev pub scan_options : LineOptions → Options
-scan_options o = record { trim_blocks = o.trim_blocks; lstrip_blocks = o.lstrip_blocks; keep_trailing_newline = o.keep_trailing_newline; autoescape = o.autoescape }
 
 -- ---- images
 

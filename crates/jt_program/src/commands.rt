@@ -1,7 +1,6 @@
 //! Images, contexts and templates as the commands need them.
-ghost use Rattle.std.specs.Prelude.{◌≡◌};
 ghost use Rattle.jt_value.specs.ContextView.{pairs_of};
-ghost use Rattle.jt_program.specs.Program.{ChecksTo, ComesTo, GivesContext, GivesImage, RendersTo, UpgradesTo, VerifiesTo, scan_options as options_of};
+ghost use Rattle.jt_program.specs.Program.{ChecksTo, ComesTo, GivesContext, GivesImage, RendersTo, UpgradesTo, VerifiesTo};
 ghost use Rattle.jt_program.specs.Templates.{source_of};
 
 use crate::messages::{Failure, no_code, no_context, no_image, no_template, text_of, unrendered};
@@ -15,18 +14,6 @@ use jt_scan::Options;
 use jt_value::Context;
 use jt_verify::{Verified, VerifiedView, verify, verify_view};
 use std::alloc::Global;
-
-/// How templates are read, by what the line asks for.
-pub(crate) fn scan_options(options: jt_args::Options) -> Options
-    ensures { result ≡ options_of options }
-{
-    Options {
-        trim_blocks: options.trim_blocks,
-        lstrip_blocks: options.lstrip_blocks,
-        keep_trailing_newline: options.keep_trailing_newline,
-        autoescape: options.autoescape,
-    }
-}
 
 /// The context that the bytes of a file spell.
 pub fn context_of(alloc: Global, bytes: &[u8]) -> Result<Context, Failure>

@@ -51,37 +51,37 @@ pub enum Failure {
     #[error("{0}")]
     Usage(String),
     /// The words of the line are no texts.
-    #[error("jt: usage\n")]
+    #[error("jt: usage")]
     Words,
     /// The template ended with a fault, at its place if the image tells one.
-    #[error("jt: fault {0}\n")]
+    #[error("jt: fault {0}")]
     Fault(Fault, Option<Place>),
     /// The bytes are no image.
-    #[error("jt: refused {0}\n")]
+    #[error("jt: refused {0}")]
     Image(ImageError),
     /// The image has a flaw.
-    #[error("jt: refused {0}\n")]
+    #[error("jt: refused {0}")]
     Code(Refusal),
     /// A template does not compile.
-    #[error("jt: refused {0}\n")]
+    #[error("jt: refused {0}")]
     Template(CompileError),
     /// A file gives no context.
-    #[error("jt: refused {0}\n")]
+    #[error("jt: refused {0}")]
     Context(ContextError),
     /// The budget was spent.
-    #[error("jt: spent {0}\n")]
+    #[error("jt: spent {0}")]
     Spent(Spent),
     /// No session more is opened.
-    #[error("jt: refused {0}\n")]
+    #[error("jt: refused {0}")]
     Host(HostError),
     /// The file at this path could not be read or written.
-    #[error("jt: file {0}\n")]
+    #[error("jt: file {0}")]
     File(String),
     /// The text could not be printed.
-    #[error("jt: file -\n")]
+    #[error("jt: file -")]
     Output,
     /// A growth was refused.
-    #[error("jt: no memory\n")]
+    #[error("jt: no memory")]
     NoMemory,
 }
 

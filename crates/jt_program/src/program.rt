@@ -6,14 +6,13 @@ ghost use Rattle.clap.specs.Walk.{texts};
 ghost use Rattle.clap.specs.Words.{subcommand_of};
 ghost use Rattle.jt_value.specs.ContextView.{pairs_of};
 ghost use Rattle.jt_args.specs.Line.{Takes, Asks, program_app};
-ghost use Rattle.jt_program.specs.Commands.{Answers, ChangesOnly, Checks, Compiles, Ending, Explains, HasImage, HasUpgrade, IsContextAt, IsOfContext, IsPath, IsUnread, IsWriting, JobEnds, LineEnds, LineWrites, Renders, Runs, Tells, Upgrades, WritesImage, out_of};
+ghost use Rattle.jt_program.specs.Commands.{Answers, ChangesOnly, Checks, Compiles, Ending, HasImage, HasUpgrade, IsContextAt, IsOfContext, IsPath, IsUnread, IsWriting, JobEnds, LineEnds, LineWrites, Renders, Runs, Upgrades, WritesImage, out_of};
 ghost use Rattle.jt_program.specs.Ending.{IfUntaken, status_of};
 ghost use Rattle.jt_program.specs.Files.{AreSources, IsLibrary, IsOfDirectory, path_in};
+ghost use Rattle.jt_program.specs.Telling.{Explains, Tells, TookUnlessFailed, memory_line};
 ghost use Rattle.jt_program.specs.Templates.{source_of};
 
-use crate::commands::{
-    context_of, counts_of, image_of, render_text, run_image, scan_options, upgraded,
-};
+use crate::commands::{context_of, counts_of, image_of, render_text, run_image, upgraded};
 use crate::files::{FileError, Files};
 use crate::messages::{Failure, Status, no_file};
 use crate::reports::report;
@@ -25,14 +24,14 @@ use jt_machine::{Sink, put_all};
 use jt_scan::Options;
 use jt_value::Context;
 use std::alloc::Global;
-use std::io::Write;
 
 /// Does what `words`, the line without the program's name, ask for, and answers the status:
 /// 0 done, 1 fault, 2 usage, 3 refused, 4 spent, 5 file, 6 no memory.
 ///
 /// The text goes to `out`, with nothing added. Where the status is not 0 nothing stands there,
-/// or a beginning of the text where `out` failed, and `errors` says why: by the usage, or by one line.
-pub fn perform<F: Files, W: Sink, E: Write>(
+/// or a beginning of the text where `out` failed, and `errors` says why: by the usage, or by one line, or by a beginning of that where
+/// it failed.
+pub fn perform<F: Files, W: Sink, E: Sink>(
     alloc: Global,
     words: &[&str],
     files: &mut F,
@@ -51,7 +50,11 @@ pub fn perform<F: Files, W: Sink, E: Write>(
         × Answers (F.known files.old) (F.known files.new)
         (subcommand_of program_app (texts words.now)) e
         × Tells (W.taken out.old) (W.taken out.new) (W.failed out.new) e result
-        × Explains (E.contents errors.old) (E.contents errors.new) e result }
+        × Explains (E.taken errors.old) (E.taken errors.new) (E.failed errors.new) e result }
+    // where it is 6 want of memory is said by its line
+    ensures memory { result ≡ 6
+        → TookUnlessFailed memory_line (E.taken errors.old) (E.taken errors.new)
+        (E.failed errors.new) }
     // where it is 0 nothing was added to standard error
     ensures silent { result ≡ 0 → errors.new ≡ errors.old }
     // where it is neither 0 nor 5 standard output is as it was
@@ -77,11 +80,12 @@ pub fn perform<F: Files, W: Sink, E: Write>(
 }
 
 /// Prints the text of a command that is done, and answers the status.
-fn print<W: Sink, E: Write>(text: String, out: &mut W, errors: &mut E) -> u8
+fn print<W: Sink, E: Sink>(text: String, out: &mut W, errors: &mut E) -> u8
     ensures told { Tells (W.taken out.old) (W.taken out.new) (W.failed out.new) (Ok text) result }
     ensures failed_before { W.failed out.old ≡ true → out.new ≡ out.old }
     ensures silent { result ≡ 0 → errors.new ≡ errors.old }
-    ensures explained { Explains (E.contents errors.old) (E.contents errors.new) (Ok text) result }
+    ensures explained { Explains (E.taken errors.old) (E.taken errors.new) (E.failed errors.new)
+        (Ok text) result }
 {
     match put_all(out, text.as_bytes()) {
         Ok(()) => Status::Done.code(),
@@ -127,7 +131,6 @@ fn carried_out<F: Files>(alloc: Global, job: Job, files: &mut F) -> Result<Strin
         budget,
         slice,
     } = job;
-    let options = scan_options(options);
     match command {
         Command::Compile { dir, name, out } => compile_to(alloc, files, dir, &name, options, out),
         Command::Check { image } => check_at(alloc, files, image),

@@ -1,114 +1,151 @@
 //! What the program says on standard error.
-ghost use Rattle.std.specs.Prelude.{◌≡◌, ◌<◌, ◌≤◌, ◌++◌, [], codes, length, option_map, take, IfOk, OnErr, OnOk};
-ghost use Rattle.std.specs.Io.KnownBytes.{Appends};
+ghost use Rattle.std.specs.Prelude.{◌≡◌, ◌++◌, codes, option_map};
 ghost use Rattle.jt_value.specs.FaultText.{fault_text};
-ghost use Rattle.jt_machine.specs.Sinks.{TookFront};
 ghost use Rattle.jt_machine.specs.View.{place_view};
-ghost use Rattle.jt_program.specs.Commands.{fault_line, texts_of, Says};
+ghost use Rattle.jt_turns.specs.Shown.{escape, one_line, shown};
 ghost use Rattle.jt_program.specs.Ending.{code_of, status_of};
+ghost use Rattle.jt_program.specs.Telling.{Puts, Says, TookUnlessFailed, fault_line, texts_of};
 
 use crate::messages::Failure;
 use itoa::Buffer;
-use jt_machine::{Place, SinkFailed};
-use jt_turns::limit_text;
+use jt_machine::{Place, Sink, SinkFailed, put_all};
+use jt_turns::{hex_digits, limit_text};
 use jt_value::Fault;
-use std::io::Write;
+use std::fmt;
+use std::fmt::Write;
 
-/// Says on `errors` what went wrong, and answers the status.
-pub fn report<E: Write>(errors: &mut E, failure: &Failure) -> u8
+/// Says on `errors` what went wrong, and answers the status. Where they take no more of it, the status alone says how the run ended.
+pub fn report<E: Sink>(errors: &mut E, failure: &Failure) -> u8
     ensures status { result ≡ code_of (status_of failure.now) }
-    // a fault, a spent number or a file is named by a line, and nothing else is said
-    ensures said { Says (E.contents errors.old) (E.contents errors.new) failure.now }
+    // a fault, a spent number, a file and want of memory are named by a line, and nothing else is said
+    ensures said { Says (E.taken errors.old) (E.taken errors.new) (E.failed errors.new)
+        failure.now }
 {
     match failure {
+        Failure::Usage(text) => say_text(errors, text.as_str()),
+        Failure::Words => say(errors, &["jt: usage"]),
         Failure::Fault(fault, place) => say_fault(errors, *fault, place.as_ref()),
-        Failure::Spent(spent) => say(errors, "jt: spent ", limit_text(*spent)),
-        Failure::File(path) => say(errors, "jt: file ", path.as_str()),
-        Failure::Output => say(errors, "jt: file ", "-"),
-        other => {
-            let _ = write!(errors, "{other}");
-        }
+        Failure::Spent(spent) => say(errors, &["jt: spent ", limit_text(*spent)]),
+        Failure::File(path) => say(errors, &["jt: file ", path.as_str()]),
+        Failure::Output => say(errors, &["jt: file ", "-"]),
+        Failure::NoMemory => say(errors, &["jt: no memory"]),
+        refusal => say_refusal(errors, refusal),
     }
     failure.status().code()
 }
 
+/// Adds a text to `errors` as it is.
+fn say_text<E: Sink>(errors: &mut E, text: &str)
+    ensures { TookUnlessFailed text.now (E.taken errors.old) (E.taken errors.new)
+        (E.failed errors.new) }
+{
+    let _ = put(errors, text.as_bytes());
+}
+
 /// Adds the line of a fault to `errors`, with its place if it has one.
-fn say_fault<E: Write>(errors: &mut E, fault: Fault, place: Option<&Place>)
-    ensures { TookFront (fault_line fault (option_map (λ q. place_view q.now) place.entry))
-        (E.contents errors.old) (E.contents errors.new) }
+fn say_fault<E: Sink>(errors: &mut E, fault: Fault, place: Option<&Place>)
+    ensures { TookUnlessFailed (fault_line fault (option_map (λ q. place_view q.now) place.entry))
+        (E.taken errors.old) (E.taken errors.new) (E.failed errors.new) }
 {
     let name = fault_name(fault);
     match place {
-        None => say(errors, "jt: fault ", name),
+        None => say(errors, &["jt: fault ", name]),
         Some(place) => {
             let mut buffer = Buffer::new();
-            say_place(
-                errors,
-                name,
-                place.template.as_str(),
-                buffer.format(place.line),
-            );
+            let line = buffer.format(place.line);
+            say_place(errors, name, place.template.as_str(), line);
         }
     }
 }
 
 /// Adds the line of a fault at a place to `errors`.
-fn say_place<E: Write>(errors: &mut E, name: &str, template: &str, line: &str)
-    ensures { TookFront (codes "jt: fault " ++ (name.now ++ (codes " in " ++ (template.now
-        ++ (codes " line " ++ (line.now ++ codes "\n")))))) (E.contents errors.old)
-        (E.contents errors.new) }
+fn say_place<E: Sink>(errors: &mut E, name: &str, template: &str, line: &str)
+    ensures { TookUnlessFailed (one_line (codes "jt: fault " ++ (name.now ++ (codes " in " ++
+        (template.now ++ (codes " line " ++ line.now)))))) (E.taken errors.old)
+        (E.taken errors.new) (E.failed errors.new) }
 {
-    let _ = add_parts(
+    say(
         errors,
-        &["jt: fault ", name, " in ", template, " line ", line, "\n"],
+        &["jt: fault ", name, " in ", template, " line ", line],
     );
 }
 
-/// Adds a line of two parts to `errors`. Where they take no more of it, the status alone says how the run ended.
-fn say<E: Write>(errors: &mut E, head: &str, name: &str)
-    ensures { TookFront (head.now ++ (name.now ++ codes "\n")) (E.contents errors.old)
-        (E.contents errors.new) }
+/// Adds the line of texts, one behind the other, to `errors`.
+fn say<E: Sink>(errors: &mut E, parts: &[&str])
+    ensures { TookUnlessFailed (one_line (texts_of parts.now)) (E.taken errors.old)
+        (E.taken errors.new) (E.failed errors.new) }
 {
-    let _ = add_parts(errors, &[head, name, "\n"]);
+    let _ = put_line(errors, parts);
 }
 
-/// Adds texts to `errors`, one behind the other, or a beginning of them.
-fn add_parts<E: Write>(errors: &mut E, parts: &[&str]) -> Result<(), SinkFailed>
-    ensures { TookFront (texts_of parts.now) (E.contents errors.old)
-        (E.contents errors.new) }
+/// Adds the line of a refusal to `errors`.
+fn say_refusal<E: Sink>(errors: &mut E, refusal: &Failure) {
+    let mut line = Line { errors };
+    if write!(line, "{refusal}").is_ok() {
+        let _ = put_all(line.errors, b"\n");
+    }
+}
+
+/// What is formatted goes into a sink as a line shows it.
+#[derive(Drop)]
+struct Line<'a, E> {
+    errors: &'a mut E,
+}
+
+impl<E: Sink> Write for Line<'_, E> {
+    fn write_str(&mut self, text: &str) -> fmt::Result {
+        match put_shown(self.errors, text.as_bytes()) {
+            Ok(()) => Ok(()),
+            Err(_) => Err(fmt::Error),
+        }
+    }
+}
+
+/// Puts the line of texts, one behind the other.
+fn put_line<E: Sink>(errors: &mut E, parts: &[&str]) -> Result<(), SinkFailed>
+    ensures { Puts (one_line (texts_of parts.now)) (E.taken errors.old) (E.taken errors.new)
+        (E.failed errors.new) result }
 {
     for part in parts {
-        add_all(errors, part.as_bytes())?;
+        put_shown(errors, part.as_bytes())?;
     }
-    Ok(())
+    put(errors, b"\n")
 }
 
-/// Adds all of the bytes to `errors`, or those that they take before they take none.
-fn add_all<E: Write>(errors: &mut E, bytes: &[u8]) -> Result<(), SinkFailed>
-    ensures all { OnOk result (Appends (E.contents errors.old) (E.contents errors.new) bytes.now) }
-    ensures front { OnErr result
-        (TookFront bytes.now (E.contents errors.old) (E.contents errors.new)) }
+/// Puts a text as a line shows it.
+fn put_shown<E: Sink>(errors: &mut E, text: &[u8]) -> Result<(), SinkFailed>
+    ensures { Puts (shown text.now) (E.taken errors.old) (E.taken errors.new)
+        (E.failed errors.new) result }
 {
-    let mut rest = bytes;
-    'pieces: while !rest.is_empty() {
-        let count = add(errors, rest)?;
-        rest = &rest[count..];
+    // All before `plain` is put. What lies between it and `at` is shown as it is.
+    let mut plain = 0;
+    for (at, byte) in text.iter().enumerate() {
+        if byte.is_ascii_control() {
+            put(errors, &text[plain..at])?;
+            put_escape(errors, *byte)?;
+            plain = at + 1;
+        }
     }
-    Ok(())
+    put(errors, &text[plain..])
 }
 
-/// Adds a beginning of the bytes to `errors` and answers its length, unless they take none.
-fn add<E: Write>(errors: &mut E, bytes: &[u8]) -> Result<usize, SinkFailed>
-    ensures some { IfOk result (λ n. 0 < n) }
-    ensures within { IfOk result (λ n. n ≤ length bytes.now) }
-    ensures took { IfOk result
-        (λ n. Appends (E.contents errors.old) (E.contents errors.new) (take n bytes.now)) }
-    ensures nothing { OnErr result (Appends (E.contents errors.old) (E.contents errors.new) []) }
+/// Puts what is shown for a control character.
+fn put_escape<E: Sink>(errors: &mut E, byte: u8) -> Result<(), SinkFailed>
+    ensures { Puts (escape byte) (E.taken errors.old) (E.taken errors.new) (E.failed errors.new)
+        result }
 {
-    match errors.write(bytes) {
-        Ok(count) if count > 0 => Ok(count),
-        _ => Err(SinkFailed),
-    }
+    let (high, low) = hex_digits(byte);
+    put(errors, b"\\x")?;
+    put(errors, high.as_bytes())?;
+    put(errors, low.as_bytes())
+}
+
+/// Puts bytes as they are.
+fn put<E: Sink>(errors: &mut E, bytes: &[u8]) -> Result<(), SinkFailed>
+    ensures { Puts bytes.now (E.taken errors.old) (E.taken errors.new) (E.failed errors.new)
+        result }
+{
+    put_all(errors, bytes)
 }
 
 /// The code and the name of a fault.

@@ -1,6 +1,7 @@
 //! Images that run in turns.
 ghost use Rattle.std.specs.Prelude.{◌++◌, ◌∷◌, [], List, IfOk, IfErr, OnOk};
 ghost use Rattle.jt_args.specs.declared.Pair.{Pair as LinePair};
+ghost use Rattle.jt_turns.specs.Worlds.{world_of};
 ghost use Rattle.jt_program.specs.Commands.{AreOpen, IsNoStart, IsNotOpened, IsStart, TakesTurns};
 
 use crate::commands::verified_image;
@@ -9,8 +10,7 @@ use crate::messages::{Failure, no_session};
 use crate::program::{bytes_at, context_at};
 use jt_args::Pair;
 use jt_budget::Budget;
-use jt_sessions::Host;
-use jt_turns::{Start, open_session, take_turns};
+use jt_turns::{Sessions, Start};
 use std::alloc::Global;
 
 /// The lines of the images at paths, which run for the contexts of files in turns of so many instructions. Pair by pair the files are
@@ -24,12 +24,11 @@ pub(crate) fn run_turns<F: Files>(
 ) -> Result<String, Failure>
     ensures { TakesTurns (F.known files.now) pairs.items budget result }
 {
-    let count = pairs.len() as u64;
-    let mut host = Host::new(alloc);
+    let mut sessions = Sessions::new(alloc);
     for pair in pairs {
-        open_pair(alloc, files, &mut host, pair, budget)?;
+        open_pair(alloc, files, &mut sessions, pair, budget)?;
     }
-    match take_turns(alloc, host, count, slice) {
+    match sessions.run(alloc, slice) {
         Ok(lines) => Ok(lines),
         Err(_) => Err(Failure::NoMemory),
     }
@@ -39,19 +38,19 @@ pub(crate) fn run_turns<F: Files>(
 fn open_pair<F: Files>(
     alloc: Global,
     files: &F,
-    host: &mut Host,
+    sessions: &mut Sessions,
     pair: Pair,
     budget: Budget,
 ) -> Result<(), Failure>
     ensures opened { OnOk result ((ps : List LinePair)
-        → AreOpen (F.known files.now) budget ps host.old
-        → AreOpen (F.known files.now) budget (ps ++ pair ∷ []) host.new) }
+        → AreOpen (F.known files.now) budget ps (world_of sessions.old)
+        → AreOpen (F.known files.now) budget (ps ++ pair ∷ []) (world_of sessions.new)) }
     ensures refused { IfErr result (λ e. (ps : List LinePair)
-        → AreOpen (F.known files.now) budget ps host.old
+        → AreOpen (F.known files.now) budget ps (world_of sessions.old)
         → IsNotOpened (F.known files.now) ps pair e) }
 {
     let start = start_at(alloc, files, pair)?;
-    match open_session(host, start, budget) {
+    match sessions.open(start, budget) {
         Ok(()) => Ok(()),
         Err(error) => Err(no_session(error)),
     }

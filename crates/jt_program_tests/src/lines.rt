@@ -37,7 +37,7 @@ fn status(
     line: &str,
     disk: &mut Disk,
     out: &mut IoSink<Flaky>,
-    errors: &mut Flaky,
+    errors: &mut IoSink<Flaky>,
 ) -> Result<u8, Fail> {
     let mut words = Vec::new(alloc);
     for word in line.split_whitespace() {
@@ -46,33 +46,42 @@ fn status(
     Ok(performed(alloc, &words, disk, out, errors))
 }
 
-/// The statuses of two lines over a disk of two templates, what a sink took of both that fails behind `left` bytes,
+/// The statuses of two lines over a disk of three templates and a context, what a sink took of both that fails behind `left` bytes,
 /// and what was said.
 fn ended(alloc: Global, left: usize, lines: &str) -> Result<String, Fail> {
     let mut disk = Disk::new(alloc);
     disk.put("d/a", b"x{{ 1 }}")?;
     disk.put("d/e/b", b"y")?;
+    disk.put("d/faulty", b"{{ no.x }}")?;
+    disk.put("none", b"{}")?;
     let taken = String::new(alloc);
     let mut out = IoSink::new(Flaky { taken, left });
-    let mut errors = Flaky {
+    let mut errors = IoSink::new(Flaky {
         taken: String::new(alloc),
         left: usize::MAX,
-    };
+    });
     let (line, behind) = lines.split_once(" ; ").ok_or("a row has one line")?;
     let first = status(alloc, line, &mut disk, &mut out, &mut errors)?;
     let second = status(alloc, behind, &mut disk, &mut out, &mut errors)?;
     let printed = out.into_inner().taken;
-    Ok(format!(in alloc; "{first} {second} [{printed}][{}]", errors.taken)?)
+    let said = errors.into_inner().taken;
+    Ok(format!(in alloc; "{first} {second} [{printed}][{said}]")?)
 }
 
 /// Rows `bytes taken: line ; line => statuses [printed][said]`.
-const ROWS: &str = r"9: compile d a out ; run out => 0 0 [x1][]
+const ROWS: &str = "9: compile d a out ; run out => 0 0 [x1][]
     9: compile d/e b out ; run out => 0 0 [y][]
     9: compile d b out ; run out => 3 5 [][jt: refused C1 Missing/jt: file out/]
     9: compile d a d/a ; run out => 0 5 [][jt: file out/]
     9: check d/a ; run out => 3 5 [][jt: refused I1 BadMagic/jt: file out/]
+    9: render d faulty ; turns => 1 2 [][jt: fault F2 Undefined in faulty line 1/jt: usage/]
+    9: compile d a out ; run out --fuel 1 => 0 4 [][jt: spent Fuel/]
+    9: compile d a out ; upgrade out new => 0 0 [][]
+    99: compile d a out ; turns out none => 0 0 [1 text 2:x1/][]
+    99: compile d a out ; check out => 0 0 [ok units=1 instructions=4/][]
     9: run d/b ; run memory => 5 6 [][jt: file d/b/jt: no memory/]
     9: compile memory a out ; run out => 3 5 [][jt: refused C1 Missing/jt: file out/]
+    9: run a\u{1b}b ; run \u{7f} => 5 5 [][jt: file a\\x1bb/jt: file \\x7f/]
     2: render d a ; render d/e b => 0 5 [x1][jt: file -/]
     1: render d a ; render d/e b => 5 5 [x][jt: file -/jt: file -/]";
 

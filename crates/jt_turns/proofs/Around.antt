@@ -7,7 +7,7 @@ use Rattle.jt_sessions.specs.Turns.{World, TurnRefused}
 use Rattle.jt_sessions.specs.declared.HostError.{HostError}
 use Rattle.jt_sessions.specs.declared.HostError.TheVariants as host_error
 use Rattle.jt_turns.specs.Standing.{AreNumbered, HadTurn, HaveMoved, IsNumbered, fuel_left, have_ended, progress_of}
-use Rattle.jt_turns.proofs.Sessions.{false_true}
+use Rattle.jt_turns.proofs.Running.{false_true}
 use Rattle.jt_turns.proofs.Turning.{had_turn, moved_length, moved_numbered, moved_turn, numbered_found, turn_ends, turn_refused, turn_takes, turn_takes_some}
 
 -- a round as far as the sessions before the place: from the old sessions to those of the world

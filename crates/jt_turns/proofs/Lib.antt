@@ -1,5 +1,6 @@
 mod Around
 mod Fuel
 mod Opening
-mod Sessions
+mod Running
 mod Turning
+pub mod Escapes

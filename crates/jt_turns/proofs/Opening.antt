@@ -1,5 +1,5 @@
 -- A session more, or why there is none.
-use Rattle.std.proofs.Common.{◌≡◌, ◌∙◌, ℕ, ◌+◌, ◌<◌, ◌≤◌, Bool, true, false, cond, List, [], ◌∷◌, ◌++◌, length, length-append, Option, Some, None, ap, arith, refl, sym, subst}
+use Rattle.std.proofs.Common.{◌≡◌, ◌∙◌, ℕ, zero, suc, ◌+◌, ◌<◌, ◌≤◌, Bool, true, false, cond, List, [], ◌∷◌, ◌++◌, length, length-append, Option, Some, None, ap, arith, refl, sym, subst}
 use Rattle.std.specs.Prelude.{nat_le}
 use Rattle.std.proofs.lemmas.Bool.Decides.{nat_tests}
 use Rattle.jt_value.specs.Pairs.{Pairs}
@@ -12,9 +12,10 @@ use Rattle.jt_sessions.specs.declared.HostError.TheVariants as host_error
 use Rattle.jt_sessions.specs.Turns.{World, after, bar, max_id, max_sessions, opened, opening, opening_reply, opens, reply, OpenRefused}
 use Rattle.jt_turns.specs.declared.turns.Start.{Start}
 use Rattle.jt_turns.specs.Outcomes.{IsNotOpened}
-use Rattle.jt_turns.specs.Standing.{AreSessions, HasOpen, IsNumbered, IsSession, Stands}
-use Rattle.jt_turns.proofs.Sessions.{one_session_more}
-use Rattle.jt_turns.proofs.Turning.{as_many, not_advanced, numbered_of}
+use Rattle.jt_turns.specs.Numbering.{ids_from, ids_of}
+use Rattle.jt_turns.specs.Standing.{AreNumbered, AreSessions, IsNumbered, IsSession, Stands}
+use Rattle.jt_turns.proofs.Running.{one_session_more}
+use Rattle.jt_turns.proofs.Turning.{as_many, not_advanced}
 
 -- the world with one session more
 one_more : World → Session → World
@@ -36,6 +37,14 @@ opened_world w v k x b i is told = go (bar w) is told
     go : (o : Option HostError) → v ≡ opening o (started k x b) w → opening_reply o w ≡ opened i → v ≡ one_more w (started k x b)
     go None e r = e
     go (Some h) e r = absurd (cc)
+
+-- the id that was answered
+opened_id : (w : World) (k : Code) (x : Pairs) (b : Budget) (i : ℕ) → reply (opens k x b) w ≡ opened i → w.last + 1 ≡ i
+opened_id w k x b i told = go (bar w) told
+  where
+    go : (o : Option HostError) → opening_reply o w ≡ opened i → w.last + 1 ≡ i
+    go None r = cc
+    go (Some h) r = absurd (cc)
 
 full_at : (n m : ℕ) (e : HostError) → cond (nat_le max_sessions n) (Some host_error.Full) (cond (nat_le max_id m) (Some host_error.NoId) None) ≡ Some e → m ≡ n
     → (e ≡ host_error.Full) × (max_sessions < n + 1)
@@ -71,9 +80,6 @@ module _ (b : Budget) where
       AreAll : List (ℕ × Session) → Type 0
       AreAll es = AreSessions b 1 (ss ++ s ∷ []) es
 
-  pub standing_are_numbered : (ss : List Start) (w : World) → Stands b ss w → IsNumbered (length ss) w.sessions
-  standing_are_numbered ss w h = (as_many b 1 ss w.sessions h.1, numbered_of b 1 ss w.sessions h.1)
-
   -- an image that the host has no place for
   pub refused_start : (ss : List Start) (w : World) (e : HostError) → Stands b ss w → OpenRefused w e → IsNotOpened ss e
   refused_start ss w host_error.NoMemory h why = tt
@@ -89,6 +95,47 @@ module _ (b : Budget) where
       let full = full_at (length w.sessions) w.last host_error.NoSession why (h.0 ∙ sym (as_many b 1 ss w.sessions h.1)) in
       let no = full.0 in absurd (cc)
 
--- the sessions of images that are open are numbered from 1
-pub open_are_numbered : (n : ℕ) (w : World) → HasOpen n w → IsNumbered n w.sessions
-open_are_numbered n w (b, ss, stands, many) = subst (λ (k : ℕ). IsNumbered k w.sessions) many (standing_are_numbered b ss w stands)
+-- ---- ids, one after another
+
+-- sessions whose ids these are
+ids_are_numbered : (i n : ℕ) (es : List (ℕ × Session)) → ids_of es ≡ ids_from i n → (length es ≡ n) × AreNumbered i es
+ids_are_numbered i zero [] e = (refl, tt)
+ids_are_numbered i zero (x ∷ es) e = absurd (cc)
+ids_are_numbered i (suc n) [] e = absurd (cc)
+ids_are_numbered i (suc n) (x ∷ es) e =
+    let first : x.0 ≡ i = cc in
+    let others : ids_of es ≡ ids_from (i + 1) n = cc in
+    let rest = ids_are_numbered (i + 1) n es others in
+    (ap suc rest.0, (first, rest.1))
+
+pub are_numbered : (n : ℕ) (es : List (ℕ × Session)) → ids_of es ≡ ids_from 1 n → IsNumbered n es
+are_numbered n es e = ids_are_numbered 1 n es e
+
+one_from_more : (i n : ℕ) → ids_from i n ++ (i + n) ∷ [] ≡ ids_from i (suc n)
+one_from_more i zero = let same : i + 0 ≡ i = omega arith in ap (λ (j : ℕ). j ∷ []) same
+one_from_more i (suc n) =
+    let next : i + suc n ≡ (i + 1) + n = omega arith in
+    ap (λ (js : List ℕ). i ∷ js) (ap (λ (j : ℕ). ids_from (i + 1) n ++ j ∷ []) next ∙ one_from_more (i + 1) n)
+
+ids_behind : (es : List (ℕ × Session)) (j : ℕ) (s : Session) → ids_of (es ++ (j, s) ∷ []) ≡ ids_of es ++ j ∷ []
+ids_behind [] j s = refl
+ids_behind (e ∷ es) j s = ap (λ (js : List ℕ). e.0 ∷ js) (ids_behind es j s)
+
+-- the world after one session more: its id is the next one
+pub record NextId (v : World) (i : ℕ) : Type 0 where
+  pub numbered : ids_of v.sessions ≡ ids_from 1 i
+  pub last : v.last ≡ i
+
+pub next_id : (w v : World) (k : Code) (x : Pairs) (b : Budget) (i n : ℕ) → ids_of w.sessions ≡ ids_from 1 n → w.last ≡ n
+    → v ≡ after (opens k x b) w → reply (opens k x b) w ≡ opened i → NextId v i
+unfolding one_more
+next_id w v k x b i n numbered last is told =
+    let s = started k x b in
+    let new = opened_world w v k x b i is told in
+    let id : w.last + 1 ≡ i = opened_id w k x b i told in
+    let after_last : 1 + n ≡ w.last + 1 = omega (arith, last) in
+    let count : suc n ≡ i = omega (arith, last, id) in
+    let behind : ids_of (w.sessions ++ (w.last + 1, s) ∷ []) ≡ ids_from 1 (suc n) =
+    ids_behind w.sessions (w.last + 1) s ∙ (ap (λ (js : List ℕ). js ++ (w.last + 1) ∷ []) numbered
+    ∙ (ap (λ (j : ℕ). ids_from 1 n ++ j ∷ []) (sym after_last) ∙ one_from_more 1 n)) in
+    rw new (record { numbered = behind ∙ ap (ids_from 1) count; last = id })

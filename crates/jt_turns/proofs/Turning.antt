@@ -16,7 +16,7 @@ use Rattle.jt_turns.specs.Lines.{session_line, session_lines}
 use Rattle.jt_turns.specs.Outcomes.{AreOutcomes}
 use Rattle.jt_turns.specs.Standing.{AreNumbered, AreSessions, HadTurn, HaveMoved, IsNumbered, IsSession, fuel_left, have_ended, outcomes}
 use Rattle.jt_turns.proofs.Fuel.{less, no_more}
-use Rattle.jt_turns.proofs.Sessions.{false_true, moved_session, replaced_fuel, run_of}
+use Rattle.jt_turns.proofs.Running.{false_true, moved_session, replaced_fuel, run_of}
 
 -- ---- sessions that move
 
@@ -247,12 +247,6 @@ module _ (b : Budget) where
   as_many i [] (e ∷ es) h = absurd h
   as_many i (s ∷ ss) [] h = absurd h
   as_many i (s ∷ ss) (e ∷ es) h = ap suc (as_many (i + 1) ss es h.2)
-
-  pub numbered_of : (i : ℕ) (ss : List Start) (es : List (ℕ × Session)) → AreSessions b i ss es → AreNumbered i es
-  numbered_of i [] [] h = tt
-  numbered_of i [] (e ∷ es) h = absurd h
-  numbered_of i (s ∷ ss) [] h = absurd h
-  numbered_of i (s ∷ ss) (e ∷ es) h = (h.0, numbered_of (i + 1) ss es h.2)
 
   -- sessions that moved are still those of the images
   pub still_sessions : SessionLaws → (i : ℕ) (ss : List Start) (ds es : List (ℕ × Session)) → AreSessions b i ss ds → HaveMoved ds es → AreSessions b i ss es

@@ -25,10 +25,6 @@ module _ (b : Budget) where
   abbrev pub Stands : List Start → World → Type 0
   Stands ss w = (w.last ≡ length ss) × AreSessions 1 ss w.sessions × (length ss ≤ max_sessions)
 
--- a host has so many sessions open, of some images
-abbrev pub HasOpen : ℕ → World → Type 0
-HasOpen n w = (b : Budget) × (ss : List Start) × Stands b ss w × (length ss ≡ n)
-
 -- the ids of sessions, one after another
 abbrev pub AreNumbered : ℕ → List (ℕ × Session) → Type 0
 AreNumbered i [] = Unit {0}

@@ -3,7 +3,9 @@
 
 mod lines;
 mod rounds;
+mod shown;
 mod turns;
 
 pub use lines::limit_text;
-pub use turns::{Start, open_session, take_turns};
+pub use shown::hex_digits;
+pub use turns::{Sessions, Start};

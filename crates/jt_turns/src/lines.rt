@@ -4,6 +4,7 @@ ghost use Rattle.jt_machine.specs.View.{limit_view, outcome_view};
 ghost use Rattle.jt_turns.specs.Lines.{limit_name, session_line, session_lines};
 ghost use Rattle.jt_turns.specs.Standing.{IsNumbered, OutcomeAt, have_ended, outcomes};
 
+use crate::shown::line_of;
 use jt_budget::Spent;
 use jt_machine::Outcome;
 use jt_sessions::Host;
@@ -49,11 +50,15 @@ fn line(alloc: Global, id: u64, outcome: &Outcome) -> Result<String, AllocError>
             let size = text.len();
             format!(in alloc; "{id} text {size}:{text}\n")
         }
-        Outcome::Fault(fault, None) => format!(in alloc; "{id} fault {fault}\n"),
+        Outcome::Fault(fault, None) => {
+            let told = format!(in alloc; "{id} fault {fault}")?;
+            line_of(alloc, &told)
+        }
         Outcome::Fault(fault, Some(place)) => {
             let template = place.template.as_str();
             let line = place.line;
-            format!(in alloc; "{id} fault {fault} in {template} line {line}\n")
+            let told = format!(in alloc; "{id} fault {fault} in {template} line {line}")?;
+            line_of(alloc, &told)
         }
         Outcome::Spent(spent) => {
             let limit = limit_text(*spent);

@@ -1,9 +1,6 @@
 //! Images that run in turns.
-ghost use Rattle.std.specs.Prelude.{◌≡◌, ◌++◌, ◌∷◌, [], List, IfErr, OnOk};
-ghost use Rattle.jt_image.specs.Config.{Budget as Limits};
-ghost use Rattle.jt_machine.specs.View.{budget_view};
-ghost use Rattle.jt_turns.specs.Outcomes.{IsNotOpened, TakesTurns};
-ghost use Rattle.jt_turns.specs.Standing.{HasOpen, Stands};
+ghost use Rattle.std.specs.Prelude.{◌≡◌};
+ghost use Rattle.jt_turns.specs.Numbering.{ids_from, ids_of};
 
 use crate::lines::lines;
 use crate::rounds::run_all;
@@ -21,45 +18,74 @@ pub struct Start {
     pub context: Context,
 }
 
-/// Opens one session more on a host: that of an image for its context, under the budget.
-///
-/// # Errors
-///
-/// `Full` where 64 are open; `NoMemory` where a growth was refused.
-pub fn open_session(host: &mut Host, start: Start, budget: Budget) -> Result<(), HostError>
-    ensures opened { OnOk result ((ss : List Start)
-        → Stands (budget_view budget) ss host.old
-        → Stands (budget_view budget) (ss ++ start ∷ []) host.new) }
-    ensures refused { IfErr result (λ e. (ss : List Start)
-        → Stands (budget_view budget) ss host.old
-        → IsNotOpened ss e) }
-{
-    let Start { code, context } = start;
-    match host.open(code, &context, budget) {
-        Ok(_) => Ok(()),
-        Err((_, error)) => Err(error),
-    }
+/// Sessions of images, which take turns. Their ids are 1, 2, 3 and so on, and none is closed.
+#[derive(Drop)]
+pub struct Sessions {
+    host: Host,
+    count: u64,
+    ghost numbered: { ids_of host.sessions ≡ ids_from 1 count },
+    ghost last: { host.last ≡ count },
 }
 
-/// Runs the sessions 1 to `count` of a host side by side, in turns of `slice` instructions, or of one where that is 0; and answers the
-/// line of each, in their order: `1 text 5:Hello`, with the number of the text's bytes, `2 fault F2 Undefined` or `3 spent Fuel`.
-///
-/// # Errors
-///
-/// `NoMemory` where a growth was refused.
-pub fn take_turns(
-    alloc: Global,
-    mut host: Host,
-    count: u64,
-    slice: u32,
-) -> Result<String, HostError>
-    requires { HasOpen count host }
-    ensures { (b : Limits) (ss : List Start) → Stands b ss host → TakesTurns b ss result }
-{
-    session_laws();
-    run_all(&mut host, count, slice.max(1))?;
-    match lines(alloc, &host, count) {
-        Ok(text) => Ok(text),
-        Err(_) => Err(HostError::NoMemory),
+impl Sessions {
+    ghost use Rattle.std.specs.Prelude.{◌++◌, ◌∷◌, [], List, IfErr, OnOk, OnErr};
+    ghost use Rattle.jt_image.specs.Config.{Budget as Limits};
+    ghost use Rattle.jt_machine.specs.View.{budget_view};
+    ghost use Rattle.jt_turns.specs.Outcomes.{IsNotOpened, TakesTurns};
+    ghost use Rattle.jt_turns.specs.Standing.{Stands};
+    ghost use Rattle.jt_turns.specs.Worlds.{world_of};
+
+    /// No session.
+    pub fn new(alloc: Global) -> Sessions
+        ensures { (b : Limits) → Stands b [] (world_of result) }
+    {
+        Sessions {
+            host: Host::new(alloc),
+            count: 0,
+        }
+    }
+
+    /// Opens one session more: that of an image for its context, under the budget.
+    ///
+    /// # Errors
+    ///
+    /// `Full` where 64 are open; `NoMemory` where a growth was refused. The sessions are unchanged.
+    pub fn open(&mut self, start: Start, budget: Budget) -> Result<(), HostError>
+        ensures opened { OnOk result ((ss : List Start)
+            → Stands (budget_view budget) ss (world_of self.old)
+            → Stands (budget_view budget) (ss ++ start ∷ []) (world_of self.new)) }
+        ensures refused { IfErr result (λ e. (ss : List Start)
+            → Stands (budget_view budget) ss (world_of self.old)
+            → IsNotOpened ss e) }
+        ensures unchanged { OnErr result (world_of self.new ≡ world_of self.old) }
+    {
+        let Start { code, context } = start;
+        match self.host.open(code, &context, budget) {
+            Ok(id) => {
+                self.count = id;
+                Ok(())
+            }
+            Err((_, error)) => Err(error),
+        }
+    }
+
+    /// Runs the sessions side by side, in turns of `slice` instructions, or of one where that is 0; and answers the line of each, in
+    /// their order: `1 text 5:Hello`, with the number of the text's bytes, `2 fault F2 Undefined` or `3 spent Fuel`.
+    ///
+    /// # Errors
+    ///
+    /// `NoMemory` where a growth was refused.
+    pub fn run(self, alloc: Global, slice: u32) -> Result<String, HostError>
+        ensures { (b : Limits) (ss : List Start)
+            → Stands b ss (world_of self)
+            → TakesTurns b ss result }
+    {
+        session_laws();
+        let Sessions { mut host, count } = self;
+        run_all(&mut host, count, slice.max(1))?;
+        match lines(alloc, &host, count) {
+            Ok(text) => Ok(text),
+            Err(_) => Err(HostError::NoMemory),
+        }
     }
 }

@@ -25,4 +25,4 @@ returns-clause-ok c =
     let words = c.unwrap_or-words.result.now in
     let same : texts words ≡ pair_words (rows_of found) = found_words c.get_strs.result _ c.unwrap_or-words.result _ c.unwrap_or-words.ensures refl (c.get_strs.ensures ∙ raw_values-rows found (codes "PAIRS")) in
     let given : words_of_pairs c.in_ok-sessions.sessions.items ≡ texts words = c.in_ok-sessions.ensures in
-    (refl, given ∙ same, (λ none. let zero_words : length words ≡ 0 = no_words _ words given none in absurd (search rules)), refl, c.budget.ensures, c.slice.ensures)
+    (refl, given ∙ same, (λ none. let zero_words : length words ≡ 0 = no_words _ words given none in absurd (search rules)), c.new.ensures, c.budget.ensures, c.slice.ensures)

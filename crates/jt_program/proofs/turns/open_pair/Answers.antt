@@ -1,4 +1,5 @@
 use Rattle.std.proofs.lemmas.Result.{err_from_is_err_and}
+use Rattle.jt_turns.specs.Worlds.{world_of}
 use Rattle.jt_program.proofs.Starting.{no_place, no_start, one_open_more}
 use Rattle.jt_program.proofs.turns.open_pair.Goals as goal
 
@@ -9,9 +10,9 @@ returns-in_err-start-clause-refused g c =
 
 pub returns-in-Ok-clause-opened : goal.returns-in-Ok-clause-opened
 returns-in-Ok-clause-opened g c = λ ps standing.
-    one_open_more (g.F.Files.known c.args.files.now) c.args.budget ps c.args.pair c.in_ok-start.start c.args.host.now c.open_session.new.host c.in_ok-start.ensures.start
+    one_open_more (g.F.Files.known c.args.files.now) c.args.budget ps c.args.pair c.in_ok-start.start (world_of c.args.sessions.now) (world_of c.open.new.self) c.in_ok-start.ensures.start
     c.in-Ok.ensures.opened standing
 
 pub returns-in-Err-clause-refused : goal.returns-in-Err-clause-refused
 returns-in-Err-clause-refused g c = rw c.no_session.ensures (λ ps standing.
-    no_place (g.F.Files.known c.args.files.now) c.args.budget ps c.args.pair c.in_ok-start.start c.args.host.now c.in-Err.error c.in_ok-start.ensures.start c.in-Err.ensures.refused standing)
+    no_place (g.F.Files.known c.args.files.now) c.args.budget ps c.args.pair c.in_ok-start.start (world_of c.args.sessions.now) c.in-Err.error c.in_ok-start.ensures.start c.in-Err.ensures.refused standing)

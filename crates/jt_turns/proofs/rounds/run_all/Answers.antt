@@ -1,5 +1,5 @@
 use Rattle.std.proofs.Common.{◌∙◌, sym}
-use Rattle.jt_turns.proofs.Sessions.{false_true}
+use Rattle.jt_turns.proofs.Running.{false_true}
 use Rattle.jt_turns.proofs.Turning.{moved_both, moved_length, moved_none, moved_numbered}
 use Rattle.jt_turns.proofs.rounds.run_all.Goals as goal
 

@@ -2,7 +2,7 @@ use Rattle.std.proofs.Common.{◌≡◌, ◌∙◌, ap, arith, length, refl, sym
 use Rattle.std.proofs.Math.Seq.{take-length}
 use Rattle.std.proofs.lemmas.Result.{err_from_is_err_and}
 use Rattle.jt_turns.specs.Standing.{have_ended}
-use Rattle.jt_turns.proofs.Sessions.{false_true}
+use Rattle.jt_turns.proofs.Running.{false_true}
 use Rattle.jt_turns.proofs.Around.{no_memory, on_done, on_going}
 use Rattle.jt_turns.proofs.Turning.{moved_length, moved_none}
 use Rattle.jt_turns.proofs.rounds.run_each.Goals as goal

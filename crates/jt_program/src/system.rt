@@ -1,26 +1,26 @@
-//! The files of the machine that the program runs on.
+//! The files of the system that the program runs on.
 
 use crate::files::{FileError, Files};
 use std::alloc::{AllocError, AllocFailed};
-use std::fs::OpenFile;
-use std::io::Read;
+use std::fs::{File, OpenFile, OpenOptions};
+use std::io::{Read, Write};
 use std::rt::Runtime;
 use std::{fs, io};
 
 /// The file system that a runtime reaches.
 #[derive(Drop)]
-pub struct Machine<'a, R> {
+pub struct SystemFiles<'a, R> {
     rt: &'a R,
 }
 
-impl<'a, R> Machine<'a, R> {
+impl<'a, R> SystemFiles<'a, R> {
     ghost use Rattle.std.specs.Prelude.{◌≡◌};
 
     /// The file system of this runtime.
-    pub fn new(rt: &'a R) -> Machine<'a, R>
+    pub fn new(rt: &'a R) -> SystemFiles<'a, R>
         ensures { result.rt.now ≡ rt.now }
     {
-        Machine { rt }
+        SystemFiles { rt }
     }
 }
 
@@ -65,8 +65,8 @@ impl<T: Drop> From<AllocFailed<T>> for FileError {
     }
 }
 
-/// Room for the bytes that the system says a file has, and for one more: the end is then met without growing. None where it says
-/// nothing.
+/// Room for the bytes that the system says a file has, and for one more: the end is then met without growing. None
+/// where it says nothing.
 fn room_for<F: OpenFile>(file: &F) -> usize {
     match file.metadata() {
         Ok(known) => usize::try_from(known.len()).unwrap_or(0).saturating_add(1),
@@ -74,7 +74,31 @@ fn room_for<F: OpenFile>(file: &F) -> usize {
     }
 }
 
-impl<R: Runtime + AllocGlobal> Files for Machine<'_, R> {
+/// Whether a new file may take the place of what stands at `path`: nothing, or a regular file that may be written.
+/// A link, a device and a pipe are written where they are.
+fn may_replace<R: Runtime>(rt: &R, path: &str) -> bool {
+    match fs::symlink_metadata(rt, path) {
+        Ok(known) => known.is_file() && OpenOptions::new().write(true).open(rt, path).is_ok(),
+        Err(error) => error.kind() == io::ErrorKind::NotFound,
+    }
+}
+
+/// Fills a new file with `bytes`, lets those use it who may use the one at `path`, and gives it that name.
+fn fill<R: Runtime, F: Write + OpenFile>(
+    rt: &R,
+    file: &mut F,
+    part: &str,
+    path: &str,
+    bytes: &[u8],
+) -> io::Result<()> {
+    file.write_all(bytes)?;
+    if let Ok(known) = fs::metadata(rt, path) {
+        file.set_permissions(known.permissions())?;
+    }
+    fs::rename(rt, part, path)
+}
+
+impl<R: Runtime + AllocGlobal> Files for SystemFiles<'_, R> {
     fn list(&self, dir: &str) -> Result<Vec<String>, FileError> {
         let mut names = Vec::new(self.rt.alloc());
         for entry in fs::read_dir(self.rt, dir)? {
@@ -93,8 +117,22 @@ impl<R: Runtime + AllocGlobal> Files for Machine<'_, R> {
         Ok(bytes)
     }
 
+    // What was there is kept until the new bytes are whole: they are written beside it, into `path` with `.part`
+    // behind it. Where no such file can be made they are written in place.
     fn write(&mut self, path: &str, bytes: &[u8]) -> Result<(), FileError> {
-        fs::write(self.rt, path, bytes)?;
-        Ok(())
+        let part = format!(in self.rt.alloc(); "{path}.part")?;
+        let made = if may_replace(self.rt, path) {
+            File::create_new(self.rt, part.as_str()).ok()
+        } else {
+            None
+        };
+        let Some(mut file) = made else {
+            return Ok(fs::write(self.rt, path, bytes)?);
+        };
+        let filled = fill(self.rt, &mut file, part.as_str(), path, bytes);
+        if filled.is_err() {
+            let _ = fs::remove_file(self.rt, part.as_str());
+        }
+        Ok(filled?)
     }
 }

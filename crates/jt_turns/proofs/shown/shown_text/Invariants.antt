@@ -1,0 +1,13 @@
+use Rattle.std.proofs.Common.{◌≡◌, ◌++◌, ◌≤◌, string_bytes}
+use Rattle.std.specs.Str.{IsCharBoundary}
+use Rattle.jt_turns.specs.Shown.{shown}
+use Rattle.jt_turns.proofs.Escapes.{still_shown}
+use Rattle.jt_turns.proofs.shown.shown_text.Given as goal
+
+-- what was made, with what is still to be shown, is all
+abbrev pub invariant-loop-at : goal.invariant-loop-at
+invariant-loop-at l = record {
+  order : l.plain ≤ l.at;
+  boundary : IsCharBoundary l.text l.plain;
+  same : string_bytes l.made ++ still_shown l.text l.plain l.at ≡ shown l.text;
+}

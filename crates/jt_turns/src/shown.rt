@@ -1,0 +1,76 @@
+//! Names and paths that others chose, as lines show them.
+ghost use Rattle.std.specs.Prelude.{◌≡◌, ◌<◌, ◌/◌, ◌%◌, ◌++◌, IfOk, OnOk, string_bytes};
+ghost use Rattle.jt_turns.specs.Shown.{escape, hex_digit, one_line, shown};
+
+use std::alloc::{AllocError, Global};
+
+/// The line of a text: each control character of it is shown as `\x` and two digits, so that it is one line.
+pub(crate) fn line_of(alloc: Global, text: &str) -> Result<String, AllocError>
+    ensures { IfOk result (λ line. string_bytes line ≡ one_line text.now) }
+{
+    let mut line = shown_text(alloc, text)?;
+    line.push_str("\n")?;
+    Ok(line)
+}
+
+/// A text with each control character as `\x` and two digits.
+fn shown_text(alloc: Global, text: &str) -> Result<String, AllocError>
+    ensures { IfOk result (λ made. string_bytes made ≡ shown text.now) }
+{
+    let mut made = String::new(alloc);
+    // All before `plain` is appended. What lies between it and `at` is shown as it is.
+    let mut plain = 0;
+    for (at, byte) in text.as_bytes().iter().enumerate() {
+        if byte.is_ascii_control() {
+            made.push_str(&text[plain..at])?;
+            push_escape(&mut made, *byte)?;
+            plain = at + 1;
+        }
+    }
+    made.push_str(&text[plain..])?;
+    Ok(made)
+}
+
+/// Appends `\x` and the two digits of a byte.
+fn push_escape(made: &mut String, byte: u8) -> Result<(), AllocError>
+    ensures { OnOk result (string_bytes made.new ≡ string_bytes made.old ++ escape byte) }
+{
+    let (high, low) = hex_digits(byte);
+    made.push_str("\\x")?;
+    made.push_str(high)?;
+    made.push_str(low)?;
+    Ok(())
+}
+
+/// The two digits of a byte to the base 16.
+pub fn hex_digits(byte: u8) -> (&'static str, &'static str)
+    ensures high { result.0.now ≡ hex_digit (byte / 16) }
+    ensures low { result.1.now ≡ hex_digit (byte % 16) }
+{
+    (hex_digit_text(byte / 16), hex_digit_text(byte % 16))
+}
+
+/// A digit of a number to the base 16.
+fn hex_digit_text(number: u8) -> &'static str
+    requires { number < 16 }
+    ensures { result.now ≡ hex_digit number }
+{
+    match number {
+        0 => "0",
+        1 => "1",
+        2 => "2",
+        3 => "3",
+        4 => "4",
+        5 => "5",
+        6 => "6",
+        7 => "7",
+        8 => "8",
+        9 => "9",
+        10 => "a",
+        11 => "b",
+        12 => "c",
+        13 => "d",
+        14 => "e",
+        _ => "f",
+    }
+}
