@@ -214,7 +214,10 @@ fn run_at<F: Files>(
 {
     let bytes = bytes_at(files, image)?;
     let context = context_at(alloc, files, context)?;
-    run_image(alloc, &bytes, &context, budget)
+    let text = run_image(alloc, &bytes, &context, budget);
+    // the process ends soon, and gives back all memory at once
+    std::mem::forget(context);
+    text
 }
 
 /// The text of a template of a directory for the context of a file.
@@ -233,7 +236,10 @@ fn render_in<F: Files>(
 {
     let templates = templates_in(alloc, files, dir)?;
     let context = context_at(alloc, files, context)?;
-    render_text(alloc, name, &templates, options, &context, budget)
+    let text = render_text(alloc, name, &templates, options, &context, budget);
+    // as in `run_at`
+    std::mem::forget(context);
+    text
 }
 
 /// The context in a file, or the empty one where there is no file.
