@@ -1,4 +1,7 @@
 //! What a command line of `jt` asks for.
+//!
+//! `job` (line) by a grammar in tables (grammar), and the jobs that there are (jobs). Read first:
+//! specs/Line.antt, which lines are taken.
 #![tactic(auto)]
 
 mod grammar;

@@ -1,8 +1,10 @@
 //! Names to slots: a chain becomes a program.
 //!
-//! `resolved` (resolving) has the chains and libraries laid out, and resolves one after the other (homes): its statements
-//! (routines, statements), and the expressions in them (expressions), where names stand in frames (frame, spot) and values in
-//! a pool (pool, shared). Whether they keep the rules is another crate's matter.
+//! `resolved` (resolving) has the chains and libraries laid out, and resolves one after the other
+//! (homes): its statements (routines, statements), and the expressions in them (expressions), where
+//! names stand in frames (frame, spot) and values in a pool (pool, shared). Whether they keep the
+//! rules is another crate's matter. Read first: resolving.rt; what comes out is said in
+//! jt_meaning's specs/Resolve.antt.
 #![tactic(auto)]
 
 mod blocks;

@@ -1,4 +1,6 @@
 //! What a run may use, and which number did not suffice.
+//!
+//! A budget's five numbers (budget) and their names (spent). Read first: budget.rt.
 #![tactic(auto)]
 
 mod budget;

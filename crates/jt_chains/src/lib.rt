@@ -1,4 +1,8 @@
-//! Chains of templates: what their parts are.
+//! Chains and libraries of templates, as data: what their parts are.
+//!
+//! A chain with all that it reaches (linked), its templates (layers), its macros and the bodies of
+//! its blocks (parts), and what imports give to names (given). Read first: specs/Chain.antt;
+//! specs/Rules.antt has the rules C1 to C12.
 #![tactic(auto)]
 
 mod given;

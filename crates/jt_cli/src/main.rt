@@ -1,4 +1,5 @@
-//! The program `jt`.
+//! The program `jt`: `main` alone, which hands its words, files and outputs to `perform` of
+//! jt_program.
 #![tactic(auto)]
 
 use jt_machine::IoSink;

@@ -1,4 +1,8 @@
-//! Templates to images.
+//! Templates to images: the compiler.
+//!
+//! `compile` (compiling) is the whole way from an entry to an image; statements and routines
+//! (emission, targets, entries), tables and places (tables, places, image), and why there is none
+//! (error). Read first: compiling.rt, and specs/Compiled.antt, what is promised.
 #![tactic(auto)]
 
 mod compiling;

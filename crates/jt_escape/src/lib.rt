@@ -1,4 +1,7 @@
 //! Escaping: texts written so that HTML reads them as text, and joins that keep markup.
+//!
+//! The five characters (escaping) and the rule of `join` (joining). Read first:
+//! specs/Escaping.antt.
 #![tactic(auto)]
 
 mod escaping;

@@ -1,4 +1,8 @@
 //! Expressions of templates: the tree that the tokens of a tag spell.
+//!
+//! `expression` (tag) over a cursor (cursor); the rules of the grammar, a function a rule (grammar,
+//! rows), which count levels (part); names of filters and tests (named). Read first:
+//! specs/Grammar.antt, one rule a form, and grammar.rt beside it.
 #![tactic(auto)]
 
 mod cursor;

@@ -1,4 +1,9 @@
-//! Filters, operators and tests on values, under limits of size and nesting.
+//! Filters on values, under limits of size and nesting; jt_ops is handed on.
+//!
+//! `apply` (filters) measures what a filter will give (measuring) before it builds it (building);
+//! both go to a module of each kind: texts, scalars, listing, sorting, unique, replacing, joining,
+//! mapping. Read first: building.rt beside measuring.rt, a line a filter; what each gives is said
+//! in jt_filter_meaning.
 #![tactic(auto)]
 
 mod attributes;

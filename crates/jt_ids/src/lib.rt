@@ -1,4 +1,8 @@
-//! The operators, tests and filters that there are: the id by which an image names each, its names and how many values it takes.
+//! The operators, tests and filters that there are: the id by which an image names each, its names
+//! and how many values it takes.
+//!
+//! An enum each (op_id, test_id, filter_id). Read first: specs/FilterTable.antt, one row a filter;
+//! specs/OpTable.antt and specs/TestTable.antt are alike.
 #![tactic(auto)]
 
 mod filter_id;

@@ -1,4 +1,10 @@
 //! Images: codes as bytes, and what a code means.
+//!
+//! An image (image) or a view of bytes (in_place) has a code (code); bytes are read once, from left
+//! to right (reading, decoding, viewing), and written (spelling, encoding, wire); parts become an
+//! image (parts, assembling); version 1 becomes 2 (upgrading). Read first: specs/Effect.antt and
+//! specs/Step.antt, a row an instruction, and specs/Run.antt, what a run is; specs/Spelling.antt is
+//! the format.
 #![tactic(auto)]
 
 mod assembling;

@@ -1,4 +1,9 @@
 //! Chains of templates: what an entry extends, includes and imports, read from a library.
+//!
+//! `chain` (chaining) reads each template once (reading, shelf), goes its way to the root (way),
+//! finds what is reached (discovery, including, importing), and looks at the rules (rules, supers).
+//! Where sources come from is the trait `Library` (library). Read first: specs/Chains.antt, which
+//! chains an entry has.
 #![tactic(auto)]
 
 mod chaining;

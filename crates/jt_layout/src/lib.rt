@@ -1,5 +1,8 @@
-//! How the names, macros and bodies of chains and libraries are laid out: names in slots of globals,
-//! macros and bodies as units.
+//! How the names, macros and bodies of chains and libraries are laid out: names in slots of
+//! globals, macros and bodies as units.
+//!
+//! `lay_out` (laying) makes a table of each chain and library (laid), and all of them together are
+//! a `Scope` (scope). Read first: specs/Laid.antt, what the tables say.
 #![tactic(auto)]
 
 mod bodies;

@@ -1,4 +1,9 @@
-//! The code of resolved programs: what it is, that it does what they mean, and the emission of their expressions.
+//! The code of resolved programs: what it is, that it does what they mean, and the emission of
+//! their expressions.
+//!
+//! Instructions put behind one another, with jumps that wait (emitter), expressions (expressions),
+//! how many entries they need (heights), and the law of all code (laws). Read first:
+//! specs/Lower.antt, the code of each form.
 #![tactic(auto)]
 
 mod emitter;

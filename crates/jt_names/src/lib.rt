@@ -1,4 +1,7 @@
 //! The names that a chain's templates read, bind or set.
+//!
+//! Of a chain (own, chains), of its scopes (scopes) and of a body (sets). Read first:
+//! specs/Names.antt.
 #![tactic(auto)]
 
 mod chains;

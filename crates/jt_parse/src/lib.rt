@@ -1,4 +1,8 @@
 //! The tree that the segments of a template spell.
+//!
+//! `parse` (parser) goes through the segments with the open statements in a row (frames); the tags
+//! (tags, heads), where statements may stand (places), and which text is kept (kept). Read first:
+//! specs/Grammar.antt, one rule a form; specs/Kept.antt says what marks trim.
 #![tactic(auto)]
 
 mod error;

@@ -1,4 +1,8 @@
-//! What the program `jt` does: what a line asks for, and its commands over files, an output and an output for errors.
+//! What the program `jt` does: its commands over files, an output and an output for errors.
+//!
+//! `perform` (program) does what a line asks for by the commands (commands, turns), over files that
+//! are a trait (files, system, templates), and says how it ended (messages, reports). Read first:
+//! commands.rt, a worked host, and specs/Program.antt, what each command comes to.
 #![tactic(auto)]
 
 mod commands;

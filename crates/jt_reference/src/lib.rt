@@ -1,5 +1,8 @@
-//! A plain machine for tests, beside which the machine is run. What it comes to is for the tests, and no contract
-//! says it: only that a text is within the output that the budget allows.
+//! A plain machine for tests, beside which the machine is run. What it comes to is for the tests,
+//! and no contract says it: only that a text is within the output that the budget allows.
+//!
+//! A list of activations (machine), their buffers and loops (buffers, loops), values made of
+//! several (making), why a run stops (ended). Read first: machine.rt.
 #![tactic(auto)]
 
 mod buffers;

@@ -1,4 +1,8 @@
 //! Sources of templates, cut into segments and tokens.
+//!
+//! The text with one kind of line end (source), its cut (scanner, endraw, find, marks), the tokens
+//! of a tag (tokens, signs, numbers, quotes), and how templates are read (options). Read first:
+//! specs/Cut.antt, the relation between a source and its segments.
 #![tactic(auto)]
 
 mod endraw;

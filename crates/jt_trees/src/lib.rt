@@ -1,4 +1,7 @@
 //! Templates and expressions as trees, as they are written: no name is looked up yet.
+//!
+//! Expressions (expression), statements (statement), and what parts of an expression tell as they
+//! stand (written). Read first: specs/Statements.antt and specs/Expressions.antt.
 #![tactic(auto)]
 
 mod expression;

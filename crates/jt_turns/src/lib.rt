@@ -1,4 +1,7 @@
 //! Verified images that run in turns: the line of each, whatever the turns are.
+//!
+//! The sessions are opened (turns), have turns until each has ended (rounds), and are told in lines
+//! (lines). Read first: specs/Outcomes.antt and specs/Lines.antt.
 #![tactic(auto)]
 
 mod lines;

@@ -1,5 +1,9 @@
 //! Verifies codes: each point that is reached has one shape, and every instruction there is in
 //! order.
+//!
+//! `verify` (checked) gives a `Verified`, the only thing that runs; the verifier follows each path
+//! (verifier), one instruction at a time (typing), with shapes kept once (shape, arena, links).
+//! Read first: jt_image's specs/Typed.antt, and verifier.rt.
 #![tactic(auto)]
 
 mod arena;
