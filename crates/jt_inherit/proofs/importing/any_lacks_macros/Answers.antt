@@ -15,7 +15,7 @@ returns-then-branch c =
     let k = c.loop-place.place-index in
     let i = get_or is k 0 in
     let p = get_or ps i c.index-shelf-place.result in
-    let here = ap (lacks_macros s) (sym c.body.ensures) ∙ sym c.in_ok-lacks_macros.ensures ∙ c.if-branch.true in
+    let here = ap (lacks_macros s) (sym c.body.ensures) ∙ sym c.lacks_macros.ensures ∙ c.if-branch.true in
     sym (c.loop-place.invariant ∙ lacking_turn s ps is k p c.loop-place-test.true c.requires.places (ap (λ d. get_or ps i d) c.index-shelf-place.is) ∙ ap (λ b. b || any_lacks_macros s (templates_at (pages_view ps) (drop (k + 1) is))) here)
 
 pub loop-place-preserved : goal.loop-place-preserved
@@ -26,5 +26,5 @@ loop-place-preserved c =
     let k = c.loop-place.place-index in
     let i = get_or is k 0 in
     let p = get_or ps i c.index-shelf-place.result in
-    let here = ap (lacks_macros s) (sym c.body.ensures) ∙ sym c.in_ok-lacks_macros.ensures ∙ c.if-branch.false in
+    let here = ap (lacks_macros s) (sym c.body.ensures) ∙ sym c.lacks_macros.ensures ∙ c.if-branch.false in
     c.loop-place.invariant ∙ lacking_turn s ps is k p c.loop-place-test.true c.requires.places (ap (λ d. get_or ps i d) c.index-shelf-place.is) ∙ ap (λ b. b || any_lacks_macros s (templates_at (pages_view ps) (drop (k + 1) is))) here
