@@ -1,11 +1,11 @@
 -- The library of a name among the templates that were read: its macros, and what is asked of it.
 use Rattle.std.proofs.Common.{◌≡◌, ℕ, ◌+◌, ◌<◌, length, drop, get_or, arith, string_bytes, Bool, true, false, ◌&&◌, ◌||◌, if◌then◌else◌, List, [], ◌∷◌, ◌++◌, refl, sym, ap, ◌∙◌, Option, Some, None}
-use Rattle.std.specs.Prelude.{slice_get, flat_map, unwrap_or, option_map}
+use Rattle.std.specs.Prelude.{slice_get, flat_map}
 use Rattle.std.specs.Option.{is_some, is_none, option_to_list}
 use Rattle.std.proofs.lemmas.List.{drop_more, length-map, append-nil}
 use Rattle.std.proofs.lemmas.Option.{slice_get_within}
 use Rattle.jt_trees.specs.Expressions.{Text}
-use Rattle.jt_trees.specs.Statements.{Body, end}
+use Rattle.jt_trees.specs.Statements.{Body}
 use Rattle.jt_trees.specs.StatementView.{body_of}
 use Rattle.jt_trees.specs.Texts.{among, repeated}
 use Rattle.jt_chains.specs.Along.{ArePlaces, templates_at}

@@ -1,11 +1,10 @@
 //! What the imports of a chain give.
 
-ghost use Rattle.std.specs.Prelude.{◌≡◌, ◌<◌, ◌++◌, List, length, map, false, slice_get, Some, MatchOption, IfOk, IfSome};
+ghost use Rattle.std.specs.Prelude.{◌≡◌, ◌++◌, map, IfOk};
 ghost use Rattle.jt_trees.specs.StatementView.{body_view, given_view};
 ghost use Rattle.jt_chains.specs.Along.{ArePlaces, templates_at};
-ghost use Rattle.jt_chains.specs.Chain.{Template, a_library, is_a_library, macros, sources_in};
+ghost use Rattle.jt_chains.specs.Chain.{a_library, macros, sources_in};
 ghost use Rattle.jt_chains.specs.Pages.{pages_view};
-ghost use Rattle.jt_chains.specs.Parts.{macros_view};
 ghost use Rattle.jt_chains.specs.Rules as rules;
 ghost use Rattle.jt_inherit.specs.Kept as spec;
 ghost use Rattle.jt_inherit.specs.Kept.{names_from, imported_names, their_names};
