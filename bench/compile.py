@@ -118,12 +118,12 @@ def mesh(size):
 
 
 def tall(size):
-    """16 templates that extend one another, each of which has all blocks and calls those of the one below."""
-    count = min(200, size // 16 // 42)
+    """64 templates that extend one another, each of which has all blocks and calls those of the one below."""
+    count = min(200, size // 64 // 42)
     blocks = "".join(f"{{% block b{n:03} %}}{{{{ super() }}}}{{% endblock %}}" for n in range(count))
     base = blocks.replace("{{ super() }}", "")
-    chain = {f"p{n}": f'{{% extends "p{n + 1}" %}}{blocks}' for n in range(1, 15)}
-    return {"t": f'{{% extends "p1" %}}{blocks}', **chain, "p15": base}
+    chain = {f"p{n}": f'{{% extends "p{n + 1}" %}}{blocks}' for n in range(1, 63)}
+    return {"t": f'{{% extends "p1" %}}{blocks}', **chain, "p63": base}
 
 
 def numbered(count, piece):
@@ -177,7 +177,7 @@ SETS = [
     ("many blocks", many_blocks, ["ok", "G1"]),
     ("a fan of includes", fan, ["ok", "G1", "C4"]),
     ("a mesh of includes", mesh, ["ok", "G1", "C4"]),
-    ("16 templates of 200 blocks", tall, ["ok", "G1"]),
+    ("64 templates of 200 blocks", tall, ["ok", "G1"]),
     ("macros asked for one by one", asked_one_by_one, ["ok", "G1"]),
     ("macros asked for at once", asked_at_once, ["ok", "G1"]),
     ("macros called by their library", called_by_library, ["ok", "G1"]),
