@@ -118,12 +118,58 @@ def mesh(size):
 
 
 def tall(size):
-    """16 templates that extend one another, each of which has all blocks and calls those of the one below."""
-    count = min(200, size // 16 // 42)
+    """64 templates that extend one another, each of which has all blocks and calls those of the one below."""
+    count = min(200, size // 64 // 42)
     blocks = "".join(f"{{% block b{n:03} %}}{{{{ super() }}}}{{% endblock %}}" for n in range(count))
     base = blocks.replace("{{ super() }}", "")
-    chain = {f"p{n}": f'{{% extends "p{n + 1}" %}}{blocks}' for n in range(1, 15)}
-    return {"t": f'{{% extends "p1" %}}{blocks}', **chain, "p15": base}
+    chain = {f"p{n}": f'{{% extends "p{n + 1}" %}}{blocks}' for n in range(1, 63)}
+    return {"t": f'{{% extends "p1" %}}{blocks}', **chain, "p63": base}
+
+
+def numbered(count, piece):
+    """So many pieces, each with its number in the place of #."""
+    return "".join(piece.replace("#", f"{n:05}") for n in range(count))
+
+
+MACRO = "{% macro m#() %}{% endmacro %}"
+
+
+def asked_one_by_one(size):
+    """A library of macros, each of which a tag of its own asks for and a call names."""
+    count, tags = size // 76, '{% from "l" import m# %}{{ m#() }}'
+    return {"t": numbered(count, tags), "l": numbered(count, MACRO)}
+
+
+def asked_at_once(size):
+    """The same with one tag that asks for all."""
+    count = size // 56
+    names = numbered(count, "m#,")[:-1]
+    return {"t": f'{{% from "l" import {names} %}}' + numbered(count, "{{ m#() }}"), "l": numbered(count, MACRO)}
+
+
+def called_by_library(size):
+    """A library of macros, which are called by the name that it is imported under."""
+    count = size // 51
+    return {"t": '{% import "l" as f %}' + numbered(count, "{{ f.m#() }}"), "l": numbered(count, MACRO)}
+
+
+def imported_again(size):
+    """A library that is imported under as many names as it has macros, each of which is called by one of them."""
+    count, tags = size // 82, '{% import "l" as f# %}{{ f#.m#() }}'
+    return {"t": numbered(count, tags), "l": numbered(count, MACRO)}
+
+
+def many_libraries(size):
+    """As many libraries of one macro as fit, each with a tag and a call."""
+    count, tags = size // 82, '{% from "l#" import m as f# %}{{ f#() }}'
+    return {"t": numbered(count, tags), **{f"l{n:05}": "{% macro m() %}{% endmacro %}" for n in range(count)}}
+
+
+def shared_library(size):
+    """A library that 1,000 chains import, each of which calls one of its macros."""
+    tags = {f"p{n}": f'{{% import "l" as f %}}{{{{ f.m{n:05}() }}}}' for n in range(1_000)}
+    left = size - sum(map(len, tags.values())) - 22 * len(tags)
+    return {"t": "".join(f'{{% include "{name}" %}}' for name in tags), "l": numbered(max(1_000, left // 34), MACRO), **tags}
 
 
 # name, the templates, the answers that are right for them
@@ -131,7 +177,13 @@ SETS = [
     ("many blocks", many_blocks, ["ok", "G1"]),
     ("a fan of includes", fan, ["ok", "G1", "C4"]),
     ("a mesh of includes", mesh, ["ok", "G1", "C4"]),
-    ("16 templates of 200 blocks", tall, ["ok", "G1"]),
+    ("64 templates of 200 blocks", tall, ["ok", "G1"]),
+    ("macros asked for one by one", asked_one_by_one, ["ok", "G1"]),
+    ("macros asked for at once", asked_at_once, ["ok", "G1"]),
+    ("macros called by their library", called_by_library, ["ok", "G1"]),
+    ("a library imported again", imported_again, ["ok", "G1"]),
+    ("many libraries", many_libraries, ["ok", "G1"]),
+    ("a library that 1,000 chains import", shared_library, ["ok", "G1"]),
 ]
 
 

@@ -8,8 +8,8 @@ in both cases, `numbers`, `texts` and `pairs`, a map, each of --items (1,000,000
 --runs times (1), and the shortest time is printed that the program took of a processor, less what a template took that
 only reads the same context. --steps N renders each row in N sizes, each twice the one before, --items being the greatest:
 a cost that grows faster than n log n shows. Behind these come rows within the default budget, and some that are no filters: calls
-of macros, chains of includes, and a join whose text would be too large. The status is 1 where a row took longer than --most (2 seconds), or where it is
-answered otherwise than it must be.
+of macros, chains of includes, and a join whose text would be too large. The status is 1 where a row took longer than --most (2 seconds), one
+within the default budget longer than half of that, or where it is answered otherwise than it must be.
 """
 import json, os, pathlib, tempfile
 from timing import Rows, sized, timed
@@ -122,7 +122,8 @@ def main():
             options = BUDGET if (name, kind, template, wanted) in ROWS else []
             found = [row(asked.jt, kind, template, n, asked.runs, options) for n in asked.sizes]
             is_right = all(told == wanted(n) for (_, told), n in zip(found, asked.sizes))
-            rows.tell(name, [took for took, _ in found], found[-1][1], is_right)
+            most = asked.most if options else asked.most / 2
+            rows.tell(name, [took for took, _ in found], found[-1][1], is_right, most)
     for name, took, answer, begins in others(asked.jt):
         if rows.wants(name):
             rows.tell(name, [took], answer, answer.startswith(begins))

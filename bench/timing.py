@@ -47,10 +47,10 @@ class Rows:
     def wants(self, name):
         return not self.asked.names or name in self.asked.names
 
-    def tell(self, name, times, answer, is_right):
-        """Prints a row: its times, the answer's beginning, its name, and what is wrong with it."""
+    def tell(self, name, times, answer, is_right, most=None):
+        """Prints a row: its times, the answer's beginning, its name, and what is wrong with it. It may take --most, unless it has its own bound."""
         wrong = [] if is_right else ["another answer"]
-        wrong += ["slow"] if times[-1] > self.asked.most else []
+        wrong += ["slow"] if times[-1] > (most or self.asked.most) else []
         self.failed += bool(wrong)
         line = " ".join(f"{took:8.3f} s" for took in times) + f"  {answer[:12]:12}  {name}"
         print(line + "".join(f"  <-- {it}" for it in wrong), flush=True)

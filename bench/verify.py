@@ -1,5 +1,6 @@
 #!/usr/bin/env python3
-"""Times `jt check` on images of 262,144 instructions that are hard on a verifier: long shapes that meet, are made and are searched.
+"""Times `jt check` on images of 262,144 instructions that are hard on a verifier: long shapes that meet, are made and are searched;
+and on images of 16 MiB whose tables are full.
 
     bench/verify.py [--jt PATH] [--runs N] [--most SECONDS] [--room MB] [--keep FOLDER] [NAME ..]
 
@@ -21,9 +22,11 @@ def of(opcode, c=0, a=0):
     return (opcode, a, 0, c)
 
 
-def image(units):
-    """An image of these units, with one constant, which is undefined; an instruction is (opcode, a, b, c)."""
-    parts = [b"JTBC", struct.pack("<HHH", 1, 0, 0), struct.pack("<HB", 1, 0), struct.pack("<H", len(units))]
+def image(units, names=(), constants=(b"\0",)):
+    """An image of these units, whose constants, as they are spelled, are by default one, undefined; an instruction is (opcode, a, b, c)."""
+    parts = [b"JTBC", struct.pack("<HHH", 1, len(names), len(names))]
+    parts += [struct.pack("<HH", slot, len(name)) + name for slot, name in enumerate(names)]
+    parts += [struct.pack("<H", len(constants)), *constants, struct.pack("<H", len(units))]
     parts += [struct.pack("<BBHI", 0, 0, 0, len(unit)) for unit in units]
     parts += [struct.pack("<BBHI", *i) for unit in units for i in unit]
     return b"".join(parts)
@@ -115,6 +118,24 @@ def entries():
     return filled([], [of(CONST)] * 1_024 + [of(DROP)] * 1_024, [of(RETURN)])
 
 
+def full_of_names():
+    """As many names as there may be, which take 16 MiB together."""
+    return image([[of(RETURN)]], names=[f"{n:05}".encode() + b"n" * 246 for n in range(65_535)])
+
+
+def full_of_texts():
+    """The same of constants, equal ones: each is a text."""
+    return image([[of(RETURN)]], constants=[b"\5" + struct.pack("<I", 250) + b"t" * 250] * 65_535)
+
+
+def one_text():
+    """One constant of 16 MiB."""
+    return image([[of(RETURN)]], constants=[b"\5" + struct.pack("<I", 16_777_000) + b"t" * 16_777_000])
+
+
+# images of 16 MiB, by their bytes
+LARGE = {"names": full_of_names, "texts": full_of_texts, "one text": one_text}
+
 IMAGES = {
     "joins": lambda: [joins()],
     "captured": lambda: [captured()],
@@ -145,6 +166,10 @@ def keep(folder, names):
     """Writes the images, each with the line that `jt check` must print of it."""
     pathlib.Path(folder, "small.jtbc").write_bytes(image([[of(RETURN)]]))
     for name in names:
+        if name in LARGE:
+            pathlib.Path(folder, f"{name}.jtbc").write_bytes(LARGE[name]())
+            pathlib.Path(folder, f"{name}.line").write_text("ok units=1 instructions=1")
+            continue
         code = IMAGES[name]()
         count = sum(len(unit) for unit in code)
         assert count <= MOST, (name, count)
@@ -166,7 +191,7 @@ def main():
     words.add_argument("--keep")
     words.add_argument("names", nargs="*", metavar="NAME")
     given = words.parse_args()
-    names = given.names or [*IMAGES]
+    names = given.names or [*IMAGES, *LARGE]
     if given.keep:
         os.makedirs(given.keep, exist_ok=True)
         return keep(given.keep, names)

@@ -1,6 +1,6 @@
 -- The macros of a library, by its template's place.
-use Rattle.std.proofs.Common.{◌≡◌, ◌<◌, ℕ, suc, length, map, get_or, string_bytes, Bool, true, false, if◌then◌else◌, List, [], ◌∷◌, refl, sym, ap, ◌∙◌, Option, Some}
-use Rattle.std.specs.Prelude.{flat_map}
+use Rattle.std.proofs.Common.{◌≡◌, ◌<◌, ◌≤◌, ℕ, suc, length, map, get_or, string_bytes, Bool, true, false, if◌then◌else◌, List, [], ◌∷◌, refl, sym, ap, ◌∙◌, Option, Some}
+use Rattle.std.specs.Prelude.{flat_map, unwrap_or, option_map}
 use Rattle.std.specs.Str.{bytes_eq}
 use Rattle.std.proofs.lemmas.List.{append-nil}
 use Rattle.std.proofs.lemmas.Slice.Eq.{bytes_eq-Decides}
@@ -10,20 +10,19 @@ use Rattle.jt_trees.specs.Texts.{repeated}
 use Rattle.jt_chains.specs.Along.{body_at, along, first_body}
 use Rattle.jt_chains.specs.Chain as chain
 use Rattle.jt_chains.specs.Chain.{Sources, Template, MacroBody, template, templates, holds_macros, library_template, macros, macros_in, imports, imports_in, libraries, libraries_in, a_library, same_home, sources_in}
-use Rattle.jt_chains.specs.Pages.{pages_view, home_view, AreWhole}
+use Rattle.jt_chains.specs.Pages.{page_view, pages_view, home_view, AreWhole}
 use Rattle.jt_chains.specs.Parts.{name_at}
 use Rattle.jt_chains.specs.Places.{home_at, place_of}
-use Rattle.jt_chains.specs.declared.linked.Page.{Page}
+use Rattle.jt_chains.specs.declared.pages.Page.{Page}
 use Rattle.jt_chains.specs.declared.linked.Home.{Home}
+use Rattle.jt_chains.specs.Tables as table
 use Rattle.jt_chains.proofs.Placed.{home_along, name_of_home}
-
-abbrev held : Text → Body → List MacroBody
-held n b = if holds_macros b then macros_in n b else []
+use Rattle.jt_chains.proofs.Tabled.{past_mapped}
 
 abbrev in_template : Text → Option Body → List MacroBody
 in_template n o = flat_map (λ t. macros_in t.name t.body) (library_template n o)
 
-here : (n : Text) (b : Body) → in_template n (Some b) ≡ held n b
+here : (n : Text) (b : Body) → in_template n (Some b) ≡ table.library_macros n b
 here n b = by (holds_macros b)
   where
     by : (c : Bool) → flat_map (λ t. macros_in t.name t.body) (if c then template n (Some b) else []) ≡ (if c then macros_in n b else [])
@@ -31,7 +30,7 @@ here n b = by (holds_macros b)
     by false = refl
 
 abbrev at_place : List Template → Text → List MacroBody
-at_place ts n = held (name_at ts (place_of ts n)) (body_at ts (place_of ts n))
+at_place ts n = table.library_macros (name_at ts (place_of ts n)) (body_at ts (place_of ts n))
 
 library_macros : (ts : List Template) (n : Text) → in_template n (sources_in ts n) ≡ at_place ts n
 library_macros [] n = refl
@@ -40,20 +39,19 @@ library_macros (t ∷ ts) n = by (bytes_eq t.name n) refl (library_macros ts n)
     by : (c : Bool) → bytes_eq t.name n ≡ c → in_template n (sources_in ts n) ≡ at_place ts n → in_template n (sources_in (t ∷ ts) n) ≡ at_place (t ∷ ts) n
     by true e rest =
         ap (λ b. in_template n (if b then Some t.body else sources_in ts n)) e ∙ here n t.body
-        ∙ ap (λ x. held x t.body) (sym ((bytes_eq-Decides t.name n).0 e))
-        ∙ ap (λ b. held (name_at (t ∷ ts) (if b then 0 else suc (place_of ts n))) (body_at (t ∷ ts) (if b then 0 else suc (place_of ts n)))) (sym e)
+        ∙ ap (λ x. table.library_macros x t.body) (sym ((bytes_eq-Decides t.name n).0 e))
+        ∙ ap (λ b. table.library_macros (name_at (t ∷ ts) (if b then 0 else suc (place_of ts n))) (body_at (t ∷ ts) (if b then 0 else suc (place_of ts n)))) (sym e)
     by false e rest =
         ap (λ b. in_template n (if b then Some t.body else sources_in ts n)) e ∙ rest
-        ∙ ap (λ b. held (name_at (t ∷ ts) (if b then 0 else suc (place_of ts n))) (body_at (t ∷ ts) (if b then 0 else suc (place_of ts n)))) (sym e)
+        ∙ ap (λ b. table.library_macros (name_at (t ∷ ts) (if b then 0 else suc (place_of ts n))) (body_at (t ∷ ts) (if b then 0 else suc (place_of ts n)))) (sym e)
 
-pub library_held : (ts : List Template) (n : Text) → holds_macros (body_at ts (place_of ts n)) ≡ true
-    → macros_in (name_at ts (place_of ts n)) (body_at ts (place_of ts n)) ≡ macros (sources_in ts) (a_library n)
-library_held ts n e =
-    sym (library_macros ts n ∙ ap (λ (c : Bool). if c then macros_in (name_at ts (place_of ts n)) (body_at ts (place_of ts n)) else []) e)
+pub library_at : (ts : List Template) (n : Text) (i : ℕ) → i ≡ place_of ts n → table.library_macros (name_at ts i) (body_at ts i) ≡ macros (sources_in ts) (a_library n)
+library_at ts n i e = ap (λ j. table.library_macros (name_at ts j) (body_at ts j)) e ∙ sym (library_macros ts n)
 
-pub none_held : (ts : List Template) (n : Text) → holds_macros (body_at ts (place_of ts n)) ≡ false → [] ≡ macros (sources_in ts) (a_library n)
-none_held ts n e =
-    sym (library_macros ts n ∙ ap (λ (c : Bool). if c then macros_in (name_at ts (place_of ts n)) (body_at ts (place_of ts n)) else []) e)
+pub library_nowhere : (ps : List Page) (n : Text) (i : ℕ) → length ps ≤ i → i ≡ place_of (pages_view ps) n → [] ≡ macros (sources_in (pages_view ps)) (a_library n)
+library_nowhere ps n i past e =
+    let ts = pages_view ps in
+    ap (λ (o : Option Template). table.library_macros (name_at ts i) (unwrap_or (option_map (λ t. t.body) o) end)) (sym (past_mapped page_view ps i past)) ∙ library_at ts n i e
 
 -- the names that a chain's imports give; a library has none
 given_of : (s : Sources) (n : Text) (b : Bool) (l : List (Text × chain.Given)) → l ≡ flat_map (λ t. imports_in s t.body) (templates s (if b then a_library n else chain.a_chain n))

@@ -17,7 +17,7 @@ use Rattle.jt_trees.specs.Texts.{among, repeated}
 use Rattle.jt_chains.specs.Pages.{page_view, pages_view, home_view, names_at, AreWhole}
 use Rattle.jt_chains.specs.Parts.{name_at}
 use Rattle.jt_chains.specs.Places.{home_at}
-use Rattle.jt_chains.specs.declared.linked.Page.{Page}
+use Rattle.jt_chains.specs.declared.pages.Page.{Page}
 use Rattle.jt_chains.specs.declared.linked.Home.{Home}
 
 pub all_at : {X : Type 0} (P : X → Type 0) (xs : List X) (i : ℕ) (x : X) → i < length xs → x ≡ get_or xs i x → AllByRecursion P xs → P x

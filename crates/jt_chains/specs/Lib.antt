@@ -9,6 +9,7 @@ pub mod Parts
 pub mod Places
 pub mod Rules
 pub mod Supers
+pub mod Tables
 pub mod Uses
 pub mod View
 pub mod Weights

@@ -3,7 +3,7 @@
 ghost use Rattle.std.specs.Prelude.{◌≡◌, ◌<◌, ◌≤◌, ◌++◌, [], List, length, map, option_map, not, if◌then◌else◌, false, IfOk, IfSome, IfNone};
 ghost use Rattle.std.specs.List.{list_any};
 ghost use Rattle.jt_trees.specs.StatementView.{stmt_view, body_view, given_view};
-ghost use Rattle.jt_chains.specs.Chain as chain;
+ghost use Rattle.jt_chains.specs.Chain as chains;
 ghost use Rattle.jt_chains.specs.Chain.{Template, templates, macros, own, all_given_from, imports_in, libraries_in, libraries, given, sources_in, a_library};
 ghost use Rattle.jt_chains.specs.Along.{along, first_body};
 ghost use Rattle.jt_chains.specs.Pages.{pages_view, home_view};
@@ -12,8 +12,9 @@ ghost use Rattle.jt_chains.specs.Places.{home_at, place_of};
 ghost use Rattle.jt_chains.specs.Named.{names_view};
 ghost use Rattle.jt_chains.specs.View.{chain_view, sources_of};
 
-use crate::linked::{Chain, Home, Page};
-use crate::parts::{Macro, add_macros, body_of_page, macros_at};
+use crate::linked::{Chain, Home};
+use crate::pages::Page;
+use crate::parts::{Macro, body_of_page};
 use jt_trees::Stmt;
 use std::alloc::{AllocError, Global};
 
@@ -35,14 +36,14 @@ pub struct Named<'a> {
 
 /// Whether a byte is whitespace.
 fn is_space(byte: u8) -> bool
-    ensures { result ≡ chain.is_space byte }
+    ensures { result ≡ chains.is_space byte }
 {
     byte == 32 || (9 <= byte && byte < 14)
 }
 
 /// Whether there is only whitespace in a text.
 fn is_blank(text: &str) -> bool
-    ensures { result ≡ not (list_any (λ c. not (chain.is_space c)) text.now) }
+    ensures { result ≡ not (list_any (λ c. not (chains.is_space c)) text.now) }
 {
     for byte in text.as_bytes() {
         if !is_space(*byte) {
@@ -54,7 +55,7 @@ fn is_blank(text: &str) -> bool
 
 /// Whether a library may hold the statement.
 fn of_a_library(statement: &Stmt) -> bool
-    ensures { result ≡ chain.of_a_library (stmt_view statement.now) }
+    ensures { result ≡ chains.of_a_library (stmt_view statement.now) }
 {
     match statement {
         Stmt::Macro(_, _, _, _) => true,
@@ -65,7 +66,7 @@ fn of_a_library(statement: &Stmt) -> bool
 
 /// Whether statements are a library's.
 pub fn holds_macros(body: &[Stmt]) -> bool
-    ensures { result ≡ chain.holds_macros (body_view body.now) }
+    ensures { result ≡ chains.holds_macros (body_view body.now) }
 {
     for statement in body {
         if !of_a_library(statement) {
@@ -76,44 +77,28 @@ pub fn holds_macros(body: &[Stmt]) -> bool
 }
 
 /// The place of the template of a name; the number of all where it isn't there.
-fn page_named(pages: &[Page], name: &str) -> usize
-    ensures { result ≡ place_of (pages_view pages.now) name.now }
+fn page_named(chain: &Chain, name: &str) -> usize
+    ensures { result ≡ place_of (pages_view chain.now.templates.items) name.now }
 {
-    for place in 0..pages.len() {
-        if pages[place].name.as_str() == name {
-            return place;
-        }
+    match chain.places.get(name) {
+        Some(place) => *place,
+        None => chain.templates.as_slice().len(),
     }
-    pages.len()
-}
-
-/// The macros of a library; none where it isn't there.
-fn macros_of<'a>(alloc: Global, pages: &'a [Page], name: &str) -> Result<Vec<Macro<'a>>, AllocError>
-    ensures { IfOk result (λ ms. macros_view (pages_view pages.now) ms.items
-        ≡ macros (sources_in (pages_view pages.now)) (a_library name.now)) }
-{
-    let place = page_named(pages, name);
-    let body = body_of_page(pages, place);
-    let mut found = Vec::new(alloc);
-    if !holds_macros(body) {
-        return Ok(found);
-    }
-    add_macros(pages, place, body, &mut found)?;
-    Ok(found)
 }
 
 /// The statements of a library; none where it isn't there.
-fn body_of_library<'a>(pages: &'a [Page], name: &str) -> &'a [Stmt]
+fn body_of_library<'a>(chain: &'a Chain, name: &str) -> &'a [Stmt]
     ensures { body_view result.now
-        ≡ first_body (templates (sources_in (pages_view pages.now)) (a_library name.now)) }
+        ≡ first_body
+        (templates (sources_in (pages_view chain.now.templates.items)) (a_library name.now)) }
 {
-    let body = body_of_page(pages, page_named(pages, name));
+    let body = body_of_page(&chain.templates, page_named(chain, name));
     if holds_macros(body) { body } else { &[] }
 }
 
 /// Whether a name is private.
-fn is_private(name: &str) -> bool
-    ensures { result ≡ chain.is_private name.now }
+pub(crate) fn is_private(name: &str) -> bool
+    ensures { result ≡ chains.is_private name.now }
 {
     match name.as_bytes().first() {
         Some(first) => *first == b'_',
@@ -121,45 +106,21 @@ fn is_private(name: &str) -> bool
     }
 }
 
-/// The macro of a name.
-fn macro_of<'a>(found: &[Macro<'a>], name: &str) -> Option<Macro<'a>>
-    ensures { (ts : List Template) → option_map (macro_view ts) result
-        ≡ chain.macro_of name.now (macros_view ts found.now) }
-{
-    for one in found {
-        if one.name == name {
-            return Some(*one);
-        }
-    }
-    None
-}
-
-/// The macro of a library that an importer asks for.
-pub fn public_macro<'a>(found: &[Macro<'a>], name: &str) -> Option<Macro<'a>>
-    ensures { (ts : List Template) → option_map (macro_view ts) result
-        ≡ chain.public_macro name.now (macros_view ts found.now) }
-{
-    if is_private(name) {
-        return None;
-    }
-    macro_of(found, name)
-}
-
 /// Adds the names that `from` gives.
 fn add_from<'a>(
-    alloc: Global,
-    pages: &'a [Page],
+    chain: &'a Chain,
     library: &'a str,
     names: &'a [(String, String)],
     found: &mut Vec<Named<'a>>,
 ) -> Result<(), AllocError>
-    ensures { IfOk result (λ _. (h : chain.Home) → names_view (pages_view pages.now) h found.new.items
-        ≡ names_view (pages_view pages.now) h found.old.items
-        ++ all_given_from (sources_in (pages_view pages.now)) library.now (given_view names.now)) }
+    ensures { IfOk result (λ _. (h : chains.Home)
+        → names_view (pages_view chain.now.templates.items) h found.new.items
+        ≡ names_view (pages_view chain.now.templates.items) h found.old.items
+        ++ all_given_from (sources_in (pages_view chain.now.templates.items)) library.now
+        (given_view names.now)) }
 {
-    let macros = macros_of(alloc, pages, library)?;
     for (name, given) in names {
-        if let Some(one) = public_macro(&macros, name) {
+        if let Some(one) = chain.library_macro(library, name) {
             found.push(Named {
                 name: given.as_str(),
                 given: Given::Imported(library, one),
@@ -171,14 +132,14 @@ fn add_from<'a>(
 
 /// Adds the names that the imports of a template give.
 fn add_imports<'a>(
-    alloc: Global,
-    pages: &'a [Page],
+    chain: &'a Chain,
     body: &'a [Stmt],
     found: &mut Vec<Named<'a>>,
 ) -> Result<(), AllocError>
-    ensures { IfOk result (λ _. (h : chain.Home) → names_view (pages_view pages.now) h found.new.items
-        ≡ names_view (pages_view pages.now) h found.old.items
-        ++ imports_in (sources_in (pages_view pages.now)) (body_view body.now)) }
+    ensures { IfOk result (λ _. (h : chains.Home)
+        → names_view (pages_view chain.now.templates.items) h found.new.items
+        ≡ names_view (pages_view chain.now.templates.items) h found.old.items
+        ++ imports_in (sources_in (pages_view chain.now.templates.items)) (body_view body.now)) }
 {
     for statement in body {
         match statement {
@@ -186,7 +147,7 @@ fn add_imports<'a>(
                 name: name.as_str(),
                 given: Given::Library(library.as_str()),
             })?,
-            Stmt::From(_, library, names) => add_from(alloc, pages, library, names, found)?,
+            Stmt::From(_, library, names) => add_from(chain, library, names, found)?,
             _ => {}
         }
     }
@@ -195,18 +156,18 @@ fn add_imports<'a>(
 
 /// The names that the imports of templates at these places give.
 fn imports_at<'a>(
-    alloc: Global,
-    pages: &'a [Page],
+    chain: &'a Chain,
     places: &[usize],
     found: &mut Vec<Named<'a>>,
 ) -> Result<(), AllocError>
-    ensures { IfOk result (λ _. (h : chain.Home) → names_view (pages_view pages.now) h found.new.items
-        ≡ names_view (pages_view pages.now) h found.old.items
-        ++ along (pages_view pages.now) (λ n b. imports_in (sources_in (pages_view pages.now)) b)
-        places.now) }
+    ensures { IfOk result (λ _. (h : chains.Home)
+        → names_view (pages_view chain.now.templates.items) h found.new.items
+        ≡ names_view (pages_view chain.now.templates.items) h found.old.items
+        ++ along (pages_view chain.now.templates.items)
+        (λ n b. imports_in (sources_in (pages_view chain.now.templates.items)) b) places.now) }
 {
     for place in places {
-        add_imports(alloc, pages, body_of_page(pages, *place), found)?;
+        add_imports(chain, body_of_page(&chain.templates, *place), found)?;
     }
     Ok(())
 }
@@ -217,7 +178,7 @@ fn add_own<'a>(
     macros: &[Macro<'a>],
     found: &mut Vec<Named<'a>>,
 ) -> Result<(), AllocError>
-    ensures { IfOk result (λ _. (h : chain.Home) → names_view (pages_view pages.now) h found.new.items
+    ensures { IfOk result (λ _. (h : chains.Home) → names_view (pages_view pages.now) h found.new.items
         ≡ names_view (pages_view pages.now) h found.old.items
         ++ own h (macros_view (pages_view pages.now) macros.now)) }
 {
@@ -233,21 +194,24 @@ fn add_own<'a>(
 /// The names of a chain or a library, where its own macros are found.
 fn names_of<'a>(
     alloc: Global,
-    pages: &'a [Page],
+    chain: &'a Chain,
     home: &Home,
     macros: &[Macro<'a>],
 ) -> Result<Vec<Named<'a>>, AllocError>
-    ensures { IfOk result (λ ns. (h : chain.Home) → names_view (pages_view pages.now) h ns.items
-        ≡ own h (macros_view (pages_view pages.now) macros.now) ++ (if home.now.is_library then []
-        else along (pages_view pages.now) (λ n b. imports_in (sources_in (pages_view pages.now)) b)
+    ensures { IfOk result (λ ns. (h : chains.Home)
+        → names_view (pages_view chain.now.templates.items) h ns.items
+        ≡ own h (macros_view (pages_view chain.now.templates.items) macros.now)
+        ++ (if home.now.is_library then []
+        else along (pages_view chain.now.templates.items)
+        (λ n b. imports_in (sources_in (pages_view chain.now.templates.items)) b)
         home.now.templates.items)) }
 {
     let mut names = Vec::new(alloc);
-    add_own(pages, macros, &mut names)?;
+    add_own(&chain.templates, macros, &mut names)?;
     if home.is_library {
         return Ok(names);
     }
-    imports_at(alloc, pages, &home.templates, &mut names)?;
+    imports_at(chain, &home.templates, &mut names)?;
     Ok(names)
 }
 
@@ -265,7 +229,7 @@ impl Chain {
     {
         let macros = self.macros(alloc, home)?;
         match self.homes.get(home) {
-            Some(found) => names_of(alloc, &self.templates, found, &macros),
+            Some(found) => names_of(alloc, self, found, &macros),
             None => Ok(Vec::new(alloc)),
         }
     }
@@ -323,18 +287,16 @@ impl Chain {
     }
 
     /// The macro of a library that an importer asks for.
-    pub fn library_macro(
-        &self,
-        alloc: Global,
-        library: &str,
-        name: &str,
-    ) -> Result<Option<Macro<'_>>, AllocError>
-        ensures { IfOk result (λ o. option_map (macro_view (chain_view self.now).templates) o
-            ≡ chain.public_macro name.now
-            (macros (sources_of (chain_view self.now)) (a_library library.now))) }
+    pub fn library_macro(&self, library: &str, name: &str) -> Option<Macro<'_>>
+        ensures { option_map (macro_view (chain_view self.now).templates) result
+            ≡ chains.public_macro name.now
+            (macros (sources_of (chain_view self.now)) (a_library library.now)) }
     {
-        let found = macros_of(alloc, &self.templates, library)?;
-        Ok(public_macro(&found, name))
+        let place = page_named(self, library);
+        match self.templates.get(place) {
+            Some(page) => page.public_macro(place, name),
+            None => None,
+        }
     }
 
     /// The statements of a library; none where it isn't there.
@@ -342,7 +304,7 @@ impl Chain {
         ensures { body_view result.now
             ≡ first_body (templates (sources_of (chain_view self.now)) (a_library name.now)) }
     {
-        body_of_library(&self.templates, name)
+        body_of_library(self, name)
     }
 
     /// The place of a library among the chains and libraries.
@@ -351,7 +313,7 @@ impl Chain {
             (λ i. home_at (chain_view self.now).order i ≡ a_library name.now) }
         ensures within { IfSome result (λ i. i < length self.now.homes.items) }
         ensures none { IfNone result
-            (chain.listed (a_library name.now) (chain_view self.now).order ≡ false) }
+            (chains.listed (a_library name.now) (chain_view self.now).order ≡ false) }
     {
         for place in 0..self.homes.len() {
             if is_library(&self.homes[place], name) {
@@ -364,7 +326,7 @@ impl Chain {
 
 /// Whether it is the library of a name.
 fn is_library(home: &Home, name: &str) -> bool
-    ensures { result ≡ chain.same_home (home_view home.now) (a_library name.now) }
+    ensures { result ≡ chains.same_home (home_view home.now) (a_library name.now) }
 {
     home.is_library && home.name.as_str() == name
 }

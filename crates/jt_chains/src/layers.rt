@@ -8,7 +8,8 @@ ghost use Rattle.jt_chains.specs.Layers.{layer_view};
 ghost use Rattle.jt_chains.specs.Places.{home_at};
 ghost use Rattle.jt_chains.specs.View.{chain_view, sources_of};
 
-use crate::linked::{Chain, Page};
+use crate::linked::Chain;
+use crate::pages::Page;
 use jt_trees::Stmt;
 use std::alloc::{AllocError, Global};
 

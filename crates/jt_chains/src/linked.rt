@@ -4,16 +4,11 @@ ghost use Rattle.std.specs.Prelude.{◌≡◌, ◌<◌, true, false, length, map
 ghost use Rattle.jt_chains.specs.Chain.{sources_in};
 ghost use Rattle.jt_chains.specs.Includes.{InOrder, InOrder-prop, begins_with_chain};
 ghost use Rattle.jt_chains.specs.Pages.{AreWhole, AreWhole-prop, pages_view, home_view};
+ghost use Rattle.jt_chains.specs.Tables.{AreAt, AreAt-prop};
 ghost use Rattle.jt_trees.specs.Texts.{repeated};
 
-use jt_trees::Template;
-
-/// A template that was read, with its name.
-#[derive(Drop)]
-pub struct Page {
-    pub name: String,
-    pub template: Template,
-}
+use crate::pages::Page;
+use std::collections::BTreeMap;
 
 /// A chain: the name of its entry, and its templates from the entry to the root, by their places
 /// among all that were read. Or a library, with its own name and template.
@@ -33,6 +28,8 @@ pub struct Chain {
     pub homes: Vec<Home>,
     /// Whether a text begins escaped.
     pub autoescape: bool,
+    /// The place of each template by its name.
+    pub places: BTreeMap<String, usize>,
     pub ghost once: { repeated (map (λ t. t.name) (pages_view templates.items)) ≡ false },
     pub ghost some: { 0 < length homes.items },
     pub ghost begins: { begins_with_chain (map home_view homes.items) ≡ true },
@@ -41,4 +38,6 @@ pub struct Chain {
             (map home_view homes.items) },
     pub ghost whole: { AreWhole (pages_view templates.items)
         homes.items } by { AreWhole-prop (pages_view templates.items) homes.items },
+    pub ghost placed: { AreAt (pages_view templates.items)
+        places } by { AreAt-prop (pages_view templates.items) places },
 }

@@ -9,7 +9,8 @@ ghost use Rattle.jt_chains.specs.Along.{body_at, macros_along, blocks_along};
 ghost use Rattle.jt_chains.specs.Places.{home_at};
 ghost use Rattle.jt_chains.specs.View.{chain_view, sources_of};
 
-use crate::linked::{Chain, Page};
+use crate::linked::Chain;
+use crate::pages::Page;
 use jt_trees::{Parameter, Stmt};
 use std::alloc::{AllocError, Global};
 

@@ -177,7 +177,7 @@ fn library_call_broken(
     let Some(Known::Library(library)) = scope.known(of) else {
         return Ok(Some(ScopeError::NotCallable));
     };
-    match scope.chain.library_macro(scope.alloc, library, field)? {
+    match scope.chain.library_macro(library, field) {
         Some(found) => Ok(unless(fits(scope.alloc, found.parameters, row, pairs)?)),
         None => Ok(Some(ScopeError::NotCallable)),
     }

@@ -33,7 +33,7 @@ use Rattle.jt_graph.specs.View.{graph_of}
 use Rattle.jt_chains.specs.Pages.{page_view, pages_view}
 use Rattle.jt_inherit.specs.SetView.{key_view, homes_view}
 use Rattle.jt_inherit.specs.declared.sets.HomeKey.{HomeKey}
-use Rattle.jt_chains.specs.declared.linked.Page.{Page}
+use Rattle.jt_chains.specs.declared.pages.Page.{Page}
 
 -- ---- templates at places
 

@@ -16,7 +16,7 @@ use Rattle.jt_inherit.specs.Chains.{Given, IsRead, IsOnly}
 use Rattle.jt_inherit.specs.Faults.{IsFaultOf}
 use Rattle.jt_chains.specs.Includes.{needs_in}
 use Rattle.jt_chains.specs.Pages.{page_view, pages_view}
-use Rattle.jt_chains.specs.declared.linked.Page.{Page}
+use Rattle.jt_chains.specs.declared.pages.Page.{Page}
 use Rattle.jt_inherit.specs.Refusals.{Breaks}
 use Rattle.jt_chains.specs.Rules.{Reaches, asked, way}
 use Rattle.jt_inherit.specs.Ways.{Leads, LeadsFrom, AreKnown, IsWay, IsWithin}

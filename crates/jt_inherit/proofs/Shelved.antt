@@ -1,19 +1,21 @@
 -- The library of a name among the templates that were read: its macros, and what is asked of it.
 use Rattle.std.proofs.Common.{◌≡◌, ℕ, ◌+◌, ◌<◌, length, drop, get_or, arith, string_bytes, Bool, true, false, ◌&&◌, ◌||◌, if◌then◌else◌, List, [], ◌∷◌, ◌++◌, refl, sym, ap, ◌∙◌, Option, Some, None}
-use Rattle.std.specs.Prelude.{slice_get, flat_map, unwrap_or, option_map}
+use Rattle.std.specs.Prelude.{slice_get, flat_map}
 use Rattle.std.specs.Option.{is_some, is_none, option_to_list}
-use Rattle.std.proofs.lemmas.List.{drop_more, length-map}
+use Rattle.std.proofs.lemmas.List.{drop_more, length-map, append-nil}
 use Rattle.std.proofs.lemmas.Option.{slice_get_within}
 use Rattle.jt_trees.specs.Expressions.{Text}
-use Rattle.jt_trees.specs.Statements.{Body, end}
+use Rattle.jt_trees.specs.Statements.{Body}
 use Rattle.jt_trees.specs.StatementView.{body_of}
 use Rattle.jt_trees.specs.Texts.{among, repeated}
-use Rattle.jt_chains.specs.Along.{ArePlaces, templates_at, macros_along}
+use Rattle.jt_chains.specs.Along.{ArePlaces, templates_at}
+use Rattle.jt_chains.specs.Tables.{library_macros}
 use Rattle.jt_chains.specs.Chain.{Sources, a_library, Template, template, library_template, holds_macros, is_a_library, is_private, MacroBody, macros, macros_in, public_macro, sources_in}
 use Rattle.jt_chains.specs.Pages.{page_view, pages_view}
 use Rattle.jt_chains.specs.Rules.{lacks_one, lacks_macros}
-use Rattle.jt_chains.specs.declared.linked.Page.{Page}
+use Rattle.jt_chains.specs.declared.pages.Page.{Page}
 use Rattle.jt_chains.proofs.Placed.{map_at, only_one, place_within}
+use Rattle.jt_inherit.specs.Given.{macros_held}
 use Rattle.jt_inherit.specs.Kept.{any_lacks_macros, has_not, names_from}
 use Rattle.jt_inherit.proofs.Finding.{some_source}
 use Rattle.jt_inherit.proofs.Leads.{names, length_names, name_of_slice}
@@ -29,12 +31,12 @@ unread ts n h = by (sources_in ts n) (some_source ts n ∙ h)
 abbrev own_macros : List Template → List MacroBody
 own_macros = flat_map (λ t. macros_in t.name t.body)
 
-macros_read : (ts : List Template) (n : Text) (i : ℕ) (t : Template) → slice_get ts i ≡ Some t → t.name ≡ n → sources_in ts n ≡ Some t.body → holds_macros t.body ≡ true
-    → macros_along ts (i ∷ []) ≡ macros (sources_in ts) (a_library n)
-macros_read ts n i t at named source h =
-    ap (λ o. macros_in (unwrap_or (option_map (λ (u : Template). u.name) o) []) (unwrap_or (option_map (λ (u : Template). u.body) o) end) ++ []) at
-    ∙ ap (λ m. macros_in m t.body ++ []) named
-    ∙ sym (ap (λ o. own_macros (library_template n o)) source ∙ ap (λ (c : Bool). own_macros (if c then template n (Some t.body) else [])) h)
+held_read : (n m : Text) (b : Body) → m ≡ n → library_macros m b ≡ own_macros (library_template n (Some b))
+held_read n m b e = by (holds_macros b)
+  where
+    by : (c : Bool) → (if c then macros_in m b else []) ≡ own_macros (if c then template n (Some b) else [])
+    by true = ap (λ x. macros_in x b) e ∙ sym (append-nil (macros_in n b))
+    by false = refl
 
 -- the template of a name, at its place
 module _ (ps : List Page) (ks : List Text) (k : AreNamed (pages_view ps) ks) (n : Text) (i : ℕ) (at : slice_get ks i ≡ Some n) where
@@ -61,8 +63,8 @@ module _ (ps : List Page) (ks : List Text) (k : AreNamed (pages_view ps) ks) (n 
     pub is_library_read : (b : Bool) → b ≡ holds_macros (body_of p.template) → is_a_library (sources_in (pages_view ps) n) ≡ b
     is_library_read b e = ap is_a_library source_is ∙ sym e
 
-    pub macros_there : holds_macros (body_of p.template) ≡ true → macros_along (pages_view ps) (i ∷ []) ≡ macros (sources_in (pages_view ps)) (a_library n)
-    macros_there h = macros_read (pages_view ps) n i (page_view p) there name_is source_is h
+    pub macros_there : macros_held p ≡ macros (sources_in (pages_view ps)) (a_library n)
+    macros_there = held_read n (string_bytes p.name) (body_of p.template) name_is ∙ sym (ap (λ o. own_macros (library_template n o)) source_is)
 
 no_macros : (s : Sources) (n : Text) → is_a_library (s n) ≡ false → macros s (a_library n) ≡ []
 no_macros s n e = by (s n) e

@@ -1,13 +1,17 @@
--- What only private clauses cite: the macros of a library that was read.
-use Rattle.std.specs.Prelude.{◌≡◌, true, false, List, Option, Some, None}
-use Rattle.std.specs.declared.vec.Vec.{Vec}
-use Rattle.std.specs.declared.alloc.Global.{Global}
+-- What only private clauses cite: the template of a library that was read, and its macros.
+use Rattle.std.specs.Prelude.{◌≡◌, false, List, Option, Some, None, string_bytes}
+use denote.Ref.{Bor}
 use Rattle.jt_trees.specs.Expressions.{Text}
-use Rattle.jt_chains.specs.Chain.{Template, a_library, is_a_library, macros, sources_in}
-use Rattle.jt_chains.specs.Parts.{macros_view}
-use Rattle.jt_chains.specs.declared.parts.Macro.{Macro}
+use Rattle.jt_trees.specs.StatementView.{body_of}
+use Rattle.jt_chains.specs.Chain.{Template, MacroBody, a_library, holds_macros, is_a_library, macros, sources_in}
+use Rattle.jt_chains.specs.Tables.{library_macros}
+use Rattle.jt_chains.specs.declared.pages.Page.{Page}
 
--- those of the library of the name, or nothing where there is none
-abbrev pub IsGiven : List Template → Text → Option (Vec Macro Global) → Type 0
+-- the macros of a template, where it is a library
+abbrev pub macros_held : Page → List MacroBody
+macros_held p = library_macros (string_bytes p.name) (body_of p.template)
+
+-- the template of the name, or nothing where it wasn't read
+abbrev pub IsGiven : List Template → Text → Option (Bor Page) → Type 0
 IsGiven ts n None = is_a_library (sources_in ts n) ≡ false
-IsGiven ts n (Some ms) = (is_a_library (sources_in ts n) ≡ true) × (macros_view ts ms.items ≡ macros (sources_in ts) (a_library n))
+IsGiven ts n (Some p) = (is_a_library (sources_in ts n) ≡ holds_macros (body_of p.now.template)) × (macros_held p.now ≡ macros (sources_in ts) (a_library n))

@@ -25,7 +25,7 @@ use crate::error::ChainError;
 use crate::library::Library;
 use crate::rules::check_rules;
 use crate::shelf::Shelf;
-use jt_chains::{Chain, Home};
+use jt_chains::{Chain, Home, places_by_name};
 use jt_graph::order;
 use jt_scan::Options;
 use std::alloc::{AllocError, Global};
@@ -72,10 +72,12 @@ pub fn chain<L: Library>(
     check_chains(alloc, &found, options.autoescape)?;
     let order = order(alloc, &found.next)?;
     let homes = homes_in(alloc, &found, &order)?;
+    let places = places_by_name(alloc, &found.pages)?;
     Ok(Chain {
         templates: found.pages,
         homes,
         autoescape: options.autoescape,
+        places,
     })
 }
 

@@ -40,10 +40,8 @@ pub(crate) fn read_page<L: Library>(
         return Err(ChainError::Missing);
     };
     let template = template_of(alloc, name, source, options)?;
-    Ok(Page {
-        name: String::from_str(alloc, name)?,
-        template,
-    })
+    let name = String::from_str(alloc, name)?;
+    Ok(Page::new(alloc, name, template)?)
 }
 
 /// The template that the source of a name spells.

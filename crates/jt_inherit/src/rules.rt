@@ -147,7 +147,7 @@ pub(crate) fn check_rules(
     if any_double(alloc, shelf.pages, places, escaping)? {
         return Err(ChainError::DoubleBlock);
     }
-    if any_lacks_macros(alloc, shelf, places)? {
+    if any_lacks_macros(shelf, places) {
         return Err(ChainError::NoMacro);
     }
     if names_repeat(alloc, &names_at(alloc, shelf, places)?)? {

@@ -13,7 +13,7 @@ use Rattle.jt_chains.specs.Places.{home_at}
 use Rattle.jt_chains.specs.Uses as uses
 use Rattle.jt_chains.specs.View.{chain_view, sources_of}
 use Rattle.jt_chains.specs.declared.linked.Chain.{Chain}
-use Rattle.jt_chains.specs.declared.linked.Page.{Page}
+use Rattle.jt_chains.specs.declared.pages.Page.{Page}
 use Rattle.jt_chains.specs.declared.parts.Block.{Block}
 use Rattle.jt_rules.specs.World.{World}
 use Rattle.jt_resolved.specs.Slots.{global}

@@ -3,7 +3,7 @@ use Rattle.jt_chains.specs.Pages.{pages_view}
 use Rattle.jt_chains.specs.Places.{home_at}
 use Rattle.jt_chains.specs.View.{chain_view}
 use Rattle.jt_chains.specs.declared.linked.Chain.{Chain}
-use Rattle.jt_chains.specs.declared.linked.Page.{Page}
+use Rattle.jt_chains.specs.declared.pages.Page.{Page}
 use Rattle.jt_rules.specs.World.{world_of}
 use Rattle.jt_meaning.specs.Programs.{program}
 use Rattle.jt_resolved.specs.View.{program_of}

@@ -7,5 +7,5 @@ use Rattle.jt_chains.proofs.given.add_from.Given as goal
 
 abbrev pub invariant-loop-name : goal.invariant-loop-name
 invariant-loop-name l = (h : Home) →
-    names_view (pages_view l.pages) h l.found.items ++ all_given_from (sources_in (pages_view l.pages)) l.library (given_view (drop l.name-index l.names))
-    ≡ names_view (pages_view l.pages) h l.initial.found.items ++ all_given_from (sources_in (pages_view l.pages)) l.library (given_view l.names)
+    names_view (pages_view l.chain.templates.items) h l.found.items ++ all_given_from (sources_in (pages_view l.chain.templates.items)) l.library (given_view (drop l.name-index l.names))
+    ≡ names_view (pages_view l.chain.templates.items) h l.initial.found.items ++ all_given_from (sources_in (pages_view l.chain.templates.items)) l.library (given_view l.names)

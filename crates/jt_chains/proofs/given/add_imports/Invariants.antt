@@ -7,5 +7,5 @@ use Rattle.jt_chains.proofs.given.add_imports.Given as goal
 
 abbrev pub invariant-loop-statement : goal.invariant-loop-statement
 invariant-loop-statement l = (h : Home) →
-    names_view (pages_view l.pages) h l.found.items ++ imports_in (sources_in (pages_view l.pages)) (body_view (drop l.statement-index l.body))
-    ≡ names_view (pages_view l.pages) h l.initial.found.items ++ imports_in (sources_in (pages_view l.pages)) (body_view l.body)
+    names_view (pages_view l.chain.templates.items) h l.found.items ++ imports_in (sources_in (pages_view l.chain.templates.items)) (body_view (drop l.statement-index l.body))
+    ≡ names_view (pages_view l.chain.templates.items) h l.initial.found.items ++ imports_in (sources_in (pages_view l.chain.templates.items)) (body_view l.body)

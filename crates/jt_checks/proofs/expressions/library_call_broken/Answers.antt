@@ -25,7 +25,7 @@ returns-in_ok-fits-in-Some c =
     let w = within_view c.args.within in
     let view = macro_view (chain_view s.chain.now).templates in
     c.unless.ensures ∙ ap rules.unless c.in_ok-fits-in-Some.ensures
-    ∙ sym (called_library (its_world s) (its_home s) w o n c.args.field.now f us ps (option_map view c.in_ok-found.field-0) known c.in_ok-found.ensures
+    ∙ sym (called_library (its_world s) (its_home s) w o n c.args.field.now f us ps (option_map view c.library_macro.result) known c.library_macro.ensures
     ∙ ap (λ z. rules.call_broken (its_world s) (its_home s) (of_library (its_world s).sources n (option_map view z)) w f us ps) c.in-Some.is)
 
 pub returns-in-None : goal.returns-in-None
@@ -40,5 +40,5 @@ returns-in-None c =
     let ps = pairs_view c.args.pairs.now in
     let w = within_view c.args.within in
     let view = macro_view (chain_view s.chain.now).templates in
-    sym (called_library (its_world s) (its_home s) w o n c.args.field.now f us ps (option_map view c.in_ok-found.field-0) known c.in_ok-found.ensures
+    sym (called_library (its_world s) (its_home s) w o n c.args.field.now f us ps (option_map view c.library_macro.result) known c.library_macro.ensures
     ∙ ap (λ z. rules.call_broken (its_world s) (its_home s) (of_library (its_world s).sources n (option_map view z)) w f us ps) c.in-None.is)

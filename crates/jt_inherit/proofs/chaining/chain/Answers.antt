@@ -8,7 +8,9 @@ use Rattle.jt_chains.specs.Chain.{sources_in}
 use Rattle.jt_inherit.specs.Chains.{IsChain}
 use Rattle.jt_inherit.specs.Found.{AreFound, HasHomes, found_templates, found_homes}
 use Rattle.jt_chains.specs.Includes.{InOrder, begins_with_chain}
-use Rattle.jt_chains.specs.Pages.{home_view}
+use Rattle.jt_chains.specs.Pages.{home_view, pages_view}
+use Rattle.jt_chains.specs.Tables.{AreAt}
+use Rattle.jt_chains.specs.declared.pages.Page.{Page}
 use Rattle.jt_chains.specs.Places.{home_at}
 use Rattle.jt_inherit.specs.SetView.{strings}
 use Rattle.jt_trees.specs.Texts.{repeated}
@@ -113,6 +115,7 @@ invariant_of-result g c =
           ap begins_with_chain (named ∙ b.1);
       order = subst (InOrder (sources_in ts)) (sym named) (in_order given c.args.options c.args.entry.now ts ks hs ws ns found all kept is o);
       whole = all_whole given c.args.options c.args.entry.now ts ks hs ws ns found all kept is o homes has;
+      placed = subst (λ (z : List Page). AreAt (pages_view z) c.in_ok-places.places) c.deref-3.ensures.value c.in_ok-places.ensures;
     }
 
 pub returns-clause-chained : goal.returns-clause-chained
@@ -225,6 +228,12 @@ returns-in_err-order-clause-only g c =
 pub returns-in_err-homes-clause-only : goal.returns-in_err-homes-clause-only
 returns-in_err-homes-clause-only g c =
     let p = err_from_is_err_and c.from_residual-in_err-homes.result c.from_residual-in_err-homes.ensures.1 in
+    rw p.1
+    (λ d i. p.2)
+
+pub returns-in_err-places-clause-only : goal.returns-in_err-places-clause-only
+returns-in_err-places-clause-only g c =
+    let p = err_from_is_err_and c.from_residual-in_err-places.result c.from_residual-in_err-places.ensures.1 in
     rw p.1
     (λ d i. p.2)
 

@@ -9,7 +9,7 @@ use Rattle.jt_inherit.specs.SetView.{strings}
 use Rattle.jt_inherit.specs.Ways.{AreNamed}
 use Rattle.jt_inherit.specs.Kept.{BreakOne}
 use Rattle.jt_chains.specs.Pages.{pages_view}
-use Rattle.jt_chains.specs.declared.linked.Page.{Page}
+use Rattle.jt_chains.specs.declared.pages.Page.{Page}
 use Rattle.jt_inherit.proofs.Listed.{way_number}
 use Rattle.jt_inherit.proofs.Whole.{at_number}
 use Rattle.jt_inherit.proofs.chaining.check_chains.Goals as goal

@@ -12,7 +12,7 @@ use Rattle.jt_chains.specs.Pages.{pages_view}
 use Rattle.jt_inherit.specs.SetView.{strings, key_view, homes_view}
 use Rattle.jt_inherit.specs.Ways.{AreKnown}
 use Rattle.jt_inherit.specs.declared.error.ChainError.TheVariants as error
-use Rattle.jt_chains.specs.declared.linked.Page.{Page}
+use Rattle.jt_chains.specs.declared.pages.Page.{Page}
 use Rattle.jt_inherit.proofs.Among.{map_more}
 use Rattle.jt_inherit.proofs.Finding.{home_number, known_names, need_breaks, next_breaks, found_more, first_same, way_there, both_pages}
 use Rattle.jt_inherit.proofs.Homes.{place_listed}

@@ -13,4 +13,4 @@ returns-in-None c =
     let ts = pages_view c.args.shelf.pages.now in
     let n = c.args.library.now in
     let ks = texts c.args.given.now.items in
-    sym (ap (λ l. ks ++ l) (nothing_from (sources_in ts) n (given_view c.args.names.now) (subst (IsGiven ts n) c.in-None.is c.in_ok-found.ensures)) ∙ append-nil ks)
+    sym (ap (λ l. ks ++ l) (nothing_from (sources_in ts) n (given_view c.args.names.now) (subst (IsGiven ts n) c.in-None.is c.library_page.ensures)) ∙ append-nil ks)

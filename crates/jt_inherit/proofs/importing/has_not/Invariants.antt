@@ -1,9 +1,8 @@
-use Rattle.std.proofs.Common.{◌≡◌, List, drop}
+use Rattle.std.proofs.Common.{◌≡◌, drop}
 use Rattle.jt_trees.specs.StatementView.{given_view}
-use Rattle.jt_chains.specs.Chain.{Template}
-use Rattle.jt_chains.specs.Parts.{macros_view}
+use Rattle.jt_inherit.specs.Given.{macros_held}
 use Rattle.jt_inherit.specs.Kept.{has_not}
 use Rattle.jt_inherit.proofs.importing.has_not.Given as goal
 
 abbrev pub invariant-loop-name : goal.invariant-loop-name
-invariant-loop-name l = (ts : List Template) → has_not (macros_view ts l.found) (given_view l.names) ≡ has_not (macros_view ts l.found) (given_view (drop l.name-index l.names))
+invariant-loop-name l = has_not (macros_held l.page) (given_view l.names) ≡ has_not (macros_held l.page) (given_view (drop l.name-index l.names))

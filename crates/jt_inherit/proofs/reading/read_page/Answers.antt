@@ -1,9 +1,16 @@
-use Rattle.std.proofs.Common.{string_bytes, sym, ap, ◌∙◌}
+use Rattle.std.proofs.Common.{◌≡◌, string_bytes, sym, ap, subst, ◌∙◌}
+use Rattle.jt_trees.specs.Statements.{Body}
 use Rattle.jt_trees.specs.StatementView.{body_of}
+use Rattle.jt_trees.specs.declared.statement.Template.{Template}
+use Rattle.jt_inherit.specs.Chains.{IsTree}
 use Rattle.jt_inherit.proofs.Cuts.{only_read}
 use Rattle.jt_inherit.proofs.reading.read_page.Goals as goal
 
 pub returns-clause-only : goal.returns-clause-only
 returns-clause-only g c =
-    only_read (g.L.Library.sources c.args.library.now) c.args.options (string_bytes c.in_ok-from_str.field-0) c.in-Some.source.now (body_of c.in_ok-template.template)
-    (ap (g.L.Library.sources c.args.library.now) c.in_ok-from_str.ensures.ok ∙ sym c.in-Some.ensures) c.in_ok-template.ensures.only
+    let given = g.L.Library.sources c.args.library.now in
+    let p = c.in_ok-new.field-0 in
+    let text = c.in-Some.source.now in
+    only_read given c.args.options (string_bytes p.name) text (body_of p.template)
+    (ap (λ s. given (string_bytes s)) c.in_ok-new.ensures.name ∙ ap given c.in_ok-name.ensures.ok ∙ sym c.in-Some.ensures)
+    (subst (λ (t : Template). (b : Body) → IsTree c.args.options text b → b ≡ body_of t) (sym c.in_ok-new.ensures.template) c.in_ok-template.ensures.only)

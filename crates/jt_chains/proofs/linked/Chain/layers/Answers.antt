@@ -10,7 +10,7 @@ use Rattle.jt_chains.specs.Layers.{layer_view}
 use Rattle.jt_chains.specs.Pages.{pages_view, home_view}
 use Rattle.jt_chains.specs.Places.{home_at}
 use Rattle.jt_chains.specs.declared.linked.Home.{Home}
-use Rattle.jt_chains.specs.declared.linked.Page.{Page}
+use Rattle.jt_chains.specs.declared.pages.Page.{Page}
 use Rattle.jt_chains.specs.declared.layers.Layer.{Layer}
 use Rattle.jt_chains.proofs.Placed.{home_places, home_along}
 use Rattle.jt_chains.proofs.linked.Chain.layers.Goals as goal

@@ -8,7 +8,7 @@ use Rattle.jt_trees.specs.Statements.{Body}
 use Rattle.jt_chains.specs.Pages.{pages_view}
 use Rattle.jt_chains.specs.Parts.{macros_view}
 use Rattle.jt_chains.specs.declared.linked.Home.{Home}
-use Rattle.jt_chains.specs.declared.linked.Page.{Page}
+use Rattle.jt_chains.specs.declared.pages.Page.{Page}
 use Rattle.jt_chains.specs.declared.parts.Macro.{Macro}
 use Rattle.jt_chains.proofs.Placed.{home_along}
 use Rattle.jt_chains.proofs.linked.Chain.macros.Goals as goal

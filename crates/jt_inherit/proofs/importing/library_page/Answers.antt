@@ -1,0 +1,35 @@
+use Rattle.std.proofs.Common.{◌<◌, length, get_or, sym, ap, subst, ◌∙◌, rules, refl}
+use Rattle.jt_trees.specs.StatementView.{body_of}
+use Rattle.jt_trees.specs.Texts.{among}
+use Rattle.jt_chains.specs.Chain.{holds_macros}
+use Rattle.jt_chains.specs.Pages.{pages_view}
+use Rattle.jt_inherit.specs.Given.{IsGiven}
+use Rattle.jt_inherit.specs.SetView.{strings}
+use Rattle.jt_inherit.proofs.Shelved.{unread, place_read, is_library_read, macros_there}
+use Rattle.jt_inherit.proofs.importing.library_page.Goals as goal
+
+pub returns-in_err-place : goal.returns-in_err-place
+returns-in_err-place c =
+    let ts = pages_view c.args.shelf.pages.now in
+    let n = c.args.library.now in
+    subst (IsGiven ts n) (sym c.from_residual.ensures) (unread ts n (ap (among n) (sym c.requires.named) ∙ c.in_err-place.ensures))
+
+pub bounds-shelf-place : goal.bounds-shelf-place
+bounds-shelf-place c = place_read c.args.shelf.pages.now (strings c.args.shelf.names.now.keys) c.requires c.args.library.now c.in_ok-place.place c.in_ok-place.ensures
+
+pub offset_bounds-shelf-place : goal.offset_bounds-shelf-place
+offset_bounds-shelf-place c =
+    let lt : c.in_ok-place.place < length c.args.shelf.pages.now = place_read c.args.shelf.pages.now (strings c.args.shelf.names.now.keys) c.requires c.args.library.now c.in_ok-place.place c.in_ok-place.ensures in
+    search rules
+
+pub returns : goal.returns
+returns c =
+    let ps = c.args.shelf.pages.now in
+    let ks = strings c.args.shelf.names.now.keys in
+    let n = c.args.library.now in
+    let i = c.in_ok-place.place in
+    let p = get_or ps i c.index-shelf-place.result in
+    let is = ap (λ d. get_or ps i d) c.index-shelf-place.is in (
+      is_library_read ps ks c.requires n i c.in_ok-place.ensures p is (holds_macros (body_of p.template)) refl,
+      macros_there ps ks c.requires n i c.in_ok-place.ensures p is,
+    )
