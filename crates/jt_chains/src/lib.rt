@@ -1,8 +1,9 @@
 //! Chains and libraries of templates, as data: what their parts are.
 //!
-//! A chain with all that it reaches (linked), its templates (layers), its macros and the bodies of
-//! its blocks (parts), and what imports give to names (given). Read first: specs/Chain.antt;
-//! specs/Rules.antt has the rules C1 to C12.
+//! A chain with all that it reaches (linked), its templates (layers, pages), its macros and the
+//! bodies of its blocks (parts), what imports give to names (given), and the tables by which
+//! templates and macros are found (tables). Read first: specs/Chain.antt; specs/Rules.antt has the
+//! rules C1 to C12.
 #![tactic(auto)]
 
 mod given;
