@@ -1,14 +1,14 @@
 #!/usr/bin/env python3
 """Counts the machine's instructions that `jt` takes on four workloads, by valgrind's callgrind.
 
-    bench/speed/count.py [--jt PATH] [--keep FOLDER] [NAME ..]
+    bench/speed/count.py [--jt PATH] [--keep FOLDER] [--times N] [NAME ..]
 
 Without --jt it takes the program that `rt run` keeps, crates/jt_cli/out/jt_cli. The workloads are the folders of templates/ beside this
 file: a table of 2,000 rows, a page with blocks and an include, a letter that is mostly plain text, and a configuration of 300 hosts;
 make_contexts.py makes their contexts. Printed are, for each: what `jt run` takes beside a template of one letter over the same context,
 what `jt compile` takes beside that letter, and what that letter's run takes, which is the start of the program, the reading of the
-context and the end of the process. Counts hardly change with what else the machine does. --keep writes the contexts, the images and
-callgrind's files to a folder.
+context and the end of the process. Counts hardly change with what else the machine does. --times N has the contexts hold N times the
+rows. --keep writes the contexts, the images and callgrind's files to a folder.
 """
 import pathlib, re, subprocess, sys, tempfile
 
@@ -19,7 +19,7 @@ from make_contexts import write
 
 WORKLOADS = ("table", "page", "mail", "config")
 # enough for each of them
-BUDGET = ["--fuel", "1000000000", "--output", "100000000", "--size", "100000000"]
+BUDGET = ["--fuel", "100000000000", "--output", "4000000000", "--size", "4000000000"]
 
 
 def count(out, words):
@@ -34,6 +34,7 @@ def count(out, words):
 def main():
     words = flags(__doc__)
     words.add_argument("--keep")
+    words.add_argument("--times", type=int, default=1)
     words.add_argument("names", nargs="*")
     given = words.parse_args()
     with tempfile.TemporaryDirectory(prefix="jt-speed-") as room:
@@ -41,7 +42,7 @@ def main():
         letter = folder / "letter"
         letter.mkdir(parents=True, exist_ok=True)
         (letter / "main").write_text("x")
-        write(folder)
+        write(folder, given.times)
         least = count(folder / "compile.letter", [given.jt, "compile", letter, "main", folder / "letter.jtbc"])
         for name in given.names or WORKLOADS:
             context, image = folder / f"{name}.json", folder / f"{name}.jtbc"
