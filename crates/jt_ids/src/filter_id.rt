@@ -4,7 +4,7 @@ ghost use Rattle.std.specs.Str.{bytes_eq};
 ghost use Rattle.jt_ids.specs.FilterTable as table;
 ghost use Rattle.jt_ids.specs.FilterTable.{filter_id, filter_names, least_values, most_values, place_of, filter_of_name, filter_meant, with_only};
 
-/// A filter.
+/// A filter. They stand in the order of their ids, from 0.
 #[derive(Clone, Copy, Debug, PartialEq, Eq)]
 pub enum FilterId {
     Abs,
@@ -58,40 +58,7 @@ impl FilterId {
     pub fn id(self) -> u8
         ensures { result ≡ filter_id self }
     {
-        match self {
-            FilterId::Abs => 0,
-            FilterId::Attr => 1,
-            FilterId::Capitalize => 2,
-            FilterId::Default => 3,
-            FilterId::DictSort => 4,
-            FilterId::Escape => 5,
-            FilterId::First => 6,
-            FilterId::ForceEscape => 7,
-            FilterId::Int => 8,
-            FilterId::Items => 9,
-            FilterId::Join => 10,
-            FilterId::Last => 11,
-            FilterId::Length => 12,
-            FilterId::List => 13,
-            FilterId::Lower => 14,
-            FilterId::Map => 15,
-            FilterId::Max => 16,
-            FilterId::Min => 17,
-            FilterId::Reject => 18,
-            FilterId::RejectAttr => 19,
-            FilterId::Replace => 20,
-            FilterId::Reverse => 21,
-            FilterId::Safe => 22,
-            FilterId::Select => 23,
-            FilterId::SelectAttr => 24,
-            FilterId::Sort => 25,
-            FilterId::String => 26,
-            FilterId::Sum => 27,
-            FilterId::Trim => 28,
-            FilterId::Unique => 29,
-            FilterId::Upper => 30,
-            FilterId::MapAttribute => 31,
-        }
+        self as u8
     }
 
     /// The filter of an id; none where no filter has it.
@@ -137,22 +104,13 @@ impl FilterId {
     }
 
     /// The filter of a name; none where no filter has it. `map` by an attribute has no name of its own.
+    #[tactic(auto, using(crate::proofs::Rows::filter_named))]
     pub fn by_name(name: &str) -> Option<FilterId>
         ensures found { IfSome result (λ filter. Contains (filter_names filter) name.now) }
         ensures only { (filter : FilterId)
             → Contains (filter_names filter) name.now
             → result ≡ Some filter }
         ensures value { result ≡ filter_of_name name.now }
-    {
-        FilterId::matching(name)
-    }
-
-    /// The filter of a name, by the names one after the other.
-    fn matching(name: &str) -> Option<FilterId>
-        ensures found { IfSome result (λ filter. Contains (filter_names filter) name.now) }
-        ensures only { (filter : FilterId)
-            → Contains (filter_names filter) name.now
-            → result ≡ Some filter }
     {
         match name {
             "abs" => Some(FilterId::Abs),

@@ -2,7 +2,7 @@
 ghost use Rattle.std.specs.Prelude.{◌≡◌, ◌==◌, Some, IfSome};
 ghost use Rattle.jt_ids.specs.OpTable.{op_id, op_operands};
 
-/// An operator.
+/// An operator. They stand in the order of their ids, from 0.
 #[derive(Clone, Copy, Debug, PartialEq, Eq)]
 pub enum OpId {
     Add,
@@ -34,30 +34,7 @@ impl OpId {
     pub fn id(self) -> u8
         ensures { result ≡ op_id self }
     {
-        match self {
-            OpId::Add => 0,
-            OpId::Subtract => 1,
-            OpId::Multiply => 2,
-            OpId::FloorDivide => 3,
-            OpId::Remainder => 4,
-            OpId::Power => 5,
-            OpId::Negate => 6,
-            OpId::Plus => 7,
-            OpId::Not => 8,
-            OpId::Join => 9,
-            OpId::JoinEscaping => 10,
-            OpId::Equal => 11,
-            OpId::NotEqual => 12,
-            OpId::Less => 13,
-            OpId::LessOrEqual => 14,
-            OpId::Greater => 15,
-            OpId::GreaterOrEqual => 16,
-            OpId::In => 17,
-            OpId::Item => 18,
-            OpId::RangeToStop => 19,
-            OpId::RangeFromStart => 20,
-            OpId::RangeByStep => 21,
-        }
+        self as u8
     }
 
     /// The operator of an id; none where no operator has it.

@@ -2,7 +2,7 @@
 ghost use Rattle.std.specs.Prelude.{◌≡◌, ◌==◌, Some, IfSome, Contains};
 ghost use Rattle.jt_ids.specs.TestTable.{test_id, test_values, test_names, test_of_name};
 
-/// A test.
+/// A test. They stand in the order of their ids, from 0.
 #[derive(Clone, Copy, Debug, PartialEq, Eq)]
 pub enum TestId {
     Boolean,
@@ -32,28 +32,7 @@ impl TestId {
     pub fn id(self) -> u8
         ensures { result ≡ test_id self }
     {
-        match self {
-            TestId::Boolean => 0,
-            TestId::Defined => 1,
-            TestId::DivisibleBy => 2,
-            TestId::Equal => 3,
-            TestId::NotEqual => 4,
-            TestId::Escaped => 5,
-            TestId::Even => 6,
-            TestId::Odd => 7,
-            TestId::False => 8,
-            TestId::True => 9,
-            TestId::GreaterOrEqual => 10,
-            TestId::Greater => 11,
-            TestId::LessOrEqual => 12,
-            TestId::Less => 13,
-            TestId::In => 14,
-            TestId::Integer => 15,
-            TestId::Mapping => 16,
-            TestId::None => 17,
-            TestId::String => 18,
-            TestId::Undefined => 19,
-        }
+        self as u8
     }
 
     /// The test of an id; none where no test has it.
@@ -87,18 +66,11 @@ impl TestId {
     }
 
     /// The test of a name; none where no test has it.
+    #[tactic(auto, using(crate::proofs::Rows::test_named))]
     pub fn by_name(name: &str) -> Option<TestId>
         ensures found { IfSome result (λ test. Contains (test_names test) name.now) }
         ensures only { (test : TestId) → Contains (test_names test) name.now → result ≡ Some test }
         ensures value { result ≡ test_of_name name.now }
-    {
-        TestId::matching(name)
-    }
-
-    /// The test of a name, by the names one after the other.
-    fn matching(name: &str) -> Option<TestId>
-        ensures found { IfSome result (λ test. Contains (test_names test) name.now) }
-        ensures only { (test : TestId) → Contains (test_names test) name.now → result ≡ Some test }
     {
         match name {
             "boolean" => Some(TestId::Boolean),
