@@ -1,5 +1,5 @@
 -- The values of items and members, one after another.
-use Rattle.std.proofs.Common.{◌≡◌, ◌∙◌, ◌++◌, ◌||◌, ℕ, Bool, true, false, List, [], ◌∷◌, Option, Some, None, String, Global, Less, ap, ap₂, refl, sym, map, option_map, string_bytes, string_cmp, nat_cmp, is_eq, bytes_eq, length, arith}
+use Rattle.std.proofs.Common.{◌≡◌, ◌∙◌, ◌++◌, ◌||◌, ℕ, Bool, true, false, List, [], ◌∷◌, Option, Some, None, String, Global, Less, Greater, ap, ap₂, refl, sym, map, option_map, string_bytes, string_cmp, nat_cmp, length, arith}
 use Rattle.std.specs.Prelude.{OnOk, Result, Ok, Err}
 use Rattle.std.specs.Result.{is_err}
 use Rattle.std.specs.List.{AllByRecursion}
@@ -7,7 +7,6 @@ use Rattle.std.specs.List.Sorted.{IsStrictlySortedBy}
 use Rattle.std.specs.Map.{keys_of}
 use Rattle.std.specs.Cmp.Lexicographic.{slice_cmp}
 use Rattle.std.proofs.lemmas.List.{map-append}
-use Rattle.std.proofs.lemmas.Map.Text.{is_eq-slice_cmp}
 use Rattle.serde_json.specs.Data.{Num}
 use Rattle.serde_json.specs.View.{view as json_view, items_view as json_items, members_view}
 use Rattle.serde_json.specs.declared.value.Value.{Value as Json}
@@ -16,6 +15,7 @@ use Rattle.jt_value.specs.Pairs.{Pairs, pairs, put}
 use Rattle.jt_value.specs.View.{view, items_view, entries_view}
 use Rattle.jt_value.specs.declared.value.Value.{Value}
 use Rattle.jt_contexts.specs.Json.{value_of, items_of, entries_of, pairs_in, has_number, items_have, members_have, Flaw, ItemsFlaw, MembersFlaw, is_not_whole, is_out_of_range}
+use Rattle.jt_contexts.proofs.Turns.{above}
 use Rattle.jt_contexts.specs.declared.error.ContextError.{ContextError}
 use Rattle.jt_contexts.specs.declared.error.ContextError.TheVariants as error
 
@@ -90,9 +90,6 @@ below_middle : (d : Member) (ms : List Member) (m : Member) (rest : List Member)
 below_middle d [] m rest h = h.0
 below_middle d (x ∷ ms) m rest h = below_middle d ms m rest h.1
 
-apart : (x y : List ℕ) → slice_cmp nat_cmp x y ≡ Less → bytes_eq x y ≡ false
-apart x y e = sym (is_eq-slice_cmp x y) ∙ ap is_eq e
-
 pub put_last : (done : List Member) (m : Member) (rest : List Member) (ps : Pairs) (t : Tree) → IsStrictlySortedBy string_cmp (keys_of (done ++ m ∷ rest))
     → map shown done ≡ map Some ps → put (string_bytes m.0) t ps ≡ ps ++ (string_bytes m.0, t) ∷ []
 unfolding IsStrictlySortedBy
@@ -101,10 +98,9 @@ put_last [] m rest (p ∷ ps) t s e = absurd cc
 put_last (d ∷ done) m rest [] t s e = absurd cc
 put_last (d ∷ done) m rest (p ∷ ps) t s e =
     let head = named (string_bytes d.0) (value_in d.1) p (first_of (shown d) (Some p) _ _ e) in
-    let other : bytes_eq p.0 (string_bytes m.0) ≡ false = ap (λ k. bytes_eq k (string_bytes m.0)) (sym head.1) ∙ apart (string_bytes d.0) (string_bytes m.0) (below_middle d done m rest s.0) in
-    rw other (ap (λ qs. p ∷ qs) (put_last done m rest ps t s.1 (rest_of (shown d) (Some p) _ _ e)))
+    let last : slice_cmp nat_cmp (string_bytes m.0) p.0 ≡ Greater = ap (λ k. slice_cmp nat_cmp (string_bytes m.0) k) (sym head.1) ∙ above (string_bytes d.0) (string_bytes m.0) (below_middle d done m rest s.0) in
+    rw last (ap (λ qs. p ∷ qs) (put_last done m rest ps t s.1 (rest_of (shown d) (Some p) _ _ e)))
 
--- the pairs of a map with one more
 -- ---- what is wrong with one is wrong with all
 
 or_right : (a b : Bool) → b ≡ true → (a || b) ≡ true

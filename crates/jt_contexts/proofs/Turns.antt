@@ -1,12 +1,12 @@
 -- What tokens spell, one turn of the grammar after another, and maps beside the members that they stand for.
-use Rattle.std.proofs.Common.{◌≡◌, ◌∙◌, ◌++◌, ℕ, ◌-◌, ◌<◌, ◌≤◌, false, List, [], ◌∷◌, length, map, Option, Some, None, option_map, option_and_then, String, Global, Ordering, Less, Equal, Greater, string_bytes, string_cmp, nat_cmp, is_eq, bytes_eq, refl, sym, ap, ap₂}
+use Rattle.std.proofs.Common.{◌≡◌, ◌∙◌, ◌++◌, ℕ, ◌-◌, ◌<◌, ◌≤◌, List, [], ◌∷◌, length, map, Option, Some, None, option_map, option_and_then, String, Global, Ordering, Less, Equal, Greater, string_bytes, string_cmp, nat_cmp, refl, sym, ap, ap₂}
 use Rattle.std.specs.List.{AllByRecursion}
 use Rattle.std.specs.List.Sorted.{IsStrictlySortedBy}
 use Rattle.std.specs.Map.{keys_of}
 use Rattle.std.specs.BTreeMap.{insert_entry}
 use Rattle.std.specs.Cmp.Lexicographic.{slice_cmp}
-use Rattle.std.specs.Ordering.{match_ordering}
-use Rattle.std.proofs.lemmas.Map.Text.{is_eq-slice_cmp}
+use Rattle.std.specs.Ordering.{match_ordering, ordering_reverse}
+use Rattle.std.proofs.lemmas.Cmp.{nat_list_cmp_total}
 use Rattle.json.specs.Token.{Token}
 use Rattle.json.specs.Json as json
 use Rattle.json.specs.Json.{Parse, parse_map, after_end_array, read_key, items, members, if_last}
@@ -192,13 +192,13 @@ below_middle : (d : Entry) (ms : List Entry) (m : Entry) (rest : List Entry) →
 below_middle d [] m rest h = h.0
 below_middle d (x ∷ ms) m rest h = below_middle d ms m rest h.1
 
-apart : (x y : List ℕ) → slice_cmp nat_cmp x y ≡ Less → bytes_eq x y ≡ false
-apart x y e = sym (is_eq-slice_cmp x y) ∙ ap is_eq e
+pub above : (x y : List ℕ) → slice_cmp nat_cmp x y ≡ Less → slice_cmp nat_cmp y x ≡ Greater
+above x y e = nat_list_cmp_total.antisymm y x ∙ ap ordering_reverse e
 
 pub put_last : (done : List Entry) (m : Entry) (rest : List Entry) → IsStrictlySortedBy string_cmp (keys_of (done ++ m ∷ rest))
     → named.put (string_bytes m.0) (view m.1) (pairs done) ≡ pairs (done ++ m ∷ [])
 unfolding IsStrictlySortedBy
 put_last [] m rest s = refl
 put_last (d ∷ done) m rest s =
-    let other : bytes_eq (string_bytes d.0) (string_bytes m.0) ≡ false = apart (string_bytes d.0) (string_bytes m.0) (below_middle d done m rest s.0) in
-    rw other (ap (λ qs. (string_bytes d.0, view d.1) ∷ qs) (put_last done m rest s.1))
+    let last : slice_cmp nat_cmp (string_bytes m.0) (string_bytes d.0) ≡ Greater = above (string_bytes d.0) (string_bytes m.0) (below_middle d done m rest s.0) in
+    rw last (ap (λ qs. (string_bytes d.0, view d.1) ∷ qs) (put_last done m rest s.1))

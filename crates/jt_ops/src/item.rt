@@ -72,7 +72,7 @@ pub fn entry<'a>(entries: &'a [(String, Value)], key: &str) -> Option<&'a Value>
 }
 
 /// The place that an index names among some items.
-pub fn place(index: i64, count: usize) -> Option<usize>
+fn place(index: i64, count: usize) -> Option<usize>
     ensures { result ≡ items.place index count }
 {
     let size = index.unsigned_abs();
@@ -91,7 +91,7 @@ pub fn place(index: i64, count: usize) -> Option<usize>
 
 /// The item that an index names.
 #[tactic(auto, using(crate::proofs::Places::items_count_view))]
-pub fn indexed(items: &[Value], index: i64) -> Option<&Value>
+fn indexed(items: &[Value], index: i64) -> Option<&Value>
     ensures { option_map view (option_copied result) ≡ indexed_item (items_view items.now) index }
 {
     match place(index, items.len()) {

@@ -19,11 +19,10 @@ mod testing;
 mod text;
 
 pub use arithmetic::sum;
-pub use item::{character_count, entry, indexed, place};
+pub use item::{character_count, entry};
 pub use jt_ids::{OpId, TestId};
-pub use limits::{Limits, OpError, allow, copy_within, number_within, within};
-pub use operands::misfit_of_one;
+pub use limits::{Limits, OpError, allow, copy_within, within};
 pub use operators::{binary, binary_owned, unary};
 pub use ranges::range;
 pub use testing::{test, test_of, test_of_text};
-pub use text::{Kind, Piece, alone};
+pub use text::{Kind, Piece};

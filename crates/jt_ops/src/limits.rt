@@ -142,7 +142,7 @@ pub fn copy_within(alloc: Global, value: &Value, limits: Limits) -> Result<Value
 }
 
 /// A computed number, under the limits.
-pub fn number_within(computed: Result<i64, Fault>, limits: Limits) -> Result<Value, OpError>
+pub(crate) fn number_within(computed: Result<i64, Fault>, limits: Limits) -> Result<Value, OpError>
     ensures { Answers result (limited_by limits (as_number computed)) }
 {
     within(Value::Int(computed?), limits)

@@ -19,7 +19,7 @@ pub(crate) fn misfit(left: &Value, right: &Value) -> Fault
 }
 
 /// The fault of one operand that fits no case.
-pub fn misfit_of_one(operand: &Value) -> Fault
+pub(crate) fn misfit_of_one(operand: &Value) -> Fault
     ensures { result ≡ operands.misfit_of_one (view operand.now) }
 {
     match operand {

@@ -118,24 +118,6 @@ fn text_of_two(
     kind.value(text)
 }
 
-/// The text of one piece.
-pub fn alone(alloc: Global, piece: &Piece<'_>, kind: Kind, limits: Limits) -> Result<Value, OpError>
-    ensures { Answers result (limited_by limits (Ok (of_kind kind (written piece.now)))) }
-{
-    let len = piece.len();
-    allow(len.saturating_add(1), 0, limits)?;
-    made(text_of_one(alloc, piece, kind, len as usize))
-}
-
-/// The same, in a string that has room for so many bytes at first.
-fn text_of_one(alloc: Global, piece: &Piece<'_>, kind: Kind, room: usize) -> Result<Value, NoMemory>
-    ensures { IfOk result (λ v. view v ≡ of_kind kind (written piece.now)) }
-{
-    let mut text = String::with_capacity(alloc, room)?;
-    piece.write(&mut text)?;
-    kind.value(text)
-}
-
 /// A text, repeated; nothing for 0 and below.
 #[tactic(auto, using(crate::proofs::Loops::repeat_length))]
 pub(crate) fn repeated(

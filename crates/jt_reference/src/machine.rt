@@ -81,7 +81,7 @@ fn begun(alloc: Global, image: &Image, budget: Budget) -> Result<Plain<'_>, End>
     let first = Activation {
         unit: 0,
         point: 0,
-        locals: undefined(alloc, usize::from(header.locals))?,
+        locals: vec![in alloc; UNDEFINED; usize::from(header.locals)]?,
         entries: Vec::new(alloc),
     };
     Ok(Plain {
@@ -90,7 +90,7 @@ fn begun(alloc: Global, image: &Image, budget: Budget) -> Result<Plain<'_>, End>
         activations: vec![in alloc; first]?,
         values: vec![in alloc; Value::Undefined]?,
         loops: Vec::new(alloc),
-        globals: undefined(alloc, usize::from(image.globals()))?,
+        globals: vec![in alloc; UNDEFINED; usize::from(image.globals())]?,
         left: budget,
     })
 }
@@ -121,14 +121,6 @@ fn turn(plain: &mut Plain<'_>, buffers: &mut Buffers) -> Result<bool, End>
         Next::Done => return Ok(true),
     }
     Ok(false)
-}
-
-fn undefined(alloc: Global, count: usize) -> Result<Vec<usize>, End> {
-    let mut places = Vec::new(alloc);
-    for _ in 0..count {
-        places.push(UNDEFINED)?;
-    }
-    Ok(places)
 }
 
 /// Tests a value against the limits, its size first.
@@ -418,13 +410,9 @@ impl Plain<'_> {
         let header = self.image.unit(unit).ok_or(End::Wrong)?;
         let mut locals = self.pop_many(usize::from(header.parameters))?;
         self.pay(1)?;
-        self.left.depth = match self.left.depth.checked_sub(1) {
-            Some(depth) => depth,
-            None => return Err(End::Spent(Spent::Depth)),
-        };
-        for _ in locals.len()..usize::from(header.locals) {
-            locals.push(UNDEFINED)?;
-        }
+        let depth = self.left.depth.checked_sub(1);
+        self.left.depth = depth.ok_or(End::Spent(Spent::Depth))?;
+        locals.resize(usize::from(header.locals), UNDEFINED)?;
         self.activations.push(Activation {
             unit,
             point: 0,

@@ -2,7 +2,6 @@
 
 use crate::ended::End;
 use crate::machine::Plain;
-use indexmap::IndexMap;
 use jt_budget::Spent;
 use jt_filters::{FilterId, Limits, OpError, OpId, TestId, apply, binary, range, test, unary};
 use jt_value::{Fault, Value};
@@ -38,14 +37,31 @@ fn operands_of(operator: OpId) -> usize {
 // The map of keys and values in turn.
 fn map_of(alloc: Global, values: &[Value]) -> Result<Value, End> {
     check_keys(values)?;
-    let mut map = IndexMap::new(alloc);
+    let mut entries = Vec::new(alloc);
     for pair in values.chunks(2) {
         if let [key, value] = pair {
-            let name = String::from_str(alloc, key.as_text().unwrap_or(""))?;
-            map.insert(name, value.try_clone(alloc)?)?;
+            let name = key.as_text().unwrap_or("");
+            put_entry(alloc, &mut entries, name, value.try_clone(alloc)?)?;
         }
     }
-    Ok(Value::map(alloc, map)?)
+    Ok(Value::from_entries(alloc, entries)?)
+}
+
+// Puts an entry behind the others. A key that is there keeps its place and takes the value.
+fn put_entry(
+    alloc: Global,
+    entries: &mut Vec<(String, Value)>,
+    name: &str,
+    value: Value,
+) -> Result<(), End> {
+    for entry in entries.iter_mut() {
+        if entry.0.as_str() == name {
+            entry.1 = value;
+            return Ok(());
+        }
+    }
+    entries.push((String::from_str(alloc, name)?, value))?;
+    Ok(())
 }
 
 // The fault of keys that are no texts: of an undefined one, if there is one.
@@ -100,16 +116,11 @@ impl Plain<'_> {
         self.values_at(&places)
     }
 
-    // Puts on top what was made.
-    fn push_made(&mut self, made: Result<Value, End>) -> Result<(), End> {
-        self.push(made?)
-    }
-
     pub(crate) fn operate(&mut self, id: u8) -> Result<(), End> {
         let operator = OpId::by_id(id).ok_or(End::Wrong)?;
         let operands = self.take(operands_of(operator))?;
-        let made = operated(self.alloc, operator, &operands, self.limits());
-        self.push_made(made)
+        let made = operated(self.alloc, operator, &operands, self.limits())?;
+        self.push(made)
     }
 
     pub(crate) fn filter(&mut self, id: u8, count: usize, escaping: bool) -> Result<(), End> {
@@ -118,8 +129,8 @@ impl Plain<'_> {
         if !filter.takes(values.len()) {
             return Err(End::Wrong);
         }
-        let made = apply(self.alloc, filter, &values, escaping, self.limits());
-        self.push(made?)
+        let made = apply(self.alloc, filter, &values, escaping, self.limits())?;
+        self.push(made)
     }
 
     pub(crate) fn test(&mut self, id: u8, count: usize) -> Result<(), End> {
@@ -140,8 +151,8 @@ impl Plain<'_> {
 
     pub(crate) fn make_map(&mut self, entries: usize) -> Result<(), End> {
         let values = self.take(entries.saturating_mul(2))?;
-        let made = map_of(self.alloc, &values);
-        self.push_made(made)
+        let map = map_of(self.alloc, &values)?;
+        self.push(map)
     }
 
     // The items of a value, the last one on top: the sizes of all are tested first.

@@ -1,14 +1,17 @@
 -- Two maps whose keys ascend have the same keys only at the same places.
-use Rattle.std.proofs.Common.{◌≡◌, ℕ, zero, suc, ◌+◌, ◌≤◌, Bool, true, false, cond, List, [], ◌∷◌, length, drop, refl, sym, ap, ◌∙◌, subst, true≢false, arith}
+use Rattle.std.proofs.Common.{◌≡◌, ℕ, zero, suc, ◌+◌, ◌<◌, ◌≤◌, Bool, true, false, cond, ◌||◌, List, [], ◌∷◌, length, drop, refl, sym, ap, ◌∙◌, subst, true≢false, arith}
+use Rattle.std.specs.List.{AllByRecursion, IsDistinct, list_any}
 use Rattle.std.specs.Str.{bytes_eq}
 use Rattle.std.specs.declared.cmp.Ordering.{Ordering}
 use Rattle.std.specs.declared.cmp.Ordering.TheVariants.{Less, Equal, Greater}
-use Rattle.std.specs.Ordering.{nat_cmp, is_lt}
-use Rattle.std.specs.Cmp.Lexicographic.{slice_cmp, same_text}
+use Rattle.std.specs.Ordering.{nat_cmp, is_eq, is_lt}
+use Rattle.std.specs.Cmp.Lexicographic.{slice_cmp, same_text, nat_list_eq_equiv}
 use Rattle.std.proofs.lemmas.Cmp.{nat_list_cmp_total, tied_itself}
+use Rattle.std.proofs.lemmas.Map.Made.{length-le_from_is_member}
+use Rattle.std.proofs.lemmas.Map.Text.{is_eq-slice_cmp}
 use Rattle.jt_value.specs.Tree as tree
 use Rattle.jt_value.specs.Tree.{Entries, no_entries, entry}
-use Rattle.jt_value.specs.Entries.{entry_of, has_key, all_keys, same_keys, stands_before, ascends}
+use Rattle.jt_value.specs.Entries.{entry_of, has_key, all_keys, keys, same_keys, stands_before, ascends}
 use Rattle.jt_value.specs.Equality.{equal, equal_at}
 use Rattle.jt_value.specs.View.{entries_view}
 use Rattle.jt_value.proofs.EntryLaws.{has_key-there}
@@ -108,6 +111,67 @@ apart es fs a b other = by (equal (tree.map es) (tree.map fs)) refl
         let firsts = left_true (all_keys (λ k. equal_at es k (entry_of k fs)) es) (all_keys (λ k. has_key k es) fs) h in
         let covered = right_true (all_keys (λ k. equal_at es k (entry_of k fs)) es) (all_keys (λ k. has_key k es) fs) h in
         sym (same_places es fs a b (λ k there. has_key-there es fs k (holds_of (λ n. equal_at es n (entry_of n fs)) es k firsts there)) (λ k there. holds_of (λ n. has_key n es) fs k covered there)) ∙ other
+
+-- ---- a map whose keys ascend has no more of them than another has entries, where it has no key that the other lacks
+
+apart_from_all : (k : List ℕ) (es : Entries) → ((x : List ℕ) → has_key x es ≡ true → slice_cmp nat_cmp k x ≡ Less) → AllByRecursion (λ y. bytes_eq k y ≡ false) (keys es)
+apart_from_all k no_entries h = tt
+apart_from_all k (entry l t es) h =
+    (sym (is_eq-slice_cmp k l) ∙ ap is_eq (h l (own l es)), apart_from_all k es (λ x there. h x (later (bytes_eq l x) (has_key x es) there)))
+
+distinct_keys : (es : Entries) → ascends es ≡ true → IsDistinct bytes_eq (keys es)
+unfolding IsDistinct
+distinct_keys no_entries a = tt
+distinct_keys (entry k t es) a =
+    (apart_from_all k es (before_all k es (left_true (stands_before k es) (ascends es) a) (right_true (stands_before k es) (ascends es) a)), distinct_keys es (right_true (stands_before k es) (ascends es) a))
+
+among_keys : (k : List ℕ) (es : Entries) → list_any (bytes_eq k) (keys es) ≡ has_key k es
+among_keys k no_entries = refl
+among_keys k (entry l t es) = ap (λ b. b || list_any (bytes_eq k) (keys es)) (nat_list_eq_equiv.symm k l) ∙ by (bytes_eq l k) (among_keys k es)
+  where
+    by : (b : Bool) → list_any (bytes_eq k) (keys es) ≡ has_key k es → (b || list_any (bytes_eq k) (keys es)) ≡ cond b true (has_key k es)
+    by true rest = refl
+    by false rest = rest
+
+no_more : (es fs : Entries) → ascends es ≡ true → Covers es fs → length (keys es) ≤ length (keys fs)
+no_more es fs a f = length-le_from_is_member nat_list_eq_equiv (keys es) (keys fs) (distinct_keys es a) (λ q m. among_keys q fs ∙ f q (sym (among_keys q es) ∙ m))
+
+as_many : (xs : List Pair) → length (keys (entries_view xs)) ≡ length xs
+as_many [] = refl
+as_many (x ∷ xs) = ap suc (as_many xs)
+
+-- where a map whose keys ascend has more entries than another, the two are unequal
+pub more_unequal : (xs ys : List Pair) → ascends (entries_view xs) ≡ true → length ys < length xs → equal (tree.map (entries_view xs)) (tree.map (entries_view ys)) ≡ false
+more_unequal xs ys a more = by (equal (tree.map es) (tree.map fs)) refl
+  where
+    es : Entries
+    es = entries_view xs
+
+    fs : Entries
+    fs = entries_view ys
+
+    by : (c : Bool) → equal (tree.map es) (tree.map fs) ≡ c → c ≡ false
+    by false h = refl
+    by true h =
+        let firsts = left_true (all_keys (λ k. equal_at es k (entry_of k fs)) es) (all_keys (λ k. has_key k es) fs) h in
+        let few = no_more es fs a (λ k there. has_key-there es fs k (holds_of (λ n. equal_at es n (entry_of n fs)) es k firsts there)) in
+        absurd (omega (arith, more, few, as_many xs, as_many ys))
+
+pub fewer_unequal : (xs ys : List Pair) → ascends (entries_view ys) ≡ true → length xs < length ys → equal (tree.map (entries_view xs)) (tree.map (entries_view ys)) ≡ false
+fewer_unequal xs ys a fewer = by (equal (tree.map es) (tree.map fs)) refl
+  where
+    es : Entries
+    es = entries_view xs
+
+    fs : Entries
+    fs = entries_view ys
+
+    by : (c : Bool) → equal (tree.map es) (tree.map fs) ≡ c → c ≡ false
+    by false h = refl
+    by true h =
+        let covered = right_true (all_keys (λ k. equal_at es k (entry_of k fs)) es) (all_keys (λ k. has_key k es) fs) h in
+        let few = no_more fs es a (λ k there. holds_of (λ n. has_key n es) fs k covered there) in
+        absurd (omega (arith, fewer, few, as_many xs, as_many ys))
 
 -- the last entry, or none, ascends
 pub ascends_end : (xs : List Pair) (i : ℕ) → length xs ≤ i + 1 → ascends (entries_view (drop i xs)) ≡ true

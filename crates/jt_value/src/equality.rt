@@ -104,7 +104,24 @@ fn are_maps_equal(entries: &[(String, Value)], others: &[(String, Value)]) -> bo
     if ascend(entries) && ascend(others) {
         return false;
     }
+    if differ_in_number(entries, others) {
+        return false;
+    }
     has_all_keys(entries, others) && are_first_values_equal(entries, others)
+}
+
+/// Whether one map has more keys than the other has entries, which is told where its keys ascend, so
+/// that none of them stands twice. A map out of a large context is then not searched for each key of
+/// a short one.
+fn differ_in_number(entries: &[(String, Value)], others: &[(String, Value)]) -> bool
+    ensures { IsTrue result
+        → equal (tree.map (entries_view entries.now)) (tree.map (entries_view others.now)) ≡ false }
+{
+    if entries.len() > others.len() {
+        ascend(entries)
+    } else {
+        entries.len() < others.len() && ascend(others)
+    }
 }
 
 /// The same as `are_first_values_equal`, in one pass, for maps that have the same keys at the same places.

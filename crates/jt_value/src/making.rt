@@ -7,7 +7,6 @@ ghost use Rattle.jt_value.specs.View.{view, items_view, entries_view};
 use crate::fault::NoMemory;
 use crate::payload::{ValueList, ValueMap};
 use crate::value::Value;
-use indexmap::IndexMap;
 use std::alloc::Global;
 use std::rc::{Rc, RcStr};
 
@@ -65,18 +64,6 @@ impl Value {
         ensures { IfOk result (λ v. view v ≡ tree.list (items_view items.items)) }
     {
         Ok(Value::List(Rc::new(alloc, ValueList::new(items))?))
-    }
-
-    /// A map of entries that are not copied, in their order.
-    ///
-    /// # Errors
-    ///
-    /// `NoMemory` where a growth was refused. The entries are then dropped.
-    pub fn map(alloc: Global, entries: IndexMap<String, Value>) -> Result<Value, NoMemory>
-        ensures { IfOk result (λ v. view v ≡ tree.map (entries_view entries.entries)) }
-    {
-        let pairs = entries.into_iter().collect(alloc)?;
-        Value::from_entries(alloc, pairs)
     }
 
     /// A map of entries that are not copied, in their order. They are not searched for a key that stands twice: of such a one the

@@ -1,6 +1,6 @@
 //! Printed texts, contexts, operators on operands that are kept, and errors as texts.
 
-use jt_ops::{Limits, OpId, binary};
+use jt_ops::{Limits, OpId, binary, binary_owned};
 use jt_value::{Context, Fault, NoMemory, Value, ValueError};
 use std::alloc::Global;
 use std::test::Fail;
@@ -63,6 +63,36 @@ fn operands_are_kept(rt: HostRuntime) -> Result<(), Fail> {
     let sum = binary(alloc, OpId::Add, &left, &left, limits)?;
     assert_eq!(rt; (sum.as_text(), left.as_text()), (Some("aa"), Some("a")));
     assert!(rt; binary(alloc, OpId::Add, &sum, &left, limits).is_err());
+    Ok(())
+}
+
+/// The list of one number.
+fn list_of(alloc: Global, number: i64) -> Result<Value, Fail> {
+    let mut items = Vec::new(alloc);
+    items.push(Value::Int(number))?;
+    Ok(Value::list(alloc, items)?)
+}
+
+#[test]
+fn an_owned_list_takes_another(rt: HostRuntime) -> Result<(), Fail> {
+    let alloc = rt.alloc();
+    let limits = Limits {
+        size: 3,
+        nesting: 1,
+    };
+    let (left, right) = (list_of(alloc, 1)?, list_of(alloc, 2)?);
+    let kept = right.try_clone(alloc)?;
+    let sum = binary_owned(alloc, OpId::Add, left, right, limits)?;
+    assert!(rt; matches!(sum.as_list(), Some([Value::Int(1), Value::Int(2)])));
+    let shared = binary_owned(
+        alloc,
+        OpId::Add,
+        kept.try_clone(alloc)?,
+        list_of(alloc, 3)?,
+        limits,
+    )?;
+    assert!(rt; matches!(shared.as_list(), Some([Value::Int(2), Value::Int(3)])));
+    assert!(rt; matches!(kept.as_list(), Some([Value::Int(2)])));
     Ok(())
 }
 

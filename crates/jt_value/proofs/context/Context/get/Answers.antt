@@ -8,4 +8,4 @@ pub returns-clause-value : goal.returns-clause-value
 returns-clause-value c = ap (option_map view) c.get.ensures.value ∙ look-lookup c.args.name.now c.args.self.now.entries.entries
 
 pub returns-clause-distinct : goal.returns-clause-distinct
-returns-clause-distinct c = distinct-pairs c.args.self.now.entries.entries c.len-count.ensures.unique
+returns-clause-distinct c = distinct-pairs c.args.self.now.entries.entries c.len-count.ensures.ordered
