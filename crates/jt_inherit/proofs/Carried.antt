@@ -37,7 +37,7 @@ none_front p (x ∷ xs) ys h =
     let k = or_false (p x) (list_any p (xs ++ ys)) h in
     both_false (p x) (list_any p xs) k.0 (none_front p xs ys k.1)
 
-repeated_front : (xs ys : List Text) → repeated xs ≡ true → repeated (xs ++ ys) ≡ true
+pub repeated_front : (xs ys : List Text) → repeated xs ≡ true → repeated (xs ++ ys) ≡ true
 repeated_front [] ys h = absurd (cc)
 repeated_front (x ∷ xs) ys h = by (among x xs) refl (repeated_front xs ys)
   where

@@ -4,8 +4,13 @@ use Rattle.std.specs.Prelude.{slice_get, unwrap_or, option_map}
 use Rattle.std.proofs.Common.{Some}
 use Rattle.std.proofs.lemmas.List.{drop_more, map-append}
 use Rattle.std.proofs.lemmas.Option.{slice_get-get_or}
+use Rattle.std.specs.BTreeSet as set
+use Rattle.std.specs.BTreeSet.{BTreeSet}
+use Rattle.std.specs.Cmp.Lexicographic.{slice_cmp}
 use Rattle.std.specs.List.{list_any}
+use Rattle.std.specs.Ordering.{nat_cmp, is_eq}
 use Rattle.std.specs.Str.{bytes_eq}
+use Rattle.std.proofs.lemmas.Map.Text.{is_eq-slice_cmp}
 use denote.Ref.{Bor}
 use Rattle.jt_trees.specs.Texts.{among, repeated}
 use Rattle.jt_trees.specs.Expressions.{Text}
@@ -24,13 +29,21 @@ use Rattle.jt_inherit.proofs.Among.{same, reflexive, symmetric, or_false, or_tru
 
 -- ---- a set of texts
 
-pub any_text : (x : Text) (ks : List (Bor Text)) → list_any (λ k. bytes_eq x k.now) ks ≡ among x (texts ks)
+pub any_text : (x : Text) (ks : List (Bor Text)) → list_any (λ k. is_eq (slice_cmp nat_cmp x k.now)) ks ≡ among x (texts ks)
 any_text x [] = refl
-any_text x (k ∷ ks) = ap (λ b. b || list_any (λ (j : Bor Text). bytes_eq x j.now) ks) (symmetric x k.now) ∙ ap (λ b. bytes_eq k.now x || b) (any_text x ks)
+any_text x (k ∷ ks) =
+    ap (λ b. b || list_any (λ (j : Bor Text). is_eq (slice_cmp nat_cmp x j.now)) ks) (is_eq-slice_cmp x k.now ∙ symmetric x k.now) ∙ ap (λ b. bytes_eq k.now x || b) (any_text x ks)
 
-pub texts_more : (ks : List (Bor Text)) (x : Bor Text) → texts (ks ++ x ∷ []) ≡ texts ks ++ x.now ∷ []
-texts_more [] x = refl
-texts_more (k ∷ ks) x = ap (λ l. k.now ∷ l) (texts_more ks x)
+either : (a b : Bool) → cond a true b ≡ (a || b)
+either true b = refl
+either false b = refl
+
+-- a set that gets a name
+pub name_more : (m n : BTreeSet (Bor Text)) (k : Bor Text) → set.Updates (λ (x y : Bor Text). slice_cmp nat_cmp x.now y.now) m n k true → (x : Text) → among x (texts n.keys) ≡ (bytes_eq k.now x || among x (texts m.keys))
+name_more m n k u x =
+    let here = is_eq (slice_cmp nat_cmp k.now x) in
+    let old = list_any (λ (j : Bor Text). is_eq (slice_cmp nat_cmp x j.now)) m.keys in
+    sym (any_text x n.keys) ∙ u.0 (record { ref_ptr = (0, 0); now = x }) ∙ either here old ∙ ap (λ b. b || old) (is_eq-slice_cmp k.now x) ∙ ap (λ b. bytes_eq k.now x || b) (any_text x m.keys)
 
 -- ---- a name that comes again
 
@@ -74,9 +87,6 @@ named_old x (b ∷ bs) cs h = by (bytes_eq b.name x) refl (named_old x bs cs)
     by false e r =
         let rest : among x (names_of bs) ≡ true = sym (ap (λ c. c || among x (names_of bs)) e) ∙ h in
         ap (λ c. is_required (cond c (b ∷ named x (bs ++ cs)) (named x (bs ++ cs)))) e ∙ r rest ∙ sym (ap (λ c. is_required (cond c (b ∷ named x bs) (named x bs))) e)
-
-named_one : (x : Text) (b : BlockBody) → named x (b ∷ []) ≡ cond (bytes_eq b.name x) (b ∷ []) []
-named_one x b = refl
 
 -- one body more
 pub given_more : (bs : List BlockBody) (b : BlockBody) → AreGiven bs → (not (among b.name (names_of bs)) && b.required) ≡ false → AreGiven (bs ++ b ∷ [])
@@ -193,20 +203,6 @@ take_all [] (suc i) le = refl
 take_all (x ∷ xs) zero le = absurd (omega arith)
 take_all (x ∷ xs) (suc i) le = ap (λ l. x ∷ l) (take_all xs i (omega arith))
 
-module _ {X : Type 0} (f : X → Text) (xs : List X) (i : ℕ) (x : X) (lt : i < length xs) (is : x ≡ get_or xs i x) where
-  pub repeat_found : (ks : List Text) → ks ≡ map f (take i xs) → among (f x) ks ≡ true → repeated (map f xs) ≡ true
-  repeat_found ks e h =
-      let p = parted xs i x lt is in
-      ap (λ l. repeated (map f l)) p.1 ∙ ap repeated (map-append f (take i xs) (x ∷ p.0)) ∙ again (f x) (map f (take i xs)) (map f p.0) (ap (among (f x)) (sym e) ∙ h)
-
-  pub repeat_goes : (ks ms : List Text) (b : Bool) → ks ≡ map f (take i xs) → repeated ks ≡ false → b ≡ among (f x) ks → ms ≡ (if b then ks else ks ++ f x ∷ []) → b ≡ false
-      → (ms ≡ map f (take (i + 1) xs)) × (repeated ms ≡ false)
-  repeat_goes ks ms b e o k m off =
-      let added : ms ≡ ks ++ f x ∷ [] = m ∙ ap (λ c. if c then ks else ks ++ f x ∷ []) off in (
-        added ∙ ap (λ l. l ++ f x ∷ []) e ∙ sym (map-append f (take i xs) (x ∷ [])) ∙ ap (map f) (sym (take_next xs i x lt is)),
-        ap repeated added ∙ once_more (f x) ks o (sym k ∙ off),
-      )
-
 or_nil : (c : Bool) → (c || false) ≡ c
 or_nil true = refl
 or_nil false = refl
@@ -215,29 +211,34 @@ or_three : (c d e : Bool) → (c || (d || e)) ≡ ((c || d) || e)
 or_three true d e = refl
 or_three false d e = refl
 
+or_swapped : (c d : Bool) → (c || d) ≡ (d || c)
+or_swapped true true = refl
+or_swapped true false = refl
+or_swapped false true = refl
+or_swapped false false = refl
+
 pub among_snoc : (l : List Text) (n y : Text) → among y (l ++ n ∷ []) ≡ (among y l || bytes_eq n y)
 among_snoc [] n y = or_nil (bytes_eq n y)
 among_snoc (z ∷ l) n y = ap (λ c. bytes_eq z y || c) (among_snoc l n y) ∙ or_three (bytes_eq z y) (among y l) (bytes_eq n y)
 
 -- a set that gets a name
-pub among_set : (ks ms pre : List Text) (n : Text) (b : Bool) → ((y : Text) → among y ks ≡ among y pre) → b ≡ among n ks → ms ≡ (if b then ks else ks ++ n ∷ []) → (y : Text) → among y ms ≡ among y (pre ++ n ∷ [])
-among_set ks ms pre n b h k m y = ap (among y) m ∙ by b refl
-  where
-    there : (c : Bool) → bytes_eq n y ≡ c → among n pre ≡ true → among y pre ≡ (among y pre || bytes_eq n y)
-    there true e a =
-        let q : among y pre ≡ true = ap (λ z. among z pre) (sym (same n y e)) ∙ a in
-        q ∙ sym (ap (λ c. c || bytes_eq n y) q)
-    there false e a = or_none (among y pre) ∙ ap (λ c. among y pre || c) (sym e)
-      where
-        or_none : (c : Bool) → c ≡ (c || false)
-        or_none true = refl
-        or_none false = refl
+pub among_set : (ks ms pre : List Text) (n : Text) → ((y : Text) → among y ks ≡ among y pre) → ((y : Text) → among y ms ≡ (bytes_eq n y || among y ks)) → (y : Text) → among y ms ≡ among y (pre ++ n ∷ [])
+among_set ks ms pre n h m y = m y ∙ ap (λ c. bytes_eq n y || c) (h y) ∙ or_swapped (bytes_eq n y) (among y pre) ∙ sym (among_snoc pre n y)
 
-    by : (c : Bool) → b ≡ c → among y (if b then ks else ks ++ n ∷ []) ≡ among y (pre ++ n ∷ [])
-    by true e =
-        ap (λ c. among y (if c then ks else ks ++ n ∷ [])) e ∙ h y ∙ there (bytes_eq n y) refl (sym (h n) ∙ sym k ∙ e) ∙ sym (among_snoc pre n y)
-    by false e =
-        ap (λ c. among y (if c then ks else ks ++ n ∷ [])) e ∙ among_snoc ks n y ∙ ap (λ c. c || bytes_eq n y) (h y) ∙ sym (among_snoc pre n y)
+module _ {X : Type 0} (f : X → Text) (xs : List X) (i : ℕ) (x : X) (lt : i < length xs) (is : x ≡ get_or xs i x) where
+  pub repeat_found : (ks : List Text) → ((y : Text) → among y ks ≡ among y (map f (take i xs))) → among (f x) ks ≡ true → repeated (map f xs) ≡ true
+  repeat_found ks e h =
+      let p = parted xs i x lt is in
+      ap (λ l. repeated (map f l)) p.1 ∙ ap repeated (map-append f (take i xs) (x ∷ p.0)) ∙ again (f x) (map f (take i xs)) (map f p.0) (sym (e (f x)) ∙ h)
+
+  pub repeat_goes : (ks ms : List Text) (b : Bool) → ((y : Text) → among y ks ≡ among y (map f (take i xs))) → repeated (map f (take i xs)) ≡ false → b ≡ among (f x) ks
+      → ((y : Text) → among y ms ≡ (bytes_eq (f x) y || among y ks)) → b ≡ false
+      → ((y : Text) → among y ms ≡ among y (map f (take (i + 1) xs))) × (repeated (map f (take (i + 1) xs)) ≡ false)
+  repeat_goes ks ms b e o k m off =
+      let taken : map f (take (i + 1) xs) ≡ map f (take i xs) ++ f x ∷ [] = ap (map f) (take_next xs i x lt is) ∙ map-append f (take i xs) (x ∷ []) in (
+        λ y. among_set ks ms (map f (take i xs)) (f x) e m y ∙ ap (among y) (sym taken),
+        ap repeated taken ∙ once_more (f x) (map f (take i xs)) o (sym (e (f x)) ∙ sym k ∙ off),
+      )
 
 -- ---- bodies in a row
 
@@ -273,15 +274,12 @@ not_not true = refl
 not_not false = refl
 
 -- a set that gets the name of a given body
-pub given_noted : (ks ms : List Text) (n : Text) (b r : Bool) (x : Text) → b ≡ among n ks → ms ≡ (if b then ks else ks ++ n ∷ []) → not r ≡ true → among x ms ≡ ((bytes_eq n x && not r) || among x ks)
-given_noted ks ms n b r x k m off =
-    among_set ks ms ks n b (λ y. refl) k m x ∙ among_snoc ks n x ∙ swapped (among x ks) (bytes_eq n x) ∙ ap (λ c. (bytes_eq n x && c) || among x ks) (sym off)
+pub given_noted : (ks ms : List Text) (n : Text) (r : Bool) (x : Text) → ((y : Text) → among y ms ≡ (bytes_eq n y || among y ks)) → not r ≡ true → among x ms ≡ ((bytes_eq n x && not r) || among x ks)
+given_noted ks ms n r x m off = m x ∙ ap (λ c. c || among x ks) (with_true (bytes_eq n x)) ∙ ap (λ c. (bytes_eq n x && c) || among x ks) (sym off)
   where
-    swapped : (a c : Bool) → (a || c) ≡ ((c && true) || a)
-    swapped true true = refl
-    swapped true false = refl
-    swapped false true = refl
-    swapped false false = refl
+    with_true : (c : Bool) → c ≡ (c && true)
+    with_true true = refl
+    with_true false = refl
 
 -- ---- templates by their places, one more
 

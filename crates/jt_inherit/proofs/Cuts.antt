@@ -128,13 +128,6 @@ uncut_so options given (scan_error.UnclosedRaw n) f r = r
 uncut_so options given (scan_error.SourceTooLong n) f r = absurd r
 uncut_so options given scan_error.NoMemory f r = absurd (f refl)
 
-pub no_cut : (options : Options) (given text : Text) (e : ScanError) → text ≡ normalized options.keep_trailing_newline given → scanner.IsRefusal e (chars text) → ((qs : List cut.Segment) → IsCut qs (chars text) → e ≡ scan_error.NoMemory)
-    → (e ≡ scan_error.NoMemory → ⊥) → IsUncut e options given × HasNoTree options given
-no_cut options given text e is r none f = (
-  uncut_so options given e f (subst (λ z. scanner.IsRefusal e (chars z)) is r),
-  λ b t. f (none t.segments (subst (λ x. IsCut t.segments (chars x)) (sym is) t.cut)),
-)
-
 -- ---- the template of a name
 
 -- where its source spells no other tree

@@ -31,7 +31,7 @@ use Rattle.jt_inherit.proofs.Needed.{by_templates, needed-append}
 use Rattle.jt_chains.proofs.Placed.{along_templates, map_at}
 use Rattle.jt_graph.specs.View.{graph_of}
 use Rattle.jt_chains.specs.Pages.{page_view, pages_view}
-use Rattle.jt_inherit.specs.SetView.{key_view, homes_view}
+use Rattle.jt_inherit.specs.SetView.{key_view, keys_view}
 use Rattle.jt_inherit.specs.declared.sets.HomeKey.{HomeKey}
 use Rattle.jt_chains.specs.declared.pages.Page.{Page}
 
@@ -330,10 +330,10 @@ followed_len given ts hs [] (w ∷ ws) (n ∷ ns) a = absurd a
 followed_len given ts hs (g ∷ gs) (w ∷ ws) (n ∷ ns) a = omega (arith, followed_len given ts hs gs ws ns a.1)
 
 -- the one that is next
-pub home_number : (keys ks : List HomeKey) (ws : List (Vec ℕ Global)) (k : HomeKey) (i : ℕ) → ks ≡ keys → i ≡ length ws → i < length ks → k ≡ get_or ks i k → slice_get (homes_view keys) (length (graph_of ws)) ≡ Some (key_view k)
+pub home_number : (keys ks : List HomeKey) (ws : List (Vec ℕ Global)) (k : HomeKey) (i : ℕ) → ks ≡ keys → i ≡ length ws → i < length ks → k ≡ get_or ks i k → slice_get (keys_view keys) (length (graph_of ws)) ≡ Some (key_view k)
 home_number keys ks ws k i e at lt is =
     let len : length (graph_of ws) ≡ i = length-map ws (λ (v : Vec ℕ Global). v.items) ∙ sym at in
-    ap (λ z. slice_get (homes_view z) (length (graph_of ws))) (sym e) ∙ ap (slice_get (homes_view ks)) len ∙ map_at key_view ks i k lt is
+    ap (λ z. slice_get (keys_view z) (length (graph_of ws))) (sym e) ∙ ap (slice_get (keys_view ks)) len ∙ map_at key_view ks i k lt is
 
 pub known_names : (given : Given) (options : Options) (ts : List Template) (ks : List Text) → AreKnown given options ts ks → AreKnown given options ts (names ts)
 known_names given options ts ks k = record { read = k.read; only = k.only; within = k.within; named = refl }

@@ -41,17 +41,11 @@ known-append ks (n ∷ ns) ms = by (among n.name ks) (known-append ks ns ms)
 pub one_known : (ks : List Text) (n : Need) → among n.name ks ≡ true → chosen ks (n ∷ []) ≡ need_home n ∷ []
 one_known ks n e = ap (λ b. map need_home (cond b (n ∷ []) [])) e
 
-pub none_known : (ks : List Text) (n : Need) → among n.name ks ≡ false → chosen ks (n ∷ []) ≡ []
-none_known ks n e = ap (λ b. map need_home (cond b (n ∷ []) [])) e
-
 -- ---- numbers of homes
 
 last_at : (xs : List Home) (x : Home) → slice_get (xs ++ x ∷ []) (length xs) ≡ Some x
 last_at [] x = refl
 last_at (y ∷ xs) x = last_at xs x
-
-pub next_none : (hs : List Home) → twice hs ≡ false → length (chains_of hs) ≤ 1024 → AreNext hs hs [] []
-next_none hs once few = record { more = []; grown = sym (append-nil hs); once = once; few = few; from = λ h a. inl a; numbered = refl }
 
 -- one that is there
 pub next_there : (hs : List Home) (x : Home) (i : ℕ) → twice hs ≡ false → length (chains_of hs) ≤ 1024 → slice_get hs i ≡ Some x → AreNext hs hs (x ∷ []) (i ∷ [])

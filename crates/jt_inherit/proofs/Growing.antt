@@ -129,10 +129,6 @@ homes_among (a_library n) xs ys us vs f g a = libraries_listed n us vs ∙ g n (
 
 -- ---- ways of homes, one behind the other
 
-pub reaches_then : {s : Sources} {e : Bool} {h k m : Home} → Reaches s e h k → Reaches s e k m → Reaches s e h m
-reaches_then here b = b
-reaches_then (through a r) b = through a (reaches_then r b)
-
 pub reaches_next : {s : Sources} {e : Bool} {h k m : Home} → Reaches s e h k → listed m (included s k) ≡ true → Reaches s e h m
 reaches_next here a = through a here
 reaches_next (through b r) a = through b (reaches_next r a)

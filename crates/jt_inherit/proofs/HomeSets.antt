@@ -1,58 +1,50 @@
 -- Sets of chains and libraries: where one is, and what is there when one is put.
-use Rattle.std.proofs.Common.{◌≡◌, ℕ, ◌+◌, ◌<◌, ◌≤◌, Bool, true, false, ◌||◌, if◌then◌else◌, List, [], ◌∷◌, ◌++◌, length, drop, get_or, refl, sym, ap, ◌∙◌, arith, Option, Some, None, string_bytes, MatchOption, length-append, rules}
-use Rattle.std.specs.Prelude.{slice_get, position}
-use Rattle.std.specs.List.{list_any}
-use Rattle.std.specs.Option.{is_some}
+use Rattle.std.proofs.Common.{◌≡◌, ℕ, ◌+◌, ◌<◌, ◌≤◌, Bool, true, false, cond, ◌||◌, if◌then◌else◌, List, [], ◌∷◌, ◌++◌, length, drop, get_or, refl, sym, ap, ◌∙◌, arith, Option, Some, None, string_bytes, MatchOption, length-append, rules}
+use Rattle.std.specs.Prelude.{slice_get, option_map}
+use Rattle.std.specs.List.{list_any, position_from}
 use Rattle.std.proofs.lemmas.List.{append-nil, get_or_default, drop_more}
-use Rattle.std.proofs.lemmas.List.Quantifiers.{position-Some}
+use Rattle.std.proofs.lemmas.Option.{slice_get-map}
+use Rattle.std.specs.BTreeMap.{get_by_text}
+use Rattle.std.specs.Str.{bytes_eq}
+use Rattle.jt_trees.specs.Expressions.{Text}
+use Rattle.jt_chains.specs.Tables.{Table}
 use Rattle.jt_chains.specs.Chain.{Home, a_chain, a_library, same_home, listed}
 use Rattle.jt_inherit.specs.Found.{chains_of}
-use Rattle.jt_inherit.specs.SetView.{key_view, homes_view}
-use Rattle.jt_inherit.specs.contracts.sets.HomeKeyPartialEq.TheImpl as key
+use Rattle.jt_inherit.specs.Numbers as numbers
+use Rattle.jt_inherit.specs.Numbers.{AreNumbers}
+use Rattle.jt_inherit.specs.SetView.{key_view, keys_view}
 use Rattle.jt_inherit.specs.declared.sets.HomeKey.{HomeKey}
-use Rattle.jt_inherit.proofs.Among.{map_more}
 use Rattle.jt_inherit.proofs.Homes.{same, symmetric, chains_both}
-use Rattle.jt_chains.proofs.Placed.{map_at}
+use Rattle.jt_inherit.proofs.Numbered.{first_none, first_found, numbers_more, numbers_same}
 
-module _ (eq : HomeKey → HomeKey → Bool) (is : (x k : HomeKey) → eq x k ≡ same_home (key_view x) (key_view k)) where
-  pub any_home : (x : HomeKey) (ks : List HomeKey) → list_any (eq x) ks ≡ listed (key_view x) (homes_view ks)
-  any_home x [] = refl
-  any_home x (k ∷ ks) = ap (λ b. b || list_any (eq x) ks) (is x k ∙ symmetric (key_view x) (key_view k)) ∙ ap (λ b. same_home (key_view k) (key_view x) || b) (any_home x ks)
+pub any_home : (h : Home) (ks : List HomeKey) → list_any (λ k. same_home h (key_view k)) ks ≡ listed h (keys_view ks)
+any_home h [] = refl
+any_home h (k ∷ ks) =
+    ap (λ b. b || list_any (λ (j : HomeKey). same_home h (key_view j)) ks) (symmetric h (key_view k)) ∙ ap (λ b. same_home (key_view k) h || b) (any_home h ks)
 
-  found_at : (x : HomeKey) (ks : List HomeKey) (i : ℕ) → position (eq x) ks ≡ Some i → slice_get (homes_view ks) i ≡ Some (key_view x)
-  found_at x [] i e = absurd (cc)
-  found_at x (k ∷ ks) i e =
-      let h = position-Some (eq x) (k ∷ ks) i k e in
-      let key = get_or (k ∷ ks) i k in
-      map_at key_view (k ∷ ks) i key h.0 (get_or_default (k ∷ ks) i k key h.0) ∙ ap Some (sym (same (key_view x) (key_view key) (sym (is x key) ∙ h.1)))
-
-  pub find_told : (x : HomeKey) (ks : List HomeKey) (r : Option ℕ) → r ≡ position (eq x) ks → is_some r ≡ list_any (eq x) ks
-      → MatchOption r (listed (key_view x) (homes_view ks) ≡ false) (λ i. slice_get (homes_view ks) i ≡ Some (key_view x))
-  find_told x ks None at there = sym (any_home x ks) ∙ sym there
-  find_told x ks (Some i) at there = found_at x ks i (sym at)
-
-  pub put_told : (k : HomeKey) (ks new : List HomeKey) → new ≡ (if list_any (eq k) ks then ks else ks ++ k ∷ []) → listed (key_view k) (homes_view ks) ≡ false → homes_view new ≡ homes_view ks ++ key_view k ∷ []
-  put_told k ks new e fresh = ap homes_view (e ∙ ap (λ b. if b then ks else ks ++ k ∷ []) (any_home k ks ∙ fresh)) ∙ map_more key_view ks k
-
--- keys are equal where what contracts see of them is
-pub same_key : (x k : HomeKey) → (key.eq-value).it x k ≡ same_home (key_view x) (key_view k)
-same_key x k = search rules
+pub find_told : (h : Home) (ks : List HomeKey) (r : Option ℕ) → r ≡ position_from (λ k. same_home h (key_view k)) 0 ks
+    → MatchOption r (listed h (keys_view ks) ≡ false) (λ i. slice_get (keys_view ks) i ≡ Some h)
+find_told h ks None e = sym (any_home h ks) ∙ first_none (λ (k : HomeKey). same_home h (key_view k)) 0 ks (sym e)
+find_told h ks (Some i) e =
+    let f = first_found (λ (k : HomeKey). same_home h (key_view k)) 0 ks i (sym e) in
+    let at : i ≡ f.0 = omega (arith, f.2) in
+    ap (slice_get (keys_view ks)) at ∙ slice_get-map key_view ks f.0 ∙ ap (option_map key_view) f.3 ∙ ap Some (sym (same h (key_view f.1) f.4))
 
 -- ---- chains among them, one after the other
 
-pub few_chains : (hs : List HomeKey) → length (chains_of (homes_view hs)) ≤ length hs
+pub few_chains : (hs : List HomeKey) → length (chains_of (keys_view hs)) ≤ length hs
 few_chains [] = omega arith
 few_chains (k ∷ hs) = by k.is_library (few_chains hs)
   where
-    by : (b : Bool) → length (chains_of (homes_view hs)) ≤ length hs → length (chains_of ((if b then a_library (string_bytes k.name) else a_chain (string_bytes k.name)) ∷ homes_view hs)) ≤ length (k ∷ hs)
+    by : (b : Bool) → length (chains_of (keys_view hs)) ≤ length hs → length (chains_of ((if b then a_library (string_bytes k.name) else a_chain (string_bytes k.name)) ∷ keys_view hs)) ≤ length (k ∷ hs)
     by true r = omega (arith, r)
     by false r = omega (arith, r)
 
 pub chain_turn : (hs : List HomeKey) (i : ℕ) (k : HomeKey) → i < length hs → k ≡ get_or hs i k
-    → length (chains_of (homes_view (drop i hs))) ≡ (if k.is_library then 0 else 1) + length (chains_of (homes_view (drop (i + 1) hs)))
-chain_turn hs i k lt is = ap (λ (l : List HomeKey). length (chains_of (homes_view l))) (drop_more hs i k lt ∙ ap (λ z. z ∷ drop (i + 1) hs) (sym is)) ∙ by k.is_library
+    → length (chains_of (keys_view (drop i hs))) ≡ (if k.is_library then 0 else 1) + length (chains_of (keys_view (drop (i + 1) hs)))
+chain_turn hs i k lt is = ap (λ (l : List HomeKey). length (chains_of (keys_view l))) (drop_more hs i k lt ∙ ap (λ z. z ∷ drop (i + 1) hs) (sym is)) ∙ by k.is_library
   where
-    by : (b : Bool) → length (chains_of ((if b then a_library (string_bytes k.name) else a_chain (string_bytes k.name)) ∷ homes_view (drop (i + 1) hs))) ≡ (if b then 0 else 1) + length (chains_of (homes_view (drop (i + 1) hs)))
+    by : (b : Bool) → length (chains_of ((if b then a_library (string_bytes k.name) else a_chain (string_bytes k.name)) ∷ keys_view (drop (i + 1) hs))) ≡ (if b then 0 else 1) + length (chains_of (keys_view (drop (i + 1) hs)))
     by true = omega arith
     by false = omega arith
 
@@ -61,6 +53,26 @@ is_chain k e = ap (λ (b : Bool). if b then a_library (string_bytes k.name) else
 
 pub is_library : (k : HomeKey) → k.is_library ≡ true → key_view k ≡ a_library (string_bytes k.name)
 is_library k e = ap (λ (b : Bool). if b then a_library (string_bytes k.name) else a_chain (string_bytes k.name)) e
+
+-- which numbers there are when one is put
+
+pub chain_put : (ks : List HomeKey) (k : HomeKey) (m n : Table) → AreNumbers numbers.is_chain ks m → k.is_library ≡ false → listed (key_view k) (keys_view ks) ≡ false
+    → ((x : Text) → get_by_text n x ≡ cond (bytes_eq (string_bytes k.name) x) (Some (length ks)) (get_by_text m x)) → AreNumbers numbers.is_chain (ks ++ k ∷ []) n
+chain_put ks k m n told is new more =
+    numbers_more numbers.is_chain ks m n (string_bytes k.name) k told (λ z. ap (same_home (a_chain z)) (is_chain k is) ∙ symmetric (a_chain z) (a_chain (string_bytes k.name)))
+    (any_home (a_chain (string_bytes k.name)) ks ∙ ap (λ h. listed h (keys_view ks)) (sym (is_chain k is)) ∙ new) more
+
+pub library_put : (ks : List HomeKey) (k : HomeKey) (m n : Table) → AreNumbers numbers.is_library ks m → k.is_library ≡ true → listed (key_view k) (keys_view ks) ≡ false
+    → ((x : Text) → get_by_text n x ≡ cond (bytes_eq (string_bytes k.name) x) (Some (length ks)) (get_by_text m x)) → AreNumbers numbers.is_library (ks ++ k ∷ []) n
+library_put ks k m n told is new more =
+    numbers_more numbers.is_library ks m n (string_bytes k.name) k told (λ z. ap (same_home (a_library z)) (is_library k is) ∙ symmetric (a_library z) (a_library (string_bytes k.name)))
+    (any_home (a_library (string_bytes k.name)) ks ∙ ap (λ h. listed h (keys_view ks)) (sym (is_library k is)) ∙ new) more
+
+pub chain_kept : (ks : List HomeKey) (k : HomeKey) (m : Table) → AreNumbers numbers.is_library ks m → k.is_library ≡ false → AreNumbers numbers.is_library (ks ++ k ∷ []) m
+chain_kept ks k m told is = numbers_same numbers.is_library ks m k told (λ z. ap (same_home (a_library z)) (is_chain k is))
+
+pub library_kept : (ks : List HomeKey) (k : HomeKey) (m : Table) → AreNumbers numbers.is_chain ks m → k.is_library ≡ true → AreNumbers numbers.is_chain (ks ++ k ∷ []) m
+library_kept ks k m told is = numbers_same numbers.is_chain ks m k told (λ z. ap (same_home (a_chain z)) (is_library k is))
 
 -- a library more, or a chain more
 pub library_more : (old new : List Home) (k : HomeKey) → new ≡ old ++ key_view k ∷ [] → k.is_library ≡ true → length (chains_of new) ≡ length (chains_of old)

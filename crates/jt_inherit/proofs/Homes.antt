@@ -40,9 +40,6 @@ pub listed_behind : (x : Home) (xs ys : List Home) → listed x ys ≡ true → 
 listed_behind x [] ys h = h
 listed_behind x (y ∷ xs) ys h = or_true (same_home y x) (listed x (xs ++ ys)) (listed_behind x xs ys h)
 
-pub listed_next : (x : Home) (xs ys : List Home) → listed x (xs ++ x ∷ ys) ≡ true
-listed_next x xs ys = listed_behind x xs (x ∷ ys) (ap (λ b. b || listed x ys) (reflexive x))
-
 not_next : (x y : Home) (xs : List Home) → listed x xs ≡ false → same_home y x ≡ false → listed x (xs ++ y ∷ []) ≡ false
 not_next x y [] h e = both_false (same_home y x) false e refl
 not_next x y (z ∷ xs) h e =

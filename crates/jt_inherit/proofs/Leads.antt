@@ -43,12 +43,6 @@ more_sources (t ∷ ts) us n b e = by (bytes_eq t.name n) refl (more_sources ts 
     by false h r =
         ap (λ c. if c then Some t.body else sources_in (ts ++ us) n) h ∙ r (sym (ap (λ c. if c then Some t.body else sources_in ts n) h) ∙ e)
 
-pub last_source : (ts : List Template) (t : Template) → among t.name (names ts) ≡ false → sources_in (ts ++ t ∷ []) t.name ≡ Some t.body
-last_source [] t h = ap (λ c. if c then Some t.body else None) (reflexive t.name)
-last_source (u ∷ ts) t h =
-    let k = or_false (bytes_eq u.name t.name) (among t.name (names ts)) h in
-    ap (λ c. if c then Some u.body else sources_in (ts ++ t ∷ []) t.name) k.0 ∙ last_source ts t k.1
-
 pub leads_grow : (s r : Sources) → Grows s r → (o : Option Text) (ts : List Template) (p : Option Text) → Leads s o ts p → Leads r o ts p
 leads_grow s r g o [] p l = l
 leads_grow s r g None (t ∷ ts) p l = absurd l
@@ -178,16 +172,7 @@ pub length_names : (ts : List Template) → length (names ts) ≡ length ts
 length_names [] = refl
 length_names (t ∷ ts) = ap suc (length_names ts)
 
--- the template of a name at its place
-pub template_named : (ts : List Template) (i : ℕ) (n : Text) → slice_get (names ts) i ≡ Some n → (t : Template) × (slice_get ts i ≡ Some t) × (t.name ≡ n)
-template_named [] i n e = absurd (cc)
-template_named (t ∷ ts) zero n e = (t, refl, cc)
-template_named (t ∷ ts) (suc i) n e = template_named ts i n e
-
 -- ---- ways
-
-pub way_begins : (ts : List Template) (h n : Text) → h ≡ n → IsWay ts (a_chain h) [] (Some n)
-way_begins ts h n e = record { places = tt; leads = ap Some e; once = refl; few = omega arith }
 
 from_grows : (s r : Sources) → Grows s r → (h : Home) (ts : List Template) (p : Option Text) → LeadsFrom s h ts p → LeadsFrom r h ts p
 from_grows s r g (a_chain n) ts p l = leads_grow s r g (Some n) ts p l
@@ -293,9 +278,6 @@ module _ (given : Given) (options : Options) (root : Text) (ts : List Template) 
 
 pub pages_more : (ps qs : List Page) (p : Page) → qs ≡ ps ++ p ∷ [] → pages_view qs ≡ pages_view ps ++ page_view p ∷ []
 pages_more ps qs p e = ap pages_view e ∙ map_more page_view ps p
-
-pub pages_longer : (ps qs : List Page) (p : Page) → qs ≡ ps ++ p ∷ [] → length (pages_view qs) ≡ length (pages_view ps) + 1
-pages_longer ps qs p e = ap length (pages_more ps qs p e) ∙ length-append (pages_view ps) (page_view p ∷ [])
 
 -- the name of the last page at its place
 pub page_last : (ps qs : List Page) (p : Page) (n : Text) (k : ℕ) → qs ≡ ps ++ p ∷ [] → string_bytes p.name ≡ n → k ≡ length ps → slice_get (names (pages_view qs)) k ≡ Some n

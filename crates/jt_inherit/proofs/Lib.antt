@@ -11,6 +11,7 @@ pub mod Growing
 pub mod HomeSets
 pub mod Homes
 pub mod Imported
+pub mod Lasting
 pub mod Leads
 pub mod Lengths
 pub mod Listed
@@ -18,6 +19,7 @@ pub mod NameSets
 pub mod Naming
 pub mod Needed
 pub mod OnWay
+pub mod Numbered
 pub mod Ordered
 pub mod Raws
 pub mod Ruled

@@ -1,34 +1,30 @@
--- Sets of names: where a name is, and what is there when one is put.
-use Rattle.std.proofs.Common.{◌≡◌, ℕ, false, ◌||◌, if◌then◌else◌, List, [], ◌∷◌, ◌++◌, get_or, refl, sym, ap, ◌∙◌, Option, Some, None, String, Global, string_bytes, MatchOption}
-use Rattle.std.specs.Prelude.{slice_get, position}
+-- Sets of names: where a name is, and which numbers there are when one is put.
+use Rattle.std.proofs.Common.{◌≡◌, ℕ, false, cond, ◌||◌, List, [], ◌∷◌, ◌++◌, length, refl, sym, ap, ◌∙◌, arith, Option, Some, None, String, Global, string_bytes, MatchOption}
+use Rattle.std.specs.Prelude.{slice_get, option_map}
+use Rattle.std.specs.BTreeMap.{get_by_text}
 use Rattle.std.specs.List.{list_any}
-use Rattle.std.specs.Option.{is_some}
 use Rattle.std.specs.Str.{bytes_eq}
-use Rattle.std.proofs.lemmas.List.{get_or_default}
-use Rattle.std.proofs.lemmas.List.Quantifiers.{position-Some}
+use Rattle.std.proofs.lemmas.Option.{slice_get-map}
 use Rattle.jt_trees.specs.Texts.{among}
 use Rattle.jt_trees.specs.Expressions.{Text}
+use Rattle.jt_chains.specs.Tables.{Table}
+use Rattle.jt_inherit.specs.Numbers.{AreNumbers, is_text}
 use Rattle.jt_inherit.specs.SetView.{strings}
-use Rattle.jt_inherit.proofs.Among.{same, symmetric, map_more}
-use Rattle.jt_chains.proofs.Placed.{map_at}
+use Rattle.jt_inherit.proofs.Among.{same, symmetric}
+use Rattle.jt_inherit.proofs.Numbered.{first_none, first_found, numbers_more}
 
-pub any_string : (x : Text) (ks : List (String Global)) → list_any (λ k. bytes_eq x (string_bytes k)) ks ≡ among x (strings ks)
+any_string : (x : Text) (ks : List (String Global)) → list_any (is_text x) ks ≡ among x (strings ks)
 any_string x [] = refl
-any_string x (k ∷ ks) = ap (λ b. b || list_any (λ (j : String Global). bytes_eq x (string_bytes j)) ks) (symmetric x (string_bytes k)) ∙ ap (λ b. bytes_eq (string_bytes k) x || b) (any_string x ks)
+any_string x (k ∷ ks) = ap (λ b. b || list_any (is_text x) ks) (symmetric x (string_bytes k)) ∙ ap (λ b. bytes_eq (string_bytes k) x || b) (any_string x ks)
 
-found_at : (x : Text) (ks : List (String Global)) (i : ℕ) → position (λ k. bytes_eq x (string_bytes k)) ks ≡ Some i → slice_get (strings ks) i ≡ Some x
-found_at x [] i e = absurd (cc)
-found_at x (k ∷ ks) i e =
-    let h = position-Some (λ (j : String Global). bytes_eq x (string_bytes j)) (k ∷ ks) i k e in
-    let key = get_or (k ∷ ks) i k in
-    map_at string_bytes (k ∷ ks) i key h.0 (get_or_default (k ∷ ks) i k key h.0) ∙ ap (λ (n : Text). Some n) (sym (same x (string_bytes key) h.1))
-
-pub find_told : (x : Text) (ks : List (String Global)) (r : Option ℕ) → r ≡ position (λ k. bytes_eq x (string_bytes k)) ks → is_some r ≡ list_any (λ k. bytes_eq x (string_bytes k)) ks
+pub find_told : (x : Text) (ks : List (String Global)) (m : Table) (r : Option ℕ) → AreNumbers is_text ks m → r ≡ get_by_text m x
     → MatchOption r (among x (strings ks) ≡ false) (λ i. slice_get (strings ks) i ≡ Some x)
-find_told x ks None at there = sym (any_string x ks) ∙ sym there
-find_told x ks (Some i) at there = found_at x ks i (sym at)
+find_told x ks m None k e = sym (any_string x ks) ∙ first_none (is_text x) 0 ks (sym (e ∙ k x))
+find_told x ks m (Some i) k e =
+    let f = first_found (is_text x) 0 ks i (sym (e ∙ k x)) in
+    let at : i ≡ f.0 = omega (arith, f.2) in
+    ap (slice_get (strings ks)) at ∙ slice_get-map string_bytes ks f.0 ∙ ap (option_map string_bytes) f.3 ∙ ap (λ (n : Text). Some n) (sym (same x (string_bytes f.1) f.4))
 
-pub put_told : (k : String Global) (ks new : List (String Global)) → new ≡ (if list_any (λ j. bytes_eq (string_bytes k) (string_bytes j)) ks then ks else ks ++ k ∷ []) → among (string_bytes k) (strings ks) ≡ false
-    → strings new ≡ strings ks ++ string_bytes k ∷ []
-put_told k ks new e fresh =
-    ap strings (e ∙ ap (λ b. if b then ks else ks ++ k ∷ []) (any_string (string_bytes k) ks ∙ fresh)) ∙ map_more string_bytes ks k
+pub put_told : (ks : List (String Global)) (k : String Global) (m n : Table) → AreNumbers is_text ks m → among (string_bytes k) (strings ks) ≡ false
+    → ((x : Text) → get_by_text n x ≡ cond (bytes_eq (string_bytes k) x) (Some (length ks)) (get_by_text m x)) → AreNumbers is_text (ks ++ k ∷ []) n
+put_told ks k m n told new more = numbers_more is_text ks m n (string_bytes k) k told (λ z. symmetric z (string_bytes k)) (any_string (string_bytes k) ks ∙ new) more

@@ -21,11 +21,6 @@ itself i = grind (arith, nat_tests)
 
 -- ---- homes by their numbers
 
-pub home_there : (hs : List Home) (i : ℕ) → i < length hs → slice_get hs i ≡ Some (home_at hs i)
-home_there [] i lt = absurd (omega arith)
-home_there (h ∷ hs) zero lt = refl
-home_there (h ∷ hs) (suc i) lt = home_there hs i (omega arith)
-
 pub home_among : (hs : List Home) (i : ℕ) → i < length hs → listed (home_at hs i) hs ≡ true
 home_among [] i lt = absurd (omega arith)
 home_among (h ∷ hs) zero lt = ap (λ b. b || listed h hs) (reflexive h)

@@ -21,7 +21,7 @@ use Rattle.jt_inherit.proofs.Finding.{some_source}
 use Rattle.jt_inherit.proofs.Growing.{asks_more, asked_more, reaches_more}
 use Rattle.jt_inherit.proofs.Leads.{names}
 
-any_at : (p : Text → Bool) (x : Text) (xs : List Text) → among x xs ≡ true → p x ≡ true → list_any p xs ≡ true
+pub any_at : (p : Text → Bool) (x : Text) (xs : List Text) → among x xs ≡ true → p x ≡ true → list_any p xs ≡ true
 any_at p x [] a t = absurd (cc)
 any_at p x (y ∷ xs) a t = by (bytes_eq y x) refl (any_at p x xs)
   where
@@ -30,7 +30,7 @@ any_at p x (y ∷ xs) a t = by (bytes_eq y x) refl (any_at p x xs)
     by false e r = or_true (p y) (list_any p xs) (r (sym (ap (λ b. b || among x xs) e) ∙ a) t)
 
 -- the template of a source
-source_read : (P : Template → Type 0) (ts : List Template) (n : Text) (b : Body) → AllByRecursion P ts → sources_in ts n ≡ Some b → P (record { name = n; body = b })
+pub source_read : (P : Template → Type 0) (ts : List Template) (n : Text) (b : Body) → AllByRecursion P ts → sources_in ts n ≡ Some b → P (record { name = n; body = b })
 source_read P [] n b a e = absurd (cc)
 source_read P (t ∷ ts) n b a e = by (bytes_eq t.name n) refl (source_read P ts n b a.1)
   where

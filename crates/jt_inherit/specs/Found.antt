@@ -19,7 +19,7 @@ use Rattle.jt_inherit.specs.Needs.{Need, need_home, needed}
 use Rattle.jt_chains.specs.Pages.{pages_view, home_view}
 use Rattle.jt_chains.specs.Places.{home_at}
 use Rattle.jt_chains.specs.Rules.{max_chains, Asks, Reaches}
-use Rattle.jt_inherit.specs.SetView.{strings, homes_view}
+use Rattle.jt_inherit.specs.Sets.{names_view, homes_view}
 use Rattle.jt_inherit.specs.Ways.{AreKnown, IsWay}
 use Rattle.jt_inherit.specs.declared.discovery.Found.{Found}
 use Rattle.jt_inherit.specs.declared.error.ChainError.{ChainError}
@@ -109,19 +109,19 @@ abbrev pub found_templates : Found → List Template
 found_templates f = pages_view f.pages.items
 
 abbrev pub found_homes : Found → List chain.Home
-found_homes f = homes_view f.homes.keys
+found_homes f = homes_view f.homes
 
 -- the entry's name
 abbrev pub root_of : Found → Text
 root_of f = home_name (home_at (found_homes f) 0)
 
 abbrev pub IsFound : Given → Options → Found → Type 0
-IsFound given options f = AreFound given options (root_of f) (found_templates f) (strings f.names.keys) (found_homes f) (graph_of f.ways.items) (graph_of f.next.items)
+IsFound given options f = AreFound given options (root_of f) (found_templates f) (names_view f.names) (found_homes f) (graph_of f.ways.items) (graph_of f.next.items)
 
 -- nothing but the entry is known
 pub record IsFirst (entry : Text) (f : Found) : Type 0 where
   pub homes : found_homes f ≡ a_chain entry ∷ []
-  pub names : f.names.keys ≡ []
+  pub names : f.names.items.items ≡ []
   pub pages : f.pages.items ≡ []
   pub ways : f.ways.items ≡ []
   pub next : f.next.items ≡ []

@@ -5,10 +5,13 @@ pub mod Faults
 pub mod Found
 pub mod Given
 pub mod Kept
+pub mod Laws
 pub mod Lines
 pub mod Needs
+pub mod Numbers
 pub mod Refusals
 pub mod Refused
 pub mod SetView
+pub mod Sets
 pub mod Small
 pub mod Ways

@@ -16,5 +16,5 @@ strings ks = map string_bytes ks
 abbrev pub key_view : HomeKey → Home
 key_view k = if k.is_library then a_library (string_bytes k.name) else a_chain (string_bytes k.name)
 
-abbrev pub homes_view : List HomeKey → List Home
-homes_view = map key_view
+abbrev pub keys_view : List HomeKey → List Home
+keys_view = map key_view

@@ -15,7 +15,7 @@ ghost use Rattle.jt_chains.specs.Pages.{home_view};
 ghost use Rattle.jt_chains.specs.Places.{home_at};
 ghost use Rattle.jt_inherit.specs.Refusals.{Breaks};
 ghost use Rattle.jt_chains.specs.Weights.{chains_weight};
-ghost use Rattle.jt_inherit.specs.SetView.{strings};
+ghost use Rattle.jt_inherit.specs.Sets.{names_view};
 ghost use Rattle.jt_inherit.specs.Ways.{AreNamed};
 ghost use Rattle.jt_inherit.specs.Small.{chains_len, source_len};
 ghost use Rattle.jt_chains.specs.View.{Seen, chain_view, sources_of};
@@ -83,7 +83,7 @@ pub fn chain<L: Library>(
 
 /// Refuses the chains and libraries where the blocks, macros or imports of one break a rule.
 fn check_chains(alloc: Global, found: &Found, escaping: bool) -> Result<(), ChainError>
-    requires named { AreNamed (found_templates found.now) (strings found.now.names.keys) }
+    requires named { AreNamed (found_templates found.now) (names_view found.now.names) }
     requires places { AllByRecursion (ArePlaces (found_templates found.now))
         (graph_of found.now.ways.items) }
     ensures kept { OnOk result (AllByRecursion

@@ -7,9 +7,8 @@ ghost use Rattle.jt_inherit.specs.Refusals.{Breaks};
 use crate::error::ChainError;
 use crate::including::{next_homes, read_includes};
 use crate::library::Library;
-use crate::sets::{HomeKey, put_home};
+use crate::sets::{HomeKey, Homes, Names};
 use crate::way::read_home;
-use indexmap::IndexSet;
 use jt_chains::Page;
 use jt_scan::Options;
 use std::alloc::{AllocError, Global};
@@ -18,11 +17,11 @@ use std::alloc::{AllocError, Global};
 #[derive(Drop)]
 pub(crate) struct Found {
     /// The names of the templates that were read.
-    pub(crate) names: IndexSet<String>,
+    pub(crate) names: Names,
     /// These templates, each once.
     pub(crate) pages: Vec<Page>,
     /// The chains and libraries, each once.
-    pub(crate) homes: IndexSet<HomeKey>,
+    pub(crate) homes: Homes,
     /// Of each that was followed the places of its templates.
     pub(crate) ways: Vec<Vec<usize>>,
     /// Of each that was followed the numbers of those that it includes or imports.
@@ -33,17 +32,17 @@ pub(crate) struct Found {
 fn begin(alloc: Global, entry: &str) -> Result<Found, AllocError>
     ensures { IfOk result (λ f. IsFirst entry.now f) }
 {
-    let mut homes = IndexSet::new(alloc);
+    let mut homes = Homes::new(alloc);
     let name = String::from_str(alloc, entry)?;
-    put_home(
-        &mut homes,
+    homes.put(
+        alloc,
         HomeKey {
             name,
             is_library: false,
         },
     )?;
     Ok(Found {
-        names: IndexSet::new(alloc),
+        names: Names::new(alloc),
         pages: Vec::new(alloc),
         homes,
         ways: Vec::new(alloc),

@@ -9,10 +9,10 @@ ghost use Rattle.jt_chains.specs.Rules as rules;
 ghost use Rattle.jt_inherit.specs.Kept as spec;
 ghost use Rattle.jt_inherit.specs.Kept.{names_from, imported_names, their_names};
 ghost use Rattle.jt_inherit.specs.Given.{IsGiven, macros_held};
-ghost use Rattle.jt_inherit.specs.SetView.{strings, texts};
+ghost use Rattle.jt_inherit.specs.SetView.{texts};
+ghost use Rattle.jt_inherit.specs.Sets.{names_view};
 ghost use Rattle.jt_inherit.specs.Ways.{AreNamed};
 
-use crate::sets::find;
 use crate::shelf::Shelf;
 use jt_chains::{Macro, Page, macros_at};
 use jt_trees::Stmt;
@@ -20,10 +20,10 @@ use std::alloc::{AllocError, Global};
 
 /// The template of a library, where it was read.
 fn library_page<'a>(shelf: Shelf<'a>, library: &str) -> Option<&'a Page>
-    requires { AreNamed (pages_view shelf.pages.now) (strings shelf.names.now.keys) }
+    requires { AreNamed (pages_view shelf.pages.now) (names_view shelf.names.now) }
     ensures { IsGiven (pages_view shelf.entry.pages.now) library.now result }
 {
-    let place = find(shelf.names, library)?;
+    let place = shelf.names.find(library)?;
     Some(&shelf.pages[place])
 }
 
@@ -41,7 +41,7 @@ fn has_not(page: &Page, names: &[(String, String)]) -> bool
 
 /// Whether `from` asks for a macro that the library lacks.
 fn lacks_one(shelf: Shelf<'_>, library: &str, names: &[(String, String)]) -> bool
-    requires { AreNamed (pages_view shelf.pages.now) (strings shelf.names.now.keys) }
+    requires { AreNamed (pages_view shelf.pages.now) (names_view shelf.names.now) }
     ensures { result ≡ rules.lacks_one (sources_in (pages_view shelf.entry.pages.now))
         library.now (given_view names.now) }
 {
@@ -53,7 +53,7 @@ fn lacks_one(shelf: Shelf<'_>, library: &str, names: &[(String, String)]) -> boo
 
 /// Whether a template asks for a macro that a library lacks.
 fn lacks_macros(shelf: Shelf<'_>, body: &[Stmt]) -> bool
-    requires { AreNamed (pages_view shelf.pages.now) (strings shelf.names.now.keys) }
+    requires { AreNamed (pages_view shelf.pages.now) (names_view shelf.names.now) }
     ensures { result ≡ rules.lacks_macros (sources_in (pages_view shelf.entry.pages.now))
         (body_view body.now) }
 {
@@ -70,7 +70,7 @@ fn lacks_macros(shelf: Shelf<'_>, body: &[Stmt]) -> bool
 /// Whether one of the templates at these places does.
 pub(crate) fn any_lacks_macros(shelf: Shelf<'_>, places: &[usize]) -> bool
     requires named { AreNamed (pages_view shelf.pages.now)
-        (strings shelf.names.now.keys) }
+        (names_view shelf.names.now) }
     requires places { ArePlaces (pages_view shelf.pages.now) places.now }
     ensures { result ≡ spec.any_lacks_macros (sources_in (pages_view shelf.entry.pages.now))
         (templates_at (pages_view shelf.entry.pages.now) places.now) }
@@ -107,7 +107,7 @@ fn add_given<'a>(
     names: &'a [(String, String)],
     given: &mut Vec<&'a str>,
 ) -> Result<(), AllocError>
-    requires { AreNamed (pages_view shelf.pages.now) (strings shelf.names.now.keys) }
+    requires { AreNamed (pages_view shelf.pages.now) (names_view shelf.names.now) }
     ensures { IfOk result (λ _. texts given.new.items ≡ texts given.old.items
         ++ names_from (macros (sources_in (pages_view shelf.entry.pages.now))
         (a_library library.now)) (given_view names.now)) }
@@ -124,7 +124,7 @@ fn add_imported<'a>(
     body: &'a [Stmt],
     given: &mut Vec<&'a str>,
 ) -> Result<(), AllocError>
-    requires { AreNamed (pages_view shelf.pages.now) (strings shelf.names.now.keys) }
+    requires { AreNamed (pages_view shelf.pages.now) (names_view shelf.names.now) }
     ensures { IfOk result (λ _. texts given.new.items ≡ texts given.old.items
         ++ imported_names (sources_in (pages_view shelf.entry.pages.now)) (body_view body.now)) }
 {
@@ -156,7 +156,7 @@ pub(crate) fn names_at<'a>(
     places: &[usize],
 ) -> Result<Vec<&'a str>, AllocError>
     requires named { AreNamed (pages_view shelf.pages.now)
-        (strings shelf.names.now.keys) }
+        (names_view shelf.names.now) }
     requires places { ArePlaces (pages_view shelf.pages.now) places.now }
     ensures { IfOk result (λ ns. texts ns.items
         ≡ their_names (sources_in (pages_view shelf.entry.pages.now))

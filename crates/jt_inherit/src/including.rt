@@ -11,16 +11,16 @@ ghost use Rattle.jt_chains.specs.Chain.{Template, a_chain, listed};
 ghost use Rattle.jt_inherit.specs.Found.{IsMet, IsFaultAt, IsNeedFault, AreNext, AddsNext, IsNextFault, chosen, chains_of, twice};
 ghost use Rattle.jt_inherit.specs.Needs.{need_home, need_view, needed, needs_view};
 ghost use Rattle.jt_chains.specs.Pages.{pages_view};
-ghost use Rattle.jt_inherit.specs.SetView.{key_view, homes_view, strings};
+ghost use Rattle.jt_inherit.specs.SetView.{key_view};
+ghost use Rattle.jt_inherit.specs.Sets.{homes_view, names_view};
 ghost use Rattle.jt_inherit.specs.Ways.{AreKnown};
 
 use crate::error::ChainError;
 use crate::library::Library;
 use crate::reading::read_page;
-use crate::sets::{HomeKey, count_chains, find, find_home, put_home};
+use crate::sets::{HomeKey, Homes, Names};
 use crate::shelf::add_page;
 use crate::statements::{Include, add_imports, add_includes};
-use indexmap::IndexSet;
 use jt_chains::Page;
 use jt_scan::Options;
 use std::alloc::{AllocError, Global};
@@ -80,7 +80,7 @@ fn needs_at<'a>(
 /// it is missing and may be.
 fn read_include<L: Library>(
     alloc: Global,
-    names: &mut IndexSet<String>,
+    names: &mut Names,
     fresh: &mut Vec<Page>,
     include: Include<'_>,
     library: &L,
@@ -88,20 +88,20 @@ fn read_include<L: Library>(
 ) -> Result<(), ChainError>
     ensures known { OnOk result ((ts : List Template)
         → AreKnown (L.sources library.now) options (ts ++ pages_view fresh.old.items)
-        (strings names.old.keys)
+        (names_view names.old)
         → AreKnown (L.sources library.now) options (ts ++ pages_view fresh.new.items)
-        (strings names.new.keys)) }
+        (names_view names.new)) }
     ensures grown { OnOk result
-        ((more : List Text) × (strings names.new.keys ≡ strings names.old.keys ++ more)) }
+        ((more : List Text) × (names_view names.new ≡ names_view names.old ++ more)) }
     ensures from { OnOk result ((n : Text)
-        → IsTrue (among n (strings names.new.keys))
-        → IsTrue (among n (strings names.old.keys)) ⊎ (n ≡ include.entry.name.now)) }
+        → IsTrue (among n (names_view names.new))
+        → IsTrue (among n (names_view names.old)) ⊎ (n ≡ include.entry.name.now)) }
     ensures met { OnOk result
-        (IsMet (L.sources library.now) (strings names.new.keys) (need_view include.entry)) }
+        (IsMet (L.sources library.now) (names_view names.new) (need_view include.entry)) }
     ensures refused { IfErr result
         (λ e. IsFaultAt (L.sources library.now) options (need_view include.entry) e) }
 {
-    if let Some(_place) = find(names, include.name) {
+    if let Some(_place) = names.find(include.name) {
         return Ok(());
     }
     match read_page(alloc, include.name, library, options) {
@@ -117,24 +117,24 @@ fn read_include<L: Library>(
 /// Reads the templates that are included or imported and that weren't read before.
 pub(crate) fn read_includes<L: Library>(
     alloc: Global,
-    names: &mut IndexSet<String>,
+    names: &mut Names,
     pages: &[Page],
     way: &[usize],
     library: &L,
     options: Options,
 ) -> Result<Vec<Page>, ChainError>
     requires known { AreKnown (L.sources library.now) options (pages_view pages.now)
-        (strings names.old.keys) }
+        (names_view names.old) }
     requires places { ArePlaces (pages_view pages.now) way.now }
     ensures known { IfOk result (λ fresh. AreKnown (L.sources library.now) options
-        (pages_view pages.now ++ pages_view fresh.items) (strings names.new.keys)) }
+        (pages_view pages.now ++ pages_view fresh.items) (names_view names.new)) }
     // what is new is included or imported
     ensures from { OnOk result ((n : Text)
-        → IsTrue (among n (strings names.new.keys))
-        → IsTrue (among n (strings names.old.keys))
+        → IsTrue (among n (names_view names.new))
+        → IsTrue (among n (names_view names.old))
         ⊎ IsTrue (among n (needed true (needs_along (pages_view pages.now) way.now)))) }
     ensures met { OnOk result (AllByRecursion
-        (IsMet (L.sources library.now) (strings names.new.keys))
+        (IsMet (L.sources library.now) (names_view names.new))
         (needs_along (pages_view pages.now) way.now)) }
     ensures refused { IfErr result (λ e. (e ≡ ChainError.NoMemory)
         ⊎ IsNeedFault (L.sources library.now) options
@@ -159,66 +159,66 @@ fn home_of(alloc: Global, include: Include<'_>) -> Result<HomeKey, AllocError>
 }
 
 /// Puts a chain or a library, which is new, behind the others.
-fn put_new(homes: &mut IndexSet<HomeKey>, home: HomeKey) -> Result<(), ChainError>
-    requires new { listed (key_view home) (homes_view homes.old.keys) ≡ false }
-    requires few { length (chains_of (homes_view homes.old.keys)) ≤ MAX_CHAINS }
+fn put_new(alloc: Global, homes: &mut Homes, home: HomeKey) -> Result<(), ChainError>
+    requires new { listed (key_view home) (homes_view homes.old) ≡ false }
+    requires few { length (chains_of (homes_view homes.old)) ≤ MAX_CHAINS }
     ensures put { OnOk result
-        (homes_view homes.new.keys ≡ homes_view homes.old.keys ++ key_view home ∷ []) }
-    ensures few { OnOk result (length (chains_of (homes_view homes.new.keys)) ≤ MAX_CHAINS) }
+        (homes_view homes.new ≡ homes_view homes.old ++ key_view home ∷ []) }
+    ensures few { OnOk result (length (chains_of (homes_view homes.new)) ≤ MAX_CHAINS) }
     ensures refused { IfErr result (λ e. (e ≡ ChainError.NoMemory)
         ⊎ ((e ≡ ChainError.ChainTooLong)
-        × (length (chains_of (homes_view homes.old.keys)) ≡ MAX_CHAINS)
+        × (length (chains_of (homes_view homes.old)) ≡ MAX_CHAINS)
         × (key_view home ≡ a_chain (string_bytes home.name)))) }
 {
     if home.is_library {
-        put_home(homes, home)?;
+        homes.put(alloc, home)?;
         return Ok(());
     }
-    if count_chains(homes) == MAX_CHAINS {
+    if homes.count_chains() == MAX_CHAINS {
         return Err(ChainError::ChainTooLong);
     }
-    put_home(homes, home)?;
+    homes.put(alloc, home)?;
     Ok(())
 }
 
 /// The number of a chain or a library, which is put behind the others where it is new.
-fn number_of(homes: &mut IndexSet<HomeKey>, home: HomeKey) -> Result<usize, ChainError>
-    requires once { twice (homes_view homes.old.keys) ≡ false }
-    requires few { length (chains_of (homes_view homes.old.keys)) ≤ MAX_CHAINS }
-    ensures next { IfOk result (λ i. AreNext (homes_view homes.old.keys)
-        (homes_view homes.new.keys) (key_view home ∷ []) (i ∷ [])) }
+fn number_of(alloc: Global, homes: &mut Homes, home: HomeKey) -> Result<usize, ChainError>
+    requires once { twice (homes_view homes.old) ≡ false }
+    requires few { length (chains_of (homes_view homes.old)) ≤ MAX_CHAINS }
+    ensures next { IfOk result (λ i. AreNext (homes_view homes.old)
+        (homes_view homes.new) (key_view home ∷ []) (i ∷ [])) }
     ensures refused { IfErr result
-        (λ e. IsNextFault (homes_view homes.old.keys) (key_view home ∷ []) e) }
+        (λ e. IsNextFault (homes_view homes.old) (key_view home ∷ []) e) }
 {
-    if let Some(number) = find_home(homes, &home) {
+    if let Some(number) = homes.find(&home) {
         return Ok(number);
     }
     let number = homes.len();
-    put_new(homes, home)?;
+    put_new(alloc, homes, home)?;
     Ok(number)
 }
 
 /// Adds the number of what is included or imported, where there is a template of the name.
 fn add_number(
     alloc: Global,
-    names: &IndexSet<String>,
-    homes: &mut IndexSet<HomeKey>,
+    names: &Names,
+    homes: &mut Homes,
     numbers: &mut Vec<usize>,
     include: Include<'_>,
 ) -> Result<(), ChainError>
-    requires once { twice (homes_view homes.old.keys) ≡ false }
-    requires few { length (chains_of (homes_view homes.old.keys)) ≤ MAX_CHAINS }
-    ensures next { OnOk result (AddsNext (homes_view homes.old.keys) (homes_view homes.new.keys)
-        (chosen (strings names.now.keys) (need_view include.entry ∷ []))
+    requires once { twice (homes_view homes.old) ≡ false }
+    requires few { length (chains_of (homes_view homes.old)) ≤ MAX_CHAINS }
+    ensures next { OnOk result (AddsNext (homes_view homes.old) (homes_view homes.new)
+        (chosen (names_view names.now) (need_view include.entry ∷ []))
         numbers.old.items numbers.new.items) }
-    ensures refused { IfErr result (λ e. IsNextFault (homes_view homes.old.keys)
-        (chosen (strings names.now.keys) (need_view include.entry ∷ [])) e) }
+    ensures refused { IfErr result (λ e. IsNextFault (homes_view homes.old)
+        (chosen (names_view names.now) (need_view include.entry ∷ [])) e) }
 {
-    let Some(_place) = find(names, include.name) else {
+    let Some(_place) = names.find(include.name) else {
         return Ok(());
     };
     let home = home_of(alloc, include)?;
-    let number = number_of(homes, home)?;
+    let number = number_of(alloc, homes, home)?;
     numbers.push(number)?;
     Ok(())
 }
@@ -227,20 +227,20 @@ fn add_number(
 /// put behind the others.
 pub(crate) fn next_homes(
     alloc: Global,
-    names: &IndexSet<String>,
-    homes: &mut IndexSet<HomeKey>,
+    names: &Names,
+    homes: &mut Homes,
     pages: &[Page],
     way: &[usize],
 ) -> Result<Vec<usize>, ChainError>
     requires places { ArePlaces (pages_view pages.now) way.now }
-    requires once { twice (homes_view homes.old.keys) ≡ false }
-    requires few { length (chains_of (homes_view homes.old.keys)) ≤ MAX_CHAINS }
-    ensures next { IfOk result (λ numbers. AreNext (homes_view homes.old.keys)
-        (homes_view homes.new.keys)
-        (chosen (strings names.now.keys) (needs_along (pages_view pages.now) way.now))
+    requires once { twice (homes_view homes.old) ≡ false }
+    requires few { length (chains_of (homes_view homes.old)) ≤ MAX_CHAINS }
+    ensures next { IfOk result (λ numbers. AreNext (homes_view homes.old)
+        (homes_view homes.new)
+        (chosen (names_view names.now) (needs_along (pages_view pages.now) way.now))
         numbers.items) }
-    ensures refused { IfErr result (λ e. IsNextFault (homes_view homes.old.keys)
-        (chosen (strings names.now.keys) (needs_along (pages_view pages.now) way.now)) e) }
+    ensures refused { IfErr result (λ e. IsNextFault (homes_view homes.old)
+        (chosen (names_view names.now) (needs_along (pages_view pages.now) way.now)) e) }
 {
     let found = needs_at(alloc, pages, way)?;
     let mut numbers = Vec::new(alloc);

@@ -10,22 +10,23 @@ ghost use Rattle.jt_inherit.specs.Checks.{lacks_body, lacks_next, block_names};
 ghost use Rattle.jt_inherit.specs.Kept as spec;
 ghost use Rattle.jt_chains.specs.Pages.{pages_view};
 ghost use Rattle.jt_chains.specs.Parts.{blocks_view};
-ghost use Rattle.jt_inherit.specs.SetView.{strings, texts};
+ghost use Rattle.jt_inherit.specs.SetView.{texts};
+ghost use Rattle.jt_inherit.specs.Sets.{names_view};
 ghost use Rattle.jt_inherit.specs.Ways.{AreNamed};
 
 use crate::error::ChainError;
 use crate::importing::{any_lacks_macros, names_at};
 use crate::shelf::Shelf;
 use crate::supers::calls_super;
-use indexmap::IndexSet;
 use jt_chains::{Block, Page, blocks_at, blocks_of_page};
 use std::alloc::{AllocError, Global};
+use std::collections::BTreeSet;
 
 /// Adds a name; whether it was there before.
-fn note<'a>(names: &mut IndexSet<&'a str>, name: &'a str) -> Result<bool, AllocError>
+fn note<'a>(names: &mut BTreeSet<&'a str>, name: &'a str) -> Result<bool, AllocError>
     ensures known { IfOk result (λ known. known ≡ among name.now (texts names.old.keys)) }
-    ensures noted { IfOk result (λ known. texts names.new.keys
-        ≡ (if known then texts names.old.keys else texts names.old.keys ++ name.now ∷ [])) }
+    ensures noted { OnOk result ((x : Text) → among x (texts names.new.keys)
+        ≡ (bytes_eq name.now x || among x (texts names.old.keys))) }
 {
     let added = names.insert(name)?;
     Ok(!added)
@@ -35,7 +36,7 @@ fn note<'a>(names: &mut IndexSet<&'a str>, name: &'a str) -> Result<bool, AllocE
 pub(crate) fn blocks_repeat(alloc: Global, blocks: &[Block<'_>]) -> Result<bool, AllocError>
     ensures { IfOk result (λ found. found ≡ repeated (block_names blocks.now)) }
 {
-    let mut names = IndexSet::new(alloc);
+    let mut names = BTreeSet::new(alloc);
     for block in blocks {
         if note(&mut names, block.name)? {
             return Ok(true);
@@ -48,7 +49,7 @@ pub(crate) fn blocks_repeat(alloc: Global, blocks: &[Block<'_>]) -> Result<bool,
 fn names_repeat(alloc: Global, given: &[&str]) -> Result<bool, AllocError>
     ensures { IfOk result (λ found. found ≡ repeated (texts given.now)) }
 {
-    let mut names = IndexSet::new(alloc);
+    let mut names = BTreeSet::new(alloc);
     for name in given {
         if note(&mut names, *name)? {
             return Ok(true);
@@ -65,7 +66,7 @@ fn is_lacking(there: bool, asked: bool) -> bool
 }
 
 /// Adds the name of a body to go on with.
-fn note_given<'a>(given: &mut IndexSet<&'a str>, block: &Block<'a>) -> Result<(), AllocError>
+fn note_given<'a>(given: &mut BTreeSet<&'a str>, block: &Block<'a>) -> Result<(), AllocError>
     ensures { IfOk result (λ _. (x : Text)
         → among x (texts given.new.keys)
         ≡ ((bytes_eq block.now.name.now x && not block.now.required)
@@ -82,7 +83,7 @@ pub(crate) fn any_lacks_body(alloc: Global, blocks: &[Block<'_>]) -> Result<bool
     ensures { IfOk result
         (λ found. (ts : List Template) → found ≡ lacks_body (blocks_view ts blocks.now)) }
 {
-    let mut names = IndexSet::new(alloc);
+    let mut names = BTreeSet::new(alloc);
     for block in blocks {
         let known = note(&mut names, block.name)?;
         if is_lacking(known, block.required) {
@@ -98,7 +99,7 @@ pub(crate) fn any_lacks_next(alloc: Global, mut bodies: Vec<Block<'_>>) -> Resul
     ensures { IfOk result
         (λ found. (ts : List Template) → found ≡ lacks_next (blocks_view ts bodies.entry.items)) }
 {
-    let mut given: IndexSet<&str> = IndexSet::new(alloc);
+    let mut given: BTreeSet<&str> = BTreeSet::new(alloc);
     while let Some(block) = bodies.pop() {
         if is_lacking(given.contains(block.name), calls_super(block.body)) {
             return Ok(true);
@@ -137,7 +138,7 @@ pub(crate) fn check_rules(
     escaping: bool,
 ) -> Result<(), ChainError>
     requires named { AreNamed (pages_view shelf.pages.now)
-        (strings shelf.names.now.keys) }
+        (names_view shelf.names.now) }
     requires places { ArePlaces (pages_view shelf.pages.now) places.now }
     ensures kept { OnOk result (spec.KeepAll (sources_in (pages_view shelf.entry.pages.now))
         escaping (templates_at (pages_view shelf.entry.pages.now) places.now)) }

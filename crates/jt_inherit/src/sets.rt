@@ -1,65 +1,154 @@
-//! Sets of names, and of chains and libraries, in the order in which they were put.
+//! Sets of names, and of chains and libraries, in the order in which they were put. A stranger
+//! chooses the names, so that they are found by their order: no choice makes that slow, as it would
+//! a hash.
 
-ghost use Rattle.std.specs.Prelude.{◌≡◌, ◌++◌, ◌∷◌, [], false, length, slice_get, Some, MatchOption, OnOk};
+ghost use Rattle.std.specs.Prelude.{◌≡◌, ◌^◌, ◌<◌, ◌++◌, ◌∷◌, [], false, length, slice_get, Some, MatchOption, OnOk, string_bytes};
 ghost use Rattle.jt_trees.specs.Texts.{among};
 ghost use Rattle.jt_chains.specs.Chain.{listed};
-ghost use Rattle.jt_inherit.specs.Found.{chains_of};
-ghost use Rattle.jt_inherit.specs.SetView.{strings, key_view, homes_view};
+ghost use Rattle.jt_inherit.specs.Numbers.{AreNumbers, AreNumbers-prop, is_text, is_chain, is_library};
+ghost use Rattle.jt_inherit.specs.SetView.{strings, key_view, keys_view};
 
-use indexmap::IndexSet;
 use std::alloc::{AllocError, Global};
+use std::collections::BTreeMap;
 
 /// A chain, by the name of its entry, or a library, by its own.
-#[derive(Drop, PartialEq, Eq, Hash)]
+#[derive(Drop)]
 pub(crate) struct HomeKey {
     pub(crate) name: String,
     pub(crate) is_library: bool,
 }
 
-/// The place of a name.
-pub(crate) fn find(names: &IndexSet<String>, name: &str) -> Option<usize>
-    ensures { MatchOption result (among name.now (strings names.now.keys) ≡ false)
-        (λ i. slice_get (strings names.now.keys) i ≡ Some name.now) }
-{
-    names.get_index_of(name)
+/// Names, each once.
+#[derive(Drop)]
+pub(crate) struct Names {
+    /// They have the numbers from 0 on.
+    items: Vec<String>,
+    /// The number of each.
+    numbers: BTreeMap<String, usize>,
+    ghost numbered: { AreNumbers is_text items.items
+        numbers } by { AreNumbers-prop is_text items.items numbers },
 }
 
-/// Puts a name that isn't there behind the others.
-pub(crate) fn put(alloc: Global, names: &mut IndexSet<String>, name: &str) -> Result<(), AllocError>
-    requires { among name.now (strings names.old.keys) ≡ false }
-    ensures { OnOk result (strings names.new.keys ≡ strings names.old.keys ++ name.now ∷ []) }
-{
-    names.insert(String::from_str(alloc, name)?)?;
-    Ok(())
-}
-
-/// The number of a chain or a library.
-pub(crate) fn find_home(homes: &IndexSet<HomeKey>, home: &HomeKey) -> Option<usize>
-    ensures { MatchOption result (listed (key_view home.now) (homes_view homes.now.keys) ≡ false)
-        (λ i. slice_get (homes_view homes.now.keys) i ≡ Some (key_view home.now)) }
-{
-    homes.get_index_of(home)
-}
-
-/// Puts a chain or a library that isn't there behind the others.
-pub(crate) fn put_home(homes: &mut IndexSet<HomeKey>, home: HomeKey) -> Result<(), AllocError>
-    requires { listed (key_view home) (homes_view homes.old.keys) ≡ false }
-    ensures { OnOk result
-        (homes_view homes.new.keys ≡ homes_view homes.old.keys ++ key_view home ∷ []) }
-{
-    homes.insert(home)?;
-    Ok(())
-}
-
-/// How many of them are chains.
-pub(crate) fn count_chains(homes: &IndexSet<HomeKey>) -> usize
-    ensures { result ≡ length (chains_of (homes_view homes.now.keys)) }
-{
-    let mut count = 0;
-    for home in homes.as_slice() {
-        if !home.is_library {
-            count += 1;
+impl Names {
+    /// None.
+    pub(crate) fn new(alloc: Global) -> Names
+        ensures { result.items.items ≡ [] }
+    {
+        Names {
+            items: Vec::new(alloc),
+            numbers: BTreeMap::new(alloc),
         }
     }
-    count
+
+    /// The number of a name.
+    pub(crate) fn find(&self, name: &str) -> Option<usize>
+        ensures { MatchOption result (among name.now (strings self.now.items.items) ≡ false)
+            (λ i. slice_get (strings self.now.items.items) i ≡ Some name.now) }
+    {
+        self.numbers.get(name).copied()
+    }
+
+    /// Puts a name that isn't there behind the others.
+    pub(crate) fn put(&mut self, alloc: Global, name: &str) -> Result<(), AllocError>
+        requires { among name.now (strings self.old.items.items) ≡ false }
+        ensures { OnOk result
+            (strings self.new.items.items ≡ strings self.old.items.items ++ name.now ∷ []) }
+    {
+        let number = self.items.len();
+        let key = String::from_str(alloc, name)?;
+        let item = String::from_str(alloc, name)?;
+        self.items.reserve(1)?;
+        self.numbers.insert(key, number)?;
+        self.items.push(item)?;
+        Ok(())
+    }
+}
+
+/// Chains and libraries, each once.
+#[derive(Drop)]
+pub(crate) struct Homes {
+    /// They have the numbers from 0 on.
+    items: Vec<HomeKey>,
+    /// The number of the chain of each name.
+    chains: BTreeMap<String, usize>,
+    /// The number of the library of each name.
+    libraries: BTreeMap<String, usize>,
+    ghost chains_numbered: { AreNumbers is_chain items.items
+        chains } by { AreNumbers-prop is_chain items.items chains },
+    ghost libraries_numbered: { AreNumbers is_library items.items
+        libraries } by { AreNumbers-prop is_library items.items libraries },
+}
+
+impl Homes {
+    ghost use Rattle.jt_inherit.specs.Found.{chains_of};
+
+    /// None.
+    pub(crate) fn new(alloc: Global) -> Homes
+        ensures { result.items.items ≡ [] }
+    {
+        Homes {
+            items: Vec::new(alloc),
+            chains: BTreeMap::new(alloc),
+            libraries: BTreeMap::new(alloc),
+        }
+    }
+
+    /// How many there are.
+    pub(crate) fn len(&self) -> usize
+        ensures len { result ≡ length self.now.items.items }
+        ensures small { result < 2 ^ 63 }
+    {
+        self.items.len()
+    }
+
+    /// They by their numbers.
+    pub(crate) fn as_slice(&self) -> &[HomeKey]
+        ensures keys { result.now ≡ self.now.items.items }
+    {
+        &self.items
+    }
+
+    /// The number of a chain or a library.
+    pub(crate) fn find(&self, home: &HomeKey) -> Option<usize>
+        ensures { MatchOption result
+            (listed (key_view home.now) (keys_view self.now.items.items) ≡ false)
+            (λ i. slice_get (keys_view self.now.items.items) i ≡ Some (key_view home.now)) }
+    {
+        if home.is_library {
+            return self.libraries.get(home.name.as_str()).copied();
+        }
+        self.chains.get(home.name.as_str()).copied()
+    }
+
+    /// Puts a chain or a library that isn't there behind the others.
+    pub(crate) fn put(&mut self, alloc: Global, home: HomeKey) -> Result<(), AllocError>
+        requires { listed (key_view home) (keys_view self.old.items.items) ≡ false }
+        ensures { OnOk result (keys_view self.new.items.items
+            ≡ keys_view self.old.items.items ++ key_view home ∷ []) }
+    {
+        let number = self.items.len();
+        let name = String::from_str(alloc, &home.name)?;
+        self.items.reserve(1)?;
+        if home.is_library {
+            self.libraries.insert(name, number)?;
+            self.items.push(home)?;
+            return Ok(());
+        }
+        self.chains.insert(name, number)?;
+        self.items.push(home)?;
+        Ok(())
+    }
+
+    /// How many of them are chains.
+    pub(crate) fn count_chains(&self) -> usize
+        ensures { result ≡ length (chains_of (keys_view self.now.items.items)) }
+    {
+        let mut count = 0;
+        for home in &self.items {
+            if !home.is_library {
+                count += 1;
+            }
+        }
+        count
+    }
 }

@@ -6,14 +6,13 @@ ghost use Rattle.jt_trees.specs.Expressions.{Text};
 ghost use Rattle.jt_chains.specs.Chain.{Template};
 ghost use Rattle.jt_inherit.specs.Faults.{IsFaultOf};
 ghost use Rattle.jt_chains.specs.Pages.{pages_view};
-ghost use Rattle.jt_inherit.specs.SetView.{strings};
+ghost use Rattle.jt_inherit.specs.Sets.{names_view};
 ghost use Rattle.jt_inherit.specs.Ways.{AreKnown};
 
 use crate::error::ChainError;
 use crate::library::Library;
 use crate::reading::read_page;
-use crate::sets::{find, put};
-use indexmap::IndexSet;
+use crate::sets::Names;
 use jt_chains::Page;
 use jt_scan::Options;
 use std::alloc::{AllocError, Global};
@@ -21,23 +20,23 @@ use std::alloc::{AllocError, Global};
 /// The templates that were read, each once, with their names beside them.
 #[derive(Clone, Copy)]
 pub(crate) struct Shelf<'a> {
-    pub(crate) names: &'a IndexSet<String>,
+    pub(crate) names: &'a Names,
     pub(crate) pages: &'a [Page],
 }
 
 /// Puts a template, whose name is new, behind the others.
 pub(crate) fn add_page(
     alloc: Global,
-    names: &mut IndexSet<String>,
+    names: &mut Names,
     pages: &mut Vec<Page>,
     page: Page,
 ) -> Result<(), AllocError>
-    requires { among (string_bytes page.name) (strings names.old.keys) ≡ false }
+    requires { among (string_bytes page.name) (names_view names.old) ≡ false }
     ensures pages { OnOk result (pages.new.items ≡ pages.old.items ++ page ∷ []) }
     ensures names { OnOk result
-        (strings names.new.keys ≡ strings names.old.keys ++ string_bytes page.name ∷ []) }
+        (names_view names.new ≡ names_view names.old ++ string_bytes page.name ∷ []) }
 {
-    put(alloc, names, &page.name)?;
+    names.put(alloc, &page.name)?;
     pages.push(page)?;
     Ok(())
 }
@@ -45,26 +44,26 @@ pub(crate) fn add_page(
 /// The place of the template of a name, which is read where it wasn't before.
 pub(crate) fn read_place<L: Library>(
     alloc: Global,
-    names: &mut IndexSet<String>,
+    names: &mut Names,
     pages: &mut Vec<Page>,
     name: &str,
     library: &L,
     options: Options,
 ) -> Result<usize, ChainError>
     requires { AreKnown (L.sources library.now) options (pages_view pages.old.items)
-        (strings names.old.keys) }
+        (names_view names.old) }
     ensures known { OnOk result (AreKnown (L.sources library.now) options
-        (pages_view pages.new.items) (strings names.new.keys)) }
+        (pages_view pages.new.items) (names_view names.new)) }
     ensures grown { OnOk result ((more : List Template)
         × (pages_view pages.new.items ≡ pages_view pages.old.items ++ more)) }
     ensures from { OnOk result ((n : Text)
-        → IsTrue (among n (strings names.new.keys))
-        → IsTrue (among n (strings names.old.keys)) ⊎ (n ≡ name.now)) }
+        → IsTrue (among n (names_view names.new))
+        → IsTrue (among n (names_view names.old)) ⊎ (n ≡ name.now)) }
     ensures place { IfOk result
         (λ i. slice_get (map (λ t. t.name) (pages_view pages.new.items)) i ≡ Some name.now) }
     ensures refused { IfErr result (λ e. IsFaultOf e (L.sources library.now) name.now options) }
 {
-    if let Some(place) = find(names, name) {
+    if let Some(place) = names.find(name) {
         return Ok(place);
     }
     let place = pages.len();

@@ -9,15 +9,15 @@ ghost use Rattle.jt_chains.specs.Chain.{Template, a_chain, a_library, extends_of
 ghost use Rattle.jt_chains.specs.Pages.{pages_view};
 ghost use Rattle.jt_inherit.specs.Refusals.{Breaks};
 ghost use Rattle.jt_chains.specs.Rules.{Reaches};
-ghost use Rattle.jt_inherit.specs.SetView.{key_view, strings};
+ghost use Rattle.jt_inherit.specs.SetView.{key_view};
+ghost use Rattle.jt_inherit.specs.Sets.{names_view};
 ghost use Rattle.jt_inherit.specs.Ways.{AreKnown, IsWay};
 
 use crate::error::ChainError;
 use crate::library::Library;
-use crate::sets::HomeKey;
+use crate::sets::{HomeKey, Names};
 use crate::shelf::read_place;
 use crate::statements::parent_of;
-use indexmap::IndexSet;
 use jt_chains::{Page, holds_macros};
 use jt_scan::Options;
 use std::alloc::{AllocError, Global};
@@ -53,22 +53,22 @@ fn parent_name(alloc: Global, page: &Page) -> Result<Option<String>, AllocError>
 /// Reads the templates from a chain's entry to the root: their places.
 fn read_way<L: Library>(
     alloc: Global,
-    names: &mut IndexSet<String>,
+    names: &mut Names,
     pages: &mut Vec<Page>,
     entry: &str,
     library: &L,
     options: Options,
 ) -> Result<Vec<usize>, ChainError>
     requires { AreKnown (L.sources library.now) options (pages_view pages.old.items)
-        (strings names.old.keys) }
+        (names_view names.old) }
     ensures known { OnOk result (AreKnown (L.sources library.now) options
-        (pages_view pages.new.items) (strings names.new.keys)) }
+        (pages_view pages.new.items) (names_view names.new)) }
     ensures grown { OnOk result ((more : List Template)
         × (pages_view pages.new.items ≡ pages_view pages.old.items ++ more)) }
     // what is new was on the way
     ensures from { IfOk result (λ is. (n : Text)
-        → IsTrue (among n (strings names.new.keys))
-        → IsTrue (among n (strings names.old.keys))
+        → IsTrue (among n (names_view names.new))
+        → IsTrue (among n (names_view names.old))
         ⊎ IsTrue
         (among n (map (λ t. t.name) (templates_at (pages_view pages.new.items) is.items)))) }
     ensures way { IfOk result
@@ -101,22 +101,22 @@ fn read_way<L: Library>(
 /// Reads the template of a library: its place.
 fn read_library<L: Library>(
     alloc: Global,
-    names: &mut IndexSet<String>,
+    names: &mut Names,
     pages: &mut Vec<Page>,
     name: &str,
     library: &L,
     options: Options,
 ) -> Result<Vec<usize>, ChainError>
     requires { AreKnown (L.sources library.now) options (pages_view pages.old.items)
-        (strings names.old.keys) }
+        (names_view names.old) }
     ensures known { OnOk result (AreKnown (L.sources library.now) options
-        (pages_view pages.new.items) (strings names.new.keys)) }
+        (pages_view pages.new.items) (names_view names.new)) }
     ensures grown { OnOk result ((more : List Template)
         × (pages_view pages.new.items ≡ pages_view pages.old.items ++ more)) }
     // what is new was on the way
     ensures from { IfOk result (λ is. (n : Text)
-        → IsTrue (among n (strings names.new.keys))
-        → IsTrue (among n (strings names.old.keys))
+        → IsTrue (among n (names_view names.new))
+        → IsTrue (among n (names_view names.old))
         ⊎ IsTrue
         (among n (map (λ t. t.name) (templates_at (pages_view pages.new.items) is.items)))) }
     ensures way { IfOk result
@@ -139,22 +139,22 @@ fn read_library<L: Library>(
 /// Reads the templates of a chain, from its entry to the root, or that of a library: their places.
 pub(crate) fn read_home<L: Library>(
     alloc: Global,
-    names: &mut IndexSet<String>,
+    names: &mut Names,
     pages: &mut Vec<Page>,
     home: &HomeKey,
     library: &L,
     options: Options,
 ) -> Result<Vec<usize>, ChainError>
     requires { AreKnown (L.sources library.now) options (pages_view pages.old.items)
-        (strings names.old.keys) }
+        (names_view names.old) }
     ensures known { OnOk result (AreKnown (L.sources library.now) options
-        (pages_view pages.new.items) (strings names.new.keys)) }
+        (pages_view pages.new.items) (names_view names.new)) }
     ensures grown { OnOk result ((more : List Template)
         × (pages_view pages.new.items ≡ pages_view pages.old.items ++ more)) }
     // what is new was on the way
     ensures from { IfOk result (λ is. (n : Text)
-        → IsTrue (among n (strings names.new.keys))
-        → IsTrue (among n (strings names.old.keys))
+        → IsTrue (among n (names_view names.new))
+        → IsTrue (among n (names_view names.old))
         ⊎ IsTrue
         (among n (map (λ t. t.name) (templates_at (pages_view pages.new.items) is.items)))) }
     ensures way { IfOk result

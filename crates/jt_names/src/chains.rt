@@ -1,6 +1,6 @@
 //! The names of chains.
 
-ghost use Rattle.std.specs.Prelude.{◌≡◌, ◌<◌, length, IfOk};
+ghost use Rattle.std.specs.Prelude.{◌≡◌, ◌<◌, ◌≤◌, [], length, IfOk};
 ghost use Rattle.jt_trees.specs.Texts.{ascending};
 ghost use Rattle.jt_trees.specs.StatementView.{body_view};
 ghost use Rattle.jt_chains.specs.Chain.{a_library};
@@ -19,10 +19,12 @@ use std::collections::BTreeSet;
 
 /// The different names that a chain reads or binds. A chain that isn't there has none.
 pub fn own_names(alloc: Global, chain: &Chain, home: usize) -> Result<BTreeSet<&str>, AllocError>
-    ensures { home < length chain.now.homes.items
+    ensures there { home < length chain.now.homes.items
         → IfOk result (λ s. texts s.keys
         ≡ ascending (uses.own_names (sources_of (chain_view chain.now))
         (home_at (chain_view chain.now).order home))) }
+    ensures nowhere { length chain.now.homes.items ≤ home
+        → IfOk result (λ s. texts s.keys ≡ []) }
 {
     let mut names = BTreeSet::new(alloc);
     let layers = chain.layers(alloc, home)?;
@@ -49,10 +51,12 @@ pub fn library_names<'a>(
 
 /// The different names that the scopes of a chain bind. A chain that isn't there has none.
 pub fn scope_names(alloc: Global, chain: &Chain, home: usize) -> Result<BTreeSet<&str>, AllocError>
-    ensures { home < length chain.now.homes.items
+    ensures there { home < length chain.now.homes.items
         → IfOk result (λ s. texts s.keys
         ≡ uses.scope_names (sources_of (chain_view chain.now))
         (home_at (chain_view chain.now).order home)) }
+    ensures nowhere { length chain.now.homes.items ≤ home
+        → IfOk result (λ s. texts s.keys ≡ []) }
 {
     let mut found = Vec::new(alloc);
     let layers = chain.layers(alloc, home)?;

@@ -5,4 +5,4 @@ use Rattle.jt_checks.proofs.checking.count_own.Goals as goal
 
 pub returns : goal.returns
 unfolding world_in home_in
-returns c = c.len.ensures.len ∙ sym (texts_length c.in_ok-own_names.field-0.keys) ∙ ap length (c.in_ok-own_names.ensures c.requires)
+returns c = c.len.ensures.len ∙ sym (texts_length c.in_ok-own_names.field-0.keys) ∙ ap length (c.in_ok-own_names.ensures.there c.requires)

@@ -5,7 +5,7 @@ use Rattle.jt_graph.specs.View.{graph_of}
 use Rattle.jt_chains.specs.Along.{ArePlaces, templates_at}
 use Rattle.jt_chains.specs.Chain.{sources_in}
 use Rattle.jt_inherit.specs.Found.{found_templates}
-use Rattle.jt_inherit.specs.SetView.{strings}
+use Rattle.jt_inherit.specs.Sets.{names_view}
 use Rattle.jt_inherit.specs.Ways.{AreNamed}
 use Rattle.jt_inherit.specs.Kept.{BreakOne}
 use Rattle.jt_chains.specs.Pages.{pages_view}
@@ -15,7 +15,7 @@ use Rattle.jt_inherit.proofs.Whole.{at_number}
 use Rattle.jt_inherit.proofs.chaining.check_chains.Goals as goal
 
 pub check_rules-requires-clause-named : goal.check_rules-requires-clause-named
-check_rules-requires-clause-named c = subst (λ (z : List Page). AreNamed (pages_view z) (strings c.args.found.now.names.keys)) (sym c.deref.ensures.value) c.requires.named
+check_rules-requires-clause-named c = subst (λ (z : List Page). AreNamed (pages_view z) (names_view c.args.found.now.names)) (sym c.deref.ensures.value) c.requires.named
 
 pub check_rules-requires-clause-places : goal.check_rules-requires-clause-places
 check_rules-requires-clause-places c =

@@ -6,6 +6,7 @@ use Rattle.jt_chains.specs.Chain.{home_name}
 use Rattle.jt_chains.specs.Pages.{pages_view}
 use Rattle.jt_chains.specs.Places.{home_at}
 use Rattle.jt_inherit.specs.SetView.{strings, key_view}
+use Rattle.jt_inherit.specs.Sets.{names_view}
 use Rattle.jt_inherit.proofs.Finding.{found_first, followed_len}
 use Rattle.jt_inherit.proofs.discovery.discover.Goals as goal
 
@@ -14,7 +15,7 @@ chains-init g c =
     let f = c.in_ok-found.found in
     let i = c.in_ok-found.ensures in
     record {
-      found = found_first (g.L.Library.sources c.args.library.now) c.args.options c.args.entry.now (root_of f) (found_templates f) (strings f.names.keys) (found_homes f) (graph_of f.ways.items) (graph_of f.next.items)
+      found = found_first (g.L.Library.sources c.args.library.now) c.args.options c.args.entry.now (root_of f) (found_templates f) (names_view f.names) (found_homes f) (graph_of f.ways.items) (graph_of f.next.items)
           i.homes (ap (λ l. home_name (home_at l 0)) i.homes) (ap pages_view i.pages) (ap strings i.names) (ap graph_of i.ways) (ap graph_of i.next);
       root = ap (λ l. home_name (home_at l 0)) i.homes;
     }
@@ -28,7 +29,7 @@ returns-clause-all g c =
       c.len-in-chains.ensures.len,
       c.len.ensures,
       f.ways.ok.0,
-      length-map f.homes.keys key_view,
+      length-map f.homes.items.items key_view,
       followed_len _ _ _ _ _ _ c.chains.invariant.found.followed,
       length-map f.ways.items (λ v. v.items),
     )

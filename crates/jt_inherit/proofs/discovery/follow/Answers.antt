@@ -9,7 +9,8 @@ use Rattle.jt_inherit.specs.Along.{needs_along}
 use Rattle.jt_inherit.specs.Found.{AreFound, AreNext, IsMet, IsNeedFault, IsNextFault, chosen, found_templates, found_homes, root_of}
 use Rattle.jt_inherit.specs.Needs.{needed}
 use Rattle.jt_chains.specs.Pages.{pages_view}
-use Rattle.jt_inherit.specs.SetView.{strings, key_view, homes_view}
+use Rattle.jt_inherit.specs.SetView.{key_view}
+use Rattle.jt_inherit.specs.Sets.{names_view, homes_view}
 use Rattle.jt_inherit.specs.Ways.{AreKnown}
 use Rattle.jt_inherit.specs.declared.error.ChainError.TheVariants as error
 use Rattle.jt_chains.specs.declared.pages.Page.{Page}
@@ -28,8 +29,8 @@ returns-in_err-way-clause-refused g c =
     let ns = graph_of f.next.items in
     let h = key_view c.index-homes-len.result in
     let root = root_of f in
-    let at = home_number f.homes.keys c.as_slice-homes.result.now f.ways.items c.index-homes-len.result c.len.result c.as_slice-homes.ensures.keys
-    (omega (arith, c.len.ensures, f.ways.ok.0)) (omega (arith, c.len.ensures, f.ways.ok.0, c.requires.more, length-map f.homes.keys key_view, ap length c.as_slice-homes.ensures.keys)) c.index-homes-len.is in
+    let at = home_number f.homes.items.items c.as_slice-homes.result.now f.ways.items c.index-homes-len.result c.len.result c.as_slice-homes.ensures.keys
+    (omega (arith, c.len.ensures, f.ways.ok.0)) (omega (arith, c.len.ensures, f.ways.ok.0, c.requires.more, length-map f.homes.items.items key_view, ap length c.as_slice-homes.ensures.keys)) c.index-homes-len.is in
     let p = err_from_is_err_and c.from_residual.result c.from_residual.ensures.1 in
     rw (p.1, p.2)
     (c.in_err-way.ensures.refused root (c.requires.found.reached h (place_listed hs (length ws) h at)))
@@ -44,8 +45,8 @@ returns-in_err-fresh-clause-refused g c =
     let ns = graph_of f.next.items in
     let h = key_view c.index-homes-len.result in
     let root = root_of f in
-    let at = home_number f.homes.keys c.as_slice-homes.result.now f.ways.items c.index-homes-len.result c.len.result c.as_slice-homes.ensures.keys
-    (omega (arith, c.len.ensures, f.ways.ok.0)) (omega (arith, c.len.ensures, f.ways.ok.0, c.requires.more, length-map f.homes.keys key_view, ap length c.as_slice-homes.ensures.keys)) c.index-homes-len.is in
+    let at = home_number f.homes.items.items c.as_slice-homes.result.now f.ways.items c.index-homes-len.result c.len.result c.as_slice-homes.ensures.keys
+    (omega (arith, c.len.ensures, f.ways.ok.0)) (omega (arith, c.len.ensures, f.ways.ok.0, c.requires.more, length-map f.homes.items.items key_view, ap length c.as_slice-homes.ensures.keys)) c.index-homes-len.is in
     let ts1 = pages_view c.read_home.new.pages.items in
     let more = c.in_ok-way.ensures.grown in
     let is = c.in_ok-way.way.items in
@@ -55,7 +56,7 @@ returns-in_err-fresh-clause-refused g c =
     let same_needs : needs_along (pages_view c.deref.result.now) c.deref-2.result.now ≡ needs_along ts1 is =
     ap (λ (z : List Page). needs_along (pages_view z) c.deref-2.result.now) c.deref.ensures.value ∙ ap (needs_along ts1) c.deref-2.ensures.value in
     rw (p.1, p.2)
-    (need_breaks given c.args.options root ts0 (strings f.names.keys) hs ws ns c.requires.found h at ts1 more.0 more.1 is w (known_names given c.args.options ts1 (strings c.read_home.new.names.keys) c.in_ok-way.ensures.known) e
+    (need_breaks given c.args.options root ts0 (names_view f.names) hs ws ns c.requires.found h at ts1 more.0 more.1 is w (known_names given c.args.options ts1 (names_view c.read_home.new.names) c.in_ok-way.ensures.known) e
     (subst (λ l. (e ≡ error.NoMemory) ⊎ IsNeedFault given c.args.options l e) same_needs c.in_err-fresh.ensures.refused))
 
 pub next_homes-requires-clause-places : goal.next_homes-requires-clause-places
@@ -68,8 +69,8 @@ next_homes-requires-clause-places g c =
     let ns = graph_of f.next.items in
     let h = key_view c.index-homes-len.result in
     let root = root_of f in
-    let at = home_number f.homes.keys c.as_slice-homes.result.now f.ways.items c.index-homes-len.result c.len.result c.as_slice-homes.ensures.keys
-    (omega (arith, c.len.ensures, f.ways.ok.0)) (omega (arith, c.len.ensures, f.ways.ok.0, c.requires.more, length-map f.homes.keys key_view, ap length c.as_slice-homes.ensures.keys)) c.index-homes-len.is in
+    let at = home_number f.homes.items.items c.as_slice-homes.result.now f.ways.items c.index-homes-len.result c.len.result c.as_slice-homes.ensures.keys
+    (omega (arith, c.len.ensures, f.ways.ok.0)) (omega (arith, c.len.ensures, f.ways.ok.0, c.requires.more, length-map f.homes.items.items key_view, ap length c.as_slice-homes.ensures.keys)) c.index-homes-len.is in
     let ts1 = pages_view c.read_home.new.pages.items in
     let more = c.in_ok-way.ensures.grown in
     let is = c.in_ok-way.way.items in
@@ -77,11 +78,11 @@ next_homes-requires-clause-places g c =
     let ts2 = pages_view c.append.new.self.items in
     let fresh = pages_view c.in_ok-fresh.fresh.items in
     let grown = both_pages c.read_home.new.pages.items c.in_ok-fresh.fresh.items c.append.new.self.items c.in_ok-append.ensures.items in
-    let ks2 = strings c.read_includes.new.names.keys in
+    let ks2 = names_view c.read_includes.new.names in
     let e2 = ap (λ (z : List Page). pages_view z ++ fresh) c.deref.ensures.value ∙ sym grown in
     let known : AreKnown given c.args.options ts2 ks2 = subst (λ us. AreKnown given c.args.options us ks2) e2 c.in_ok-fresh.ensures.known in
     subst (λ (z : List Page). ArePlaces (pages_view z) c.deref-4.result.now) (sym c.deref-3.ensures.value)
-    (subst (ArePlaces ts2) (sym c.deref-4.ensures.value) (way_there given c.args.options root ts0 (strings f.names.keys) hs ws ns c.requires.found h at ts1 more.0 more.1 is w ts2 fresh grown ks2 known).places)
+    (subst (ArePlaces ts2) (sym c.deref-4.ensures.value) (way_there given c.args.options root ts0 (names_view f.names) hs ws ns c.requires.found h at ts1 more.0 more.1 is w ts2 fresh grown ks2 known).places)
 
 pub returns-in_err-next-clause-refused : goal.returns-in_err-next-clause-refused
 returns-in_err-next-clause-refused g c =
@@ -93,8 +94,8 @@ returns-in_err-next-clause-refused g c =
     let ns = graph_of f.next.items in
     let h = key_view c.index-homes-len.result in
     let root = root_of f in
-    let at = home_number f.homes.keys c.as_slice-homes.result.now f.ways.items c.index-homes-len.result c.len.result c.as_slice-homes.ensures.keys
-    (omega (arith, c.len.ensures, f.ways.ok.0)) (omega (arith, c.len.ensures, f.ways.ok.0, c.requires.more, length-map f.homes.keys key_view, ap length c.as_slice-homes.ensures.keys)) c.index-homes-len.is in
+    let at = home_number f.homes.items.items c.as_slice-homes.result.now f.ways.items c.index-homes-len.result c.len.result c.as_slice-homes.ensures.keys
+    (omega (arith, c.len.ensures, f.ways.ok.0)) (omega (arith, c.len.ensures, f.ways.ok.0, c.requires.more, length-map f.homes.items.items key_view, ap length c.as_slice-homes.ensures.keys)) c.index-homes-len.is in
     let ts1 = pages_view c.read_home.new.pages.items in
     let more = c.in_ok-way.ensures.grown in
     let is = c.in_ok-way.way.items in
@@ -102,7 +103,7 @@ returns-in_err-next-clause-refused g c =
     let ts2 = pages_view c.append.new.self.items in
     let fresh = pages_view c.in_ok-fresh.fresh.items in
     let grown = both_pages c.read_home.new.pages.items c.in_ok-fresh.fresh.items c.append.new.self.items c.in_ok-append.ensures.items in
-    let ks2 = strings c.read_includes.new.names.keys in
+    let ks2 = names_view c.read_includes.new.names in
     let e2 = ap (λ (z : List Page). pages_view z ++ fresh) c.deref.ensures.value ∙ sym grown in
     let known : AreKnown given c.args.options ts2 ks2 = subst (λ us. AreKnown given c.args.options us ks2) e2 c.in_ok-fresh.ensures.known in
     let e = c.in_err-next.field-0.0 in
@@ -110,7 +111,7 @@ returns-in_err-next-clause-refused g c =
     let same_needs : needs_along (pages_view c.deref-3.result.now) c.deref-4.result.now ≡ needs_along ts2 is =
     ap (λ (z : List Page). needs_along (pages_view z) c.deref-4.result.now) c.deref-3.ensures.value ∙ ap (needs_along ts2) c.deref-4.ensures.value in
     rw (p.1, p.2)
-    (next_breaks given c.args.options root ts0 (strings f.names.keys) hs ws ns c.requires.found h at ts1 more.0 more.1 is w ts2 fresh grown ks2 known e
+    (next_breaks given c.args.options root ts0 (names_view f.names) hs ws ns c.requires.found h at ts1 more.0 more.1 is w ts2 fresh grown ks2 known e
     (subst (λ l. IsNextFault hs (chosen ks2 l) e) same_needs c.in_err-next.ensures.refused))
 
 pub returns-clause-found : goal.returns-clause-found
@@ -123,8 +124,8 @@ returns-clause-found g c =
     let ns = graph_of f.next.items in
     let h = key_view c.index-homes-len.result in
     let root = root_of f in
-    let at = home_number f.homes.keys c.as_slice-homes.result.now f.ways.items c.index-homes-len.result c.len.result c.as_slice-homes.ensures.keys
-    (omega (arith, c.len.ensures, f.ways.ok.0)) (omega (arith, c.len.ensures, f.ways.ok.0, c.requires.more, length-map f.homes.keys key_view, ap length c.as_slice-homes.ensures.keys)) c.index-homes-len.is in
+    let at = home_number f.homes.items.items c.as_slice-homes.result.now f.ways.items c.index-homes-len.result c.len.result c.as_slice-homes.ensures.keys
+    (omega (arith, c.len.ensures, f.ways.ok.0)) (omega (arith, c.len.ensures, f.ways.ok.0, c.requires.more, length-map f.homes.items.items key_view, ap length c.as_slice-homes.ensures.keys)) c.index-homes-len.is in
     let ts1 = pages_view c.read_home.new.pages.items in
     let more = c.in_ok-way.ensures.grown in
     let is = c.in_ok-way.way.items in
@@ -132,10 +133,10 @@ returns-clause-found g c =
     let ts2 = pages_view c.append.new.self.items in
     let fresh = pages_view c.in_ok-fresh.fresh.items in
     let grown = both_pages c.read_home.new.pages.items c.in_ok-fresh.fresh.items c.append.new.self.items c.in_ok-append.ensures.items in
-    let ks2 = strings c.read_includes.new.names.keys in
+    let ks2 = names_view c.read_includes.new.names in
     let e2 = ap (λ (z : List Page). pages_view z ++ fresh) c.deref.ensures.value ∙ sym grown in
     let known : AreKnown given c.args.options ts2 ks2 = subst (λ us. AreKnown given c.args.options us ks2) e2 c.in_ok-fresh.ensures.known in
-    let hs2 = homes_view c.next_homes.new.homes.keys in
+    let hs2 = homes_view c.next_homes.new.homes in
     let next = c.in_ok-next.next.items in
     let same_needs : needs_along (pages_view c.deref-3.result.now) c.deref-4.result.now ≡ needs_along ts2 is =
     ap (λ (z : List Page). needs_along (pages_view z) c.deref-4.result.now) c.deref-3.ensures.value ∙ ap (needs_along ts2) c.deref-4.ensures.value in
@@ -144,12 +145,12 @@ returns-clause-found g c =
     let longer : graph_of c.push.new.self.items ≡ ws ++ is ∷ [] = ap graph_of c.in_ok-push.ensures.items ∙ map_more (λ (v : Vec ℕ Global). v.items) f.ways.items c.in_ok-way.way in
     let longer_next : graph_of c.push-2.new.self.items ≡ ns ++ next ∷ [] = ap graph_of c.in_ok-push-2.ensures.items ∙ map_more (λ (v : Vec ℕ Global). v.items) f.next.items c.in_ok-next.next in
     let numbers = subst (λ l. AreNext hs hs2 (chosen ks2 l) next) same_needs c.in_ok-next.ensures.next in
-    let first = first_same given c.args.options root ts0 (strings f.names.keys) hs ws ns c.requires.found h at ts1 more.0 more.1 is w ts2 fresh grown ks2 known hs2 next numbers in
+    let first = first_same given c.args.options root ts0 (names_view f.names) hs ws ns c.requires.found h at ts1 more.0 more.1 is w ts2 fresh grown ks2 known hs2 next numbers in
     subst (λ z. AreFound given c.args.options z ts2 ks2 hs2 (graph_of c.push.new.self.items) (graph_of c.push-2.new.self.items)) (sym first)
     (subst (λ z. AreFound given c.args.options root ts2 ks2 hs2 z (graph_of c.push-2.new.self.items)) (sym longer)
     (subst (AreFound given c.args.options root ts2 ks2 hs2 (ws ++ is ∷ [])) (sym longer_next)
-    (found_more given c.args.options root ts0 (strings f.names.keys) hs ws ns c.requires.found h at ts1 more.0 more.1 is w ts2 fresh grown ks2 known (strings c.read_home.new.names.keys) c.in_ok-way.ensures.from
-    (λ n a. subst (λ l. (among n (strings c.read_home.new.names.keys) ≡ true) ⊎ (among n (needed true l) ≡ true)) first_needs (c.in_ok-fresh.ensures.from n a))
+    (found_more given c.args.options root ts0 (names_view f.names) hs ws ns c.requires.found h at ts1 more.0 more.1 is w ts2 fresh grown ks2 known (names_view c.read_home.new.names) c.in_ok-way.ensures.from
+    (λ n a. subst (λ l. (among n (names_view c.read_home.new.names) ≡ true) ⊎ (among n (needed true l) ≡ true)) first_needs (c.in_ok-fresh.ensures.from n a))
     (subst (AllByRecursion (IsMet given ks2)) first_needs c.in_ok-fresh.ensures.met) hs2 next
     numbers)))
 
@@ -163,8 +164,8 @@ returns-clause-root g c =
     let ns = graph_of f.next.items in
     let h = key_view c.index-homes-len.result in
     let root = root_of f in
-    let at = home_number f.homes.keys c.as_slice-homes.result.now f.ways.items c.index-homes-len.result c.len.result c.as_slice-homes.ensures.keys
-    (omega (arith, c.len.ensures, f.ways.ok.0)) (omega (arith, c.len.ensures, f.ways.ok.0, c.requires.more, length-map f.homes.keys key_view, ap length c.as_slice-homes.ensures.keys)) c.index-homes-len.is in
+    let at = home_number f.homes.items.items c.as_slice-homes.result.now f.ways.items c.index-homes-len.result c.len.result c.as_slice-homes.ensures.keys
+    (omega (arith, c.len.ensures, f.ways.ok.0)) (omega (arith, c.len.ensures, f.ways.ok.0, c.requires.more, length-map f.homes.items.items key_view, ap length c.as_slice-homes.ensures.keys)) c.index-homes-len.is in
     let ts1 = pages_view c.read_home.new.pages.items in
     let more = c.in_ok-way.ensures.grown in
     let is = c.in_ok-way.way.items in
@@ -172,11 +173,11 @@ returns-clause-root g c =
     let ts2 = pages_view c.append.new.self.items in
     let fresh = pages_view c.in_ok-fresh.fresh.items in
     let grown = both_pages c.read_home.new.pages.items c.in_ok-fresh.fresh.items c.append.new.self.items c.in_ok-append.ensures.items in
-    let ks2 = strings c.read_includes.new.names.keys in
+    let ks2 = names_view c.read_includes.new.names in
     let e2 = ap (λ (z : List Page). pages_view z ++ fresh) c.deref.ensures.value ∙ sym grown in
     let known : AreKnown given c.args.options ts2 ks2 = subst (λ us. AreKnown given c.args.options us ks2) e2 c.in_ok-fresh.ensures.known in
-    let hs2 = homes_view c.next_homes.new.homes.keys in
+    let hs2 = homes_view c.next_homes.new.homes in
     let next = c.in_ok-next.next.items in
     let same_needs : needs_along (pages_view c.deref-3.result.now) c.deref-4.result.now ≡ needs_along ts2 is =
     ap (λ (z : List Page). needs_along (pages_view z) c.deref-4.result.now) c.deref-3.ensures.value ∙ ap (needs_along ts2) c.deref-4.ensures.value in
-    first_same given c.args.options root ts0 (strings f.names.keys) hs ws ns c.requires.found h at ts1 more.0 more.1 is w ts2 fresh grown ks2 known hs2 next (subst (λ l. AreNext hs hs2 (chosen ks2 l) next) same_needs c.in_ok-next.ensures.next)
+    first_same given c.args.options root ts0 (names_view f.names) hs ws ns c.requires.found h at ts1 more.0 more.1 is w ts2 fresh grown ks2 known hs2 next (subst (λ l. AreNext hs hs2 (chosen ks2 l) next) same_needs c.in_ok-next.ensures.next)

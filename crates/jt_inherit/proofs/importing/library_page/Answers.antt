@@ -4,7 +4,7 @@ use Rattle.jt_trees.specs.Texts.{among}
 use Rattle.jt_chains.specs.Chain.{holds_macros}
 use Rattle.jt_chains.specs.Pages.{pages_view}
 use Rattle.jt_inherit.specs.Given.{IsGiven}
-use Rattle.jt_inherit.specs.SetView.{strings}
+use Rattle.jt_inherit.specs.Sets.{names_view}
 use Rattle.jt_inherit.proofs.Shelved.{unread, place_read, is_library_read, macros_there}
 use Rattle.jt_inherit.proofs.importing.library_page.Goals as goal
 
@@ -15,17 +15,17 @@ returns-in_err-place c =
     subst (IsGiven ts n) (sym c.from_residual.ensures) (unread ts n (ap (among n) (sym c.requires.named) ∙ c.in_err-place.ensures))
 
 pub bounds-shelf-place : goal.bounds-shelf-place
-bounds-shelf-place c = place_read c.args.shelf.pages.now (strings c.args.shelf.names.now.keys) c.requires c.args.library.now c.in_ok-place.place c.in_ok-place.ensures
+bounds-shelf-place c = place_read c.args.shelf.pages.now (names_view c.args.shelf.names.now) c.requires c.args.library.now c.in_ok-place.place c.in_ok-place.ensures
 
 pub offset_bounds-shelf-place : goal.offset_bounds-shelf-place
 offset_bounds-shelf-place c =
-    let lt : c.in_ok-place.place < length c.args.shelf.pages.now = place_read c.args.shelf.pages.now (strings c.args.shelf.names.now.keys) c.requires c.args.library.now c.in_ok-place.place c.in_ok-place.ensures in
+    let lt : c.in_ok-place.place < length c.args.shelf.pages.now = place_read c.args.shelf.pages.now (names_view c.args.shelf.names.now) c.requires c.args.library.now c.in_ok-place.place c.in_ok-place.ensures in
     search rules
 
 pub returns : goal.returns
 returns c =
     let ps = c.args.shelf.pages.now in
-    let ks = strings c.args.shelf.names.now.keys in
+    let ks = names_view c.args.shelf.names.now in
     let n = c.args.library.now in
     let i = c.in_ok-place.place in
     let p = get_or ps i c.index-shelf-place.result in

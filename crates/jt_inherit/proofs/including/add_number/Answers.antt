@@ -2,26 +2,26 @@ use Rattle.std.proofs.Common.{◌∷◌, [], sym, subst}
 use Rattle.std.proofs.lemmas.Result.{err_from_is_err_and}
 use Rattle.jt_inherit.specs.Found.{AreNext, IsNextFault}
 use Rattle.jt_inherit.specs.Needs.{need_view}
-use Rattle.jt_inherit.specs.SetView.{strings, homes_view}
+use Rattle.jt_inherit.specs.Sets.{names_view, homes_view}
 use Rattle.jt_inherit.proofs.Following.{text_among, one_known}
 use Rattle.jt_inherit.proofs.including.add_number.Goals as goal
 
 pub returns-in_err-number-clause-refused : goal.returns-in_err-number-clause-refused
 returns-in_err-number-clause-refused c =
-    let ks = strings c.args.names.now.keys in
+    let ks = names_view c.args.names.now in
     let n = need_view c.args.include in
     let e = c.in_err-number.field-0.0 in
     let p = err_from_is_err_and c.from_residual-in_err-number.result c.from_residual-in_err-number.ensures.1 in
     rw (p.1, p.2)
-    (subst (λ l. IsNextFault (homes_view c.args.homes.now.keys) l e) (sym (one_known ks n (text_among ks c.in-Some._place n.name c.in-Some.ensures)))
-    (subst (λ h. IsNextFault (homes_view c.args.homes.now.keys) (h ∷ []) e) c.in_ok-home.ensures c.in_err-number.ensures.refused))
+    (subst (λ l. IsNextFault (homes_view c.args.homes.now) l e) (sym (one_known ks n (text_among ks c.in-Some._place n.name c.in-Some.ensures)))
+    (subst (λ h. IsNextFault (homes_view c.args.homes.now) (h ∷ []) e) c.in_ok-home.ensures c.in_err-number.ensures.refused))
 
 pub returns-clause-next : goal.returns-clause-next
 returns-clause-next c =
-    let ks = strings c.args.names.now.keys in
+    let ks = names_view c.args.names.now in
     let n = need_view c.args.include in
-    let old = homes_view c.args.homes.now.keys in
-    let new = homes_view c.number_of.new.homes.keys in
+    let old = homes_view c.args.homes.now in
+    let new = homes_view c.number_of.new.homes in
     let i = c.in_ok-number.number in (
       i ∷ [],
       c.in_ok-push.ensures.items,

@@ -4,24 +4,24 @@ use Rattle.jt_inherit.specs.Along.{needs_along}
 use Rattle.jt_inherit.specs.Found.{IsNextFault, chosen}
 use Rattle.jt_inherit.specs.Needs.{needs_view}
 use Rattle.jt_chains.specs.Pages.{pages_view}
-use Rattle.jt_inherit.specs.SetView.{strings, homes_view}
+use Rattle.jt_inherit.specs.Sets.{names_view, homes_view}
 use Rattle.jt_inherit.proofs.Following.{next_turn, fault_turn}
 use Rattle.jt_inherit.proofs.including.next_homes.Goals as goal
 
 pub returns-in_err-add_number-clause-refused : goal.returns-in_err-add_number-clause-refused
 returns-in_err-add_number-clause-refused c =
     let l = c.loop-include in
-    let ks = strings c.args.names.now.keys in
-    let old = homes_view c.args.homes.now.keys in
+    let ks = names_view c.args.names.now in
+    let old = homes_view c.args.homes.now in
     let e = c.in_err-add_number.field-0.0 in
     let p = err_from_is_err_and c.from_residual-in_err-add_number.result c.from_residual-in_err-add_number.ensures.1 in
     let same_needs : needs_view c.deref-include-items.result.now ≡ needs_along (pages_view c.args.pages.now) c.args.way.now = ap needs_view c.deref-include-items.ensures.value ∙ c.in_ok-found.ensures in
     rw (p.1, p.2)
     (subst (λ ns. IsNextFault old (chosen ks ns) e) same_needs
-    (fault_turn old (homes_view l.homes.keys) ks c.deref-include-items.result.now l.include-index _ l.numbers.items e c.loop-include-test.true l.invariant c.in_err-add_number.ensures.refused))
+    (fault_turn old (homes_view l.homes) ks c.deref-include-items.result.now l.include-index _ l.numbers.items e c.loop-include-test.true l.invariant c.in_err-add_number.ensures.refused))
 
 pub loop-include-preserved : goal.loop-include-preserved
 loop-include-preserved c =
     let l = c.loop-include in
-    next_turn (homes_view c.args.homes.now.keys) (homes_view l.homes.keys) (homes_view c.add_number.new.homes.keys) (strings c.args.names.now.keys) c.deref-include-items.result.now l.include-index _ l.numbers.items c.add_number.new.numbers.items
+    next_turn (homes_view c.args.homes.now) (homes_view l.homes) (homes_view c.add_number.new.homes) (names_view c.args.names.now) c.deref-include-items.result.now l.include-index _ l.numbers.items c.add_number.new.numbers.items
     c.loop-include-test.true l.invariant c.in_ok-add_number.ensures.next

@@ -1,11 +1,11 @@
 use Rattle.std.proofs.Common.{arith}
-use Rattle.jt_inherit.specs.SetView.{homes_view}
+use Rattle.jt_inherit.specs.Sets.{homes_view}
 use Rattle.jt_inherit.proofs.HomeSets.{library_more, chain_more}
 use Rattle.jt_inherit.proofs.including.put_new.Goals as goal
 
 pub returns-then-home-clause-few : goal.returns-then-home-clause-few
 returns-then-home-clause-few c =
-    omega (arith, c.requires.few, library_more (homes_view c.args.homes.now.keys) (homes_view c.put_home.new.homes.keys) c.args.home c.in_ok-put_home.ensures c.if-home.true)
+    omega (arith, c.requires.few, library_more (homes_view c.args.homes.now) (homes_view c.put.new.self) c.args.home c.in_ok-put.ensures c.if-home.true)
 
 pub returns-clause-few : goal.returns-clause-few
 returns-clause-few c =
@@ -14,5 +14,5 @@ returns-clause-few c =
       c.requires.few,
       c.count_chains.ensures,
       c.if-count_chains-eq-MAX_CHAINS.false,
-      chain_more (homes_view c.args.homes.now.keys) (homes_view c.put_home-2.new.homes.keys) c.args.home c.in_ok-put_home-2.ensures c.if-home.false,
+      chain_more (homes_view c.args.homes.now) (homes_view c.put-2.new.self) c.args.home c.in_ok-put-2.ensures c.if-home.false,
     )

@@ -4,7 +4,7 @@ use Rattle.jt_trees.specs.Texts.{among}
 use Rattle.jt_trees.specs.Expressions.{Text}
 use Rattle.jt_chains.specs.Chain.{Template}
 use Rattle.jt_chains.specs.Pages.{page_view, pages_view}
-use Rattle.jt_inherit.specs.SetView.{strings}
+use Rattle.jt_inherit.specs.Sets.{names_view}
 use Rattle.jt_inherit.specs.Ways.{AreKnown}
 use Rattle.jt_inherit.proofs.Among.{among_next, among_last}
 use Rattle.jt_inherit.proofs.Following.{text_among}
@@ -12,7 +12,7 @@ use Rattle.jt_inherit.proofs.Leads.{known_more, pages_more}
 use Rattle.jt_inherit.proofs.including.read_include.Goals as goal
 
 pub returns-in-Some-clause-met : goal.returns-in-Some-clause-met
-returns-in-Some-clause-met g c = inl (text_among (strings c.args.names.now.keys) c.in-Some._place c.args.include.name.now c.in-Some.ensures)
+returns-in-Some-clause-met g c = inl (text_among (names_view c.args.names.now) c.in-Some._place c.args.include.name.now c.in-Some.ensures)
 
 pub returns-in_ok-add_page-in-Ok-clause-known : goal.returns-in_ok-add_page-in-Ok-clause-known
 returns-in_ok-add_page-in-Ok-clause-known g c =
@@ -20,18 +20,18 @@ returns-in_ok-add_page-in-Ok-clause-known g c =
     let given = g.L.Library.sources c.args.library.now in
     let ps = pages_view c.args.fresh.now.items in
     let p = c.in-Ok.page in
-    let ks = strings c.args.names.now.keys in
+    let ks = names_view c.args.names.now in
     let unknown : among (string_bytes p.name) ks ≡ false = ap (λ (n : Text). among n ks) c.in-Ok.ensures.named ∙ c.in_default.ensures in
     let e = append_assoc ts ps (page_view p ∷ []) ∙ ap (λ (l : List Template). ts ++ l) (sym (pages_more c.args.fresh.now.items c.add_page.new.pages.items p c.in_ok-add_page-in-Ok.ensures.pages)) in
-    subst (λ us. AreKnown given c.args.options us (strings c.add_page.new.names.keys)) e
+    subst (λ us. AreKnown given c.args.options us (names_view c.add_page.new.names)) e
     (subst (AreKnown given c.args.options ((ts ++ ps) ++ page_view p ∷ [])) (sym c.in_ok-add_page-in-Ok.ensures.names) (known_more given c.args.options (ts ++ ps) ks (page_view p) k unknown c.in-Ok.ensures.read c.in-Ok.ensures.only c.in-Ok.ensures.within))
 
 pub returns-in_ok-add_page-in-Ok-clause-met : goal.returns-in_ok-add_page-in-Ok-clause-met
 returns-in_ok-add_page-in-Ok-clause-met g c =
-    let ks = strings c.args.names.now.keys in
+    let ks = names_view c.args.names.now in
     let n = c.args.include.name.now in
     inl (ap (among n) (c.in_ok-add_page-in-Ok.ensures.names ∙ ap (λ (x : Text). ks ++ x ∷ []) c.in-Ok.ensures.named) ∙ among_next n ks [])
 
 pub returns-in_ok-add_page-in-Ok-clause-from : goal.returns-in_ok-add_page-in-Ok-clause-from
 returns-in_ok-add_page-in-Ok-clause-from g c =
-    among_last (strings c.args.names.now.keys) (strings c.add_page.new.names.keys) (string_bytes c.in-Ok.page.name) c.args.include.name.now c.in_ok-add_page-in-Ok.ensures.names c.in-Ok.ensures.named
+    among_last (names_view c.args.names.now) (names_view c.add_page.new.names) (string_bytes c.in-Ok.page.name) c.args.include.name.now c.in_ok-add_page-in-Ok.ensures.names c.in-Ok.ensures.named

@@ -6,7 +6,7 @@ use Rattle.jt_inherit.specs.Along.{needs_along}
 use Rattle.jt_inherit.specs.Found.{IsMet}
 use Rattle.jt_inherit.specs.Needs.{needed, needs_view}
 use Rattle.jt_chains.specs.Pages.{pages_view}
-use Rattle.jt_inherit.specs.SetView.{strings}
+use Rattle.jt_inherit.specs.Sets.{names_view}
 use Rattle.jt_inherit.proofs.Following.{asked_at, need_fault, met_turn, met_grows}
 use Rattle.jt_inherit.proofs.including.read_includes.Goals as goal
 
@@ -23,7 +23,7 @@ pub loop-include-preserved : goal.loop-include-preserved
 loop-include-preserved g c =
     let l = c.loop-include in
     let given = g.L.Library.sources c.args.library.now in
-    let ks = strings l.names.keys in
+    let ks = names_view l.names in
     let more = c.in_ok-read_include.ensures.grown in
     let same_needs : needs_view c.deref-include-items.result.now ≡ needs_along (pages_view c.args.pages.now) c.args.way.now = ap needs_view c.deref-include-items.ensures.value ∙ c.in_ok-found.ensures in
     let met = subst (λ z. AllByRecursion (IsMet given z) (needs_view (take l.include-index c.deref-include-items.result.now))) (sym more.1)
@@ -34,5 +34,5 @@ loop-include-preserved g c =
           (λ p. l.invariant.from n p)
           (λ p. inr (ap (among n) (ap (needed true) (sym same_needs)) ∙ ap (λ x. among x (needed true (needs_view c.deref-include-items.result.now))) p ∙ asked_at true c.deref-include-items.result.now l.include-index _ c.loop-include-test.true refl))
           (c.in_ok-read_include.ensures.from n a);
-      met = met_turn (IsMet given (strings c.read_include.new.names.keys)) c.deref-include-items.result.now l.include-index _ c.loop-include-test.true met c.in_ok-read_include.ensures.met;
+      met = met_turn (IsMet given (names_view c.read_include.new.names)) c.deref-include-items.result.now l.include-index _ c.loop-include-test.true met c.in_ok-read_include.ensures.met;
     }

@@ -19,7 +19,7 @@ pub loop-block-preserved : goal.loop-block-preserved
 loop-block-preserved c =
     let l = c.loop-block in
     let x = c.block-item.result in (
-      λ y. among_set (texts l.names.keys) (texts c.note.new.names.keys) (block_names (take l.block-index c.args.blocks.now)) x.name.now c.in_ok-known.known l.invariant.0 c.in_ok-known.ensures.known c.in_ok-known.ensures.noted y
+      λ y. among_set (texts l.names.keys) (texts c.note.new.names.keys) (block_names (take l.block-index c.args.blocks.now)) x.name.now l.invariant.0 c.in_ok-known.ensures.noted y
           ∙ ap (among y) (sym (ap block_names (take_next c.args.blocks.now l.block-index x c.loop-block-test.true c.block-item.is) ∙ map-append (λ (b : Block). b.name.now) (take l.block-index c.args.blocks.now) (x ∷ []))),
       λ ts. body_goes ts c.args.blocks.now l.block-index x c.loop-block-test.true c.block-item.is (texts l.names.keys) l.invariant.0 (l.invariant.1 ts)
           (ap (λ k. not k && x.required) (sym c.in_ok-known.ensures.known) ∙ sym c.is_lacking.ensures ∙ c.if-is_lacking.false),

@@ -4,7 +4,7 @@ use Rattle.std.proofs.lemmas.Option.{slice_get_within}
 use Rattle.std.proofs.lemmas.Result.{err_from_is_err_and}
 use Rattle.jt_chains.specs.Chain.{holds_macros}
 use Rattle.jt_chains.specs.Pages.{page_view, pages_view}
-use Rattle.jt_inherit.specs.SetView.{strings}
+use Rattle.jt_inherit.specs.Sets.{names_view}
 use Rattle.jt_inherit.proofs.Alone.{alone_way, alone_from, not_alone, alone_breaks}
 use Rattle.jt_inherit.proofs.Leads.{names, length_names}
 use Rattle.jt_chains.proofs.Placed.{map_at}
@@ -32,7 +32,7 @@ returns-then-not-holds_macros-clause-refused g c =
     omega (arith, slice_get_within (names ts) i c.args.name.now c.in_ok-place.ensures.place, length_names ts, length-map ps page_view) in
     let holds = ap holds_macros (sym c.body.ensures) ∙ sym c.holds_macros.ensures ∙ c.if-not-holds_macros.true in
     not_alone ts known.read.once c.args.name.now i (page_view c.index.result.now) c.in_ok-place.ensures.place (map_at page_view ps i c.index.result.now within c.index.ensures)
-    (g.L.Library.sources c.args.library.now) c.args.options (strings c.read_place.new.names.keys) known holds
+    (g.L.Library.sources c.args.library.now) c.args.options (names_view c.read_place.new.names) known holds
     (pages_view c.args.pages.now.items) c.in_ok-place.ensures.grown.0 c.in_ok-place.ensures.grown.1 root r
 
 pub returns-clause-way : goal.returns-clause-way
@@ -58,4 +58,4 @@ returns-clause-from g c =
     omega (arith, slice_get_within (names ts) i c.args.name.now c.in_ok-place.ensures.place, length_names ts, length-map ps page_view) in
     let alone = c.in_ok-push.ensures.items ∙ ap (λ (l : List ℕ). l ++ i ∷ []) c.new-way.ensures.items in
     alone_from ts known.read.once c.args.name.now i (page_view c.index.result.now) c.in_ok-place.ensures.place (map_at page_view ps i c.index.result.now within c.index.ensures)
-    c.push.new.self.items alone (strings c.args.names.now.keys) (strings c.read_place.new.names.keys) c.in_ok-place.ensures.from
+    c.push.new.self.items alone (names_view c.args.names.now) (names_view c.read_place.new.names) c.in_ok-place.ensures.from

@@ -6,7 +6,7 @@ use Rattle.std.proofs.lemmas.Result.{err_from_is_err_and}
 use Rattle.jt_chains.specs.Chain.{a_chain}
 use Rattle.jt_inherit.specs.Faults.{IsFaultOf}
 use Rattle.jt_chains.specs.Pages.{page_view, pages_view}
-use Rattle.jt_inherit.specs.SetView.{strings}
+use Rattle.jt_inherit.specs.Sets.{names_view}
 use Rattle.jt_inherit.specs.Ways.{IsWay}
 use Rattle.jt_inherit.proofs.Growing.{reach_more}
 use Rattle.jt_inherit.proofs.Leads.{names, length_names, on_way, way_turn, way_from, grown_both, cycle_breaks, long_breaks, fault_breaks}
@@ -71,7 +71,7 @@ returns-in-None-clause-from g c =
     omega (arith, slice_get_within (names (pages_view ps)) c.in_ok-place.place c.deref-in-loop-turn-3.result.now c.in_ok-place.ensures.place, length_names (pages_view ps), length-map ps page_view) in
     way_from ts (pages_view ps) c.in_ok-place.ensures.grown.0 c.in_ok-place.ensures.grown.1 l.way.items c.push.new.self.items c.in_ok-place.place n c.deref-in-loop-turn-3.result.now (page_view c.index.result.now)
     l.invariant.led.places c.in_ok-place.ensures.place c.deref-in-loop-turn-3.ensures c.in_ok-push.ensures.items (map_at page_view ps c.in_ok-place.place c.index.result.now within c.index.ensures)
-    (strings c.args.names.now.keys) (strings l.names.keys) (strings c.read_place.new.names.keys) l.invariant.from c.in_ok-place.ensures.from
+    (names_view c.args.names.now) (names_view l.names) (names_view c.read_place.new.names) l.invariant.from c.in_ok-place.ensures.from
 
 pub loop-turn-preserved : goal.loop-turn-preserved
 loop-turn-preserved g c =
@@ -90,7 +90,7 @@ loop-turn-preserved g c =
       grown = (l.invariant.grown.0 ++ c.in_ok-place.ensures.grown.0, grown_both (pages_view c.args.pages.now.items) ts (pages_view ps) l.invariant.grown.0 c.in_ok-place.ensures.grown.0 l.invariant.grown.1 c.in_ok-place.ensures.grown.1);
       from = way_from ts (pages_view ps) c.in_ok-place.ensures.grown.0 c.in_ok-place.ensures.grown.1 l.way.items c.push.new.self.items c.in_ok-place.place n c.deref-in-loop-turn-3.result.now (page_view c.index.result.now)
           l.invariant.led.places c.in_ok-place.ensures.place c.deref-in-loop-turn-3.ensures c.in_ok-push.ensures.items (map_at page_view ps c.in_ok-place.place c.index.result.now within c.index.ensures)
-          (strings c.args.names.now.keys) (strings l.names.keys) (strings c.read_place.new.names.keys) l.invariant.from c.in_ok-place.ensures.from;
+          (names_view c.args.names.now) (names_view l.names) (names_view c.read_place.new.names) l.invariant.from c.in_ok-place.ensures.from;
       counted = ap length c.in_ok-push.ensures.items ∙ length-append l.way.items (c.in_ok-place.place ∷ []) ∙ ap (λ k. k + 1) l.invariant.counted;
       led = subst (λ (o : Option (String Global)). IsWay (pages_view ps) (a_chain h) c.push.new.self.items (option_map string_bytes o)) c.in-Some.is
           (way_turn ts (pages_view ps) c.in_ok-place.ensures.grown.0 c.in_ok-place.ensures.grown.1 h l.way.items c.push.new.self.items c.in_ok-place.place n c.deref-in-loop-turn-3.result.now _ (page_view c.index.result.now)

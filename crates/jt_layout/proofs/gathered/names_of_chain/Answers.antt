@@ -48,6 +48,6 @@ returns c =
     let all : texts l.names.keys ≡ all_inserted (flat_map N (filter (λ m. is_some (S m)) (texts ks))) first = sym ended ∙ l.invariant in
     let whole = all ∙ ap (λ (z : List (Bor Text)). all_inserted (flat_map N (filter (λ m. is_some (S m)) (texts z))) first) c.deref-name-items.ensures.value
     ∙ ap (λ (xs : List Text). all_inserted (flat_map N (filter (λ m. is_some (S m)) xs)) first) c.in_ok-included.ensures
-    ∙ ap (all_inserted (flat_map N (filter (λ m. is_some (S m)) _))) (c.in_ok-names.ensures c.requires.stands) in
+    ∙ ap (all_inserted (flat_map N (filter (λ m. is_some (S m)) _))) (c.in_ok-names.ensures.there c.requires.stands) in
     IfOk-weaker c.list_of.result (λ (v : Vec (Bor Text) Global). v.items ≡ l.names.keys) _
     (λ v p. names_here (world_of seen) seen.order c.args.home lt (texts v.items) (ap texts p ∙ whole)) c.list_of.ensures

@@ -1,12 +1,16 @@
-use Rattle.std.proofs.Common.{◌≡◌, ℕ, ◌+◌, ◌<◌, ◌++◌, List, append_assoc, length, map, drop, get_or, sym, ap, ◌∙◌}
+use Rattle.std.proofs.Common.{◌≡◌, ℕ, ◌+◌, ◌<◌, ◌++◌, List, [], append_assoc, length, map, drop, get_or, sym, ap, subst, ◌∙◌}
 use Rattle.std.specs.Prelude.{flat_map}
-use Rattle.std.proofs.lemmas.List.{drop_more}
+use Rattle.std.proofs.Math.Seq.{drop-nil}
+use Rattle.std.proofs.lemmas.List.{append-nil, drop_more}
+use Rattle.std.proofs.lemmas.Result.{IfOk-weaker}
+use denote.Ref.{Bor}
 use Rattle.jt_chains.specs.Chain.{Template}
 use Rattle.jt_chains.specs.Layers.{layer_view}
 use Rattle.jt_chains.specs.Uses.{scope_names_in}
 use Rattle.jt_chains.specs.View.{chain_view}
 use Rattle.jt_chains.specs.declared.layers.Layer.{Layer}
 use Rattle.jt_trees.specs.Expressions.{Text}
+use Rattle.jt_trees.specs.Texts.{ascending}
 use Rattle.jt_trees.specs.StatementView.{body_view}
 use Rattle.jt_names.specs.Names.{texts}
 use Rattle.jt_names.proofs.chains.scope_names.Goals as goal
@@ -27,3 +31,12 @@ loop-layer-preserved c =
     let l = c.loop-layer in
     layer_added (chain_view c.args.chain.now).templates c.deref-layer-items.result.now l.layer-index c.layer-item.result (texts l.found.items) (texts c.add_scopes.new.found.items)
     c.loop-layer-test.true c.layer-item.is c.in_ok-add_scopes.ensures ∙ l.invariant
+
+pub returns-clause-nowhere : goal.returns-clause-nowhere
+returns-clause-nowhere c = λ past.
+    let l = c.loop-layer in
+    let ts = (chain_view c.args.chain.now).templates in
+    let none : c.deref-layer-items.result.now ≡ [] = c.deref-layer-items.ensures.value ∙ c.in_ok-layers.ensures.nowhere past in
+    let found : texts l.found.items ≡ [] = sym (append-nil (texts l.found.items)) ∙ sym (ap (λ (ls : List Layer). texts l.found.items ++ all_names ts ls) (drop-nil l.layer-index))
+    ∙ subst (λ (ls : List Layer). texts l.found.items ++ all_names ts (drop l.layer-index ls) ≡ all_names ts ls) none l.invariant in
+    IfOk-weaker c.in_order.result _ _ (λ s h. h ∙ ap (λ (ks : List (Bor Text)). ascending (texts ks)) c.deref.ensures.value ∙ ap ascending found) c.in_order.ensures

@@ -1,0 +1,31 @@
+-- What only private clauses cite: tables of the numbers of names, of chains and of libraries.
+use Rattle.std.specs.Prelude.{◌≡◌, ℕ, Bool, List, Option, string_bytes}
+use Rattle.std.specs.List.{position_from}
+use Rattle.std.specs.declared.string.String.{String}
+use Rattle.std.specs.declared.alloc.Global.{Global}
+use Rattle.std.specs.Coded.{Coded-set, coded_ℕ, coded_option, Π_prop}
+use Rattle.std.specs.BTreeMap.{get_by_text}
+use Rattle.std.specs.Str.{bytes_eq}
+use Rattle.jt_trees.specs.Expressions.{Text}
+use Rattle.jt_chains.specs.Chain.{a_chain, a_library, same_home}
+use Rattle.jt_chains.specs.Tables.{Table}
+use Rattle.jt_inherit.specs.SetView.{key_view}
+use Rattle.jt_inherit.specs.declared.sets.HomeKey.{HomeKey}
+
+-- whether a name is this one, the chain of the name, or the library of the name
+
+abbrev pub is_text : Text → String Global → Bool
+is_text x k = bytes_eq x (string_bytes k)
+
+abbrev pub is_chain : Text → HomeKey → Bool
+is_chain x k = same_home (a_chain x) (key_view k)
+
+abbrev pub is_library : Text → HomeKey → Bool
+is_library x k = same_home (a_library x) (key_view k)
+
+-- a table has the place of each name's first item, and no others
+abbrev pub AreNumbers : {A : Type 0} → (Text → A → Bool) → List A → Table → Type 0
+AreNumbers is xs m = (x : Text) → get_by_text m x ≡ position_from (is x) 0 xs
+
+pub AreNumbers-prop : {A : Type 0} (is : Text → A → Bool) (xs : List A) (m : Table) → IsProp (AreNumbers is xs m)
+AreNumbers-prop is xs m = Π_prop (λ x. Coded-set (coded_option coded_ℕ) (get_by_text m x) (position_from (is x) 0 xs))
