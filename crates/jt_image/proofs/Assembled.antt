@@ -170,15 +170,6 @@ entry_from k h =
     let first = first_from k.units h in
     record { entry = first.entry; is = first.is; emits = first.emits; plain = first.plain }
 
-starts_from : (us : List Section) (e : Section) → slice_get us 0 ≡ Some e → e.kind ≡ 0 → e.parameters ≡ 0 → Starts us
-starts_from [] e is kind parameters = absurd cc
-starts_from (u ∷ us) e is kind parameters =
-    let same : u ≡ e = cc in
-    (ap (λ (s : Section). s.kind) same ∙ kind, ap (λ (s : Section). s.parameters) same ∙ parameters)
-
-pub entry_starts : (k : Code) → HasEntry k → Starts k.units
-entry_starts k h = starts_from k.units h.entry h.is h.emits h.plain
-
 -- what the types of the parts say
 pub record AreHeld (k : Code) : Type 0 where
   pub globals : k.globals < 2 ^ 16

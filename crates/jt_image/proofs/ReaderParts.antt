@@ -59,9 +59,6 @@ is_used-push s (m ∷ ns) n = or_again (m.slot == s) (is_used s ns) (n.slot == s
     or_again true b c d e = refl
     or_again false b c d e = e
 
-pub IsTable-none : (globals : ℕ) → IsTable (replicate globals false) globals []
-IsTable-none globals = record { len = length-replicate globals false; each = λ s lt. get_or-replicate globals s false false lt }
-
 same_slot : (n s : ℕ) → n ≡ s → (b : Bool) → (b || (n == s)) ≡ true
 same_slot n s e true = refl
 same_slot n s e false = grind (arith, nat_tests)
