@@ -1,7 +1,7 @@
 -- What stands at places of an image's bytes: why it is there once it was read, and what it says of the bytes.
 use Rattle.std.proofs.Common.{◌≡◌, ℕ, ◌+◌, ◌-◌, ◌<◌, ◌≤◌, ◌^◌, Bool, true, false, cond, ltb, List, [], ◌∷◌, ◌++◌, length, take, drop, get_or, Result, Ok, Err, refl, sym, ap, subst, ◌∙◌, arith, append_assoc}
 use Rattle.std.specs.Prelude.{IsUtf8}
-use Rattle.std.specs.Int.{Width, w16, w32, w64, byte_len, from_le_bytes, to_le_bytes, cast_signed}
+use Rattle.std.specs.Int.{Width, w16, w32, byte_len, from_le_bytes, to_le_bytes}
 use Rattle.std.specs.Str.{is_utf8}
 use Rattle.std.proofs.lemmas.Str.{IsUtf8-from_is_utf8}
 use Rattle.std.proofs.lemmas.Bool.{ltb-false}
@@ -11,7 +11,7 @@ use Rattle.jt_image.specs.declared.error.ImageError.TheVariants.{Truncated, BadT
 use Rattle.jt_image.specs.declared.instruction.Instruction.{Instruction}
 use Rattle.jt_image.specs.declared.version.Version.{Version}
 use Rattle.jt_image.specs.declared.version.Version.TheVariants as version
-use Rattle.jt_image.specs.Code.{Constant, undefined, number, text, markup, Name, Spot}
+use Rattle.jt_image.specs.Code.{Constant, undefined, Name, Spot}
 use Rattle.jt_image.specs.Spelling.{magic, version_number, name_bytes, instruction_bytes, template_bytes}
 use Rattle.jt_image.specs.Reading.{◌>>=◌, check, number_at, text_at, name_at, long_text_at, constant_of, constant_at, instruction_at, instructions_at, Header, header_at, headers_at, header_total, is_first, start_at, template_at, all_templates_at, spots_at, Back, back_at, Fails}
 use Rattle.jt_image.specs.InPlace.{IsRead, read_or, bare_text_at, template_in, templates_in, HasTemplate, bare_name_at, name_in, HasName, constant_in, HasConstant, AreLast}
@@ -19,7 +19,7 @@ use Rattle.jt_image.proofs.Found.{Read, all_at, IsBytes, IsBytes-drop, Takes, Is
 use Rattle.jt_image.proofs.Sound.{short_bytes, IsNamed, name_found, constant_found, instruction_found, good_instruction, head_bytes, header_found}
 use Rattle.jt_image.proofs.Whole.{good_header}
 use Rattle.jt_image.proofs.WholeCode.{start_found}
-use Rattle.jt_image.proofs.Behind.{IsNextText, template_found, AreTexts, templates_bytes, templates_found}
+use Rattle.jt_image.proofs.Behind.{IsNextText, template_found}
 use Rattle.jt_image.proofs.Loop.{Fails-along}
 use Rattle.jt_image.proofs.Again.{number_again, text_again, bind_again}
 

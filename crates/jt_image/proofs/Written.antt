@@ -8,7 +8,7 @@ use Rattle.jt_image.specs.declared.instruction.Instruction.TheVariants as op
 use Rattle.jt_image.specs.declared.parts.Unit as given
 use Rattle.jt_image.specs.declared.wire.Instr.{Instr}
 use Rattle.jt_image.specs.Code.{Section}
-use Rattle.jt_image.specs.IsCode.{IsInstruction, total_len}
+use Rattle.jt_image.specs.IsCode.{total_len}
 use Rattle.jt_image.specs.Parts.{in_front, each_of, section_of_unit, AreKnown}
 use Rattle.jt_image.specs.Reading.{instruction_of}
 use Rattle.jt_image.specs.Spelling.{wire_bytes, instruction_bytes}
