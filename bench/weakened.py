@@ -32,6 +32,7 @@ LAYERS = [
     ("jt_layout", "src/laying.rt", "lay_out", "laid"),
     ("jt_bind", "src/resolving.rt", "resolved", "resolved"),
     ("jt_scopes", "src/resolving.rt", "resolve", "resolved"),
+    ("jt_constants", "src/laws.rt", "merged_laws", ""),
     ("jt_lower", "src/laws.rt", "low_laws", ""),
     ("jt_codegen", "src/compiling.rt", "compile", "compiled"),
     ("jt_image", "src/assembling.rt", "assemble", "ok"),

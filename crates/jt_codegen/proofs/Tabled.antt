@@ -30,20 +30,6 @@ use Rattle.jt_codegen.specs.declared.emission.EmitError.TheVariants as error
 
 -- ---- names
 
-pub name_more : (vs : List (ℕ × String Global)) (ns : List (String Global)) (i n : ℕ) (x s : String Global) → i < length ns → x ≡ get_or ns i x → string_bytes s ≡ string_bytes x → n ≡ i
-    → names_view vs ++ numbered i (map string_bytes (drop i ns)) ≡ numbered 0 (map string_bytes ns) → names_view (vs ++ (n, s) ∷ []) ++ numbered (i + 1) (map string_bytes (drop (i + 1) ns)) ≡ numbered 0 (map string_bytes ns)
-name_more vs ns i n x s lt is same at so_far =
-    let rest = map string_bytes (drop (i + 1) ns) in
-    let next : suc i ≡ i + 1 = omega arith in
-    let left : drop i ns ≡ x ∷ drop (i + 1) ns = drop_more ns i x lt ∙ ap (λ y. y ∷ drop (i + 1) ns) (sym is) in
-    ap (λ l. l ++ numbered (i + 1) rest) (map-append name_view vs ((n, s) ∷ []))
-    ∙ append_assoc (names_view vs) (name_view (n, s) ∷ []) (numbered (i + 1) rest)
-    ∙ ap (λ (t : Text). names_view vs ++ record { slot = n; text = t } ∷ numbered (i + 1) rest) same
-    ∙ ap (λ (k : ℕ). names_view vs ++ record { slot = k; text = string_bytes x } ∷ numbered (i + 1) rest) at
-    ∙ ap (λ (k : ℕ). names_view vs ++ record { slot = i; text = string_bytes x } ∷ numbered k rest) (sym next)
-    ∙ ap (λ l. names_view vs ++ numbered i (map string_bytes l)) (sym left)
-    ∙ so_far
-
 -- ---- units
 
 total_snoc : (us : List Section) (u : Section) → total_len (us ++ u ∷ []) ≡ total_len us + length u.code
@@ -90,9 +76,6 @@ module _ (templates : List Text) where
     pub whole : front ++ units left ≡ units all
     pub counted : total_len front + n ≡ max_instructions
     pub fits : FitUnits max_instructions (units all) → FitUnits n (units left)
-
-  pub made_first : (all : List Routine) → Made [] max_instructions all all
-  made_first all = record { front = []; read = refl; whole = refl; counted = omega arith; fits = λ h. h }
 
   each_snoc : (us : List given.Unit) (u : given.Unit) (front : List Section) (s : Section) → each_of section_of_unit us ≡ Some front → section_of_unit u ≡ Some s → each_of section_of_unit (us ++ u ∷ []) ≡ Some (front ++ s ∷ [])
   each_snoc [] u front s e is = let none : [] ≡ front = (let same : Some [] ≡ Some front = e in cc) in ap (λ o. in_front o (Some [])) is ∙ ap (λ l. Some (l ++ s ∷ [])) none
@@ -180,10 +163,6 @@ parts_are p parts before places read moves at v g n c t s =
     let us = units (templates_of p) p.routines.items in
     ap (option_map (code_with parts)) (moves us read ∙ ap (λ (l : List ℕ). Some (map (moved_unit l) us)) at)
     ∙ ap Some (same_code parts (map (moved_unit (ps (program_of p))) us) (compiled (program_of p)) v g n c refl t s)
-
-pub templates_refused : (e : EmitError) (p : Program) → RefusesTemplates e (spots.templates_of (places_of (program_of p))) → RefusesCode e (compiled (program_of p))
-templates_refused error.NoMemory p r = tt
-templates_refused error.CodeTooLong p r = λ fits. absurd (omega (arith, fits.limits.templates, r))
 
 pub numbered_len : (i : ℕ) (xs : List Text) → length (numbered i xs) ≡ length xs
 numbered_len i [] = refl

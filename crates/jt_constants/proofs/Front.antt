@@ -17,11 +17,6 @@ module _ {A B : Type 0} (f : A → Option B) (g : B → B) where
   changed_all (suc n) [] le = refl
   changed_all (suc n) (y ∷ ys) le = ap (λ l. g y ∷ l) (changed_all n ys (omega (arith, le)))
 
-  changed_len : (n : ℕ) (ys : List B) → length (changed n ys) ≡ length ys
-  changed_len zero ys = refl
-  changed_len (suc n) [] = refl
-  changed_len (suc n) (y ∷ ys) = ap suc (changed_len n ys)
-
   -- a list that has a first item
   pub record Parted (x : A) (xs : List A) (ys : List B) : Type 0 where
     pub first : B

@@ -1,7 +1,16 @@
--- What only private clauses cite: the constant that a key stands for.
+-- What only private clauses cite: the constant that a key stands for, and what is known of the places of keys.
+use Rattle.std.specs.Prelude.{◌≡◌, ℕ, List, cond, Option, Some, None, if◌then◌else◌}
+use Rattle.std.specs.BTreeMap.{get}
+use Rattle.std.specs.List.{list_any}
+use Rattle.std.specs.Ordering.{is_eq}
+use Rattle.std.specs.declared.cmp.Ordering.{Ordering}
 use Rattle.jt_image.specs.Code.{Constant, undefined, nothing, truth_value, number, text, markup}
+use Rattle.jt_constants.specs.Merged.{same, place_in}
+use Rattle.jt_constants.specs.contracts.table.KeyOrd.TheImpl as order
 use Rattle.jt_constants.specs.declared.table.Key.{Key}
 use Rattle.jt_constants.specs.declared.table.Key.TheVariants as key
+use Rattle.jt_constants.specs.declared.table.Known.{Known}
+use Rattle.jt_constants.specs.declared.table.Known.TheVariants as known
 
 abbrev pub key_view : Key → Constant
 key_view key.Undefined = undefined
@@ -10,3 +19,22 @@ key_view (key.Bool b) = truth_value b
 key_view (key.Int z) = number z
 key_view (key.Text t) = text t.now
 key_view (key.Markup t) = markup t.now
+
+-- where a constant stands among others, if it does
+abbrev pub place_of : List Constant → Constant → Option ℕ
+place_of cs c = if list_any (same c) cs then Some (place_in cs c) else None
+
+abbrev pub key_cmp : Key → Key → Ordering
+key_cmp = (order.cmp-value).it
+
+-- a map of places tells where each of these constants stands
+abbrev pub Knows : Known → List Constant → Type 0
+Knows known.Few cs = Unit {0}
+Knows (known.Many places) cs = (q : Key) → get key_cmp places q ≡ place_of cs (key_view q)
+
+-- one key more has a place in a map
+abbrev pub KnowsMore : Known → Key → ℕ → Known → Type 0
+KnowsMore known.Few k p new = new ≡ known.Few
+KnowsMore (known.Many old) k p known.Few = ⊥
+KnowsMore (known.Many old) k p (known.Many new) =
+    (q : Key) → get key_cmp new q ≡ cond (is_eq (key_cmp k q)) (Some p) (get key_cmp old q)

@@ -1,6 +1,6 @@
 -- When parts are a code that has a spelling.
 use Rattle.std.proofs.Common.{◌≡◌, ℕ, ◌+◌, ◌-◌, ◌*◌, min, ◌<◌, ◌≤◌, ◌^◌, Bool, true, false, List, [], ◌∷◌, ◌++◌, length, Option, Some, refl, ap, subst, ◌∙◌, arith}
-use Rattle.std.specs.Prelude.{◌&&◌, ◌↔◌, not, nat_lt, IsUtf8, slice_get}
+use Rattle.std.specs.Prelude.{◌&&◌, ◌↔◌, not, nat_lt, IsUtf8}
 use Rattle.std.specs.Int.{w16, w32, w64, to_le_bytes}
 use Rattle.std.specs.List.{flat_map, AllByRecursion}
 use Rattle.std.proofs.lemmas.List.{length-append}
@@ -169,15 +169,6 @@ pub entry_from : (k : Code) → Starts k.units → HasEntry k
 entry_from k h =
     let first = first_from k.units h in
     record { entry = first.entry; is = first.is; emits = first.emits; plain = first.plain }
-
-starts_from : (us : List Section) (e : Section) → slice_get us 0 ≡ Some e → e.kind ≡ 0 → e.parameters ≡ 0 → Starts us
-starts_from [] e is kind parameters = absurd cc
-starts_from (u ∷ us) e is kind parameters =
-    let same : u ≡ e = cc in
-    (ap (λ (s : Section). s.kind) same ∙ kind, ap (λ (s : Section). s.parameters) same ∙ parameters)
-
-pub entry_starts : (k : Code) → HasEntry k → Starts k.units
-entry_starts k h = starts_from k.units h.entry h.is h.emits h.plain
 
 -- what the types of the parts say
 pub record AreHeld (k : Code) : Type 0 where

@@ -1,11 +1,9 @@
 -- What a loop knows of the items that it has passed.
-use Rattle.std.proofs.Common.{◌≡◌, ℕ, zero, suc, ◌+◌, ◌<◌, ◌≤◌, List, [], ◌∷◌, ◌++◌, length, map, take, drop, get_or, Option, Some, None, refl, sym, ap, subst, ◌∙◌, arith, append_assoc}
-use Rattle.std.specs.List.{flat_map, AllByRecursion}
-use Rattle.std.proofs.lemmas.List.{take_more, take_all, map_push, append-nil, length-append, take-append-drop}
-use Rattle.std.proofs.lemmas.Grind.{flat_map-append}
+use Rattle.std.proofs.Common.{◌≡◌, ℕ, zero, suc, ◌+◌, ◌<◌, ◌≤◌, List, [], ◌∷◌, ◌++◌, length, map, take, drop, get_or, refl, sym, ap, subst, ◌∙◌, arith, append_assoc}
+use Rattle.std.specs.List.{AllByRecursion}
+use Rattle.std.proofs.lemmas.List.{take_more, take_all, map_push, append-nil, take-append-drop}
 use Rattle.jt_image.specs.Code.{Section}
 use Rattle.jt_image.specs.IsCode.{total_len}
-use Rattle.jt_image.specs.Parts.{in_front, each_of}
 use Rattle.jt_image.proofs.Found.{AllGood}
 
 pub all_push : {A : Type 0} (P : A → Type 0) (xs : List A) (x : A) → P x → AllByRecursion P xs → AllByRecursion P (xs ++ x ∷ [])
@@ -44,14 +42,6 @@ module _ {A B : Type 0} (view : A → B) (xs : List A) (i : ℕ) where
   pub all_done : (P : B → Type 0) → length xs ≤ i → AllByRecursion P (map view (take i xs)) → AllByRecursion P (map view xs)
   all_done P le h = subst (λ (ys : List A). AllByRecursion P (map view ys)) (take_all i xs le) h
 
-  pub bytes_more : (f : B → List ℕ) (d : A) → i < length xs → length (flat_map f (map view (take (i + 1) xs))) ≡ length (flat_map f (map view (take i xs))) + length (f (view (get_or xs i d)))
-  bytes_more f d lt =
-      let more : flat_map f (map view (take (i + 1) xs)) ≡ flat_map f (map view (take i xs)) ++ (f (view (get_or xs i d)) ++ []) = ap (flat_map f) (seen_more d lt) ∙ flat_map-append f (map view (take i xs)) (view (get_or xs i d) ∷ []) in
-      ap length more ∙ length-append (flat_map f (map view (take i xs))) (f (view (get_or xs i d)) ++ []) ∙ ap (λ (ys : List ℕ). length (flat_map f (map view (take i xs))) + length ys) (append-nil (f (view (get_or xs i d))))
-
-  pub seen_all : {C : Type 0} (f : List B → C) → length xs ≤ i → f (map view (take i xs)) ≡ f (map view xs)
-  seen_all f le = ap (λ (ys : List A). f (map view ys)) (take_all i xs le)
-
 module _ {A : Type 0} (view : A → Section) (xs : List A) (i : ℕ) (d : A) (lt : i < length xs) where
   pub total_more : total_len (map view (take (i + 1) xs)) ≡ total_len (map view (take i xs)) + length (view (get_or xs i d)).code
   total_more =
@@ -63,38 +53,6 @@ module _ {A : Type 0} (view : A → Section) (xs : List A) (i : ℕ) (d : A) (lt
       let whole : total_len (map view xs) ≡ total_len (map view (take (i + 1) xs)) + total_len (map view (drop (i + 1) xs)) =
       ap (λ (ys : List A). total_len (map view ys)) (sym (take-append-drop (i + 1) xs)) ∙ ap total_len (map-append_lem view (take (i + 1) xs) (drop (i + 1) xs)) ∙ total_len-append (map view (take (i + 1) xs)) (map view (drop (i + 1) xs)) in
       omega (arith, whole, total_more)
-
--- ---- what each of them gives
-
-front_none : {B : Type 0} (a : Option B) → in_front a None ≡ None
-front_none None = refl
-front_none (Some y) = refl
-
-front_push : {B : Type 0} (a : Option B) (r s : Option (List B)) (ys : List B) (y : B) → ((zs : List B) → r ≡ Some zs → s ≡ Some (zs ++ y ∷ [])) → in_front a r ≡ Some ys → in_front a s ≡ Some (ys ++ y ∷ [])
-front_push None r s ys y h e = absurd cc
-front_push (Some z) None s ys y h e = absurd cc
-front_push (Some z) (Some zs) s ys y h e =
-    let same : z ∷ zs ≡ ys = cc in
-    let more : s ≡ Some (zs ++ y ∷ []) = h zs refl in
-    rw (more, ← same) refl
-
-module _ {A B : Type 0} (f : A → Option B) where
-  pub each_of-push : (xs : List A) (x : A) (ys : List B) (y : B) → each_of f xs ≡ Some ys → f x ≡ Some y → each_of f (xs ++ x ∷ []) ≡ Some (ys ++ y ∷ [])
-  each_of-push [] x ys y e g =
-      let none : [] ≡ ys = cc in
-      rw (g, ← none) refl
-  each_of-push (z ∷ xs) x ys y e g = front_push (f z) (each_of f xs) (each_of f (xs ++ x ∷ [])) ys y (λ zs r. each_of-push xs x zs y r g) e
-
-  pub each_of_more : (xs : List A) (i : ℕ) (d : A) (ys : List B) (y : B) → i < length xs → each_of f (take i xs) ≡ Some ys → f (get_or xs i d) ≡ Some y → each_of f (take (i + 1) xs) ≡ Some (ys ++ y ∷ [])
-  each_of_more xs i d ys y lt e g = ap (each_of f) (take_more xs i d lt) ∙ each_of-push (take i xs) (get_or xs i d) ys y e g
-
-  pub each_of_none : (xs : List A) (i : ℕ) (d : A) → i < length xs → f (get_or xs i d) ≡ None → each_of f xs ≡ None
-  each_of_none [] i d lt e = absurd (omega arith)
-  each_of_none (x ∷ xs) zero d lt e = ap (λ (a : Option B). in_front a (each_of f xs)) e
-  each_of_none (x ∷ xs) (suc i) d lt e = ap (in_front (f x)) (each_of_none xs i d (omega (arith, lt)) e) ∙ front_none (f x)
-
-  pub each_of_done : (xs : List A) (i : ℕ) → length xs ≤ i → each_of f (take i xs) ≡ each_of f xs
-  each_of_done xs i le = ap (each_of f) (take_all i xs le)
 
 -- ---- what is good behind those before
 

@@ -1,11 +1,11 @@
 -- Names, texts and headers in the reader, as the definitions see them.
-use Rattle.std.proofs.Common.{◌≡◌, ℕ, suc, ◌+◌, ◌-◌, ◌++◌, false, true, ◌<◌, ◌≤◌, Bool, take, drop, ltb, replicate, inl, inr, ◌⊎◌, ◌≢◌, Ok, Err, List, [], ◌∷◌, length, get_or, set, refl, map, sym, ap, ◌∙◌, arith, nat_cmp}
+use Rattle.std.proofs.Common.{◌≡◌, ℕ, suc, ◌+◌, ◌-◌, ◌++◌, false, true, ◌<◌, ◌≤◌, Bool, take, drop, ltb, inl, inr, ◌⊎◌, ◌≢◌, Ok, Err, List, [], ◌∷◌, length, get_or, set, refl, map, sym, ap, ◌∙◌, arith, nat_cmp}
 use Rattle.std.specs.Prelude.{◌==◌, ◌||◌}
 use Rattle.std.specs.Str.{IsUtf8, is_utf8}
 use Rattle.std.proofs.lemmas.Str.{is_utf8-from_IsUtf8, IsUtf8-from_is_utf8}
 use Rattle.std.proofs.lemmas.Bool.{le-ltb, cases_eq}
 use Rattle.std.proofs.lemmas.Bool.Decides.{nat_tests}
-use Rattle.std.proofs.lemmas.List.{length-set, get_or-set_same, get_or-set_other, get_or-replicate, length-replicate}
+use Rattle.std.proofs.lemmas.List.{length-set, get_or-set_same, get_or-set_other}
 use Rattle.jt_image.specs.declared.error.ImageError.TheVariants.{BadText}
 use Rattle.std.specs.Ordering.{is_lt}
 use Rattle.std.specs.Cmp.Lexicographic.{slice_cmp}
@@ -58,9 +58,6 @@ is_used-push s (m ∷ ns) n = or_again (m.slot == s) (is_used s ns) (n.slot == s
     or_again : (a b c d : Bool) → d ≡ (b || c) → (a || d) ≡ ((a || b) || c)
     or_again true b c d e = refl
     or_again false b c d e = e
-
-pub IsTable-none : (globals : ℕ) → IsTable (replicate globals false) globals []
-IsTable-none globals = record { len = length-replicate globals false; each = λ s lt. get_or-replicate globals s false false lt }
 
 same_slot : (n s : ℕ) → n ≡ s → (b : Bool) → (b || (n == s)) ≡ true
 same_slot n s e true = refl

@@ -1,7 +1,7 @@
 -- What stands at places of an image's bytes: why it is there once it was read, and what it says of the bytes.
 use Rattle.std.proofs.Common.{◌≡◌, ℕ, ◌+◌, ◌-◌, ◌<◌, ◌≤◌, ◌^◌, Bool, true, false, cond, ltb, List, [], ◌∷◌, ◌++◌, length, take, drop, get_or, Result, Ok, Err, refl, sym, ap, subst, ◌∙◌, arith, append_assoc}
 use Rattle.std.specs.Prelude.{IsUtf8}
-use Rattle.std.specs.Int.{Width, w16, w32, w64, byte_len, from_le_bytes, to_le_bytes, cast_signed}
+use Rattle.std.specs.Int.{Width, w16, w32, byte_len, from_le_bytes, to_le_bytes}
 use Rattle.std.specs.Str.{is_utf8}
 use Rattle.std.proofs.lemmas.Str.{IsUtf8-from_is_utf8}
 use Rattle.std.proofs.lemmas.Bool.{ltb-false}
@@ -11,7 +11,7 @@ use Rattle.jt_image.specs.declared.error.ImageError.TheVariants.{Truncated, BadT
 use Rattle.jt_image.specs.declared.instruction.Instruction.{Instruction}
 use Rattle.jt_image.specs.declared.version.Version.{Version}
 use Rattle.jt_image.specs.declared.version.Version.TheVariants as version
-use Rattle.jt_image.specs.Code.{Constant, undefined, number, text, markup, Name, Spot}
+use Rattle.jt_image.specs.Code.{Constant, undefined, Name, Spot}
 use Rattle.jt_image.specs.Spelling.{magic, version_number, name_bytes, instruction_bytes, template_bytes}
 use Rattle.jt_image.specs.Reading.{◌>>=◌, check, number_at, text_at, name_at, long_text_at, constant_of, constant_at, instruction_at, instructions_at, Header, header_at, headers_at, header_total, is_first, start_at, template_at, all_templates_at, spots_at, Back, back_at, Fails}
 use Rattle.jt_image.specs.InPlace.{IsRead, read_or, bare_text_at, template_in, templates_in, HasTemplate, bare_name_at, name_in, HasName, constant_in, HasConstant, AreLast}
@@ -19,7 +19,7 @@ use Rattle.jt_image.proofs.Found.{Read, all_at, IsBytes, IsBytes-drop, Takes, Is
 use Rattle.jt_image.proofs.Sound.{short_bytes, IsNamed, name_found, constant_found, instruction_found, good_instruction, head_bytes, header_found}
 use Rattle.jt_image.proofs.Whole.{good_header}
 use Rattle.jt_image.proofs.WholeCode.{start_found}
-use Rattle.jt_image.proofs.Behind.{IsNextText, template_found, AreTexts, templates_bytes, templates_found}
+use Rattle.jt_image.proofs.Behind.{IsNextText, template_found}
 use Rattle.jt_image.proofs.Loop.{Fails-along}
 use Rattle.jt_image.proofs.Again.{number_again, text_again, bind_again}
 
@@ -219,26 +219,6 @@ unfolding constant_at
 constant_read [] h = absurd h
 constant_read (b ∷ rest) h = record { long = omega arith; is = refl }
 
--- what a tagged constant is
-pub number_parts : (rest : List ℕ) → IsRead (number_at w64 rest >>= λ n. Ok (number (cast_signed w64 n.0), n.1)) → (8 ≤ length rest) × (read_or undefined (number_at w64 rest >>= λ n. Ok (number (cast_signed w64 n.0), n.1)) ≡ number (cast_signed w64 (from_le_bytes w64 (take 8 rest))))
-number_parts rest h =
-    let one = number_read w64 rest (λ n. Ok (number (cast_signed w64 n.0), n.1)) h in
-    (one.0, ap (λ (r : Read Constant). read_or undefined r) one.1)
-
-pub text_parts : (rest : List ℕ) → IsRead (long_text_at rest >>= λ t. Ok (text t.0, t.1)) → IsRead (long_text_at rest) × (read_or undefined (long_text_at rest >>= λ t. Ok (text t.0, t.1)) ≡ text (read_or [] (long_text_at rest)))
-text_parts rest h = by (long_text_at rest) h
-  where
-    by : (r : Read (List ℕ)) → IsRead (r >>= λ t. Ok (text t.0, t.1)) → IsRead r × (read_or undefined (r >>= λ t. Ok (text t.0, t.1)) ≡ text (read_or [] r))
-    by (Ok x) g = (tt, refl)
-    by (Err e) g = absurd g
-
-pub markup_parts : (rest : List ℕ) → IsRead (long_text_at rest >>= λ t. Ok (markup t.0, t.1)) → IsRead (long_text_at rest) × (read_or undefined (long_text_at rest >>= λ t. Ok (markup t.0, t.1)) ≡ markup (read_or [] (long_text_at rest)))
-markup_parts rest h = by (long_text_at rest) h
-  where
-    by : (r : Read (List ℕ)) → IsRead (r >>= λ t. Ok (markup t.0, t.1)) → IsRead r × (read_or undefined (r >>= λ t. Ok (markup t.0, t.1)) ≡ markup (read_or [] r))
-    by (Ok x) g = (tt, refl)
-    by (Err e) g = absurd g
-
 -- ---- the parts before the units' instructions
 
 pub headers_last : (n : ℕ) (bytes rest : List ℕ) (hs : List Header) (after : List ℕ) → IsBytes bytes → AreLast bytes rest → headers_at n rest ≡ Ok (hs, after) → AreLast bytes after
@@ -248,11 +228,6 @@ headers_last n bytes rest hs after fits h e =
 
 pub start_last : (bytes : List ℕ) (v : Version) (rest : List ℕ) → IsBytes bytes → start_at bytes ≡ Ok (v, rest) → AreLast bytes rest
 start_last bytes v rest fits e = takes_last bytes bytes _ rest (all_at (start_at bytes) (λ x. Takes bytes (magic ++ to_le_bytes w16 (version_number x.0)) x.1) (v, rest) e (start_found bytes fits)) (all_last bytes)
-
-pub all_templates_last : (bytes rest : List ℕ) (ts : List (List ℕ)) (after : List ℕ) → IsBytes bytes → AreLast bytes rest → all_templates_at rest ≡ Ok (ts, after) → AreLast bytes after
-all_templates_last bytes rest ts after fits h e =
-    let found = all_at (all_templates_at rest) (λ x. Takes rest (templates_bytes x.0) x.1 × AreTexts x.0) (ts, after) e (templates_found rest (last_fits bytes rest fits h)) in
-    takes_last bytes rest (templates_bytes ts) after found.0 h
 
 -- a text behind a short length
 pub record TemplateParts (bytes : List ℕ) : Type 0 where

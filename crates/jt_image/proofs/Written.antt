@@ -8,7 +8,7 @@ use Rattle.jt_image.specs.declared.instruction.Instruction.TheVariants as op
 use Rattle.jt_image.specs.declared.parts.Unit as given
 use Rattle.jt_image.specs.declared.wire.Instr.{Instr}
 use Rattle.jt_image.specs.Code.{Section}
-use Rattle.jt_image.specs.IsCode.{IsInstruction, total_len}
+use Rattle.jt_image.specs.IsCode.{total_len}
 use Rattle.jt_image.specs.Parts.{in_front, each_of, section_of_unit, AreKnown}
 use Rattle.jt_image.specs.Reading.{instruction_of}
 use Rattle.jt_image.specs.Spelling.{wire_bytes, instruction_bytes}
@@ -54,14 +54,6 @@ pub known_units : (us : List given.Unit) → AreKnown us → each_of section_of_
 known_units [] h = refl
 known_units (u ∷ us) h = rw (known_code u.code.items h.0, known_units us h.1) refl
 
-unknown_code : (ws : List Instr) → ¬ (AllByRecursion (λ w. IsSome (instruction_of w)) ws) → each_of instruction_of ws ≡ None
-unknown_code [] h = absurd (h tt)
-unknown_code (w ∷ ws) h = by (instruction_of w) refl (λ n. unknown_code ws n)
-  where
-    by : (o : Option Instruction) → instruction_of w ≡ o → (¬ (AllByRecursion (λ w. IsSome (instruction_of w)) ws) → each_of instruction_of ws ≡ None) → in_front o (each_of instruction_of ws) ≡ None
-    by None e more = refl
-    by (Some i) e more = let rest : each_of instruction_of ws ≡ None = more (λ all. h (rw e refl, all)) in rw rest refl
-
 front_some : {A : Type 0} (o : Option A) (r : Option (List A)) (ys : List A) → in_front o r ≡ Some ys → IsSome o × ((zs : List A) × (r ≡ Some zs))
 front_some None r ys e = absurd cc
 front_some (Some x) None ys e = absurd cc
@@ -82,8 +74,3 @@ unknown_units (u ∷ us) h = by (each_of instruction_of u.code.items) refl (λ n
     by (Some is) e more =
         let rest : each_of section_of_unit us ≡ None = more (λ all. h (found_code u.code.items is e, all)) in
         rw rest refl
-
--- the units of a code have numbers and instructions that fit their fields
-writable_code : (ws : List Instr) → ((w : Instr) → IsInstruction (instruction_view w)) → AllByRecursion IsInstruction (map instruction_view ws)
-writable_code [] f = tt
-writable_code (w ∷ ws) f = (f w, writable_code ws f)

@@ -44,7 +44,7 @@ pub use in_place::View;
 pub use instruction::Instruction;
 pub use kind::{Flaw, Kind};
 pub use laws::code_laws;
-pub use limits::{MAX_BYTES, MAX_COUNT, MAX_ENTRIES, MAX_INSTRUCTIONS, MAX_LINE, MAX_LOCALS};
+pub use limits::{MAX_COUNT, MAX_ENTRIES, MAX_INSTRUCTIONS};
 pub use loop_field::LoopField;
 pub use parts::{Parts, Spot, Unit};
 pub use stretch::Stretch;

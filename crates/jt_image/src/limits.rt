@@ -1,13 +1,13 @@
 //! The limits of an image.
 
 /// The greatest number of bytes.
-pub const MAX_BYTES: usize = 16_777_216;
+pub(crate) const MAX_BYTES: usize = 16_777_216;
 
 /// The greatest number of globals, of names, of constants and of units, and of bytes in a name.
 pub const MAX_COUNT: usize = 65_535;
 
 /// The greatest number of locals of a unit.
-pub const MAX_LOCALS: u16 = 4_096;
+pub(crate) const MAX_LOCALS: u16 = 4_096;
 
 /// The greatest number of instructions of all units together.
 pub const MAX_INSTRUCTIONS: u32 = 262_144;
@@ -16,4 +16,4 @@ pub const MAX_INSTRUCTIONS: u32 = 262_144;
 pub const MAX_ENTRIES: usize = 1_024;
 
 /// The greatest line of a place.
-pub const MAX_LINE: u32 = 1_048_577;
+pub(crate) const MAX_LINE: u32 = 1_048_577;

@@ -11,7 +11,7 @@ pub enum Version {
 
 impl Version {
     /// The number of the version in an image.
-    pub fn number(self) -> u16
+    pub(crate) fn number(self) -> u16
         ensures { result ≡ version_number self }
     {
         match self {

@@ -1,9 +1,9 @@
 //! Instructions as they stand in an image: the one table of opcodes.
-ghost use Rattle.std.specs.Prelude.{◌≡◌, ◌≢◌, MatchOption, IfSome, Some};
+ghost use Rattle.std.specs.Prelude.{◌≡◌, ◌≢◌, MatchBool, MatchOption, IfSome, None, Some};
 ghost use Rattle.std.specs.Option.{IsSome};
 ghost use Rattle.jt_image.specs.Spelling.{wire_of};
 ghost use Rattle.jt_image.specs.IsCode.{IsInstruction};
-ghost use Rattle.jt_image.specs.Reading.{uses_none, uses_a, uses_ab, uses_ac, uses_c, instruction_of};
+ghost use Rattle.jt_image.specs.Reading.{instruction_of};
 
 use crate::instruction::Instruction;
 
@@ -103,87 +103,30 @@ impl Instruction {
 }
 
 impl Instr {
-    fn uses_none(self, instruction: Instruction) -> Option<Instruction>
-        ensures { result ≡ uses_none self instruction }
-    {
-        if self.a == 0 && self.b == 0 && self.c == 0 {
-            Some(instruction)
-        } else {
-            None
-        }
-    }
-
-    fn uses_a(self, instruction: Instruction) -> Option<Instruction>
-        ensures { result ≡ uses_a self instruction }
-    {
-        if self.b == 0 && self.c == 0 {
-            Some(instruction)
-        } else {
-            None
-        }
-    }
-
-    fn uses_ab(self, instruction: Instruction) -> Option<Instruction>
-        ensures { result ≡ uses_ab self instruction }
-    {
-        if self.c == 0 { Some(instruction) } else { None }
-    }
-
-    fn uses_ac(self, instruction: Instruction) -> Option<Instruction>
-        ensures { result ≡ uses_ac self instruction }
-    {
-        if self.b == 0 { Some(instruction) } else { None }
-    }
-
-    fn uses_c(self, instruction: Instruction) -> Option<Instruction>
-        ensures { result ≡ uses_c self instruction }
-    {
-        if self.a == 0 && self.b == 0 {
-            Some(instruction)
-        } else {
-            None
-        }
-    }
-
+    /// Whether its opcode is one, and each field that this does not use is 0.
     #[tactic(auto, unfolding(crate::specs::Reading::instruction_of))]
+    fn is_instruction(self) -> bool
+        ensures { MatchBool result (IsSome (instruction_of self)) (instruction_of self ≡ None) }
+    {
+        let (a, b, c) = (self.a == 0, self.b == 0, self.c == 0);
+        match self.op {
+            1..=5 | 9..=12 | 16 | 17 | 19 | 21 | 26 | 27 => a && b,
+            6 | 7 | 18 | 22 | 23 | 24 | 28 => a && b && c,
+            8 | 13 | 25 => b && c,
+            14 => true,
+            15 => c,
+            20 => b,
+            _ => false,
+        }
+    }
+
     fn by_opcode(self) -> Option<Instruction>
         ensures { result ≡ instruction_of self }
     {
-        let (a, b, c) = (self.a, self.b, self.c);
-        match self.op {
-            1 => self.uses_c(Instruction::Const { constant: c }),
-            2 => self.uses_c(Instruction::Load { local: c }),
-            3 => self.uses_c(Instruction::Store { local: c }),
-            4 => self.uses_c(Instruction::GLoad { global: c }),
-            5 => self.uses_c(Instruction::GStore { global: c }),
-            6 => self.uses_none(Instruction::Drop),
-            7 => self.uses_none(Instruction::Dup),
-            8 => self.uses_a(Instruction::Emit { flag: a }),
-            9 => self.uses_c(Instruction::Data { constant: c }),
-            10 => self.uses_c(Instruction::Jump { target: c }),
-            11 => self.uses_c(Instruction::JumpIfFalse { target: c }),
-            12 => self.uses_c(Instruction::JumpIfTrue { target: c }),
-            13 => self.uses_a(Instruction::Op { operator: a }),
-            14 => Some(Instruction::Filter {
-                filter: a,
-                values: b,
-                flag: c,
-            }),
-            15 => self.uses_ab(Instruction::Test { test: a, values: b }),
-            16 => self.uses_c(Instruction::MakeList { items: c }),
-            17 => self.uses_c(Instruction::MakeMap { entries: c }),
-            18 => self.uses_none(Instruction::LoopStart),
-            19 => self.uses_c(Instruction::LoopNext { target: c }),
-            20 => self.uses_ac(Instruction::LoopGet { field: a, above: c }),
-            21 => self.uses_c(Instruction::LoopKeep { above: c }),
-            22 => self.uses_none(Instruction::LoopRewind),
-            23 => self.uses_none(Instruction::LoopEnd),
-            24 => self.uses_none(Instruction::CaptureBegin),
-            25 => self.uses_a(Instruction::CaptureEnd { flag: a }),
-            26 => self.uses_c(Instruction::Unpack { values: c }),
-            27 => self.uses_c(Instruction::Call { unit: c }),
-            28 => self.uses_none(Instruction::Return),
-            _ => None,
+        if self.is_instruction() {
+            Some(self.known())
+        } else {
+            None
         }
     }
 

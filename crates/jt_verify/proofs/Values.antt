@@ -9,10 +9,6 @@ pub length-pushes : (n : ℕ) (s : Shape) → length (pushes n s) ≡ n + length
 length-pushes zero s = omega arith
 length-pushes (suc n) s = omega (arith, length-pushes n s)
 
-pub one_pushed : (n : ℕ) (s : Shape) → 0 < n → pushes n s ≡ kind.Value ∷ pushes (n - 1) s
-one_pushed zero s l = absurd (omega arith)
-one_pushed (suc n) s l = let same : n ≡ suc n - 1 = omega arith in ap (λ (k : ℕ). kind.Value ∷ pushes k s) same
-
 pub pushes_both : (n m : ℕ) (s : Shape) → pushes (n + m) s ≡ pushes m (pushes n s)
 pushes_both n zero s = let same : n + 0 ≡ n = omega arith in ap (λ (k : ℕ). pushes k s) same
 pushes_both n (suc m) s = let same : n + suc m ≡ suc (n + m) = omega arith in ap (λ (k : ℕ). pushes k s) same ∙ ap (λ (r : Shape). kind.Value ∷ r) (pushes_both n m s)

@@ -1,5 +1,5 @@
 -- What is known of a unit, by the handles of its shapes.
-use Rattle.std.proofs.Common.{◌≡◌, ℕ, zero, suc, ◌<◌, ◌≤◌, List, [], ◌∷◌, ◌++◌, length, map, get_or, replicate, Option, Some, None, Ok, Err, refl, sym, ap, subst, ◌∙◌, arith}
+use Rattle.std.proofs.Common.{◌≡◌, ℕ, zero, suc, ◌<◌, ◌≤◌, List, [], ◌∷◌, ◌++◌, length, map, replicate, Option, Some, None, Ok, Err, refl, sym, ap, subst, ◌∙◌, arith}
 use Rattle.std.specs.Prelude.{slice_set, option_map}
 use Rattle.std.specs.List.{AllByRecursion}
 use Rattle.std.proofs.lemmas.List.{map-append, map-set, length-map}
@@ -48,16 +48,6 @@ module _ (t r : Lists) (k : IsKept t r) where
   waiting_kept (x ∷ w) a = (in_kept x.shape a.0, waiting_kept w a.1)
 
 -- ---- tables and paths by handles
-
-pub table_at : (t : Lists) (hs : List (Option Handle)) (p : ℕ) → shape_at (table_in t hs) p ≡ option_map (shape_in t) (get_or hs p None)
-table_at t [] p = refl
-table_at t (x ∷ hs) zero = refl
-table_at t (x ∷ hs) (suc p) = table_at t hs p
-
-pub all_at : (t : Lists) (hs : List (Option Handle)) (p : ℕ) → AllByRecursion (IsInIf t) hs → IsInIf t (get_or hs p None)
-all_at t [] p a = tt
-all_at t (x ∷ hs) zero a = a.0
-all_at t (x ∷ hs) (suc p) a = all_at t hs p a.1
 
 all_set : (t : Lists) (hs : List (Option Handle)) (p : ℕ) (h : Handle) → AllByRecursion (IsInIf t) hs → IsIn t h → AllByRecursion (IsInIf t) (slice_set hs p (Some h))
 all_set t [] p h a l = tt

@@ -16,6 +16,5 @@ mod verifier;
 
 pub use checked::{Checked, Verified, VerifiedView, verify, verify_view};
 pub use jt_image::{Flaw, Kind};
-pub use refusal::{Refusal, flaw_name};
+pub use refusal::Refusal;
 pub use shape::{Shape, join};
-pub use verifier::verify_code;

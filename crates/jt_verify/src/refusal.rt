@@ -20,8 +20,8 @@ pub enum Refusal {
     NoMemory,
 }
 
-/// The code and the name of a flaw.
-pub fn flaw_name(flaw: &Flaw) -> &'static str
+// The code and the name of a flaw.
+fn flaw_name(flaw: &Flaw) -> &'static str
     ensures { result.now ≡ name_of flaw.now }
 {
     match flaw {

@@ -24,6 +24,15 @@ pub(crate) struct Path {
     pub(crate) shape: Handle,
 }
 
+/// What is known of a unit while it is verified: its shapes, the one of each point that has one, and
+/// the paths that are still to be followed.
+#[derive(Drop)]
+struct Work {
+    arena: Arena,
+    shapes: Vec<Option<Handle>>,
+    paths: Vec<Path>,
+}
+
 /// What is behind an instruction: a shape, and where it comes.
 #[derive(Clone, Copy)]
 pub(crate) struct After {
@@ -139,33 +148,31 @@ fn send(paths: &mut Vec<Path>, leads: Leads, shape: Handle) -> Result<(), AllocE
 
 // Follows a path one instruction on, where its point is new.
 fn follow<C: Code>(
-    arena: &mut Arena,
+    work: &mut Work,
     code: &C,
     unit: usize,
     header: &UnitHeader,
     path: Path,
-    shapes: &mut [Option<Handle>],
-    paths: &mut Vec<Path>,
 ) -> Result<(), Refusal>
     requires unit { IsUnit (C.code code.now) unit header.now }
-    requires works { Works (C.code code.now) (unit_of (C.code code.now) unit) arena.old
-        shapes.old (paths.old.items ++ path ∷ []) }
-    ensures ok { OnOk result (Works (C.code code.now) (unit_of (C.code code.now) unit) arena.new
-        shapes.new paths.new.items) }
-    ensures less { OnOk result (work_left (table_in arena.new shapes.new)
-        (paths_in arena.new paths.new.items)
-        < work_left (table_in arena.old shapes.old)
-        (paths_in arena.old (paths.old.items ++ path ∷ []))) }
+    requires works { Works (C.code code.now) (unit_of (C.code code.now) unit) work.old.arena
+        work.old.shapes.items (work.old.paths.items ++ path ∷ []) }
+    ensures ok { OnOk result (Works (C.code code.now) (unit_of (C.code code.now) unit)
+        work.new.arena work.new.shapes.items work.new.paths.items) }
+    ensures less { OnOk result (work_left (table_in work.new.arena work.new.shapes.items)
+        (paths_in work.new.arena work.new.paths.items)
+        < work_left (table_in work.old.arena work.old.shapes.items)
+        (paths_in work.old.arena (work.old.paths.items ++ path ∷ []))) }
     ensures err { IfErr result
         (λ e. RefusesUnit (C.code code.now) (unit_of (C.code code.now) unit) unit e) }
 {
-    let is_known = arrive(arena, shapes, unit, path)?;
+    let is_known = arrive(&work.arena, &work.shapes, unit, path)?;
     if is_known {
         return Ok(());
     }
-    let after = step(arena, code, unit, header, path)?;
-    shapes[path.point] = Some(path.shape);
-    send(paths, after.leads, after.shape)?;
+    let after = step(&mut work.arena, code, unit, header, path)?;
+    work.shapes[path.point] = Some(path.shape);
+    send(&mut work.paths, after.leads, after.shape)?;
     Ok(())
 }
 
@@ -189,30 +196,24 @@ fn verify_unit<C: Code>(
             point: 0,
         });
     }
-    let mut arena = Arena::new(alloc)?;
-    let mut shapes: Vec<Option<Handle>> = vec![in alloc; None; header.instructions]?;
-    let mut paths: Vec<Path> = Vec::new(alloc);
-    paths.push(Path {
+    let mut work = Work {
+        arena: Arena::new(alloc)?,
+        shapes: vec![in alloc; None; header.instructions]?,
+        paths: Vec::new(alloc),
+    };
+    work.paths.push(Path {
         point: 0,
         shape: Handle { values: 0, node: 0 },
     })?;
-    'paths: while let Some(path) = paths.pop() {
-        follow(
-            &mut arena,
-            code,
-            unit,
-            header,
-            path,
-            &mut shapes,
-            &mut paths,
-        )?;
+    'paths: while let Some(path) = work.paths.pop() {
+        follow(&mut work, code, unit, header, path)?;
     }
     Ok(())
 }
 
 /// Accepts a code exactly where it is in order. Every unit is verified, from the first on, called or
 /// not.
-pub fn verify_code<C: Code>(alloc: Global, code: &C) -> Result<(), Refusal>
+pub(crate) fn verify_code<C: Code>(alloc: Global, code: &C) -> Result<(), Refusal>
     // A code that is accepted is typed.
     ensures ok { OnOk result (IsTyped (C.code code.now)) }
     // A refusal holds.

@@ -16,10 +16,10 @@ paths-init g c =
     let k = g.C.Code.code c.args.code.now in
     let len = ap (λ (h : UnitHeader). h.instructions) c.requires.unit.header in
     let i = works_at_start k (unit_of k c.args.unit) c.args.header.now.instructions len (omega (arith, c.if-header-eq0.false)) in
-    let unknown = c.in_ok-shapes.ensures.items_if_clones_equal (search rules) in
-    rw (c.in_ok-push.ensures.items, c.new-paths.ensures.items, unknown, c.in_ok-arena.ensures) i
+    let unknown = c.in_ok-vec.ensures.items_if_clones_equal (search rules) in
+    rw (c.in_ok-push.ensures.items, c.new-2.ensures.items, unknown, c.in_ok-new.ensures) i
 
 pub returns-clause-ok : goal.returns-clause-ok
 returns-clause-ok g c =
     let k = g.C.Code.code c.args.code.now in
-    works_done k (unit_of k c.args.unit) c.paths.arena c.paths.shapes.items c.paths.paths.items (omega (arith, c.in_default.ensures.cases, c.paths.paths.ok.0)) c.paths.invariant
+    works_done k (unit_of k c.args.unit) c.paths.work.arena c.paths.work.shapes.items c.paths.work.paths.items (omega (arith, c.in_default.ensures.cases, c.paths.work.paths.ok.0)) c.paths.invariant
