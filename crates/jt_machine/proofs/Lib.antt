@@ -8,6 +8,7 @@ pub mod Pieces
 pub mod Slicing
 pub mod Sinking
 pub mod AtOnce
+pub mod Members
 pub mod Stacking
 pub mod Spreading
 pub mod Holding

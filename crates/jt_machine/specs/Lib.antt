@@ -14,3 +14,4 @@ pub mod StageView
 pub mod AtOnce
 pub mod Made
 pub mod Growing
+pub mod Members
