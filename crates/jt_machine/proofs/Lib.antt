@@ -8,6 +8,10 @@ pub mod Pieces
 pub mod Slicing
 pub mod Sinking
 pub mod AtOnce
+pub mod Tops
+pub mod Instants
+pub mod Computed
+pub mod Members
 pub mod Stacking
 pub mod Spreading
 pub mod Holding

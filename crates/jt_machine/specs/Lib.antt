@@ -14,3 +14,5 @@ pub mod StageView
 pub mod AtOnce
 pub mod Made
 pub mod Growing
+pub mod Numbers
+pub mod Members

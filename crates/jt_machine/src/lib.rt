@@ -2,7 +2,7 @@
 //!
 //! `run` (runs) and `run_to` into a sink (writing, sink), a `Machine` that stops and goes on
 //! (machine), one step (step) with a module for each kind of instruction, those that do least many
-//! at a time (at_once), text constants made once in a run (constants), and how runs end (outcome).
+//! at a time (at_once, numbers), text constants made once in a run (constants), and how runs end (outcome).
 //! Read first: runs.rt; what a step is, is said in jt_image's specs/Step.antt.
 #![tactic(auto)]
 
@@ -19,6 +19,7 @@ mod machine;
 mod making;
 mod maps;
 mod measure;
+mod numbers;
 mod outcome;
 mod parts;
 mod placing;

@@ -371,8 +371,8 @@ pub(crate) fn make_map(
     push_fitting(state, map)
 }
 
-// The operator of an id.
-fn operator_by(id: u8) -> Option<OpId>
+/// The operator of an id.
+pub(crate) fn operator_by(id: u8) -> Option<OpId>
     ensures { result ≡ operator_of id }
 {
     OpId::by_id(id)

@@ -1,5 +1,5 @@
 //! Maps of keys and values in turn.
-ghost use Rattle.std.specs.Prelude.{◌≡◌, ◌<◌, ◌∷◌, [], true, length, map, reverse, List, Ok, IfOk, IfSome, IfNone, OnOk, string_bytes};
+ghost use Rattle.std.specs.Prelude.{◌≡◌, ◌<◌, ◌∷◌, [], true, length, map, reverse, List, Ok, IfOk, IfSome, IfNone, OnOk};
 ghost use Rattle.std.specs.List.{list_all};
 ghost use Rattle.jt_value.specs.Tree.{Tree, Entries, no_entries};
 ghost use Rattle.jt_value.specs.View.{view, entries_view};
@@ -9,13 +9,14 @@ ghost use Rattle.jt_image.specs.Step.{mapped, keys_of, key_bytes, put_entry, put
 ghost use Rattle.jt_image.specs.Run.{Ends};
 ghost use Rattle.jt_machine.specs.Entries.{entry_view, held, all_held};
 ghost use Rattle.jt_machine.specs.Making.{key_fault as key_fault_of, keys_fault as keys_fault_of, first_fault as first_fault_of, upward, HasTextKeys, IsWithin};
+ghost use Rattle.jt_machine.specs.Members.{IsMissing, StandsAt};
 ghost use Rattle.jt_machine.specs.Parts.{answering, push as pushes, step_on as steps_on};
 ghost use Rattle.jt_machine.specs.View.{budget_view, outcome_view};
 
 use crate::entries::Entry;
 use crate::limits::map_limit;
+use crate::measure::text_of;
 use crate::outcome::Outcome;
-use indexmap::IndexMap;
 use jt_budget::Budget;
 use jt_value::{Fault, NoMemory, Value};
 use std::alloc::Global;
@@ -26,7 +27,7 @@ pub(crate) fn map_of(alloc: Global, values: Vec<Value>) -> Result<Value, NoMemor
     ensures { IfOk result (λ v. mapped (map view values.items) ≡ Ok (view v)) }
 {
     let entries = entries_of(alloc, values)?;
-    Value::map(alloc, entries)
+    Value::from_entries(alloc, entries)
 }
 
 /// How the run ends where keys and values in turn give no map within the limits. Nothing is built.
@@ -90,18 +91,6 @@ fn keys_fault(pairs: &[Entry]) -> Option<Fault>
     }
 }
 
-// The text of a key.
-fn key_text(alloc: Global, key: &Value) -> Result<String, NoMemory>
-    requires { is_text (view key.now) ≡ true }
-    ensures { IfOk result (λ s. string_bytes s ≡ key_bytes (view key.now)) }
-{
-    match key {
-        Value::Text(text) => Ok(String::from_str(alloc, text.as_str())?),
-        Value::Markup(text) => Ok(String::from_str(alloc, text.as_str())?),
-        _ => unreachable!(),
-    }
-}
-
 // Takes the last value.
 pub(crate) fn pop_last(values: &mut Vec<Value>) -> Option<Value>
     ensures some { IfSome result (λ v. upward values.old.items ≡ view v ∷ upward values.new.items) }
@@ -127,32 +116,47 @@ fn pop_pair(values: &mut Vec<Value>) -> Option<(Value, Value)>
     Some((key, value))
 }
 
+// The place of a key among entries, if it is there.
+fn place_of(entries: &[(String, Value)], key: &str) -> Option<usize>
+    ensures there { IfSome result (λ i. StandsAt key.now entries.now i) }
+    ensures missing { IfNone result (IsMissing key.now entries.now) }
+{
+    let mut index = 0;
+    for (other, _) in entries {
+        if other.as_str() == key {
+            return Some(index);
+        }
+        index += 1;
+    }
+    None
+}
+
 // Puts a value at a key. A key that is there keeps its place.
 fn put_pair(
     alloc: Global,
-    entries: &mut IndexMap<String, Value>,
+    entries: &mut Vec<(String, Value)>,
     key: &Value,
     value: Value,
 ) -> Result<(), NoMemory>
-    requires { is_text (view key.now) ≡ true }
-    ensures { OnOk result (entries_view entries.new.entries
-        ≡ put_entry (key_bytes (view key.now)) (view value) (entries_view entries.old.entries)) }
+    ensures { OnOk result (entries_view entries.new.items
+        ≡ put_entry (key_bytes (view key.now)) (view value) (entries_view entries.old.items)) }
 {
-    let text = key_text(alloc, key)?;
-    match entries.insert(text, value) {
-        Ok(_) => Ok(()),
-        Err(_) => Err(NoMemory),
+    let text = text_of(key);
+    match place_of(entries, text) {
+        Some(place) => entries[place].1 = value,
+        None => entries.push((String::from_str(alloc, text)?, value))?,
     }
+    Ok(())
 }
 
 // The entries of keys and values in turn.
-fn entries_of(alloc: Global, mut values: Vec<Value>) -> Result<IndexMap<String, Value>, NoMemory>
+fn entries_of(alloc: Global, mut values: Vec<Value>) -> Result<Vec<(String, Value)>, NoMemory>
     requires { list_all is_text (keys_of (map view values.items)) ≡ true }
     ensures { IfOk result
-        (λ m. entries_view m.entries ≡ put_entries no_entries (map view values.items)) }
+        (λ es. entries_view es.items ≡ put_entries no_entries (map view values.items)) }
 {
     values.reverse();
-    let mut entries: IndexMap<String, Value> = IndexMap::new(alloc);
+    let mut entries = Vec::new(alloc);
     'pairs: while let Some((key, value)) = pop_pair(&mut values) {
         put_pair(alloc, &mut entries, &key, value)?;
     }

@@ -53,8 +53,8 @@ pub(crate) fn deepest(entries: &[Entry]) -> u32
     most
 }
 
-// The text of a key.
-fn text_of(value: &Value) -> &str
+/// The text of a key.
+pub(crate) fn text_of(value: &Value) -> &str
     ensures { result.now ≡ key_bytes (view value.now) }
 {
     match value {

@@ -12,14 +12,16 @@ kept_more text items i same inside kept before =
     escaped_more text i within ∙ ap (λ (xs : List ℕ). xs ++ escaped_byte (get_or text i 0)) before ∙ ap (λ (xs : List ℕ). take i text ++ xs) here ∙ sym (take_more text i 0 within)
 
 pub bytes-init : goal.bytes-init
-bytes-init c = refl
+bytes-init c = λ _. refl
 
 pub bytes-preserved : goal.bytes-preserved
-bytes-preserved c = kept_more c.args.text.now c.as_bytes-byte-items.result.now c.bytes.byte-index c.as_bytes-byte-items.ensures.value c.bytes-test.true (c.is_kept.ensures c.if-not-is_kept.false) c.bytes.invariant
+bytes-preserved c = λ is.
+    let both = c.stays_plain-plain.ensures is in
+    kept_more c.args.text.now c.as_bytes-byte-items.result.now c.bytes.byte-index c.as_bytes-byte-items.ensures.value c.bytes-test.true both.1 (c.bytes.invariant both.0)
 
 pub returns : goal.returns
-returns c = λ _.
+returns c = λ is.
     let text = c.args.text.now in
     let all : length text ≤ c.bytes.byte-index = rw c.as_bytes-byte-items.ensures.value at c.bytes-test.false in
     let whole : take c.bytes.byte-index text ≡ text = take_all c.bytes.byte-index text all in
-    ap escaped (sym whole) ∙ c.bytes.invariant ∙ whole
+    ap escaped (sym whole) ∙ c.bytes.invariant is ∙ whole

@@ -1,5 +1,5 @@
 use Rattle.std.proofs.Common.{◌≡◌, ◌∙◌, ◌-◌, ◌+◌, ◌∷◌, suc, map, reverse, sym, ap, arith}
-use Rattle.indexmap.proofs.ReorderLemmas.{map-reverse}
+use Rattle.jt_machine.proofs.Members.{map-reverse}
 use Rattle.jt_value.specs.View.{view}
 use Rattle.jt_image.specs.Config.{value}
 use Rattle.jt_machine.specs.Activations.{Activations}

@@ -1,6 +1,6 @@
 use Rattle.std.proofs.Common.{◌≡◌, ◌∙◌, List, map, reverse, refl, ap}
 use Rattle.std.proofs.lemmas.List.{reverse-reverse}
-use Rattle.indexmap.proofs.ReorderLemmas.{map-reverse}
+use Rattle.jt_machine.proofs.Members.{map-reverse}
 use Rattle.jt_value.specs.Tree.{Tree}
 use Rattle.jt_value.specs.View.{view}
 use Rattle.jt_image.specs.Step.{piled}
