@@ -1,5 +1,5 @@
 #!/usr/bin/env python3
-"""Refuses each single growth, and has each write fail: rows/growths.py PROGRAM [TRIALS] [--table]
+"""Refuses each single growth, and has each read and each write fail: rows/growths.py PROGRAM [TRIALS] [--table]
 
 TRIALS is the program of jt_trials, which is looked for beside PROGRAM's crate; its first lines say what its trials are. refuse.c is
 built by `cc` or a clang and preloaded: it refuses the growth that is asked for. What is tried stands in growth_cases.py.
@@ -15,7 +15,10 @@ which gives no outcome, and the others end as alone. With ample memory nothing a
 Writes: a run into a writer that fails at its Nth call leaves exactly the bytes that were taken before. Standard output closed, full,
 with nobody reading, or with little room: status 5, and a beginning of the text.
 
-A row is a line, a trial's call or a way of writing; --table prints how many growths of each were refused. The last line is
+Reads: of a line that reads files in pieces of 16 bytes the first read fails, or the second one, and so on: status 5 with that file's name,
+nothing on standard output, and OUT as it was.
+
+A row is a line, a trial's call, a way of writing or one of reading; --table prints how many growths of each were refused. The last line is
 'N passed, M failed', and the status is 1 where one failed.
 """
 import collections
@@ -305,6 +308,37 @@ def wrong_end(program, room, words, how, opened):
         f"{' '.join(words)}, output {how}: {ran.returncode} {ran.stderr[:100]}, {len(taken)} of {len(whole)} bytes"]
 
 
+def reads(program, shim):
+    """What is wrong where the files of a line fail while they are read."""
+    files = {"d/a": b"a" * 40, "d/t": b"{{ x }}" * 8, "x": X, "y": X, "c": b'{"x": "a longer text"}', "e": b" " * 20 + b"{}"}
+    lines = {"run x c": "x c", "check x": "x", "render d t c": "d/a d/t c", "compile d t out": "d/a d/t", "turns x c y e": "x c y e",
+             "upgrade x out": "x"}
+    with tempfile.TemporaryDirectory(prefix="jt-growths-") as room:
+        os.mkdir(f"{room}/d")
+        for name, data in files.items():
+            pathlib.Path(room, name).write_bytes(data)
+        for line, paths in lines.items():
+            yield f"{line}, its reads", wrong_reads(program, shim, room, line.split(), paths.split())
+
+
+def wrong_reads(program, shim, room, words, paths):
+    """Goes through the reads of a line until none fails: each file has three at least, and they are read in this order."""
+    out, failed = pathlib.Path(room, "out"), []
+    for n in range(1, 100):
+        out.write_bytes(b"kept")
+        ran = subprocess.run([program, *words], cwd=room, env={"LD_PRELOAD": shim, "UNREAD": str(n)}, stdin=subprocess.DEVNULL,
+                             capture_output=True, timeout=60)
+        if ran.returncode == 0:
+            break
+        path = re.fullmatch(rb"jt: file (.*)\n", ran.stderr)
+        if ran.returncode != 5 or ran.stdout or not path or out.read_bytes() != b"kept":
+            return [f"read {n}: {ran.returncode} {ran.stderr[:100]}, OUT {out.read_bytes()[:60]}"]
+        failed.append(path[1].decode())
+    found = [path for at, path in enumerate(failed) if at == 0 or failed[at - 1] != path]
+    few = [path for path in paths if failed.count(path) < 3]
+    return [f"{' '.join(failed)}"] if found != paths or few else []
+
+
 def image_maker(program):
     """What compiles templates to an image."""
     def image_of(templates):
@@ -387,7 +421,7 @@ def main():
         rows = Rows("--table" in sys.argv)
         with concurrent.futures.ProcessPoolExecutor(os.cpu_count()) as pool:
             total = lines_refused(pool, rows, program, shim) + calls_refused(pool, rows, trials, shim, folder)
-        for name, wrong in [*written(trials), *ends(program)]:
+        for name, wrong in [*written(trials), *ends(program), *reads(program, shim)]:
             rows.tell(name, wrong)
     print(f"{total} growths were refused, each by itself")
     print(f"{rows.passed} passed, {rows.failed} failed")

@@ -230,23 +230,29 @@ def in_order(program, room, asked, wanted):
     return [(stepped(program, room, step), answer) for step, answer in zip(steps, answers)]
 
 
-def rendered(program, room, asked, wanted):
-    """What a row of templates comes to, and what is wanted of it."""
+def furnished(room, asked):
+    """Puts what a row of templates asks for into a room; answers the words behind `render`, and the options."""
     *parts, source = unfolded(asked).split("¦")
-    words = ["render", "d", "t"]
+    words, options = ["d", "t"], []
     put(room, "d/t", bytes_of(source))
     for part in parts:
         name, is_template, other = part.partition(": ")
         if part.startswith(("{", "[")):
             put(room, "context", bytes_of(part))
-            words.insert(3, "context")
+            words.append("context")
         elif part.startswith("--"):
-            words += part.split()
+            options += part.split()
         elif is_template and name not in ("", "t") and "/" not in name:
             put(room, f"d/{name}", bytes_of(other))
         else:
             raise Malformed(f"no part of a row: {part[:80]!r}")
-    return [(sent(program, words, room), answer_of(unfolded(wanted)))]
+    return words, options
+
+
+def rendered(program, room, asked, wanted):
+    """What a row of templates comes to, and what is wanted of it."""
+    words, options = furnished(room, asked)
+    return [(sent(program, ["render", *words, *options], room), answer_of(unfolded(wanted)))]
 
 
 def cut(text, most=400):

@@ -90,4 +90,4 @@ pub const DEFAULT: Budget = Budget {
 };
 
 /// How many instructions a turn has where the line does not say.
-pub const SLICE: u32 = 100;
+pub(crate) const SLICE: u32 = 100;

@@ -78,14 +78,14 @@ fn put(out: &mut [u8], told: &[u8])
     }
 }
 
-/// The reason of a refusal, with its code, as `P1 Syntax in page line 2`.
+/// The reason of a refusal, with its code, as `P1 Syntax in page line 2`. Of a line, a file and a host, which no call has, there is none.
 fn reason(alloc: Global, failure: &Failure) -> Result<String, AllocError> {
     match failure {
         Failure::Image(error) => format!(in alloc; "{error}"),
         Failure::Code(refusal) => format!(in alloc; "{refusal}"),
         Failure::Template(refusal) => format!(in alloc; "{refusal}"),
         Failure::Context(error) => format!(in alloc; "{error}"),
-        other => format!(in alloc; "{other}"),
+        _ => Ok(String::new(alloc)),
     }
 }
 

@@ -13,7 +13,6 @@ use jt_machine::{Outcome, Place};
 use jt_value::Fault;
 use jt_verify::Refusal;
 use std::alloc::{AllocError, AllocFailed};
-use thiserror::Error;
 
 /// What the program ends with.
 #[derive(Clone, Copy, Debug, PartialEq, Eq)]
@@ -44,44 +43,32 @@ impl Status {
     }
 }
 
-/// Why a run did not do what its line asks for. It shows as the text for standard error.
-#[derive(Debug, Drop, Error)]
+/// Why a run did not do what its line asks for; `report` says it.
+#[derive(Debug, Drop)]
 pub enum Failure {
     /// The line is none that the program takes.
-    #[error("{0}")]
     Usage(String),
     /// The words of the line are no texts.
-    #[error("jt: usage")]
     Words,
     /// The template ended with a fault, at its place if the image tells one.
-    #[error("jt: fault {0}")]
     Fault(Fault, Option<Place>),
     /// The bytes are no image.
-    #[error("jt: refused {0}")]
     Image(ImageError),
     /// The image has a flaw.
-    #[error("jt: refused {0}")]
     Code(Refusal),
     /// A template does not compile.
-    #[error("jt: refused {0}")]
     Template(CompileError),
     /// A file gives no context.
-    #[error("jt: refused {0}")]
     Context(ContextError),
     /// The budget was spent.
-    #[error("jt: spent {0}")]
     Spent(Spent),
     /// No session more is opened.
-    #[error("jt: refused {0}")]
     Host(HostError),
     /// The file at this path could not be read or written.
-    #[error("jt: file {0}")]
     File(String),
     /// The text could not be printed.
-    #[error("jt: file -")]
     Output,
     /// A growth was refused.
-    #[error("jt: no memory")]
     NoMemory,
 }
 

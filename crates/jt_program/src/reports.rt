@@ -12,7 +12,7 @@ use jt_machine::{Place, Sink, SinkFailed, put_all};
 use jt_turns::{hex_digits, limit_text};
 use jt_value::Fault;
 use std::fmt;
-use std::fmt::Write;
+use std::fmt::{Display, Write};
 
 /// Says on `errors` what went wrong, and answers the status. Where they take no more of it, the status alone says how the run ended.
 pub fn report<E: Sink>(errors: &mut E, failure: &Failure) -> u8
@@ -29,7 +29,11 @@ pub fn report<E: Sink>(errors: &mut E, failure: &Failure) -> u8
         Failure::File(path) => say(errors, &["jt: file ", path.as_str()]),
         Failure::Output => say(errors, &["jt: file ", "-"]),
         Failure::NoMemory => say(errors, &["jt: no memory"]),
-        refusal => say_refusal(errors, refusal),
+        Failure::Image(error) => say_refusal(errors, error),
+        Failure::Code(refusal) => say_refusal(errors, refusal),
+        Failure::Template(refusal) => say_refusal(errors, refusal),
+        Failure::Context(error) => say_refusal(errors, error),
+        Failure::Host(error) => say_refusal(errors, error),
     }
     failure.status().code()
 }
@@ -79,9 +83,9 @@ fn say<E: Sink>(errors: &mut E, parts: &[&str])
 }
 
 /// Adds the line of a refusal to `errors`.
-fn say_refusal<E: Sink>(errors: &mut E, refusal: &Failure) {
+fn say_refusal<E: Sink, R: Display>(errors: &mut E, refusal: &R) {
     let mut line = Line { errors };
-    if write!(line, "{refusal}").is_ok() {
+    if write!(line, "jt: refused {refusal}").is_ok() {
         let _ = put_all(line.errors, b"\n");
     }
 }

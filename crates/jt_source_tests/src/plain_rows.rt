@@ -5,7 +5,7 @@ use crate::rows::unfolded;
 use crate::shelf::{context_of, image_of, verified_of};
 use crate::sources::{CHAINS, FILTERS, MACROS, OVER_ITEMS, STATEMENTS, WHITESPACE, WORKED};
 use jt_budget::Budget;
-use jt_contexts::context_from_json;
+use jt_host::context_from_json;
 use jt_image::{Image, decode, encode, view};
 use jt_machine::{Outcome, run, run_view};
 use jt_reference::{End, plain_end};

@@ -3,24 +3,27 @@
 use crate::rows::rows_hold;
 use crate::shelf::{image_of, verified_of};
 use jt_args::DEFAULT;
-use jt_contexts::ContextError;
-use jt_scan::{Options, ScanError};
-use jt_sessions::{Host, HostError};
+use jt_host::Host;
+use jt_scan::Options;
 use jt_value::Context;
 use std::alloc::Global;
 use std::test::Fail;
 
-// The answer to the last of so many calls: opens sessions of a source.
+// The answers to so many calls: opens sessions of a source.
 fn opened(alloc: Global, host: &mut Host, count: u32, source: &str) -> Result<String, Fail> {
-    let mut answer = String::new(alloc);
-    for _ in 0..count {
+    let mut answers = String::new(alloc);
+    for number in 0..count {
+        if number > 0 {
+            answers.push(' ')?;
+        }
         let verified = verified_of(alloc, image_of(alloc, source, Options::new())?)?;
-        answer = match host.open(verified, &Context::new(alloc), DEFAULT) {
+        let answer = match host.open(verified, &Context::new(alloc), DEFAULT) {
             Ok(id) => format!(in alloc; "{id}")?,
             Err((_, refusal)) => format!(in alloc; "{refusal:?}")?,
         };
+        answers.push_str(answer.as_str())?;
     }
-    Ok(answer)
+    Ok(answers)
 }
 
 // The answer to the last of so many turns of one instruction.
@@ -32,14 +35,18 @@ fn turned(alloc: Global, host: &mut Host, count: u32, id: u64) -> Result<String,
     Ok(format!(in alloc; "{answer:?}")?)
 }
 
-// What a host answers: `open 3 x` opens three sessions of the source `x`, `turn 3 1` gives the session 1 three turns,
-// and `outcome 1` and `close 1` are of the session 1.
+// What a host answers: `open 3 x` opens three sessions of the source `x`, `turn 3 1` gives the session 1 three turns of an
+// instruction, `slice 3 1` one turn of three; and `outcome 1` and `close 1` are of the session 1.
 fn answered(alloc: Global, host: &mut Host, call: &str) -> Result<String, Fail> {
     let (name, of) = call.split_once(" ").ok_or("a call has no session")?;
     let (count, behind) = of.split_once(" ").unwrap_or(("1", of));
     match name {
         "open" => opened(alloc, host, count.parse::<u32>()?, behind),
         "turn" => turned(alloc, host, count.parse::<u32>()?, behind.parse::<u64>()?),
+        "slice" => {
+            let answer = host.turn(behind.parse::<u64>()?, count.parse::<u32>()?);
+            Ok(format!(in alloc; "{answer:?}")?)
+        }
         "outcome" => Ok(format!(in alloc; "{:?}", host.outcome(of.parse::<u64>()?))?),
         _ => Ok(format!(in alloc; "{:?}", host.close(of.parse::<u64>()?))?),
     }
@@ -62,19 +69,8 @@ fn hosts_answer(rt: HostRuntime) -> Result<(), Fail> {
         &rt,
         all_answered,
         r#"open 1 {% set x = 1 %}{% for i in [1, 2] %}{{ x }}{% set x = 9 %}{% endfor %}{{ x }}; turn 1 1; turn 199 1; outcome 1; close 1; close 1 => 1;Ok(Going);Ok(Done);Ok(Some(Text("111")));Ok(Some(Text("111")));Err(NoSession);
-        open 2 {{ nope.x }}; turn 9 2; turn 9 2; outcome 2; outcome 1; close 1; close 2 => 2;Ok(Done);Ok(Done);Ok(Some(Fault(Undefined, Some(Place { template: "t", line: 1 }))));Ok(None);Ok(None);Ok(Some(Fault(Undefined, Some(Place { template: "t", line: 1 }))));
-        open 64 x; open 1 x; close 1; open 1 x; close 65; open 1 x; turn 1 1; outcome 1; close 0; outcome 2 => 64;Full;Ok(None);65;Ok(None);66;Err(NoSession);Err(NoSession);Err(NoSession);Ok(None);"#,
+        open 2 {{ nope.x }}; turn 9 2; turn 9 2; outcome 2; outcome 1; close 1; close 2 => 1 2;Ok(Done);Ok(Done);Ok(Some(Fault(Undefined, Some(Place { template: "t", line: 1 }))));Ok(None);Ok(None);Ok(Some(Fault(Undefined, Some(Place { template: "t", line: 1 }))));
+        open 64 x; open 1 x; close 1; open 1 x; slice 5 1; close 65; open 1 x; turn 1 1; outcome 1; close 0; outcome 2 => 1 2 3 4 5 6 7 8 9 10 11 12 13 14 15 16 17 18 19 20 21 22 23 24 25 26 27 28 29 30 31 32 33 34 35 36 37 38 39 40 41 42 43 44 45 46 47 48 49 50 51 52 53 54 55 56 57 58 59 60 61 62 63 64;Full;Ok(None);65;Err(NoSession);Ok(None);66;Err(NoSession);Err(NoSession);Err(NoSession);Ok(None);
+        open 1 {% for i in [1, 2] %}{{ i }}{% endfor %}; slice 5 1; outcome 1; slice 99 1; outcome 1; slice 5 1 => 1;Ok(Going);Ok(None);Ok(Done);Ok(Some(Text("12")));Ok(Done);"#,
     )
-}
-
-#[test]
-fn want_of_memory_has_names(rt: HostRuntime) -> Result<(), Fail> {
-    let (source, context, host) = (
-        ScanError::NoMemory,
-        ContextError::NoMemory,
-        HostError::NoMemory,
-    );
-    let found = format!(in rt.alloc(); "{source}, {context}, {host}")?;
-    assert_eq!(rt; found.as_str(), "S8 NoMemory, X5 NoMemory, H3 NoMemory");
-    Ok(())
 }

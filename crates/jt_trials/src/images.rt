@@ -181,14 +181,18 @@ fn ended(
     if !ends_so(&last, &plain_end(alloc, verified.image(), context, budget)) {
         return Ok('>');
     }
-    Ok(match last {
+    Ok(letter_of_end(&last))
+}
+
+pub(crate) fn letter_of_end(outcome: &Outcome) -> char {
+    match outcome {
         Outcome::Text(_) => 't',
         Outcome::Fault(..) => 'f',
         Outcome::Spent(_) => 's',
-    })
+    }
 }
 
-fn is_same(one: &Outcome, other: &Outcome) -> bool {
+pub(crate) fn is_same(one: &Outcome, other: &Outcome) -> bool {
     match (one, other) {
         (Outcome::Text(one), Outcome::Text(other)) => one.as_str() == other.as_str(),
         (Outcome::Fault(one, place), Outcome::Fault(other, its)) => one == other && place == its,
@@ -197,7 +201,7 @@ fn is_same(one: &Outcome, other: &Outcome) -> bool {
     }
 }
 
-fn ends_so(outcome: &Outcome, plain: &Result<String, End>) -> bool {
+pub(crate) fn ends_so(outcome: &Outcome, plain: &Result<String, End>) -> bool {
     match (outcome, plain) {
         (Outcome::Text(text), Ok(plain)) => text.as_str() == plain.as_str(),
         (Outcome::Fault(fault, _), Err(End::Fault(plain))) => fault == plain,

@@ -8,6 +8,7 @@
 //!     writes ROW                 runs into writers that fail once, at each of their calls
 //!     image AT STEP JSON¦HEX     each beginning and each change of an image at the places AT, AT + STEP and so on
 //!     sources AT STEP ROW        the same of the sources of a row
+//!     plain JSON¦HEX             an image beside a plain machine
 //!
 //! A row is templates, a context and options with `¦` between, as rows/run.py has them. Status 6 tells that a growth was refused outside
 //! of the calls.
@@ -16,6 +17,7 @@
 mod calls;
 mod images;
 mod places;
+mod plain;
 mod runs;
 mod shelf;
 mod sources;
@@ -28,6 +30,7 @@ use calls::row_answers;
 use images::image_answers;
 use jt_value::Context;
 use jt_verify::Verified;
+use plain::plain_answers;
 use sources::source_answers;
 use std::io;
 use std::process::ExitCode;
@@ -76,6 +79,7 @@ fn answered(
         "writes" => write_answers(rt, of)?,
         "image" => image_answers(rt, of)?,
         "sources" => source_answers(rt, of)?,
+        "plain" => plain_answers(rt, of)?,
         _ => return Err(Stop::Other),
     }
     Ok(starts)

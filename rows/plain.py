@@ -1,0 +1,101 @@
+#!/usr/bin/env python3
+"""Runs the images of all rows beside a plain machine: rows/plain.py PROGRAM [TRIALS]
+
+TRIALS is the program of jt_trials, which is looked for beside PROGRAM's crate; plain.rt there says what its letters mean. The images are
+those that PROGRAM compiles of the rows of templates of run.py, and those of images.txt, but for the ones that are refused, the changed
+ones and those of more than MOST bytes. Each is run for its row's context with every fuel from 0 to 200, within ample, narrow and tiny
+limits, whole and in place: it has to come to the end of the plain machine each time.
+
+A row is an image. The last line is 'N passed, M failed', and the status is 1 where one failed.
+"""
+import collections
+import concurrent.futures
+import os
+import pathlib
+import re
+import subprocess
+import sys
+import tempfile
+
+import images
+import run
+
+HERE = pathlib.Path(__file__).resolve().parent
+FLAGS = ("--trim-blocks", "--lstrip-blocks", "--keep-trailing-newline", "--no-autoescape")
+MOST = 1 << 18
+PARTS = 32
+SECONDS = 600
+ENDED = re.compile("[tfs]{3}")
+
+
+def of_templates(program, place, row):
+    """The image of a row of templates with its context, if there are both."""
+    asked, _, wanted = row.partition(" => ")
+    if run.answer_of(run.unfolded(wanted)).startswith("3"):
+        return None
+    with tempfile.TemporaryDirectory(prefix="jt-plain-") as made:
+        room = pathlib.Path(made)
+        words, options = run.furnished(room, asked)
+        flags = [word for word in options if word in FLAGS]
+        found = run.sent(program, ["compile", "d", "t", "image", *flags], room)
+        if found != "0 [][]":
+            raise run.Malformed(f"{place}: {found[:200]}")
+        context = (room / "context").read_bytes() if "context" in words else b"{}"
+        return place, context.replace(b"\n", b" "), (room / "image").read_bytes()
+
+
+def all_of_templates(program):
+    """The same of all rows of templates."""
+    with tempfile.TemporaryDirectory(prefix="jt-plain-") as rooms, concurrent.futures.ThreadPoolExecutor(os.cpu_count()) as pool:
+        rows = [(place, row) for name in run.FILES if name != "commands.txt"
+                for place, row, kind, _ in run.rows_of(program, HERE / name, rooms) if kind == "templates"]
+        return list(filter(None, pool.map(lambda row: of_templates(program, *row), rows)))
+
+
+def all_of_images():
+    """The images of images.txt, with their contexts."""
+    for place, found in images.rows_of(HERE / "images.txt"):
+        if isinstance(found, str):
+            raise run.Malformed(f"{place}: {found}")
+        row, cases = found
+        is_refused = images.REFUSAL.fullmatch(row.wanted) or row.wanted == "any"
+        if not is_refused and not row.spelling.startswith(tuple(images.SWEEPS)):
+            yield place, row.context, cases[0][0]
+
+
+def tried(trials, part):
+    """What is wrong with some images, and the letters of all of them."""
+    lines = b"".join(b"plain %s\xc2\xa6%s\n" % (context, data.hex().encode()) for _, context, data in part)
+    ran = subprocess.run([trials], input=lines, capture_output=True, timeout=SECONDS)
+    letters = ran.stdout.decode().splitlines()
+    if ran.returncode or len(letters) != len(part):
+        return [f"status {ran.returncode}, {len(letters)} lines of {len(part)}, the first of {part[0][0]}"] * len(part), []
+    return [f"{place}: {found}" for (place, _, _), found in zip(part, letters) if not ENDED.fullmatch(found)], letters
+
+
+def main():
+    if not 2 <= len(sys.argv) <= 3:
+        sys.exit("usage: rows/plain.py PROGRAM [TRIALS]")
+    program = os.path.realpath(sys.argv[1])
+    beside = pathlib.Path(program).parents[2] / "jt_trials/out/jt_trials"
+    trials = os.path.realpath(sys.argv[2] if len(sys.argv) == 3 else beside)
+    if not all(os.access(it, os.X_OK) for it in (program, trials)):
+        print(f"rows/plain.py: no program {program} or {trials}\n0 passed, 1 failed")
+        sys.exit(1)
+    cases = [case for case in [*all_of_templates(program), *all_of_images()] if len(case[2]) <= MOST]
+    cases.sort(key=lambda case: len(case[2]))
+    parts = [cases[at::PARTS] for at in range(PARTS) if cases[at::PARTS]]
+    wrong, letters = [], collections.Counter()
+    with concurrent.futures.ThreadPoolExecutor(os.cpu_count()) as pool:
+        for more, found in pool.map(lambda part: tried(trials, part), parts):
+            wrong += more
+            letters.update(found)
+    print(", ".join(f"{ends} {count}" for ends, count in sorted(letters.items())))
+    for text in wrong[:20]:
+        print(text)
+    print(f"{len(cases) - len(wrong)} passed, {len(wrong)} failed")
+    sys.exit(1 if wrong or not cases else 0)
+
+
+if __name__ == "__main__":
+    main()
