@@ -50,6 +50,15 @@ pub enum BinaryOperator {
     Power,
 }
 
+/// Whether a test is to hold.
+#[derive(Clone, Copy, Debug, PartialEq, Eq)]
+pub enum Polarity {
+    /// `is`
+    Is,
+    /// `is not`
+    IsNot,
+}
+
 /// What stands for itself.
 #[derive(Drop)]
 pub enum Literal {
@@ -81,17 +90,43 @@ pub enum Expr {
     /// `a[b]`
     Item(Box<Expr>, Box<Expr>),
     /// `a(b, k=c)`
-    Call(Box<Expr>, Vec<Expr>, Vec<(String, Expr)>),
+    Call {
+        callee: Box<Expr>,
+        arguments: Vec<Expr>,
+        keywords: Vec<(String, Expr)>,
+    },
     /// `a|f(b, k=c)`
-    Filter(Box<Expr>, String, Vec<Expr>, Vec<(String, Expr)>),
-    /// `a is t(b, k=c)`, or with true `a is not t(b, k=c)`
-    Test(Box<Expr>, bool, String, Vec<Expr>, Vec<(String, Expr)>),
+    Filter {
+        input: Box<Expr>,
+        name: String,
+        arguments: Vec<Expr>,
+        keywords: Vec<(String, Expr)>,
+    },
+    /// `a is t(b, k=c)`, or `a is not t(b, k=c)`
+    Test {
+        value: Box<Expr>,
+        polarity: Polarity,
+        name: String,
+        arguments: Vec<Expr>,
+        keywords: Vec<(String, Expr)>,
+    },
     /// An operator and its operand.
     Unary(UnaryOperator, Box<Expr>),
     /// An operator and its operands.
-    Binary(BinaryOperator, Box<Expr>, Box<Expr>),
-    /// `a if c`: the condition first
-    When(Box<Expr>, Box<Expr>),
-    /// `a if c else b`: the condition first
-    Choice(Box<Expr>, Box<Expr>, Box<Expr>),
+    Binary {
+        operator: BinaryOperator,
+        left: Box<Expr>,
+        right: Box<Expr>,
+    },
+    /// `a if c`
+    When {
+        condition: Box<Expr>,
+        value: Box<Expr>,
+    },
+    /// `a if c else b`
+    Choice {
+        condition: Box<Expr>,
+        value: Box<Expr>,
+        other: Box<Expr>,
+    },
 }
