@@ -2,11 +2,11 @@
 //! includes or imports.
 
 ghost use Rattle.std.specs.Prelude.{◌≡◌, ◌++◌, option_map, IfOk};
-ghost use Rattle.jt_trees.specs.StatementView.{stmt_view, body_view};
+ghost use Rattle.jt_trees.specs.StatementView.{is_ignored, stmt_view, body_view};
 ghost use Rattle.jt_chains.specs.Chain.{extends_of};
 ghost use Rattle.jt_inherit.specs.Needs.{includes_of, includes_in, imports_in, library_need, need_view, needs_view};
 
-use jt_trees::Stmt;
+use jt_trees::{Missing, Stmt};
 use std::alloc::AllocError;
 
 /// An include or an import: the template's name, whether it may be missing, and whether it is
@@ -28,6 +28,13 @@ pub(crate) fn parent_of(body: &[Stmt]) -> Option<&str>
         }
     }
     None
+}
+
+/// Whether an include gives nothing where no source has the name.
+fn ignores(missing: Missing) -> bool
+    ensures { result ≡ is_ignored missing }
+{
+    matches!(missing, Missing::Ignored)
 }
 
 /// Adds the includes of statements, in the order of the source.
@@ -54,14 +61,14 @@ fn add_statement<'a>(found: &mut Vec<Include<'a>>, statement: &'a Stmt) -> Resul
     match statement {
         Stmt::Data(_)
         | Stmt::Print(_, _)
-        | Stmt::Set(_, _, _)
-        | Stmt::Import(_, _, _)
-        | Stmt::From(_, _, _)
+        | Stmt::Set { .. }
+        | Stmt::Import { .. }
+        | Stmt::From { .. }
         | Stmt::Extends(_, _) => Ok(()),
-        Stmt::Include(_, name, ignoring, _) => {
+        Stmt::Include { name, missing, .. } => {
             found.push(Include {
                 name: name.as_str(),
-                ignoring: *ignoring,
+                ignoring: ignores(*missing),
                 is_library: false,
             })?;
             Ok(())
@@ -73,17 +80,17 @@ fn add_statement<'a>(found: &mut Vec<Include<'a>>, statement: &'a Stmt) -> Resul
             add_includes(found, other)?;
             Ok(())
         }
-        Stmt::For(_, _, _, _, body, other) => {
+        Stmt::For { body, other, .. } => {
             add_includes(found, body)?;
             add_includes(found, other)?;
             Ok(())
         }
-        Stmt::SetBlock(_, _, body)
-        | Stmt::With(_, _, body)
-        | Stmt::FilterBlock(_, _, body)
-        | Stmt::Autoescape(_, _, body)
-        | Stmt::Macro(_, _, _, body)
-        | Stmt::Block(_, _, _, _, body) => add_includes(found, body),
+        Stmt::SetBlock { body, .. }
+        | Stmt::With { body, .. }
+        | Stmt::FilterBlock { body, .. }
+        | Stmt::Autoescape { body, .. }
+        | Stmt::Macro { body, .. }
+        | Stmt::Block { body, .. } => add_includes(found, body),
     }
 }
 
@@ -108,8 +115,8 @@ pub(crate) fn add_imports<'a>(
 {
     for statement in body {
         match statement {
-            Stmt::Import(_, library, _) => found.push(imported(library))?,
-            Stmt::From(_, library, _) => found.push(imported(library))?,
+            Stmt::Import { library, .. } => found.push(imported(library))?,
+            Stmt::From { library, .. } => found.push(imported(library))?,
             _ => {}
         }
     }
