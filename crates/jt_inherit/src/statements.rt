@@ -2,11 +2,11 @@
 //! includes or imports.
 
 ghost use Rattle.std.specs.Prelude.{◌≡◌, ◌++◌, option_map, IfOk};
-ghost use Rattle.jt_trees.specs.StatementView.{is_ignored, stmt_view, body_view};
+ghost use Rattle.jt_trees.specs.StatementView.{stmt_view, body_view};
 ghost use Rattle.jt_chains.specs.Chain.{extends_of};
 ghost use Rattle.jt_inherit.specs.Needs.{includes_of, includes_in, imports_in, library_need, need_view, needs_view};
 
-use jt_trees::{Missing, Stmt};
+use jt_trees::Stmt;
 use std::alloc::AllocError;
 
 /// An include or an import: the template's name, whether it may be missing, and whether it is
@@ -28,13 +28,6 @@ pub(crate) fn parent_of(body: &[Stmt]) -> Option<&str>
         }
     }
     None
-}
-
-/// Whether an include gives nothing where no source has the name.
-fn ignores(missing: Missing) -> bool
-    ensures { result ≡ is_ignored missing }
-{
-    matches!(missing, Missing::Ignored)
 }
 
 /// Adds the includes of statements, in the order of the source.
@@ -68,7 +61,7 @@ fn add_statement<'a>(found: &mut Vec<Include<'a>>, statement: &'a Stmt) -> Resul
         Stmt::Include { name, missing, .. } => {
             found.push(Include {
                 name: name.as_str(),
-                ignoring: ignores(*missing),
+                ignoring: missing.is_ignored(),
                 is_library: false,
             })?;
             Ok(())

@@ -1,5 +1,8 @@
 //! The trees of expressions, as they are written: no name is looked up yet.
 
+ghost use Rattle.std.specs.Prelude.{◌≡◌};
+ghost use Rattle.jt_trees.specs.ExpressionView.{is_negated};
+
 /// An operator in front of its operand.
 #[derive(Clone, Copy, Debug, PartialEq, Eq)]
 pub enum UnaryOperator {
@@ -57,6 +60,15 @@ pub enum Polarity {
     Is,
     /// `is not`
     IsNot,
+}
+
+impl Polarity {
+    /// Whether the test is not to hold.
+    pub fn is_negated(self) -> bool
+        ensures { result ≡ is_negated self }
+    {
+        matches!(self, Polarity::IsNot)
+    }
 }
 
 /// What stands for itself.

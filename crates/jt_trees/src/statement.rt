@@ -1,7 +1,7 @@
 //! The trees of templates, as they are written: no name is looked up yet.
 
 ghost use Rattle.std.specs.Prelude.{◌≡◌};
-ghost use Rattle.jt_trees.specs.StatementView.{body_view, body_of};
+ghost use Rattle.jt_trees.specs.StatementView.{is_ignored, are_seen, body_view, body_of};
 
 use crate::expression::{Expr, Literal};
 
@@ -30,6 +30,15 @@ pub enum Missing {
     Ignored,
 }
 
+impl Missing {
+    /// Whether the include gives nothing then.
+    pub fn is_ignored(self) -> bool
+        ensures { result ≡ is_ignored self }
+    {
+        matches!(self, Missing::Ignored)
+    }
+}
+
 /// Whether an included template sees the names around its tag.
 #[derive(Clone, Copy, Debug, PartialEq, Eq)]
 pub enum NamesAround {
@@ -37,6 +46,15 @@ pub enum NamesAround {
     Seen,
     /// `without context`
     Hidden,
+}
+
+impl NamesAround {
+    /// Whether the template sees them.
+    pub fn are_seen(self) -> bool
+        ensures { result ≡ are_seen self }
+    {
+        matches!(self, NamesAround::Seen)
+    }
 }
 
 /// A statement. The first number is the line of its tag.
