@@ -64,13 +64,13 @@ pub(crate) fn resolve_expression(
             callee: called,
             arguments: row,
             keywords: pairs,
-        } => { resolve_call(alloc, scope, spot, called, row, pairs, pool) }
+        } => resolve_call(alloc, scope, spot, called, row, pairs, pool),
         Expr::Filter {
             input: value,
             name,
             arguments: row,
             keywords: pairs,
-        } => { resolve_filter(alloc, scope, spot, value, name, row, pairs, pool) }
+        } => resolve_filter(alloc, scope, spot, value, name, row, pairs, pool),
         Expr::Test {
             value,
             polarity,
@@ -97,7 +97,7 @@ pub(crate) fn resolve_expression(
             operator,
             left,
             right,
-        } => { resolve_binary(alloc, scope, spot, *operator, left, right, pool) }
+        } => resolve_binary(alloc, scope, spot, *operator, left, right, pool),
         Expr::When { condition, value } => {
             resolve_when(alloc, scope, spot, condition, value, pool)
         }
@@ -105,7 +105,7 @@ pub(crate) fn resolve_expression(
             condition,
             value,
             other,
-        } => { resolve_choice(alloc, scope, spot, condition, value, other, pool) }
+        } => resolve_choice(alloc, scope, spot, condition, value, other, pool),
     }
 }
 
@@ -334,7 +334,13 @@ pub(crate) fn resolve_filtered(
         &mut given,
         pool,
     )?;
-    Ok(SExpr::Made(Maker::Filter(filter, spot.escaping), given))
+    Ok(SExpr::Made(
+        Maker::Filter {
+            filter,
+            escaping: spot.escaping,
+        },
+        given,
+    ))
 }
 
 /// Resolves a call.
@@ -395,7 +401,11 @@ fn resolve_macro(
         spot.free,
         &mut given,
     )?;
-    Ok(SExpr::Invoke(signature.unit, spot.escaping, given))
+    Ok(SExpr::Invoke {
+        routine: signature.unit,
+        escaping: spot.escaping,
+        row: given,
+    })
 }
 
 /// Resolves a call of `range`.

@@ -90,7 +90,7 @@ pub(crate) fn resolve_statement<'a>(
             line,
             targets: names,
             value,
-        } => { resolve_set(alloc, scope, spot, *line, names, value, done, pool) }
+        } => resolve_set(alloc, scope, spot, *line, names, value, done, pool),
         Stmt::SetBlock { name, body, .. } => {
             resolve_set_block(alloc, scope, spot, body, name, done, pool)
         }
@@ -98,12 +98,12 @@ pub(crate) fn resolve_statement<'a>(
             line,
             values: pairs,
             body,
-        } => { resolve_with(alloc, scope, spot, body, *line, pairs, done, pool) }
+        } => resolve_with(alloc, scope, spot, body, *line, pairs, done, pool),
         Stmt::FilterBlock {
             line,
             filters: filterings,
             body,
-        } => { resolve_filtered(alloc, scope, spot, body, *line, filterings, done, pool) }
+        } => resolve_filtered(alloc, scope, spot, body, *line, filterings, done, pool),
         Stmt::Autoescape { escaping, body, .. } => {
             resolve_escaping(alloc, scope, spot, body, *escaping, done, pool)
         }
