@@ -1,7 +1,8 @@
 -- How deep the parts of an expression are.
-use Rattle.std.proofs.Common.{◌≡◌, ◌<◌, List, rules, Bool, Vec, Box, String, Global}
+use Rattle.std.proofs.Common.{◌≡◌, ◌<◌, List, rules, Vec, Box, String, Global}
 use Rattle.std.specs.Prelude.{max}
 use denote.Param.Weighed.{most}
+use Rattle.jt_trees.specs.declared.expression.Polarity.{Polarity}
 use Rattle.jt_trees.specs.declared.expression.Expr.{Expr, size-Expr}
 use Rattle.jt_trees.specs.declared.expression.Expr.TheVariants as e
 use Rattle.jt_trees.specs.declared.expression.Expr.TheViews.{the_lemmas}
@@ -22,10 +23,10 @@ pub filter_depth : (x a : Expr) (us : List Expr) (qs : List (String Global × Ex
     → a ≡ p.value → us ≡ ts.items → qs ≡ ps.items → max (size-Expr a) (max (most (λ y. size-Expr y) us) (most (λ y. size-Expr y.1) qs)) < size-Expr x
 filter_depth x a us qs p k ts ps is f g h = rw (is, f, g, h) (below_filter p k ts ps)
 
-below_test : (p : Box Expr Global) (n : Bool) (k : String Global) (ts : Vec Expr Global) (ps : Vec (String Global × Expr) Global)
+below_test : (p : Box Expr Global) (n : Polarity) (k : String Global) (ts : Vec Expr Global) (ps : Vec (String Global × Expr) Global)
     → max (size-Expr p.value) (most (λ y. size-Expr y) ts.items) < size-Expr (e.Test p n k ts ps)
 below_test p n k ts ps = search (rules, the_lemmas)
 
-pub test_depth : (x a : Expr) (us : List Expr) (p : Box Expr Global) (n : Bool) (k : String Global) (ts : Vec Expr Global) (ps : Vec (String Global × Expr) Global) → x ≡ e.Test p n k ts ps
+pub test_depth : (x a : Expr) (us : List Expr) (p : Box Expr Global) (n : Polarity) (k : String Global) (ts : Vec Expr Global) (ps : Vec (String Global × Expr) Global) → x ≡ e.Test p n k ts ps
     → a ≡ p.value → us ≡ ts.items → max (size-Expr a) (most (λ y. size-Expr y) us) < size-Expr x
 test_depth x a us p n k ts ps is f g = rw (is, f, g) (below_test p n k ts ps)

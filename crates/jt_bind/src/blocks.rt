@@ -84,7 +84,11 @@ pub(crate) fn block_called(
         return Ok(absent());
     };
     let row = block_arguments(alloc, scope, &spot.outside(), name)?;
-    Ok(SExpr::Invoke(unit, spot.escaping, row))
+    Ok(SExpr::Invoke {
+        routine: unit,
+        escaping: spot.escaping,
+        row,
+    })
 }
 
 /// Resolves the call of the next body of the block that this one belongs to: its parameters are
@@ -111,5 +115,9 @@ pub(crate) fn super_called(
     };
     let unit = more(here.body_unit, next)?;
     let row = first_locals(alloc, parameters_of(scope, body.name).len())?;
-    Ok(SExpr::Invoke(unit, spot.escaping, row))
+    Ok(SExpr::Invoke {
+        routine: unit,
+        escaping: spot.escaping,
+        row,
+    })
 }

@@ -60,26 +60,52 @@ pub(crate) fn resolve_expression(
         Expr::Map(pairs) => resolve_map(alloc, scope, spot, pairs, pool),
         Expr::Attribute(value, key) => resolve_attribute(alloc, scope, spot, value, key, pool),
         Expr::Item(value, index) => resolve_item(alloc, scope, spot, value, index, pool),
-        Expr::Call(called, row, pairs) => {
-            resolve_call(alloc, scope, spot, called, row, pairs, pool)
-        }
-        Expr::Filter(value, name, row, pairs) => {
-            resolve_filter(alloc, scope, spot, value, name, row, pairs, pool)
-        }
-        Expr::Test(value, negated, name, row, _) => {
-            resolve_test(alloc, scope, spot, value, *negated, name, row, pool)
+        Expr::Call {
+            callee: called,
+            arguments: row,
+            keywords: pairs,
+        } => resolve_call(alloc, scope, spot, called, row, pairs, pool),
+        Expr::Filter {
+            input: value,
+            name,
+            arguments: row,
+            keywords: pairs,
+        } => resolve_filter(alloc, scope, spot, value, name, row, pairs, pool),
+        Expr::Test {
+            value,
+            polarity,
+            name,
+            arguments: row,
+            ..
+        } => {
+            resolve_test(
+                alloc,
+                scope,
+                spot,
+                value,
+                polarity.is_negated(),
+                name,
+                row,
+                pool,
+            )
         }
         Expr::Unary(operator, operand) => {
             let value = resolve_expression(alloc, scope, spot, operand, pool)?;
             on_one(alloc, unary_operation(*operator), value)
         }
-        Expr::Binary(operator, left, right) => {
-            resolve_binary(alloc, scope, spot, *operator, left, right, pool)
+        Expr::Binary {
+            operator,
+            left,
+            right,
+        } => resolve_binary(alloc, scope, spot, *operator, left, right, pool),
+        Expr::When { condition, value } => {
+            resolve_when(alloc, scope, spot, condition, value, pool)
         }
-        Expr::When(condition, value) => { resolve_when(alloc, scope, spot, condition, value, pool) }
-        Expr::Choice(condition, value, other) => {
-            resolve_choice(alloc, scope, spot, condition, value, other, pool)
-        }
+        Expr::Choice {
+            condition,
+            value,
+            other,
+        } => resolve_choice(alloc, scope, spot, condition, value, other, pool),
     }
 }
 
@@ -308,7 +334,13 @@ pub(crate) fn resolve_filtered(
         &mut given,
         pool,
     )?;
-    Ok(SExpr::Made(Maker::Filter(filter, spot.escaping), given))
+    Ok(SExpr::Made(
+        Maker::Filter {
+            filter,
+            escaping: spot.escaping,
+        },
+        given,
+    ))
 }
 
 /// Resolves a call.
@@ -369,7 +401,11 @@ fn resolve_macro(
         spot.free,
         &mut given,
     )?;
-    Ok(SExpr::Invoke(signature.unit, spot.escaping, given))
+    Ok(SExpr::Invoke {
+        routine: signature.unit,
+        escaping: spot.escaping,
+        row: given,
+    })
 }
 
 /// Resolves a call of `range`.

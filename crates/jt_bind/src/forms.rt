@@ -187,7 +187,11 @@ pub(crate) fn chosen(
 {
     let asked = Box::new(alloc, condition)?;
     let first = Box::new(alloc, value)?;
-    Ok(SExpr::Choice(asked, first, Box::new(alloc, other)?))
+    Ok(SExpr::Choice {
+        condition: asked,
+        value: first,
+        other: Box::new(alloc, other)?,
+    })
 }
 
 /// The place of a loop's turn among so many items, which come again and again.

@@ -90,12 +90,16 @@ fn expr_locals(expr: &SExpr) -> Result<usize, NoMemory>
             let first = expr_locals(left)?;
             Ok(larger(first, expr_locals(right)?))
         }
-        SExpr::Choice(condition, value, other) => {
+        SExpr::Choice {
+            condition,
+            value,
+            other,
+        } => {
             let asked = expr_locals(condition)?;
             let first = expr_locals(value)?;
             Ok(larger(asked, larger(first, expr_locals(other)?)))
         }
-        SExpr::Invoke(_, _, row) => row_locals(row),
+        SExpr::Invoke { row, .. } => row_locals(row),
     }
 }
 
@@ -132,8 +136,12 @@ fn stmt_locals(statement: &SStmt) -> Result<usize, NoMemory>
 {
     match statement {
         SStmt::PutPooled(_) => Ok(0),
-        SStmt::Print(_, _, expr) => expr_locals(expr),
-        SStmt::Assign(_, targets, expr) => {
+        SStmt::Print { value: expr, .. } => expr_locals(expr),
+        SStmt::Assign {
+            targets,
+            value: expr,
+            ..
+        } => {
             let taken = targets_locals(targets)?;
             Ok(larger(taken, expr_locals(expr)?))
         }
@@ -145,7 +153,14 @@ fn stmt_locals(statement: &SStmt) -> Result<usize, NoMemory>
             }
             Ok(most)
         }
-        SStmt::For(_, targets, items, condition, body, other) => {
+        SStmt::For {
+            targets,
+            over: items,
+            condition,
+            body,
+            other,
+            ..
+        } => {
             let taken = targets_locals(targets)?;
             let given = expr_locals(items)?;
             let asked = condition_locals(condition)?;
@@ -153,7 +168,7 @@ fn stmt_locals(statement: &SStmt) -> Result<usize, NoMemory>
             let last = body_locals(other)?;
             Ok(larger(taken, larger(larger(given, asked), larger(turn, last))))
         }
-        SStmt::Capture(_, slot, body) => {
+        SStmt::Capture { slot, body, .. } => {
             let kept = slot_locals(*slot)?;
             Ok(larger(kept, body_locals(body)?))
         }

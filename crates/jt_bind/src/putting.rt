@@ -51,7 +51,11 @@ pub(crate) fn put_print(
         template: spot.template,
         line,
     };
-    done.push(SStmt::Print(place, spot.escaping, value))?;
+    done.push(SStmt::Print {
+        place,
+        escaping: spot.escaping,
+        value,
+    })?;
     Ok(())
 }
 
@@ -73,7 +77,11 @@ pub(crate) fn put_assign(
         template: spot.template,
         line,
     };
-    done.push(SStmt::Assign(place, targets, value))?;
+    done.push(SStmt::Assign {
+        place,
+        targets,
+        value,
+    })?;
     Ok(())
 }
 
@@ -118,7 +126,14 @@ pub(crate) fn put_loop(
         template: spot.template,
         line,
     };
-    done.push(SStmt::For(place, targets, items, condition, body, other))?;
+    done.push(SStmt::For {
+        place,
+        targets,
+        over: items,
+        condition,
+        body,
+        other,
+    })?;
     Ok(())
 }
 
@@ -135,7 +150,11 @@ pub(crate) fn put_capture(
         → Led templates (alone (slots.capture escaping (slot_view slot) whole)) done.old.items
         done.new.items p q) }
 {
-    done.push(SStmt::Capture(escaping, slot, body))?;
+    done.push(SStmt::Capture {
+        escaping,
+        slot,
+        body,
+    })?;
     Ok(())
 }
 

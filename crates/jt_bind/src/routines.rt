@@ -76,20 +76,20 @@ fn sets_names(statement: &Stmt) -> bool
     ensures { result ≡ is_set (stmt_view statement.now) }
 {
     match statement {
-        Stmt::Set(_, _, _) | Stmt::SetBlock(_, _, _) => true,
+        Stmt::Set { .. } | Stmt::SetBlock { .. } => true,
         Stmt::Data(_)
         | Stmt::Print(_, _)
         | Stmt::If(_, _)
-        | Stmt::For(_, _, _, _, _, _)
-        | Stmt::With(_, _, _)
-        | Stmt::FilterBlock(_, _, _)
-        | Stmt::Autoescape(_, _, _)
-        | Stmt::Macro(_, _, _, _)
-        | Stmt::Include(_, _, _, _)
-        | Stmt::Import(_, _, _)
-        | Stmt::From(_, _, _)
+        | Stmt::For { .. }
+        | Stmt::With { .. }
+        | Stmt::FilterBlock { .. }
+        | Stmt::Autoescape { .. }
+        | Stmt::Macro { .. }
+        | Stmt::Include { .. }
+        | Stmt::Import { .. }
+        | Stmt::From { .. }
         | Stmt::Extends(_, _)
-        | Stmt::Block(_, _, _, _, _) => false,
+        | Stmt::Block { .. } => false,
     }
 }
 

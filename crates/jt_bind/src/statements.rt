@@ -72,45 +72,63 @@ pub(crate) fn resolve_statement<'a>(
             let last = resolve_whole(alloc, scope, spot, other, pool)?;
             put_choice(made, last, done)
         }
-        Stmt::For(line, names, value, condition, body, other) => {
+        Stmt::For {
+            line,
+            targets: names,
+            over: value,
+            condition,
+            body,
+            other,
+        } => {
             let items = resolve_expression(alloc, scope, spot, value, pool)?;
             let turn = resolve_turn(alloc, scope, spot, body, names, condition, pool)?;
             let last = resolve_whole(alloc, scope, spot, other, pool)?;
             let targets = fresh_targets(alloc, spot.free, names)?;
             put_loop(spot, *line, targets, items, turn.0, turn.1, last, done)
         }
-        Stmt::Set(line, names, value) => {
-            resolve_set(alloc, scope, spot, *line, names, value, done, pool)
-        }
-        Stmt::SetBlock(_, name, body) => {
+        Stmt::Set {
+            line,
+            targets: names,
+            value,
+        } => resolve_set(alloc, scope, spot, *line, names, value, done, pool),
+        Stmt::SetBlock { name, body, .. } => {
             resolve_set_block(alloc, scope, spot, body, name, done, pool)
         }
-        Stmt::With(line, pairs, body) => {
-            resolve_with(alloc, scope, spot, body, *line, pairs, done, pool)
-        }
-        Stmt::FilterBlock(line, filterings, body) => {
-            resolve_filtered(alloc, scope, spot, body, *line, filterings, done, pool)
-        }
-        Stmt::Autoescape(_, escaping, body) => {
+        Stmt::With {
+            line,
+            values: pairs,
+            body,
+        } => resolve_with(alloc, scope, spot, body, *line, pairs, done, pool),
+        Stmt::FilterBlock {
+            line,
+            filters: filterings,
+            body,
+        } => resolve_filtered(alloc, scope, spot, body, *line, filterings, done, pool),
+        Stmt::Autoescape { escaping, body, .. } => {
             resolve_escaping(alloc, scope, spot, body, *escaping, done, pool)
         }
-        Stmt::Macro(_, _, _, _) => Ok(()),
-        Stmt::Import(_, _, _) => Ok(()),
-        Stmt::From(_, _, _) => Ok(()),
+        Stmt::Macro { .. } => Ok(()),
+        Stmt::Import { .. } => Ok(()),
+        Stmt::From { .. } => Ok(()),
         Stmt::Extends(_, _) => Ok(()),
-        Stmt::Include(line, name, ignore_missing, with_context) => {
+        Stmt::Include {
+            line,
+            name,
+            missing,
+            names,
+        } => {
             put_include(
                 alloc,
                 scope,
                 spot,
                 *line,
                 name,
-                *ignore_missing,
-                *with_context,
+                missing.is_ignored(),
+                names.are_seen(),
                 done,
             )
         }
-        Stmt::Block(_, name, scoped, _, _) => put_block(alloc, scope, spot, name, *scoped, done),
+        Stmt::Block { name, scoped, .. } => put_block(alloc, scope, spot, name, *scoped, done),
     }
 }
 

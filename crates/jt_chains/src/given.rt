@@ -58,7 +58,7 @@ fn of_a_library(statement: &Stmt) -> bool
     ensures { result ≡ chains.of_a_library (stmt_view statement.now) }
 {
     match statement {
-        Stmt::Macro(_, _, _, _) => true,
+        Stmt::Macro { .. } => true,
         Stmt::Data(text) => is_blank(text),
         _ => false,
     }
@@ -143,11 +143,15 @@ fn add_imports<'a>(
 {
     for statement in body {
         match statement {
-            Stmt::Import(_, library, name) => found.push(Named {
+            Stmt::Import { library, name, .. } => found.push(Named {
                 name: name.as_str(),
                 given: Given::Library(library.as_str()),
             })?,
-            Stmt::From(_, library, names) => add_from(chain, library, names, found)?,
+            Stmt::From {
+                library,
+                macros,
+                ..
+            } => add_from(chain, library, macros, found)?,
             _ => {}
         }
     }
@@ -242,8 +246,8 @@ fn add_libraries<'a>(body: &'a [Stmt], found: &mut Vec<&'a str>) -> Result<(), A
 {
     for statement in body {
         match statement {
-            Stmt::Import(_, library, _) => found.push(library.as_str())?,
-            Stmt::From(_, library, _) => found.push(library.as_str())?,
+            Stmt::Import { library, .. } => found.push(library.as_str())?,
+            Stmt::From { library, .. } => found.push(library.as_str())?,
             _ => {}
         }
     }

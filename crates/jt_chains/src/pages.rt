@@ -90,7 +90,12 @@ fn as_macro(place: usize, statement: &Stmt) -> Option<Macro<'_>>
         ≡ spec.as_macro (name_at ts place) (stmt_view statement.now) }
 {
     match statement {
-        Stmt::Macro(_, name, parameters, body) => Some(Macro {
+        Stmt::Macro {
+            name,
+            parameters,
+            body,
+            ..
+        } => Some(Macro {
             name: name.as_str(),
             template: place,
             parameters: parameters.as_slice(),

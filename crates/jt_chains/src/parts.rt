@@ -62,7 +62,13 @@ pub(crate) fn add_macros<'a>(
         ++ macros_in (name_at (pages_view pages.now) template) (body_view body.now)) }
 {
     for statement in body {
-        if let Stmt::Macro(_, name, parameters, body) = statement {
+        if let Stmt::Macro {
+            name,
+            parameters,
+            body,
+            ..
+        } = statement
+        {
             found.push(Macro {
                 name: name.as_str(),
                 template,
@@ -107,12 +113,18 @@ fn add_statement<'a>(
     match statement {
         Stmt::Data(_)
         | Stmt::Print(_, _)
-        | Stmt::Set(_, _, _)
-        | Stmt::Include(_, _, _, _)
-        | Stmt::Import(_, _, _)
-        | Stmt::From(_, _, _)
+        | Stmt::Set { .. }
+        | Stmt::Include { .. }
+        | Stmt::Import { .. }
+        | Stmt::From { .. }
         | Stmt::Extends(_, _) => Ok(()),
-        Stmt::Block(_, name, scoped, required, body) => {
+        Stmt::Block {
+            name,
+            scoped,
+            required,
+            body,
+            ..
+        } => {
             found.push(Block {
                 template: spot.template,
                 name: name.as_str(),
@@ -124,7 +136,9 @@ fn add_statement<'a>(
             add_blocks(spot, body, found)?;
             Ok(())
         }
-        Stmt::Autoescape(_, escaping, body) => add_blocks(inside(spot, *escaping), body, found),
+        Stmt::Autoescape { escaping, body, .. } => {
+            add_blocks(inside(spot, *escaping), body, found)
+        }
         Stmt::If(branches, other) => {
             for (_, _, body) in branches {
                 add_blocks(spot, body, found)?;
@@ -132,15 +146,15 @@ fn add_statement<'a>(
             add_blocks(spot, other, found)?;
             Ok(())
         }
-        Stmt::For(_, _, _, _, body, other) => {
+        Stmt::For { body, other, .. } => {
             add_blocks(spot, body, found)?;
             add_blocks(spot, other, found)?;
             Ok(())
         }
-        Stmt::SetBlock(_, _, body)
-        | Stmt::With(_, _, body)
-        | Stmt::FilterBlock(_, _, body)
-        | Stmt::Macro(_, _, _, body) => add_blocks(spot, body, found),
+        Stmt::SetBlock { body, .. }
+        | Stmt::With { body, .. }
+        | Stmt::FilterBlock { body, .. }
+        | Stmt::Macro { body, .. } => add_blocks(spot, body, found),
     }
 }
 

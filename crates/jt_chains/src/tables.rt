@@ -44,7 +44,7 @@ pub(crate) fn macro_table(
     let mut left = body.len();
     while left > 0 {
         left -= 1;
-        if let Stmt::Macro(_, name, _, _) = &body[left] {
+        if let Stmt::Macro { name, .. } = &body[left] {
             put(alloc, &mut table, name, left)?;
         }
     }

@@ -1,5 +1,5 @@
 -- The first rule that calls, filters and tests break.
-use Rattle.std.proofs.Common.{◌≡◌, ℕ, ◌+◌, ◌<◌, refl, sym, ap, ◌∙◌, List, [], ◌∷◌, length, drop, get_or, Bool, true, Option, Some, None, Vec, Box, String, Global, string_bytes}
+use Rattle.std.proofs.Common.{◌≡◌, ℕ, ◌+◌, ◌<◌, refl, sym, ap, ◌∙◌, List, [], ◌∷◌, length, drop, get_or, true, Option, Some, None, Vec, Box, String, Global, string_bytes}
 use Rattle.std.specs.Prelude.{option_map}
 use Rattle.std.proofs.lemmas.List.{drop_more}
 use Rattle.std.specs.Option.{option_or}
@@ -7,6 +7,7 @@ use Rattle.jt_trees.specs.ExpressionView.{expr_view, exprs_view, pairs_view}
 use Rattle.jt_trees.specs.declared.expression.Expr.{Expr}
 use Rattle.jt_trees.specs.declared.expression.Expr.TheVariants as e
 use Rattle.jt_trees.specs.declared.expression.BinaryOperator.{BinaryOperator}
+use Rattle.jt_trees.specs.declared.expression.Polarity.{Polarity}
 use Rattle.jt_trees.proofs.ExpressionViews.{view_Call, view_Filter, view_Test, view_Item, view_Binary, view_When, view_Choice}
 use Rattle.jt_trees.proofs.StatementViews.{view_If, view_For}
 use Rattle.jt_checks.proofs.Turns.{or_three, or_none, some_first, none_first, filterings_turn}
@@ -84,7 +85,7 @@ module _ (world : World) (home : Home) (w : rules.Within) where
       k3 ∙ ap (λ z. option_or z o2) e1 ∙ ap (option_or _) (applied f vs rs p ts ps r2 r3 r4 o1 o2 ef ev er h2 h3 h4 k1 k2)
       ∙ ap (λ z. rules.broken world home z w) (sym (ap expr_view is ∙ view_Filter p y ts ps))
 
-  pub found_test : (x f : Expr) (n : Text) (us vs : List Expr) (qs rs : List Entry) (p : Box Expr Global) (b : Bool) (y : String Global) (ts : Vec Expr Global) (ps : Vec Entry Global) (r1 r2 r3 r4 o1 o2 o3 : Found)
+  pub found_test : (x f : Expr) (n : Text) (us vs : List Expr) (qs rs : List Entry) (p : Box Expr Global) (b : Polarity) (y : String Global) (ts : Vec Expr Global) (ps : Vec Entry Global) (r1 r2 r3 r4 o1 o2 o3 : Found)
       → x ≡ e.Test p b y ts ps → n ≡ string_bytes y → us ≡ ts.items → qs ≡ ps.items → f ≡ p.value → vs ≡ ts.items → rs ≡ ps.items
       → r1 ≡ rules.test_broken (test_named n) (exprs_view us) (pairs_view qs)
       → r2 ≡ rules.broken world home (expr_view f) w → r3 ≡ rules.row_broken world home (exprs_view vs) w → r4 ≡ rules.pairs_broken world home (pairs_view rs) w
@@ -102,7 +103,7 @@ module _ (world : World) (home : Home) (w : rules.Within) where
   filter_called x f vs rs p y ts ps r2 r3 r4 o1 o2 is ef ev er h2 h3 h4 k1 k2 =
       applied f vs rs p ts ps r2 r3 r4 o1 o2 ef ev er h2 h3 h4 k1 k2 ∙ ap (λ z. rules.called_broken world home z w) (sym (ap expr_view is ∙ view_Filter p y ts ps))
 
-  pub test_called : (x f : Expr) (vs : List Expr) (rs : List Entry) (p : Box Expr Global) (b : Bool) (y : String Global) (ts : Vec Expr Global) (ps : Vec Entry Global) (r2 r3 r4 o1 o2 : Found)
+  pub test_called : (x f : Expr) (vs : List Expr) (rs : List Entry) (p : Box Expr Global) (b : Polarity) (y : String Global) (ts : Vec Expr Global) (ps : Vec Entry Global) (r2 r3 r4 o1 o2 : Found)
       → x ≡ e.Test p b y ts ps → f ≡ p.value → vs ≡ ts.items → rs ≡ ps.items
       → r2 ≡ rules.broken world home (expr_view f) w → r3 ≡ rules.row_broken world home (exprs_view vs) w → r4 ≡ rules.pairs_broken world home (pairs_view rs) w
       → o1 ≡ option_or r3 r4 → o2 ≡ option_or r2 o1 → o2 ≡ rules.called_broken world home (expr_view x) w

@@ -19,22 +19,31 @@ fn bound_by(statement: &Stmt) -> usize
             }
             bound
         }
-        Stmt::For(_, targets, _, _, inside, other) => {
-            let parts = bound_in(inside).saturating_add(bound_in(other));
+        Stmt::For {
+            targets,
+            body,
+            other,
+            ..
+        } => {
+            let parts = bound_in(body).saturating_add(bound_in(other));
             targets.len().saturating_add(parts)
         }
-        Stmt::Set(_, targets, _) => targets.len(),
-        Stmt::SetBlock(_, _, inside) => bound_in(inside).saturating_add(1),
-        Stmt::With(_, pairs, inside) => pairs.len().saturating_add(bound_in(inside)),
-        Stmt::FilterBlock(_, _, inside) => bound_in(inside),
-        Stmt::Autoescape(_, _, inside) => bound_in(inside),
-        Stmt::Macro(_, _, parameters, inside) => parameters.len().saturating_add(bound_in(inside)),
-        Stmt::Block(_, _, _, _, inside) => bound_in(inside),
+        Stmt::Set { targets, .. } => targets.len(),
+        Stmt::SetBlock { body, .. } => bound_in(body).saturating_add(1),
+        Stmt::With { values, body, .. } => values.len().saturating_add(bound_in(body)),
+        Stmt::FilterBlock { body, .. } => bound_in(body),
+        Stmt::Autoescape { body, .. } => bound_in(body),
+        Stmt::Macro {
+            parameters,
+            body,
+            ..
+        } => parameters.len().saturating_add(bound_in(body)),
+        Stmt::Block { body, .. } => bound_in(body),
         Stmt::Data(_)
         | Stmt::Print(..)
-        | Stmt::Include(..)
-        | Stmt::Import(..)
-        | Stmt::From(..)
+        | Stmt::Include { .. }
+        | Stmt::Import { .. }
+        | Stmt::From { .. }
         | Stmt::Extends(..) => 0,
     }
 }

@@ -279,27 +279,44 @@ pub(crate) fn broken(
         Expr::Map(pairs) => pairs_broken(scope, within, pairs),
         Expr::Attribute(value, field) => attribute_broken(scope, within, value, field),
         Expr::Item(value, index) => both_broken(scope, within, value, index),
-        Expr::Call(called, row, pairs) => {
-            let callee = called_broken(scope, within, called);
-            let call = call_broken(scope, within, called, row, pairs);
-            or_arguments_broken(scope, within, either(callee, call), row, pairs)
+        Expr::Call {
+            callee,
+            arguments,
+            keywords,
+        } => {
+            let first = called_broken(scope, within, callee);
+            let call = call_broken(scope, within, callee, arguments, keywords);
+            or_arguments_broken(scope, within, either(first, call), arguments, keywords)
         }
-        Expr::Filter(value, name, row, pairs) => {
-            let call = filter_broken(scope.alloc, name, row, pairs);
-            let input = broken(scope, within, value);
-            or_arguments_broken(scope, within, either(call, input), row, pairs)
+        Expr::Filter {
+            input,
+            name,
+            arguments,
+            keywords,
+        } => {
+            let call = filter_broken(scope.alloc, name, arguments, keywords);
+            let input = broken(scope, within, input);
+            or_arguments_broken(scope, within, either(call, input), arguments, keywords)
         }
-        Expr::Test(value, _, name, row, pairs) => {
-            let call = test_broken(name, row, pairs);
-            let input = broken(scope, within, value);
-            or_arguments_broken(scope, within, either(Ok(call), input), row, pairs)
+        Expr::Test {
+            value,
+            name,
+            arguments,
+            keywords,
+            ..
+        } => {
+            let call = test_broken(name, arguments, keywords);
+            let value = broken(scope, within, value);
+            or_arguments_broken(scope, within, either(Ok(call), value), arguments, keywords)
         }
         Expr::Unary(_, operand) => broken(scope, within, operand),
-        Expr::Binary(_, left, right) => both_broken(scope, within, left, right),
-        Expr::When(condition, value) => both_broken(scope, within, condition, value),
-        Expr::Choice(condition, value, other) => {
-            three_broken(scope, within, condition, value, other)
-        }
+        Expr::Binary { left, right, .. } => both_broken(scope, within, left, right),
+        Expr::When { condition, value } => both_broken(scope, within, condition, value),
+        Expr::Choice {
+            condition,
+            value,
+            other,
+        } => three_broken(scope, within, condition, value, other),
     }
 }
 
@@ -323,24 +340,40 @@ fn called_broken(
         Expr::Map(pairs) => pairs_broken(scope, within, pairs),
         Expr::Attribute(value, field) => field_read_broken(scope, within, value, field),
         Expr::Item(value, index) => both_broken(scope, within, value, index),
-        Expr::Call(inner, row, pairs) => {
-            let callee = called_broken(scope, within, inner);
-            or_arguments_broken(scope, within, callee, row, pairs)
+        Expr::Call {
+            callee,
+            arguments,
+            keywords,
+        } => {
+            let callee = called_broken(scope, within, callee);
+            or_arguments_broken(scope, within, callee, arguments, keywords)
         }
-        Expr::Filter(value, _, row, pairs) => {
-            let input = broken(scope, within, value);
-            or_arguments_broken(scope, within, input, row, pairs)
+        Expr::Filter {
+            input,
+            arguments,
+            keywords,
+            ..
+        } => {
+            let input = broken(scope, within, input);
+            or_arguments_broken(scope, within, input, arguments, keywords)
         }
-        Expr::Test(value, _, _, row, pairs) => {
-            let input = broken(scope, within, value);
-            or_arguments_broken(scope, within, input, row, pairs)
+        Expr::Test {
+            value,
+            arguments,
+            keywords,
+            ..
+        } => {
+            let value = broken(scope, within, value);
+            or_arguments_broken(scope, within, value, arguments, keywords)
         }
         Expr::Unary(_, operand) => broken(scope, within, operand),
-        Expr::Binary(_, left, right) => both_broken(scope, within, left, right),
-        Expr::When(condition, value) => both_broken(scope, within, condition, value),
-        Expr::Choice(condition, value, other) => {
-            three_broken(scope, within, condition, value, other)
-        }
+        Expr::Binary { left, right, .. } => both_broken(scope, within, left, right),
+        Expr::When { condition, value } => both_broken(scope, within, condition, value),
+        Expr::Choice {
+            condition,
+            value,
+            other,
+        } => three_broken(scope, within, condition, value, other),
     }
 }
 

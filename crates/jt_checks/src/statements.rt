@@ -270,36 +270,46 @@ fn statement_broken(
         (within_view within)) }
 {
     match statement {
-        Stmt::Data(_) | Stmt::Include(..) | Stmt::Extends(..) => Ok(None),
-        Stmt::Import(_, _, name) => Ok(read_alone(name)),
-        Stmt::From(_, _, names) => Ok(imports_broken(names)),
+        Stmt::Data(_) | Stmt::Include { .. } | Stmt::Extends(..) => Ok(None),
+        Stmt::Import { name, .. } => Ok(read_alone(name)),
+        Stmt::From { macros, .. } => Ok(imports_broken(macros)),
         Stmt::Print(_, expr) => broken(scope, within, expr),
         Stmt::If(branches, other) => choice_broken(scope, within, branches, other),
-        Stmt::For(_, targets, items, condition, inside, other) => {
-            match head_broken(scope, within, targets, items, condition)? {
-                Some(rule) => Ok(Some(rule)),
-                None => turns_broken(scope, within, inside, other),
-            }
-        }
-        Stmt::Set(_, targets, value) => set_broken(scope, within, targets, value),
-        Stmt::SetBlock(_, name, inside) => {
+        Stmt::For {
+            targets,
+            over,
+            condition,
+            body,
+            other,
+            ..
+        } => match head_broken(scope, within, targets, over, condition)? {
+            Some(rule) => Ok(Some(rule)),
+            None => turns_broken(scope, within, body, other),
+        },
+        Stmt::Set { targets, value, .. } => set_broken(scope, within, targets, value),
+        Stmt::SetBlock { name, body, .. } => {
             let target = used(scope, name);
-            or_body_broken(scope, within, target, inside)
+            or_body_broken(scope, within, target, body)
         }
-        Stmt::With(_, pairs, inside) => {
-            let head = bindings_broken(scope, within, pairs)?;
-            or_body_broken(scope, within, head, inside)
+        Stmt::With { values, body, .. } => {
+            let head = bindings_broken(scope, within, values)?;
+            or_body_broken(scope, within, head, body)
         }
-        Stmt::FilterBlock(_, filterings, inside) => {
-            let head = filterings_broken(scope, within, filterings)?;
-            or_body_broken(scope, within, head, inside)
+        Stmt::FilterBlock { filters, body, .. } => {
+            let head = filterings_broken(scope, within, filters)?;
+            or_body_broken(scope, within, head, body)
         }
-        Stmt::Autoescape(_, _, inside) => body_broken(scope, within, inside),
-        Stmt::Macro(_, name, parameters, inside) => {
+        Stmt::Autoescape { body, .. } => body_broken(scope, within, body),
+        Stmt::Macro {
+            name,
+            parameters,
+            body,
+            ..
+        } => {
             let head = macro_broken(scope, name, parameters)?;
-            or_body_broken(scope, IN_A_MACRO, head, inside)
+            or_body_broken(scope, IN_A_MACRO, head, body)
         }
-        Stmt::Block(_, _, _, _, inside) => body_broken(scope, IN_A_BLOCK, inside),
+        Stmt::Block { body, .. } => body_broken(scope, IN_A_BLOCK, body),
     }
 }
 

@@ -165,8 +165,16 @@ fn emit_statement(
             code.put(None, data_of(*place))?;
             Ok(())
         }
-        SStmt::Print(tag, escaping, expr) => emit_printed(code, *tag, *escaping, expr, above),
-        SStmt::Assign(tag, targets, expr) => {
+        SStmt::Print {
+            place: tag,
+            escaping,
+            value: expr,
+        } => emit_printed(code, *tag, *escaping, expr, above),
+        SStmt::Assign {
+            place: tag,
+            targets,
+            value: expr,
+        } => {
             emit_expression(code, Some(*tag), expr, above)?;
             emit_targets(code, Some(*tag), targets)?;
             Ok(())
@@ -184,14 +192,23 @@ fn emit_statement(
             close_all(code, &ends);
             Ok(())
         }
-        SStmt::For(tag, targets, iterated, condition, body, other) => {
+        SStmt::For {
+            place: tag,
+            targets,
+            over: iterated,
+            condition,
+            body,
+            other,
+        } => {
             emit_loop(
                 alloc, code, *tag, targets, iterated, condition, body, other, above,
             )
         }
-        SStmt::Capture(escaping, slot, body) => {
-            emit_capture(alloc, code, *escaping, *slot, body, above)
-        }
+        SStmt::Capture {
+            escaping,
+            slot,
+            body,
+        } => emit_capture(alloc, code, *escaping, *slot, body, above),
         SStmt::Run(routine, row) => {
             emit_row(code, None, row, above)?;
             code.put(None, call_of(*routine))?;

@@ -40,10 +40,12 @@ fn fits_statement(statement: &SStmt, room: usize) -> bool
 {
     match statement {
         SStmt::PutPooled(_) => true,
-        SStmt::Print(_, _, expr) => fits_expression(expr, room),
-        SStmt::Assign(_, targets, expr) => {
-            fits_expression(expr, room) && fits_targets(targets, room)
-        }
+        SStmt::Print { value: expr, .. } => fits_expression(expr, room),
+        SStmt::Assign {
+            targets,
+            value: expr,
+            ..
+        } => fits_expression(expr, room) && fits_targets(targets, room),
         SStmt::If(branches, other) => {
             for (_, condition, body) in branches {
                 if !fits_expression(condition, room) {
@@ -55,7 +57,14 @@ fn fits_statement(statement: &SStmt, room: usize) -> bool
             }
             fits_body(other, room)
         }
-        SStmt::For(_, targets, iterated, condition, body, other) => {
+        SStmt::For {
+            targets,
+            over: iterated,
+            condition,
+            body,
+            other,
+            ..
+        } => {
             if room == 0 {
                 return false;
             }
@@ -63,7 +72,7 @@ fn fits_statement(statement: &SStmt, room: usize) -> bool
             let turn = fits_condition(condition, room - 1) & fits_body(body, room - 1);
             head & turn & fits_body(other, room)
         }
-        SStmt::Capture(_, _, body) => room >= 1 && fits_body(body, room - 1),
+        SStmt::Capture { body, .. } => room >= 1 && fits_body(body, room - 1),
         SStmt::Run(_, row) => fits_row(row, room),
     }
 }

@@ -4,7 +4,7 @@
 ghost use Rattle.std.specs.Prelude.{◌≡◌, ◌≤◌, ◌<◌, ◌^◌, suc, max, length, true, false, codes, encode_utf8_all, IfOk};
 ghost use Rattle.std.specs.Str.{chars};
 ghost use Rattle.jt_trees.specs.Expressions as trees;
-ghost use Rattle.jt_trees.specs.ExpressionView.{expr_view, exprs_view, pairs_view};
+ghost use Rattle.jt_trees.specs.ExpressionView.{is_negated, expr_view, exprs_view, pairs_view};
 ghost use Rattle.jt_expr.specs.Front as front;
 ghost use Rattle.jt_expr.specs.Reading as spec;
 ghost use Rattle.jt_expr.specs.Grammar as grammar;
@@ -26,8 +26,19 @@ use crate::part::{Part, Parts};
 use crate::rows::{Chain, Element, Form, Keyed, Row, Step};
 use crate::words::{is_reserved, literal_of};
 use jt_scan::{Sign, Token, text_value};
-use jt_trees::{BinaryOperator, Literal, UnaryOperator};
+use jt_trees::{BinaryOperator, Literal, Polarity, UnaryOperator};
 use std::alloc::Global;
+
+/// Whether a test is to hold, by whether `not` stands in front of its name.
+fn polarity_of(negated: bool) -> Polarity
+    ensures { is_negated result ≡ negated }
+{
+    if negated {
+        Polarity::IsNot
+    } else {
+        Polarity::Is
+    }
+}
 
 /// The rules, over the reader of what lies deeper.
 #[derive(Drop)]
@@ -107,15 +118,15 @@ impl<F: Fn(Global, &mut Cursor<'_>, usize, Form) -> Result<Part, ExprError>> Gra
         Ok(Part { expr, height })
     }
 
-    /// `a is t(..)`, or with true `a is not t(..)`
+    /// `a is t(..)`, or `a is not t(..)`
     fn test(
         &self,
         value: Part,
-        negated: bool,
+        polarity: Polarity,
         name: &str,
         arguments: Parts,
     ) -> Result<Part, ExprError>
-        ensures { Fits (suc self.now.below) (trees.test (expr_view value.expr.value) negated
+        ensures { Fits (suc self.now.below) (trees.test (expr_view value.expr.value) (is_negated polarity)
             (encode_utf8_all (chars name.now)) (exprs_view arguments.items.items)
             (pairs_view arguments.pairs.items)) result }
     {
@@ -123,7 +134,7 @@ impl<F: Fn(Global, &mut Cursor<'_>, usize, Form) -> Result<Part, ExprError>> Gra
         let expr = making::make_test(
             self.alloc,
             value.expr,
-            negated,
+            polarity,
             name,
             arguments.items,
             arguments.pairs,
@@ -471,7 +482,7 @@ impl<F: Fn(Global, &mut Cursor<'_>, usize, Form) -> Result<Part, ExprError>> Gra
         let negated = cursor.eat_word("not");
         let name = cursor.word()?;
         let arguments = self.test_arguments(cursor)?;
-        Ok(Step::Grown(self.test(left, negated, name, arguments)?))
+        Ok(Step::Grown(self.test(left, polarity_of(negated), name, arguments)?))
     }
 
     /// One filter or test more, or none.

@@ -2,11 +2,11 @@
 
 ghost use Rattle.std.specs.Prelude.{◌≡◌, IfOk};
 ghost use Rattle.jt_trees.specs.Expressions as trees;
-ghost use Rattle.jt_trees.specs.ExpressionView.{literal_view, expr_view, exprs_view, pairs_view};
+ghost use Rattle.jt_trees.specs.ExpressionView.{literal_view, is_negated, expr_view, exprs_view, pairs_view};
 ghost use Rattle.std.specs.Prelude.{string_bytes, encode_utf8_all};
 ghost use Rattle.std.specs.Str.{chars};
 
-use jt_trees::{BinaryOperator, Expr, Literal, UnaryOperator};
+use jt_trees::{BinaryOperator, Expr, Literal, Polarity, UnaryOperator};
 use std::alloc::{AllocError, Global};
 
 /// The bytes of a text, in memory of its own.
@@ -72,45 +72,63 @@ pub(crate) fn make_item(
 
 pub(crate) fn make_call(
     alloc: Global,
-    a: Box<Expr>,
-    items: Vec<Expr>,
-    pairs: Vec<(String, Expr)>,
+    callee: Box<Expr>,
+    arguments: Vec<Expr>,
+    keywords: Vec<(String, Expr)>,
 ) -> Result<Box<Expr>, AllocError>
-    ensures { IfOk result (λ e. expr_view e.value
-        ≡ trees.call (expr_view a.value) (exprs_view items.items) (pairs_view pairs.items)) }
+    ensures { IfOk result (λ e. expr_view e.value ≡ trees.call (expr_view callee.value)
+        (exprs_view arguments.items) (pairs_view keywords.items)) }
 {
-    Ok(Box::new(alloc, Expr::Call(a, items, pairs))?)
+    let call = Expr::Call {
+        callee,
+        arguments,
+        keywords,
+    };
+    Ok(Box::new(alloc, call)?)
 }
 
 pub(crate) fn make_filter(
     alloc: Global,
-    a: Box<Expr>,
+    input: Box<Expr>,
     text: &str,
-    items: Vec<Expr>,
-    pairs: Vec<(String, Expr)>,
+    arguments: Vec<Expr>,
+    keywords: Vec<(String, Expr)>,
 ) -> Result<Box<Expr>, AllocError>
     ensures { IfOk result (λ e. expr_view e.value
-        ≡ trees.filter (expr_view a.value) (encode_utf8_all (chars text.now))
-        (exprs_view items.items) (pairs_view pairs.items)) }
+        ≡ trees.filter (expr_view input.value) (encode_utf8_all (chars text.now))
+        (exprs_view arguments.items) (pairs_view keywords.items)) }
 {
     let name = copy_of(alloc, text)?;
-    Ok(Box::new(alloc, Expr::Filter(a, name, items, pairs))?)
+    let filter = Expr::Filter {
+        input,
+        name,
+        arguments,
+        keywords,
+    };
+    Ok(Box::new(alloc, filter)?)
 }
 
 pub(crate) fn make_test(
     alloc: Global,
-    a: Box<Expr>,
-    negated: bool,
+    value: Box<Expr>,
+    polarity: Polarity,
     text: &str,
-    items: Vec<Expr>,
-    pairs: Vec<(String, Expr)>,
+    arguments: Vec<Expr>,
+    keywords: Vec<(String, Expr)>,
 ) -> Result<Box<Expr>, AllocError>
     ensures { IfOk result (λ e. expr_view e.value
-        ≡ trees.test (expr_view a.value) negated (encode_utf8_all (chars text.now))
-        (exprs_view items.items) (pairs_view pairs.items)) }
+        ≡ trees.test (expr_view value.value) (is_negated polarity) (encode_utf8_all (chars text.now))
+        (exprs_view arguments.items) (pairs_view keywords.items)) }
 {
     let name = copy_of(alloc, text)?;
-    Ok(Box::new(alloc, Expr::Test(a, negated, name, items, pairs))?)
+    let test = Expr::Test {
+        value,
+        polarity,
+        name,
+        arguments,
+        keywords,
+    };
+    Ok(Box::new(alloc, test)?)
 }
 
 pub(crate) fn make_unary(
@@ -125,35 +143,45 @@ pub(crate) fn make_unary(
 
 pub(crate) fn make_binary(
     alloc: Global,
-    op: BinaryOperator,
-    a: Box<Expr>,
-    b: Box<Expr>,
+    operator: BinaryOperator,
+    left: Box<Expr>,
+    right: Box<Expr>,
 ) -> Result<Box<Expr>, AllocError>
-    ensures { IfOk result
-        (λ e. expr_view e.value ≡ trees.binary op (expr_view a.value) (expr_view b.value)) }
+    ensures { IfOk result (λ e. expr_view e.value
+        ≡ trees.binary operator (expr_view left.value) (expr_view right.value)) }
 {
-    Ok(Box::new(alloc, Expr::Binary(op, a, b))?)
+    let binary = Expr::Binary {
+        operator,
+        left,
+        right,
+    };
+    Ok(Box::new(alloc, binary)?)
 }
 
 pub(crate) fn make_when(
     alloc: Global,
     condition: Box<Expr>,
-    a: Box<Expr>,
+    value: Box<Expr>,
 ) -> Result<Box<Expr>, AllocError>
     ensures { IfOk result
-        (λ e. expr_view e.value ≡ trees.when (expr_view condition.value) (expr_view a.value)) }
+        (λ e. expr_view e.value ≡ trees.when (expr_view condition.value) (expr_view value.value)) }
 {
-    Ok(Box::new(alloc, Expr::When(condition, a))?)
+    Ok(Box::new(alloc, Expr::When { condition, value })?)
 }
 
 pub(crate) fn make_choice(
     alloc: Global,
     condition: Box<Expr>,
-    a: Box<Expr>,
-    b: Box<Expr>,
+    value: Box<Expr>,
+    other: Box<Expr>,
 ) -> Result<Box<Expr>, AllocError>
-    ensures { IfOk result (λ e. expr_view e.value
-        ≡ trees.choice (expr_view condition.value) (expr_view a.value) (expr_view b.value)) }
+    ensures { IfOk result (λ e. expr_view e.value ≡ trees.choice (expr_view condition.value)
+        (expr_view value.value) (expr_view other.value)) }
 {
-    Ok(Box::new(alloc, Expr::Choice(condition, a, b))?)
+    let choice = Expr::Choice {
+        condition,
+        value,
+        other,
+    };
+    Ok(Box::new(alloc, choice)?)
 }

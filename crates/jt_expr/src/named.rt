@@ -137,26 +137,49 @@ pub fn has_unknown(expr: &Expr, named: Named) -> bool
         Expr::Map(pairs) => any_unknown_pair(pairs, named),
         Expr::Attribute(a, _) => has_unknown(a, named),
         Expr::Item(a, b) => has_unknown(a, named) || has_unknown(b, named),
-        Expr::Call(a, items, pairs) => {
-            has_unknown(a, named) || any_unknown(items, named) || any_unknown_pair(pairs, named)
+        Expr::Call {
+            callee,
+            arguments,
+            keywords,
+        } => {
+            has_unknown(callee, named)
+                || any_unknown(arguments, named)
+                || any_unknown_pair(keywords, named)
         }
-        Expr::Filter(a, name, items, pairs) => {
-            is_filter_unknown(name, items, pairs, named)
-                || has_unknown(a, named)
-                || any_unknown(items, named)
-                || any_unknown_pair(pairs, named)
+        Expr::Filter {
+            input,
+            name,
+            arguments,
+            keywords,
+        } => {
+            is_filter_unknown(name, arguments, keywords, named)
+                || has_unknown(input, named)
+                || any_unknown(arguments, named)
+                || any_unknown_pair(keywords, named)
         }
-        Expr::Test(a, _, name, items, pairs) => {
+        Expr::Test {
+            value,
+            name,
+            arguments,
+            keywords,
+            ..
+        } => {
             is_unknown_test(name, named)
-                || has_unknown(a, named)
-                || any_unknown(items, named)
-                || any_unknown_pair(pairs, named)
+                || has_unknown(value, named)
+                || any_unknown(arguments, named)
+                || any_unknown_pair(keywords, named)
         }
         Expr::Unary(_, a) => has_unknown(a, named),
-        Expr::Binary(_, a, b) => has_unknown(a, named) || has_unknown(b, named),
-        Expr::When(c, a) => has_unknown(c, named) || has_unknown(a, named),
-        Expr::Choice(c, a, b) => {
-            has_unknown(c, named) || has_unknown(a, named) || has_unknown(b, named)
+        Expr::Binary { left, right, .. } => has_unknown(left, named) || has_unknown(right, named),
+        Expr::When { condition, value } => {
+            has_unknown(condition, named) || has_unknown(value, named)
+        }
+        Expr::Choice {
+            condition,
+            value,
+            other,
+        } => {
+            has_unknown(condition, named) || has_unknown(value, named) || has_unknown(other, named)
         }
     }
 }

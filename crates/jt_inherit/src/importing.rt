@@ -58,8 +58,13 @@ fn lacks_macros(shelf: Shelf<'_>, body: &[Stmt]) -> bool
         (body_view body.now) }
 {
     for statement in body {
-        if let Stmt::From(_, library, names) = statement {
-            if lacks_one(shelf, library, names) {
+        if let Stmt::From {
+            library,
+            macros,
+            ..
+        } = statement
+        {
+            if lacks_one(shelf, library, macros) {
                 return true;
             }
         }
@@ -130,8 +135,12 @@ fn add_imported<'a>(
 {
     for statement in body {
         match statement {
-            Stmt::Import(_, _, name) => given.push(name.as_str())?,
-            Stmt::From(_, library, names) => add_given(shelf, library, names, given)?,
+            Stmt::Import { name, .. } => given.push(name.as_str())?,
+            Stmt::From {
+                library,
+                macros,
+                ..
+            } => add_given(shelf, library, macros, given)?,
             _ => {}
         }
     }

@@ -54,14 +54,14 @@ fn add_statement<'a>(found: &mut Vec<Include<'a>>, statement: &'a Stmt) -> Resul
     match statement {
         Stmt::Data(_)
         | Stmt::Print(_, _)
-        | Stmt::Set(_, _, _)
-        | Stmt::Import(_, _, _)
-        | Stmt::From(_, _, _)
+        | Stmt::Set { .. }
+        | Stmt::Import { .. }
+        | Stmt::From { .. }
         | Stmt::Extends(_, _) => Ok(()),
-        Stmt::Include(_, name, ignoring, _) => {
+        Stmt::Include { name, missing, .. } => {
             found.push(Include {
                 name: name.as_str(),
-                ignoring: *ignoring,
+                ignoring: missing.is_ignored(),
                 is_library: false,
             })?;
             Ok(())
@@ -73,17 +73,17 @@ fn add_statement<'a>(found: &mut Vec<Include<'a>>, statement: &'a Stmt) -> Resul
             add_includes(found, other)?;
             Ok(())
         }
-        Stmt::For(_, _, _, _, body, other) => {
+        Stmt::For { body, other, .. } => {
             add_includes(found, body)?;
             add_includes(found, other)?;
             Ok(())
         }
-        Stmt::SetBlock(_, _, body)
-        | Stmt::With(_, _, body)
-        | Stmt::FilterBlock(_, _, body)
-        | Stmt::Autoescape(_, _, body)
-        | Stmt::Macro(_, _, _, body)
-        | Stmt::Block(_, _, _, _, body) => add_includes(found, body),
+        Stmt::SetBlock { body, .. }
+        | Stmt::With { body, .. }
+        | Stmt::FilterBlock { body, .. }
+        | Stmt::Autoescape { body, .. }
+        | Stmt::Macro { body, .. }
+        | Stmt::Block { body, .. } => add_includes(found, body),
     }
 }
 
@@ -108,8 +108,8 @@ pub(crate) fn add_imports<'a>(
 {
     for statement in body {
         match statement {
-            Stmt::Import(_, library, _) => found.push(imported(library))?,
-            Stmt::From(_, library, _) => found.push(imported(library))?,
+            Stmt::Import { library, .. } => found.push(imported(library))?,
+            Stmt::From { library, .. } => found.push(imported(library))?,
             _ => {}
         }
     }

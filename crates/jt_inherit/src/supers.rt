@@ -29,19 +29,36 @@ fn has_super(expr: &Expr) -> bool
         Expr::Map(pairs) => any_super_pair(pairs),
         Expr::Attribute(a, _) => has_super(a),
         Expr::Item(a, b) => has_super(a) || has_super(b),
-        Expr::Call(a, items, pairs) => {
-            is_super(a) || has_super(a) || any_super(items) || any_super_pair(pairs)
+        Expr::Call {
+            callee,
+            arguments,
+            keywords,
+        } => {
+            is_super(callee)
+                || has_super(callee)
+                || any_super(arguments)
+                || any_super_pair(keywords)
         }
-        Expr::Filter(a, _, items, pairs) => {
-            has_super(a) || any_super(items) || any_super_pair(pairs)
-        }
-        Expr::Test(a, _, _, items, pairs) => {
-            has_super(a) || any_super(items) || any_super_pair(pairs)
-        }
+        Expr::Filter {
+            input,
+            arguments,
+            keywords,
+            ..
+        } => has_super(input) || any_super(arguments) || any_super_pair(keywords),
+        Expr::Test {
+            value,
+            arguments,
+            keywords,
+            ..
+        } => has_super(value) || any_super(arguments) || any_super_pair(keywords),
         Expr::Unary(_, a) => has_super(a),
-        Expr::Binary(_, a, b) => has_super(a) || has_super(b),
-        Expr::When(c, a) => has_super(c) || has_super(a),
-        Expr::Choice(c, a, b) => has_super(c) || has_super(a) || has_super(b),
+        Expr::Binary { left, right, .. } => has_super(left) || has_super(right),
+        Expr::When { condition, value } => has_super(condition) || has_super(value),
+        Expr::Choice {
+            condition,
+            value,
+            other,
+        } => has_super(condition) || has_super(value) || has_super(other),
     }
 }
 
@@ -113,13 +130,13 @@ fn statement_super(statement: &Stmt) -> bool
 {
     match statement {
         Stmt::Data(_)
-        | Stmt::Macro(_, _, _, _)
-        | Stmt::Include(_, _, _, _)
-        | Stmt::Import(_, _, _)
-        | Stmt::From(_, _, _)
+        | Stmt::Macro { .. }
+        | Stmt::Include { .. }
+        | Stmt::Import { .. }
+        | Stmt::From { .. }
         | Stmt::Extends(_, _)
-        | Stmt::Block(_, _, _, _, _) => false,
-        Stmt::Print(_, expr) | Stmt::Set(_, _, expr) => has_super(expr),
+        | Stmt::Block { .. } => false,
+        Stmt::Print(_, value) | Stmt::Set { value, .. } => has_super(value),
         Stmt::If(branches, other) => {
             for (_, condition, body) in branches {
                 if has_super(condition) {
@@ -131,11 +148,17 @@ fn statement_super(statement: &Stmt) -> bool
             }
             calls_super(other)
         }
-        Stmt::For(_, _, over, condition, body, other) => {
+        Stmt::For {
+            over,
+            condition,
+            body,
+            other,
+            ..
+        } => {
             has_super(over) || condition_super(condition) || calls_super(body) || calls_super(other)
         }
-        Stmt::SetBlock(_, _, body) | Stmt::Autoescape(_, _, body) => calls_super(body),
-        Stmt::With(_, values, body) => any_super_pair(values) || calls_super(body),
-        Stmt::FilterBlock(_, filters, body) => calls_super(body) || filters_super(filters),
+        Stmt::SetBlock { body, .. } | Stmt::Autoescape { body, .. } => calls_super(body),
+        Stmt::With { values, body, .. } => any_super_pair(values) || calls_super(body),
+        Stmt::FilterBlock { filters, body, .. } => calls_super(body) || filters_super(filters),
     }
 }

@@ -33,11 +33,11 @@ fn add_statement<'a>(found: &mut Vec<&'a str>, statement: &'a Stmt) -> Result<()
     match statement {
         Stmt::Data(_)
         | Stmt::Print(_, _)
-        | Stmt::Set(_, _, _)
-        | Stmt::Import(_, _, _)
-        | Stmt::From(_, _, _)
+        | Stmt::Set { .. }
+        | Stmt::Import { .. }
+        | Stmt::From { .. }
         | Stmt::Extends(_, _) => Ok(()),
-        Stmt::Include(_, name, _, _) => {
+        Stmt::Include { name, .. } => {
             found.push(name.as_str())?;
             Ok(())
         }
@@ -48,17 +48,17 @@ fn add_statement<'a>(found: &mut Vec<&'a str>, statement: &'a Stmt) -> Result<()
             add_included(found, other)?;
             Ok(())
         }
-        Stmt::For(_, _, _, _, body, other) => {
+        Stmt::For { body, other, .. } => {
             add_included(found, body)?;
             add_included(found, other)?;
             Ok(())
         }
-        Stmt::SetBlock(_, _, body)
-        | Stmt::With(_, _, body)
-        | Stmt::FilterBlock(_, _, body)
-        | Stmt::Autoescape(_, _, body)
-        | Stmt::Macro(_, _, _, body)
-        | Stmt::Block(_, _, _, _, body) => add_included(found, body),
+        Stmt::SetBlock { body, .. }
+        | Stmt::With { body, .. }
+        | Stmt::FilterBlock { body, .. }
+        | Stmt::Autoescape { body, .. }
+        | Stmt::Macro { body, .. }
+        | Stmt::Block { body, .. } => add_included(found, body),
     }
 }
 

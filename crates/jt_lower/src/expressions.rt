@@ -48,10 +48,16 @@ pub fn emit_expression(
         }
         SExpr::Conjunction(left, right) => emit_conjunction(code, tag, left, right, above),
         SExpr::Disjunction(left, right) => emit_disjunction(code, tag, left, right, above),
-        SExpr::Choice(condition, taken, other) => {
-            emit_choice(code, tag, condition, taken, other, above)
-        }
-        SExpr::Invoke(routine, escaping, row) => {
+        SExpr::Choice {
+            condition,
+            value: taken,
+            other,
+        } => emit_choice(code, tag, condition, taken, other, above),
+        SExpr::Invoke {
+            routine,
+            escaping,
+            row,
+        } => {
             let printed = flag(*escaping);
             code.put(tag, Some(Instruction::CaptureBegin))?;
             emit_row(code, tag, row, above.saturating_add(1))?;

@@ -18,12 +18,16 @@ pub fn fits_expression(expr: &SExpr, room: usize) -> bool
         SExpr::Conjunction(left, right) | SExpr::Disjunction(left, right) => {
             room >= 2 && fits_expression(left, room) && fits_expression(right, room)
         }
-        SExpr::Choice(condition, taken, other) => {
+        SExpr::Choice {
+            condition,
+            value: taken,
+            other,
+        } => {
             fits_expression(condition, room)
                 && fits_expression(taken, room)
                 && fits_expression(other, room)
         }
-        SExpr::Invoke(_, _, row) => room >= 1 && fits_row(row, room - 1),
+        SExpr::Invoke { row, .. } => room >= 1 && fits_row(row, room - 1),
     }
 }
 

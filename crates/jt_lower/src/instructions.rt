@@ -177,7 +177,7 @@ pub(crate) fn made_of(made: Maker, count: usize) -> Option<Instruction>
             }),
             Err(_) => None,
         },
-        Maker::Filter(filter, escaping) => match u16::try_from(count) {
+        Maker::Filter { filter, escaping } => match u16::try_from(count) {
             Ok(values) => Some(Instruction::Filter {
                 filter: filter.id(),
                 values,

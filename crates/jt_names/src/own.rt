@@ -45,19 +45,37 @@ fn add_expression<'a>(names: &mut BTreeSet<&'a str>, expr: &'a Expr) -> Result<(
         Expr::Map(pairs) => add_pairs(names, pairs),
         Expr::Attribute(value, _) => add_of_attribute(names, value),
         Expr::Item(value, index) => add_both(names, value, index),
-        Expr::Call(_, row, pairs) => then_arguments(names, Ok(()), row, pairs),
-        Expr::Filter(value, _, row, pairs) => {
-            let input = add_expression(names, value);
-            then_arguments(names, input, row, pairs)
+        Expr::Call {
+            arguments,
+            keywords,
+            ..
+        } => then_arguments(names, Ok(()), arguments, keywords),
+        Expr::Filter {
+            input,
+            arguments,
+            keywords,
+            ..
+        } => {
+            let before = add_expression(names, input);
+            then_arguments(names, before, arguments, keywords)
         }
-        Expr::Test(value, _, _, row, pairs) => {
-            let input = add_expression(names, value);
-            then_arguments(names, input, row, pairs)
+        Expr::Test {
+            value,
+            arguments,
+            keywords,
+            ..
+        } => {
+            let before = add_expression(names, value);
+            then_arguments(names, before, arguments, keywords)
         }
         Expr::Unary(_, operand) => add_expression(names, operand),
-        Expr::Binary(_, left, right) => add_both(names, left, right),
-        Expr::When(condition, value) => add_both(names, condition, value),
-        Expr::Choice(condition, value, other) => {
+        Expr::Binary { left, right, .. } => add_both(names, left, right),
+        Expr::When { condition, value } => add_both(names, condition, value),
+        Expr::Choice {
+            condition,
+            value,
+            other,
+        } => {
             let first = add_expression(names, condition);
             let second = then_expression(names, first, value);
             then_expression(names, second, other)
@@ -305,37 +323,51 @@ fn add_statement<'a>(names: &mut BTreeSet<&'a str>, statement: &'a Stmt) -> Resu
         ≡ all_inserted (stmt_names (stmt_view statement.now)) (texts names.old.keys)) }
 {
     match statement {
-        Stmt::Data(_) | Stmt::Include(..) | Stmt::Import(..) | Stmt::From(..) | Stmt::Extends(..) =>
-            Ok(()),
+        Stmt::Data(_)
+        | Stmt::Include { .. }
+        | Stmt::Import { .. }
+        | Stmt::From { .. }
+        | Stmt::Extends(..) => Ok(()),
         Stmt::Print(_, expr) => add_expression(names, expr),
         Stmt::If(branches, other) => {
             let head = add_branches(names, branches);
             then_statements(names, head, other)
         }
-        Stmt::For(_, targets, items, condition, inside, other) => {
-            let head = add_head(names, items, targets, condition);
-            let turns = then_statements(names, head, inside);
+        Stmt::For {
+            targets,
+            over,
+            condition,
+            body,
+            other,
+            ..
+        } => {
+            let head = add_head(names, over, targets, condition);
+            let turns = then_statements(names, head, body);
             then_statements(names, turns, other)
         }
-        Stmt::Set(_, targets, value) => add_set(names, targets, value),
-        Stmt::SetBlock(_, name, inside) => {
+        Stmt::Set { targets, value, .. } => add_set(names, targets, value),
+        Stmt::SetBlock { name, body, .. } => {
             let head = add_name(names, name.as_str());
-            then_statements(names, head, inside)
+            then_statements(names, head, body)
         }
-        Stmt::With(_, pairs, inside) => {
-            let head = add_bindings(names, pairs);
-            then_statements(names, head, inside)
+        Stmt::With { values, body, .. } => {
+            let head = add_bindings(names, values);
+            then_statements(names, head, body)
         }
-        Stmt::FilterBlock(_, filterings, inside) => {
-            let body = add_statements(names, inside);
-            then_filterings(names, body, filterings)
+        Stmt::FilterBlock { filters, body, .. } => {
+            let inside = add_statements(names, body);
+            then_filterings(names, inside, filters)
         }
-        Stmt::Autoescape(_, _, inside) => add_statements(names, inside),
-        Stmt::Macro(_, _, parameters, inside) => {
+        Stmt::Autoescape { body, .. } => add_statements(names, body),
+        Stmt::Macro {
+            parameters,
+            body,
+            ..
+        } => {
             let head = add_parameters(names, parameters);
-            then_statements(names, head, inside)
+            then_statements(names, head, body)
         }
-        Stmt::Block(_, _, _, _, inside) => add_statements(names, inside),
+        Stmt::Block { body, .. } => add_statements(names, body),
     }
 }
 

@@ -73,32 +73,41 @@ fn add_scope<'a>(found: &mut Vec<&'a str>, statement: &'a Stmt) -> Result<(), Al
             add_scopes(found, other)?;
             Ok(())
         }
-        Stmt::For(_, targets, _, _, body, other) => {
+        Stmt::For {
+            targets,
+            body,
+            other,
+            ..
+        } => {
             add_targets(found, targets)?;
             add_inside(found, body)?;
             add_scopes(found, other)?;
             Ok(())
         }
-        Stmt::SetBlock(_, _, body)
-        | Stmt::FilterBlock(_, _, body)
-        | Stmt::Autoescape(_, _, body)
-        | Stmt::Block(_, _, _, _, body) => add_inside(found, body),
-        Stmt::With(_, pairs, body) => {
-            add_keys(found, pairs)?;
+        Stmt::SetBlock { body, .. }
+        | Stmt::FilterBlock { body, .. }
+        | Stmt::Autoescape { body, .. }
+        | Stmt::Block { body, .. } => add_inside(found, body),
+        Stmt::With { values, body, .. } => {
+            add_keys(found, values)?;
             add_inside(found, body)?;
             Ok(())
         }
-        Stmt::Macro(_, _, parameters, body) => {
+        Stmt::Macro {
+            parameters,
+            body,
+            ..
+        } => {
             add_parameters(found, parameters)?;
             add_inside(found, body)?;
             Ok(())
         }
         Stmt::Data(_)
         | Stmt::Print(_, _)
-        | Stmt::Set(_, _, _)
-        | Stmt::Include(_, _, _, _)
-        | Stmt::Import(_, _, _)
-        | Stmt::From(_, _, _)
+        | Stmt::Set { .. }
+        | Stmt::Include { .. }
+        | Stmt::Import { .. }
+        | Stmt::From { .. }
         | Stmt::Extends(_, _) => Ok(()),
     }
 }

@@ -41,8 +41,8 @@ fn add_set<'a>(found: &mut Vec<&'a str>, statement: &'a Stmt) -> Result<(), Allo
         (λ _. texts found.new.items ≡ texts found.old.items ++ set_by (stmt_view statement.now)) }
 {
     match statement {
-        Stmt::Set(_, targets, _) => add_targets(found, targets),
-        Stmt::SetBlock(_, name, _) => {
+        Stmt::Set { targets, .. } => add_targets(found, targets),
+        Stmt::SetBlock { name, .. } => {
             found.push(name.as_str())?;
             Ok(())
         }
@@ -53,17 +53,17 @@ fn add_set<'a>(found: &mut Vec<&'a str>, statement: &'a Stmt) -> Result<(), Allo
             add_sets(found, other)?;
             Ok(())
         }
-        Stmt::For(_, _, _, _, _, other) => add_sets(found, other),
+        Stmt::For { other, .. } => add_sets(found, other),
         Stmt::Data(_)
         | Stmt::Print(_, _)
-        | Stmt::With(_, _, _)
-        | Stmt::FilterBlock(_, _, _)
-        | Stmt::Autoescape(_, _, _)
-        | Stmt::Macro(_, _, _, _)
-        | Stmt::Include(_, _, _, _)
-        | Stmt::Import(_, _, _)
-        | Stmt::From(_, _, _)
+        | Stmt::With { .. }
+        | Stmt::FilterBlock { .. }
+        | Stmt::Autoescape { .. }
+        | Stmt::Macro { .. }
+        | Stmt::Include { .. }
+        | Stmt::Import { .. }
+        | Stmt::From { .. }
         | Stmt::Extends(_, _)
-        | Stmt::Block(_, _, _, _, _) => Ok(()),
+        | Stmt::Block { .. } => Ok(()),
     }
 }

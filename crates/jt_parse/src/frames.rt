@@ -107,7 +107,14 @@ fn for_statement(line: u32, head: Loop, body: Vec<Stmt>, other: Vec<Stmt>) -> St
         over,
         condition,
     } = head;
-    Stmt::For(line, targets, over, condition, body, other)
+    Stmt::For {
+        line,
+        targets,
+        over,
+        condition,
+        body,
+        other,
+    }
 }
 
 /// Another statement with this inside.
@@ -115,12 +122,35 @@ fn enclosing(line: u32, opening: Opening, body: Vec<Stmt>) -> Stmt
     ensures { stmt_view result ≡ tags.made line (opening_view opening) (body_view body.items) }
 {
     match opening {
-        Opening::Text(name) => Stmt::SetBlock(line, name, body),
-        Opening::Values(values) => Stmt::With(line, values, body),
-        Opening::Filters(filters) => Stmt::FilterBlock(line, filters, body),
-        Opening::Escaping(on) => Stmt::Autoescape(line, on, body),
-        Opening::Macro(name, parameters) => Stmt::Macro(line, name, parameters, body),
-        Opening::Block(name, scoped, required) => Stmt::Block(line, name, scoped, required, body),
+        Opening::Text(name) => Stmt::SetBlock { line, name, body },
+        Opening::Values(values) => Stmt::With { line, values, body },
+        Opening::Filters(filters) => Stmt::FilterBlock {
+            line,
+            filters,
+            body,
+        },
+        Opening::Escaping(escaping) => Stmt::Autoescape {
+            line,
+            escaping,
+            body,
+        },
+        Opening::Macro(name, parameters) => Stmt::Macro {
+            line,
+            name,
+            parameters,
+            body,
+        },
+        Opening::Block {
+            name,
+            scoped,
+            required,
+        } => Stmt::Block {
+            line,
+            name,
+            scoped,
+            required,
+            body,
+        },
     }
 }
 
@@ -200,7 +230,7 @@ fn names_end(opening: &Opening, tokens: &[Token<'_>]) -> bool
 {
     match (opening, tokens) {
         (_, []) => true,
-        (Opening::Block(name, _, _), [Token::Name(found)]) => is_name(found, name),
+        (Opening::Block { name, .. }, [Token::Name(found)]) => is_name(found, name),
         _ => false,
     }
 }
@@ -215,7 +245,7 @@ fn is_end_of(opening: &Opening, word: &str) -> bool
         Opening::Filters(_) => is_word(word, "endfilter"),
         Opening::Escaping(_) => is_word(word, "endautoescape"),
         Opening::Macro(_, _) => is_word(word, "endmacro"),
-        Opening::Block(_, _, _) => is_word(word, "endblock"),
+        Opening::Block { .. } => is_word(word, "endblock"),
     }
 }
 

@@ -24,7 +24,11 @@ pub enum Opening {
     /// `macro f(a)`
     Macro(String, Vec<Parameter>),
     /// `block b scoped required`
-    Block(String, bool, bool),
+    Block {
+        name: String,
+        scoped: bool,
+        required: bool,
+    },
 }
 
 /// What the first tag of a statement says.

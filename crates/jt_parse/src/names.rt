@@ -113,11 +113,11 @@ fn check_statement(statement: &Stmt) -> Result<(), ParseError>
 {
     match statement {
         Stmt::Data(_)
-        | Stmt::Include(_, _, _, _)
-        | Stmt::Import(_, _, _)
-        | Stmt::From(_, _, _)
+        | Stmt::Include { .. }
+        | Stmt::Import { .. }
+        | Stmt::From { .. }
         | Stmt::Extends(_, _) => Ok(()),
-        Stmt::Print(line, expr) | Stmt::Set(line, _, expr) => check_expression(*line, expr),
+        Stmt::Print(line, value) | Stmt::Set { line, value, .. } => check_expression(*line, value),
         Stmt::If(branches, other) => {
             for (line, condition, body) in branches {
                 check_expression(*line, condition)?;
@@ -125,22 +125,33 @@ fn check_statement(statement: &Stmt) -> Result<(), ParseError>
             }
             check_body(other)
         }
-        Stmt::For(line, _, over, condition, body, other) => {
+        Stmt::For {
+            line,
+            over,
+            condition,
+            body,
+            other,
+            ..
+        } => {
             check_loop(*line, over, condition)?;
             check_body(body)?;
             check_body(other)
         }
-        Stmt::With(line, values, body) => {
+        Stmt::With { line, values, body } => {
             check_values(*line, values)?;
             check_body(body)
         }
-        Stmt::FilterBlock(line, filters, body) => {
+        Stmt::FilterBlock {
+            line,
+            filters,
+            body,
+        } => {
             check_filters(*line, filters)?;
             check_body(body)
         }
-        Stmt::SetBlock(_, _, body)
-        | Stmt::Autoescape(_, _, body)
-        | Stmt::Macro(_, _, _, body)
-        | Stmt::Block(_, _, _, _, body) => check_body(body),
+        Stmt::SetBlock { body, .. }
+        | Stmt::Autoescape { body, .. }
+        | Stmt::Macro { body, .. }
+        | Stmt::Block { body, .. } => check_body(body),
     }
 }

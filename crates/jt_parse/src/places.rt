@@ -133,11 +133,11 @@ fn statement_placed(statement: &Stmt, place: Place, found: &mut u32) -> bool
     ensures { result ≡ spec.stmt_placed (place_view place) (stmt_view statement.now) }
 {
     match statement {
-        Stmt::Data(_) | Stmt::Set(_, _, _) => true,
-        Stmt::Print(line, _) | Stmt::Include(line, _, _, _) => {
+        Stmt::Data(_) | Stmt::Set { .. } => true,
+        Stmt::Print(line, _) | Stmt::Include { line, .. } => {
             answer(!is_child(place), *line, found)
         }
-        Stmt::Import(line, _, _) | Stmt::From(line, _, _) => answer(is_top(place), *line, found),
+        Stmt::Import { line, .. } | Stmt::From { line, .. } => answer(is_top(place), *line, found),
         Stmt::Extends(line, _) => answer(false, *line, found),
         Stmt::If(branches, other) => {
             if !answer(!is_child(place), first_line(branches), found) {
@@ -150,21 +150,31 @@ fn statement_placed(statement: &Stmt, place: Place, found: &mut u32) -> bool
             }
             body_placed(other, within(place), found)
         }
-        Stmt::For(line, _, _, _, body, other) => {
+        Stmt::For {
+            line,
+            body,
+            other,
+            ..
+        } => {
             answer(!is_child(place), *line, found)
                 && body_placed(body, within(place), found)
                 && body_placed(other, within(place), found)
         }
-        Stmt::SetBlock(_, _, body) => body_placed(body, within(place), found),
-        Stmt::With(line, _, body)
-        | Stmt::FilterBlock(line, _, body)
-        | Stmt::Autoescape(line, _, body) => {
+        Stmt::SetBlock { body, .. } => body_placed(body, within(place), found),
+        Stmt::With { line, body, .. }
+        | Stmt::FilterBlock { line, body, .. }
+        | Stmt::Autoescape { line, body, .. } => {
             answer(!is_child(place), *line, found) && body_placed(body, within(place), found)
         }
-        Stmt::Macro(line, _, _, body) => {
+        Stmt::Macro { line, body, .. } => {
             answer(is_top(place), *line, found) && body_placed(body, Place::InMacro, found)
         }
-        Stmt::Block(line, _, _, required, body) => {
+        Stmt::Block {
+            line,
+            required,
+            body,
+            ..
+        } => {
             answer(!is_macro(place), *line, found)
                 && answer(!*required || is_blank_body(body), *line, found)
                 && body_placed(body, within(place), found)

@@ -14,14 +14,14 @@ ghost use Rattle.jt_trees.specs.Statements.{condition_levels};
 ghost use Rattle.jt_parse.specs.Tags.{Separated, IsName, IsValue, IsFiltering, IsParameter, IsImported};
 ghost use Rattle.jt_parse.specs.Tags.{Parameters, Condition, Context, missing_words, defaults_last};
 ghost use Rattle.jt_parse.specs.Readers as readers;
-ghost use Rattle.jt_trees.specs.StatementView.{names_view, given_view, filtering_view, filterings_view, parameter_view, parameters_view};
+ghost use Rattle.jt_trees.specs.StatementView.{is_ignored, are_seen, names_view, given_view, filtering_view, filterings_view, parameter_view, parameters_view};
 ghost use Rattle.jt_parse.specs.HeadView.{value_view, values_view, imported_view};
 
 use crate::expression::is_word;
 use crate::heads::{Head, Loop, Opening};
 use jt_expr::{Cursor, ExprError, Form, Part, Parts, arguments, copy_of, literal_of, read};
 use jt_scan::{Sign, Token, text_value};
-use jt_trees::{Expr, Filtering, Literal, Parameter, Stmt};
+use jt_trees::{Expr, Filtering, Literal, Missing, NamesAround, Parameter, Stmt};
 use std::alloc::Global;
 
 /// Takes the word, which must stand in front.
@@ -248,32 +248,32 @@ fn text(alloc: Global, cursor: &mut Cursor<'_>) -> Result<String, ExprError>
     }
 }
 
-/// Whether `ignore missing` is said.
-fn missing(cursor: &mut Cursor<'_>) -> Result<bool, ExprError>
-    ensures { readers.ReadsFlat (λ b. b) (λ b x. x ≡ missing_words b)
+/// `ignore missing`, or nothing.
+fn missing(cursor: &mut Cursor<'_>) -> Result<Missing, ExprError>
+    ensures { readers.ReadsFlat is_ignored (λ b x. x ≡ missing_words b)
         (readers.NoWord (codes "ignore")) (ahead cursor.old) result (ahead cursor.new) }
 {
     if !cursor.eat_word("ignore") {
-        return Ok(false);
+        return Ok(Missing::Refused);
     }
     expect_word(cursor, "missing")?;
-    Ok(true)
+    Ok(Missing::Ignored)
 }
 
-/// Whether an included template sees the names around.
-fn context(cursor: &mut Cursor<'_>) -> Result<bool, ExprError>
-    ensures { readers.ReadsFlat (λ b. b) Context readers.NoToken
+/// `with context`, `without context`, or nothing.
+fn context(cursor: &mut Cursor<'_>) -> Result<NamesAround, ExprError>
+    ensures { readers.ReadsFlat are_seen Context readers.NoToken
         (ahead cursor.old) result (ahead cursor.new) }
 {
     if cursor.eat_word("with") {
         expect_word(cursor, "context")?;
-        return Ok(true);
+        return Ok(NamesAround::Seen);
     }
     if cursor.eat_word("without") {
         expect_word(cursor, "context")?;
-        return Ok(false);
+        return Ok(NamesAround::Hidden);
     }
-    Ok(true)
+    Ok(NamesAround::Seen)
 }
 
 /// `if c`
@@ -326,12 +326,16 @@ fn set_head(
     ensures { readers.ReadsHead line levels (codes "set")
         (ahead cursor.old) result (ahead cursor.new) }
 {
-    let names = targets(alloc, cursor)?;
+    let targets = targets(alloc, cursor)?;
     if !cursor.eat(Sign::Assign) {
-        return only_name(names);
+        return only_name(targets);
     }
     let value = expression(alloc, cursor, levels, Form::Whole)?;
-    Ok(Head::Statement(Stmt::Set(line, names, value)))
+    Ok(Head::Statement(Stmt::Set {
+        line,
+        targets,
+        value,
+    }))
 }
 
 /// `with a = e, b = f`
@@ -387,8 +391,13 @@ fn include_head(alloc: Global, cursor: &mut Cursor<'_>, line: u32) -> Result<Hea
 {
     let name = text(alloc, cursor)?;
     let missing = missing(cursor)?;
-    let context = context(cursor)?;
-    Ok(Head::Statement(Stmt::Include(line, name, missing, context)))
+    let names = context(cursor)?;
+    Ok(Head::Statement(Stmt::Include {
+        line,
+        name,
+        missing,
+        names,
+    }))
 }
 
 /// The name behind `as`, if one is given.
@@ -463,11 +472,15 @@ fn import_head(alloc: Global, cursor: &mut Cursor<'_>, line: u32) -> Result<Head
     ensures { (limit : ℕ) → readers.ReadsHead line limit (codes "import")
         (ahead cursor.old) result (ahead cursor.new) }
 {
-    let name = text(alloc, cursor)?;
+    let library = text(alloc, cursor)?;
     expect_word(cursor, "as")?;
-    let given = target(alloc, cursor)?;
+    let name = target(alloc, cursor)?;
     let _said = without(cursor)?;
-    Ok(Head::Statement(Stmt::Import(line, name, given)))
+    Ok(Head::Statement(Stmt::Import {
+        line,
+        library,
+        name,
+    }))
 }
 
 /// `from "x" import a, b as c without context`
@@ -475,11 +488,15 @@ fn from_head(alloc: Global, cursor: &mut Cursor<'_>, line: u32) -> Result<Head, 
     ensures { (limit : ℕ) → readers.ReadsHead line limit (codes "from")
         (ahead cursor.old) result (ahead cursor.new) }
 {
-    let name = text(alloc, cursor)?;
+    let library = text(alloc, cursor)?;
     expect_word(cursor, "import")?;
-    let found = imported_row(alloc, cursor)?;
+    let macros = imported_row(alloc, cursor)?;
     let _said = without(cursor)?;
-    Ok(Head::Statement(Stmt::From(line, name, found)))
+    Ok(Head::Statement(Stmt::From {
+        line,
+        library,
+        macros,
+    }))
 }
 
 /// `extends "x"`
@@ -499,7 +516,11 @@ fn block_head(alloc: Global, cursor: &mut Cursor<'_>) -> Result<Head, ExprError>
     let name = target(alloc, cursor)?;
     let scoped = cursor.eat_word("scoped");
     let required = cursor.eat_word("required");
-    Ok(Head::Opening(Opening::Block(name, scoped, required)))
+    Ok(Head::Opening(Opening::Block {
+        name,
+        scoped,
+        required,
+    }))
 }
 
 /// A statement's first tag, by its first word.

@@ -51,7 +51,7 @@ pub enum Maker {
     /// Whether a test holds.
     Test(TestId),
     /// What a filter gives, and whether escaping is on.
-    Filter(FilterId, bool),
+    Filter { filter: FilterId, escaping: bool },
     /// The list of the values.
     List,
     /// The map of keys and values in turn.
@@ -76,10 +76,18 @@ pub enum SExpr {
     Conjunction(Box<SExpr>, Box<SExpr>),
     /// The first if it is true, else the second.
     Disjunction(Box<SExpr>, Box<SExpr>),
-    /// The second if the first is true, else the third.
-    Choice(Box<SExpr>, Box<SExpr>, Box<SExpr>),
-    /// The text of a routine on a row of arguments: markup with true, else a plain text.
-    Invoke(usize, bool, Vec<(Option<usize>, SExpr)>),
+    /// The value if the condition is true, else the other one.
+    Choice {
+        condition: Box<SExpr>,
+        value: Box<SExpr>,
+        other: Box<SExpr>,
+    },
+    /// The text of a routine on a row of arguments: markup while escaping, else a plain text.
+    Invoke {
+        routine: usize,
+        escaping: bool,
+        row: Vec<(Option<usize>, SExpr)>,
+    },
 }
 
 /// What takes a value.
@@ -97,16 +105,35 @@ pub enum SStmt {
     /// The plain text at a place of the pool, as it is.
     PutPooled(usize),
     /// What an expression prints, and whether it is escaped.
-    Print(Place, bool, SExpr),
+    Print {
+        place: Place,
+        escaping: bool,
+        value: SExpr,
+    },
     /// A value into what takes it.
-    Assign(Place, Targets, SExpr),
+    Assign {
+        place: Place,
+        targets: Targets,
+        value: SExpr,
+    },
     /// The branches, each with the place of its tag, its condition and statements, and the else part.
     If(Vec<(Place, SExpr, Vec<SStmt>)>, Vec<SStmt>),
     /// What takes the items, what is gone over, the condition, the statements of a turn, and the
     /// else part.
-    For(Place, Targets, SExpr, Option<SExpr>, Vec<SStmt>, Vec<SStmt>),
-    /// The text of statements into a slot: markup with true, else a plain text.
-    Capture(bool, Slot, Vec<SStmt>),
+    For {
+        place: Place,
+        targets: Targets,
+        over: SExpr,
+        condition: Option<SExpr>,
+        body: Vec<SStmt>,
+        other: Vec<SStmt>,
+    },
+    /// The text of statements into a slot: markup while escaping, else a plain text.
+    Capture {
+        escaping: bool,
+        slot: Slot,
+        body: Vec<SStmt>,
+    },
     /// What a routine prints on a row of arguments.
     Run(usize, Vec<(Option<usize>, SExpr)>),
 }

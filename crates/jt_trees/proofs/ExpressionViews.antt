@@ -1,11 +1,12 @@
 -- What each form of expression is seen as.
-use Rattle.std.proofs.Common.{◌≡◌, List, [], ◌∷◌, map, refl, sym, ap, ◌∙◌, Bool, Vec, Box, String, Global, string_bytes}
+use Rattle.std.proofs.Common.{◌≡◌, List, [], ◌∷◌, map, refl, sym, ap, ◌∙◌, Vec, Box, String, Global, string_bytes}
 use Rattle.jt_trees.specs.Expressions as trees
 use Rattle.jt_trees.specs.Expressions.{pair}
-use Rattle.jt_trees.specs.ExpressionView.{pairs_of, expr_step, expr_view, exprs_view, pairs_view, literal_view}
+use Rattle.jt_trees.specs.ExpressionView.{pairs_of, is_negated, expr_step, expr_view, exprs_view, pairs_view, literal_view}
 use Rattle.jt_trees.specs.declared.expression.Literal.{Literal}
 use Rattle.jt_trees.specs.declared.expression.UnaryOperator.{UnaryOperator}
 use Rattle.jt_trees.specs.declared.expression.BinaryOperator.{BinaryOperator}
+use Rattle.jt_trees.specs.declared.expression.Polarity.{Polarity}
 use Rattle.jt_trees.specs.declared.expression.Expr.{Expr, fold-roll-Expr}
 use Rattle.jt_trees.specs.declared.expression.Expr.TheOpen.{Expr-F}
 use Rattle.jt_trees.specs.declared.expression.Expr.TheVariants as e
@@ -54,10 +55,10 @@ view_Filter a x ts ps =
     ap expr_view (sym (rolls-Filter a x ts ps)) ∙ fold-roll-Expr trees.Expr expr_step (Expr-F.Filter a x ts ps)
     ∙ ap (trees.filter (expr_view a.value) (string_bytes x) (exprs_view ts.items)) (pairs-map _ (λ p. refl) (λ p. refl) ps.items)
 
-pub view_Test : (a : Box Expr Global) (n : Bool) (x : String Global) (ts : Vec Expr Global) (ps : Vec Entry Global) → expr_view (e.Test a n x ts ps) ≡ trees.test (expr_view a.value) n (string_bytes x) (exprs_view ts.items) (pairs_view ps.items)
+pub view_Test : (a : Box Expr Global) (n : Polarity) (x : String Global) (ts : Vec Expr Global) (ps : Vec Entry Global) → expr_view (e.Test a n x ts ps) ≡ trees.test (expr_view a.value) (is_negated n) (string_bytes x) (exprs_view ts.items) (pairs_view ps.items)
 view_Test a n x ts ps =
     ap expr_view (sym (rolls-Test a n x ts ps)) ∙ fold-roll-Expr trees.Expr expr_step (Expr-F.Test a n x ts ps)
-    ∙ ap (trees.test (expr_view a.value) n (string_bytes x) (exprs_view ts.items)) (pairs-map _ (λ p. refl) (λ p. refl) ps.items)
+    ∙ ap (trees.test (expr_view a.value) (is_negated n) (string_bytes x) (exprs_view ts.items)) (pairs-map _ (λ p. refl) (λ p. refl) ps.items)
 
 pub view_Unary : (op : UnaryOperator) (a : Box Expr Global) → expr_view (e.Unary op a) ≡ trees.unary op (expr_view a.value)
 view_Unary op a = ap expr_view (sym (rolls-Unary op a)) ∙ fold-roll-Expr trees.Expr expr_step (Expr-F.Unary op a)
@@ -87,11 +88,11 @@ shown_choice x a b c p q r is f g h =
     ap (λ z. trees.choice (expr_view z) (expr_view b) (expr_view c)) f ∙ ap (λ z. trees.choice (expr_view p.value) (expr_view z) (expr_view c)) g
     ∙ ap (λ z. trees.choice (expr_view p.value) (expr_view q.value) (expr_view z)) h ∙ sym (ap expr_view is ∙ view_Choice p q r)
 
-pub shown_test : (x a : Expr) (n : Bool) (k : String Global) (us : List Expr) (qs : List Entry) (p : Box Expr Global) (ts : Vec Expr Global) (ps : Vec Entry Global)
-    → x ≡ e.Test p n k ts ps → a ≡ p.value → us ≡ ts.items → qs ≡ ps.items → trees.test (expr_view a) n (string_bytes k) (exprs_view us) (pairs_view qs) ≡ expr_view x
+pub shown_test : (x a : Expr) (n : Polarity) (k : String Global) (us : List Expr) (qs : List Entry) (p : Box Expr Global) (ts : Vec Expr Global) (ps : Vec Entry Global)
+    → x ≡ e.Test p n k ts ps → a ≡ p.value → us ≡ ts.items → qs ≡ ps.items → trees.test (expr_view a) (is_negated n) (string_bytes k) (exprs_view us) (pairs_view qs) ≡ expr_view x
 shown_test x a n k us qs p ts ps is f g h =
-    ap (λ z. trees.test (expr_view z) n (string_bytes k) (exprs_view us) (pairs_view qs)) f ∙ ap (λ z. trees.test (expr_view p.value) n (string_bytes k) (exprs_view z) (pairs_view qs)) g
-    ∙ ap (λ z. trees.test (expr_view p.value) n (string_bytes k) (exprs_view ts.items) (pairs_view z)) h ∙ sym (ap expr_view is ∙ view_Test p n k ts ps)
+    ap (λ z. trees.test (expr_view z) (is_negated n) (string_bytes k) (exprs_view us) (pairs_view qs)) f ∙ ap (λ z. trees.test (expr_view p.value) (is_negated n) (string_bytes k) (exprs_view z) (pairs_view qs)) g
+    ∙ ap (λ z. trees.test (expr_view p.value) (is_negated n) (string_bytes k) (exprs_view ts.items) (pairs_view z)) h ∙ sym (ap expr_view is ∙ view_Test p n k ts ps)
 
 pub shown_call : (x f : Expr) (us : List Expr) (qs : List Entry) (p : Box Expr Global) (ts : Vec Expr Global) (ps : Vec Entry Global)
     → x ≡ e.Call p ts ps → f ≡ p.value → us ≡ ts.items → qs ≡ ps.items → trees.call (expr_view f) (exprs_view us) (pairs_view qs) ≡ expr_view x

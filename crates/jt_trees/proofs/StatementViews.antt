@@ -4,10 +4,12 @@ use Rattle.std.specs.Prelude.{option_map}
 use Rattle.jt_trees.specs.Expressions.{Text}
 use Rattle.jt_trees.specs.ExpressionView.{expr_view, pairs_view}
 use Rattle.jt_trees.specs.Statements as trees
-use Rattle.jt_trees.specs.StatementView.{names_view, given_view, filterings_view, parameters_view, stmts_of, branches_of, stmt_step, stmt_view, body_view, branches_view}
+use Rattle.jt_trees.specs.StatementView.{names_view, given_view, filterings_view, parameters_view, is_ignored, are_seen, stmts_of, branches_of, stmt_step, stmt_view, body_view, branches_view}
 use Rattle.jt_trees.specs.declared.expression.Expr.{Expr}
 use Rattle.jt_trees.specs.declared.statement.Filtering.{Filtering}
 use Rattle.jt_trees.specs.declared.statement.Parameter.{Parameter}
+use Rattle.jt_trees.specs.declared.statement.Missing.{Missing}
+use Rattle.jt_trees.specs.declared.statement.NamesAround.{NamesAround}
 use Rattle.jt_trees.specs.declared.statement.Stmt.{Stmt, fold-roll-Stmt}
 use Rattle.jt_trees.specs.declared.statement.Stmt.TheOpen.{Stmt-F}
 use Rattle.jt_trees.specs.declared.statement.Stmt.TheVariants as v
@@ -57,8 +59,8 @@ view_Autoescape line on body = ap stmt_view (sym (rolls-Autoescape line on body)
 pub view_Macro : (line : ℕ) (x : String Global) (ps : Vec Parameter Global) (body : Vec Stmt Global) → stmt_view (v.Macro line x ps body) ≡ trees.macro line (string_bytes x) (parameters_view ps.items) (body_view body.items)
 view_Macro line x ps body = ap stmt_view (sym (rolls-Macro line x ps body)) ∙ fold-roll-Stmt trees.Stmt stmt_step (Stmt-F.Macro line x ps body)
 
-pub view_Include : (line : ℕ) (n : String Global) (missing context : Bool) → stmt_view (v.Include line n missing context) ≡ trees.include line (string_bytes n) missing context
-view_Include line n missing context = ap stmt_view (sym (rolls-Include line n missing context)) ∙ fold-roll-Stmt trees.Stmt stmt_step (Stmt-F.Include line n missing context)
+pub view_Include : (line : ℕ) (n : String Global) (m : Missing) (a : NamesAround) → stmt_view (v.Include line n m a) ≡ trees.include line (string_bytes n) (is_ignored m) (are_seen a)
+view_Include line n m a = ap stmt_view (sym (rolls-Include line n m a)) ∙ fold-roll-Stmt trees.Stmt stmt_step (Stmt-F.Include line n m a)
 
 pub view_Import : (line : ℕ) (n x : String Global) → stmt_view (v.Import line n x) ≡ trees.import_as line (string_bytes n) (string_bytes x)
 view_Import line n x = ap stmt_view (sym (rolls-Import line n x)) ∙ fold-roll-Stmt trees.Stmt stmt_step (Stmt-F.Import line n x)

@@ -1,5 +1,5 @@
 -- What contracts see of trees: statements and branches, and not where they lie in memory.
-use Rattle.std.specs.Prelude.{ℕ, List, [], ◌∷◌, map, string_bytes, Vec, String, option_map}
+use Rattle.std.specs.Prelude.{ℕ, Bool, true, false, List, [], ◌∷◌, map, string_bytes, Vec, String, option_map}
 use Rattle.std.specs.declared.alloc.Global.{Global}
 use Rattle.jt_trees.specs.Statements as trees
 use Rattle.jt_trees.specs.Expressions.{Text}
@@ -8,6 +8,10 @@ use Rattle.jt_trees.specs.declared.expression.Expr.{Expr}
 use Rattle.jt_trees.specs.ExpressionView.{expr_view, exprs_view, pairs_view, literal_view}
 use Rattle.jt_trees.specs.declared.statement.Filtering.{Filtering}
 use Rattle.jt_trees.specs.declared.statement.Parameter.{Parameter}
+use Rattle.jt_trees.specs.declared.statement.Missing.{Missing}
+use Rattle.jt_trees.specs.declared.statement.Missing.TheVariants as missing
+use Rattle.jt_trees.specs.declared.statement.NamesAround.{NamesAround}
+use Rattle.jt_trees.specs.declared.statement.NamesAround.TheVariants as around
 use Rattle.jt_trees.specs.declared.statement.Stmt.{Stmt, fold-Stmt}
 use Rattle.jt_trees.specs.declared.statement.Stmt.TheOpen.{Stmt-F}
 use Rattle.jt_trees.specs.declared.statement.Template.{Template}
@@ -38,6 +42,14 @@ parameter_view p = record { name = string_bytes p.name; default = option_map lit
 abbrev pub parameters_view : List Parameter → List trees.Parameter
 parameters_view = map parameter_view
 
+abbrev pub is_ignored : Missing → Bool
+is_ignored missing.Refused = false
+is_ignored missing.Ignored = true
+
+abbrev pub are_seen : NamesAround → Bool
+are_seen around.Seen = true
+are_seen around.Hidden = false
+
 -- one statement, with each statement inside already seen as its tree
 abbrev pub stmt_step : Stmt-F trees.Stmt → trees.Stmt
 stmt_step (Stmt-F.Data s) = trees.data_of (string_bytes s)
@@ -50,7 +62,7 @@ stmt_step (Stmt-F.With line ps body) = trees.with_values line (pairs_view ps.ite
 stmt_step (Stmt-F.FilterBlock line fs body) = trees.filter_block line (filterings_view fs.items) (stmts_of body.items)
 stmt_step (Stmt-F.Autoescape line on body) = trees.autoescape line on (stmts_of body.items)
 stmt_step (Stmt-F.Macro line x ps body) = trees.macro line (string_bytes x) (parameters_view ps.items) (stmts_of body.items)
-stmt_step (Stmt-F.Include line n missing context) = trees.include line (string_bytes n) missing context
+stmt_step (Stmt-F.Include line n m a) = trees.include line (string_bytes n) (is_ignored m) (are_seen a)
 stmt_step (Stmt-F.Import line n x) = trees.import_as line (string_bytes n) (string_bytes x)
 stmt_step (Stmt-F.From line n xs) = trees.import_from line (string_bytes n) (given_view xs.items)
 stmt_step (Stmt-F.Extends line n) = trees.extends line (string_bytes n)

@@ -1,5 +1,8 @@
 //! The trees of expressions, as they are written: no name is looked up yet.
 
+ghost use Rattle.std.specs.Prelude.{◌≡◌};
+ghost use Rattle.jt_trees.specs.ExpressionView.{is_negated};
+
 /// An operator in front of its operand.
 #[derive(Clone, Copy, Debug, PartialEq, Eq)]
 pub enum UnaryOperator {
@@ -50,6 +53,24 @@ pub enum BinaryOperator {
     Power,
 }
 
+/// Whether a test is to hold.
+#[derive(Clone, Copy, Debug, PartialEq, Eq)]
+pub enum Polarity {
+    /// `is`
+    Is,
+    /// `is not`
+    IsNot,
+}
+
+impl Polarity {
+    /// Whether the test is not to hold.
+    pub fn is_negated(self) -> bool
+        ensures { result ≡ is_negated self }
+    {
+        matches!(self, Polarity::IsNot)
+    }
+}
+
 /// What stands for itself.
 #[derive(Drop)]
 pub enum Literal {
@@ -81,17 +102,43 @@ pub enum Expr {
     /// `a[b]`
     Item(Box<Expr>, Box<Expr>),
     /// `a(b, k=c)`
-    Call(Box<Expr>, Vec<Expr>, Vec<(String, Expr)>),
+    Call {
+        callee: Box<Expr>,
+        arguments: Vec<Expr>,
+        keywords: Vec<(String, Expr)>,
+    },
     /// `a|f(b, k=c)`
-    Filter(Box<Expr>, String, Vec<Expr>, Vec<(String, Expr)>),
-    /// `a is t(b, k=c)`, or with true `a is not t(b, k=c)`
-    Test(Box<Expr>, bool, String, Vec<Expr>, Vec<(String, Expr)>),
+    Filter {
+        input: Box<Expr>,
+        name: String,
+        arguments: Vec<Expr>,
+        keywords: Vec<(String, Expr)>,
+    },
+    /// `a is t(b, k=c)`, or `a is not t(b, k=c)`
+    Test {
+        value: Box<Expr>,
+        polarity: Polarity,
+        name: String,
+        arguments: Vec<Expr>,
+        keywords: Vec<(String, Expr)>,
+    },
     /// An operator and its operand.
     Unary(UnaryOperator, Box<Expr>),
     /// An operator and its operands.
-    Binary(BinaryOperator, Box<Expr>, Box<Expr>),
-    /// `a if c`: the condition first
-    When(Box<Expr>, Box<Expr>),
-    /// `a if c else b`: the condition first
-    Choice(Box<Expr>, Box<Expr>, Box<Expr>),
+    Binary {
+        operator: BinaryOperator,
+        left: Box<Expr>,
+        right: Box<Expr>,
+    },
+    /// `a if c`
+    When {
+        condition: Box<Expr>,
+        value: Box<Expr>,
+    },
+    /// `a if c else b`
+    Choice {
+        condition: Box<Expr>,
+        value: Box<Expr>,
+        other: Box<Expr>,
+    },
 }

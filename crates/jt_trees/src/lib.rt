@@ -8,6 +8,6 @@ mod expression;
 mod statement;
 mod written;
 
-pub use expression::{BinaryOperator, Expr, Literal, UnaryOperator};
-pub use statement::{Filtering, Parameter, Stmt, Template};
+pub use expression::{BinaryOperator, Expr, Literal, Polarity, UnaryOperator};
+pub use statement::{Filtering, Missing, NamesAround, Parameter, Stmt, Template};
 pub use written::{filter_of, literal_text};

@@ -1,7 +1,7 @@
 //! The trees of templates, as they are written: no name is looked up yet.
 
 ghost use Rattle.std.specs.Prelude.{◌≡◌};
-ghost use Rattle.jt_trees.specs.StatementView.{body_view, body_of};
+ghost use Rattle.jt_trees.specs.StatementView.{is_ignored, are_seen, body_view, body_of};
 
 use crate::expression::{Expr, Literal};
 
@@ -21,6 +21,42 @@ pub struct Parameter {
     pub default: Option<Literal>,
 }
 
+/// What an include gives where no source has the name.
+#[derive(Clone, Copy, Debug, PartialEq, Eq)]
+pub enum Missing {
+    /// The template is refused.
+    Refused,
+    /// Nothing: `ignore missing`.
+    Ignored,
+}
+
+impl Missing {
+    /// Whether the include gives nothing then.
+    pub fn is_ignored(self) -> bool
+        ensures { result ≡ is_ignored self }
+    {
+        matches!(self, Missing::Ignored)
+    }
+}
+
+/// Whether an included template sees the names around its tag.
+#[derive(Clone, Copy, Debug, PartialEq, Eq)]
+pub enum NamesAround {
+    /// `with context`, and where the tag says neither.
+    Seen,
+    /// `without context`
+    Hidden,
+}
+
+impl NamesAround {
+    /// Whether the template sees them.
+    pub fn are_seen(self) -> bool
+        ensures { result ≡ are_seen self }
+    {
+        matches!(self, NamesAround::Seen)
+    }
+}
+
 /// A statement. The first number is the line of its tag.
 #[derive(Drop)]
 pub enum Stmt {
@@ -32,32 +68,81 @@ pub enum Stmt {
     /// else part.
     If(Vec<(u32, Expr, Vec<Stmt>)>, Vec<Stmt>),
     /// `{% for a, b in e if c %}`, what is inside, and the else part.
-    For(u32, Vec<String>, Expr, Option<Expr>, Vec<Stmt>, Vec<Stmt>),
+    For {
+        line: u32,
+        targets: Vec<String>,
+        over: Expr,
+        condition: Option<Expr>,
+        body: Vec<Stmt>,
+        other: Vec<Stmt>,
+    },
     /// `{% set a, b = e %}`
-    Set(u32, Vec<String>, Expr),
+    Set {
+        line: u32,
+        targets: Vec<String>,
+        value: Expr,
+    },
     /// `{% set a %} .. {% endset %}`
-    SetBlock(u32, String, Vec<Stmt>),
+    SetBlock {
+        line: u32,
+        name: String,
+        body: Vec<Stmt>,
+    },
     /// `{% with a = e, b = f %} .. {% endwith %}`
-    With(u32, Vec<(String, Expr)>, Vec<Stmt>),
+    With {
+        line: u32,
+        values: Vec<(String, Expr)>,
+        body: Vec<Stmt>,
+    },
     /// `{% filter f(a)|g %} .. {% endfilter %}`
-    FilterBlock(u32, Vec<Filtering>, Vec<Stmt>),
+    FilterBlock {
+        line: u32,
+        filters: Vec<Filtering>,
+        body: Vec<Stmt>,
+    },
     /// `{% autoescape true %} .. {% endautoescape %}`
-    Autoescape(u32, bool, Vec<Stmt>),
+    Autoescape {
+        line: u32,
+        escaping: bool,
+        body: Vec<Stmt>,
+    },
     /// `{% macro f(a, b=1) %} .. {% endmacro %}`
-    Macro(u32, String, Vec<Parameter>, Vec<Stmt>),
-    /// `{% include "x" %}`: the name, whether it may be missing, and whether the template sees the
-    /// names around.
-    Include(u32, String, bool, bool),
+    Macro {
+        line: u32,
+        name: String,
+        parameters: Vec<Parameter>,
+        body: Vec<Stmt>,
+    },
+    /// `{% include "x" ignore missing without context %}`
+    Include {
+        line: u32,
+        name: String,
+        missing: Missing,
+        names: NamesAround,
+    },
     /// `{% import "x" as f %}`: the library's name, and the name that is given to it.
-    Import(u32, String, String),
+    Import {
+        line: u32,
+        library: String,
+        name: String,
+    },
     /// `{% from "x" import a, b as c %}`: the library's name, and the names of its macros, each
     /// with the name that is given to it.
-    From(u32, String, Vec<(String, String)>),
+    From {
+        line: u32,
+        library: String,
+        macros: Vec<(String, String)>,
+    },
     /// `{% extends "x" %}`
     Extends(u32, String),
-    /// `{% block b scoped required %} .. {% endblock %}`: the name, whether it is scoped, and
-    /// whether it is required.
-    Block(u32, String, bool, bool, Vec<Stmt>),
+    /// `{% block b scoped required %} .. {% endblock %}`
+    Block {
+        line: u32,
+        name: String,
+        scoped: bool,
+        required: bool,
+        body: Vec<Stmt>,
+    },
 }
 
 /// A template.

@@ -1,4 +1,4 @@
-use Rattle.std.proofs.Common.{◌≡◌, ℕ, ◌+◌, Bool, List, [], length, drop, refl, sym, ap, ◌∙◌, subst, arith, add-one, Option, Some, None, if◌then◌else◌}
+use Rattle.std.proofs.Common.{◌≡◌, ℕ, ◌+◌, Bool, List, [], length, drop, refl, sym, ap, ◌∙◌, subst, arith, add-one, Option, Some, None, if◌then◌else◌, string_bytes}
 use Rattle.std.specs.Prelude.{option_map}
 use Rattle.std.proofs.lemmas.List.{at_drop_all}
 use Rattle.std.proofs.lemmas.Result.{IfOk-weaker}
@@ -156,10 +156,11 @@ resolve_expression-returns-in-Test t c =
     let a = c.deref-in-Test.result.now in
     let k = c.deref-in-Test-2.result.now in
     let us = c.deref-in-Test-3.result.now in
-    let qs = c.in-Test.field-4.items in
+    let qs = c.in-Test.keywords.items in
     IfOk-weaker c.resolve_test.result _ _ (λ e h. same_tree c.args.scope.now c.args.spot.now _ _ (coded e) _ _
-    (ap (λ x. trees.test (expr_view a) c.in-Test.negated x (exprs_view us) (pairs_view qs)) c.deref-in-Test-2.ensures
-    ∙ shown_test c.args.expr.now a c.in-Test.negated c.in-Test.name us qs c.in-Test.value c.in-Test.row c.in-Test.field-4 c.in-Test.is c.deref-in-Test.ensures c.deref-in-Test-3.ensures.value refl) (h (pairs_view qs))) c.resolve_test.ensures
+    (ap (λ x. trees.test (expr_view a) c.is_negated.result x (exprs_view us) (pairs_view qs)) c.deref-in-Test-2.ensures
+    ∙ ap (λ n. trees.test (expr_view a) n (string_bytes c.in-Test.name) (exprs_view us) (pairs_view qs)) c.is_negated.ensures
+    ∙ shown_test c.args.expr.now a c.in-Test.polarity c.in-Test.name us qs c.in-Test.value c.in-Test.row c.in-Test.keywords c.in-Test.is c.deref-in-Test.ensures c.deref-in-Test-3.ensures.value refl) (h (pairs_view qs))) c.resolve_test.ensures
 
 pub resolve_expression-returns-in_ok-value-in-Unary : goal.resolve_expression-returns-in_ok-value-in-Unary
 resolve_expression-returns-in_ok-value-in-Unary t c =
@@ -408,4 +409,4 @@ pub resolve_expression-resolve_test-requires : goal.resolve_expression-resolve_t
 resolve_expression-resolve_test-requires t c =
     let a = c.deref-in-Test.result.now in
     let us = c.deref-in-Test-3.result.now in
-    (omega (arith, test_depth c.args.expr.now a us c.in-Test.value c.in-Test.negated c.in-Test.name c.in-Test.row c.in-Test.field-4 c.in-Test.is c.deref-in-Test.ensures c.deref-in-Test-3.ensures.value), c.requires)
+    (omega (arith, test_depth c.args.expr.now a us c.in-Test.value c.in-Test.polarity c.in-Test.name c.in-Test.row c.in-Test.keywords c.in-Test.is c.deref-in-Test.ensures c.deref-in-Test-3.ensures.value), c.requires)

@@ -19,5 +19,5 @@ expr_locals-returns-in-Made t c =
 
 pub expr_locals-returns-in-Invoke : goal.expr_locals-returns-in-Invoke
 expr_locals-returns-in-Invoke t c =
-    IfOk-weaker c.row_locals-in-Invoke.result _ _ (λ n h. h ∙ ap (λ l. row_locals (row_view l none)) c.deref-in-Invoke.ensures.value ∙ sym (ap expr_locals (ap expr_view c.in-Invoke.is ∙ view_Invoke c.in-Invoke.field-0 c.in-Invoke.field-1 c.in-Invoke.row)))
+    IfOk-weaker c.row_locals-in-Invoke.result _ _ (λ n h. h ∙ ap (λ l. row_locals (row_view l none)) c.deref-in-Invoke.ensures.value ∙ sym (ap expr_locals (ap expr_view c.in-Invoke.is ∙ view_Invoke c.in-Invoke.routine c.in-Invoke.escaping c.in-Invoke.row)))
     c.row_locals-in-Invoke.ensures

@@ -38,7 +38,7 @@ stmt_locals-returns-in_ok-last-in-For t c = λ ts behind.
     let m = c.in_ok-taken-in-For.taken in
     let n = c.in_ok-given-in-For.given in
     let k = c.in_ok-asked-in-For.asked in
-    loop_counted ts c.args.statement.now behind c.in-For.field-0 c.in-For.targets c.in-For.items c.in-For.condition c.in-For.body c.in-For.other m n k c.in_ok-turn-in-For.turn c.in_ok-last-in-For.last c.larger-in-For-4.result c.in-For.is
+    loop_counted ts c.args.statement.now behind c.in-For.place c.in-For.targets c.in-For.items c.in-For.condition c.in-For.body c.in-For.other m n k c.in_ok-turn-in-For.turn c.in_ok-last-in-For.last c.larger-in-For-4.result c.in-For.is
     c.in_ok-taken-in-For.ensures c.in_ok-given-in-For.ensures c.in_ok-asked-in-For.ensures
     (λ b. sym (ap (λ (z : List SStmt). body_locals (body_view ts z b)) c.deref-in-For.ensures.value) ∙ c.in_ok-turn-in-For.ensures ts b)
     (λ b. sym (ap (λ (z : List SStmt). body_locals (body_view ts z b)) c.deref-in-For-2.ensures.value) ∙ c.in_ok-last-in-For.ensures ts b)
@@ -46,5 +46,5 @@ stmt_locals-returns-in_ok-last-in-For t c = λ ts behind.
 
 pub stmt_locals-returns-in_ok-body_locals-in-Capture : goal.stmt_locals-returns-in_ok-body_locals-in-Capture
 stmt_locals-returns-in_ok-body_locals-in-Capture t c = λ ts behind.
-    capture_counted ts c.args.statement.now behind c.in-Capture.field-0 c.in-Capture.slot c.in-Capture.body c.in_ok-kept-in-Capture.kept c.in_ok-body_locals-in-Capture.field-0 c.larger-in-Capture.result c.in-Capture.is
+    capture_counted ts c.args.statement.now behind c.in-Capture.escaping c.in-Capture.slot c.in-Capture.body c.in_ok-kept-in-Capture.kept c.in_ok-body_locals-in-Capture.field-0 c.larger-in-Capture.result c.in-Capture.is
     c.in_ok-kept-in-Capture.ensures (λ b. sym (ap (λ (z : List SStmt). body_locals (body_view ts z b)) c.deref-in-Capture.ensures.value) ∙ c.in_ok-body_locals-in-Capture.ensures ts b) c.larger-in-Capture.ensures

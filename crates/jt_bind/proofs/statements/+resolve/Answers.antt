@@ -4,7 +4,7 @@ use Rattle.std.proofs.lemmas.List.{at_drop_all}
 use Rattle.std.proofs.lemmas.Result.{IfOk-weaker}
 use Rattle.jt_trees.specs.ExpressionView.{expr_view, pairs_view}
 use Rattle.jt_trees.specs.Statements as trees
-use Rattle.jt_trees.specs.StatementView.{names_view, filterings_view, stmt_view, body_view, branches_view}
+use Rattle.jt_trees.specs.StatementView.{is_ignored, names_view, filterings_view, stmt_view, body_view, branches_view}
 use Rattle.jt_trees.specs.declared.statement.Stmt.{Stmt}
 use Rattle.jt_resolved.specs.Slots as slots
 use Rattle.jt_meaning.specs.Resolve.{followed, alone, bound_all, resolved_filters}
@@ -181,8 +181,8 @@ resolve_statement-returns-in-SetBlock t c =
     let v = c.in-SetBlock in
     let us = c.deref-in-SetBlock.result.now in
     IfOk-weaker c.resolve_set_block.result _ _ (λ u h. stmt_as c.args.scope.now c.args.spot.now _ _ _ _ _ _
-    (ap (λ z. trees.set_block v.field-0 z (body_view us)) c.deref-in-SetBlock-2.ensures ∙ ap (λ z. trees.set_block v.field-0 (string_bytes v.name) (body_view z)) c.deref-in-SetBlock.ensures.value
-    ∙ sym (ap stmt_view v.is ∙ view_SetBlock v.field-0 v.name v.body)) (h v.field-0)) c.resolve_set_block.ensures
+    (ap (λ z. trees.set_block v.line z (body_view us)) c.deref-in-SetBlock-2.ensures ∙ ap (λ z. trees.set_block v.line (string_bytes v.name) (body_view z)) c.deref-in-SetBlock.ensures.value
+    ∙ sym (ap stmt_view v.is ∙ view_SetBlock v.line v.name v.body)) (h v.line)) c.resolve_set_block.ensures
 
 pub resolve_statement-returns-in-With : goal.resolve_statement-returns-in-With
 resolve_statement-returns-in-With t c =
@@ -203,22 +203,22 @@ pub resolve_statement-returns-in-Autoescape : goal.resolve_statement-returns-in-
 resolve_statement-returns-in-Autoescape t c =
     let v = c.in-Autoescape in
     IfOk-weaker c.resolve_escaping.result _ _ (λ u h. stmt_as c.args.scope.now c.args.spot.now _ _ _ _ _ _
-    (ap (λ z. trees.autoescape v.field-0 v.escaping (body_view z)) c.deref-in-Autoescape.ensures.value ∙ sym (ap stmt_view v.is ∙ view_Autoescape v.field-0 v.escaping v.body)) (h v.field-0)) c.resolve_escaping.ensures
+    (ap (λ z. trees.autoescape v.line v.escaping (body_view z)) c.deref-in-Autoescape.ensures.value ∙ sym (ap stmt_view v.is ∙ view_Autoescape v.line v.escaping v.body)) (h v.line)) c.resolve_escaping.ensures
 
 pub resolve_statement-returns-in-Macro : goal.resolve_statement-returns-in-Macro
 resolve_statement-returns-in-Macro t c = λ left.
     let T = templates_in c.args.scope.now in
-    lead_of T left _ left _ _ _ _ (sym (ap (λ z. followed (stmt_in c.args.scope.now z c.args.spot.now) left) (ap stmt_view c.in-Macro.is ∙ view_Macro c.in-Macro.field-0 c.in-Macro.field-1 c.in-Macro.field-2 c.in-Macro.field-3))) (lead_same T left _ _)
+    lead_of T left _ left _ _ _ _ (sym (ap (λ z. followed (stmt_in c.args.scope.now z c.args.spot.now) left) (ap stmt_view c.in-Macro.is ∙ view_Macro c.in-Macro.line c.in-Macro.name c.in-Macro.parameters c.in-Macro.body))) (lead_same T left _ _)
 
 pub resolve_statement-returns-in-Import : goal.resolve_statement-returns-in-Import
 resolve_statement-returns-in-Import t c = λ left.
     let T = templates_in c.args.scope.now in
-    lead_of T left _ left _ _ _ _ (sym (ap (λ z. followed (stmt_in c.args.scope.now z c.args.spot.now) left) (ap stmt_view c.in-Import.is ∙ view_Import c.in-Import.field-0 c.in-Import.field-1 c.in-Import.field-2))) (lead_same T left _ _)
+    lead_of T left _ left _ _ _ _ (sym (ap (λ z. followed (stmt_in c.args.scope.now z c.args.spot.now) left) (ap stmt_view c.in-Import.is ∙ view_Import c.in-Import.line c.in-Import.library c.in-Import.name))) (lead_same T left _ _)
 
 pub resolve_statement-returns-in-From : goal.resolve_statement-returns-in-From
 resolve_statement-returns-in-From t c = λ left.
     let T = templates_in c.args.scope.now in
-    lead_of T left _ left _ _ _ _ (sym (ap (λ z. followed (stmt_in c.args.scope.now z c.args.spot.now) left) (ap stmt_view c.in-From.is ∙ view_From c.in-From.field-0 c.in-From.field-1 c.in-From.field-2))) (lead_same T left _ _)
+    lead_of T left _ left _ _ _ _ (sym (ap (λ z. followed (stmt_in c.args.scope.now z c.args.spot.now) left) (ap stmt_view c.in-From.is ∙ view_From c.in-From.line c.in-From.library c.in-From.macros))) (lead_same T left _ _)
 
 pub resolve_statement-returns-in-Extends : goal.resolve_statement-returns-in-Extends
 resolve_statement-returns-in-Extends t c = λ left.
@@ -228,15 +228,18 @@ resolve_statement-returns-in-Extends t c = λ left.
 pub resolve_statement-returns-in-Include : goal.resolve_statement-returns-in-Include
 resolve_statement-returns-in-Include t c =
     IfOk-weaker c.put_include.result _ _ (λ u h. stmt_as c.args.scope.now c.args.spot.now _ _ _ _ _ _
-    (ap (λ z. trees.include c.in-Include.line z c.in-Include.ignore_missing c.in-Include.with_context) c.deref-in-Include.ensures ∙ sym (ap stmt_view c.in-Include.is ∙ view_Include c.in-Include.line c.in-Include.name c.in-Include.ignore_missing c.in-Include.with_context))
+    (ap (λ z. trees.include c.in-Include.line z c.is_ignored.result c.are_seen.result) c.deref-in-Include.ensures
+    ∙ ap (λ b. trees.include c.in-Include.line (string_bytes c.in-Include.name) b c.are_seen.result) c.is_ignored.ensures
+    ∙ ap (trees.include c.in-Include.line (string_bytes c.in-Include.name) (is_ignored c.in-Include.missing)) c.are_seen.ensures
+    ∙ sym (ap stmt_view c.in-Include.is ∙ view_Include c.in-Include.line c.in-Include.name c.in-Include.missing c.in-Include.names))
     (h (values c.args.pool.now))) c.put_include.ensures
 
 pub resolve_statement-returns-in-Block : goal.resolve_statement-returns-in-Block
 resolve_statement-returns-in-Block t c =
     IfOk-weaker c.put_block.result _ _ (λ u h. stmt_as c.args.scope.now c.args.spot.now _ _ _ _ _ _
-    (ap (λ z. trees.block c.in-Block.field-0 z c.in-Block.scoped c.in-Block.field-3 (body_view c.in-Block.field-4.items)) c.deref-in-Block.ensures
-    ∙ sym (ap stmt_view c.in-Block.is ∙ view_Block c.in-Block.field-0 c.in-Block.name c.in-Block.scoped c.in-Block.field-3 c.in-Block.field-4))
-    (h c.in-Block.field-0 c.in-Block.field-3 (body_view c.in-Block.field-4.items) (values c.args.pool.now))) c.put_block.ensures
+    (ap (λ z. trees.block c.in-Block.line z c.in-Block.scoped c.in-Block.required (body_view c.in-Block.body.items)) c.deref-in-Block.ensures
+    ∙ sym (ap stmt_view c.in-Block.is ∙ view_Block c.in-Block.line c.in-Block.name c.in-Block.scoped c.in-Block.required c.in-Block.body))
+    (h c.in-Block.line c.in-Block.required (body_view c.in-Block.body.items) (values c.args.pool.now))) c.put_block.ensures
 
 -- ---- each part is smaller
 
@@ -262,7 +265,7 @@ resolve_statement-resolve_whole-requires-in-For t c =
 
 pub resolve_statement-resolve_set_block-requires : goal.resolve_statement-resolve_set_block-requires
 resolve_statement-resolve_set_block-requires t c =
-    let less = text_smaller c.args.statement.now c.in-SetBlock.field-0 c.in-SetBlock.name c.in-SetBlock.body c.deref-in-SetBlock.result.now c.in-SetBlock.is c.deref-in-SetBlock.ensures.value in
+    let less = text_smaller c.args.statement.now c.in-SetBlock.line c.in-SetBlock.name c.in-SetBlock.body c.deref-in-SetBlock.result.now c.in-SetBlock.is c.deref-in-SetBlock.ensures.value in
     (omega (arith, less), c.requires)
 
 pub resolve_statement-resolve_with-requires : goal.resolve_statement-resolve_with-requires
@@ -277,5 +280,5 @@ resolve_statement-resolve_filtered-requires t c =
 
 pub resolve_statement-resolve_escaping-requires : goal.resolve_statement-resolve_escaping-requires
 resolve_statement-resolve_escaping-requires t c =
-    let less = autoescape_smaller c.args.statement.now c.in-Autoescape.field-0 c.in-Autoescape.escaping c.in-Autoescape.body c.deref-in-Autoescape.result.now c.in-Autoescape.is c.deref-in-Autoescape.ensures.value in
+    let less = autoescape_smaller c.args.statement.now c.in-Autoescape.line c.in-Autoescape.escaping c.in-Autoescape.body c.deref-in-Autoescape.result.now c.in-Autoescape.is c.deref-in-Autoescape.ensures.value in
     (omega (arith, less), c.requires)

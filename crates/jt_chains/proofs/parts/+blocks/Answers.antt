@@ -28,7 +28,7 @@ add_statement-returns-in_ok-add_blocks-in-For-2 t c =
     let ts = pages_view c.args.spot.pages.now in
     let n = name_at ts c.args.spot.template in
     let on = c.args.spot.escaping in
-    loop_added (λ s. blocks_of n s on) (λ b. blocks_in n b on) (λ b. blocks_under n b on) (λ l xs e d a b. refl) c.args.statement.now c.in-For.field-0 c.in-For.field-1 c.in-For.field-2 c.in-For.field-3 c.in-For.body c.in-For.other
+    loop_added (λ s. blocks_of n s on) (λ b. blocks_in n b on) (λ b. blocks_under n b on) (λ l xs e d a b. refl) c.args.statement.now c.in-For.line c.in-For.targets c.in-For.over c.in-For.condition c.in-For.body c.in-For.other
     c.deref-in-For.result.now c.deref-in-For-2.result.now (blocks_view ts c.args.found.now.items) (blocks_view ts c.add_blocks-in-For.new.found.items) (blocks_view ts c.add_blocks-in-For-2.new.found.items)
     c.in-For.is c.deref-in-For.ensures.value c.deref-in-For-2.ensures.value c.in_ok-add_blocks-in-For.ensures c.in_ok-add_blocks-in-For-2.ensures
 
@@ -40,4 +40,4 @@ add_statement-returns-in-Autoescape t c =
     let old = blocks_view ts c.args.found.now.items in
     let added = rw c.inside.ensures at c.add_blocks-in-Autoescape.ensures in
     IfOk-weaker c.add_blocks-in-Autoescape.result _ _ (λ u g. g ∙ ap (λ (b : List Stmt). old ++ blocks_in n (body_view b) v.escaping) c.deref-in-Autoescape.ensures.value
-    ∙ ap (λ s. old ++ blocks_of n s c.args.spot.escaping) (sym (ap stmt_view v.is ∙ view_Autoescape v.field-0 v.escaping v.body))) added
+    ∙ ap (λ s. old ++ blocks_of n s c.args.spot.escaping) (sym (ap stmt_view v.is ∙ view_Autoescape v.line v.escaping v.body))) added

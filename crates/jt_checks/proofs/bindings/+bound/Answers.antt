@@ -9,22 +9,22 @@ bound_by-returns-after-loop-inside t c =
 
 pub bound_by-returns-in-For : goal.bound_by-returns-in-For
 bound_by-returns-in-For t c =
-    for_bound 18446744073709551615 c.args.statement.now c.in-For.field-0 c.in-For.targets c.in-For.field-2 c.in-For.field-3 c.in-For.inside c.in-For.other c.deref-in-For.result.now c.deref-in-For-2.result.now
+    for_bound 18446744073709551615 c.args.statement.now c.in-For.line c.in-For.targets c.in-For.over c.in-For.condition c.in-For.body c.in-For.other c.deref-in-For.result.now c.deref-in-For-2.result.now
     c.bound_in-in-For.result c.bound_in-in-For-2.result c.saturating_add-parts.result c.saturating_add.result c.len.result c.in-For.is c.deref-in-For.ensures.value c.deref-in-For-2.ensures.value
     c.bound_in-in-For.ensures c.bound_in-in-For-2.ensures c.saturating_add-parts.ensures (omega (arith, c.len.ensures, c.in-For.targets.ok.0)) c.saturating_add.ensures
 
 pub bound_by-returns-in-Set : goal.bound_by-returns-in-Set
 bound_by-returns-in-Set t c =
-    set_bound 18446744073709551615 c.args.statement.now c.in-Set.field-0 c.in-Set.targets c.in-Set.field-2 c.len-in-Set.result c.in-Set.is (omega (arith, c.len-in-Set.ensures, c.in-Set.targets.ok.0)) c.len-in-Set.type_inv
+    set_bound 18446744073709551615 c.args.statement.now c.in-Set.line c.in-Set.targets c.in-Set.value c.len-in-Set.result c.in-Set.is (omega (arith, c.len-in-Set.ensures, c.in-Set.targets.ok.0)) c.len-in-Set.type_inv
 
 pub bound_by-returns-in-With : goal.bound_by-returns-in-With
 bound_by-returns-in-With t c =
-    with_bound 18446744073709551615 c.args.statement.now c.in-With.field-0 c.in-With.pairs c.in-With.inside c.deref-in-With.result.now c.bound_in-in-With.result c.saturating_add-in-With.result c.len-in-With.result
-    c.in-With.is c.deref-in-With.ensures.value c.bound_in-in-With.ensures (omega (arith, c.len-in-With.ensures, c.in-With.pairs.ok.0)) c.saturating_add-in-With.ensures
+    with_bound 18446744073709551615 c.args.statement.now c.in-With.line c.in-With.values c.in-With.body c.deref-in-With.result.now c.bound_in-in-With.result c.saturating_add-in-With.result c.len-in-With.result
+    c.in-With.is c.deref-in-With.ensures.value c.bound_in-in-With.ensures (omega (arith, c.len-in-With.ensures, c.in-With.values.ok.0)) c.saturating_add-in-With.ensures
 
 pub bound_by-returns-in-Macro : goal.bound_by-returns-in-Macro
 bound_by-returns-in-Macro t c =
-    macro_bound 18446744073709551615 c.args.statement.now c.in-Macro.field-0 c.in-Macro.field-1 c.in-Macro.parameters c.in-Macro.inside c.deref-in-Macro.result.now c.bound_in-in-Macro.result c.saturating_add-in-Macro.result c.len-in-Macro.result
+    macro_bound 18446744073709551615 c.args.statement.now c.in-Macro.line c.in-Macro.name c.in-Macro.parameters c.in-Macro.body c.deref-in-Macro.result.now c.bound_in-in-Macro.result c.saturating_add-in-Macro.result c.len-in-Macro.result
     c.in-Macro.is c.deref-in-Macro.ensures.value c.bound_in-in-Macro.ensures (omega (arith, c.len-in-Macro.ensures, c.in-Macro.parameters.ok.0)) c.saturating_add-in-Macro.ensures
 
 pub bound_in-returns : goal.bound_in-returns

@@ -13,10 +13,10 @@ broken-returns-in-Call t c =
     let s = c.args.scope.now in
     let w = within_view c.args.within in
     let rest = option_or (rules.row_broken (its_world s) (its_home s) (exprs_view c.deref-in-Call-5.result.now) w) (rules.pairs_broken (its_world s) (its_home s) (pairs_view c.deref-in-Call-6.result.now) w) in
-    parts c.called_broken-callee.result c.call_broken-call.result c.either.result c.or_arguments_broken.result _ _ rest _
-    c.called_broken-callee.ensures c.call_broken-call.ensures c.either.ensures c.or_arguments_broken.ensures
+    parts c.called_broken-first.result c.call_broken-call.result c.either.result c.or_arguments_broken.result _ _ rest _
+    c.called_broken-first.ensures c.call_broken-call.ensures c.either.ensures c.or_arguments_broken.ensures
     (λ x y p q. found_call (its_world s) (its_home s) w c.args.expr.now c.deref-in-Call.result.now c.deref-in-Call-2.result.now c.deref-in-Call-3.result.now c.deref-in-Call-5.result.now
-    c.deref-in-Call-4.result.now c.deref-in-Call-6.result.now c.in-Call.called c.in-Call.row c.in-Call.pairs x y _ _ _ _ _
+    c.deref-in-Call-4.result.now c.deref-in-Call-6.result.now c.in-Call.callee c.in-Call.arguments c.in-Call.keywords x y _ _ _ _ _
     c.in-Call.is c.deref-in-Call.ensures c.deref-in-Call-2.ensures c.deref-in-Call-3.ensures.value c.deref-in-Call-4.ensures.value c.deref-in-Call-5.ensures.value c.deref-in-Call-6.ensures.value
     p q refl refl refl refl refl)
 
@@ -28,7 +28,7 @@ broken-returns-in-Filter t c =
     parts c.filter_broken-call.result c.broken-input.result c.either-in-Filter.result c.or_arguments_broken-in-Filter.result _ _ rest _
     c.filter_broken-call.ensures c.broken-input.ensures c.either-in-Filter.ensures c.or_arguments_broken-in-Filter.ensures
     (λ x y p q. found_filter (its_world s) (its_home s) w (its_filters s.chain.now) c.args.expr.now c.deref-in-Filter-4.result.now c.deref-in-Filter.result.now c.deref-in-Filter-2.result.now c.deref-in-Filter-5.result.now
-    c.deref-in-Filter-3.result.now c.deref-in-Filter-6.result.now c.in-Filter.value c.in-Filter.name c.in-Filter.row c.in-Filter.pairs x y _ _ _ _ _
+    c.deref-in-Filter-3.result.now c.deref-in-Filter-6.result.now c.in-Filter.input c.in-Filter.name c.in-Filter.arguments c.in-Filter.keywords x y _ _ _ _ _
     c.in-Filter.is c.deref-in-Filter.ensures c.deref-in-Filter-2.ensures.value c.deref-in-Filter-3.ensures.value c.deref-in-Filter-4.ensures c.deref-in-Filter-5.ensures.value c.deref-in-Filter-6.ensures.value
     p q refl refl refl refl refl)
 
@@ -38,10 +38,10 @@ broken-returns-in-Test t c =
     let w = within_view c.args.within in
     let rest = option_or (rules.row_broken (its_world s) (its_home s) (exprs_view c.deref-in-Test-5.result.now) w) (rules.pairs_broken (its_world s) (its_home s) (pairs_view c.deref-in-Test-6.result.now) w) in
     let call = rules.test_broken (test_named c.deref-in-Test.result.now) (exprs_view c.deref-in-Test-2.result.now) (pairs_view c.deref-in-Test-3.result.now) in
-    parts (Ok c.test_broken-call.result) c.broken-input-in-Test.result c.either-in-Test.result c.or_arguments_broken-in-Test.result (λ o. o ≡ call) _ rest _
-    c.test_broken-call.ensures c.broken-input-in-Test.ensures c.either-in-Test.ensures c.or_arguments_broken-in-Test.ensures
+    parts (Ok c.test_broken-call.result) c.broken-value.result c.either-in-Test.result c.or_arguments_broken-in-Test.result (λ o. o ≡ call) _ rest _
+    c.test_broken-call.ensures c.broken-value.ensures c.either-in-Test.ensures c.or_arguments_broken-in-Test.ensures
     (λ x y p q. found_test (its_world s) (its_home s) w c.args.expr.now c.deref-in-Test-4.result.now c.deref-in-Test.result.now c.deref-in-Test-2.result.now c.deref-in-Test-5.result.now c.deref-in-Test-3.result.now c.deref-in-Test-6.result.now
-    c.in-Test.value c.in-Test.field-1 c.in-Test.name c.in-Test.row c.in-Test.pairs x y _ _ _ _ _
+    c.in-Test.value c.in-Test.polarity c.in-Test.name c.in-Test.arguments c.in-Test.keywords x y _ _ _ _ _
     c.in-Test.is c.deref-in-Test.ensures c.deref-in-Test-2.ensures.value c.deref-in-Test-3.ensures.value c.deref-in-Test-4.ensures c.deref-in-Test-5.ensures.value c.deref-in-Test-6.ensures.value
     p q refl refl refl refl refl)
 
@@ -51,7 +51,7 @@ called_broken-returns-in-Call t c =
     let w = within_view c.args.within in
     let rest = option_or (rules.row_broken (its_world s) (its_home s) (exprs_view c.deref-in-Call-2.result.now) w) (rules.pairs_broken (its_world s) (its_home s) (pairs_view c.deref-in-Call-3.result.now) w) in
     part c.called_broken-callee.result c.or_arguments_broken.result _ rest _ c.called_broken-callee.ensures c.or_arguments_broken.ensures
-    (λ x p. found_inner (its_world s) (its_home s) w c.args.called.now c.deref-in-Call.result.now c.deref-in-Call-2.result.now c.deref-in-Call-3.result.now c.in-Call.inner c.in-Call.row c.in-Call.pairs x _ _ _ _
+    (λ x p. found_inner (its_world s) (its_home s) w c.args.called.now c.deref-in-Call.result.now c.deref-in-Call-2.result.now c.deref-in-Call-3.result.now c.in-Call.callee c.in-Call.arguments c.in-Call.keywords x _ _ _ _
     c.in-Call.is c.deref-in-Call.ensures c.deref-in-Call-2.ensures.value c.deref-in-Call-3.ensures.value p refl refl refl refl)
 
 pub called_broken-returns-in-Filter : goal.called_broken-returns-in-Filter
@@ -60,7 +60,7 @@ called_broken-returns-in-Filter t c =
     let w = within_view c.args.within in
     let rest = option_or (rules.row_broken (its_world s) (its_home s) (exprs_view c.deref-in-Filter-2.result.now) w) (rules.pairs_broken (its_world s) (its_home s) (pairs_view c.deref-in-Filter-3.result.now) w) in
     part c.broken-input.result c.or_arguments_broken-in-Filter.result _ rest _ c.broken-input.ensures c.or_arguments_broken-in-Filter.ensures
-    (λ x p. filter_called (its_world s) (its_home s) w c.args.called.now c.deref-in-Filter.result.now c.deref-in-Filter-2.result.now c.deref-in-Filter-3.result.now c.in-Filter.value c.in-Filter.field-1 c.in-Filter.row c.in-Filter.pairs x _ _ _ _
+    (λ x p. filter_called (its_world s) (its_home s) w c.args.called.now c.deref-in-Filter.result.now c.deref-in-Filter-2.result.now c.deref-in-Filter-3.result.now c.in-Filter.input c.in-Filter.name c.in-Filter.arguments c.in-Filter.keywords x _ _ _ _
     c.in-Filter.is c.deref-in-Filter.ensures c.deref-in-Filter-2.ensures.value c.deref-in-Filter-3.ensures.value p refl refl refl refl)
 
 pub called_broken-returns-in-Test : goal.called_broken-returns-in-Test
@@ -68,8 +68,8 @@ called_broken-returns-in-Test t c =
     let s = c.args.scope.now in
     let w = within_view c.args.within in
     let rest = option_or (rules.row_broken (its_world s) (its_home s) (exprs_view c.deref-in-Test-2.result.now) w) (rules.pairs_broken (its_world s) (its_home s) (pairs_view c.deref-in-Test-3.result.now) w) in
-    part c.broken-input-in-Test.result c.or_arguments_broken-in-Test.result _ rest _ c.broken-input-in-Test.ensures c.or_arguments_broken-in-Test.ensures
-    (λ x p. test_called (its_world s) (its_home s) w c.args.called.now c.deref-in-Test.result.now c.deref-in-Test-2.result.now c.deref-in-Test-3.result.now c.in-Test.value c.in-Test.field-1 c.in-Test.field-2 c.in-Test.row c.in-Test.pairs x _ _ _ _
+    part c.broken-value.result c.or_arguments_broken-in-Test.result _ rest _ c.broken-value.ensures c.or_arguments_broken-in-Test.ensures
+    (λ x p. test_called (its_world s) (its_home s) w c.args.called.now c.deref-in-Test.result.now c.deref-in-Test-2.result.now c.deref-in-Test-3.result.now c.in-Test.value c.in-Test.polarity c.in-Test.name c.in-Test.arguments c.in-Test.keywords x _ _ _ _
     c.in-Test.is c.deref-in-Test.ensures c.deref-in-Test-2.ensures.value c.deref-in-Test-3.ensures.value p refl refl refl refl)
 
 pub both_broken-returns : goal.both_broken-returns
@@ -96,7 +96,7 @@ broken-returns-in-Item t c =
 pub broken-returns-in-Binary : goal.broken-returns-in-Binary
 broken-returns-in-Binary t c =
     let s = c.args.scope.now in
-    equal_found c.both_broken-in-Binary.result _ _ (binary_read (its_world s) (its_home s) (within_view c.args.within) c.args.expr.now c.deref-in-Binary.result.now c.deref-in-Binary-2.result.now c.in-Binary.field-0 c.in-Binary.left c.in-Binary.right
+    equal_found c.both_broken-in-Binary.result _ _ (binary_read (its_world s) (its_home s) (within_view c.args.within) c.args.expr.now c.deref-in-Binary.result.now c.deref-in-Binary-2.result.now c.in-Binary.operator c.in-Binary.left c.in-Binary.right
     c.in-Binary.is c.deref-in-Binary.ensures c.deref-in-Binary-2.ensures) c.both_broken-in-Binary.ensures
 
 pub broken-returns-in-When : goal.broken-returns-in-When
@@ -120,7 +120,7 @@ called_broken-returns-in-Item t c =
 pub called_broken-returns-in-Binary : goal.called_broken-returns-in-Binary
 called_broken-returns-in-Binary t c =
     let s = c.args.scope.now in
-    equal_found c.both_broken-in-Binary.result _ _ (binary_called (its_world s) (its_home s) (within_view c.args.within) c.args.called.now c.deref-in-Binary.result.now c.deref-in-Binary-2.result.now c.in-Binary.field-0 c.in-Binary.left c.in-Binary.right
+    equal_found c.both_broken-in-Binary.result _ _ (binary_called (its_world s) (its_home s) (within_view c.args.within) c.args.called.now c.deref-in-Binary.result.now c.deref-in-Binary-2.result.now c.in-Binary.operator c.in-Binary.left c.in-Binary.right
     c.in-Binary.is c.deref-in-Binary.ensures c.deref-in-Binary-2.ensures) c.both_broken-in-Binary.ensures
 
 pub called_broken-returns-in-When : goal.called_broken-returns-in-When

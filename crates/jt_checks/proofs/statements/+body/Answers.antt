@@ -36,20 +36,20 @@ pub statement_broken-returns-in-Some : goal.statement_broken-returns-in-Some
 statement_broken-returns-in-Some t c =
     let s = c.args.scope.now in
     let w = within_view c.args.within in
-    some_first (head_part (its_world s) (its_home s) w c.in-For.items c.deref-in-For.result.now c.in-For.condition) (turns_part (its_world s) (its_home s) w c.in-For.inside.items c.in-For.other.items) c.in-Some.rule
+    some_first (head_part (its_world s) (its_home s) w c.in-For.over c.deref-in-For.result.now c.in-For.condition) (turns_part (its_world s) (its_home s) w c.in-For.body.items c.in-For.other.items) c.in-Some.rule
     (sym c.in_ok-rule-in-For.ensures ∙ c.in-Some.is)
-    ∙ (loop_is (its_world s) (its_home s) w c.args.statement.now c.in-For.field-0 c.in-For.targets c.in-For.items c.in-For.condition c.in-For.inside c.in-For.other c.deref-in-For.result.now c.in-For.inside.items c.in-For.other.items
+    ∙ (loop_is (its_world s) (its_home s) w c.args.statement.now c.in-For.line c.in-For.targets c.in-For.over c.in-For.condition c.in-For.body c.in-For.other c.deref-in-For.result.now c.in-For.body.items c.in-For.other.items
     c.in-For.is c.deref-in-For.ensures.value refl refl)
 
 pub statement_broken-returns-in-None : goal.statement_broken-returns-in-None
 statement_broken-returns-in-None t c =
     let s = c.args.scope.now in
     let w = within_view c.args.within in
-    let head = head_part (its_world s) (its_home s) w c.in-For.items c.deref-in-For.result.now c.in-For.condition in
+    let head = head_part (its_world s) (its_home s) w c.in-For.over c.deref-in-For.result.now c.in-For.condition in
     let turns = turns_part (its_world s) (its_home s) w c.deref-in-None.result.now c.deref-in-None-2.result.now in
     equal_found c.turns_broken.result turns (rules.stmt_broken (its_world s) (its_home s) (stmt_view c.args.statement.now) w)
     (none_first head turns (sym c.in_ok-rule-in-For.ensures ∙ c.in-None.is)
-    ∙ (loop_is (its_world s) (its_home s) w c.args.statement.now c.in-For.field-0 c.in-For.targets c.in-For.items c.in-For.condition c.in-For.inside c.in-For.other c.deref-in-For.result.now c.deref-in-None.result.now c.deref-in-None-2.result.now
+    ∙ (loop_is (its_world s) (its_home s) w c.args.statement.now c.in-For.line c.in-For.targets c.in-For.over c.in-For.condition c.in-For.body c.in-For.other c.deref-in-For.result.now c.deref-in-None.result.now c.deref-in-None-2.result.now
     c.in-For.is c.deref-in-For.ensures.value c.deref-in-None.ensures.value c.deref-in-None-2.ensures.value))
     c.turns_broken.ensures
 
@@ -59,4 +59,4 @@ statement_broken-returns-in-From t c =
     let w = within_view c.args.within in
     c.imports_broken.ensures (its_world s) (its_home s)
     ∙ ap (λ z. rules.imports_broken (its_world s) (its_home s) (given_view z)) c.deref-in-From.ensures.value
-    ∙ ap (λ z. rules.stmt_broken (its_world s) (its_home s) z w) (sym (ap stmt_view c.in-From.is ∙ view_From c.in-From.field-0 c.in-From.field-1 c.in-From.names))
+    ∙ ap (λ z. rules.stmt_broken (its_world s) (its_home s) z w) (sym (ap stmt_view c.in-From.is ∙ view_From c.in-From.line c.in-From.library c.in-From.macros))

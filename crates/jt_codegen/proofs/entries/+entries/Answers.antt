@@ -60,11 +60,11 @@ fits_statement-returns-after-loop-condition t c =
 pub fits_statement-returns-else-room-eq0 : goal.fits_statement-returns-else-room-eq0
 fits_statement-returns-else-room-eq0 t c =
     let v = c.in-For in
-    λ templates. for_passes c.args.room templates c.args.statement.now v.field-0 v.targets v.iterated v.condition v.body v.other c.deref-in-For.result.now c.deref-in-For-2.result.now
+    λ templates. for_passes c.args.room templates c.args.statement.now v.place v.targets v.iterated v.condition v.body v.other c.deref-in-For.result.now c.deref-in-For-2.result.now
     c.fits_expression-in-For.result c.fits_targets-in-For.result c.fits_condition.result c.fits_body-in-For.result c.fits_body-in-For-2.result (omega arith) v.is c.deref-in-For.ensures.value c.deref-in-For-2.ensures.value
     c.fits_expression-in-For.ensures c.fits_targets-in-For.ensures c.fits_condition.ensures (c.fits_body-in-For.ensures templates) (c.fits_body-in-For-2.ensures templates)
 
 pub fits_statement-returns-then-room-ge1 : goal.fits_statement-returns-then-room-ge1
 fits_statement-returns-then-room-ge1 t c =
     let v = c.in-Capture in
-    λ templates. capture_passes c.args.room templates c.args.statement.now v.field-0 v.field-1 v.body c.deref-then-room-ge1.result.now c.fits_body-then-room-ge1.result c.if-room-ge1.true v.is c.deref-then-room-ge1.ensures.value (c.fits_body-then-room-ge1.ensures templates)
+    λ templates. capture_passes c.args.room templates c.args.statement.now v.escaping v.slot v.body c.deref-then-room-ge1.result.now c.fits_body-then-room-ge1.result c.if-room-ge1.true v.is c.deref-then-room-ge1.ensures.value (c.fits_body-then-room-ge1.ensures templates)

@@ -1,11 +1,11 @@
 use Rattle.std.proofs.Common.{◌∙◌, ap}
 use Rattle.jt_trees.specs.Expressions as trees
-use Rattle.jt_trees.specs.ExpressionView.{expr_view, exprs_view, pairs_view}
+use Rattle.jt_trees.specs.ExpressionView.{is_negated, expr_view, exprs_view, pairs_view}
 use Rattle.jt_trees.proofs.ExpressionViews.{view_Test}
 use Rattle.jt_expr.proofs.making.make_test.Goals as goal
 
 pub returns : goal.returns
 returns c =
     ap expr_view c.in_ok-new.ensures.ok
-    ∙ view_Test c.args.a c.args.negated c.in_ok-name.name c.args.items c.args.pairs
-    ∙ ap (λ x. trees.test (expr_view c.args.a.value) c.args.negated x (exprs_view c.args.items.items) (pairs_view c.args.pairs.items)) c.in_ok-name.ensures
+    ∙ view_Test c.args.value c.args.polarity c.in_ok-name.name c.args.arguments c.args.keywords
+    ∙ ap (λ x. trees.test (expr_view c.args.value.value) (is_negated c.args.polarity) x (exprs_view c.args.arguments.items) (pairs_view c.args.keywords.items)) c.in_ok-name.ensures

@@ -12,7 +12,7 @@ has_unknown-returns-in-Map t c = c.any_unknown_pair.ensures ∙ sym (ap (spec.ha
 
 pub has_unknown-returns-else-any_unknown : goal.has_unknown-returns-else-any_unknown
 has_unknown-returns-else-any_unknown t c =
-    let whole = ap (spec.has_unknown c.args.named) (ap expr_view c.in-Call.is ∙ view_Call c.in-Call.a c.in-Call.items c.in-Call.pairs) in
+    let whole = ap (spec.has_unknown c.args.named) (ap expr_view c.in-Call.is ∙ view_Call c.in-Call.callee c.in-Call.arguments c.in-Call.keywords) in
     let last = c.any_unknown_pair-else-any_unknown.ensures in
     grind (arith, common_steps)
 
@@ -20,13 +20,13 @@ pub has_unknown-returns-then-any_unknown-2 : goal.has_unknown-returns-then-any_u
 has_unknown-returns-then-any_unknown-2 t c =
     let u = c.args.named in
     let x = string_bytes c.in-Filter.name in
-    let ts = exprs_view c.in-Filter.items.items in
-    let ps = pairs_view c.in-Filter.pairs.items in
+    let ts = exprs_view c.in-Filter.arguments.items in
+    let ps = pairs_view c.in-Filter.keywords.items in
     let own = spec.filter_unknown u x ts ps in
-    let inner = spec.has_unknown u (expr_view c.in-Filter.a.value) in
+    let inner = spec.has_unknown u (expr_view c.in-Filter.input.value) in
     let row = spec.exprs_have_unknown u ts in
     let pairs = spec.pairs_have_unknown u ps in
-    let whole = ap (spec.has_unknown u) (ap expr_view c.in-Filter.is ∙ view_Filter c.in-Filter.a c.in-Filter.name c.in-Filter.items c.in-Filter.pairs) in
+    let whole = ap (spec.has_unknown u) (ap expr_view c.in-Filter.is ∙ view_Filter c.in-Filter.input c.in-Filter.name c.in-Filter.arguments c.in-Filter.keywords) in
     elim c.if-has_unknown-3.branch [
       | has_unknown-then-has_unknown-3 w ↦
           elim c.if-is_filter_unknown.branch [
@@ -56,12 +56,12 @@ has_unknown-returns-then-any_unknown-2 t c =
 
 pub has_unknown-returns-else-any_unknown-2 : goal.has_unknown-returns-else-any_unknown-2
 has_unknown-returns-else-any_unknown-2 t c =
-    let whole = ap (spec.has_unknown c.args.named) (ap expr_view c.in-Filter.is ∙ view_Filter c.in-Filter.a c.in-Filter.name c.in-Filter.items c.in-Filter.pairs) in
+    let whole = ap (spec.has_unknown c.args.named) (ap expr_view c.in-Filter.is ∙ view_Filter c.in-Filter.input c.in-Filter.name c.in-Filter.arguments c.in-Filter.keywords) in
     let last = c.any_unknown_pair-else-any_unknown-2.ensures in
     grind (arith, common_steps)
 
 pub has_unknown-returns-else-any_unknown-3 : goal.has_unknown-returns-else-any_unknown-3
 has_unknown-returns-else-any_unknown-3 t c =
-    let whole = ap (spec.has_unknown c.args.named) (ap expr_view c.in-Test.is ∙ view_Test c.in-Test.a c.in-Test.field-1 c.in-Test.name c.in-Test.items c.in-Test.pairs) in
+    let whole = ap (spec.has_unknown c.args.named) (ap expr_view c.in-Test.is ∙ view_Test c.in-Test.value c.in-Test.polarity c.in-Test.name c.in-Test.arguments c.in-Test.keywords) in
     let last = c.any_unknown_pair-else-any_unknown-3.ensures in
     grind (arith, common_steps)

@@ -10,18 +10,18 @@ has_super-returns-in-Map t c = c.any_super_pair.ensures ∙ sym (ap spec.has_sup
 
 pub has_super-returns-else-any_super : goal.has_super-returns-else-any_super
 has_super-returns-else-any_super t c =
-    let whole = ap spec.has_super (ap expr_view c.in-Call.is ∙ view_Call c.in-Call.a c.in-Call.items c.in-Call.pairs) in
+    let whole = ap spec.has_super (ap expr_view c.in-Call.is ∙ view_Call c.in-Call.callee c.in-Call.arguments c.in-Call.keywords) in
     let last = c.any_super_pair-else-any_super.ensures in
     grind (arith, common_steps)
 
 pub has_super-returns-else-any_super-2 : goal.has_super-returns-else-any_super-2
 has_super-returns-else-any_super-2 t c =
-    let whole = ap spec.has_super (ap expr_view c.in-Filter.is ∙ view_Filter c.in-Filter.a c.in-Filter.field-1 c.in-Filter.items c.in-Filter.pairs) in
+    let whole = ap spec.has_super (ap expr_view c.in-Filter.is ∙ view_Filter c.in-Filter.input c.in-Filter.name c.in-Filter.arguments c.in-Filter.keywords) in
     let last = c.any_super_pair-else-any_super-2.ensures in
     grind (arith, common_steps)
 
 pub has_super-returns-else-any_super-3 : goal.has_super-returns-else-any_super-3
 has_super-returns-else-any_super-3 t c =
-    let whole = ap spec.has_super (ap expr_view c.in-Test.is ∙ view_Test c.in-Test.a c.in-Test.field-1 c.in-Test.field-2 c.in-Test.items c.in-Test.pairs) in
+    let whole = ap spec.has_super (ap expr_view c.in-Test.is ∙ view_Test c.in-Test.value c.in-Test.polarity c.in-Test.name c.in-Test.arguments c.in-Test.keywords) in
     let last = c.any_super_pair-else-any_super-3.ensures in
     grind (arith, common_steps)

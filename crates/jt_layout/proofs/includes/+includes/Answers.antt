@@ -31,6 +31,6 @@ add_statement-returns-in_ok-add_included-in-If-2 t c =
 
 pub add_statement-returns-in_ok-add_included-in-For-2 : goal.add_statement-returns-in_ok-add_included-in-For-2
 add_statement-returns-in_ok-add_included-in-For-2 t c =
-    loop_added (needs_by true) (needs_in true) (needs_under true) (λ l xs e d a b. refl) c.args.statement.now c.in-For.field-0 c.in-For.field-1 c.in-For.field-2 c.in-For.field-3 c.in-For.body c.in-For.other
+    loop_added (needs_by true) (needs_in true) (needs_under true) (λ l xs e d a b. refl) c.args.statement.now c.in-For.line c.in-For.targets c.in-For.over c.in-For.condition c.in-For.body c.in-For.other
     c.deref-in-For.result.now c.deref-in-For-2.result.now (texts c.args.found.now.items) (texts c.add_included-in-For.new.found.items) (texts c.add_included-in-For-2.new.found.items)
     c.in-For.is c.deref-in-For.ensures.value c.deref-in-For-2.ensures.value c.in_ok-add_included-in-For.ensures c.in_ok-add_included-in-For-2.ensures

@@ -17,7 +17,7 @@ fits_expression-returns-then-room-ge1 t c =
 pub fits_expression-returns-then-room-ge1-2 : goal.fits_expression-returns-then-room-ge1-2
 fits_expression-returns-then-room-ge1-2 t c =
     let es = c.deref-then-room-ge1-2.result.now in
-    let seen = seen_invoke c.args.expr.now c.in-Invoke.field-0 c.in-Invoke.field-1 c.in-Invoke.row es c.in-Invoke.is c.deref-then-room-ge1-2.ensures.value in
+    let seen = seen_invoke c.args.expr.now c.in-Invoke.routine c.in-Invoke.escaping c.in-Invoke.row es c.in-Invoke.is c.deref-then-room-ge1-2.ensures.value in
     c.fits_row-then-room-ge1-2.ensures ∙ sym (invoke_low (row_height (row_view es none)) c.args.room c.if-room-ge1-2.true) ∙ ap (λ e. nat_le (expr_height e) c.args.room) (sym seen)
 
 pub fits_row-overflow_sub-left : goal.fits_row-overflow_sub-left

@@ -24,7 +24,7 @@ add_expression-returns-in-Item t c =
 
 pub add_expression-returns-in-Binary : goal.add_expression-returns-in-Binary
 add_expression-returns-in-Binary t c =
-    IfOk-weaker c.add_both-in-Binary.result _ _ (λ u g. g ∙ ap (λ z. all_inserted (expr_names z) (texts c.args.names.now.keys)) (shown_binary c.args.expr.now c.deref-in-Binary.result.now c.deref-in-Binary-2.result.now c.in-Binary.field-0 c.in-Binary.left c.in-Binary.right c.in-Binary.is c.deref-in-Binary.ensures c.deref-in-Binary-2.ensures)) c.add_both-in-Binary.ensures
+    IfOk-weaker c.add_both-in-Binary.result _ _ (λ u g. g ∙ ap (λ z. all_inserted (expr_names z) (texts c.args.names.now.keys)) (shown_binary c.args.expr.now c.deref-in-Binary.result.now c.deref-in-Binary-2.result.now c.in-Binary.operator c.in-Binary.left c.in-Binary.right c.in-Binary.is c.deref-in-Binary.ensures c.deref-in-Binary-2.ensures)) c.add_both-in-Binary.ensures
 
 pub add_expression-returns-in-When : goal.add_expression-returns-in-When
 add_expression-returns-in-When t c =
@@ -45,23 +45,23 @@ add_expression-returns-in-Choice t c =
 
 pub add_expression-returns-in-Call : goal.add_expression-returns-in-Call
 add_expression-returns-in-Call t c =
-    IfOk-weaker c.then_arguments.result _ _ (λ u g. g.1 ∙ ap (λ z. all_inserted (expr_names z) (texts c.args.names.now.keys)) (shown_call c.args.expr.now c.in-Call.field-0.value c.deref-in-Call.result.now c.deref-in-Call-2.result.now
-    c.in-Call.field-0 c.in-Call.row c.in-Call.pairs c.in-Call.is refl c.deref-in-Call.ensures.value c.deref-in-Call-2.ensures.value)) c.then_arguments.ensures
+    IfOk-weaker c.then_arguments.result _ _ (λ u g. g.1 ∙ ap (λ z. all_inserted (expr_names z) (texts c.args.names.now.keys)) (shown_call c.args.expr.now c.in-Call.callee.value c.deref-in-Call.result.now c.deref-in-Call-2.result.now
+    c.in-Call.callee c.in-Call.arguments c.in-Call.keywords c.in-Call.is refl c.deref-in-Call.ensures.value c.deref-in-Call-2.ensures.value)) c.then_arguments.ensures
 
 pub add_expression-returns-in-Filter : goal.add_expression-returns-in-Filter
 add_expression-returns-in-Filter t c =
     let a = c.deref-in-Filter.result.now in
     let us = c.deref-in-Filter-2.result.now in
     let qs = c.deref-in-Filter-3.result.now in
-    then_is c.add_expression-input.result c.then_arguments-in-Filter.result (expr_names (expr_view a)) (row_names (exprs_view us) ++ pair_names (pairs_view qs)) _
-    (texts c.args.names.now.keys) (texts c.add_expression-input.new.names.keys) (texts c.then_arguments-in-Filter.new.names.keys) c.add_expression-input.ensures c.then_arguments-in-Filter.ensures
-    (ap expr_names (shown_filter c.args.expr.now a c.in-Filter.field-1 us qs c.in-Filter.value c.in-Filter.row c.in-Filter.pairs c.in-Filter.is c.deref-in-Filter.ensures c.deref-in-Filter-2.ensures.value c.deref-in-Filter-3.ensures.value))
+    then_is c.add_expression-before.result c.then_arguments-in-Filter.result (expr_names (expr_view a)) (row_names (exprs_view us) ++ pair_names (pairs_view qs)) _
+    (texts c.args.names.now.keys) (texts c.add_expression-before.new.names.keys) (texts c.then_arguments-in-Filter.new.names.keys) c.add_expression-before.ensures c.then_arguments-in-Filter.ensures
+    (ap expr_names (shown_filter c.args.expr.now a c.in-Filter.name us qs c.in-Filter.input c.in-Filter.arguments c.in-Filter.keywords c.in-Filter.is c.deref-in-Filter.ensures c.deref-in-Filter-2.ensures.value c.deref-in-Filter-3.ensures.value))
 
 pub add_expression-returns-in-Test : goal.add_expression-returns-in-Test
 add_expression-returns-in-Test t c =
     let a = c.deref-in-Test.result.now in
     let us = c.deref-in-Test-2.result.now in
     let qs = c.deref-in-Test-3.result.now in
-    then_is c.add_expression-input-in-Test.result c.then_arguments-in-Test.result (expr_names (expr_view a)) (row_names (exprs_view us) ++ pair_names (pairs_view qs)) _
-    (texts c.args.names.now.keys) (texts c.add_expression-input-in-Test.new.names.keys) (texts c.then_arguments-in-Test.new.names.keys) c.add_expression-input-in-Test.ensures c.then_arguments-in-Test.ensures
-    (ap expr_names (shown_test c.args.expr.now a c.in-Test.field-1 c.in-Test.field-2 us qs c.in-Test.value c.in-Test.row c.in-Test.pairs c.in-Test.is c.deref-in-Test.ensures c.deref-in-Test-2.ensures.value c.deref-in-Test-3.ensures.value))
+    then_is c.add_expression-before-in-Test.result c.then_arguments-in-Test.result (expr_names (expr_view a)) (row_names (exprs_view us) ++ pair_names (pairs_view qs)) _
+    (texts c.args.names.now.keys) (texts c.add_expression-before-in-Test.new.names.keys) (texts c.then_arguments-in-Test.new.names.keys) c.add_expression-before-in-Test.ensures c.then_arguments-in-Test.ensures
+    (ap expr_names (shown_test c.args.expr.now a c.in-Test.polarity c.in-Test.name us qs c.in-Test.value c.in-Test.arguments c.in-Test.keywords c.in-Test.is c.deref-in-Test.ensures c.deref-in-Test-2.ensures.value c.deref-in-Test-3.ensures.value))

@@ -8,32 +8,32 @@ use Rattle.jt_parse.proofs.FirstTags.{import_unnamed, import_no_as, import_not_g
 use Rattle.jt_trees.proofs.StatementViews.{view_Import}
 use Rattle.jt_parse.proofs.tags.import_head.Goals as goal
 
-pub returns-in_err-name : goal.returns-in_err-name
-returns-in_err-name c =
-    let q : (limit : ℕ) → ReadsHead c.args.line limit (codes "import") (ahead c.args.cursor.now) (Err c.in_err-name.field-0.0) (ahead c.text.new.cursor) =
-    λ limit. import_unnamed c.args.line limit (ahead c.args.cursor.now) _ _ _ c.in_err-name.ensures in
+pub returns-in_err-library : goal.returns-in_err-library
+returns-in_err-library c =
+    let q : (limit : ℕ) → ReadsHead c.args.line limit (codes "import") (ahead c.args.cursor.now) (Err c.in_err-library.field-0.0) (ahead c.text.new.cursor) =
+    λ limit. import_unnamed c.args.line limit (ahead c.args.cursor.now) _ _ _ c.in_err-library.ensures in
     search rules
 
 pub returns-in_err-expect_word : goal.returns-in_err-expect_word
 returns-in_err-expect_word c =
     let q : (limit : ℕ) → ReadsHead c.args.line limit (codes "import") (ahead c.args.cursor.now) (Err c.in_err-expect_word.field-0.0) (ahead c.expect_word.new.cursor) =
-    λ limit. import_no_as c.args.line limit (ahead c.args.cursor.now) c.in_ok-name.name (ahead c.text.new.cursor) c.in_ok-name.ensures _ _ _ c.in_err-expect_word.ensures in
+    λ limit. import_no_as c.args.line limit (ahead c.args.cursor.now) c.in_ok-library.library (ahead c.text.new.cursor) c.in_ok-library.ensures _ _ _ c.in_err-expect_word.ensures in
     search rules
 
-pub returns-in_err-given : goal.returns-in_err-given
-returns-in_err-given c =
-    let q : (limit : ℕ) → ReadsHead c.args.line limit (codes "import") (ahead c.args.cursor.now) (Err c.in_err-given.field-0.0) (ahead c.target.new.cursor) =
-    λ limit. import_not_given c.args.line limit (ahead c.args.cursor.now) c.in_ok-name.name (ahead c.text.new.cursor) c.in_ok-name.ensures (ahead c.expect_word.new.cursor) c.in_ok-expect_word.ensures _ _ _ c.in_err-given.ensures in
+pub returns-in_err-name : goal.returns-in_err-name
+returns-in_err-name c =
+    let q : (limit : ℕ) → ReadsHead c.args.line limit (codes "import") (ahead c.args.cursor.now) (Err c.in_err-name.field-0.0) (ahead c.target.new.cursor) =
+    λ limit. import_not_given c.args.line limit (ahead c.args.cursor.now) c.in_ok-library.library (ahead c.text.new.cursor) c.in_ok-library.ensures (ahead c.expect_word.new.cursor) c.in_ok-expect_word.ensures _ _ _ c.in_err-name.ensures in
     search rules
 
 pub returns-in_err-_said : goal.returns-in_err-_said
 returns-in_err-_said c =
     let q : (limit : ℕ) → ReadsHead c.args.line limit (codes "import") (ahead c.args.cursor.now) (Err c.in_err-_said.field-0.0) (ahead c.without.new.cursor) =
-    λ limit. import_last c.args.line limit (ahead c.args.cursor.now) c.in_ok-name.name (ahead c.text.new.cursor) c.in_ok-name.ensures (ahead c.expect_word.new.cursor) c.in_ok-expect_word.ensures c.in_ok-given.given (ahead c.target.new.cursor) c.in_ok-given.ensures (Err c.in_err-_said.field-0.0) _ c.in_err-_said.ensures _ in
+    λ limit. import_last c.args.line limit (ahead c.args.cursor.now) c.in_ok-library.library (ahead c.text.new.cursor) c.in_ok-library.ensures (ahead c.expect_word.new.cursor) c.in_ok-expect_word.ensures c.in_ok-name.name (ahead c.target.new.cursor) c.in_ok-name.ensures (Err c.in_err-_said.field-0.0) _ c.in_err-_said.ensures _ in
     search rules
 
 pub returns : goal.returns
 returns c = λ limit.
-    import_last c.args.line limit (ahead c.args.cursor.now) c.in_ok-name.name (ahead c.text.new.cursor) c.in_ok-name.ensures (ahead c.expect_word.new.cursor) c.in_ok-expect_word.ensures c.in_ok-given.given (ahead c.target.new.cursor) c.in_ok-given.ensures
+    import_last c.args.line limit (ahead c.args.cursor.now) c.in_ok-library.library (ahead c.text.new.cursor) c.in_ok-library.ensures (ahead c.expect_word.new.cursor) c.in_ok-expect_word.ensures c.in_ok-name.name (ahead c.target.new.cursor) c.in_ok-name.ensures
     (Ok c.in_ok-_said._said) (ahead c.without.new.cursor) c.in_ok-_said.ensures
-    (h.Statement (stmt.Import c.args.line c.in_ok-name.name c.in_ok-given.given)) (ap (λ z. a_statement z) (view_Import c.args.line c.in_ok-name.name c.in_ok-given.given))
+    (h.Statement (stmt.Import c.args.line c.in_ok-library.library c.in_ok-name.name)) (ap (λ z. a_statement z) (view_Import c.args.line c.in_ok-library.library c.in_ok-name.name))

@@ -3,6 +3,7 @@ use Rattle.jt_expr.specs.Cursor.{ahead}
 use Rattle.jt_parse.specs.Readers.{ReadsHead}
 use Rattle.jt_parse.specs.Tags.{a_statement}
 use Rattle.jt_parse.specs.declared.heads.Head.TheVariants as h
+use Rattle.jt_trees.specs.StatementView.{is_ignored, are_seen}
 use Rattle.jt_trees.specs.declared.statement.Stmt.TheVariants as stmt
 use Rattle.jt_parse.proofs.FirstTags.{include_unnamed, include_ignoring, include_last}
 use Rattle.jt_trees.proofs.StatementViews.{view_Include}
@@ -20,14 +21,14 @@ returns-in_err-missing c =
     λ limit. include_ignoring c.args.line limit (ahead c.args.cursor.now) c.in_ok-name.name (ahead c.text.new.cursor) c.in_ok-name.ensures _ _ _ c.in_err-missing.ensures in
     search rules
 
-pub returns-in_err-context : goal.returns-in_err-context
-returns-in_err-context c =
-    let q : (limit : ℕ) → ReadsHead c.args.line limit (codes "include") (ahead c.args.cursor.now) (Err c.in_err-context.field-0.0) (ahead c.context.new.cursor) =
-    λ limit. include_last c.args.line limit (ahead c.args.cursor.now) c.in_ok-name.name (ahead c.text.new.cursor) c.in_ok-name.ensures c.in_ok-missing.missing (ahead c.missing.new.cursor) c.in_ok-missing.ensures (Err c.in_err-context.field-0.0) _ c.in_err-context.ensures _ in
+pub returns-in_err-names : goal.returns-in_err-names
+returns-in_err-names c =
+    let q : (limit : ℕ) → ReadsHead c.args.line limit (codes "include") (ahead c.args.cursor.now) (Err c.in_err-names.field-0.0) (ahead c.context.new.cursor) =
+    λ limit. include_last c.args.line limit (ahead c.args.cursor.now) c.in_ok-name.name (ahead c.text.new.cursor) c.in_ok-name.ensures (is_ignored c.in_ok-missing.missing) (ahead c.missing.new.cursor) c.in_ok-missing.ensures (Err c.in_err-names.field-0.0) _ c.in_err-names.ensures _ in
     search rules
 
 pub returns : goal.returns
 returns c = λ limit.
-    include_last c.args.line limit (ahead c.args.cursor.now) c.in_ok-name.name (ahead c.text.new.cursor) c.in_ok-name.ensures c.in_ok-missing.missing (ahead c.missing.new.cursor) c.in_ok-missing.ensures
-    (Ok c.in_ok-context.context) (ahead c.context.new.cursor) c.in_ok-context.ensures
-    (h.Statement (stmt.Include c.args.line c.in_ok-name.name c.in_ok-missing.missing c.in_ok-context.context)) (ap (λ z. a_statement z) (view_Include c.args.line c.in_ok-name.name c.in_ok-missing.missing c.in_ok-context.context))
+    include_last c.args.line limit (ahead c.args.cursor.now) c.in_ok-name.name (ahead c.text.new.cursor) c.in_ok-name.ensures (is_ignored c.in_ok-missing.missing) (ahead c.missing.new.cursor) c.in_ok-missing.ensures
+    (Ok (are_seen c.in_ok-names.names)) (ahead c.context.new.cursor) c.in_ok-names.ensures
+    (h.Statement (stmt.Include c.args.line c.in_ok-name.name c.in_ok-missing.missing c.in_ok-names.names)) (ap (λ z. a_statement z) (view_Include c.args.line c.in_ok-name.name c.in_ok-missing.missing c.in_ok-names.names))

@@ -10,25 +10,25 @@ use Rattle.jt_parse.proofs.FirstTags.{set_unnamed, set_last, captures}
 use Rattle.jt_trees.proofs.StatementViews.{view_Set}
 use Rattle.jt_parse.proofs.tags.set_head.Goals as goal
 
-pub returns-in_err-names : goal.returns-in_err-names
-returns-in_err-names c =
-    let q : ReadsHead c.args.line c.args.levels (codes "set") (ahead c.args.cursor.now) (Err c.in_err-names.field-0.0) (ahead c.targets.new.cursor) =
-    set_unnamed c.args.line c.args.levels (ahead c.args.cursor.now) _ _ _ c.in_err-names.ensures in
+pub returns-in_err-targets : goal.returns-in_err-targets
+returns-in_err-targets c =
+    let q : ReadsHead c.args.line c.args.levels (codes "set") (ahead c.args.cursor.now) (Err c.in_err-targets.field-0.0) (ahead c.targets.new.cursor) =
+    set_unnamed c.args.line c.args.levels (ahead c.args.cursor.now) _ _ _ c.in_err-targets.ensures in
     search rules
 
 pub returns-then-not-eat : goal.returns-then-not-eat
 returns-then-not-eat c =
     rw (sign_left s.Assign (ahead c.targets.new.cursor) (ahead c.eat.new.self) c.eat.result c.eat.ensures.found c.eat.ensures.rest c.if-not-eat.true)
-    (captures c.args.line c.args.levels (ahead c.args.cursor.now) c.in_ok-names.names (ahead c.targets.new.cursor) c.in_ok-names.ensures (no_sign s.Assign _ _ c.eat.result c.eat.ensures.found c.eat.ensures.rest c.if-not-eat.true) c.only_name.result c.only_name.ensures)
+    (captures c.args.line c.args.levels (ahead c.args.cursor.now) c.in_ok-targets.targets (ahead c.targets.new.cursor) c.in_ok-targets.ensures (no_sign s.Assign _ _ c.eat.result c.eat.ensures.found c.eat.ensures.rest c.if-not-eat.true) c.only_name.result c.only_name.ensures)
 
 pub returns-in_err-value : goal.returns-in_err-value
 returns-in_err-value c =
     let q : ReadsHead c.args.line c.args.levels (codes "set") (ahead c.args.cursor.now) (Err c.in_err-value.field-0.0) (ahead c.expression.new.cursor) =
-    set_last c.args.line c.args.levels (ahead c.args.cursor.now) c.in_ok-names.names (ahead c.targets.new.cursor) c.in_ok-names.ensures (ahead c.eat.new.self) (sign_taken s.Assign _ _ c.eat.result c.eat.ensures.found c.eat.ensures.rest c.if-not-eat.false) (Err c.in_err-value.field-0.0) _ c.in_err-value.ensures _ in
+    set_last c.args.line c.args.levels (ahead c.args.cursor.now) c.in_ok-targets.targets (ahead c.targets.new.cursor) c.in_ok-targets.ensures (ahead c.eat.new.self) (sign_taken s.Assign _ _ c.eat.result c.eat.ensures.found c.eat.ensures.rest c.if-not-eat.false) (Err c.in_err-value.field-0.0) _ c.in_err-value.ensures _ in
     search rules
 
 pub returns : goal.returns
 returns c =
-    set_last c.args.line c.args.levels (ahead c.args.cursor.now) c.in_ok-names.names (ahead c.targets.new.cursor) c.in_ok-names.ensures (ahead c.eat.new.self) (sign_taken s.Assign _ _ c.eat.result c.eat.ensures.found c.eat.ensures.rest c.if-not-eat.false)
+    set_last c.args.line c.args.levels (ahead c.args.cursor.now) c.in_ok-targets.targets (ahead c.targets.new.cursor) c.in_ok-targets.ensures (ahead c.eat.new.self) (sign_taken s.Assign _ _ c.eat.result c.eat.ensures.found c.eat.ensures.rest c.if-not-eat.false)
     (Ok c.in_ok-value.value) (ahead c.expression.new.cursor) c.in_ok-value.ensures
-    (h.Statement (stmt.Set c.args.line c.in_ok-names.names c.in_ok-value.value)) (ap (λ z. a_statement z) (view_Set c.args.line c.in_ok-names.names c.in_ok-value.value))
+    (h.Statement (stmt.Set c.args.line c.in_ok-targets.targets c.in_ok-value.value)) (ap (λ z. a_statement z) (view_Set c.args.line c.in_ok-targets.targets c.in_ok-value.value))
