@@ -11,7 +11,7 @@ use Rattle.jt_resolved.specs.Pool.{Constant}
 use Rattle.jt_resolved.specs.Slots as slots
 use Rattle.jt_resolved.specs.Slots.{SBody}
 use Rattle.jt_meaning.specs.Resolve.{followed, resolved_chain}
-use Rattle.jt_layout.specs.declared.scope.Scope.{Scope}
+use Rattle.jt_bind.specs.Chains.{Chains}
 use Rattle.jt_bind.specs.Scoped.{world_in, order_in, home_in}
 use Rattle.jt_bind.specs.Stated.{layer_in}
 use Rattle.jt_bind.proofs.LeadingBodies.{followed_end, followed_again}
@@ -26,7 +26,7 @@ is_nil [] = true
 is_nil (x ∷ xs) = false
 
 -- a template in front of the others of its chain
-chain_next : (s : Scope) (t : Template) (ts : List Template) (root : Bool) → root ≡ is_nil ts
+chain_next : (s : Chains) (t : Template) (ts : List Template) (root : Bool) → root ≡ is_nil ts
     → followed (layer_in s t root) (resolved_chain (world_in s) (order_in s) (home_in s) ts) ≡ resolved_chain (world_in s) (order_in s) (home_in s) (t ∷ ts)
 chain_next s t [] root e = ap (λ b. followed (layer_in s t b) slots.end) e ∙ followed_end (layer_in s t true)
 chain_next s t (u ∷ us) root e = ap (λ b. followed (layer_in s t b) (resolved_chain (world_in s) (order_in s) (home_in s) (u ∷ us))) e
@@ -46,7 +46,7 @@ root_here ts ls i root lt e =
     e ∙ nil_long (drop (i + 1) ls) (i + 1) (length ls) (omega arith) ∙ sym (nil_same (layer_view ts) (drop (i + 1) ls))
 
 -- of the templates from one on, this one and the others
-layers_next : (s : Scope) (ts : List Template) (ls : List Layer) (i : ℕ) (d : Layer) (root : Bool) (left : SBody Constant) → i < length ls → root ≡ is_nil (map (layer_view ts) (drop (i + 1) ls))
+layers_next : (s : Chains) (ts : List Template) (ls : List Layer) (i : ℕ) (d : Layer) (root : Bool) (left : SBody Constant) → i < length ls → root ≡ is_nil (map (layer_view ts) (drop (i + 1) ls))
     → followed (layer_in s (layer_view ts (get_or ls i d)) root) (followed (resolved_chain (world_in s) (order_in s) (home_in s) (map (layer_view ts) (drop (i + 1) ls))) left)
     ≡ followed (resolved_chain (world_in s) (order_in s) (home_in s) (map (layer_view ts) (drop i ls))) left
 layers_next s ts ls i d root left lt e =
@@ -54,7 +54,7 @@ layers_next s ts ls i d root left lt e =
     ∙ ap (λ z. followed z left) (chain_next s (layer_view ts (get_or ls i d)) (map (layer_view ts) (drop (i + 1) ls)) root e)
     ∙ ap (λ (l : List Layer). followed (resolved_chain (world_in s) (order_in s) (home_in s) (map (layer_view ts) l)) left) (sym (drop_more ls i d lt))
 
-pub layers_turn : (s : Scope) (ts : List Template) (ls : List Layer) (i : ℕ) (x : Layer) (root : Bool) (left : SBody Constant) → i < length ls → x ≡ get_or ls i x → root ≡ is_nil (map (layer_view ts) (drop (i + 1) ls))
+pub layers_turn : (s : Chains) (ts : List Template) (ls : List Layer) (i : ℕ) (x : Layer) (root : Bool) (left : SBody Constant) → i < length ls → x ≡ get_or ls i x → root ≡ is_nil (map (layer_view ts) (drop (i + 1) ls))
     → followed (layer_in s (layer_view ts x) root) (followed (resolved_chain (world_in s) (order_in s) (home_in s) (map (layer_view ts) (drop (i + 1) ls))) left)
     ≡ followed (resolved_chain (world_in s) (order_in s) (home_in s) (map (layer_view ts) (drop i ls))) left
 layers_turn s ts ls i x root left lt is e =

@@ -136,17 +136,6 @@ branch_step templates bs i b us n k m m' r lt is body asked taken more so =
 -- ---- forms of statements
 
 module _ (templates : List Text) (x : code_stmt.SStmt) (behind : SBody ℕ) where
-  pub put_counted : (i : ℕ) → x ≡ s.PutPooled i → body_locals (stmt_view templates x behind) ≡ max 0 (body_locals behind)
-  put_counted i e = ap (λ (z : code_stmt.SStmt). body_locals (stmt_view templates z behind)) e ∙ ap body_locals (view_PutPooled templates i behind)
-
-  pub print_counted : (p : Place) (escaping : Bool) (e : code.SExpr) (n : ℕ) → x ≡ s.Print p escaping e → n ≡ expr_locals (expr_view e) → body_locals (stmt_view templates x behind) ≡ max n (body_locals behind)
-  print_counted p escaping e n is f = ap (λ (z : code_stmt.SStmt). body_locals (stmt_view templates z behind)) is ∙ ap body_locals (view_Print templates p escaping e behind) ∙ ap (λ m. max m (body_locals behind)) (sym f)
-
-  pub assign_counted : (p : Place) (xs : Targets) (e : code.SExpr) (m n k : ℕ) → x ≡ s.Assign p xs e → m ≡ targets_locals (targets_view xs) → n ≡ expr_locals (expr_view e) → k ≡ max m n → body_locals (stmt_view templates x behind) ≡ max k (body_locals behind)
-  assign_counted p xs e m n k is f g h =
-      ap (λ (z : code_stmt.SStmt). body_locals (stmt_view templates z behind)) is ∙ ap body_locals (view_Assign templates p xs e behind)
-      ∙ ap (λ z. max z (body_locals behind)) (ap (λ z. max z (expr_locals (expr_view e))) (sym f) ∙ ap (max m) (sym g) ∙ sym h)
-
   pub choice_done : (bs : Vec Branch Global) (other : Vec code_stmt.SStmt Global) (m n : ℕ) → x ≡ s.If bs other → ((b : SBody ℕ) → body_locals (body_view templates other.items b) ≡ max m (body_locals b)) → n ≡ max m (branches_locals templates bs.items)
       → body_locals (stmt_view templates x behind) ≡ max n (body_locals behind)
   choice_done bs other m n is f h =
@@ -173,6 +162,3 @@ module _ (templates : List Text) (x : code_stmt.SStmt) (behind : SBody ℕ) wher
   capture_counted escaping y body m n k is f g h =
       ap (λ (z : code_stmt.SStmt). body_locals (stmt_view templates z behind)) is ∙ ap body_locals (view_Capture templates escaping y body behind)
       ∙ ap (λ z. max z (body_locals behind)) (ap (λ z. max z (body_locals (body_view templates body.items slots.end))) (sym f) ∙ ap (max m) (g slots.end ∙ max_zero n) ∙ sym h)
-
-  pub run_counted : (u : ℕ) (es : Vec Entry Global) (n : ℕ) → x ≡ s.Run u es → n ≡ row_locals (row_view es.items slots.none) → body_locals (stmt_view templates x behind) ≡ max n (body_locals behind)
-  run_counted u es n is f = ap (λ (z : code_stmt.SStmt). body_locals (stmt_view templates z behind)) is ∙ ap body_locals (view_Run templates u es behind) ∙ ap (λ m. max m (body_locals behind)) (sym f)

@@ -11,8 +11,7 @@ use Rattle.jt_meaning.proofs.Finding.{macro_named}
 use Rattle.jt_meaning.proofs.Givens.{LeadsTo, called_macro}
 use Rattle.jt_meaning.proofs.Ordering.{libraries_stand}
 use Rattle.jt_meaning.proofs.Reading.{home_is, no_both}
-use Rattle.jt_layout.specs.Laid.{IsLaidOut}
-use Rattle.jt_layout.specs.declared.scope.Scope.{Scope}
+use Rattle.jt_bind.specs.Chains.{Chains}
 use Rattle.jt_bind.specs.Callees.{IsLaidThere, library_of, of_home}
 use Rattle.jt_bind.specs.Scoped.{world_in, order_in, home_in, callee_in}
 
@@ -32,11 +31,10 @@ leads_there world order ordered h known k (inl e) = ap (λ z. listed z order) e 
 leads_there world order ordered h known k (inr r) = ap (λ z. listed z order) r.1 ∙ (libraries_stand world order ordered h known r.0 r.2).known
 
 -- it is the first of its name there, and its home is laid out
-pub called_there : (s : Scope) → IsLaidOut s → (f : Expr) (k : Home) (b : MacroBody) → callee_in s f ≡ a_macro k b → (macro_of b.name (macros (world_in s).sources k) ≡ Some b) × (listed k (order_in s) ≡ true)
-called_there s laid f k b e =
+pub called_there : (s : Chains) → s.home < length (order_in s) → (f : Expr) (k : Home) (b : MacroBody) → callee_in s f ≡ a_macro k b → (macro_of b.name (macros (world_in s).sources k) ≡ Some b) × (listed k (order_in s) ≡ true)
+called_there s inside f k b e =
     let ms = macros (world_in s).sources k in
-    let found = called_macro (world_in s).sources (home_in s) f k b e in
-    let inside : s.home < length (order_in s) = omega (arith, laid.inside, laid.all_homes) in (
+    let found = called_macro (world_in s).sources (home_in s) f k b e in (
       ap (λ x. macro_of x ms) (macro_named (world_in s) (order_in s) found.0 b ms found.1) ∙ found.1,
       leads_there (world_in s) (order_in s) s.chain.now.order (home_in s) (home_listed (order_in s) s.home inside) k found.2,
     )

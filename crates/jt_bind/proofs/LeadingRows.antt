@@ -8,7 +8,7 @@ use Rattle.jt_resolved.specs.Slots.{SExpr, SRow, Maker}
 use Rattle.jt_resolved.specs.View.{expr_view, row_view}
 use Rattle.jt_resolved.specs.declared.program.SExpr as code
 use Rattle.jt_bind.specs.Scoped.{IsPlaced, RowLeads, expr_in}
-use Rattle.jt_layout.specs.declared.scope.Scope.{Scope}
+use Rattle.jt_bind.specs.Chains.{Chains}
 use Rattle.jt_bind.specs.declared.spot.Spot.{Spot}
 use Rattle.jt_resolved.proofs.ExpressionViews.{Entry, row_push}
 
@@ -22,26 +22,6 @@ grown_by p xs q e = ap length e ∙ length-append p xs
 pub both_pooled : (p xs ys q r : List Tree) → q ≡ p ++ xs → r ≡ q ++ ys → r ≡ p ++ (xs ++ ys)
 both_pooled p xs ys q r e f = f ∙ ap (λ l. l ++ ys) e ∙ append_assoc p xs ys
 
-pub constant_placed : (k : ℕ) (x : SExpr ℕ) (p : List Tree) → x ≡ slots.pooled k → IsPlaced (slots.pooled (known k)) x p p
-constant_placed k x p e = record { shown = e; pooled = sym (append-nil p) }
-
-pub value_placed : (v : Tree) (x : SExpr ℕ) (p q : List Tree) → x ≡ slots.pooled (length p) → q ≡ p ++ v ∷ [] → IsPlaced (slots.pooled (own v)) x p q
-value_placed v x p q e f = record { shown = e; pooled = f }
-
-pub one_placed : (k : Maker) (a : SExpr Constant) (x z : SExpr ℕ) (p q : List Tree) → IsPlaced a x p q → z ≡ slots.made k (slots.item x slots.none) → IsPlaced (slots.made k (slots.item a slots.none)) z p q
-one_placed k a x z p q h e = record {
-  shown = e ∙ ap (λ y. slots.made k (slots.item y slots.none)) h.shown;
-  pooled = h.pooled ∙ ap (λ l. p ++ l) (sym (append-nil (expr_values a)));
-}
-
-pub two_placed : (k : Maker) (a b : SExpr Constant) (x y z : SExpr ℕ) (p q r : List Tree) → IsPlaced a x p q → IsPlaced b y q r → z ≡ slots.made k (slots.item x (slots.item y slots.none))
-    → IsPlaced (slots.made k (slots.item a (slots.item b slots.none))) z p r
-two_placed k a b x y z p q r h g e = record {
-  shown = e ∙ ap (λ w. slots.made k (slots.item w (slots.item y slots.none))) h.shown
-      ∙ ap (λ w. slots.made k (slots.item (placed_expr a (length p)) (slots.item w slots.none))) (g.shown ∙ ap (placed_expr b) (grown_by p (expr_values a) q h.pooled));
-  pooled = both_pooled p (expr_values a) (expr_values b) q r h.pooled g.pooled ∙ ap (λ l. p ++ (expr_values a ++ l)) (sym (append-nil (expr_values b)));
-}
-
 pub conjunction_placed : (a b : SExpr Constant) (x y z : SExpr ℕ) (p q r : List Tree) → IsPlaced a x p q → IsPlaced b y q r → z ≡ slots.conjunction x y → IsPlaced (slots.conjunction a b) z p r
 conjunction_placed a b x y z p q r h g e = record {
   shown = e ∙ ap (λ w. slots.conjunction w y) h.shown ∙ ap (slots.conjunction (placed_expr a (length p))) (g.shown ∙ ap (placed_expr b) (grown_by p (expr_values a) q h.pooled));
@@ -54,20 +34,7 @@ disjunction_placed a b x y z p q r h g e = record {
   pooled = both_pooled p (expr_values a) (expr_values b) q r h.pooled g.pooled;
 }
 
-pub choice_placed : (c a b : SExpr Constant) (w x y z : SExpr ℕ) (p q r s : List Tree) → IsPlaced c w p q → IsPlaced a x q r → IsPlaced b y r s → z ≡ slots.choice w x y → IsPlaced (slots.choice c a b) z p s
-choice_placed c a b w x y z p q r s f g h e =
-    let first : length q ≡ length p + length (expr_values c) = grown_by p (expr_values c) q f.pooled in
-    let second : length r ≡ length p + length (expr_values c) + length (expr_values a) = grown_by q (expr_values a) r g.pooled ∙ ap (λ n. n + length (expr_values a)) first in
-    record {
-      shown = e ∙ ap (λ v. slots.choice v x y) f.shown ∙ ap (λ v. slots.choice (placed_expr c (length p)) v y) (g.shown ∙ ap (placed_expr a) first)
-          ∙ ap (slots.choice (placed_expr c (length p)) (placed_expr a (length p + length (expr_values c)))) (h.shown ∙ ap (placed_expr b) second);
-      pooled = both_pooled p (expr_values c) (expr_values a ++ expr_values b) q s f.pooled (both_pooled q (expr_values a) (expr_values b) r s g.pooled h.pooled);
-    }
-
 -- ---- rows
-
-pub row_same : (whole : SRow Constant) (es : List Entry) (p : List Tree) → RowLeads whole whole es es p p
-row_same whole es p = record { shown = refl; pooled = refl }
 
 pub row_both : (a b c : SRow Constant) (es fs gs : List Entry) (p q r : List Tree) → RowLeads a b es fs p q → RowLeads b c fs gs q r → RowLeads a c es gs p r
 row_both a b c es fs gs p q r h g = record { shown = g.shown ∙ h.shown; pooled = g.pooled ∙ h.pooled }
@@ -98,7 +65,7 @@ invoked_placed u escaping whole es z p q h e = record { shown = e ∙ ap (slots.
 
 -- ---- trees that are equal
 
-pub same_tree : (s : Scope) (spot : Spot) (x y : trees.Expr) (e : SExpr ℕ) (p q : List Tree) → x ≡ y → IsPlaced (expr_in s x spot) e p q → IsPlaced (expr_in s y spot) e p q
+pub same_tree : (s : Chains) (spot : Spot) (x y : trees.Expr) (e : SExpr ℕ) (p q : List Tree) → x ≡ y → IsPlaced (expr_in s x spot) e p q → IsPlaced (expr_in s y spot) e p q
 same_tree s spot x y e p q h = let P : trees.Expr → Type 0 = λ z. IsPlaced (expr_in s z spot) e p q in subst P h
 
 -- a row that began with nothing

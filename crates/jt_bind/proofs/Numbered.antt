@@ -15,7 +15,7 @@ use Rattle.jt_meaning.specs.Layout.{counted_from, numbered_bodies, block_paramet
 use Rattle.jt_meaning.specs.Programs.{body_routines}
 use Rattle.jt_meaning.specs.Resolve as resolve
 use Rattle.jt_meaning.specs.Resolve.{resolved_routine, macro_routine, top_spot}
-use Rattle.jt_layout.specs.declared.scope.Scope.{Scope}
+use Rattle.jt_bind.specs.Chains.{Chains}
 use Rattle.jt_bind.specs.Scoped.{world_in, order_in, home_in, templates_in, globals_in, part_at, part_from}
 use Rattle.jt_bind.specs.Routines.{IsRoutine, RoutinesLead}
 use Rattle.jt_bind.proofs.Routing.{Planned, routine_lead, routine_as, routines_of}
@@ -33,7 +33,7 @@ counted_long : (n : ℕ) (bs : List BlockBody) → length (counted_from n bs) �
 counted_long n [] = refl
 counted_long n (b ∷ bs) = ap suc (counted_long (suc n) bs)
 
-module _ (s : Scope) (us : List Block) (all : map (block_view (chain_view s.chain.now).templates) us ≡ all_bodies (world_in s).sources (world_in s).escaping (home_in s)) where
+module _ (s : Chains) (us : List Block) (all : map (block_view (chain_view s.chain.now).templates) us ≡ all_bodies (world_in s).sources (world_in s).escaping (home_in s)) where
   abbrev shown : Block → BlockBody
   shown = block_view (chain_view s.chain.now).templates
 
@@ -71,7 +71,7 @@ module _ (s : Scope) (us : List Block) (all : map (block_view (chain_view s.chai
       (routine_as (templates_in s) (world_in s) (order_in s) xs (block_parameters (world_in s) (order_in s) (home_in s) x.name.now) (body_view x.body.now) (body_view x.body.now) (at (drop i numbered)) (at ((i, shown x) ∷ drop (i + 1) numbered)) r p q made same refl (ap at next)) pushed)
 
 -- the routine of a macro
-pub macro_lead : (s : Scope) (ms : List Macro) (i : ℕ) (x : Macro) (xs : List Text) (sp : resolve.Spot) (left : List Planned) (r : Routine) (rs ss : List Routine) (p q : List Tree) → i < length ms → x ≡ get_or ms i x
+pub macro_lead : (s : Chains) (ms : List Macro) (i : ℕ) (x : Macro) (xs : List Text) (sp : resolve.Spot) (left : List Planned) (r : Routine) (rs ss : List Routine) (p q : List Tree) → i < length ms → x ≡ get_or ms i x
     → xs ≡ map (λ z. z.name) (parameters_view x.parameters.now) → sp ≡ top_spot (world_in s) (order_in s) (home_in s) (name_at (chain_view s.chain.now).templates x.template)
     → IsRoutine (templates_in s) (resolved_routine (world_in s) (order_in s) xs (body_view x.body.now) sp) r p q → ss ≡ rs ++ r ∷ []
     → RoutinesLead (templates_in s) (map (λ m. macro_routine (world_in s) (order_in s) (home_in s) (macro_view (chain_view s.chain.now).templates m)) (drop i ms) ++ left)

@@ -14,7 +14,7 @@ use Rattle.jt_rules.specs.World.{World}
 use Rattle.jt_resolved.specs.Slots as slots
 use Rattle.jt_meaning.specs.Layout.{Key, of_chain, of_macro, of_body, same_key, place_of, in_globals, entry_keys, chain_keys, numbered_bodies, names, names_in, first_slot, unit, block_parameters, Table}
 use Rattle.jt_meaning.specs.Resolve.{Spot, place, left_out, followed, alone, handed_on, reads, placed_body}
-use Rattle.jt_layout.specs.declared.scope.Scope.{Scope}
+use Rattle.jt_bind.specs.Chains.{Chains}
 use Rattle.jt_bind.specs.Scoped.{RowLeads, world_in, order_in, spot_in}
 use Rattle.jt_bind.specs.declared.spot.Spot as code_spot
 use Rattle.jt_bind.specs.Stated.{line_in, stmt_in}
@@ -74,7 +74,7 @@ absent_unit world (k ∷ ks) x e =
 
 -- ---- statements
 
-pub include_shown : (s : Scope) (spot : code_spot.Spot) (line : ℕ) (x : Text) (missing context : Bool) (n : ℕ) (xs : List Text) (u : ℕ) → is_none ((world_in s).sources x) ≡ false
+pub include_shown : (s : Chains) (spot : code_spot.Spot) (line : ℕ) (x : Text) (missing context : Bool) (n : ℕ) (xs : List Text) (u : ℕ) → is_none ((world_in s).sources x) ≡ false
     → n ≡ first_slot (world_in s) (order_in s) (a_chain x) → xs ≡ names (world_in s) (order_in s) (a_chain x) → u ≡ unit (world_in s) (order_in s) (of_chain x)
     → followed (handed_on (line_in s spot line) (if context then (spot_in s spot).table else []) n xs) (alone (slots.run u slots.none)) ≡ stmt_in s (trees.include line x missing context) spot
 include_shown s spot line x missing context n xs u there e f g =
@@ -84,7 +84,7 @@ include_shown s spot line x missing context n xs u there e f g =
     ∙ sym (if_false (is_none ((world_in s).sources x)) (left_out (spot_in s spot) line missing) (part (first_slot (world_in s) (order_in s) (a_chain x)) (names (world_in s) (order_in s) (a_chain x)) (unit (world_in s) (order_in s) (of_chain x))) there)
 
 -- an included name without a source
-pub include_missing : (s : Scope) (spot : code_spot.Spot) (line : ℕ) (x : Text) (missing context : Bool) → is_none ((world_in s).sources x) ≡ true → left_out (spot_in s spot) line missing ≡ stmt_in s (trees.include line x missing context) spot
+pub include_missing : (s : Chains) (spot : code_spot.Spot) (line : ℕ) (x : Text) (missing context : Bool) → is_none ((world_in s).sources x) ≡ true → left_out (spot_in s spot) line missing ≡ stmt_in s (trees.include line x missing context) spot
 include_missing s spot line x missing context none =
     let table : Table = if context then (spot_in s spot).table else [] in
     sym (if_true (is_none ((world_in s).sources x)) (left_out (spot_in s spot) line missing)

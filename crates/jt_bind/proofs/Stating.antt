@@ -27,7 +27,7 @@ use Rattle.jt_resolved.specs.declared.program.SStmt.{SStmt}
 use Rattle.jt_meaning.specs.Layout.{Table, slot_in}
 use Rattle.jt_meaning.specs.Resolve.{Spot, read_from, followed, alone, copied, handed_on, resolved, resolved_values, resolved_body, resolved_condition, resolved_filters, grown, kept_slots, fresh_targets, bound_all, place}
 use Rattle.jt_names.specs.Names.{texts}
-use Rattle.jt_layout.specs.declared.scope.Scope.{Scope}
+use Rattle.jt_bind.specs.Chains.{Chains}
 use Rattle.jt_bind.specs.Names.{last_among}
 use Rattle.jt_bind.specs.declared.frame.Frame.{Frame}
 use Rattle.jt_bind.specs.declared.spot.Spot as code_spot
@@ -77,10 +77,10 @@ values_followed world order (pair x e ps) sp line b left = ap (slots.stmt (slots
 
 -- ---- trees that are equal
 
-pub stmt_as : (s : Scope) (spot : code_spot.Spot) (x y : trees.Stmt) (ss ts : List SStmt) (p q : List Tree) → x ≡ y → Led (templates_in s) (stmt_in s x spot) ss ts p q → Led (templates_in s) (stmt_in s y spot) ss ts p q
+pub stmt_as : (s : Chains) (spot : code_spot.Spot) (x y : trees.Stmt) (ss ts : List SStmt) (p q : List Tree) → x ≡ y → Led (templates_in s) (stmt_in s x spot) ss ts p q → Led (templates_in s) (stmt_in s y spot) ss ts p q
 stmt_as s spot x y ss ts p q e h = led_of (templates_in s) (stmt_in s x spot) (stmt_in s y spot) ss ts p q (ap (λ z. stmt_in s z spot) e) h
 
-module _ (s : Scope) (spot : code_spot.Spot) (x : Stmt) where
+module _ (s : Chains) (spot : code_spot.Spot) (x : Stmt) where
   pub if_shown : (bs : Vec Branch Global) (other : Vec Stmt Global) (cs : List Branch) (us : List Stmt) → x ≡ v.If bs other → cs ≡ bs.items → us ≡ other.items
       → choice_in s (branches_view cs) spot (body_in s (body_view us) spot) ≡ stmt_in s (stmt_view x) spot
   if_shown bs other cs us is e f =
@@ -99,7 +99,7 @@ module _ (s : Scope) (spot : code_spot.Spot) (x : Stmt) where
       ∙ sym (ap (λ z. stmt_in s z spot) (ap stmt_view is ∙ view_For line xs e k body other))
 
 -- a filter tag: its text, and what its filters make of it
-pub filter_shown : (s : Scope) (spot : code_spot.Spot) (line : ℕ) (fs : List trees.Filtering) (b : trees.Body) (n : ℕ) → n ≡ spot.free + 1
+pub filter_shown : (s : Chains) (spot : code_spot.Spot) (line : ℕ) (fs : List trees.Filtering) (b : trees.Body) (n : ℕ) → n ≡ spot.free + 1
     → followed (alone (slots.capture spot.escaping (local spot.free) (scoped_in s b (spot_in s (record spot { free = n })))))
     (alone (slots.print (line_in s spot line) spot.escaping (resolved_filters (world_in s) (order_in s) fs (spot_in s (record spot { free = n })) (slots.variable (local spot.free))))) ≡ stmt_in s (trees.filter_block line fs b) spot
 filter_shown s spot line fs b n e =
@@ -107,14 +107,14 @@ filter_shown s spot line fs b n e =
     (alone (slots.print (line_in s spot line) spot.escaping (resolved_filters (world_in s) (order_in s) fs (spot_in s (record spot { free = m })) (slots.variable (local spot.free)))))) (e ∙ add-one spot.free)
 
 -- values, and what is behind them
-pub values_led : (s : Scope) (spot : code_spot.Spot) (ps : Pairs) (line : ℕ) (w : SBody Constant) (es fs gs : List SStmt) (p q r : List Tree)
+pub values_led : (s : Chains) (spot : code_spot.Spot) (ps : Pairs) (line : ℕ) (w : SBody Constant) (es fs gs : List SStmt) (p q r : List Tree)
     → ((behind : SBody Constant) → BodyLeads (templates_in s) (values_in s ps spot line behind) behind es fs p q) → Led (templates_in s) w fs gs q r → Led (templates_in s) (values_in s ps spot line w) es gs p r
 values_led s spot ps line w es fs gs p q r h g = λ left.
     lead_both (templates_in s) _ _ _ es fs gs p q r
     (lead_of (templates_in s) _ _ _ es fs p q (sym (values_followed (world_in s) (order_in s) ps (spot_in s spot) line w left)) (h (followed w left))) (g left)
 
 -- copies of what a scope sets, and its body
-pub scope_led : (s : Scope) (b : trees.Body) (sp : Spot) (spot : code_spot.Spot) (es fs gs : List SStmt) (p r : List Tree) → spot_in s spot ≡ bound_all (set_in b) sp
+pub scope_led : (s : Chains) (b : trees.Body) (sp : Spot) (spot : code_spot.Spot) (es fs gs : List SStmt) (p r : List Tree) → spot_in s spot ≡ bound_all (set_in b) sp
     → ((behind : SBody Constant) → BodyLeads (templates_in s) (copied (place sp 1) sp.table sp.free (set_in b) behind) behind es fs p p) → Led (templates_in s) (body_in s b spot) fs gs p r → Led (templates_in s) (scoped_in s b sp) es gs p r
 scope_led s b sp spot es fs gs p r e h g = λ left.
     let inner = resolved_body (world_in s) (order_in s) b (bound_all (set_in b) sp) in
@@ -124,16 +124,16 @@ scope_led s b sp spot es fs gs p r e h g = λ left.
     (lead_of (templates_in s) (followed (body_in s b spot) left) (followed inner left) left fs gs p r (ap (λ z. followed z left) same) (g left))
 
 -- copies of names that are another list
-pub copies_as : (s : Scope) (sp : Spot) (xs : List Text) (b : trees.Body) (es fs : List SStmt) (p : List Tree) → xs ≡ set_in b
+pub copies_as : (s : Chains) (sp : Spot) (xs : List Text) (b : trees.Body) (es fs : List SStmt) (p : List Tree) → xs ≡ set_in b
     → ((behind : SBody Constant) → BodyLeads (templates_in s) (copied (place sp 1) sp.table sp.free xs behind) behind es fs p p) → (behind : SBody Constant) → BodyLeads (templates_in s) (copied (place sp 1) sp.table sp.free (set_in b) behind) behind es fs p p
 copies_as s sp xs b es fs p e h behind = lead_of (templates_in s) _ _ behind es fs p p (ap (λ z. copied (place sp 1) sp.table sp.free z behind) e) (h behind)
 
 -- the same body at a place that is another
-pub scoped_as : (s : Scope) (b : trees.Body) (sp sq : Spot) (es fs : List SStmt) (p q : List Tree) → sp ≡ sq → Led (templates_in s) (scoped_in s b sp) es fs p q → Led (templates_in s) (scoped_in s b sq) es fs p q
+pub scoped_as : (s : Chains) (b : trees.Body) (sp sq : Spot) (es fs : List SStmt) (p q : List Tree) → sp ≡ sq → Led (templates_in s) (scoped_in s b sp) es fs p q → Led (templates_in s) (scoped_in s b sq) es fs p q
 scoped_as s b sp sq es fs p q e = led_of (templates_in s) (scoped_in s b sp) (scoped_in s b sq) es fs p q (ap (scoped_in s b) e)
 
 -- a loop's turn at a place that is another
-pub turn_as : (s : Scope) (b : trees.Body) (k : Option expressions.Expr) (sp sq : Spot) (d : Option code.SExpr) (ss : List SStmt) (p q r : List Tree) → sp ≡ sq → IsAsked (resolved_condition (world_in s) (order_in s) k sp) d p q → Led (templates_in s) (scoped_in s b sp) [] ss q r
+pub turn_as : (s : Chains) (b : trees.Body) (k : Option expressions.Expr) (sp sq : Spot) (d : Option code.SExpr) (ss : List SStmt) (p q r : List Tree) → sp ≡ sq → IsAsked (resolved_condition (world_in s) (order_in s) k sp) d p q → Led (templates_in s) (scoped_in s b sp) [] ss q r
     → IsTurn s (resolved_condition (world_in s) (order_in s) k sq) (scoped_in s b sq) d ss p r
 turn_as s b k sp sq d ss p q r e h g =
     let P : Spot → Type 0 = λ z. IsAsked (resolved_condition (world_in s) (order_in s) k z) d p q in

@@ -18,7 +18,7 @@ use Rattle.jt_resolved.specs.Pool.{Constant, expr_values, row_values, body_value
 use Rattle.jt_trees.specs.Expressions as trees
 use Rattle.jt_resolved.specs.Slots as slots
 use Rattle.jt_resolved.specs.Slots.{SRow, SBody}
-use Rattle.jt_resolved.specs.View.{row_view, body_view, expr_view}
+use Rattle.jt_resolved.specs.View.{row_view, body_view}
 use Rattle.jt_resolved.specs.declared.program.SExpr.{SExpr}
 use Rattle.jt_resolved.specs.declared.program.SStmt.{SStmt}
 use Rattle.jt_meaning.specs.Layout.{Table, globals, numbered_bodies}
@@ -28,7 +28,9 @@ use Rattle.jt_meaning.specs.Expressions.{filter_parameters}
 use Rattle.jt_names.specs.Names.{texts}
 use Rattle.jt_bind.specs.declared.frame.Frame.{Frame}
 use Rattle.jt_bind.specs.declared.spot.Spot.{Spot}
-use Rattle.jt_layout.specs.declared.scope.Scope.{Scope}
+use Rattle.jt_layout.specs.Laid.{IsLaid}
+use Rattle.jt_layout.specs.declared.laid.Laid.{Laid}
+use Rattle.jt_bind.specs.Chains.{Chains}
 
 -- the values of a pool
 abbrev pub values : Vec Value Global → List Tree
@@ -67,7 +69,7 @@ abbrev pub part_at : List (ℕ × BlockBody) → Option ℕ → Option Part
 part_at bs None = None
 part_at bs (Some i) = part_from (drop i bs)
 
-module _ (s : Scope) where
+module _ (s : Chains) where
   abbrev pub world_in : World
   world_in = world_of (chain_view s.chain.now)
 
@@ -79,6 +81,10 @@ module _ (s : Scope) where
 
   abbrev pub templates_in : List Text
   templates_in = map (λ t. t.name) (chain_view s.chain.now).templates
+
+  -- the table of a chain or a library
+  abbrev pub IsTable : Home → Laid → Type 0
+  IsTable h l = IsLaid world_in order_in (chain_view s.chain.now).templates h l
 
   -- the names that stand for macros and libraries, and what stands in front of the arguments of a call
   abbrev pub given_in : List (Text × Given)
@@ -103,10 +109,6 @@ module _ (s : Scope) where
   -- what the parts of a tree are resolved to
   abbrev pub expr_in : trees.Expr → Spot → slots.SExpr Constant
   expr_in e p = resolve.resolved world_in order_in e (spot_in p)
-
-  -- what an expression is resolved to, with the values that it puts at the end of a pool
-  abbrev pub IsResolved : Spot → trees.Expr → SExpr → Vec Value Global → Vec Value Global → Type 0
-  IsResolved p t e old new = IsPlaced (expr_in t p) (expr_view e) (values old) (values new)
 
   abbrev pub row_in : trees.Exprs → Spot → SRow Constant → SRow Constant
   row_in ts p left = resolve.resolved_row world_in order_in ts (spot_in p) left

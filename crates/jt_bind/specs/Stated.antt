@@ -19,7 +19,7 @@ use Rattle.jt_resolved.specs.declared.program.SExpr.{SExpr}
 use Rattle.jt_resolved.specs.declared.program.SStmt.{SStmt}
 use Rattle.jt_meaning.specs.Resolve as resolve
 use Rattle.jt_meaning.specs.Resolve.{followed}
-use Rattle.jt_layout.specs.declared.scope.Scope.{Scope}
+use Rattle.jt_bind.specs.Chains.{Chains}
 use Rattle.jt_bind.specs.declared.spot.Spot.{Spot}
 use Rattle.jt_bind.specs.Scoped.{values, IsPlaced, BodyLeads, world_in, order_in, home_in, spot_in, templates_in}
 
@@ -67,7 +67,7 @@ slot_if (Some j) i s = if j == i then s else None
 
 -- ---- the parts of a chain
 
-module _ (s : Scope) where
+module _ (s : Chains) where
   abbrev pub line_in : Spot → ℕ → place.Place
   line_in p line = resolve.place (spot_in s p) line
 
@@ -77,10 +77,6 @@ module _ (s : Scope) where
   -- all of a body is put behind other statements, and its values at the end of a pool
   abbrev pub BodyLed : SBody Constant → Vec SStmt Global → Vec SStmt Global → Vec Value Global → Vec Value Global → Type 0
   BodyLed whole before after old new = Led (templates_in s) whole before.items after.items (values old) (values new)
-
-  -- so is what a statement is resolved to
-  abbrev pub StmtLed : Spot → trees.Stmt → Vec SStmt Global → Vec SStmt Global → Vec Value Global → Vec Value Global → Type 0
-  StmtLed p t = BodyLed (stmt_in t p)
 
   abbrev pub body_in : trees.Body → Spot → SBody Constant
   body_in b p = resolve.resolved_body (world_in s) (order_in s) b (spot_in s p)
@@ -92,11 +88,12 @@ module _ (s : Scope) where
   abbrev pub scoped_in : trees.Body → resolve.Spot → SBody Constant
   scoped_in b sp = resolve.scoped (set_in b) sp (resolve.resolved_body (world_in s) (order_in s) b)
 
-  -- a template of a chain: the root, or what another one sets
+  -- a template of a chain at its top: the root, or what another one sets
+  abbrev pub layer_at : resolve.Spot → trees.Body → Bool → SBody Constant
+  layer_at top b is_root = if is_root then resolve.resolved_body (world_in s) (order_in s) b top else resolve.resolved_sets (world_in s) (order_in s) b top
+
   abbrev pub layer_in : Template → Bool → SBody Constant
-  layer_in t is_root =
-      let top : resolve.Spot = resolve.top_spot (world_in s) (order_in s) (home_in s) t.name in
-      if is_root then resolve.resolved_body (world_in s) (order_in s) t.body top else resolve.resolved_sets (world_in s) (order_in s) t.body top
+  layer_in t is_root = layer_at (resolve.top_spot (world_in s) (order_in s) (home_in s) t.name) t.body is_root
 
   abbrev pub values_in : expressions.Pairs → Spot → ℕ → SBody Constant → SBody Constant
   values_in ps p line behind = resolve.resolved_values (world_in s) (order_in s) ps (spot_in s p) line behind

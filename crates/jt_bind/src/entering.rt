@@ -7,23 +7,23 @@ ghost use denote.Ref.{Bor};
 ghost use Rattle.jt_bind.specs.declared.frame.Frame.{Frame};
 ghost use Rattle.jt_trees.specs.ExpressionView.{pairs_view};
 ghost use Rattle.jt_chains.specs.Uses.{keywords};
-ghost use Rattle.jt_layout.specs.Laid.{IsLaidOut};
 ghost use Rattle.jt_meaning.specs.Layout.{Table};
-ghost use Rattle.jt_layout.specs.declared.scope.Scope.{Scope};
+ghost use Rattle.jt_bind.specs.Chains.{Chains};
 ghost use Rattle.jt_meaning.specs.Resolve.{bound_all, bound_table, copied};
-ghost use Rattle.jt_bind.specs.Scoped.{BodyLeads, framed, spot_in, templates_in};
+ghost use Rattle.jt_bind.specs.Resolving.{line_of, table_of, templates_of};
+ghost use Rattle.jt_bind.specs.Scoped.{BodyLeads, framed, spot_in};
 ghost use Rattle.jt_trees.specs.StatementView.{names_view, parameters_view};
 ghost use Rattle.jt_resolved.specs.Pool.{Constant};
 ghost use Rattle.jt_resolved.specs.Slots.{SBody};
 ghost use Rattle.jt_value.specs.Tree.{Tree};
 ghost use Rattle.jt_names.specs.Names.{texts};
-ghost use Rattle.jt_bind.specs.Stated.{line_in};
 
 use crate::frame::Frame;
-use crate::lookup::{more, reading, slot};
+use crate::lookup::reading;
 use crate::putting::put_assign;
+use crate::resolver::Resolver;
 use crate::spot::Spot;
-use jt_layout::Scope;
+use jt_layout::more;
 use jt_resolved::{SStmt, Slot, Targets};
 use jt_trees::{Expr, Parameter};
 use jt_value::NoMemory;
@@ -64,7 +64,7 @@ pub(crate) fn entered<'a>(
     spot: &Spot<'_, 'a>,
     names: Vec<&'a str>,
 ) -> Result<Inside<'a>, NoMemory>
-    ensures { IfOk result (λ i. (s : Scope) (fr : Bor (List (Rc Frame Global)))
+    ensures { IfOk result (λ i. (s : Chains) (fr : Bor (List (Rc Frame Global)))
         → fr.now ≡ i.frames.items
         → spot_in s (record spot.now { frames = fr; free = i.free })
         ≡ bound_all (texts names.entry.items) (spot_in s spot.now)) }
@@ -74,27 +74,22 @@ pub(crate) fn entered<'a>(
     Ok(Inside { frames, free })
 }
 
-/// Puts what the names read, into locals from the first that holds nothing, behind other
-/// statements.
-pub(crate) fn put_copies(
-    scope: &Scope<'_>,
-    spot: &Spot<'_, '_>,
-    names: &[&str],
-    done: &mut Vec<SStmt>,
-) -> Result<(), NoMemory>
-    requires { IsLaidOut scope.now }
-    ensures { IfOk result (λ u. (behind : SBody Constant) (p : List Tree)
-        → BodyLeads (templates_in scope.now) (copied (line_in scope.now spot.now 1)
-        (spot_in scope.now spot.now).table spot.now.free (texts names.now) behind) behind
-        done.old.items done.new.items p p) }
-{
-    let mut local = spot.free;
-    for name in names {
-        let value = reading(slot(scope, spot, *name));
-        put_assign(spot, 1, Targets::One(Slot::Local(local)), value, done)?;
-        local = more(local, 1)?;
+impl<'s, 'a> Resolver<'s, 'a> {
+    /// Puts what the names read, into locals from the first that holds nothing, behind other
+    /// statements.
+    pub(crate) fn put_copies(&self, names: &[&str], done: &mut Vec<SStmt>) -> Result<(), NoMemory>
+        ensures { IfOk result (λ u. (behind : SBody Constant) (p : List Tree)
+            → BodyLeads (templates_of self.now) (copied (line_of self.now 1) (table_of self.now)
+            self.now.spot.free (texts names.now) behind) behind done.old.items done.new.items p p) }
+    {
+        let mut local = self.spot.free;
+        for name in names {
+            let value = reading(self.slot(*name));
+            put_assign(&self.spot, 1, Targets::One(Slot::Local(local)), value, done)?;
+            local = more(local, 1)?;
+        }
+        Ok(())
     }
-    Ok(())
 }
 
 /// Texts as they stand in a tree.

@@ -1,12 +1,13 @@
 //! Parameters that no argument by place fills.
 
-ghost use Rattle.std.specs.Prelude.{◌≡◌, List, drop, IfOk};
+ghost use Rattle.std.specs.Prelude.{◌≡◌, List, drop, length, IfOk};
 ghost use Rattle.jt_value.specs.Tree.{Tree};
 ghost use Rattle.jt_value.specs.View.{view};
 ghost use Rattle.jt_trees.specs.ExpressionView as written;
 ghost use Rattle.jt_chains.specs.Uses.{keywords};
 ghost use Rattle.jt_meaning.specs.Layout.{slot_in};
 ghost use Rattle.jt_meaning.specs.Resolve as resolve;
+ghost use Rattle.jt_bind.specs.Resolving.{kept_of};
 ghost use Rattle.jt_bind.specs.Scoped.{values, IsPlaced, RowLeads};
 ghost use Rattle.jt_trees.specs.Texts.{among};
 ghost use Rattle.jt_trees.specs.StatementView.{parameter_view, parameters_view};
@@ -15,36 +16,86 @@ ghost use Rattle.jt_resolved.specs.Pool.{own};
 ghost use Rattle.jt_resolved.specs.Slots as slots;
 ghost use Rattle.jt_resolved.specs.View.{expr_view};
 
+use crate::callee::Signature;
 use crate::forms::literal_value;
-use crate::lookup::{kept, more, value_or};
+use crate::lookup::value_or;
 use crate::pool::add_value;
+use crate::resolver::{Arguments, Resolver};
+use jt_layout::more;
 use jt_resolved::SExpr;
 use jt_trees::{Expr, Parameter};
 use jt_value::{NoMemory, Value};
 use std::alloc::Global;
 
-/// Fills the parameters of a macro behind those that are given by place: each has what was kept
-/// aside for its name in the locals from a free one on, or its default.
-pub(crate) fn fill(
-    parameters: &[Parameter],
-    given: usize,
-    first_default: usize,
-    pairs: &[(String, Expr)],
-    free: usize,
-    done: &mut Vec<(Option<usize>, SExpr)>,
-) -> Result<(), NoMemory>
-    ensures { IfOk result (λ u. (p : List Tree)
-        → RowLeads (resolve.filled (parameters_view parameters.now) given first_default
-        (resolve.locals_from free (keywords (written.pairs_view pairs.now)))) slots.none
-        done.old.items done.new.items p p) }
-{
-    let mut default = more(first_default, given)?;
-    for parameter in behind(parameters, given) {
-        let slot = kept(pairs, free, parameter.name.as_str())?;
-        done.push((None, value_or(slot, default)))?;
-        default = more(default, 1)?;
+impl<'s, 'a> Resolver<'s, 'a> {
+    /// Fills the parameters of a macro behind those that are given by place: each has what was kept
+    /// aside for its name in the locals from the first free one on, or its default.
+    pub(crate) fn fill(
+        &self,
+        signature: Signature<'_>,
+        arguments: Arguments<'_>,
+        done: &mut Vec<(Option<usize>, SExpr)>,
+    ) -> Result<(), NoMemory>
+        ensures { IfOk result (λ u. (p : List Tree)
+            → RowLeads (resolve.filled (parameters_view signature.entry.parameters.now)
+            (length arguments.entry.row.now) signature.entry.first_default
+            (kept_of self.now (written.pairs_view arguments.entry.pairs.now))) slots.none
+            done.old.items done.new.items p p) }
+    {
+        let given = arguments.row.len();
+        let mut default = more(signature.first_default, given)?;
+        for parameter in behind(signature.parameters, given) {
+            let slot = self.kept(arguments.pairs, parameter.name.as_str())?;
+            done.push((None, value_or(slot, default)))?;
+            default = more(default, 1)?;
+        }
+        Ok(())
     }
-    Ok(())
+
+    /// Fills the parameters of a filter behind those that are given by place, up to the last one
+    /// that is given by name.
+    pub(crate) fn fill_some(
+        &self,
+        parameters: &[Parameter],
+        arguments: Arguments<'_>,
+        done: &mut Vec<(Option<usize>, SExpr)>,
+        pool: &mut Vec<Value>,
+    ) -> Result<(), NoMemory>
+        ensures { IfOk result (λ u. RowLeads (resolve.filled_some
+            (parameters_view parameters.now) (length arguments.entry.row.now)
+            (keywords (written.pairs_view arguments.entry.pairs.now))
+            (kept_of self.now (written.pairs_view arguments.entry.pairs.now))) slots.none
+            done.old.items done.new.items (values pool.old) (values pool.new)) }
+    {
+        let rest = behind(parameters, arguments.row.len());
+        for (place, parameter) in rest.iter().enumerate() {
+            let left = &rest[place..];
+            if !is_some_given(left, arguments.pairs) {
+                return Ok(());
+            }
+            let value = self.given_or_default(parameter, arguments.pairs, pool)?;
+            done.push((None, value))?;
+        }
+        Ok(())
+    }
+
+    /// What was kept aside for a parameter's name, or its default.
+    fn given_or_default(
+        &self,
+        parameter: &Parameter,
+        pairs: &[(String, Expr)],
+        pool: &mut Vec<Value>,
+    ) -> Result<SExpr, NoMemory>
+        ensures { IfOk result (λ e. IsPlaced (resolve.value_or (slot_in
+            (parameter_view parameter.now).name (kept_of self.now (written.pairs_view pairs.now)))
+            (own (default_value (parameter_view parameter.now).default))) (expr_view e)
+            (values pool.old) (values pool.new)) }
+    {
+        match self.kept(pairs, parameter.name.as_str())? {
+            Some(slot) => Ok(SExpr::Variable(slot)),
+            None => add_value(pool, default_of(self.alloc, parameter)?),
+        }
+    }
 }
 
 /// The parameters behind so many.
@@ -55,54 +106,6 @@ fn behind(parameters: &[Parameter], given: usize) -> &[Parameter]
         &parameters[given..]
     } else {
         &parameters[parameters.len()..]
-    }
-}
-
-/// Fills the parameters of a filter behind those that are given by place, up to the last one that
-/// is given by name.
-pub(crate) fn fill_some(
-    alloc: Global,
-    parameters: &[Parameter],
-    given: usize,
-    pairs: &[(String, Expr)],
-    free: usize,
-    done: &mut Vec<(Option<usize>, SExpr)>,
-    pool: &mut Vec<Value>,
-) -> Result<(), NoMemory>
-    ensures { IfOk result (λ u. RowLeads (resolve.filled_some
-        (parameters_view parameters.now) given (keywords (written.pairs_view pairs.now))
-        (resolve.locals_from free (keywords (written.pairs_view pairs.now)))) slots.none
-        done.old.items done.new.items (values pool.old) (values pool.new)) }
-{
-    let rest = behind(parameters, given);
-    for (place, parameter) in rest.iter().enumerate() {
-        let left = &rest[place..];
-        if !is_some_given(left, pairs) {
-            return Ok(());
-        }
-        let value = given_or_default(alloc, parameter, pairs, free, pool)?;
-        done.push((None, value))?;
-    }
-    Ok(())
-}
-
-/// What was kept aside for a parameter's name, or its default.
-fn given_or_default(
-    alloc: Global,
-    parameter: &Parameter,
-    pairs: &[(String, Expr)],
-    free: usize,
-    pool: &mut Vec<Value>,
-) -> Result<SExpr, NoMemory>
-    ensures { IfOk result (λ e. IsPlaced (resolve.value_or (slot_in
-        (parameter_view parameter.now).name
-        (resolve.locals_from free (keywords (written.pairs_view pairs.now))))
-        (own (default_value (parameter_view parameter.now).default))) (expr_view e)
-        (values pool.old) (values pool.new)) }
-{
-    match kept(pairs, free, parameter.name.as_str())? {
-        Some(slot) => Ok(SExpr::Variable(slot)),
-        None => add_value(pool, default_of(alloc, parameter)?),
     }
 }
 

@@ -13,7 +13,7 @@ ghost use Rattle.jt_resolved.specs.Pool.{Constant, own};
 ghost use Rattle.jt_resolved.specs.Slots as slots;
 ghost use Rattle.jt_evaluation.specs.Values.{literal};
 ghost use Rattle.jt_resolved.specs.View.{expr_view};
-ghost use Rattle.jt_bind.specs.Formed.{form_view};
+ghost use Rattle.jt_bind.specs.Formed.{form_view, IsNumber};
 ghost use Rattle.jt_bind.specs.Scoped.{values, IsPlaced};
 
 use crate::pool::add_value;
@@ -211,7 +211,7 @@ pub(crate) fn turn_among(
 
 /// A count as a value.
 fn number_of(count: usize) -> Result<Value, NoMemory>
-    ensures { IfOk result (λ v. view v ≡ tree.number (pos count)) }
+    ensures { IsNumber count result }
 {
     match i64::try_from(count) {
         Ok(count) => Ok(Value::Int(count)),

@@ -6,8 +6,7 @@ ghost use Rattle.jt_layout.specs.Names.{place_in};
 ghost use Rattle.jt_names.specs.Names.{texts};
 ghost use Rattle.jt_bind.specs.Names.{last_among};
 
-use crate::lookup::more;
-use jt_layout::Index;
+use jt_layout::{Index, more};
 use jt_value::NoMemory;
 use std::alloc::Global;
 

@@ -1,10 +1,11 @@
 //! Names to slots: a chain becomes a program.
 //!
-//! `resolved` (resolving) has the chains and libraries laid out, and resolves one after the other
-//! (homes): its statements (routines, statements), and the expressions in them (expressions), where
-//! names stand in frames (frame, spot) and values in a pool (pool, shared). Whether they keep the
-//! rules is another crate's matter. Read first: resolving.rt; what comes out is said in
-//! jt_meaning's specs/Resolve.antt.
+//! `resolved` (resolving) has the chains and libraries laid out (tables), and resolves one after the
+//! other (homes, routines): a `Resolver` stands at a place of a chain (resolver, spot), and its
+//! methods resolve statements (statements) and the expressions in them (expressions), where names
+//! stand in frames (frame) and values in a pool (pool, shared). Whether they keep the rules is
+//! another crate's matter. Read first: resolving.rt; what comes out is said in jt_meaning's
+//! specs/Resolve.antt.
 #![tactic(auto)]
 
 mod blocks;
@@ -23,12 +24,14 @@ mod placing;
 mod pool;
 mod program_names;
 mod putting;
+mod resolver;
 mod resolving;
 mod routines;
 mod rows;
 mod shared;
 mod spot;
 mod statements;
+mod tables;
 mod targets;
 
 pub use jt_value::NoMemory;

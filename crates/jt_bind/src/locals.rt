@@ -8,7 +8,7 @@ ghost use Rattle.jt_resolved.specs.Slots as slots;
 ghost use Rattle.jt_resolved.specs.Slots.{SBody};
 ghost use Rattle.jt_resolved.specs.View.{slot_view, targets_view, expr_view, row_view, stmt_view, body_view};
 
-use crate::lookup::more;
+use jt_layout::more;
 use jt_resolved::{SExpr, SStmt, Slot, Targets};
 use jt_value::NoMemory;
 

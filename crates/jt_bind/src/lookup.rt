@@ -1,29 +1,22 @@
 //! What names read.
 
-ghost use Rattle.std.specs.Prelude.{◌≡◌, ◌+◌, List, option_map, IfOk};
+ghost use Rattle.std.specs.Prelude.{◌≡◌, List, option_map, IfOk};
 ghost use Rattle.jt_value.specs.Tree.{Tree};
 ghost use Rattle.jt_trees.specs.ExpressionView as written;
-ghost use Rattle.jt_chains.specs.Uses.{keywords};
 ghost use Rattle.jt_meaning.specs.Layout.{slot_in};
 ghost use Rattle.jt_meaning.specs.Resolve as resolve;
 ghost use Rattle.jt_resolved.specs.Pool.{known};
 ghost use Rattle.jt_resolved.specs.Slots as slots;
 ghost use Rattle.jt_resolved.specs.View.{slot_view, expr_view};
-ghost use Rattle.jt_layout.specs.Laid.{IsLaidOut};
-ghost use Rattle.jt_bind.specs.Scoped.{IsPlaced, globals_in, spot_in};
+ghost use Rattle.jt_bind.specs.Resolving.{kept_of, table_of};
+ghost use Rattle.jt_bind.specs.Scoped.{IsPlaced, globals_in};
 
-use crate::spot::Spot;
-use jt_layout::Scope;
+use crate::resolver::Resolver;
+use crate::tables::Tables;
+use jt_layout::more;
 use jt_resolved::{SExpr, Slot};
 use jt_trees::Expr;
 use jt_value::NoMemory;
-
-/// One more, or so many more.
-pub(crate) fn more(count: usize, by: usize) -> Result<usize, NoMemory>
-    ensures { IfOk result (λ n. n ≡ count + by) }
-{
-    count.checked_add(by).ok_or(NoMemory)
-}
 
 /// What a slot holds, or the value at a place of the pool.
 pub(crate) fn value_or(slot: Option<Slot>, place: usize) -> SExpr
@@ -59,48 +52,50 @@ pub(crate) fn absent() -> SExpr
     SExpr::Absent
 }
 
-/// The slot of a name.
-pub(crate) fn slot(scope: &Scope<'_>, spot: &Spot<'_, '_>, name: &str) -> Option<Slot>
-    requires { IsLaidOut scope.now }
-    ensures { option_map slot_view result ≡ slot_in name.now (spot_in scope.now spot.now).table }
-{
-    let mut left = spot.frames.len();
-    while left > 0 {
-        left -= 1;
-        if let Some(local) = spot.frames[left].index.place(name) {
-            return Some(Slot::Local(local));
+impl<'a> Tables<'a> {
+    /// The slot of a name among the globals of the chain that is resolved.
+    pub(crate) fn global_slot(&self, name: &str) -> Option<Slot>
+        ensures { option_map slot_view result ≡ slot_in name.now (globals_in self.now) }
+    {
+        let here = self.here();
+        match here.slots.place(name) {
+            Some(slot) => Some(Slot::Global(slot)),
+            None => None,
         }
-    }
-    global_slot(scope, name)
-}
-
-/// The slot of a name among the globals of the chain that is resolved.
-pub(crate) fn global_slot(scope: &Scope<'_>, name: &str) -> Option<Slot>
-    requires { IsLaidOut scope.now }
-    ensures { option_map slot_view result ≡ slot_in name.now (globals_in scope.now) }
-{
-    let here = &scope.homes[scope.home];
-    match here.slots.place(name) {
-        Some(slot) => Some(Slot::Global(slot)),
-        None => None,
     }
 }
 
-/// The local that holds what is given by a name.
-pub(crate) fn kept(
-    pairs: &[(String, Expr)],
-    free: usize,
-    name: &str,
-) -> Result<Option<Slot>, NoMemory>
-    ensures { IfOk result (λ s. option_map slot_view s
-        ≡ slot_in name.now (resolve.locals_from free (keywords (written.pairs_view pairs.now)))) }
-{
-    let mut local = free;
-    for (key, _) in pairs {
-        if key.as_str() == name {
-            return Ok(Some(Slot::Local(local)));
+impl<'s, 'a> Resolver<'s, 'a> {
+    /// The slot of a name.
+    pub(crate) fn slot(&self, name: &str) -> Option<Slot>
+        ensures { option_map slot_view result ≡ slot_in name.now (table_of self.now) }
+    {
+        let mut left = self.spot.frames.len();
+        while left > 0 {
+            left -= 1;
+            if let Some(local) = self.spot.frames[left].index.place(name) {
+                return Some(Slot::Local(local));
+            }
         }
-        local = more(local, 1)?;
+        self.tables.global_slot(name)
     }
-    Ok(None)
+
+    /// The local that holds what is given by a name.
+    pub(crate) fn kept(
+        &self,
+        pairs: &[(String, Expr)],
+        name: &str,
+    ) -> Result<Option<Slot>, NoMemory>
+        ensures { IfOk result (λ s. option_map slot_view s
+            ≡ slot_in name.now (kept_of self.now (written.pairs_view pairs.now))) }
+    {
+        let mut local = self.spot.free;
+        for (key, _) in pairs {
+            if key.as_str() == name {
+                return Ok(Some(Slot::Local(local)));
+            }
+            local = more(local, 1)?;
+        }
+        Ok(None)
+    }
 }

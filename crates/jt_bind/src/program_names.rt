@@ -3,15 +3,14 @@
 ghost use Rattle.std.specs.Prelude.{◌≡◌, map, IfOk, string_bytes};
 ghost use Rattle.jt_chains.specs.Pages.{pages_view};
 ghost use Rattle.jt_chains.specs.Places.{home_at};
-ghost use Rattle.jt_layout.specs.Laid.{IsLaidOut};
 ghost use Rattle.jt_meaning.specs.Layout as layout;
 ghost use Rattle.jt_meaning.specs.Programs as programs;
 ghost use Rattle.jt_bind.specs.Scoped.{world_in, order_in};
 ghost use Rattle.jt_names.specs.Names.{texts};
 
-use crate::lookup::more;
+use crate::tables::Tables;
 use jt_chains::Page;
-use jt_layout::Scope;
+use jt_layout::more;
 use jt_value::NoMemory;
 use std::alloc::Global;
 
@@ -39,22 +38,21 @@ pub(crate) fn template_names(alloc: Global, pages: &[Page]) -> Result<Vec<String
 }
 
 /// The names of the entry's chain, by their slots.
-pub(crate) fn entry_names(alloc: Global, scope: &Scope<'_>) -> Result<Vec<String>, NoMemory>
-    requires { IsLaidOut scope.now }
+pub(crate) fn entry_names(alloc: Global, tables: &Tables<'_>) -> Result<Vec<String>, NoMemory>
     ensures { IfOk result (λ ss. map string_bytes ss.items
-        ≡ layout.names (world_in scope.now) (order_in scope.now) (home_at (order_in scope.now) 0)) }
+        ≡ layout.names (world_in tables.now) (order_in tables.now) (home_at (order_in tables.now) 0)) }
 {
-    strings_of(alloc, &scope.homes[0].names)
+    tables.stands();
+    strings_of(alloc, &tables.at(0).names)
 }
 
 /// How many globals the chains have.
-pub(crate) fn count_globals(scope: &Scope<'_>) -> Result<usize, NoMemory>
-    requires { IsLaidOut scope.now }
+pub(crate) fn count_globals(tables: &Tables<'_>) -> Result<usize, NoMemory>
     ensures { IfOk result (λ n.
-        n ≡ programs.count_globals (world_in scope.now) (order_in scope.now) (order_in scope.now)) }
+        n ≡ programs.count_globals (world_in tables.now) (order_in tables.now) (order_in tables.now)) }
 {
     let mut globals = 0;
-    for home in scope.homes.iter() {
+    for home in tables.homes() {
         globals = more(globals, home.names.len())?;
     }
     Ok(globals)

@@ -3,7 +3,7 @@
 ghost use Rattle.std.specs.Prelude.{List, Option, [], IfOk};
 ghost use Rattle.jt_value.specs.Tree as tree;
 ghost use Rattle.jt_value.specs.Tree.{Tree};
-ghost use Rattle.jt_layout.specs.declared.scope.Scope.{Scope};
+ghost use Rattle.jt_bind.specs.Chains.{Chains};
 ghost use Rattle.jt_meaning.specs.Resolve.{alone};
 ghost use Rattle.jt_bind.specs.Scoped.{values, IsPlaced, RowLeads, templates_in};
 ghost use Rattle.jt_trees.specs.Expressions.{Text};
@@ -42,7 +42,7 @@ pub(crate) fn put_print(
     value: SExpr,
     done: &mut Vec<SStmt>,
 ) -> Result<(), NoMemory>
-    ensures { IfOk result (λ u. (s : Scope) (c : slots.SExpr Constant) (p q : List Tree)
+    ensures { IfOk result (λ u. (s : Chains) (c : slots.SExpr Constant) (p q : List Tree)
         → IsPlaced c (expr_view value) p q
         → Led (templates_in s) (alone (slots.print (line_in s spot.now line) spot.now.escaping c))
         done.old.items done.new.items p q) }
@@ -67,7 +67,7 @@ pub(crate) fn put_assign(
     value: SExpr,
     done: &mut Vec<SStmt>,
 ) -> Result<(), NoMemory>
-    ensures { IfOk result (λ u. (s : Scope) (c : slots.SExpr Constant) (p q : List Tree)
+    ensures { IfOk result (λ u. (s : Chains) (c : slots.SExpr Constant) (p q : List Tree)
         → IsPlaced c (expr_view value) p q
         → Led (templates_in s)
         (alone (slots.assign (line_in s spot.now line) (targets_view targets) c)) done.old.items
@@ -101,31 +101,44 @@ pub(crate) fn put_choice(
     Ok(())
 }
 
+/// The parts of a loop.
+#[derive(Drop)]
+pub(crate) struct Loop {
+    pub targets: Targets,
+    pub items: SExpr,
+    pub condition: Option<SExpr>,
+    pub body: Vec<SStmt>,
+    pub other: Vec<SStmt>,
+}
+
 /// Puts a loop behind other statements.
 pub(crate) fn put_loop(
     spot: &Spot<'_, '_>,
     line: u32,
-    targets: Targets,
-    items: SExpr,
-    condition: Option<SExpr>,
-    body: Vec<SStmt>,
-    other: Vec<SStmt>,
+    made: Loop,
     done: &mut Vec<SStmt>,
 ) -> Result<(), NoMemory>
-    ensures { IfOk result (λ u. (s : Scope) (c : slots.SExpr Constant)
+    ensures { IfOk result (λ u. (s : Chains) (c : slots.SExpr Constant)
         (k : Option (slots.SExpr Constant)) (turn last : SBody Constant) (p q r t v : List Tree)
-        → IsPlaced c (expr_view items) p q
-        → IsAsked k condition q r
-        → IsBody (templates_in s) turn body.items r t
-        → IsBody (templates_in s) last other.items t v
+        → IsPlaced c (expr_view made.items) p q
+        → IsAsked k made.condition q r
+        → IsBody (templates_in s) turn made.body.items r t
+        → IsBody (templates_in s) last made.other.items t v
         → Led (templates_in s)
-        (alone (slots.for_each (line_in s spot.now line) (targets_view targets) c k turn last))
+        (alone (slots.for_each (line_in s spot.now line) (targets_view made.targets) c k turn last))
         done.old.items done.new.items p v) }
 {
     let place = Place {
         template: spot.template,
         line,
     };
+    let Loop {
+        targets,
+        items,
+        condition,
+        body,
+        other,
+    } = made;
     done.push(SStmt::For {
         place,
         targets,

@@ -10,8 +10,8 @@ ghost use Rattle.jt_resolved.specs.View.{program_of};
 use crate::homes::resolve_homes;
 use crate::program_names::{count_globals, entry_names, template_names};
 use crate::shared::shared_values;
+use crate::tables::Tables;
 use jt_chains::Chain;
-use jt_layout::lay_out;
 use jt_resolved::Program;
 use jt_value::NoMemory;
 use std::alloc::Global;
@@ -26,12 +26,12 @@ pub fn resolved(alloc: Global, chain: &Chain) -> Result<Program, NoMemory>
         ≡ program (world_of (chain_view chain.now)) (chain_view chain.now).order
         (home_at (chain_view chain.now).order 0)) }
 {
-    let scope = lay_out(alloc, chain)?;
+    let tables = Tables::new(alloc, chain)?;
     let templates = template_names(alloc, &chain.templates)?;
-    let names = entry_names(alloc, &scope)?;
-    let globals = count_globals(&scope)?;
-    let mut pool = shared_values(alloc, &scope)?;
-    let routines = resolve_homes(alloc, scope, &mut pool)?;
+    let names = entry_names(alloc, &tables)?;
+    let globals = count_globals(&tables)?;
+    let mut pool = shared_values(alloc, &tables)?;
+    let routines = resolve_homes(alloc, tables, &mut pool)?;
     Ok(Program {
         templates,
         names,

@@ -4,35 +4,30 @@ ghost use Rattle.std.specs.Prelude.{◌≡◌, List, [], ◌∷◌, length, None
 ghost use Rattle.jt_value.specs.Tree.{Tree};
 ghost use Rattle.jt_trees.specs.Expressions.{Text};
 ghost use Rattle.jt_names.specs.Names.{texts};
-ghost use Rattle.jt_layout.specs.Laid.{IsLaidOut};
 ghost use Rattle.jt_meaning.specs.Resolve as resolve;
-ghost use Rattle.jt_bind.specs.Scoped.{RowLeads, spot_in};
+ghost use Rattle.jt_bind.specs.Resolving.{table_of};
+ghost use Rattle.jt_bind.specs.Scoped.{RowLeads};
 ghost use Rattle.jt_resolved.specs.Slots as slots;
 
-use crate::lookup::{reading, slot};
-use crate::spot::Spot;
-use jt_layout::Scope;
+use crate::lookup::reading;
+use crate::resolver::Resolver;
 use jt_resolved::{SExpr, Slot};
 use jt_value::NoMemory;
 use std::alloc::Global;
 
-/// What names read, in a row.
-pub(crate) fn reads(
-    alloc: Global,
-    scope: &Scope<'_>,
-    spot: &Spot<'_, '_>,
-    names: &[&str],
-) -> Result<Vec<(Option<usize>, SExpr)>, NoMemory>
-    requires { IsLaidOut scope.now }
-    ensures { IfOk result (λ row. (p : List Tree)
-        → RowLeads (resolve.reads (spot_in scope.now spot.now).table (texts names.now)) slots.none
-        [] row.items p p) }
-{
-    let mut row = Vec::new(alloc);
-    for name in names {
-        row.push((None, reading(slot(scope, spot, name))))?;
+impl<'s, 'a> Resolver<'s, 'a> {
+    /// What names read, in a row.
+    pub(crate) fn reads(&self, names: &[&str]) -> Result<Vec<(Option<usize>, SExpr)>, NoMemory>
+        ensures { IfOk result (λ row. (p : List Tree)
+            → RowLeads (resolve.reads (table_of self.now) (texts names.now)) slots.none [] row.items
+            p p) }
+    {
+        let mut row = Vec::new(self.alloc);
+        for name in names {
+            row.push((None, reading(self.slot(name))))?;
+        }
+        Ok(row)
     }
-    Ok(row)
 }
 
 /// The first so many locals, in a row.

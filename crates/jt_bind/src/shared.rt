@@ -3,7 +3,6 @@
 ghost use Rattle.std.specs.Prelude.{◌≡◌, ◌++◌, List, map, IfOk};
 ghost use Rattle.jt_chains.specs.Chain.{Template};
 ghost use Rattle.jt_chains.specs.Parts.{macro_view};
-ghost use Rattle.jt_layout.specs.Laid.{IsLaidOut};
 ghost use Rattle.jt_meaning.specs.Layout as layout;
 ghost use Rattle.jt_meaning.specs.Layout.{defaults_of};
 ghost use Rattle.jt_bind.specs.Scoped.{values, world_in, order_in};
@@ -11,8 +10,8 @@ ghost use Rattle.jt_trees.specs.StatementView.{parameter_view};
 ghost use Rattle.jt_evaluation.specs.Filters.{default_value};
 ghost use Rattle.jt_value.specs.View.{view};
 
+use crate::tables::Tables;
 use jt_chains::Macro;
-use jt_layout::Scope;
 use jt_trees::{Literal, Parameter};
 use jt_value::{NoMemory, Value};
 use std::alloc::Global;
@@ -58,14 +57,13 @@ fn add_macros(alloc: Global, macros: &[Macro<'_>], pool: &mut Vec<Value>) -> Res
 }
 
 /// A pool with undefined and the defaults of all macros.
-pub(crate) fn shared_values(alloc: Global, scope: &Scope<'_>) -> Result<Vec<Value>, NoMemory>
-    requires { IsLaidOut scope.now }
+pub(crate) fn shared_values(alloc: Global, tables: &Tables<'_>) -> Result<Vec<Value>, NoMemory>
     ensures { IfOk result
-        (λ vs. values vs ≡ layout.shared (world_in scope.now) (order_in scope.now)) }
+        (λ vs. values vs ≡ layout.shared (world_in tables.now) (order_in tables.now)) }
 {
     let mut pool = Vec::new(alloc);
     pool.push(Value::Undefined)?;
-    for home in scope.homes.iter() {
+    for home in tables.homes() {
         add_macros(alloc, &home.macros, &mut pool)?;
     }
     Ok(pool)

@@ -17,12 +17,12 @@ pub(crate) struct Spot<'s, 'a> {
 
 impl<'s, 'a> Spot<'s, 'a> {
     ghost use Rattle.std.specs.Prelude.{◌≡◌};
-    ghost use Rattle.jt_layout.specs.declared.scope.Scope.{Scope};
+    ghost use Rattle.jt_bind.specs.Chains.{Chains};
     ghost use Rattle.jt_bind.specs.Scoped.{globals_in, spot_in};
 
     /// The same where no scope is around, so that names are globals.
     pub(crate) fn outside(self) -> Spot<'s, 'a>
-        ensures { (scope : Scope)
+        ensures { (scope : Chains)
             → spot_in scope result
             ≡ record (spot_in scope self.entry) { table = globals_in scope } }
     {

@@ -27,9 +27,3 @@ itself (a_library n) = reflexive n
 pub by_name : (b : Bool) (n x : Text) → same_home (home_named b n) (home_named b x) ≡ bytes_eq n x
 by_name true n x = refl
 by_name false n x = refl
-
-pub of_kinds : (a b : Bool) (n x : Text) → a ≡ b → same_home (home_named a n) (home_named b x) ≡ bytes_eq n x
-of_kinds true true n x e = refl
-of_kinds true false n x e = absurd (cc)
-of_kinds false true n x e = absurd (cc)
-of_kinds false false n x e = refl

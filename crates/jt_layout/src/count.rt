@@ -1,12 +1,16 @@
 //! Sums of places.
 
-ghost use Rattle.std.specs.Prelude.{◌≡◌, ◌+◌, IfOk};
+ghost use Rattle.jt_layout.specs.Sums.{IsSum};
 
 use jt_value::NoMemory;
 
 /// So many more.
-pub(crate) fn more(count: usize, by: usize) -> Result<usize, NoMemory>
-    ensures { IfOk result (λ n. n ≡ count + by) }
+///
+/// # Errors
+///
+/// `NoMemory` where the sum passes the type.
+pub fn more(count: usize, by: usize) -> Result<usize, NoMemory>
+    ensures { IsSum count by result }
 {
     count.checked_add(by).ok_or(NoMemory)
 }

@@ -19,6 +19,7 @@ mod macros;
 mod places;
 mod scope;
 
+pub use count::more;
 pub use index::Index;
 pub use jt_value::NoMemory;
 pub use laid::Laid;

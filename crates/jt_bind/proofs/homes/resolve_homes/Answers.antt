@@ -1,4 +1,4 @@
-use Rattle.std.proofs.Common.{◌+◌, ◌<◌, ◌≤◌, List, [], length, map, drop, refl, sym, ap, subst, arith}
+use Rattle.std.proofs.Common.{◌≡◌, ℕ, ◌+◌, ◌<◌, ◌≤◌, List, [], length, map, drop, refl, sym, ap, subst, arith}
 use Rattle.std.specs.Prelude.{flat_map}
 use Rattle.std.proofs.lemmas.List.{at_drop_all}
 use Rattle.jt_chains.specs.Chain.{Home}
@@ -10,24 +10,21 @@ use Rattle.jt_meaning.specs.Programs as programs
 use Rattle.jt_bind.specs.Scoped.{values, world_in, order_in, templates_in}
 use Rattle.jt_bind.specs.Routines.{AreRoutines, RoutinesLead}
 use Rattle.jt_layout.proofs.Firsts.{homes_left}
-use Rattle.jt_bind.proofs.NextHome.{moved}
 use Rattle.jt_bind.proofs.Routing.{lead_first, lead_turn, lead_last}
 use Rattle.jt_bind.proofs.homes.resolve_homes.Goals as goal
 
-pub resolve_home-requires : goal.resolve_home-requires
-resolve_home-requires c =
+pub turn_to-requires : goal.turn_to-requires
+turn_to-requires c =
     let l = c.loop-home in
     let same = ap (λ (ch : Chain). length (chain_view ch).order) l.invariant.same in
-    let lt : l.home < length l.scope.homes.items = omega (arith, c.loop-home-test.true, c.len-home-end.ensures, c.args.scope.homes.ok.0, c.requires.all_homes, l.invariant.laid.all_homes, same) in
-    moved l.scope l.home l.invariant.laid lt
+    omega (arith, c.loop-home-test.true, c.homes.ensures.all, same)
 
 pub loop-home-init : goal.loop-home-init
 loop-home-init c =
-    let s = c.args.scope in
+    let s = c.args.tables in
     let all = programs.routines (world_in s) (order_in s) in
     let old = values c.args.pool.now in
     record {
-      laid = c.requires;
       same = refl;
       lead = subst (λ rs. RoutinesLead (templates_in s) all all [] rs old old) (sym c.new-routines.ensures.items) (lead_first (templates_in s) all [] old);
     }
@@ -35,24 +32,22 @@ loop-home-init c =
 pub loop-home-preserved : goal.loop-home-preserved
 loop-home-preserved c =
     let l = c.loop-home in
-    let s = c.args.scope in
+    let s = c.args.tables in
     let ts = templates_in s in
     let W = world_in s in
     let O = order_in s in
     let i = l.home in
     let all = programs.routines W O in
     let old = values c.args.pool.now in
-    let same = ap (λ (ch : Chain). length (chain_view ch).order) l.invariant.same in
-    let lt : i < length l.scope.homes.items = omega (arith, c.loop-home-test.true, c.len-home-end.ensures, c.args.scope.homes.ok.0, c.requires.all_homes, l.invariant.laid.all_homes, same) in
-    let in_order : i < length O = omega (arith, lt, l.invariant.laid.all_homes, same) in
-    let Put : Chain → Type 0 = (λ ch. AreRoutines (map (λ t. t.name) (chain_view ch).templates) (programs.chain_routines (world_of (chain_view ch)) (chain_view ch).order (home_at (chain_view ch).order i))
+    let in_order : i < length O = omega (arith, c.loop-home-test.true, c.homes.ensures.all) in
+    let same : c.turn_to.new.self.chain.now ≡ s.chain.now = c.turn_to.ensures.same ∙ l.invariant.same in
+    let Put : Chain → ℕ → Type 0 = (λ ch n. AreRoutines (map (λ t. t.name) (chain_view ch).templates) (programs.chain_routines (world_of (chain_view ch)) (chain_view ch).order (home_at (chain_view ch).order n))
     l.routines.items c.resolve_home.new.routines.items (values l.pool) (values c.resolve_home.new.pool)) in
-    let put = subst Put l.invariant.same c.in_ok-resolve_home.ensures in
+    let put = subst (λ n. Put s.chain.now n) c.turn_to.ensures.there (subst (λ ch. Put ch c.turn_to.new.self.home) same c.in_ok-resolve_home.ensures) in
     let Left : List Home → Type 0 = (λ hs. RoutinesLead ts all (flat_map (programs.chain_routines W O) hs) [] l.routines.items old (values l.pool)) in
     let left = subst Left (homes_left O i in_order) l.invariant.lead in
     record {
-      laid = moved l.scope i l.invariant.laid lt;
-      same = l.invariant.same;
+      same = same;
       lead = lead_turn ts all [] old (programs.chain_routines W O (home_at O i)) (flat_map (programs.chain_routines W O) (drop (i + 1) O)) l.routines.items c.resolve_home.new.routines.items (values l.pool)
           (values c.resolve_home.new.pool) left put;
     }
@@ -60,12 +55,12 @@ loop-home-preserved c =
 pub returns : goal.returns
 returns c =
     let l = c.loop-home in
-    let s = c.args.scope in
+    let s = c.args.tables in
     let ts = templates_in s in
     let W = world_in s in
     let O = order_in s in
     let all = programs.routines W O in
     let old = values c.args.pool.now in
-    let le : length O ≤ l.home = omega (arith, c.loop-home-test.false, c.len-home-end.ensures, c.args.scope.homes.ok.0, c.requires.all_homes) in
+    let le : length O ≤ l.home = omega (arith, c.loop-home-test.false, c.homes.ensures.all) in
     let Left : List Home → Type 0 = (λ hs. RoutinesLead ts all (flat_map (programs.chain_routines W O) hs) [] l.routines.items old (values l.pool)) in
     lead_last ts all l.routines.items old (values l.pool) (subst Left (at_drop_all (λ hs. hs) O l.home le) l.invariant.lead)

@@ -1,4 +1,4 @@
-use Rattle.std.proofs.Common.{◌≡◌, ◌+◌, ◌<◌, length, drop, get_or, sym, ap, ◌∙◌, arith}
+use Rattle.std.proofs.Common.{◌≡◌, ◌+◌, length, drop, sym, ap, ◌∙◌, arith}
 use Rattle.std.proofs.lemmas.List.{length-map}
 use denote.Ref.{Bor}
 use Rattle.jt_trees.specs.Expressions.{Text}
@@ -11,16 +11,14 @@ use Rattle.jt_bind.proofs.program_names.count_globals.Goals as goal
 
 pub loop-home-preserved : goal.loop-home-preserved
 loop-home-preserved c =
-    let s = c.args.scope.now in
+    let s = c.args.tables.now in
     let W = world_in s in
     let O = order_in s in
     let l = c.loop-home in
     let i = l.home-index in
     let home = c.home-item.result in
-    let items = c.deref-home-items.ensures.value in
-    let lt : i < length s.homes.items = omega (arith, c.loop-home-test.true, ap length items) in
-    let laid = c.requires.each i home lt (c.home-item.is ∙ ap (λ ls. get_or ls i home) items) in
+    let laid = c.homes-home-items.ensures.each i home c.loop-home-test.true c.home-item.is in
     let named : length home.names.items ≡ length (layout.names W O (home_at O i)) = sym (length-map home.names.items (λ (k : Bor Text). k.now)) ∙ ap length laid.named in
     let left : programs.count_globals W O (drop i O) ≡ length (layout.names W O (home_at O i)) + programs.count_globals W O (drop (i + 1) O) =
-    ap (programs.count_globals W O) (homes_left O i (omega (arith, lt, c.requires.all_homes))) in
+    ap (programs.count_globals W O) (homes_left O i (omega (arith, c.loop-home-test.true, c.homes-home-items.ensures.all))) in
     omega (arith, c.in_ok-globals.ensures, c.len.ensures, home.names.ok.0, named, left, l.invariant)

@@ -5,4 +5,4 @@ use Rattle.jt_bind.proofs.program_names.count_globals.Given as goal
 
 abbrev pub invariant-loop-home : goal.invariant-loop-home
 invariant-loop-home l =
-    l.globals + programs.count_globals (world_in l.scope) (order_in l.scope) (drop l.home-index (order_in l.scope)) ≡ programs.count_globals (world_in l.scope) (order_in l.scope) (order_in l.scope)
+    l.globals + programs.count_globals (world_in l.tables) (order_in l.tables) (drop l.home-index (order_in l.tables)) ≡ programs.count_globals (world_in l.tables) (order_in l.tables) (order_in l.tables)

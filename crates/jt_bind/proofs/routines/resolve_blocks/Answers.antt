@@ -11,17 +11,15 @@ use Rattle.jt_bind.proofs.routines.resolve_blocks.Goals as goal
 pub returns : goal.returns
 returns c = λ left.
     let l = c.loop-place in
-    let scope = c.args.scope.now in
-    let laid = c.requires.each scope.home c.index-here.result.now c.requires.inside c.index-here.ensures in
-    let all = ap (map (block_view (chain_view scope.chain.now).templates)) c.deref-block-items.ensures.value ∙ laid.all_blocks in
+    let scope = c.args.tables.now in
+    let all = ap (map (block_view (chain_view scope.chain.now).templates)) c.deref-block-items.ensures.value ∙ c.here-here.ensures.all_blocks in
     routines_left (templates_in scope) _ _ left _ _ _ _
     (ap (λ z. body_routines (world_in scope) (order_in scope) (home_in scope) z ++ left) (numbered_end scope c.deref-block-items.result.now all l.place (omega arith))) (l.invariant left)
 
 pub loop-place-preserved : goal.loop-place-preserved
 loop-place-preserved c = λ left.
     let l = c.loop-place in
-    let scope = c.args.scope.now in
-    let laid = c.requires.each scope.home c.index-here.result.now c.requires.inside c.index-here.ensures in
-    let all = ap (map (block_view (chain_view scope.chain.now).templates)) c.deref-block-items.ensures.value ∙ laid.all_blocks in
+    let scope = c.args.tables.now in
+    let all = ap (map (block_view (chain_view scope.chain.now).templates)) c.deref-block-items.ensures.value ∙ c.here-here.ensures.all_blocks in
     routines_both (templates_in scope) _ _ (body_routines (world_in scope) (order_in scope) (home_in scope) (drop (l.place + 1) (numbered_bodies (world_in scope) (home_in scope))) ++ left) _ _ _ _ _ _ (l.invariant left)
-    (block_routine scope c.deref-block-items.result.now all l.place c.block-item.result _ left _ _ _ _ _ c.loop-place-test.true c.block-item.is c.in_ok-parameters.ensures c.in_ok-resolve_routine.ensures c.in_ok-push.ensures.items)
+    (block_routine scope c.deref-block-items.result.now all l.place c.block-item.result _ left _ _ _ _ _ c.loop-place-test.true c.block-item.is (c.in_ok-parameters.ensures ∙ c.block_parameters.ensures) c.in_ok-resolve_routine.ensures c.in_ok-push.ensures.items)

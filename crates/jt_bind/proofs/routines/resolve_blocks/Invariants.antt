@@ -7,7 +7,7 @@ use Rattle.jt_bind.proofs.Routing.{Planned}
 use Rattle.jt_bind.proofs.routines.resolve_blocks.Given as goal
 
 abbrev pub invariant-loop-place : goal.invariant-loop-place
-invariant-loop-place l = (left : List Planned) → RoutinesLead (templates_in l.scope)
-    (body_routines (world_in l.scope) (order_in l.scope) (home_in l.scope) (numbered_bodies (world_in l.scope) (home_in l.scope)) ++ left)
-    (body_routines (world_in l.scope) (order_in l.scope) (home_in l.scope) (drop l.place (numbered_bodies (world_in l.scope) (home_in l.scope))) ++ left)
+invariant-loop-place l = (left : List Planned) → RoutinesLead (templates_in l.tables)
+    (body_routines (world_in l.tables) (order_in l.tables) (home_in l.tables) (numbered_bodies (world_in l.tables) (home_in l.tables)) ++ left)
+    (body_routines (world_in l.tables) (order_in l.tables) (home_in l.tables) (drop l.place (numbered_bodies (world_in l.tables) (home_in l.tables))) ++ left)
     l.initial.routines.items l.routines.items (values l.initial.pool) (values l.pool)

@@ -16,12 +16,12 @@ use Rattle.jt_bind.proofs.routines.resolve_chain.Goals as goal
 
 pub returns : goal.returns
 returns c = λ n is.
-    let scope = c.args.scope.now in
+    let scope = c.args.tables.now in
     let T = templates_in scope in
     let whole = resolved_chain (world_in scope) (order_in scope) (a_chain n) (templates (world_in scope).sources (a_chain n)) in
     let p = values c.args.pool.now in
     let q = values c.resolve_layers.new.pool in
-    let there : scope.home < length scope.chain.now.homes.items = omega (arith, c.requires.inside, c.requires.all_homes, length-map scope.chain.now.homes.items home_view) in
+    let there : scope.home < length scope.chain.now.homes.items = omega (arith, c.stands.ensures, length-map scope.chain.now.homes.items home_view) in
     let led = led_of T _ whole _ _ p q (ap (λ (z : List Layer). resolved_chain (world_in scope) (order_in scope) (home_in scope) (map (layer_view (chain_view scope.chain.now).templates) z)) c.deref.ensures.value ∙ ap (resolved_chain (world_in scope) (order_in scope) (home_in scope)) (c.in_ok-layers.ensures.there there)
     ∙ ap (λ h. resolved_chain (world_in scope) (order_in scope) h (templates (world_in scope).sources h)) is) (led_begun T _ _ _ _ p q c.new-done.ensures.items c.in_ok-resolve_layers.ensures) in
     routine_made T 0 0 whole c.resolve_layers.new.done c.in_ok-locals.locals _ p q led refl (locals_same T whole c.resolve_layers.new.done.items p q c.in_ok-locals.locals led

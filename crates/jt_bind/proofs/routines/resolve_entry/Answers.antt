@@ -5,12 +5,12 @@ use Rattle.jt_bind.proofs.routines.resolve_entry.Goals as goal
 
 pub returns-then-here : goal.returns-then-here
 returns-then-here c =
-    let scope = c.args.scope.now in
-    let laid = c.requires.each scope.home c.index-here.result.now c.requires.inside c.index-here.ensures in
+    let scope = c.args.tables.now in
+    let laid = c.here-here.ensures in
     no_entry (templates_in scope) (world_in scope) (order_in scope) (home_in scope) (sym laid.kind ∙ c.if-here.true) _ _
 
 pub returns : goal.returns
 returns c =
-    let scope = c.args.scope.now in
-    let laid = c.requires.each scope.home c.index-here.result.now c.requires.inside c.index-here.ensures in
+    let scope = c.args.tables.now in
+    let laid = c.here-here.ensures in
     one_entry (templates_in scope) (world_in scope) (order_in scope) (home_in scope) (sym laid.kind ∙ c.if-here.false) _ _ _ _ _ c.in_ok-resolve_chain.ensures c.in_ok-push.ensures.items

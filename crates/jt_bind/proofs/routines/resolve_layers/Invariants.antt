@@ -8,7 +8,7 @@ use Rattle.jt_bind.specs.Scoped.{values, BodyLeads, world_in, order_in, home_in,
 use Rattle.jt_bind.proofs.routines.resolve_layers.Given as goal
 
 abbrev pub invariant-loop-place : goal.invariant-loop-place
-invariant-loop-place l = (left : SBody Constant) → BodyLeads (templates_in l.scope)
-    (followed (resolved_chain (world_in l.scope) (order_in l.scope) (home_in l.scope) (map (layer_view (chain_view l.scope.chain.now).templates) l.layers)) left)
-    (followed (resolved_chain (world_in l.scope) (order_in l.scope) (home_in l.scope) (map (layer_view (chain_view l.scope.chain.now).templates) (drop l.place l.layers))) left)
+invariant-loop-place l = (left : SBody Constant) → BodyLeads (templates_in l.tables)
+    (followed (resolved_chain (world_in l.tables) (order_in l.tables) (home_in l.tables) (map (layer_view (chain_view l.tables.chain.now).templates) l.layers)) left)
+    (followed (resolved_chain (world_in l.tables) (order_in l.tables) (home_in l.tables) (map (layer_view (chain_view l.tables.chain.now).templates) (drop l.place l.layers))) left)
     l.initial.done.items l.done.items (values l.initial.pool) (values l.pool)

@@ -8,7 +8,7 @@ use Rattle.jt_bind.specs.Scoped.{values, world_in, order_in, home_in, templates_
 use Rattle.jt_bind.proofs.routines.resolve_macros.Given as goal
 
 abbrev pub invariant-loop-called : goal.invariant-loop-called
-invariant-loop-called l = (left : List Planned) → RoutinesLead (templates_in l.scope)
-    (map (λ m. macro_routine (world_in l.scope) (order_in l.scope) (home_in l.scope) (macro_view (chain_view l.scope.chain.now).templates m)) l.called-items ++ left)
-    (map (λ m. macro_routine (world_in l.scope) (order_in l.scope) (home_in l.scope) (macro_view (chain_view l.scope.chain.now).templates m)) (drop l.called-index l.called-items) ++ left)
+invariant-loop-called l = (left : List Planned) → RoutinesLead (templates_in l.tables)
+    (map (λ m. macro_routine (world_in l.tables) (order_in l.tables) (home_in l.tables) (macro_view (chain_view l.tables.chain.now).templates m)) l.called-items ++ left)
+    (map (λ m. macro_routine (world_in l.tables) (order_in l.tables) (home_in l.tables) (macro_view (chain_view l.tables.chain.now).templates m)) (drop l.called-index l.called-items) ++ left)
     l.initial.routines.items l.routines.items (values l.initial.pool) (values l.pool)

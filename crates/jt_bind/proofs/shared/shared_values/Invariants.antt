@@ -8,4 +8,4 @@ use Rattle.jt_bind.proofs.shared.shared_values.Given as goal
 
 abbrev pub invariant-loop-home : goal.invariant-loop-home
 invariant-loop-home l =
-    values l.pool ++ flat_map (λ h. defaults_of (macros (world_in l.scope).sources h)) (drop l.home-index (order_in l.scope)) ≡ layout.shared (world_in l.scope) (order_in l.scope)
+    values l.pool ++ flat_map (λ h. defaults_of (macros (world_in l.tables).sources h)) (drop l.home-index (order_in l.tables)) ≡ layout.shared (world_in l.tables) (order_in l.tables)

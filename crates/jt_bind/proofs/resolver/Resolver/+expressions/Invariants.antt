@@ -1,0 +1,82 @@
+use Rattle.std.proofs.Common.{◌+◌, ◌*◌, drop}
+use Rattle.std.specs.Prelude.{max}
+use denote.Param.Weighed.{most}
+use Rattle.jt_trees.specs.ExpressionView.{exprs_view, pairs_view}
+use Rattle.jt_trees.specs.declared.expression.Expr.{size-Expr}
+use Rattle.jt_resolved.specs.Pool.{Constant}
+use Rattle.jt_resolved.specs.Slots.{SRow}
+use Rattle.jt_bind.specs.Scoped.{values, RowLeads, row_in, asides_in, entries_in}
+use Rattle.jt_bind.proofs.resolver.Resolver.+expressions.Given as goal
+
+-- ---- how deep the trees are that are left, and who hands its own on
+
+abbrev pub decreases-resolve_expression : goal.decreases-resolve_expression
+decreases-resolve_expression l = 6 * size-Expr l.expr.now
+
+abbrev pub decreases-resolve_row : goal.decreases-resolve_row
+decreases-resolve_row l = 6 * most (λ x. size-Expr x) l.row.now + 1
+
+abbrev pub decreases-resolve_asides : goal.decreases-resolve_asides
+decreases-resolve_asides l = 6 * most (λ x. size-Expr x.1) l.pairs.now + 1
+
+abbrev pub decreases-resolve_entries : goal.decreases-resolve_entries
+decreases-resolve_entries l = 6 * most (λ x. size-Expr x.1) l.pairs.now + 1
+
+abbrev pub decreases-resolve_given : goal.decreases-resolve_given
+decreases-resolve_given l = 6 * max (most (λ x. size-Expr x) l.arguments.row.now) (most (λ x. size-Expr x.1) l.arguments.pairs.now) + 2
+
+abbrev pub decreases-resolve_list : goal.decreases-resolve_list
+decreases-resolve_list l = 6 * most (λ x. size-Expr x) l.row.now + 2
+
+abbrev pub decreases-resolve_map : goal.decreases-resolve_map
+decreases-resolve_map l = 6 * most (λ x. size-Expr x.1) l.pairs.now + 2
+
+abbrev pub decreases-resolve_attribute : goal.decreases-resolve_attribute
+decreases-resolve_attribute l = 6 * size-Expr l.value.now + 1
+
+abbrev pub decreases-resolve_item : goal.decreases-resolve_item
+decreases-resolve_item l = 6 * max (size-Expr l.value.now) (size-Expr l.index.now) + 1
+
+abbrev pub decreases-resolve_binary : goal.decreases-resolve_binary
+decreases-resolve_binary l = 6 * max (size-Expr l.left.now) (size-Expr l.right.now) + 1
+
+abbrev pub decreases-resolve_when : goal.decreases-resolve_when
+decreases-resolve_when l = 6 * max (size-Expr l.condition.now) (size-Expr l.value.now) + 1
+
+abbrev pub decreases-resolve_choice : goal.decreases-resolve_choice
+decreases-resolve_choice l = 6 * max (size-Expr l.condition.now) (max (size-Expr l.value.now) (size-Expr l.other.now)) + 1
+
+abbrev pub decreases-resolve_test : goal.decreases-resolve_test
+decreases-resolve_test l = 6 * max (size-Expr l.value.now) (most (λ x. size-Expr x) l.row.now) + 2
+
+abbrev pub decreases-resolve_filter : goal.decreases-resolve_filter
+decreases-resolve_filter l = 6 * max (size-Expr l.value.now) (max (most (λ x. size-Expr x) l.arguments.row.now) (most (λ x. size-Expr x.1) l.arguments.pairs.now)) + 4
+
+abbrev pub decreases-resolve_filtered : goal.decreases-resolve_filtered
+decreases-resolve_filtered l = 6 * max (most (λ x. size-Expr x) l.arguments.row.now) (most (λ x. size-Expr x.1) l.arguments.pairs.now) + 3
+
+abbrev pub decreases-resolve_call : goal.decreases-resolve_call
+decreases-resolve_call l = 6 * max (most (λ x. size-Expr x) l.arguments.row.now) (most (λ x. size-Expr x.1) l.arguments.pairs.now) + 4
+
+abbrev pub decreases-resolve_macro : goal.decreases-resolve_macro
+decreases-resolve_macro l = 6 * max (most (λ x. size-Expr x) l.arguments.row.now) (most (λ x. size-Expr x.1) l.arguments.pairs.now) + 3
+
+abbrev pub decreases-resolve_range : goal.decreases-resolve_range
+decreases-resolve_range l = 6 * most (λ x. size-Expr x) l.row.now + 2
+
+abbrev pub decreases-resolve_cycle : goal.decreases-resolve_cycle
+decreases-resolve_cycle l = 6 * most (λ x. size-Expr x) l.row.now + 3
+
+-- ---- of a row, what is left
+
+abbrev pub invariant-resolve_row-loop-expr : goal.invariant-resolve_row-loop-expr
+invariant-resolve_row-loop-expr l = (left : SRow Constant) → RowLeads (row_in l.self.tables.now (exprs_view l.row) l.self.spot left) (row_in l.self.tables.now (exprs_view (drop l.expr-index l.row)) l.self.spot left)
+    l.initial.done.items l.done.items (values l.initial.pool) (values l.pool)
+
+abbrev pub invariant-resolve_asides-loop-value : goal.invariant-resolve_asides-loop-value
+invariant-resolve_asides-loop-value l = (left : SRow Constant) → RowLeads (asides_in l.self.tables.now (pairs_view l.pairs) l.self.spot left) (asides_in l.self.tables.now (pairs_view (drop l.value-index l.pairs)) l.here.spot left)
+    l.initial.done.items l.done.items (values l.initial.pool) (values l.pool)
+
+abbrev pub invariant-resolve_entries-loop-key : goal.invariant-resolve_entries-loop-key
+invariant-resolve_entries-loop-key l = RowLeads (entries_in l.self.tables.now (pairs_view l.pairs) l.self.spot) (entries_in l.self.tables.now (pairs_view (drop l.key-index l.pairs)) l.self.spot)
+    l.initial.done.items l.done.items (values l.initial.pool) (values l.pool)

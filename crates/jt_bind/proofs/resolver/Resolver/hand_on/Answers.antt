@@ -1,0 +1,30 @@
+use Rattle.std.proofs.Common.{List, [], arith}
+use Rattle.std.specs.Prelude.{if◌then◌else◌}
+use Rattle.std.proofs.lemmas.List.{at_drop_all}
+use denote.Ref.{Bor}
+use Rattle.jt_trees.specs.Expressions.{Text}
+use Rattle.jt_meaning.specs.Resolve.{handed_on, followed}
+use Rattle.jt_resolved.specs.View.{expr_view}
+use Rattle.jt_names.specs.Names.{texts}
+use Rattle.jt_bind.specs.Scoped.{spot_in, templates_in}
+use Rattle.jt_bind.specs.Stated.{line_in}
+use Rattle.jt_bind.proofs.LeadingBodies.{lead_both, lead_left}
+use Rattle.jt_bind.proofs.Stating.{hand_step}
+use Rattle.jt_bind.proofs.resolver.Resolver.hand_on.Goals as goal
+
+pub loop-name-preserved : goal.loop-name-preserved
+loop-name-preserved c = λ left p.
+    let l = c.loop-name in
+    let scope = c.args.self.now.tables.now in
+    let spot = c.args.self.now.spot in
+    lead_both (templates_in scope) _ _ _ _ _ _ _ _ _ (l.invariant left p)
+    (hand_step (templates_in scope) (line_in scope spot c.args.line) (if c.args.with_context then (spot_in scope spot).table else []) c.args.there.now.names.items l.name-index l.global c.in_ok-global.global _ (expr_view c.handed-value.result) l.done.items c.put_assign.new.done.items
+    c.loop-name-test.true c.in_ok-global.ensures (λ k q r. c.in_ok-put_assign.ensures scope k q r) c.handed-value.ensures left p)
+
+pub returns : goal.returns
+returns c = λ p left.
+    let l = c.loop-name in
+    let scope = c.args.self.now.tables.now in
+    let spot = c.args.self.now.spot in
+    lead_left (templates_in scope) _ _ _ _ _ _ _
+    (at_drop_all (λ (z : List (Bor Text)). followed (handed_on (line_in scope spot c.args.line) (if c.args.with_context then (spot_in scope spot).table else []) l.global (texts z)) left) c.args.there.now.names.items l.name-index (omega arith)) (l.invariant left p)

@@ -1,9 +1,0 @@
-use Rattle.std.proofs.Common.{List, [], drop}
-use Rattle.jt_value.specs.Tree.{Tree}
-use Rattle.jt_names.specs.Names.{texts}
-use Rattle.jt_meaning.specs.Resolve as resolve
-use Rattle.jt_bind.specs.Scoped.{RowLeads, spot_in}
-use Rattle.jt_bind.proofs.rows.reads.Given as goal
-
-abbrev pub invariant-loop-name : goal.invariant-loop-name
-invariant-loop-name l = (p : List Tree) → RowLeads (resolve.reads (spot_in l.scope l.spot).table (texts l.names)) (resolve.reads (spot_in l.scope l.spot).table (texts (drop l.name-index l.names))) [] l.row.items p p

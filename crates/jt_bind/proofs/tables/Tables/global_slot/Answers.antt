@@ -1,0 +1,12 @@
+use Rattle.std.proofs.Common.{sym, ap, ◌∙◌}
+use Rattle.std.specs.Prelude.{option_map}
+use Rattle.jt_resolved.specs.Slots.{global}
+use Rattle.jt_bind.proofs.tables.Tables.global_slot.Goals as goal
+
+pub returns-in-Some : goal.returns-in-Some
+returns-in-Some c =
+    ap (option_map global) (sym c.in-Some.is ∙ c.place.ensures) ∙ c.here-here.ensures.in_slots c.args.name.now
+
+pub returns-in-None : goal.returns-in-None
+returns-in-None c =
+    ap (option_map global) (sym c.in-None.is ∙ c.place.ensures) ∙ c.here-here.ensures.in_slots c.args.name.now
