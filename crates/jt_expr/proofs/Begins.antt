@@ -1,5 +1,5 @@
 -- What the forms of each level begin with, and that `=` is never their second token.
-use Rattle.std.proofs.Common.{◌≡◌, Bool, true, false, ◌||◌, ◌==◌, [], ◌∷◌, ◌++◌, drop, codes, refl, arith, Option}
+use Rattle.std.proofs.Common.{◌≡◌, Bool, true, false, ◌||◌, ◌==◌, [], ◌∷◌, ◌++◌, drop, codes, refl, arith, Option, rules}
 use Rattle.std.proofs.lemmas.Bool.Decides.{nat_tests}
 use Rattle.jt_scan.specs.declared.segment.Sign.{Sign}
 use Rattle.jt_scan.specs.declared.segment.Sign.TheVariants as s
@@ -42,81 +42,38 @@ begins_operand (cut.text v ∷ ts) = true
 begins_operand (cut.sign k ∷ ts) = opens_signed k
 
 pub primary-append : (x y : Tokens) → begins_primary x ≡ true → begins_primary (x ++ y) ≡ true
-primary-append [] y h = cc
-primary-append (cut.name n ∷ x) y h = h
-primary-append (cut.number n ∷ x) y h = h
-primary-append (cut.text v ∷ x) y h = h
-primary-append (cut.sign k ∷ x) y h = h
+primary-append x y h = search (arith, rules)
 
 pub signed-append : (x y : Tokens) → begins_signed x ≡ true → begins_signed (x ++ y) ≡ true
-signed-append [] y h = cc
-signed-append (cut.name n ∷ x) y h = h
-signed-append (cut.number n ∷ x) y h = h
-signed-append (cut.text v ∷ x) y h = h
-signed-append (cut.sign k ∷ x) y h = h
+signed-append x y h = search (arith, rules)
 
 pub operand-append : (x y : Tokens) → begins_operand x ≡ true → begins_operand (x ++ y) ≡ true
-operand-append [] y h = cc
-operand-append (cut.name n ∷ x) y h = h
-operand-append (cut.number n ∷ x) y h = h
-operand-append (cut.text v ∷ x) y h = h
-operand-append (cut.sign k ∷ x) y h = h
+operand-append x y h = search (arith, rules)
 
 pub argument-append : (x y : Tokens) → begins_argument x ≡ true → begins_argument (x ++ y) ≡ true
-argument-append [] y h = cc
-argument-append (cut.name n ∷ x) y h = h
-argument-append (cut.number n ∷ x) y h = h
-argument-append (cut.text v ∷ x) y h = h
-argument-append (cut.sign k ∷ x) y h = h
+argument-append x y h = search (arith, rules)
 
 signed-primary : (x : Tokens) → begins_primary x ≡ true → begins_signed x ≡ true
-signed-primary [] h = cc
-signed-primary (cut.name n ∷ x) h = h
-signed-primary (cut.number n ∷ x) h = refl
-signed-primary (cut.text v ∷ x) h = refl
-signed-primary (cut.sign k ∷ x) h = grind (arith, nat_tests)
+signed-primary x h = search (arith, rules, nat_tests)
 
 operand-signed : (x : Tokens) → begins_signed x ≡ true → begins_operand x ≡ true
-operand-signed [] h = cc
-operand-signed (cut.name n ∷ x) h = refl
-operand-signed (cut.number n ∷ x) h = refl
-operand-signed (cut.text v ∷ x) h = refl
-operand-signed (cut.sign k ∷ x) h = h
+operand-signed x h = search (arith, rules)
 
 pub no_minus-primary : (x : Tokens) → begins_primary x ≡ true → sees s.Minus x ≡ false
-no_minus-primary [] h = cc
-no_minus-primary (cut.name n ∷ x) h = refl
-no_minus-primary (cut.number n ∷ x) h = refl
-no_minus-primary (cut.text v ∷ x) h = refl
-no_minus-primary (cut.sign k ∷ x) h = grind (arith, nat_tests)
+no_minus-primary x h = search (arith, rules, nat_tests)
 
 pub no_plus-primary : (x : Tokens) → begins_primary x ≡ true → sees s.Plus x ≡ false
-no_plus-primary [] h = cc
-no_plus-primary (cut.name n ∷ x) h = refl
-no_plus-primary (cut.number n ∷ x) h = refl
-no_plus-primary (cut.text v ∷ x) h = refl
-no_plus-primary (cut.sign k ∷ x) h = grind (arith, nat_tests)
+no_plus-primary x h = search (arith, rules, nat_tests)
 
 pub no_not-signed : (x : Tokens) → begins_signed x ≡ true → says (codes "not") x ≡ false
-no_not-signed [] h = cc
-no_not-signed (cut.name n ∷ x) h = operand_says n h
-no_not-signed (cut.number n ∷ x) h = refl
-no_not-signed (cut.text v ∷ x) h = refl
-no_not-signed (cut.sign k ∷ x) h = refl
+no_not-signed x h = search (arith, rules, operand_says)
 
 -- no operand begins with a sign that stands for nothing in front
 no_sign-operand : (c : Sign) (x : Tokens) → opens_signed c ≡ false → begins_operand x ≡ true → sees c x ≡ false
-no_sign-operand c [] e h = cc
-no_sign-operand c (cut.name n ∷ x) e h = refl
-no_sign-operand c (cut.number n ∷ x) e h = refl
-no_sign-operand c (cut.text v ∷ x) e h = refl
-no_sign-operand c (cut.sign k ∷ x) e h = grind (arith, nat_tests)
+no_sign-operand c x e h = search (arith, rules, nat_tests)
 
 no_close-operand : (r : Row) (x : Tokens) → begins_operand x ≡ true → sees (closer r) x ≡ false
-no_close-operand items x h = no_sign-operand s.RightBracket x refl h
-no_close-operand entries x h = no_sign-operand s.RightBrace x refl h
-no_close-operand arguments x h = no_sign-operand s.RightParen x refl h
-no_close-operand keywords x h = no_sign-operand s.RightParen x refl h
+no_close-operand r x h = search (arith, rules, no_sign-operand)
 
 abbrev pub Begins : Level → Tokens → Type 0
 Begins whole x = begins_operand x ≡ true
@@ -133,27 +90,10 @@ Begins signed x = begins_signed x ≡ true
 Begins postfix x = begins_primary x ≡ true
 
 chain_begins : (k : Level) (x y : Tokens) → is_chain k ≡ true → Begins (next k) x → Begins k (x ++ y)
-chain_begins disjunction x y c h = operand-append x y h
-chain_begins conjunction x y c h = operand-append x y h
-chain_begins sum x y c h = signed-append x y h
-chain_begins concatenation x y c h = signed-append x y h
-chain_begins product x y c h = signed-append x y h
-chain_begins power x y c h = signed-append x y h
-chain_begins whole x y c h = cc
-chain_begins inversion x y c h = cc
-chain_begins comparison x y c h = cc
-chain_begins postscript x y c h = cc
-chain_begins signed x y c h = cc
-chain_begins postfix x y c h = cc
+chain_begins k x y c h = search (arith, rules, operand-append, signed-append)
 
 pub primary_begins : {t : Expr} {x : Tokens} → Primary t x → begins_primary x ≡ true
-primary_begins a_number = refl
-primary_begins a_text = refl
-primary_begins (a_constant {l} {x} e) = literal_is_operand x l e
-primary_begins (a_name {x} h) = name_is_operand x h
-primary_begins (a_group d) = refl
-primary_begins (a_list d) = refl
-primary_begins (a_map d) = refl
+primary_begins x1 = search (arith, rules, literal_is_operand, name_is_operand)
 
 pub begins : {k : Level} {t : Expr} {x : Tokens} → Spells k t x → Begins k x
 begins (plain d) = begins d
@@ -171,27 +111,14 @@ begins (unsigned {t} {x} d) = signed-primary x (begins d)
 begins (postfixes {a} {t} {x} {y} d g) = primary-append x y (primary_begins d)
 
 level_begins : (k : Level) (x : Tokens) → Begins k x → begins_operand x ≡ true
-level_begins whole x h = h
-level_begins disjunction x h = h
-level_begins conjunction x h = h
-level_begins inversion x h = h
-level_begins comparison x h = operand-signed x h
-level_begins sum x h = operand-signed x h
-level_begins concatenation x h = operand-signed x h
-level_begins product x h = operand-signed x h
-level_begins power x h = operand-signed x h
-level_begins postscript x h = operand-signed x h
-level_begins signed x h = operand-signed x h
-level_begins postfix x h = operand-signed x (signed-primary x h)
+level_begins k x h = search (arith, rules, operand-signed, signed-primary)
 
 spelled_begins : {k : Level} {t : Expr} {x : Tokens} → Spells k t x → begins_operand x ≡ true
 spelled_begins {k} {t} {x} d = level_begins k x (begins d)
 
 -- a part does not begin with the closing sign
 pub part_open : {r : Row} {k : Option Text} {t : Expr} {x : Tokens} → IsPart r k t x → (rest : Tokens) → sees (closer r) (x ++ rest) ≡ false
-part_open (without_key {r} {t} {x} e d) rest = no_close-operand r (x ++ rest) (operand-append x rest (spelled_begins d))
-part_open (an_entry d) rest = refl
-part_open (by_name e h d) rest = refl
+part_open rest x2 = search (arith, rules, no_close-operand, operand-append, spelled_begins)
 
 -- ---- the second token
 
@@ -202,69 +129,29 @@ no_assign_alone : (x : Tokens) → begins_operand x ≡ true → sees s.Assign x
 no_assign_alone x h = no_sign-operand s.Assign x refl h
 
 operator_front : (op : BinaryOperator) (ts : Tokens) → sees s.Assign (operator_tokens op ++ ts) ≡ false
-operator_front o.Or ts = refl
-operator_front o.And ts = refl
-operator_front o.Equal ts = refl
-operator_front o.NotEqual ts = refl
-operator_front o.Less ts = refl
-operator_front o.LessOrEqual ts = refl
-operator_front o.Greater ts = refl
-operator_front o.GreaterOrEqual ts = refl
-operator_front o.In ts = refl
-operator_front o.NotIn ts = refl
-operator_front o.Add ts = refl
-operator_front o.Subtract ts = refl
-operator_front o.Concatenate ts = refl
-operator_front o.Multiply ts = refl
-operator_front o.FloorDivide ts = refl
-operator_front o.Remainder ts = refl
-operator_front o.Power ts = refl
+operator_front op ts = search (arith, rules)
 
 is_front : (b : Bool) (ts : Tokens) → sees s.Assign (is_tokens b ++ ts) ≡ false
 is_front false ts = refl
 is_front true ts = refl
 
 goes_front : {k : Level} {a t : Expr} {y : Tokens} → Goes k a t y → sees s.Assign y ≡ false
-goes_front stay = refl
-goes_front (operated {k} {op} {a} {b} {t} {x} {y} c e d g) = operator_front op (x ++ y)
-goes_front (filtered h d g) = refl
-goes_front (tested {a} {t} {b} {ts} {ps} {x} {y} n h d g) = is_front b (cut.name n ∷ (x ++ y))
-goes_front (attributed g) = refl
-goes_front (indexed d g) = refl
-goes_front (called d g) = refl
+goes_front x1 = search (arith, rules, operator_front, is_front)
 
 pub second-append : (x y : Tokens) → begins_operand x ≡ true → sees s.Assign (drop 1 x) ≡ false → sees s.Assign y ≡ false → sees s.Assign (drop 1 (x ++ y)) ≡ false
-second-append [] y h e f = cc
-second-append (a ∷ []) y h e f = f
-second-append (a ∷ cut.name n ∷ x) y h e f = refl
-second-append (a ∷ cut.number n ∷ x) y h e f = refl
-second-append (a ∷ cut.text v ∷ x) y h e f = refl
-second-append (a ∷ cut.sign k ∷ x) y h e f = e
+second-append x y h e f = search (arith, rules)
 
 closer_front : (r : Row) (rest : Tokens) → sees s.Assign (cut.sign (closer r) ∷ rest) ≡ false
-closer_front items rest = refl
-closer_front entries rest = refl
-closer_front arguments rest = refl
-closer_front keywords rest = refl
+closer_front r rest = search (arith, rules)
 
 part_front : {r : Row} {k : Option Text} {t : Expr} {x : Tokens} → IsPart r k t x → (rest : Tokens) → sees s.Assign (x ++ rest) ≡ false
-part_front (without_key {r} {t} {x} e d) rest = no_assign x rest (spelled_begins d)
-part_front (an_entry d) rest = refl
-part_front (by_name e h d) rest = refl
+part_front rest x2 = search (arith, rules, no_assign, spelled_begins)
 
 holds_front : {r : Row} {p : Parts} {x : Tokens} → Holds r p x → sees s.Assign x ≡ false
-holds_front (closed {r}) = closer_front r []
-holds_front (last {r} d) = part_front d (cut.sign (closer r) ∷ [])
-holds_front (more {r} {k} {t} {p} {x} {y} d g) = part_front d (cut.sign s.Comma ∷ y)
+holds_front x1 = search (arith, rules, closer_front, part_front)
 
 primary_second : {t : Expr} {x : Tokens} → Primary t x → sees s.Assign (drop 1 x) ≡ false
-primary_second a_number = refl
-primary_second a_text = refl
-primary_second (a_constant e) = refl
-primary_second (a_name h) = refl
-primary_second (a_group {t} {x} d) = no_assign x (cut.sign s.RightParen ∷ []) (spelled_begins d)
-primary_second (a_list d) = holds_front d
-primary_second (a_map d) = holds_front d
+primary_second x1 = search (arith, rules, no_assign, spelled_begins, holds_front)
 
 pub second : {k : Level} {t : Expr} {x : Tokens} → Spells k t x → sees s.Assign (drop 1 x) ≡ false
 second (plain d) = second d

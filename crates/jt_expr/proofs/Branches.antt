@@ -1,5 +1,5 @@
 -- Tests of the tokens in front, and of words.
-use Rattle.std.proofs.Common.{◌≡◌, ℕ, ◌<◌, Bool, true, false, not, ◌||◌, cond, List, [], ◌∷◌, get_or, length, drop, codes, refl, sym, ap, subst, ◌∙◌, arith, ◌==◌, Some, None, bytes_eq}
+use Rattle.std.proofs.Common.{◌≡◌, ℕ, ◌<◌, Bool, true, false, not, ◌||◌, cond, List, [], ◌∷◌, get_or, length, drop, codes, refl, sym, ap, subst, ◌∙◌, arith, ◌==◌, Some, None, bytes_eq, rules}
 use Rattle.std.specs.List.{list_any}
 use Rattle.std.proofs.lemmas.Bool.Decides.{nat_tests}
 use Rattle.std.proofs.lemmas.List.Folds.{list_any_at}
@@ -62,11 +62,7 @@ pub false_not : (b : Bool) → b ≡ false → not b ≡ true
 false_not b h = ap not h
 
 pub says_sound : (w : Text) (ts : Tokens) → says w ts ≡ true → ts ≡ word w ∷ drop 1 ts
-says_sound w [] e = cc
-says_sound w (cut.name x ∷ ts) e = ap (λ y. cut.name y ∷ ts) (same_text x w e)
-says_sound w (cut.number n ∷ ts) e = cc
-says_sound w (cut.text v ∷ ts) e = cc
-says_sound w (cut.sign k ∷ ts) e = cc
+says_sound w ts e = search (arith, rules, same_text)
 
 -- ---- signs
 
@@ -78,40 +74,13 @@ uncode n =
 
 uncode_code : (k : Sign) → uncode (code k) ≡ k
 unfolding uncode
-uncode_code s.Plus = refl
-uncode_code s.Minus = refl
-uncode_code s.Times = refl
-uncode_code s.Percent = refl
-uncode_code s.Tilde = refl
-uncode_code s.Less = refl
-uncode_code s.Greater = refl
-uncode_code s.Assign = refl
-uncode_code s.Dot = refl
-uncode_code s.Comma = refl
-uncode_code s.Colon = refl
-uncode_code s.Pipe = refl
-uncode_code s.LeftParen = refl
-uncode_code s.RightParen = refl
-uncode_code s.LeftBracket = refl
-uncode_code s.RightBracket = refl
-uncode_code s.LeftBrace = refl
-uncode_code s.RightBrace = refl
-uncode_code s.Power = refl
-uncode_code s.FloorDivide = refl
-uncode_code s.Equal = refl
-uncode_code s.NotEqual = refl
-uncode_code s.LessEqual = refl
-uncode_code s.GreaterEqual = refl
+uncode_code k = search (arith, rules)
 
 same_sign : (j k : Sign) → (code j == code k) ≡ true → j ≡ k
 same_sign j k e = let same : code j ≡ code k = grind (arith, nat_tests) in sym (uncode_code j) ∙ ap uncode same ∙ uncode_code k
 
 pub sees_sound : (k : Sign) (ts : Tokens) → sees k ts ≡ true → ts ≡ cut.sign k ∷ drop 1 ts
-sees_sound k [] e = cc
-sees_sound k (cut.name x ∷ ts) e = cc
-sees_sound k (cut.number n ∷ ts) e = cc
-sees_sound k (cut.text v ∷ ts) e = cc
-sees_sound k (cut.sign j ∷ ts) e = ap (λ i. cut.sign i ∷ ts) (same_sign j k e)
+sees_sound k ts e = search (arith, rules, same_sign)
 
 eqb_self : (n : ℕ) → (n == n) ≡ true
 eqb_self n = grind (arith, nat_tests)

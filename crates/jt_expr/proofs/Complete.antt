@@ -1,5 +1,5 @@
 -- What a tree's tokens spell is read, or too deep.
-use Rattle.std.proofs.Common.{◌≡◌, ℕ, ℤ, zero, suc, ◌+◌, ◌<◌, ◌≤◌, max, if◌then◌else◌, Bool, true, false, [], ◌∷◌, ◌++◌, length, drop, codes, encode_utf8_all, bytes_eq, refl, sym, ap, subst, ◌∙◌, append_assoc, arith, Option, Some, None, Ok, Err, length-append}
+use Rattle.std.proofs.Common.{◌≡◌, ℕ, ℤ, zero, suc, ◌+◌, ◌<◌, ◌≤◌, max, if◌then◌else◌, Bool, true, false, [], ◌∷◌, ◌++◌, length, drop, codes, encode_utf8_all, bytes_eq, refl, sym, ap, subst, ◌∙◌, append_assoc, arith, Option, Some, None, Ok, Err, length-append, rules}
 use Rattle.jt_scan.specs.declared.segment.Sign.TheVariants as s
 use Rattle.jt_scan.specs.Cut as cut
 use Rattle.jt_scan.specs.Cut.{Token}
@@ -80,76 +80,22 @@ Above signed ts = Unit {0}
 Above postfix ts = Unit {0}
 
 stops_above : (k : Level) (ts : Tokens) → Stops k ts → Above k ts
-stops_above whole ts h = tt
-stops_above disjunction ts h = h.1
-stops_above conjunction ts h = h.1
-stops_above inversion ts h = tt
-stops_above comparison ts h = h.1
-stops_above sum ts h = h.1
-stops_above concatenation ts h = h.1
-stops_above product ts h = h.1
-stops_above power ts h = h.1
-stops_above postscript ts h = h.3
-stops_above signed ts h = tt
-stops_above postfix ts h = tt
+stops_above k ts h = search (arith, rules)
 
 -- what holds of each chain
 chain_cases : (P : Level → Type 0) → P disjunction → P conjunction → P sum → P concatenation → P product → P power → (k : Level) → is_chain k ≡ true → P k
-chain_cases P d c s t p w disjunction h = d
-chain_cases P d c s t p w conjunction h = c
-chain_cases P d c s t p w sum h = s
-chain_cases P d c s t p w concatenation h = t
-chain_cases P d c s t p w product h = p
-chain_cases P d c s t p w power h = w
-chain_cases P d c s t p w whole h = absurd (cc)
-chain_cases P d c s t p w inversion h = absurd (cc)
-chain_cases P d c s t p w comparison h = absurd (cc)
-chain_cases P d c s t p w postscript h = absurd (cc)
-chain_cases P d c s t p w signed h = absurd (cc)
-chain_cases P d c s t p w postfix h = absurd (cc)
+chain_cases P d c s t p w x8 h = search (arith, rules)
 
 chain_above : (k : Level) (ts : Tokens) → is_chain k ≡ true → Above k ts → Stops (next k) ts
 chain_above k ts c = chain_cases (λ j. Above j ts → Stops (next j) ts) (λ h. h) (λ h. h) (λ h. h) (λ h. h) (λ h. h) (λ h. h) k c
 
 operator_stops : (op : BinaryOperator) (ts : Tokens) → Above (level_of op) (operator_tokens op ++ ts)
 unfolding operator
-operator_stops o.Or ts = (refl, (refl, (refl, (refl, (refl, (refl, (refl, refl, refl, (refl, refl, refl))))))))
-operator_stops o.And ts = (refl, (refl, (refl, (refl, (refl, (refl, refl, refl, (refl, refl, refl)))))))
-operator_stops o.Equal ts = (refl, (refl, (refl, (refl, (refl, refl, refl, (refl, refl, refl))))))
-operator_stops o.NotEqual ts = (refl, (refl, (refl, (refl, (refl, refl, refl, (refl, refl, refl))))))
-operator_stops o.Less ts = (refl, (refl, (refl, (refl, (refl, refl, refl, (refl, refl, refl))))))
-operator_stops o.LessOrEqual ts = (refl, (refl, (refl, (refl, (refl, refl, refl, (refl, refl, refl))))))
-operator_stops o.Greater ts = (refl, (refl, (refl, (refl, (refl, refl, refl, (refl, refl, refl))))))
-operator_stops o.GreaterOrEqual ts = (refl, (refl, (refl, (refl, (refl, refl, refl, (refl, refl, refl))))))
-operator_stops o.In ts = (refl, (refl, (refl, (refl, (refl, refl, refl, (refl, refl, refl))))))
-operator_stops o.NotIn ts = (refl, (refl, (refl, (refl, (refl, refl, refl, (refl, refl, refl))))))
-operator_stops o.Add ts = (refl, (refl, (refl, (refl, refl, refl, (refl, refl, refl)))))
-operator_stops o.Subtract ts = (refl, (refl, (refl, (refl, refl, refl, (refl, refl, refl)))))
-operator_stops o.Concatenate ts = (refl, (refl, (refl, refl, refl, (refl, refl, refl))))
-operator_stops o.Multiply ts = (refl, (refl, refl, refl, (refl, refl, refl)))
-operator_stops o.FloorDivide ts = (refl, (refl, refl, refl, (refl, refl, refl)))
-operator_stops o.Remainder ts = (refl, (refl, refl, refl, (refl, refl, refl)))
-operator_stops o.Power ts = (refl, refl, refl, (refl, refl, refl))
+operator_stops op ts = search (arith, rules)
 
 operator_at : (op : BinaryOperator) (ts : Tokens) → operator (level_of op) (operator_tokens op ++ ts) ≡ Some (op, ts)
 unfolding operator
-operator_at o.Or ts = refl
-operator_at o.And ts = refl
-operator_at o.Equal ts = refl
-operator_at o.NotEqual ts = refl
-operator_at o.Less ts = refl
-operator_at o.LessOrEqual ts = refl
-operator_at o.Greater ts = refl
-operator_at o.GreaterOrEqual ts = refl
-operator_at o.In ts = refl
-operator_at o.NotIn ts = refl
-operator_at o.Add ts = refl
-operator_at o.Subtract ts = refl
-operator_at o.Concatenate ts = refl
-operator_at o.Multiply ts = refl
-operator_at o.FloorDivide ts = refl
-operator_at o.Remainder ts = refl
-operator_at o.Power ts = refl
+operator_at op ts = search (arith, rules)
 
 pub if_stops : (ts : Tokens) → Stops disjunction (word (codes "if") ∷ ts)
 unfolding operator
@@ -165,10 +111,7 @@ comma_stops ts = (refl, refl, (refl, (refl, (refl, (refl, (refl, (refl, (refl, (
 
 close_stops : (r : Row) (ts : Tokens) → Stops whole (cut.sign (closer r) ∷ ts)
 unfolding operator
-close_stops items ts = (refl, refl, (refl, (refl, (refl, (refl, (refl, (refl, (refl, (refl, refl, refl, (refl, refl, refl))))))))))
-close_stops entries ts = (refl, refl, (refl, (refl, (refl, (refl, (refl, (refl, (refl, (refl, refl, refl, (refl, refl, refl))))))))))
-close_stops arguments ts = (refl, refl, (refl, (refl, (refl, (refl, (refl, (refl, (refl, (refl, refl, refl, (refl, refl, refl))))))))))
-close_stops keywords ts = (refl, refl, (refl, (refl, (refl, (refl, (refl, (refl, (refl, (refl, refl, refl, (refl, refl, refl))))))))))
+close_stops r ts = search (arith, rules)
 
 pub nothing_stops : Stops whole []
 unfolding operator
@@ -246,18 +189,7 @@ chain_turn inner n k turns a ts c =
 
 step_stops : (inner : Level → Reader Expr) (n : ℕ) (k : Level) (a : Expr) (ts : Tokens) → Stops k ts → step inner n k a ts ≡ Ok (None, ts)
 unfolding chain_step postscript_step postfix_step operator
-step_stops inner n whole a ts h = refl
-step_stops inner n disjunction a ts h = rw h.0
-step_stops inner n conjunction a ts h = rw h.0
-step_stops inner n inversion a ts h = refl
-step_stops inner n comparison a ts h = rw h.0
-step_stops inner n sum a ts h = rw h.0
-step_stops inner n concatenation a ts h = rw h.0
-step_stops inner n product a ts h = rw h.0
-step_stops inner n power a ts h = rw h.0
-step_stops inner n postscript a ts h = rw (h.0, h.1)
-step_stops inner n signed a ts h = refl
-step_stops inner n postfix a ts h = rw (h.0, h.1, h.2)
+step_stops inner n k a ts h = search (arith, rules)
 
 on_stops : (inner : Level → Reader Expr) (n : ℕ) (k : Level) (turns : ℕ) (a : Expr) (ts : Tokens) → Stops k ts → on inner n k (suc turns) a ts ≡ Ok (a, ts)
 unfolding loop
@@ -339,18 +271,7 @@ BehindArguments postscript ts = ArgumentStops ts
 BehindArguments _ ts = Unit {0}
 
 stay_behind : (k : Level) (ts : Tokens) → Stops k ts → BehindArguments k ts
-stay_behind postscript ts h = (h.2, h.3)
-stay_behind whole ts h = tt
-stay_behind disjunction ts h = tt
-stay_behind conjunction ts h = tt
-stay_behind inversion ts h = tt
-stay_behind comparison ts h = tt
-stay_behind sum ts h = tt
-stay_behind concatenation ts h = tt
-stay_behind product ts h = tt
-stay_behind power ts h = tt
-stay_behind signed ts h = tt
-stay_behind postfix ts h = tt
+stay_behind k ts h = search (arith, rules)
 
 chain_behind : (k : Level) (ts : Tokens) → is_chain k ≡ true → BehindArguments k ts
 chain_behind k ts c = chain_cases (λ j. BehindArguments j ts) tt tt tt tt tt tt k c
@@ -360,13 +281,7 @@ is_behind false ts = (refl, (refl, refl, refl))
 is_behind true ts = (refl, (refl, refl, refl))
 
 goes_behind : {k : Level} {a t : Expr} {y : Tokens} → Goes k a t y → (rest : Tokens) → Stops k rest → BehindArguments k (y ++ rest)
-goes_behind (stay {k}) rest h = stay_behind k rest h
-goes_behind (operated {k} {op} {a} {b} {t} {x} {y} c e d g) rest h = chain_behind k _ c
-goes_behind (filtered h d g) rest st = (refl, (refl, refl, refl))
-goes_behind (tested {a} {t} {b} {ts} {ps} {x} {y} n h d g) rest st = rw append_assoc (is_behind b ((cut.name n ∷ (x ++ y)) ++ rest))
-goes_behind (attributed g) rest h = tt
-goes_behind (indexed d g) rest h = tt
-goes_behind (called d g) rest h = tt
+goes_behind rest x2 x3 = search (arith, rules, stay_behind, chain_behind, is_behind)
 
 filter_turn : (inner : Level → Reader Expr) (n turns : ℕ) (a : Expr) (x : Text) (v : Tokens) → is_reserved x ≡ false
     → on inner n postscript (suc turns) a (cut.sign s.Pipe ∷ cut.name x ∷ v)
@@ -455,25 +370,15 @@ unnamed a false d h = rw h
 
 no_keyword : (x rest : Tokens) → begins_operand x ≡ true → sees s.Assign (drop 1 (x ++ rest)) ≡ false → keyword (x ++ rest) ≡ None
 unfolding keyword
-no_keyword [] rest b h = cc
-no_keyword (cut.name n ∷ x) rest b h = unnamed (encode_utf8_all n, drop 1 (x ++ rest)) (is_reserved n) (sees s.Assign (x ++ rest)) h
-no_keyword (cut.number m ∷ x) rest b h = refl
-no_keyword (cut.text v ∷ x) rest b h = refl
-no_keyword (cut.sign k ∷ x) rest b h = refl
+no_keyword x rest b h = search (arith, rules, unnamed)
 
 -- an expression without a key is not taken for a key
 no_key : (w : Row) (x rest : Tokens) → takes_plain w ≡ true → begins_operand x ≡ true → sees s.Assign (drop 1 (x ++ rest)) ≡ false → key_at w (x ++ rest) ≡ None
-no_key items x rest e b h = refl
-no_key arguments x rest e b h = no_keyword x rest b h
-no_key entries x rest e b h = cc
-no_key keywords x rest e b h = cc
+no_key w x rest e b h = search (arith, rules, no_keyword)
 
 named_key : (w : Row) (n : Text) (ts : Tokens) → takes_names w ≡ true → is_reserved n ≡ false → key_at w (cut.name n ∷ cut.sign s.Assign ∷ ts) ≡ Some (encode_utf8_all n, ts)
 unfolding keyword
-named_key arguments n ts e h = rw h
-named_key keywords n ts e h = rw h
-named_key items n ts e h = cc
-named_key entries n ts e h = cc
+named_key w n ts e h = search (arith, rules)
 
 -- a part's expression, with its key
 abbrev pub with_key : Option Text → Expr → Reader (Option Text × Expr)
@@ -504,20 +409,14 @@ closed_at w n zero rest le = absurd (omega arith)
 closed_at w n (suc turns) rest le = rw (sees_self (closer w) rest) (sym (cap_within 0 n no_parts rest (omega arith)))
 
 no_comma : (w : Row) (ts : Tokens) → sees s.Comma (cut.sign (closer w) ∷ ts) ≡ false
-no_comma items ts = refl
-no_comma entries ts = refl
-no_comma arguments ts = refl
-no_comma keywords ts = refl
+no_comma w ts = search (arith, rules)
 
 closes : (w : Row) (ts : Tokens) → expect (closer w) (cut.sign (closer w) ∷ ts) ≡ Ok (tt, ts)
 unfolding expect
 closes w ts = rw (sees_self (closer w) ts)
 
 closer_assign : (w : Row) (ts : Tokens) → sees s.Assign (cut.sign (closer w) ∷ ts) ≡ false
-closer_assign items ts = refl
-closer_assign entries ts = refl
-closer_assign arguments ts = refl
-closer_assign keywords ts = refl
+closer_assign w ts = search (arith, rules)
 
 -- behind a part
 abbrev row_tail : ℕ → ℕ → Row → Option Text × Expr → Reader Parts

@@ -1,5 +1,5 @@
 -- What all the tokens spell, and what is answered.
-use Rattle.std.proofs.Common.{◌≡◌, ℕ, ◌<◌, ◌≤◌, [], ◌∷◌, length, refl, sym, ap, subst, ◌∙◌, arith, append-nil, Result, Ok, Err, IfOk, MatchResult}
+use Rattle.std.proofs.Common.{◌≡◌, ℕ, ◌<◌, ◌≤◌, [], ◌∷◌, length, refl, sym, ap, subst, ◌∙◌, arith, append-nil, Result, Ok, Err, IfOk, MatchResult, rules}
 use Rattle.std.specs.Prelude.{IsErrOf}
 use Rattle.jt_expr.specs.declared.error.ExprError.{ExprError}
 use Rattle.jt_expr.specs.declared.error.ExprError.TheVariants as e
@@ -67,18 +67,8 @@ answers_syntax n ts (Err e.UnknownTest) g h t d = g
 answers_syntax n ts (Err e.NoMemory) g h t d = cc
 
 pub answers_deep : (n : ℕ) (ts : Tokens) (r : Result Tree ExprError) → OfAll n ts r → IsErrOf r e.TooDeep → (t : Expr) → Spells whole t ts → n < levels t
-answers_deep n ts (Ok x) g h t d = absurd (cc)
-answers_deep n ts (Err e.Syntax) g h t d = absurd (cc)
-answers_deep n ts (Err e.TooDeep) g h t d = g t [] (led t ts d) refl
-answers_deep n ts (Err e.UnknownFilter) g h t d = absurd g
-answers_deep n ts (Err e.UnknownTest) g h t d = absurd g
-answers_deep n ts (Err e.NoMemory) g h t d = absurd (cc)
+answers_deep n ts r g h t d = search (arith, rules, led)
 
 -- a refusal names no unknown filter or test
 pub answers_known : (n : ℕ) (ts : Tokens) (r : Result Tree ExprError) → OfAll n ts r → (IsErrOf r e.UnknownFilter → ⊥) × (IsErrOf r e.UnknownTest → ⊥)
-answers_known n ts (Ok x) g = (λ h. cc, λ h. cc)
-answers_known n ts (Err e.Syntax) g = (λ h. cc, λ h. cc)
-answers_known n ts (Err e.TooDeep) g = (λ h. cc, λ h. cc)
-answers_known n ts (Err e.UnknownFilter) g = (λ h. g, λ h. g)
-answers_known n ts (Err e.UnknownTest) g = (λ h. g, λ h. g)
-answers_known n ts (Err e.NoMemory) g = (λ h. cc, λ h. cc)
+answers_known n ts r g = search (arith, rules)

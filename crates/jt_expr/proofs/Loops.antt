@@ -1,5 +1,5 @@
 -- One turn of a loop of the reader, beside a loop that counts its turns.
-use Rattle.std.proofs.Common.{◌≡◌, ℕ, suc, ◌+◌, ◌-◌, ◌<◌, ◌≤◌, Option, Some, None, Ok, Err, ap, ◌∙◌, arith}
+use Rattle.std.proofs.Common.{◌≡◌, ℕ, suc, ◌+◌, ◌-◌, ◌<◌, ◌≤◌, Option, Some, None, Ok, Err, ap, ◌∙◌, arith, rules}
 use Rattle.jt_expr.specs.declared.error.ExprError.{ExprError}
 use Rattle.jt_expr.specs.declared.error.ExprError.TheVariants as e
 use Rattle.jt_trees.specs.Expressions.{Expr}
@@ -9,11 +9,7 @@ use Rattle.jt_expr.specs.Gives.{Refuses}
 
 -- a refusal of a step is one of the whole
 pub refused : {A B : Type 0} (x : Outcome B) (o : Outcome A) (f : A → Reader B) (r : ExprError) → x ≡ (o >>= f) → Refuses o r → Refuses x r
-refused x o f e.Syntax h q = h ∙ ap (λ p. p >>= f) q
-refused x o f e.TooDeep h q = h ∙ ap (λ p. p >>= f) q
-refused x o f e.UnknownFilter h q = q
-refused x o f e.UnknownTest h q = q
-refused x o f e.NoMemory h q = tt
+refused x o f r h q = search (arith, rules)
 
 module _ (step : Expr → Reader (Option Expr)) (count at : ℕ) (x : Outcome Expr) (left : Expr) (ts : Tokens) (is : x ≡ loop step (count - at) left ts) where
   loop_turn : at < count → x ≡ (step left ts >>= again (loop step (count - (at + 1))) left)

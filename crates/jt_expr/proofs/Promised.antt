@@ -1,5 +1,5 @@
 -- What the reader gives is what is promised of it.
-use Rattle.std.proofs.Common.{◌≡◌, ℕ, suc, ◌<◌, ◌≤◌, false, [], ◌∷◌, sym, ap, ◌∙◌, Result, Ok, Err, ⊎_elim}
+use Rattle.std.proofs.Common.{◌≡◌, ℕ, suc, ◌<◌, ◌≤◌, false, [], ◌∷◌, sym, ap, ◌∙◌, Result, Ok, Err, ⊎_elim, arith, rules}
 use Rattle.std.proofs.lemmas.Bool.{cases_lt}
 use Rattle.jt_scan.specs.declared.segment.Sign.TheVariants as s
 use Rattle.jt_scan.specs.Cut as cut
@@ -22,18 +22,7 @@ use Rattle.jt_expr.proofs.Sound.{read_is_spelled, arguments_are_spelled}
 -- ---- where expressions end
 
 stops_all : (ts : Tokens) → Stops whole ts → (k : Level) → Stops k ts
-stops_all ts h whole = h
-stops_all ts h disjunction = h.2
-stops_all ts h conjunction = h.2.1
-stops_all ts h inversion = h.2.1.1
-stops_all ts h comparison = h.2.1.1
-stops_all ts h sum = h.2.1.1.1
-stops_all ts h concatenation = h.2.1.1.1.1
-stops_all ts h product = h.2.1.1.1.1.1
-stops_all ts h power = h.2.1.1.1.1.1.1
-stops_all ts h postscript = h.2.1.1.1.1.1.1.1
-stops_all ts h signed = h.2.1.1.1.1.1.1.1.3
-stops_all ts h postfix = h.2.1.1.1.1.1.1.1.3
+stops_all ts h x3 = search (arith, rules)
 
 ends_stop : {k : Level} {ts : Tokens} → EndsAt k ts → Stops k ts
 ends_stop {k} the_end = stops_all [] nothing_stops k

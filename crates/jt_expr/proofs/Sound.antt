@@ -1,5 +1,5 @@
 -- What is read is spelled so, within the levels that are allowed.
-use Rattle.std.proofs.Common.{◌≡◌, ℕ, zero, suc, ◌≤◌, nat_le, Bool, true, false, if◌then◌else◌, [], ◌∷◌, ◌++◌, length, drop, codes, encode_utf8_all, bytes_eq, refl, sym, ap, subst, ◌∙◌, append_assoc, arith, Option, Some, None, Ok, Err}
+use Rattle.std.proofs.Common.{◌≡◌, ℕ, zero, suc, ◌≤◌, nat_le, Bool, true, false, if◌then◌else◌, [], ◌∷◌, ◌++◌, length, drop, codes, encode_utf8_all, bytes_eq, refl, sym, ap, subst, ◌∙◌, append_assoc, arith, Option, Some, None, Ok, Err, rules}
 use Rattle.std.proofs.lemmas.Bool.Decides.{nat_tests}
 use Rattle.jt_scan.specs.declared.segment.Sign.{Sign}
 use Rattle.jt_scan.specs.declared.segment.Sign.TheVariants as s
@@ -56,11 +56,7 @@ expect_sound k ts v x e =
 
 word_sound : (ts v : Tokens) (x : Text) → word_at ts ≡ Ok (x, v) → ts ≡ cut.name x ∷ v
 unfolding word_at
-word_sound [] v x e = cc
-word_sound (cut.name q ∷ ts) v x e = let p = ok_parts e in let h = p.0 in let t = p.1 in cc
-word_sound (cut.number m ∷ ts) v x e = cc
-word_sound (cut.text w ∷ ts) v x e = cc
-word_sound (cut.sign k ∷ ts) v x e = cc
+word_sound ts v x e = search (arith, rules, ok_parts)
 
 expect_bind : {B : Type 0} (k : Sign) (ts : Tokens) (f : Unit {0} → Reader B) (b : B) (rest : Tokens) → (expect k ts >>= f) ≡ Ok (b, rest) → (v : Tokens) × (ts ≡ cut.sign k ∷ v) × (f tt v ≡ Ok (b, rest))
 expect_bind k ts f b rest e =
@@ -212,10 +208,7 @@ keyword_sound w names (cut.text x ∷ ts) v k e = none_some (k, v) e
 keyword_sound w names (cut.sign j ∷ ts) v k e = none_some (k, v) e
 
 key_sound : (w : Row) (ts v : Tokens) (k : Text) → key_at w ts ≡ Some (k, v) → KeyFound w ts k v
-key_sound items ts v k e = none_some (k, v) e
-key_sound entries ts v k e = entry_sound ts v k e
-key_sound arguments ts v k e = keyword_sound arguments refl ts v k e
-key_sound keywords ts v k e = keyword_sound keywords refl ts v k e
+key_sound w ts v k e = search (arith, rules, none_some, entry_sound, keyword_sound)
 
 -- ---- rows of one kind
 
@@ -327,10 +320,7 @@ module _ (inner : Level → Reader Expr) (n : ℕ) (sound : (k : Level) (t : Exp
 
   opened_sound : (k : Sign) (t : Expr) (ts rest : Tokens) → r.opened inner (suc n) k ts ≡ Ok (t, rest) → FoundPrimary (suc n) t (cut.sign k ∷ ts) rest
   unfolding r.opened
-  opened_sound s.LeftParen t ts rest e = group_sound t ts rest e
-  opened_sound s.LeftBracket t ts rest e = list_sound t ts rest e
-  opened_sound s.LeftBrace t ts rest e = map_sound t ts rest e
-  opened_sound _ t ts rest e = cc
+  opened_sound k t ts rest e = search (arith, rules, group_sound, list_sound, map_sound)
 
   word_by_sound : (o : Option Literal) (x : Text) (t : Expr) (ts rest : Tokens) → literal_of x ≡ o → r.word_by inner (suc n) o x ts ≡ Ok (t, rest) → FoundPrimary (suc n) t (cut.name x ∷ ts) rest
   word_by_sound (Some l) x t ts rest f e =
@@ -474,11 +464,7 @@ module _ (inner : Level → Reader Expr) (n : ℕ) (sound : (k : Level) (t : Exp
 
   -- only the tokens that were taken say that an argument begins
   begins_front : (x rest : Tokens) → begins_primary x ≡ true → begins_argument (x ++ rest) ≡ true → begins_argument x ≡ true
-  begins_front [] rest some h = cc
-  begins_front (cut.name y ∷ x) rest some h = h
-  begins_front (cut.number m ∷ x) rest some h = h
-  begins_front (cut.text y ∷ x) rest some h = h
-  begins_front (cut.sign k ∷ x) rest some h = h
+  begins_front x rest some h = search (arith, rules)
 
   test_arguments_sound : (q : Parts) (ts rest : Tokens) → r.test_arguments inner (suc n) ts ≡ Ok (q, rest) → FoundTestArguments n q ts rest
   unfolding r.test_arguments

@@ -1,5 +1,5 @@
 -- A tree is no heavier than the tokens that spell it.
-use Rattle.std.proofs.Common.{◌≡◌, ℕ, ◌+◌, ◌-◌, ◌≤◌, max, Bool, true, false, [], ◌∷◌, ◌++◌, codes, refl, subst, arith, Option, Some, None}
+use Rattle.std.proofs.Common.{◌≡◌, ℕ, ◌+◌, ◌-◌, ◌≤◌, max, Bool, true, false, [], ◌∷◌, ◌++◌, codes, refl, subst, arith, Option, Some, None, rules}
 use Rattle.jt_scan.specs.declared.segment.Sign.TheVariants as s
 use Rattle.jt_scan.specs.Cut as cut
 use Rattle.jt_scan.specs.Cut.{tokens_weight}
@@ -14,23 +14,7 @@ weight-append [] y = omega arith
 weight-append (t ∷ x) y = omega (arith, weight-append x y)
 
 operator_weighs : (op : BinaryOperator) → operator_weight op ≤ tokens_weight (operator_tokens op)
-operator_weighs o.Or = omega arith
-operator_weighs o.And = omega arith
-operator_weighs o.Equal = omega arith
-operator_weighs o.NotEqual = omega arith
-operator_weighs o.Less = omega arith
-operator_weighs o.LessOrEqual = omega arith
-operator_weighs o.Greater = omega arith
-operator_weighs o.GreaterOrEqual = omega arith
-operator_weighs o.In = omega arith
-operator_weighs o.NotIn = omega arith
-operator_weighs o.Add = omega arith
-operator_weighs o.Subtract = omega arith
-operator_weighs o.Concatenate = omega arith
-operator_weighs o.Multiply = omega arith
-operator_weighs o.FloorDivide = omega arith
-operator_weighs o.Remainder = omega arith
-operator_weighs o.Power = omega arith
+operator_weighs op = search (arith, rules)
 
 is_weighs : (b : Bool) → is_weight b ≤ tokens_weight (is_tokens b) + 1
 is_weighs false = omega arith
@@ -57,20 +41,10 @@ put_weight key None t p = omega arith
 put_weight key (Some k) t p = omega arith
 
 same_key : (r : Row) (k : Option Text) → key_weight (behind_key r k) ≡ key_weight r
-same_key items None = refl
-same_key items (Some k) = refl
-same_key entries None = refl
-same_key entries (Some k) = refl
-same_key arguments None = refl
-same_key arguments (Some k) = refl
-same_key keywords None = refl
-same_key keywords (Some k) = refl
+same_key r k = search (arith, rules)
 
 name_key : (r : Row) → takes_names r ≡ true → key_weight r ≡ 2
-name_key items e = absurd (cc)
-name_key entries e = absurd (cc)
-name_key arguments e = refl
-name_key keywords e = refl
+name_key r e = search (arith, rules)
 
 constant_weighs : (x : Text) (l : Literal) → literal_of x ≡ Some l → literal_weight l ≤ 1
 constant_weighs x l e = each_constant (λ m. literal_weight m ≤ 1) (omega arith) (omega arith) (omega arith) x l e

@@ -1,5 +1,5 @@
 -- A program's code does what the program means.
-use Rattle.std.proofs.Common.{◌≡◌, ◌≢◌, false, ℕ, zero, suc, ◌+◌, ◌<◌, ◌≤◌, List, [], ◌∷◌, ◌++◌, length, map, Option, Some, None, refl, sym, ap, ◌∙◌, subst, arith, append_assoc, append-nil, length-append}
+use Rattle.std.proofs.Common.{◌≡◌, ◌≢◌, false, ℕ, zero, suc, ◌+◌, ◌<◌, ◌≤◌, List, [], ◌∷◌, ◌++◌, length, map, Option, Some, None, refl, sym, ap, ◌∙◌, subst, arith, append_assoc, append-nil, length-append, rules}
 use Rattle.std.specs.Prelude.{slice_get, slice_set, unwrap_or, replicate}
 use Rattle.std.specs.Option.{option_map, option_and_then}
 use Rattle.std.proofs.Math.Seq.{get_or-append_seam, set-append_seam}
@@ -40,24 +40,10 @@ use Rattle.jt_lower.proofs.Places.{HasPlace, CallsPlaced, bind_has, body_has}
 -- ---- the pool
 
 constant_same : (t : Tree) → IsPooled t → constant_value (Some (constant_of t)) ≡ t
-constant_same tree.undefined h = refl
-constant_same tree.nothing h = refl
-constant_same (tree.truth_value b) h = refl
-constant_same (tree.number z) h = refl
-constant_same (tree.text s) h = refl
-constant_same (tree.markup s) h = refl
-constant_same (tree.list ts) h = absurd h
-constant_same (tree.map es) h = absurd h
+constant_same t h = search (arith, rules)
 
 text_same : (t : Tree) → IsPooled t → text_of (Some (constant_of t)) ≡ bytes_of t
-text_same tree.undefined h = refl
-text_same tree.nothing h = refl
-text_same (tree.truth_value b) h = refl
-text_same (tree.number z) h = refl
-text_same (tree.text s) h = refl
-text_same (tree.markup s) h = refl
-text_same (tree.list ts) h = absurd h
-text_same (tree.map es) h = absurd h
+text_same t h = search (arith, rules)
 
 value_of_slot : (o : Option Tree) → ((t : Tree) → o ≡ Some t → IsPooled t) → constant_value (option_map constant_of o) ≡ unwrap_or o tree.undefined
 value_of_slot None h = refl
@@ -171,9 +157,7 @@ module _ (p : Program) (fit : ProgramFits p) where
       body_does p (calls n) has keep r.locals r.body false 0 None [] out bufs (begins r ts gs) f.body tt (record { locals = count_locals r.locals ts; globals = e })
 
   kept_globals : (l : ℕ) (to : Memory → State) (r : Ran) (g : Got Memory) → Does None (SizedIn p l) to r g → Keeps p.globals (bind g written)
-  kept_globals l to r (gives m) h = h.1.globals
-  kept_globals l to r (fails e q) h = tt
-  kept_globals l to r deeper h = tt
+  kept_globals l to r g h = search (arith, rules)
 
   performed_keeps : (n : ℕ) → CallsKeep p.globals (calls n) → (u : ℕ) (o : Option (Routine ℕ)) (ts gs : List Tree) → slice_get p.routines u ≡ o → length gs ≡ p.globals → Keeps p.globals (sperformed the_filters (tree_at p.pool) (calls n) o ts gs)
   performed_keeps n keep u None ts gs is e = tt
@@ -310,14 +294,10 @@ module _ (p : Program) (fit : ProgramFits p) where
   over_free x n o over e = over_too x n o (smean the_filters p x n) over (told_same k table (tells p) n (start_machine k x) ∙ e) (follows x n)
 
   text_meant : (t : Text) (g : Got Text) → Finished t ≡ as_free g → g ≡ gives t
-  text_meant t (gives s) e = let same : s ≡ t = cc in ap gives same
-  text_meant t (fails d q) e = absurd cc
-  text_meant t deeper e = absurd cc
+  text_meant t g e = search (arith, rules)
 
   fault_meant : (f : Fault) (q : Option Place) (g : Got Text) → Failed f q ≡ as_free g → g ≡ fails f q
-  fault_meant f q (gives s) e = absurd cc
-  fault_meant f q (fails d r) e = let same : d ≡ f = cc in let here : r ≡ q = cc in ap (λ x. fails x r) same ∙ ap (fails f) here
-  fault_meant f q deeper e = absurd cc
+  fault_meant f q g e = search (arith, rules)
 
   comes : (x : Pairs) (o : Free) → (j : ℕ) × (placed_exec k table j (start_machine k x) ≡ o) → ComesTo k x o
   comes x o e = (e.0, sym (told_same k table (tells p) e.0 (start_machine k x)) ∙ e.1)

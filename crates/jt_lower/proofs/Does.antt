@@ -1,5 +1,5 @@
 -- What it is for a run to do what a meaning says, and how such runs stand one behind the other.
-use Rattle.std.proofs.Common.{◌≡◌, Bool, true, false, if◌then◌else◌, Option, Some, None, refl, sym, ap, ◌∙◌, subst}
+use Rattle.std.proofs.Common.{◌≡◌, Bool, true, false, if◌then◌else◌, Option, Some, None, refl, sym, ap, ◌∙◌, subst, arith, rules}
 use Rattle.jt_image.specs.Config.{State}
 use Rattle.jt_value.specs.Place.{Place}
 use Rattle.jt_evaluation.specs.Got.{Got, gives, fails, deeper, bind, at}
@@ -23,9 +23,7 @@ same_meaning o inv to r m m' e h = subst (λ y. Does o inv to r y) (sym e) h
 -- one after the other
 pub then_does : {A B : Type 0} (o : Option Place) (inv : A → Type 0) (to : A → State) (inv' : B → Type 0) (to' : B → State) (r : Ran) (m : Got A) (g : State → Ran) (f : A → Got B)
     → Does o inv to r m → ((x : A) → inv x → Does o inv' to' (g (to x)) (f x)) → Does o inv' to' (and_then r g) (bind m f)
-then_does o inv to inv' to' r (gives x) g f h step = subst (λ y. Does o inv' to' (and_then y g) (f x)) (sym h.0) (step x h.1)
-then_does o inv to inv' to' r (fails e q) g f h step = ap (λ y. and_then y g) h
-then_does o inv to inv' to' r deeper g f h step = ap (λ y. and_then y g) h
+then_does o inv to inv' to' r m g f h step = search (arith, rules)
 
 -- a run behind it that always gives
 pub then_gives : {A B : Type 0} (o : Option Place) (inv : A → Type 0) (to : A → State) (inv' : B → Type 0) (to' : B → State) (r : Ran) (m : Got A) (g : State → Ran) (f : A → B)
@@ -35,30 +33,21 @@ then_gives o inv to inv' to' r m g f h step = then_does o inv to inv' to' r m g 
 -- a run behind it that changes the state alone
 pub finished : {A : Type 0} (o : Option Place) (inv : A → Type 0) (to : A → State) (to' : A → State) (r : Ran) (m : Got A) (g : State → Ran)
     → Does o inv to r m → ((x : A) → inv x → g (to x) ≡ does (to' x)) → Does o inv to' (and_then r g) m
-finished o inv to to' r (gives x) g h step = (ap (λ y. and_then y g) h.0 ∙ step x h.1, h.1)
-finished o inv to to' r (fails e q) g h step = ap (λ y. and_then y g) h
-finished o inv to to' r deeper g h step = ap (λ y. and_then y g) h
+finished o inv to to' r m g h step = search (arith, rules)
 
 -- what it comes to, said otherwise
 pub carried : {A : Type 0} (o : Option Place) (inv : A → Type 0) (to : A → State) (inv' : A → Type 0) (to' : A → State) (r : Ran) (m : Got A)
     → Does o inv to r m → ((x : A) → inv x → (to x ≡ to' x) × inv' x) → Does o inv' to' r m
-carried o inv to inv' to' r (gives x) h step = let s = step x h.1 in (h.0 ∙ ap does s.0, s.1)
-carried o inv to inv' to' r (fails e q) h step = h
-carried o inv to inv' to' r deeper h step = h
+carried o inv to inv' to' r m h step = search (arith, rules)
 
 -- what it gives, said otherwise
 pub mapped_does : {A B : Type 0} (o : Option Place) (inv : A → Type 0) (to : A → State) (inv' : B → Type 0) (to' : B → State) (r : Ran) (m : Got A) (f : A → B)
     → Does o inv to r m → ((x : A) → inv x → (to x ≡ to' (f x)) × inv' (f x)) → Does o inv' to' r (bind m (λ x. gives (f x)))
-mapped_does o inv to inv' to' r (gives x) f h step = let s = step x h.1 in (h.0 ∙ ap does s.0, s.1)
-mapped_does o inv to inv' to' r (fails e q) f h step = h
-mapped_does o inv to inv' to' r deeper f h step = h
+mapped_does o inv to inv' to' r m f h step = search (arith, rules)
 
 -- the place of a tag
 pub placed : {A : Type 0} (p : Place) (inv : A → Type 0) (to : A → State) (r : Ran) (m : Got A) → Does (Some p) inv to r m → Does None inv to r (at p m)
-placed p inv to r (gives x) h = h
-placed p inv to r (fails e None) h = h
-placed p inv to r (fails e (Some q)) h = h
-placed p inv to r deeper h = h
+placed p inv to r m h = search (arith, rules)
 
 -- one side or the other
 pub either : {A : Type 0} (b : Bool) (o : Option Place) (inv : A → Type 0) (to : A → State) (r r' : Ran) (m m' : Got A) → Does o inv to r m → Does o inv to r' m' → Does o inv to (if b then r else r') (if b then m else m')
@@ -66,7 +55,4 @@ either true o inv to r r' m m' h h' = h
 either false o inv to r r' m m' h h' = h'
 
 pub and_then_assoc : (r : Ran) (f g : State → Ran) → and_then (and_then r f) g ≡ and_then r (λ s. and_then (f s) g)
-and_then_assoc (does s) f g = refl
-and_then_assoc (stops e q) f g = refl
-and_then_assoc too_deep f g = refl
-and_then_assoc bad f g = refl
+and_then_assoc r f g = search (arith, rules)

@@ -1,5 +1,5 @@
 -- Programs of every form, their code, and runs of both, computed from the definitions.
-use Rattle.std.proofs.Common.{◌≡◌, Bool, ℕ, zero, suc, true, false, List, [], ◌∷◌, Some, refl, arith, subst}
+use Rattle.std.proofs.Common.{◌≡◌, Bool, ℕ, zero, suc, true, false, List, [], ◌∷◌, Some, refl, arith, subst, rules}
 use Rattle.std.specs.Prelude.{pos, codes, slice_get}
 use Rattle.jt_value.specs.Tree as tree
 use Rattle.jt_value.specs.Tree.{Tree}
@@ -102,14 +102,7 @@ routines_fit (suc (suc zero)) r e =
 routines_fit (suc (suc (suc u))) r e = absurd cc
 
 pooled_fit : (i : ℕ) (t : Tree) → slice_get program.pool i ≡ Some t → IsPooled t
-pooled_fit zero t e = let same : tree.undefined ≡ t = cc in subst IsPooled same tt
-pooled_fit (suc zero) t e = let same : tree.text (codes ":") ≡ t = cc in subst IsPooled same tt
-pooled_fit (suc (suc zero)) t e = let same : tree.text (codes "none") ≡ t = cc in subst IsPooled same tt
-pooled_fit (suc (suc (suc zero))) t e = let same : tree.number (pos 2) ≡ t = cc in subst IsPooled same tt
-pooled_fit (suc (suc (suc (suc zero)))) t e = let same : tree.text (codes "<") ≡ t = cc in subst IsPooled same tt
-pooled_fit (suc (suc (suc (suc (suc zero))))) t e = let same : tree.text (codes ">") ≡ t = cc in subst IsPooled same tt
-pooled_fit (suc (suc (suc (suc (suc (suc zero)))))) t e = let same : tree.number (pos 1) ≡ t = cc in subst IsPooled same tt
-pooled_fit (suc (suc (suc (suc (suc (suc (suc i))))))) t e = absurd cc
+pooled_fit i t e = search (arith, rules)
 
 fits : ProgramFits program
 fits = record { routines = routines_fit; entry = page_routine; is_entry = refl; pooled = pooled_fit; names = omega arith }

@@ -1,5 +1,5 @@
 -- The program of lawful routines fits.
-use Rattle.std.proofs.Common.{◌≡◌, ℕ, zero, suc, ◌+◌, ◌<◌, ◌≤◌, Bool, true, false, List, [], ◌∷◌, ◌++◌, length, Option, Some, None, refl, sym, ap, ◌∙◌, subst, arith, append_assoc, length-append}
+use Rattle.std.proofs.Common.{◌≡◌, ℕ, zero, suc, ◌+◌, ◌<◌, ◌≤◌, Bool, true, false, List, [], ◌∷◌, ◌++◌, length, Option, Some, None, refl, sym, ap, ◌∙◌, subst, arith, append_assoc, length-append, rules}
 use Rattle.std.specs.Prelude.{slice_get}
 use Rattle.std.specs.List.{AllByRecursion}
 use Rattle.std.proofs.Math.Seq.{get_or-append_seam}
@@ -181,9 +181,7 @@ module _ (names : List Text) (globals : ℕ) (front : List Tree) (rs : List (Rou
   constant_pooled (known i) h = tt
 
   text_pooled : (k : Constant) → TextLawful before globals k → Pooled (constant_values k)
-  text_pooled (own (tree.text t)) h = (tt, tt)
-  text_pooled (own v) h = absurd h
-  text_pooled (known i) h = absurd h
+  text_pooled k h = search (arith, rules)
 
   mutual
     expr_pooled : (e : SExpr Constant) → ExprLawful before globals e → Pooled (expr_values e)
@@ -251,11 +249,7 @@ module _ (names : List Text) (globals : ℕ) (front : List Tree) (rs : List (Rou
 
     maker_fits : (k : Maker) (i : ℕ) → MakerTakes the_filters k i → MakerFits k i
     unfolding the_filters
-    maker_fits (slots.operator o) i t = t
-    maker_fits (slots.test x) i t = t
-    maker_fits (slots.filter f escaping) i t = t
-    maker_fits slots.a_list i t = tt
-    maker_fits slots.a_map i t = t
+    maker_fits k i t = search (arith, rules)
 
     mutual
       expr_fits : (e : SExpr Constant) (inside : Bool) (n : ℕ) → ExprTakes the_filters p.routines inside (placed_expr e n) → ExprLawful before globals e → PoolAt p.pool n (expr_values e) → expr_locals e ≤ count → ExprFits p count inside (placed_expr e n)

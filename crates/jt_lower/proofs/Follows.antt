@@ -1,5 +1,5 @@
 -- The machine follows code whose jumps stand in pairs.
-use Rattle.std.proofs.Common.{◌≡◌, ℕ, zero, suc, ◌+◌, ◌<◌, ◌≤◌, List, [], ◌∷◌, ◌++◌, length, Option, Some, None, Bool, true, false, if◌then◌else◌, refl, ap, ◌∙◌, subst, arith, length-append}
+use Rattle.std.proofs.Common.{◌≡◌, ℕ, zero, suc, ◌+◌, ◌<◌, ◌≤◌, List, [], ◌∷◌, ◌++◌, length, Option, Some, None, Bool, true, false, if◌then◌else◌, refl, ap, ◌∙◌, subst, arith, length-append, rules}
 use Rattle.std.specs.Prelude.{slice_get, nat_lt, ◌==◌}
 use Rattle.std.proofs.lemmas.Bool.Decides.{nat_tests}
 use Rattle.jt_value.specs.Tree.{Tree, truth}
@@ -97,17 +97,11 @@ module _ (k : Code) (table : Table) where
 
   -- one run behind another
   pub both_run : (n : ℕ) (c : Machine) (r : Ran) (f : State → Ran) (mid to : State → Machine) → Reaches n c r mid → ((m : State) → Reaches n (mid m) (f m) to) → Reaches n c (and_then r f) to
-  both_run n c (does m) f mid to h g = before n c (mid m) (f m) to h (g m)
-  both_run n c (stops e q) f mid to h g = h
-  both_run n c too_deep f mid to h g = h
-  both_run n c bad f mid to h g = tt
+  both_run n c r f mid to h g = search (arith, rules, before)
 
   -- steps behind a run
   pub behind : (n : ℕ) (c : Machine) (r : Ran) (mid to : State → Machine) → ((m : State) → Comes (mid m) (to m)) → Reaches n c r mid → Reaches n c r to
-  behind n c (does m) mid to g h = comes_on c (mid m) (to m) h (g m)
-  behind n c (stops e q) mid to g h = h
-  behind n c too_deep mid to g h = h
-  behind n c bad mid to g h = tt
+  behind n c r mid to g h = search (arith, rules, comes_on)
 
   pub step : (t : Section) (u p : ℕ) (ks : List Caller) (m : State) (i : Instruction) → fetch k u p ≡ Some (t, i) → (n : ℕ) → exec (suc n) (machine u p ks m) ≡ on_action (table u p) (action k t i (machine u p ks m)) (exec n)
   step t u p ks m i h n = ap (λ o. placed_at k table o (machine u p ks m) (exec n)) h
@@ -118,13 +112,7 @@ module _ (k : Code) (table : Table) where
   straight_run n u p ks m q broken e st = tt
 
   one_run : (n : ℕ) (t : Section) (u p : ℕ) (ks : List Caller) (m : State) (q : Option Place) (i : Instruction) → table u p ≡ q → fetch k u p ≡ Some (t, i) → Reaches n (machine u p ks m) (of_plain q (plain k i m)) (machine u (p + 1) ks)
-  one_run n t u p ks m q (op.Jump c) e h = tt
-  one_run n t u p ks m q (op.JumpIfFalse c) e h = tt
-  one_run n t u p ks m q (op.JumpIfTrue c) e h = tt
-  one_run n t u p ks m q (op.LoopNext c) e h = tt
-  one_run n t u p ks m q (op.Call c) e h = tt
-  one_run n t u p ks m q op.Return e h = tt
-  one_run n t u p ks m q i e h = straight_run n u p ks m q (plain k i m) e (step t u p ks m i h)
+  one_run n t u p ks m q i e h = search (arith, rules, straight_run, q, step)
 
   jumps : (t : Section) (u p q : ℕ) (ks : List Caller) (m : State) → fetch k u p ≡ Some (t, op.Jump q) → Comes (machine u p ks m) (machine u q ks m)
   jumps t u p q ks m h = record { by = λ n. (suc n, omega arith, step t u p ks m (op.Jump q) h n) }

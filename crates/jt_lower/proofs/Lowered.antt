@@ -1,5 +1,5 @@
 -- The code of a resolved program does what the program means.
-use Rattle.std.proofs.Common.{◌≡◌, ◌≢◌, ℕ, zero, suc, ◌+◌, ◌-◌, ◌*◌, ◌<◌, ◌≤◌, Bool, arith, Result, Ok, Err, append-nil, append_assoc, true, false, if◌then◌else◌, eqb, List, [], ◌∷◌, ◌++◌, length, Option, Some, None, refl, sym, ap, ◌∙◌, subst, length-append}
+use Rattle.std.proofs.Common.{◌≡◌, ◌≢◌, ℕ, zero, suc, ◌+◌, ◌-◌, ◌*◌, ◌<◌, ◌≤◌, Bool, arith, Result, Ok, Err, append-nil, append_assoc, true, false, if◌then◌else◌, eqb, List, [], ◌∷◌, ◌++◌, length, Option, Some, None, refl, sym, ap, ◌∙◌, subst, length-append, rules}
 use Rattle.std.specs.Prelude.{slice_get, slice_set, ◌==◌, nat_lt, unwrap_or}
 use Rattle.std.specs.Option.{option_map}
 use Rattle.std.proofs.lemmas.Bool.Decides.{nat_tests}
@@ -83,51 +83,11 @@ popped_all vs es n z f e =
 
 pub has_operator : (x : OpId) → operator_of (op_id x) ≡ Some x
 unfolding operator_of
-has_operator o.Add = refl
-has_operator o.Subtract = refl
-has_operator o.Multiply = refl
-has_operator o.FloorDivide = refl
-has_operator o.Remainder = refl
-has_operator o.Power = refl
-has_operator o.Negate = refl
-has_operator o.Plus = refl
-has_operator o.Not = refl
-has_operator o.Join = refl
-has_operator o.JoinEscaping = refl
-has_operator o.Equal = refl
-has_operator o.NotEqual = refl
-has_operator o.Less = refl
-has_operator o.LessOrEqual = refl
-has_operator o.Greater = refl
-has_operator o.GreaterOrEqual = refl
-has_operator o.In = refl
-has_operator o.Item = refl
-has_operator o.RangeToStop = refl
-has_operator o.RangeFromStart = refl
-has_operator o.RangeByStep = refl
+has_operator x = search (arith, rules)
 
 pub has_test : (x : TestId) → test_of (test_id x) ≡ Some x
 unfolding test_of
-has_test t.Boolean = refl
-has_test t.Defined = refl
-has_test t.DivisibleBy = refl
-has_test t.Equal = refl
-has_test t.NotEqual = refl
-has_test t.Escaped = refl
-has_test t.Even = refl
-has_test t.Odd = refl
-has_test t.False = refl
-has_test t.True = refl
-has_test t.GreaterOrEqual = refl
-has_test t.Greater = refl
-has_test t.LessOrEqual = refl
-has_test t.Less = refl
-has_test t.In = refl
-has_test t.Integer = refl
-has_test t.Mapping = refl
-has_test t.None = refl
-has_test t.String = refl
-has_test t.Undefined = refl
+has_test x = search (arith, rules)
 
 -- keys and values in turn are two for each entry
 pub halved : (n : ℕ) → InPairs n → 2 * half n ≡ n

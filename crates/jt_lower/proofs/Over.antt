@@ -1,5 +1,5 @@
 -- A run without a budget, with the places of a table, has one end; where the image tells the same places, it is the code's own run.
-use Rattle.std.proofs.Common.{◌≡◌, ◌≢◌, ℕ, zero, suc, ◌≤◌, Option, Some, None, refl, sym, ap, ◌∙◌, arith, ⊎_elim}
+use Rattle.std.proofs.Common.{◌≡◌, ◌≢◌, ℕ, zero, suc, ◌≤◌, Option, Some, None, refl, sym, ap, ◌∙◌, arith, ⊎_elim, rules}
 use Rattle.std.proofs.lemmas.Bool.{cases_lt}
 use Rattle.jt_image.specs.declared.instruction.Instruction.{Instruction}
 use Rattle.jt_image.specs.Code.{Section, Code}
@@ -18,10 +18,7 @@ longer_at k table (Some (u, i)) m go go' o h e = through (action k u i m) e
     place = table m.unit m.point
 
     through : (a : Action) → on_action place a go ≡ o → on_action place a go' ≡ o
-    through (goes_on m' d) e' = h m' e'
-    through (ends t) e' = e'
-    through (faulty f) e' = e'
-    through wrong e' = e'
+    through a e' = search (arith, rules)
 
 -- a run that is over stays so with more instructions
 pub longer : (k : Code) (table : Table) (a b : ℕ) (m : Machine) (o : Free) → o ≢ Going → a ≤ b → placed_exec k table a m ≡ o → placed_exec k table b m ≡ o

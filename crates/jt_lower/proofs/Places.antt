@@ -1,5 +1,5 @@
 -- Each fault of a program has the place of a tag.
-use Rattle.std.proofs.Common.{ℕ, suc, Bool, true, false, if◌then◌else◌, List, [], ◌∷◌, ◌++◌, Option, Some, None}
+use Rattle.std.proofs.Common.{ℕ, suc, Bool, true, false, if◌then◌else◌, List, [], ◌∷◌, ◌++◌, Option, Some, None, arith, rules}
 use Rattle.jt_value.specs.Tree as tree
 use Rattle.jt_value.specs.Tree.{Tree}
 use Rattle.jt_value.specs.Place.{Place}
@@ -21,16 +21,10 @@ abbrev pub CallsPlaced : SCalls → Type 0
 CallsPlaced call = (u : ℕ) (ts gs : List Tree) → HasPlace (call u ts gs)
 
 at_has : {A : Type 0} (p : Place) (g : Got A) → HasPlace (at p g)
-at_has p (gives x) = tt
-at_has p (fails e None) = tt
-at_has p (fails e (Some q)) = tt
-at_has p deeper = tt
+at_has p g = search (arith, rules)
 
 pub bind_has : {A B : Type 0} (g : Got A) (f : A → Got B) → HasPlace g → ((x : A) → HasPlace (f x)) → HasPlace (bind g f)
-bind_has (gives x) f h k = k x
-bind_has (fails e None) f h k = h
-bind_has (fails e (Some q)) f h k = tt
-bind_has deeper f h k = tt
+bind_has g f h k = search (arith, rules)
 
 if_has : {A : Type 0} (b : Bool) (g h : Got A) → HasPlace g → HasPlace h → HasPlace (if b then g else h)
 if_has true g h w v = w

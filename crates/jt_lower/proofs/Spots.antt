@@ -1,5 +1,5 @@
 -- What the code of a program tells of a point is the place that its table has there.
-use Rattle.std.proofs.Common.{◌≡◌, Bool, true, false, ℕ, zero, suc, ◌+◌, ◌-◌, ◌==◌, ◌<◌, List, [], ◌∷◌, ◌++◌, length, take, map, Option, Some, None, refl, sym, ap, ◌∙◌, subst, arith, length-append, if◌then◌else◌, ◌⊎◌, inl, inr, ⊎_elim}
+use Rattle.std.proofs.Common.{◌≡◌, Bool, true, false, ℕ, zero, suc, ◌+◌, ◌-◌, ◌==◌, ◌<◌, List, [], ◌∷◌, ◌++◌, length, take, map, Option, Some, None, refl, sym, ap, ◌∙◌, subst, arith, length-append, if◌then◌else◌, ◌⊎◌, inl, inr, ⊎_elim, rules}
 use Rattle.std.proofs.lemmas.Bool.Decides.{nat_tests}
 use Rattle.std.specs.Prelude.{slice_get}
 use Rattle.std.specs.Option.{option_map, option_and_then}
@@ -146,9 +146,7 @@ module _ (p : Program) where
   ts = templates_of qs
 
   told : (i : ℕ) (o : Option (Option Place)) → slice_get qs i ≡ o → option_and_then (place_of ts) (option_map (spot_of ts) o) ≡ option_and_then (λ q. q) o
-  told i None e = refl
-  told i (Some None) e = refl
-  told i (Some (Some q)) e = spot_seen ts q (all_here q.template (templates_in qs) [] (in_there qs i q e))
+  told i o e = search (arith, rules, spot_seen, all_here, in_there)
 
   at_unit : (u n : ℕ) (x : Section × Instruction) (o : Option (Routine ℕ)) → slice_get p.routines u ≡ o
       → option_and_then (λ (s : Section). option_and_then (λ (i : Instruction). Some (s, i)) (slice_get s.code n)) (option_map unit_of o) ≡ Some x

@@ -1,5 +1,5 @@
 -- What a loop tells of its turn, in images and in meanings.
-use Rattle.std.proofs.Common.{◌≡◌, ℕ, zero, suc, ◌+◌, ◌-◌, ◌≤◌, Bool, true, false, if◌then◌else◌, List, ◌∷◌, length, Option, Some, Ok, Err, refl, sym, ap, ◌∙◌, arith}
+use Rattle.std.proofs.Common.{◌≡◌, ℕ, zero, suc, ◌+◌, ◌-◌, ◌≤◌, Bool, true, false, if◌then◌else◌, List, ◌∷◌, length, Option, Some, Ok, Err, refl, sym, ap, ◌∙◌, arith, rules}
 use Rattle.std.specs.Prelude.{pos, negsuc, ◌-ℤ◌, not, nat_lt, ◌==◌}
 use Rattle.std.proofs.lemmas.Bool.Decides.{nat_tests}
 use Rattle.jt_value.specs.Tree as tree
@@ -23,25 +23,13 @@ listed_same (item t ts) = ap (λ xs. t ∷ xs) (listed_same ts)
 
 pub has_field : (f : LoopField) → field_of (field_id f) ≡ Some f
 unfolding field_of
-has_field of_loop.Item = refl
-has_field of_loop.Index = refl
-has_field of_loop.Index0 = refl
-has_field of_loop.RevIndex = refl
-has_field of_loop.RevIndex0 = refl
-has_field of_loop.First = refl
-has_field of_loop.Last = refl
-has_field of_loop.Length = refl
-has_field of_loop.Previous = refl
-has_field of_loop.Next = refl
+has_field f = search (arith, rules)
 
 either_test : (n : ℕ) → nat_lt n 9223372036854775808 ≡ not (nat_lt 9223372036854775807 n)
 either_test n = grind (arith, nat_tests)
 
 counted_if : (n : ℕ) (b c : Bool) → b ≡ not c → as_number (if b then Ok (pos n) else Err faults.Overflow) ≡ (if c then Err faults.Overflow else Ok (tree.number (pos n)))
-counted_if n true true e = absurd cc
-counted_if n true false e = refl
-counted_if n false true e = refl
-counted_if n false false e = absurd cc
+counted_if n b c e = search (arith, rules)
 
 -- counts are the same
 counted_same : (n : ℕ) → image.counted (pos n) ≡ loops.counted n
@@ -65,16 +53,7 @@ pub record IsTurn (f : Frame) (l : Option Loop) : Type 0 where
   pub within : suc before ≤ length f.items
 
 told_at : (x : Field) (items : List Tree) (kept : List Tree) (b : ℕ) → suc b ≤ length items → told (told_as x) (record { items = items; position = suc b; kept = kept }) ≡ field_at x (record { items = items; before = b })
-told_at loops.index items kept b h = counted_same (suc b)
-told_at loops.index0 items kept b h = let e : suc b - 1 ≡ b = omega arith in ap image.counted (less (suc b) 1 (omega arith)) ∙ ap (λ n. image.counted (pos n)) e ∙ counted_same b
-told_at loops.revindex items kept b h = let e : suc (length items) - suc b ≡ length items - b = omega arith in ap (λ n. image.counted (pos n)) e ∙ counted_same (length items - b)
-told_at loops.revindex0 items kept b h = counted_same (length items - suc b)
-told_at loops.first items kept b h = ap (λ t. Ok (tree.truth_value t)) (first_same b)
-told_at loops.last items kept b h = refl
-told_at loops.total items kept b h = counted_same (length items)
-told_at loops.previtem items kept zero h = refl
-told_at loops.previtem items kept (suc b) h = refl
-told_at loops.nextitem items kept b h = refl
+told_at x items kept b h = search (arith, rules, counted_same, less, first_same)
 
 pub told_same : (x : Field) (f : Frame) (l : Option Loop) → IsTurn f l → checked (told (told_as x) f) ≡ loops.loop_field x l
 told_same x f l t =

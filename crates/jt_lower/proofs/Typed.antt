@@ -1,5 +1,5 @@
 -- Code whose jumps stand in pairs is typed, and so is a program's.
-use Rattle.std.proofs.Common.{◌≡◌, ℕ, zero, suc, ◌+◌, ◌<◌, ◌≤◌, List, [], ◌∷◌, ◌++◌, length, Option, Some, None, Result, Ok, Bool, true, false, refl, sym, ap, ◌∙◌, subst, arith, append_assoc, length-append}
+use Rattle.std.proofs.Common.{◌≡◌, ℕ, zero, suc, ◌+◌, ◌<◌, ◌≤◌, List, [], ◌∷◌, ◌++◌, length, Option, Some, None, Result, Ok, Bool, true, false, refl, sym, ap, ◌∙◌, subst, arith, append_assoc, length-append, rules}
 use Rattle.std.specs.Prelude.{slice_get, nat_lt, IsTrue, ◌&&◌, ◌==◌}
 use Rattle.std.specs.List.{AllByRecursion}
 use Rattle.std.specs.Option.{is_some, option_map}
@@ -280,16 +280,7 @@ module _ (p : Program) (count : ℕ) where
 
   -- what makes a value of a row leads from its values to the one
   maker_types : (h : Maker) (n : ℕ) (S : Shape) → MakerFits h n → Plainly (maker h n) (pushes n S) (kind.Value ∷ S)
-  maker_types (slots.operator o) n S fit u q l room =
-      ap (λ x. require (is_some x) flaw.BadIndex (makes u q (operands_of x) (pushes n S))) (has_operator o)
-      ∙ ap (λ i. makes u q i (pushes n S)) fit ∙ makes_one u q n S room
-  maker_types (slots.test t) n S fit u q l room =
-      ap (λ x. require (takes x n) flaw.BadIndex (makes u q n (pushes n S))) (has_test t)
-      ∙ required _ flaw.BadIndex _ (ap (λ i. n == i) fit ∙ eq_true n n refl) ∙ makes_one u q n S room
-  maker_types (slots.filter f escaping) n S fit u q l room =
-      required _ flaw.BadIndex _ (is_filter f n escaping fit) ∙ makes_one u q n S room
-  maker_types slots.a_list n S fit u q l room = makes_one u q n S room
-  maker_types slots.a_map n S fit u q l room = ap (λ i. makes u q i (pushes n S)) (halved n fit) ∙ makes_one u q n S room
+  maker_types h n S fit u q l room = search (arith, rules, has_operator, makes_one, has_test, required, eq_true, is_filter, halved)
 
   -- a field of the loop so many entries below the top
   gets : (x : LoopField) (h : ℕ) (S : Shape) → slice_get S h ≡ Some kind.Frame → Plainly (op.LoopGet (field_id x) h) S (kind.Value ∷ S)

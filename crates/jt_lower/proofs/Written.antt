@@ -1,5 +1,5 @@
 -- Where an image's tables have place for a program, the fields of each instruction have place for what it holds.
-use Rattle.std.proofs.Common.{◌≡◌, ℕ, zero, suc, ◌+◌, ◌<◌, ◌≤◌, ◌^◌, Bool, true, false, if◌then◌else◌, List, [], ◌∷◌, length, map, Option, Some, None, refl, sym, ap, ◌∙◌, arith}
+use Rattle.std.proofs.Common.{◌≡◌, ℕ, zero, suc, ◌+◌, ◌<◌, ◌≤◌, ◌^◌, Bool, true, false, if◌then◌else◌, List, [], ◌∷◌, length, map, Option, Some, None, refl, sym, ap, ◌∙◌, arith, rules}
 use Rattle.std.proofs.lemmas.List.{length-map}
 use Rattle.std.specs.Prelude.{slice_get, ◌==◌, IsTrue}
 use Rattle.std.specs.List.{find, AllByRecursion}
@@ -73,96 +73,16 @@ flag_fits true = omega arith
 flag_fits false = omega arith
 
 field_fits : (f : LoopField) → field_id f < 2 ^ 8
-field_fits of_loop.Item = omega arith
-field_fits of_loop.Index = omega arith
-field_fits of_loop.Index0 = omega arith
-field_fits of_loop.RevIndex = omega arith
-field_fits of_loop.RevIndex0 = omega arith
-field_fits of_loop.First = omega arith
-field_fits of_loop.Last = omega arith
-field_fits of_loop.Length = omega arith
-field_fits of_loop.Previous = omega arith
-field_fits of_loop.Next = omega arith
+field_fits f = search (arith, rules)
 
 op_fits : (x : OpId) → op_id x < 2 ^ 8
-op_fits operators.Add = omega arith
-op_fits operators.Subtract = omega arith
-op_fits operators.Multiply = omega arith
-op_fits operators.FloorDivide = omega arith
-op_fits operators.Remainder = omega arith
-op_fits operators.Power = omega arith
-op_fits operators.Negate = omega arith
-op_fits operators.Plus = omega arith
-op_fits operators.Not = omega arith
-op_fits operators.Join = omega arith
-op_fits operators.JoinEscaping = omega arith
-op_fits operators.Equal = omega arith
-op_fits operators.NotEqual = omega arith
-op_fits operators.Less = omega arith
-op_fits operators.LessOrEqual = omega arith
-op_fits operators.Greater = omega arith
-op_fits operators.GreaterOrEqual = omega arith
-op_fits operators.In = omega arith
-op_fits operators.Item = omega arith
-op_fits operators.RangeToStop = omega arith
-op_fits operators.RangeFromStart = omega arith
-op_fits operators.RangeByStep = omega arith
+op_fits x = search (arith, rules)
 
 test_fits : (x : TestId) → test_id x < 2 ^ 8
-test_fits tests.Boolean = omega arith
-test_fits tests.Defined = omega arith
-test_fits tests.DivisibleBy = omega arith
-test_fits tests.Equal = omega arith
-test_fits tests.NotEqual = omega arith
-test_fits tests.Escaped = omega arith
-test_fits tests.Even = omega arith
-test_fits tests.Odd = omega arith
-test_fits tests.False = omega arith
-test_fits tests.True = omega arith
-test_fits tests.GreaterOrEqual = omega arith
-test_fits tests.Greater = omega arith
-test_fits tests.LessOrEqual = omega arith
-test_fits tests.Less = omega arith
-test_fits tests.In = omega arith
-test_fits tests.Integer = omega arith
-test_fits tests.Mapping = omega arith
-test_fits tests.None = omega arith
-test_fits tests.String = omega arith
-test_fits tests.Undefined = omega arith
+test_fits x = search (arith, rules)
 
 filter_fits : (x : FilterId) → filter_id x < 2 ^ 8
-filter_fits filters.Abs = omega arith
-filter_fits filters.Attr = omega arith
-filter_fits filters.Capitalize = omega arith
-filter_fits filters.Default = omega arith
-filter_fits filters.DictSort = omega arith
-filter_fits filters.Escape = omega arith
-filter_fits filters.First = omega arith
-filter_fits filters.ForceEscape = omega arith
-filter_fits filters.Int = omega arith
-filter_fits filters.Items = omega arith
-filter_fits filters.Join = omega arith
-filter_fits filters.Last = omega arith
-filter_fits filters.Length = omega arith
-filter_fits filters.List = omega arith
-filter_fits filters.Lower = omega arith
-filter_fits filters.Map = omega arith
-filter_fits filters.Max = omega arith
-filter_fits filters.Min = omega arith
-filter_fits filters.Reject = omega arith
-filter_fits filters.RejectAttr = omega arith
-filter_fits filters.Replace = omega arith
-filter_fits filters.Reverse = omega arith
-filter_fits filters.Safe = omega arith
-filter_fits filters.Select = omega arith
-filter_fits filters.SelectAttr = omega arith
-filter_fits filters.Sort = omega arith
-filter_fits filters.String = omega arith
-filter_fits filters.Sum = omega arith
-filter_fits filters.Trim = omega arith
-filter_fits filters.Unique = omega arith
-filter_fits filters.Upper = omega arith
-filter_fits filters.MapAttribute = omega arith
+filter_fits x = search (arith, rules)
 
 found_passes : {A : Type 0} (p : A → Bool) (xs : List A) (x : A) → find p xs ≡ Some x → p x ≡ true
 found_passes p [] x e = absurd cc
@@ -187,11 +107,7 @@ half_le (suc zero) = omega arith
 half_le (suc (suc n)) = omega (arith, half_le n)
 
 maker_fits : (k : Maker) (n : ℕ) → MakerFits k n → n ≤ max_entries → IsInstruction (maker k n)
-maker_fits (slots.operator x) n takes room = op_fits x
-maker_fits (slots.test x) n takes room = (test_fits x, omega (arith, room))
-maker_fits (slots.filter f escaping) n takes room = (accepted_fits f n takes, omega (arith, room), omega (arith, flag_fits escaping))
-maker_fits slots.a_list n takes room = omega (arith, room)
-maker_fits slots.a_map n takes room = omega (arith, half_le n, room)
+maker_fits k n takes room = search (arith, rules, op_fits, test_fits, accepted_fits, flag_fits, half_le)
 
 -- ---- instructions that don't jump
 

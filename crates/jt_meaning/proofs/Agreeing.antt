@@ -1,5 +1,5 @@
 -- When an environment and a memory agree, and what keeps that.
-use Rattle.std.proofs.Common.{◌≡◌, ℕ, suc, ◌+◌, ◌<◌, ◌≤◌, Bool, true, false, if◌then◌else◌, List, [], ◌∷◌, ◌++◌, length, map, Option, Some, None, refl, sym, ap, ◌∙◌, subst, arith, inl, inr}
+use Rattle.std.proofs.Common.{◌≡◌, ℕ, suc, ◌+◌, ◌<◌, ◌≤◌, Bool, true, false, if◌then◌else◌, List, [], ◌∷◌, ◌++◌, length, map, Option, Some, None, refl, sym, ap, ◌∙◌, subst, arith, inl, inr, rules}
 use Rattle.std.specs.Prelude.{flat_map}
 use Rattle.std.specs.Str.{bytes_eq}
 use Rattle.jt_value.specs.Tree as tree
@@ -114,10 +114,7 @@ globals_apart n (z ∷ zs) x y s e f = through (bytes_eq z x) (bytes_eq z y) ref
     through : (b c : Bool) → bytes_eq z x ≡ b → bytes_eq z y ≡ c → (if b then Some (global n) else slot_in x (globals_from (suc n) zs)) ≡ Some s
         → (if c then Some (global n) else slot_in y (globals_from (suc n) zs)) ≡ Some s
         → (slot_in x (globals_from (suc n) zs) ≡ Some s → slot_in y (globals_from (suc n) zs) ≡ Some s → x ≡ y) → x ≡ y
-    through true true p q e f r = sym (same_text z x p) ∙ same_text z y q
-    through true false p q e f r = absurd (clash y (first e) f)
-    through false true p q e f r = absurd (clash x (first f) e)
-    through false false p q e f r = r e f
+    through b c p q e f r = search (arith, rules, same_text, clash, first)
 
 -- what the slot of a global holds
 abbrev pub global_held : Option Slot → List Tree → Tree

@@ -1,5 +1,5 @@
 -- Targets and scopes: what is bound by names is stored in slots.
-use Rattle.std.proofs.Common.{◌≡◌, ℕ, suc, ◌<◌, ◌≤◌, Bool, true, false, if◌then◌else◌, List, [], ◌∷◌, map, Option, Some, None, refl, sym, ap, ◌∙◌, subst, arith, inl, inr}
+use Rattle.std.proofs.Common.{◌≡◌, ℕ, suc, ◌<◌, ◌≤◌, Bool, true, false, if◌then◌else◌, List, [], ◌∷◌, map, Option, Some, None, refl, sym, ap, ◌∙◌, subst, arith, inl, inr, rules}
 use Rattle.std.specs.Prelude.{◌||◌}
 use Rattle.std.specs.Str.{bytes_eq}
 use Rattle.jt_value.specs.Tree.{Tree}
@@ -107,10 +107,7 @@ load_here (local i) v m = put_here i v m.locals
 load_here (global i) v m = put_here i v m.globals
 
 load_elsewhere : (s t : Slot) (v : Tree) (m : Memory) → (s ≡ t → ⊥) → load t (store s v m) ≡ load t m
-load_elsewhere (local i) (local j) v m n = put_elsewhere i j v m.locals (λ e. n (ap local e))
-load_elsewhere (local i) (global j) v m n = refl
-load_elsewhere (global i) (local j) v m n = refl
-load_elsewhere (global i) (global j) v m n = put_elsewhere i j v m.globals (λ e. n (ap global e))
+load_elsewhere s t v m n = search (arith, rules, put_elsewhere)
 
 store_out : (s : Slot) (v : Tree) (m : Memory) → (store s v m).out ≡ m.out
 store_out (local i) v m = refl

@@ -1,5 +1,5 @@
 -- Two computations that go the same way: both give related results, or have the same fault, or call deeper.
-use Rattle.std.proofs.Common.{◌≡◌, Bool, true, false, if◌then◌else◌, Option, Some, None, refl, sym, subst}
+use Rattle.std.proofs.Common.{◌≡◌, Bool, true, false, if◌then◌else◌, Option, Some, None, refl, sym, subst, arith, rules}
 use Rattle.std.specs.Prelude.{Result, Ok, Err}
 use Rattle.jt_value.specs.declared.fault.Fault.{Fault}
 use Rattle.jt_value.specs.Place.{Place}
@@ -17,10 +17,7 @@ bind_both fault s = fault
 bind_both deep s = deep
 
 pub at_both : {A B : Type 0} {R : A → B → Type 0} {g : Got A} {h : Got B} (p : Place) → Both R g h → Both R (at p g) (at p h)
-at_both p (both r) = both r
-at_both p (fault {e = e} {p = None}) = fault
-at_both p (fault {e = e} {p = Some q}) = fault
-at_both p deep = deep
+at_both p x2 = search (arith, rules, both, fault, deep)
 
 pub if_both : {A B : Type 0} {R : A → B → Type 0} (b : Bool) {g f : Got A} {h k : Got B} → Both R g h → Both R f k → Both R (if b then g else f) (if b then h else k)
 if_both true u v = u
@@ -28,42 +25,27 @@ if_both false u v = v
 
 -- a weaker relation
 pub weaken : {A B : Type 0} {R S : A → B → Type 0} {g : Got A} {h : Got B} → ((x : A) (y : B) → R x y → S x y) → Both R g h → Both S g h
-weaken w (both {x = x} {y = y} r) = both (w x y r)
-weaken w fault = fault
-weaken w deep = deep
+weaken w y = search (arith, rules, both, fault, deep)
 
 -- a step on the right alone
 pub right_both : {A B D : Type 0} {S : A → D → Type 0} {g : Got A} {h : Got B} (f : B → D) → Both (λ x y. S x (f y)) g h → Both S g (bind h (λ y. gives (f y)))
-right_both f (both r) = both r
-right_both f fault = fault
-right_both f deep = deep
+right_both f x2 = search (arith, rules, both, fault, deep)
 
 -- a step on the left alone
 pub left_both : {A B C : Type 0} {S : C → B → Type 0} {g : Got A} {h : Got B} (f : A → C) → Both (λ x y. S (f x) y) g h → Both S (bind g (λ x. gives (f x))) h
-left_both f (both r) = both r
-left_both f fault = fault
-left_both f deep = deep
+left_both f x2 = search (arith, rules, both, fault, deep)
 
 pub at_bind : {A B : Type 0} (p : Place) (g : Got A) (f : A → Got B) → at p (bind g f) ≡ bind (at p g) (λ x. at p (f x))
-at_bind p (gives x) f = refl
-at_bind p (fails e None) f = refl
-at_bind p (fails e (Some q)) f = refl
-at_bind p deeper f = refl
+at_bind p g f = search (arith, rules)
 
 pub bind_gives : {A : Type 0} (g : Got A) → bind g (λ x. gives x) ≡ g
-bind_gives (gives x) = refl
-bind_gives (fails e p) = refl
-bind_gives deeper = refl
+bind_gives g = search (arith, rules)
 
 pub bind_assoc : {A B C : Type 0} (g : Got A) (f : A → Got B) (h : B → Got C) → bind (bind g f) h ≡ bind g (λ x. bind (f x) h)
-bind_assoc (gives x) f h = refl
-bind_assoc (fails e p) f h = refl
-bind_assoc deeper f h = refl
+bind_assoc g f h = search (arith, rules)
 
 pub bind_ext : {A B : Type 0} (g : Got A) (f h : A → Got B) → ((x : A) → f x ≡ h x) → bind g f ≡ bind g h
-bind_ext (gives x) f h e = e x
-bind_ext (fails e' p) f h e = refl
-bind_ext deeper f h e = refl
+bind_ext g f h e = search (arith, rules)
 
 pub by_left : {A B : Type 0} {R : A → B → Type 0} {g f : Got A} {h : Got B} → f ≡ g → Both R g h → Both R f h
 by_left {R = R} {h = h} e u = subst (λ x. Both R x h) (sym e) u

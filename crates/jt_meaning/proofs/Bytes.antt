@@ -1,5 +1,5 @@
 -- The texts of what is resolved have no more bytes than those of the source.
-use Rattle.std.proofs.Common.{◌≡◌, ℕ, zero, suc, ◌+◌, ◌≤◌, Bool, true, false, if◌then◌else◌, List, [], ◌∷◌, ◌++◌, length, Option, Some, None, arith, refl}
+use Rattle.std.proofs.Common.{◌≡◌, ℕ, zero, suc, ◌+◌, ◌≤◌, Bool, true, false, if◌then◌else◌, List, [], ◌∷◌, ◌++◌, length, Option, Some, None, arith, refl, rules}
 use Rattle.std.specs.Option.{is_none}
 use Rattle.std.specs.List.{AllByRecursion}
 use Rattle.std.specs.Prelude.{pos}
@@ -37,10 +37,7 @@ bytes_append [] b = omega arith
 bytes_append (v ∷ a) b = omega (arith, bytes_append a b)
 
 pub literal_is : (l : Literal) → value_bytes (literal l) ≡ literal_bytes l
-literal_is (written.number n) = refl
-literal_is (written.text x) = refl
-literal_is (written.truth b) = refl
-literal_is written.nothing = refl
+literal_is l = search (arith, rules)
 
 abbrev expr_count : SExpr Constant → ℕ
 expr_count e = bytes_in (expr_values e)
@@ -86,10 +83,7 @@ filtered_count None b es = omega arith
 filtered_count (Some f) b es = omega arith
 
 form_count : (f : Form) (a b : SExpr Constant) → expr_count (in_form f a b) ≤ expr_count a + expr_count b
-form_count (operation o) a b = omega (arith, pair_count a b)
-form_count (negation o) a b = omega (arith, pair_count a b, single_count (slots.made (slots.operator o) (slots.item a (slots.item b slots.none))))
-form_count conjunction a b = omega (arith, bytes_append (expr_values a) (expr_values b))
-form_count disjunction a b = omega (arith, bytes_append (expr_values a) (expr_values b))
+form_count f a b = search (arith, rules, pair_count, single_count, bytes_append)
 
 filled_count : (ps : List Parameter) (n d : ℕ) (ks : Table) → row_count (filled ps n d ks) ≡ 0
 filled_count [] n d ks = refl
@@ -269,12 +263,7 @@ module _ (world : World) (order : List Home) where
 
   include_counted : (sp : Spot) (line : ℕ) (n : Text) (missing c : Bool) (b : Bool)
       → body_count (if b then left_out sp line missing else followed (handed_on (place sp line) (if c then sp.table else []) (first_slot world order (a_chain n)) (names world order (a_chain n))) (slots.stmt (run (unit world order (of_chain n)) slots.none) slots.end)) ≡ 0
-  include_counted sp line n true c true = refl
-  include_counted sp line n false c true = refl
-  include_counted sp line n missing c false =
-      let xs = names world order (a_chain n) in
-      let hs = handed_on (place sp line) (if c then sp.table else []) (first_slot world order (a_chain n)) xs in
-      omega (arith, followed_count hs (slots.stmt (run (unit world order (of_chain n)) slots.none) slots.end), handed_count (place sp line) (if c then sp.table else []) (first_slot world order (a_chain n)) xs)
+  include_counted sp line n missing c b = search (arith, rules, followed_count, handed_count)
 
   pub scope_counted : (b : Body) (sp : Spot) → body_count (resolved_body world order b (bound_all (set_in b) sp)) ≤ body_bytes b → body_count (scoped (set_in b) sp (resolved_body world order b)) ≤ body_bytes b
   scope_counted b sp h = omega (arith, h, copied_count (place sp 1) sp.table sp.free (set_in b) (resolved_body world order b (bound_all (set_in b) sp)))

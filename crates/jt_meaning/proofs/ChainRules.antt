@@ -1,6 +1,6 @@
 -- Where no rule of chains is broken: an included name that may not be missing has a source, and behind a body that calls `super()` there is one
 -- to go on with.
-use Rattle.std.proofs.Common.{◌≡◌, ℕ, zero, suc, ◌≤◌, ◌==◌, Bool, true, false, ◌&&◌, List, [], ◌∷◌, ◌++◌, length, map, Option, Some, None, refl, sym, ap, ◌∙◌, arith, inl}
+use Rattle.std.proofs.Common.{◌≡◌, ℕ, zero, suc, ◌≤◌, ◌==◌, Bool, true, false, ◌&&◌, List, [], ◌∷◌, ◌++◌, length, map, Option, Some, None, refl, sym, ap, ◌∙◌, arith, inl, rules}
 use Rattle.std.specs.Prelude.{not, nat_lt, flat_map}
 use Rattle.std.specs.Option.{is_none}
 use Rattle.std.specs.List.{list_any}
@@ -38,9 +38,7 @@ lacks_at (p ∷ pre) c bs e =
     lacks_at pre c bs (right_false (calls_super p.1.body && is_empty (from_given (map (λ d. d.1) (pre ++ (c ∷ bs))))) (lacks_super (map (λ d. d.1) (pre ++ (c ∷ bs)))) e)
 
 none_given : (bs : List (ℕ × BlockBody)) (cs : List BlockBody) (o : Option ℕ) → GivenBy bs cs o → o ≡ None → is_empty cs ≡ true
-none_given bs [] o g e = refl
-none_given bs (c ∷ cs) None g e = absurd g
-none_given bs (c ∷ cs) (Some i) g e = absurd (cc)
+none_given bs cs o g e = search (arith, rules)
 
 -- where no body is behind to go on with, `super()` is not called
 pub not_called : (bs : List (ℕ × BlockBody)) (b : Bool) → (b && is_empty (from_given (map (λ d. d.1) bs))) ≡ false → next_given bs ≡ None → b ≡ false

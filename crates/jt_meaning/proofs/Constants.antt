@@ -1,5 +1,5 @@
 -- What is resolved has at most as many constants of its own as it has tokens.
-use Rattle.std.proofs.Common.{◌≡◌, ℕ, zero, suc, ◌+◌, ◌*◌, min, ◌≤◌, Bool, true, false, if◌then◌else◌, List, [], ◌∷◌, ◌++◌, length, Option, Some, None, arith, refl, sym, subst, length-append}
+use Rattle.std.proofs.Common.{◌≡◌, ℕ, zero, suc, ◌+◌, ◌*◌, min, ◌≤◌, Bool, true, false, if◌then◌else◌, List, [], ◌∷◌, ◌++◌, length, Option, Some, None, arith, refl, sym, subst, length-append, rules}
 use Rattle.std.specs.Option.{is_none}
 use Rattle.std.specs.Prelude.{pos}
 use Rattle.jt_value.specs.Tree as tree
@@ -260,12 +260,7 @@ module _ (world : World) (order : List Home) where
 
   include_counted : (sp : Spot) (line : ℕ) (n : Text) (missing c : Bool) (b : Bool)
       → body_count (if b then left_out sp line missing else followed (handed_on (place sp line) (if c then sp.table else []) (first_slot world order (a_chain n)) (names world order (a_chain n))) (slots.stmt (run (unit world order (of_chain n)) slots.none) slots.end)) ≡ 0
-  include_counted sp line n true c true = refl
-  include_counted sp line n false c true = refl
-  include_counted sp line n missing c false =
-      let xs = names world order (a_chain n) in
-      let hs = handed_on (place sp line) (if c then sp.table else []) (first_slot world order (a_chain n)) xs in
-      omega (arith, followed_count hs (slots.stmt (run (unit world order (of_chain n)) slots.none) slots.end), handed_count (place sp line) (if c then sp.table else []) (first_slot world order (a_chain n)) xs)
+  include_counted sp line n missing c b = search (arith, rules, followed_count, handed_count)
 
   pub scope_counted : (b : Body) (sp : Spot) → body_count (resolved_body world order b (bound_all (set_in b) sp)) ≤ body_own b → body_count (scoped (set_in b) sp (resolved_body world order b)) ≤ body_own b
   scope_counted b sp h = omega (arith, h, copied_count (place sp 1) sp.table sp.free (set_in b) (resolved_body world order b (bound_all (set_in b) sp)))

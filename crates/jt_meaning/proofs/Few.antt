@@ -1,5 +1,5 @@
 -- Where the sources of chains read or bind few names, few of them are in each chain.
-use Rattle.std.proofs.Common.{◌≡◌, ℕ, zero, suc, ◌≤◌, ◌<◌, Bool, true, false, if◌then◌else◌, List, [], ◌∷◌, ◌++◌, length, map, Option, Some, None, refl, sym, ap, ◌∙◌, subst, arith, inl, inr}
+use Rattle.std.proofs.Common.{◌≡◌, ℕ, zero, suc, ◌≤◌, ◌<◌, Bool, true, false, if◌then◌else◌, List, [], ◌∷◌, ◌++◌, length, map, Option, Some, None, refl, sym, ap, ◌∙◌, subst, arith, inl, inr, rules}
 use Rattle.std.specs.Prelude.{not, ◌||◌, flat_map, Contains, slice_index_or}
 use Rattle.std.specs.List.{AllByRecursion}
 use Rattle.std.specs.Option.{option_or}
@@ -92,9 +92,7 @@ Differs [] = Unit {0}
 Differs (x ∷ xs) = (Among x xs → ⊥) × Differs xs
 
 less_is : (o : Ordering) → is_lt o ≡ true → o ≡ Less
-less_is Less e = refl
-less_is Equal e = absurd cc
-less_is Greater e = absurd cc
+less_is o e = search (arith, rules)
 
 before_trans : (x y z : Text) → IsBefore x y → IsBefore y z → IsBefore x z
 before_trans x y z a b = ap is_lt (nat_list_cmp_total.trans x y z (less_is (slice_cmp nat_cmp x y) a) (less_is (slice_cmp nat_cmp y z) b))

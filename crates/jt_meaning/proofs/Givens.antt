@@ -1,5 +1,5 @@
 -- What the names of a chain are given to: its own macros, and those of the libraries that it imports.
-use Rattle.std.proofs.Common.{◌≡◌, Bool, true, false, if◌then◌else◌, List, [], ◌∷◌, ◌++◌, Option, Some, None, refl, sym, ap, ◌∙◌, subst, ◌⊎◌, inl, inr}
+use Rattle.std.proofs.Common.{◌≡◌, Bool, true, false, if◌then◌else◌, List, [], ◌∷◌, ◌++◌, Option, Some, None, refl, sym, ap, ◌∙◌, subst, ◌⊎◌, inl, inr, arith, rules}
 use Rattle.std.specs.Prelude.{flat_map, filter, codes}
 use Rattle.std.specs.Option.{is_some}
 use Rattle.std.specs.List.{AllByRecursion}
@@ -241,9 +241,7 @@ module _ (sources : Sources) where
       form false false r = absurd (cc)
 
       alone : (o : Option Given) → given_to x (given sources h) ≡ o → named_alone sources o x ≡ a_macro k b → Found h k b
-      alone None p q = form (bytes_eq x (codes "range")) (bytes_eq x (codes "super")) q
-      alone (Some (one_macro j m)) p q = given_macro h x k b (p ∙ (let r : Some (one_macro j m) ≡ Some (one_macro k b) = cc in r))
-      alone (Some (library n)) p q = absurd (cc)
+      alone o p q = search (arith, rules, form, given_macro)
   called_macro h (attribute (name of) x) k b e = form (bytes_eq of (codes "self")) (bytes_eq of (codes "loop")) (bytes_eq x (codes "cycle")) e
     where
       of_one : (n : Text) → Among n (libraries sources h) → (o : Option MacroBody) → public_macro x (macros sources (a_library n)) ≡ o → of_library sources n o ≡ a_macro k b → Found h k b
@@ -255,13 +253,8 @@ module _ (sources : Sources) where
           (x, ap (λ z. macro_of x (macros sources z)) home ∙ f ∙ ap Some body, inr (n, home, source_there n (libraries sources h) i (some_source n x m f)))
 
       in_one : (o : Option Given) → given_to of (given sources h) ≡ o → in_library sources o x ≡ a_macro k b → Found h k b
-      in_one None p q = absurd (cc)
-      in_one (Some (one_macro j m)) p q = absurd (cc)
-      in_one (Some (library n)) p q = of_one n (given_library h of n p) (public_macro x (macros sources (a_library n))) refl q
+      in_one o p q = search (arith, rules, of_one, given_library)
 
       form : (p q r : Bool) → (if p then a_block x else if q then (if r then a_cycle else no_callee) else in_library sources (given_to of (given sources h)) x) ≡ a_macro k b → Found h k b
-      form true q r z = absurd (cc)
-      form false true true z = absurd (cc)
-      form false true false z = absurd (cc)
-      form false false r z = in_one (given_to of (given sources h)) refl z
+      form p q r z = search (arith, rules, in_one)
   called_macro h f k b e = absurd (cc)

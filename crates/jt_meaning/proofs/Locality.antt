@@ -1,5 +1,5 @@
 -- What is resolved uses at most as many locals as hold something, and one more for each token.
-use Rattle.std.proofs.Common.{◌≡◌, ℕ, zero, suc, ◌+◌, max, ◌≤◌, Bool, true, false, if◌then◌else◌, List, [], ◌∷◌, length, Option, Some, None, arith, refl, length-append}
+use Rattle.std.proofs.Common.{◌≡◌, ℕ, zero, suc, ◌+◌, max, ◌≤◌, Bool, true, false, if◌then◌else◌, List, [], ◌∷◌, length, Option, Some, None, arith, refl, length-append, rules}
 use Rattle.std.specs.Option.{is_none}
 use Rattle.std.specs.List.{AllByRecursion}
 use Rattle.std.specs.Str.{bytes_eq}
@@ -119,10 +119,7 @@ module _ (n : ℕ) (some : 1 ≤ n) where
   filtered_local (Some f) b es = omega arith
 
   form_local : (f : Form) (a b : SExpr Constant) → expr_locals (in_form f a b) ≤ max (expr_locals a) (expr_locals b)
-  form_local (operation o) a b = omega arith
-  form_local (negation o) a b = omega arith
-  form_local conjunction a b = omega arith
-  form_local disjunction a b = omega arith
+  form_local f a b = search (arith, rules)
 
   filled_local : (ps : List Parameter) (m d : ℕ) (ks : Table) → Below ks → row_locals (filled ps m d ks) ≤ n
   filled_local [] m d ks h = omega arith
@@ -151,9 +148,7 @@ module _ (n : ℕ) (some : 1 ≤ n) where
   fresh_each m (x ∷ xs) h = omega (arith, h, fresh_each (suc m) xs (omega (arith, h)))
 
   fresh_local : (m : ℕ) (xs : List Text) → m + length xs ≤ n → targets_locals (fresh_targets m xs) ≤ n
-  fresh_local m [] h = omega arith
-  fresh_local m (x ∷ []) h = omega (arith, h)
-  fresh_local m (x ∷ (y ∷ ys)) h = fresh_each m (x ∷ (y ∷ ys)) h
+  fresh_local m xs h = search (arith, rules, fresh_each)
 
   kept_each : (t : Table) (xs : List Text) → Below t → slots_locals (kept_slots t xs) ≤ n
   kept_each t [] h = omega arith
@@ -199,17 +194,7 @@ module _ (n : ℕ) (some : 1 ≤ n) where
         body_localed sp.home sp.escaping (next_given p.behind) (first_locals 0 xs) (first_local 0 xs (omega (arith, few sp.home p.name)))
 
     invoked_localed : (c : Callee) (sp : Spot) (row asides : SRow Constant → SRow Constant) (m : ℕ) (ks : Table) → Below ks → Front row → Front asides → expr_locals (invoked world order c sp row asides m ks) ≤ n
-    invoked_localed (a_macro z x) sp row asides m ks h r a =
-        let rest = filled x.parameters m (default_place world order z x.name) ks in
-        r (asides rest) (a rest (filled_local x.parameters m (default_place world order z x.name) ks h))
-    invoked_localed a_range sp row asides m ks h r a = r slots.none (omega arith)
-    invoked_localed a_super sp row asides m ks h r a = super_localed sp sp.part
-    invoked_localed (a_block x) sp row asides m ks h r a =
-        let t = globals world order sp.home in
-        let xs = block_parameters world order sp.home x in
-        body_localed sp.home sp.escaping (first_body (numbered_of world sp.home x)) (reads t xs) (reads_local t xs (globals_below (first_slot world order sp.home) (names world order sp.home)))
-    invoked_localed a_cycle sp row asides m ks h r a = omega (arith, r slots.none (omega arith))
-    invoked_localed no_callee sp row asides m ks h r a = omega arith
+    invoked_localed c sp row asides m ks h r a = search (arith, rules, filled_local, super_localed, body_localed, reads_local, globals_below)
 
     mutual
       pub localed : (e : Expr) (sp : Spot) → Below sp.table → sp.free + weight e ≤ n → expr_locals (resolved world order e sp) ≤ n
@@ -297,12 +282,7 @@ module _ (n : ℕ) (some : 1 ≤ n) where
 
     include_localed : (sp : Spot) (line : ℕ) (m : Text) (missing c : Bool) (b : Bool) → Below sp.table
         → body_locals (if b then left_out sp line missing else followed (handed_on (place sp line) (if c then sp.table else []) (first_slot world order (a_chain m)) (names world order (a_chain m))) (slots.stmt (run (unit world order (of_chain m)) slots.none) slots.end)) ≤ n
-    include_localed sp line m true c true t = omega arith
-    include_localed sp line m false c true t = omega arith
-    include_localed sp line m missing c false t =
-        let xs = names world order (a_chain m) in
-        let hs = handed_on (place sp line) (if c then sp.table else []) (first_slot world order (a_chain m)) xs in
-        omega (arith, followed_local hs (slots.stmt (run (unit world order (of_chain m)) slots.none) slots.end), handed_local (place sp line) (if c then sp.table else []) (first_slot world order (a_chain m)) xs (seen_below c sp.table t))
+    include_localed sp line m missing c b t = search (arith, rules, followed_local, handed_local, seen_below)
 
     pub scope_localed : (b : Body) (sp : Spot) → Below sp.table → sp.free + body_own b ≤ n → body_locals (resolved_body world order b (bound_all (set_in b) sp)) ≤ n → body_locals (scoped (set_in b) sp (resolved_body world order b)) ≤ n
     scope_localed b sp t k h = copied_local (place sp 1) sp.table sp.free (set_in b) (resolved_body world order b (bound_all (set_in b) sp)) (omega (arith, k, in_few b)) t h

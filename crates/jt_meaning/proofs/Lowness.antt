@@ -1,5 +1,5 @@
 -- What is resolved needs at most half as many entries as it has tokens, and besides as many as a call loads parameters.
-use Rattle.std.proofs.Common.{◌≡◌, ℕ, zero, suc, ◌+◌, ◌*◌, max, min, ◌≤◌, Bool, true, false, if◌then◌else◌, List, [], ◌∷◌, length, Option, Some, None, arith, refl, sym, subst}
+use Rattle.std.proofs.Common.{◌≡◌, ℕ, zero, suc, ◌+◌, ◌*◌, max, min, ◌≤◌, Bool, true, false, if◌then◌else◌, List, [], ◌∷◌, length, Option, Some, None, arith, refl, sym, subst, rules}
 use Rattle.std.specs.Option.{is_none}
 use Rattle.std.specs.List.{AllByRecursion}
 use Rattle.std.specs.Str.{bytes_eq}
@@ -55,10 +55,7 @@ filtered_low None b es = omega arith
 filtered_low (Some f) b es = omega arith
 
 form_low : (f : Form) (a b : SExpr Constant) → expr_height (in_form f a b) ≤ max (expr_height a) (max 2 (1 + expr_height b))
-form_low (operation o) a b = omega arith
-form_low (negation o) a b = omega arith
-form_low conjunction a b = omega arith
-form_low disjunction a b = omega arith
+form_low f a b = search (arith, rules)
 
 filled_low : (ps : List Parameter) (n d : ℕ) (ks : Table) → row_height (filled ps n d ks) ≤ length ps
 filled_low [] n d ks = omega arith
@@ -102,14 +99,10 @@ reads_low t [] = omega arith
 reads_low t (x ∷ xs) = omega (arith, value_low (slot_in x t) (known 0), reads_low t xs)
 
 fresh_low : (n : ℕ) (xs : List Text) → targets_height (fresh_targets n xs) ≤ max 1 (length xs)
-fresh_low n [] = omega arith
-fresh_low n (x ∷ []) = omega arith
-fresh_low n (x ∷ (y ∷ ys)) = omega (arith, fresh_len n (x ∷ (y ∷ ys)))
+fresh_low n xs = search (arith, rules, fresh_len)
 
 set_low : (t : Table) (xs : List Text) → targets_height (set_targets t xs) ≤ max 1 (length xs)
-set_low t [] = omega arith
-set_low t (x ∷ []) = omega arith
-set_low t (x ∷ (y ∷ ys)) = omega (arith, kept_len t (x ∷ (y ∷ ys)))
+set_low t xs = search (arith, rules, kept_len)
 
 pub followed_low : (a b : SBody Constant) → body_height (followed a b) ≡ max (body_height a) (body_height b)
 followed_low slots.end b = omega arith
@@ -188,33 +181,7 @@ module _ (q : ℕ) where
       through false false c = library_low sources gs of x h
 
   callee_low : (sources : Sources) (ms : List (Text × Given)) (e : Expr) → AllGivenLow sources ms → CalleeLow q (weight e) (callee sources ms e)
-  callee_low sources ms (name x) h = given_low sources ms x h
-  callee_low sources ms (attribute (name of) x) h = in_low sources ms of x h
-  callee_low sources ms (attribute (constant l) x) h = tt
-  callee_low sources ms (attribute (group a) x) h = tt
-  callee_low sources ms (attribute (list_of ts) x) h = tt
-  callee_low sources ms (attribute (map_of ps) x) h = tt
-  callee_low sources ms (attribute (attribute a k) x) h = tt
-  callee_low sources ms (attribute (item a b) x) h = tt
-  callee_low sources ms (attribute (call a ts ps) x) h = tt
-  callee_low sources ms (attribute (filter a y ts ps) x) h = tt
-  callee_low sources ms (attribute (test a n y ts ps) x) h = tt
-  callee_low sources ms (attribute (unary o a) x) h = tt
-  callee_low sources ms (attribute (binary o a b) x) h = tt
-  callee_low sources ms (attribute (when c a) x) h = tt
-  callee_low sources ms (attribute (choice c a b) x) h = tt
-  callee_low sources ms (constant l) h = tt
-  callee_low sources ms (group a) h = tt
-  callee_low sources ms (list_of ts) h = tt
-  callee_low sources ms (map_of ps) h = tt
-  callee_low sources ms (item a b) h = tt
-  callee_low sources ms (call a ts ps) h = tt
-  callee_low sources ms (filter a y ts ps) h = tt
-  callee_low sources ms (test a n y ts ps) h = tt
-  callee_low sources ms (unary o a) h = tt
-  callee_low sources ms (binary o a b) h = tt
-  callee_low sources ms (when c a) h = tt
-  callee_low sources ms (choice c a b) h = tt
+  callee_low sources ms e h = search (arith, rules, given_low, in_low)
 
 module _ (world : World) (order : List Home) (q : ℕ) where
   body_low : (h : Home) (on : Bool) (i : Option ℕ) (es : SRow Constant) → row_height es ≤ q → expr_height (invoked_body world order h on i es) ≤ 1 + q
@@ -340,12 +307,7 @@ module _ (world : World) (order : List Home) (q : ℕ) where
 
   include_low : (sp : Spot) (line : ℕ) (n : Text) (missing c : Bool) (b : Bool)
       → body_height (if b then left_out sp line missing else followed (handed_on (place sp line) (if c then sp.table else []) (first_slot world order (a_chain n)) (names world order (a_chain n))) (slots.stmt (run (unit world order (of_chain n)) slots.none) slots.end)) ≤ 1
-  include_low sp line n true c true = omega arith
-  include_low sp line n false c true = omega arith
-  include_low sp line n missing c false =
-      let xs = names world order (a_chain n) in
-      let hs = handed_on (place sp line) (if c then sp.table else []) (first_slot world order (a_chain n)) xs in
-      omega (arith, followed_low hs (slots.stmt (run (unit world order (of_chain n)) slots.none) slots.end), handed_low (place sp line) (if c then sp.table else []) (first_slot world order (a_chain n)) xs)
+  include_low sp line n missing c b = search (arith, rules, followed_low, handed_low)
 
   -- a scope of its own, its copies in front
   pub scope_low : (b : Body) (sp : Spot) → 2 * body_height (resolved_body world order b (bound_all (set_in b) sp)) ≤ body_free b + 2 * q

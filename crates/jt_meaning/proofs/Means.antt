@@ -1,5 +1,5 @@
 -- The program of a chain means what the chain means.
-use Rattle.std.proofs.Common.{◌≡◌, ℕ, suc, ◌+◌, ◌≤◌, Bool, true, false, if◌then◌else◌, List, [], ◌∷◌, ◌++◌, length, map, Some, None, refl, sym, ap, ◌∙◌, subst, arith}
+use Rattle.std.proofs.Common.{◌≡◌, ℕ, suc, ◌+◌, ◌≤◌, Bool, true, false, if◌then◌else◌, List, [], ◌∷◌, ◌++◌, length, map, Some, None, refl, sym, ap, ◌∙◌, subst, arith, rules}
 use Rattle.std.specs.Prelude.{◌||◌}
 use Rattle.std.specs.Str.{bytes_eq}
 use Rattle.jt_value.specs.Tree.{Tree}
@@ -43,9 +43,7 @@ start_holds context n (y ∷ ys) ts x i e h = through (bytes_eq y x) refl e (λ 
     through false p e f = f e
 
 same_text_out : {g : ℕ} {ts : List Tree} {a : Got Text} {b : Got Written} (world : World) (order : List Home) → Both (Wrote world order g ts) a b → bind b (λ w. gives w.text) ≡ a
-same_text_out world order (both r) = ap gives r.text
-same_text_out world order fault = refl
-same_text_out world order deep = refl
+same_text_out world order x3 = search (arith, rules)
 
 -- For every context and depth of calls. The chains and libraries stand in an order in which each stands once, and before those that it leads to;
 -- the entry's chain stands first.

@@ -1,5 +1,5 @@
 -- A text or fault at n is the same with more calls: `Under g h` says that h is g, or that g is deeper.
-use Rattle.std.proofs.Common.{◌≡◌, ◌≤◌, ◌+◌, ◌-◌, ℕ, zero, suc, refl, subst, arith}
+use Rattle.std.proofs.Common.{◌≡◌, ◌≤◌, ◌+◌, ◌-◌, ℕ, zero, suc, refl, subst, arith, rules}
 use Rattle.std.specs.Prelude.{Bool, true, false, List, [], ◌∷◌, Option, Some, None, if◌then◌else◌}
 use Rattle.std.specs.Option.{is_none}
 use Rattle.jt_value.specs.Tree as tree
@@ -54,10 +54,7 @@ filtered_under fs None on u = same
 filtered_under fs (Some f) on u = bound u (λ vs. same)
 
 combined_under : (f : Form) {g h g' h' : Got Tree} → Under g g' → Under h h' → Under (combined f g h) (combined f g' h')
-combined_under (operation o) u w = bound u (λ v. bound w (λ x. same))
-combined_under (negation o) u w = turned_under true (bound u (λ v. bound w (λ x. same)))
-combined_under conjunction u w = bound u (λ v. if_under (tree.truth v) w same)
-combined_under disjunction u w = bound u (λ v. if_under (tree.truth v) same w)
+combined_under f u w = search (arith, rules, bound, same, turned_under, if_under)
 
 either_under : {c g h c' g' h' : Got Tree} → Under c c' → Under g g' → Under h h' → Under (either c g h) (either c' g' h')
 either_under u v w = bound u (λ x. if_under (tree.truth x) v w)
@@ -161,9 +158,7 @@ module _ (world : World) (c d : Calls) (under : (x : Called) → Under (c x) (d 
   rendered_under h (t ∷ u ∷ us) st = bound (sets_under t.body _ st) (λ r. rendered_under h (u ∷ us) r)
 
   performed_under : (x : Called) → Under (performed world c x) (performed world d x)
-  performed_under (the_macro h m s gs) = bound (meanings_under m.body _ _) (λ st. same)
-  performed_under (the_block h b bs env) = bound (meanings_under b.body _ _) (λ st. same)
-  performed_under (the_chain n gs) = bound (rendered_under (a_chain n) (templates world.sources (a_chain n)) _) (λ st. same)
+  performed_under x = search (arith, rules, bound, meanings_under, same, rendered_under)
 
 -- one call more, and any number
 pub calls_under : (world : World) (n : ℕ) (x : Called) → Under (calls_below world n x) (calls_below world (suc n) x)

@@ -1,5 +1,5 @@
 -- Reading and storing: environments by names, lists of values by places, tables of slots.
-use Rattle.std.proofs.Common.{◌≡◌, ℕ, zero, suc, Bool, true, false, if◌then◌else◌, List, [], ◌∷◌, ◌++◌, Option, Some, None, refl, sym, ap, ◌∙◌, subst, inl, inr}
+use Rattle.std.proofs.Common.{◌≡◌, ℕ, zero, suc, Bool, true, false, if◌then◌else◌, List, [], ◌∷◌, ◌++◌, Option, Some, None, refl, sym, ap, ◌∙◌, subst, inl, inr, arith, rules}
 use Rattle.std.specs.Prelude.{unwrap_or}
 use Rattle.std.specs.Bool.{Decides}
 use Rattle.std.specs.Str.{bytes_eq}
@@ -38,10 +38,7 @@ is_same x y e = surely (bytes_eq x y) (x ≡ y) (bytes_eq-Decides x y) e
 -- ---- homes
 
 pub home_same : (h k : Home) → same_home h k ≡ true → h ≡ k
-home_same (a_chain n) (a_chain m) e = ap a_chain (same_text n m e)
-home_same (a_chain n) (a_library m) e = absurd (never e)
-home_same (a_library n) (a_chain m) e = absurd (never e)
-home_same (a_library n) (a_library m) e = ap a_library (same_text n m e)
+home_same h k e = search (arith, rules, same_text, never)
 
 pub home_is : (h : Home) → same_home h h ≡ true
 home_is (a_chain n) = same_is n

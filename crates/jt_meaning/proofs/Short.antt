@@ -1,5 +1,5 @@
 -- The names of a program and the texts of its pool are no longer than the trees of its chains have bytes.
-use Rattle.std.proofs.Common.{◌≡◌, ℕ, suc, ◌≤◌, Bool, true, false, if◌then◌else◌, List, [], ◌∷◌, ◌++◌, length, map, Option, Some, None, refl, sym, subst, arith, inl, inr}
+use Rattle.std.proofs.Common.{◌≡◌, ℕ, suc, ◌≤◌, Bool, true, false, if◌then◌else◌, List, [], ◌∷◌, ◌++◌, length, map, Option, Some, None, refl, sym, subst, arith, inl, inr, rules}
 use Rattle.std.specs.Prelude.{flat_map, filter}
 use Rattle.std.specs.List.{AllByRecursion}
 use Rattle.std.specs.Str.{bytes_eq}
@@ -350,14 +350,7 @@ program_short world entry rest n k h =
 -- ---- the filters of the language
 
 defaults_bare : (i : FilterId) → Bare (filter_parameters i)
-defaults_bare filter_id.Attr = (refl, tt)
-defaults_bare filter_id.Default = (refl, (refl, tt))
-defaults_bare filter_id.Int = (refl, tt)
-defaults_bare filter_id.Join = (refl, tt)
-defaults_bare filter_id.MapAttribute = (refl, tt)
-defaults_bare filter_id.Replace = (refl, (refl, tt))
-defaults_bare filter_id.Sort = (refl, tt)
-defaults_bare i = tt
+defaults_bare i = search (arith, rules)
 
 filters_bare : (n : ℕ) → Bare (the_filters.parameters n)
 unfolding the_filters

@@ -1,5 +1,5 @@
 -- What is resolved has at most 100 instructions for each token: expressions, rows, statements and bodies.
-use Rattle.std.proofs.Common.{◌≡◌, ℕ, zero, suc, ◌+◌, ◌*◌, min, ◌≤◌, Bool, true, false, if◌then◌else◌, List, [], ◌∷◌, length, Option, Some, None, arith, refl, length-append}
+use Rattle.std.proofs.Common.{◌≡◌, ℕ, zero, suc, ◌+◌, ◌*◌, min, ◌≤◌, Bool, true, false, if◌then◌else◌, List, [], ◌∷◌, length, Option, Some, None, arith, refl, length-append, rules}
 use Rattle.std.specs.Option.{is_none}
 use Rattle.std.specs.List.{AllByRecursion}
 use Rattle.std.specs.Str.{bytes_eq}
@@ -34,29 +34,10 @@ use Rattle.jt_meaning.specs.Measure.{HasFewNames}
 -- ---- weights have tokens
 
 literal_some : (l : Literal) → 1 ≤ literal_weight l
-literal_some (written.number n) = omega arith
-literal_some (written.text s) = omega arith
-literal_some (written.truth b) = omega arith
-literal_some written.nothing = omega arith
+literal_some l = search (arith, rules)
 
 pub operator_some : (b : BinaryOperator) → 1 ≤ operator_weight b
-operator_some o.Or = omega arith
-operator_some o.And = omega arith
-operator_some o.Equal = omega arith
-operator_some o.NotEqual = omega arith
-operator_some o.Less = omega arith
-operator_some o.LessOrEqual = omega arith
-operator_some o.Greater = omega arith
-operator_some o.GreaterOrEqual = omega arith
-operator_some o.In = omega arith
-operator_some o.NotIn = omega arith
-operator_some o.Add = omega arith
-operator_some o.Subtract = omega arith
-operator_some o.Concatenate = omega arith
-operator_some o.Multiply = omega arith
-operator_some o.FloorDivide = omega arith
-operator_some o.Remainder = omega arith
-operator_some o.Power = omega arith
+operator_some b = search (arith, rules)
 
 pub expr_some : (e : Expr) → 1 ≤ weight e
 expr_some (constant l) = literal_some l
@@ -105,10 +86,7 @@ filtered_size None b es = omega arith
 filtered_size (Some f) b es = omega arith
 
 form_size : (f : Form) (a b : SExpr Constant) → expr_size (in_form f a b) ≤ expr_size a + expr_size b + 4
-form_size (operation o) a b = omega arith
-form_size (negation o) a b = omega arith
-form_size conjunction a b = omega arith
-form_size disjunction a b = omega arith
+form_size f a b = search (arith, rules)
 
 filled_size : (ps : List Parameter) (n d : ℕ) (ks : Table) → row_size (filled ps n d ks) ≤ length ps
 filled_size [] n d ks = omega arith
@@ -137,18 +115,14 @@ fresh_len n [] = refl
 fresh_len n (x ∷ xs) = omega (arith, fresh_len (suc n) xs)
 
 fresh_size : (n : ℕ) (xs : List Text) → targets_size (fresh_targets n xs) ≤ 1 + length xs
-fresh_size n [] = omega arith
-fresh_size n (x ∷ []) = omega arith
-fresh_size n (x ∷ (y ∷ ys)) = omega (arith, fresh_len n (x ∷ (y ∷ ys)))
+fresh_size n xs = search (arith, rules, fresh_len)
 
 pub kept_len : (t : Table) (xs : List Text) → length (kept_slots t xs) ≡ length xs
 kept_len t [] = refl
 kept_len t (x ∷ xs) = omega (arith, kept_len t xs)
 
 set_size : (t : Table) (xs : List Text) → targets_size (set_targets t xs) ≤ 1 + length xs
-set_size t [] = omega arith
-set_size t (x ∷ []) = omega arith
-set_size t (x ∷ (y ∷ ys)) = omega (arith, kept_len t (x ∷ (y ∷ ys)))
+set_size t xs = search (arith, rules, kept_len)
 
 pub followed_size : (a b : SBody Constant) → body_size (followed a b) ≡ body_size a + body_size b
 followed_size slots.end b = omega arith
@@ -225,33 +199,7 @@ in_few sources gs of x h = through (bytes_eq of (codes "self")) (bytes_eq of (co
     through false false c = library_few sources gs of x h
 
 pub callee_few : (sources : Sources) (ms : List (Text × Given)) (e : Expr) → AllGivenFew sources ms → CalleeFew (callee sources ms e)
-callee_few sources ms (name x) h = given_few sources ms x h
-callee_few sources ms (attribute (name of) x) h = in_few sources ms of x h
-callee_few sources ms (attribute (constant l) x) h = tt
-callee_few sources ms (attribute (group a) x) h = tt
-callee_few sources ms (attribute (list_of ts) x) h = tt
-callee_few sources ms (attribute (map_of ps) x) h = tt
-callee_few sources ms (attribute (attribute a k) x) h = tt
-callee_few sources ms (attribute (item a b) x) h = tt
-callee_few sources ms (attribute (call a ts ps) x) h = tt
-callee_few sources ms (attribute (filter a y ts ps) x) h = tt
-callee_few sources ms (attribute (test a n y ts ps) x) h = tt
-callee_few sources ms (attribute (unary o a) x) h = tt
-callee_few sources ms (attribute (binary o a b) x) h = tt
-callee_few sources ms (attribute (when c a) x) h = tt
-callee_few sources ms (attribute (choice c a b) x) h = tt
-callee_few sources ms (constant l) h = tt
-callee_few sources ms (group a) h = tt
-callee_few sources ms (list_of ts) h = tt
-callee_few sources ms (map_of ps) h = tt
-callee_few sources ms (item a b) h = tt
-callee_few sources ms (call a ts ps) h = tt
-callee_few sources ms (filter a y ts ps) h = tt
-callee_few sources ms (test a n y ts ps) h = tt
-callee_few sources ms (unary o a) h = tt
-callee_few sources ms (binary o a b) h = tt
-callee_few sources ms (when c a) h = tt
-callee_few sources ms (choice c a b) h = tt
+callee_few sources ms e h = search (arith, rules, given_few, in_few)
 
 -- what stands in front of a row takes at most this many instructions, and 100 less where there is something
 abbrev Front : ℕ → (SRow Constant → SRow Constant) → Type 0
@@ -277,17 +225,7 @@ module _ (world : World) (order : List Home) where
 
   invoked_sized : (c : Callee) (sp : Spot) (row asides : SRow Constant → SRow Constant) (n : ℕ) (ks : Table) (w v : ℕ) → CalleeFew c → HasFewNames world order sp.home → Front w row → Front v asides
       → expr_size (invoked world order c sp row asides n ks) ≤ 100 * (1 + enclosed (w + v))
-  invoked_sized (a_macro z m) sp row asides n ks w v f k r a =
-      let rest = filled m.parameters n (default_place world order z m.name) ks in
-      omega (arith, f, r (asides rest), a rest, filled_size m.parameters n (default_place world order z m.name) ks)
-  invoked_sized a_range sp row asides n ks w v f k r a = omega (arith, r slots.none)
-  invoked_sized a_super sp row asides n ks w v f k r a = omega (arith, super_sized sp sp.part k)
-  invoked_sized (a_block x) sp row asides n ks w v f k r a =
-      let t = globals world order sp.home in
-      let xs = block_parameters world order sp.home x in
-      omega (arith, body_sized sp.home sp.escaping (first_body (numbered_of world sp.home x)) (reads t xs) (omega (arith, reads_size t xs, parameters_few sp.home x k)))
-  invoked_sized a_cycle sp row asides n ks w v f k r a = omega (arith, r slots.none)
-  invoked_sized no_callee sp row asides n ks w v f k r a = omega arith
+  invoked_sized c sp row asides n ks w v f k r a = search (arith, rules, filled_size, super_sized, body_sized, reads_size, parameters_few)
 
   filter_few : (f : Option ℕ) → ((i : ℕ) → length (world.filters.parameters i) ≤ 3) → length (filter_parameters world.filters f) ≤ 3
   filter_few None h = omega arith
@@ -377,12 +315,7 @@ module _ (world : World) (order : List Home) where
 
   include_sized : (sp : Spot) (line : ℕ) (n : Text) (missing c : Bool) (b : Bool) → length (names world order (a_chain n)) ≤ 200
       → body_size (if b then left_out sp line missing else followed (handed_on (place sp line) (if c then sp.table else []) (first_slot world order (a_chain n)) (names world order (a_chain n))) (slots.stmt (run (unit world order (of_chain n)) slots.none) slots.end)) ≤ 401
-  include_sized sp line n true c true k = omega arith
-  include_sized sp line n false c true k = omega arith
-  include_sized sp line n missing c false k =
-      let xs = names world order (a_chain n) in
-      let hs = handed_on (place sp line) (if c then sp.table else []) (first_slot world order (a_chain n)) xs in
-      omega (arith, k, followed_size hs (slots.stmt (run (unit world order (of_chain n)) slots.none) slots.end), handed_size (place sp line) (if c then sp.table else []) (first_slot world order (a_chain n)) xs)
+  include_sized sp line n missing c b k = search (arith, rules, followed_size, handed_size)
 
   -- a scope of its own, its copies in front
   pub scope_sized : (b : Body) (sp : Spot) → body_size (resolved_body world order b (bound_all (set_in b) sp)) + 2 * length (set_in b) ≤ 100 * body_own b

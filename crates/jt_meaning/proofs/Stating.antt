@@ -1,5 +1,5 @@
 -- A statement means the same by names and by slots, where calls do.
-use Rattle.std.proofs.Common.{◌≡◌, ℕ, suc, ◌+◌, ◌<◌, ◌≤◌, Bool, true, false, if◌then◌else◌, List, [], ◌∷◌, ◌++◌, length, map, Option, Some, None, refl, sym, ap, ◌∙◌, subst, arith, inl, inr}
+use Rattle.std.proofs.Common.{◌≡◌, ℕ, suc, ◌+◌, ◌<◌, ◌≤◌, Bool, true, false, if◌then◌else◌, List, [], ◌∷◌, ◌++◌, length, map, Option, Some, None, refl, sym, ap, ◌∙◌, subst, arith, inl, inr, rules}
 use Rattle.std.specs.Option.{is_none}
 use Rattle.std.specs.Prelude.{unwrap_or}
 use Rattle.std.specs.Str.{bytes_eq}
@@ -248,10 +248,7 @@ module _ (world : World) (order : List Home) (calls : Calls) (scall : SCalls) (m
       }
 
   part_lower : (h : Home) (p : Option Part) (q : Option Placement) (k j : ℕ) (m : Memory) → PartHolds world order h p q k m → (n : Memory) → PartHolds world order h p q j n → PartHolds world order h p q k n
-  part_lower h None None k j m t n u = tt
-  part_lower h None (Some q) k j m t n u = t
-  part_lower h (Some p) None k j m t n u = t
-  part_lower h (Some p) (Some q) k j m t n u = record { behind = u.behind; tail = u.tail; room = t.room; parameters = u.parameters; sees = u.sees }
+  part_lower h p q k j m t n u = search (arith, rules)
 
   -- the end of a scope: what was there before is kept
   pub record Left (sp : Spot) (m : Memory) (st : State) (n : Memory) : Type 0 where
@@ -574,9 +571,7 @@ module _ (world : World) (order : List Home) (calls : Calls) (scall : SCalls) (m
 
       which : (n : Memory) (y : Text) (b : Bool) → bytes_eq x y ≡ b → Among y (x ∷ xs) → (j : ℕ) → (if b then Some (global k) else slot_in y (globals_from (suc k) xs)) ≡ Some (global j) → tree_at n.globals k ≡ f x
           → (Among y xs → slot_in y (globals_from (suc k) xs) ≡ Some (global j) → tree_at n.globals j ≡ f y) → tree_at n.globals j ≡ f y
-      which n y true e i j s w r = ap (λ z. tree_at n.globals z) (sym (here s)) ∙ w ∙ ap f (same_text x y e)
-      which n y false e (inl p) j s w r = absurd (no_both (is_same x y p) e)
-      which n y false e (inr i) j s w r = r i s
+      which n y b e x5 j s w r = search (arith, rules, here, same_text, no_both, is_same)
 
   include_both : (n : Text) (with_context : Bool) (sp : Spot) (l : Option Loop) (q : Option Placement) (b j : ℕ) (S : List Text) (st : State) (m : Memory) (line : ℕ) → Here sp q b j S st m → Hands world order sp.home n
       → Both (After sp q b j S m) (bind (calls (the_chain n (if with_context then seen st.env else []))) (λ s. gives (put st s)))

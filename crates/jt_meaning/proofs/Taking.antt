@@ -1,5 +1,5 @@
 -- Where the rules are kept and each test and filter is known, what is resolved gets as many values as it takes.
-use Rattle.std.proofs.Common.{◌≡◌, ℕ, zero, suc, ◌+◌, ◌≤◌, ◌==◌, Bool, true, false, ◌&&◌, if◌then◌else◌, List, [], ◌∷◌, ◌++◌, length, map, Option, Some, None, refl, sym, ap, ◌∙◌, subst, arith, append_assoc}
+use Rattle.std.proofs.Common.{◌≡◌, ℕ, zero, suc, ◌+◌, ◌≤◌, ◌==◌, Bool, true, false, ◌&&◌, if◌then◌else◌, List, [], ◌∷◌, ◌++◌, length, map, Option, Some, None, refl, sym, ap, ◌∙◌, subst, arith, append_assoc, rules}
 use Rattle.std.specs.Prelude.{not, ◌||◌, nat_lt, max}
 use Rattle.std.specs.Option.{option_or, is_some}
 use Rattle.std.proofs.lemmas.Bool.Decides.{nat_tests}
@@ -77,29 +77,10 @@ TakesTwo conjunction = Unit {0}
 TakesTwo disjunction = Unit {0}
 
 form_two : (escaping : Bool) (p : BinaryOperator) → TakesTwo (form escaping p)
-form_two escaping o.Or = tt
-form_two escaping o.And = tt
-form_two escaping o.Equal = refl
-form_two escaping o.NotEqual = refl
-form_two escaping o.Less = refl
-form_two escaping o.LessOrEqual = refl
-form_two escaping o.Greater = refl
-form_two escaping o.GreaterOrEqual = refl
-form_two escaping o.In = refl
-form_two escaping o.NotIn = refl
-form_two escaping o.Add = refl
-form_two escaping o.Subtract = refl
-form_two true o.Concatenate = refl
-form_two false o.Concatenate = refl
-form_two escaping o.Multiply = refl
-form_two escaping o.FloorDivide = refl
-form_two escaping o.Remainder = refl
-form_two escaping o.Power = refl
+form_two escaping p = search (arith, rules)
 
 unary_one : (p : UnaryOperator) → op_operands (unary_operation p) ≡ 1
-unary_one u.Negate = refl
-unary_one u.Plus = refl
-unary_one u.Not = refl
+unary_one p = search (arith, rules)
 
 range_takes : (n : ℕ) → nat_lt 0 n ≡ true → nat_lt n 4 ≡ true → op_operands (range_of n) ≡ n
 range_takes zero h k = absurd (cc)
@@ -199,10 +180,7 @@ module _ (world : World) (order : List Home) where
   locals_count n (x ∷ xs) = ap suc (locals_count (suc n) xs)
 
   form_takes : (l : Bool) (f : Form) (a b : SExpr Constant) → TakesTwo f → ETakes l a → ETakes l b → ETakes l (in_form f a b)
-  form_takes l (operation p) a b t h k = (t, (h, (k, tt)))
-  form_takes l (negation p) a b t h k = (refl, ((t, (h, (k, tt))), tt))
-  form_takes l conjunction a b t h k = (h, k)
-  form_takes l disjunction a b t h k = (h, k)
+  form_takes l f a b t h k = search (arith, rules)
 
   turned_takes : (l n : Bool) (e : SExpr Constant) → ETakes l e → ETakes l (turned_round n e)
   turned_takes l false e h = h

@@ -1,5 +1,5 @@
 -- An expression means the same by names and by slots.
-use Rattle.std.proofs.Common.{◌≡◌, ℕ, zero, suc, pos, ◌+◌, ◌<◌, ◌≤◌, Bool, true, false, if◌then◌else◌, List, [], ◌∷◌, ◌++◌, length, map, Option, Some, None, refl, sym, ap, ◌∙◌, subst, arith, append_assoc, inl, inr}
+use Rattle.std.proofs.Common.{◌≡◌, ℕ, zero, suc, pos, ◌+◌, ◌<◌, ◌≤◌, Bool, true, false, if◌then◌else◌, List, [], ◌∷◌, ◌++◌, length, map, Option, Some, None, refl, sym, ap, ◌∙◌, subst, arith, append_assoc, inl, inr, rules}
 use Rattle.std.proofs.lemmas.List.{length-map}
 use Rattle.std.specs.Prelude.{unwrap_or, Result, filter}
 use Rattle.std.specs.Str.{bytes_eq}
@@ -147,19 +147,12 @@ given_by (b ∷ bs) = through b.1.required (given_by bs)
 -- ---- `range` of any number of arguments
 
 range_same : (n : ℕ) (vs : List Tree) → operators.operation (range_of n) vs ≡ ranged vs
-range_same zero vs = refl
-range_same (suc zero) vs = refl
-range_same (suc (suc zero)) vs = refl
-range_same (suc (suc (suc n))) vs = refl
+range_same n vs = search (arith, rules)
 
 -- ---- groupings
 
 regroup : {A B C D : Type 0} (g : Got A) (h : Got B) (f : A → B → C) (k : C → Got D) → bind g (λ x. bind h (λ y. k (f x y))) ≡ bind (bind g (λ x. bind h (λ y. gives (f x y)))) k
-regroup (gives x) (gives y) f k = refl
-regroup (gives x) (fails e p) f k = refl
-regroup (gives x) deeper f k = refl
-regroup (fails e p) h f k = refl
-regroup deeper h f k = refl
+regroup g h f k = search (arith, rules)
 
 -- ---- one value made of others, over slots
 
@@ -179,9 +172,7 @@ module _ (world : World) (order : List Home) (calls : Calls) (scall : SCalls) (m
   -- what an operation makes of one value, and of two
   one_after : (g : Got Valued) (f : List Tree → Memory → Got Valued)
       → bind (bind g (λ r. gives (in_front r.value (record { values = []; memory = r.memory })))) (λ r. f r.values r.memory) ≡ bind g (λ r. f (r.value ∷ []) r.memory)
-  one_after (gives r) f = refl
-  one_after (fails e p) f = refl
-  one_after deeper f = refl
+  one_after g f = search (arith, rules)
 
   on_one : (o : OpId) (e : SExpr Constant) (m : Memory) → seen (made (operator o) (slots.item e none)) m ≡ bind (seen e m) (λ r. bind (operated o (r.value ∷ [])) (valued r.memory))
   on_one o e m = one_after (seen e m) (λ vs n. bind (operated o vs) (valued n))
@@ -276,10 +267,7 @@ module _ (world : World) (order : List Home) (calls : Calls) (scall : SCalls) (m
 
   -- what is not given by place is given by name, or has its default
   value_looked : (o : Option Tree) (s : Option Slot) (d : Constant) (m : Memory) → Looked o s m → seen (value_or s d) m ≡ gives (record { value = unwrap_or o (constants d); memory = m })
-  value_looked None None d m k = refl
-  value_looked None (Some s) d m k = absurd k
-  value_looked (Some v) None d m k = absurd k
-  value_looked (Some v) (Some s) d m k = ap (λ w. gives (record { value = w; memory = m })) k
+  value_looked o s d m k = search (arith, rules)
 
   filled_gives : (ps : List Parameter) (vs : List Tree) (d : ℕ) (table : Table) (ks : Pairs) (m : Memory) → KeywordsHeld table ks m → DefaultsAt world order d ps
       → (ws : List Tree) × (seen_row (filled ps (length vs) d table) m ≡ gives (record { values = ws; memory = m })) × FrontOf (map (λ p. p.1) (parameters ps vs ks)) (vs ++ ws)
@@ -523,9 +511,7 @@ module _ (world : World) (order : List Home) (calls : Calls) (scall : SCalls) (m
       turn : (v : Tree) (g : Got Listed)
           → bind (bind g (λ t. bind (seen_row behind t.memory) (λ s. gives (prefixed t.values s)))) (λ s. gives (in_front v s))
           ≡ bind (bind g (λ s. gives (in_front v s))) (λ t. bind (seen_row behind t.memory) (λ s. gives (prefixed t.values s)))
-      turn v (gives t) = inner v t.values (seen_row behind t.memory)
-      turn v (fails e' p) = refl
-      turn v deeper = refl
+      turn v g = search (arith, rules, inner, values)
 
   pub row_in_front : {X : Type 0} {m : Memory} {g : Got (List Tree)} (ts : Exprs) (sp : Spot) (S : X → Listed → Type 0) (f : List Tree → Got X) (behind : SRow Constant)
       → Both (Counted sp m (count ts)) g (seen_row (resolved_row world order ts sp none) m)

@@ -1,5 +1,5 @@
 -- Where `super()` is not called, a tree breaks the same rule in a block and outside.
-use Rattle.std.proofs.Common.{◌≡◌, Bool, true, false, ◌&&◌, if◌then◌else◌, List, [], ◌∷◌, Option, Some, None, refl, ap, ◌∙◌}
+use Rattle.std.proofs.Common.{◌≡◌, Bool, true, false, ◌&&◌, if◌then◌else◌, List, [], ◌∷◌, Option, Some, None, refl, ap, ◌∙◌, arith, rules}
 use Rattle.std.specs.Prelude.{not, ◌||◌, codes}
 use Rattle.std.specs.Option.{option_or, is_some}
 use Rattle.std.specs.Str.{bytes_eq}
@@ -46,35 +46,24 @@ module _ (world : World) (h : Home) where
   CallSame c w f ts ps = call_broken world h c w f ts ps ≡ call_broken world h c (out_of w) f ts ps
 
   alone_without : (r s : Bool) (w : Within) (f : Expr) (ts : Exprs) (ps : written.Pairs) → s ≡ false → CallSame (if r then a_range else if s then a_super else no_callee) w f ts ps
-  alone_without true s w f ts ps e = refl
-  alone_without false true w f ts ps e = absurd (cc)
-  alone_without false false w f ts ps e = refl
+  alone_without r s w f ts ps e = search (arith, rules)
 
   named_without : (m : Option Given) (x : Text) (w : Within) (f : Expr) (ts : Exprs) (ps : written.Pairs) → bytes_eq x (codes "super") ≡ false → CallSame (named_alone world.sources m x) w f ts ps
-  named_without (Some (one_macro k m)) x w f ts ps e = refl
-  named_without (Some (library n)) x w f ts ps e = refl
-  named_without None x w f ts ps e = alone_without (bytes_eq x (codes "range")) (bytes_eq x (codes "super")) w f ts ps e
+  named_without m x w f ts ps e = search (arith, rules, alone_without)
 
   of_without : (n : Text) (o : Option MacroBody) (w : Within) (f : Expr) (ts : Exprs) (ps : written.Pairs) → CallSame (of_library world.sources n o) w f ts ps
   of_without n None w f ts ps = refl
   of_without n (Some m) w f ts ps = refl
 
   in_without : (o : Option Given) (x : Text) (w : Within) (f : Expr) (ts : Exprs) (ps : written.Pairs) → CallSame (in_library world.sources o x) w f ts ps
-  in_without None x w f ts ps = refl
-  in_without (Some (one_macro k m)) x w f ts ps = refl
-  in_without (Some (library n)) x w f ts ps = of_without n (public_macro x (macros world.sources (a_library n))) w f ts ps
+  in_without o x w f ts ps = search (arith, rules, of_without)
 
   member_without : (r s t : Bool) (o : Option Given) (x : Text) (w : Within) (f : Expr) (ts : Exprs) (ps : written.Pairs)
       → CallSame (if r then a_block x else if s then (if t then a_cycle else no_callee) else in_library world.sources o x) w f ts ps
-  member_without true s t o x w f ts ps = refl
-  member_without false true true o x w f ts ps = refl
-  member_without false true false o x w f ts ps = refl
-  member_without false false t o x w f ts ps = in_without o x w f ts ps
+  member_without r s t o x w f ts ps = search (arith, rules, in_without)
 
   call_without : (f : Expr) (w : Within) (ts : Exprs) (ps : written.Pairs) → is_super f ≡ false → CallSame (callee world.sources (given world.sources h) f) w f ts ps
-  call_without (name x) w ts ps e = named_without (given_to x (given world.sources h)) x w (name x) ts ps e
-  call_without (attribute (name of) x) w ts ps e = member_without (bytes_eq of (codes "self")) (bytes_eq of (codes "loop")) (bytes_eq x (codes "cycle")) (given_to of (given world.sources h)) x w (attribute (name of) x) ts ps
-  call_without f w ts ps e = refl
+  call_without f w ts ps e = search (arith, rules, named_without, member_without)
 
   mutual
     pub expr_without : (e : Expr) (w : Within) → has_super e ≡ false → broken world h e w ≡ broken world h e (out_of w)
