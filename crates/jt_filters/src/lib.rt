@@ -26,5 +26,5 @@ mod texts;
 mod unique;
 
 pub use filters::apply;
-pub use jt_ids::{FilterId, Naming, OpId, TestId};
+pub use jt_ids::{FilterId, OpId, TestId};
 pub use jt_ops::{Limits, OpError, binary, binary_owned, range, test, unary};
