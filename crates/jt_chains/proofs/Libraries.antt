@@ -81,10 +81,6 @@ home_libraries ps qs hs i f same lt at once whole =
     (home_along ps qs hs i f f.templates.items same refl lt at once whole (λ n b. libraries_in b) ∙ ap (λ h. flat_map (λ t. libraries_in t.body) (templates s h)) (name_of_home hs i f lt at))
     ∙ sym (ap (libraries s) (name_of_home hs i f lt at))
 
-pub library_is : (h : chain.Home) (n : Text) → same_home h (a_library n) ≡ true → h ≡ a_library n
-library_is (chain.a_chain m) n e = absurd (cc)
-library_is (a_library m) n e = ap a_library ((bytes_eq-Decides m n).0 e)
-
 -- the statements of a library
 here_alone : (n : Text) (b : Body) → first_body (library_template n (Some b)) ≡ (if holds_macros b then b else end)
 here_alone n b = by (holds_macros b)

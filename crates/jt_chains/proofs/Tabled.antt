@@ -7,7 +7,7 @@ use Rattle.std.proofs.lemmas.List.{length-map}
 use Rattle.std.proofs.lemmas.Option.{slice_get_past}
 use Rattle.std.specs.Str.{bytes_eq}
 use Rattle.jt_trees.specs.Expressions.{Text}
-use Rattle.jt_trees.specs.Statements.{Parameter, Stmt, data_of, print, choose, for_each, set, set_block, with_values, filter_block, autoescape, macro, include, import_as, import_from, extends, block, Body, end, stmt}
+use Rattle.jt_trees.specs.Statements.{Parameter, Stmt, data_of, print, choose, for_each, set, set_block, with_values, filter_block, autoescape, macro, include, import_as, import_from, extends, block, Body}
 use Rattle.jt_trees.specs.StatementView.{stmts_of}
 use Rattle.jt_chains.specs.Chain.{MacroBody, is_private, macro_of, macros_in, public_macro}
 use Rattle.jt_chains.specs.Tables.{Table, IsTable, library_macros, macro_place, as_macro}

@@ -1,5 +1,5 @@
 -- Tables of names: where a name stands first among templates, and among the macros of a library.
-use Rattle.std.specs.Prelude.{◌≡◌, ℕ, suc, true, false, if◌then◌else◌, List, [], ◌∷◌, length, Option, Some, None, unwrap_or}
+use Rattle.std.specs.Prelude.{◌≡◌, ℕ, suc, true, false, if◌then◌else◌, List, [], length, Option, Some, None, unwrap_or}
 use Rattle.std.specs.declared.string.String.{String}
 use Rattle.std.specs.declared.alloc.Global.{Global}
 use Rattle.std.specs.Coded.{×_prop, Coded-set, coded_ℕ, coded_bool, coded_option, Π_prop}

@@ -1,12 +1,12 @@
 //! What the names of a chain are given to: its own macros, those of libraries, and libraries.
 
-ghost use Rattle.std.specs.Prelude.{◌≡◌, ◌<◌, ◌≤◌, ◌++◌, [], List, length, map, option_map, not, if◌then◌else◌, false, IfOk, IfSome, IfNone};
+ghost use Rattle.std.specs.Prelude.{◌≡◌, ◌<◌, ◌≤◌, ◌++◌, [], List, length, map, option_map, not, if◌then◌else◌, IfOk};
 ghost use Rattle.std.specs.List.{list_any};
 ghost use Rattle.jt_trees.specs.StatementView.{stmt_view, body_view, given_view};
 ghost use Rattle.jt_chains.specs.Chain as chains;
 ghost use Rattle.jt_chains.specs.Chain.{Template, templates, macros, own, all_given_from, imports_in, libraries_in, libraries, given, sources_in, a_library};
 ghost use Rattle.jt_chains.specs.Along.{along, first_body};
-ghost use Rattle.jt_chains.specs.Pages.{pages_view, home_view};
+ghost use Rattle.jt_chains.specs.Pages.{pages_view};
 ghost use Rattle.jt_chains.specs.Parts.{macro_view, macros_view};
 ghost use Rattle.jt_chains.specs.Places.{home_at, place_of};
 ghost use Rattle.jt_chains.specs.Named.{names_view};
@@ -310,27 +310,4 @@ impl Chain {
     {
         body_of_library(self, name)
     }
-
-    /// The place of a library among the chains and libraries.
-    pub fn library_place(&self, name: &str) -> Option<usize>
-        ensures found { IfSome result
-            (λ i. home_at (chain_view self.now).order i ≡ a_library name.now) }
-        ensures within { IfSome result (λ i. i < length self.now.homes.items) }
-        ensures none { IfNone result
-            (chains.listed (a_library name.now) (chain_view self.now).order ≡ false) }
-    {
-        for place in 0..self.homes.len() {
-            if is_library(&self.homes[place], name) {
-                return Some(place);
-            }
-        }
-        None
-    }
-}
-
-/// Whether it is the library of a name.
-fn is_library(home: &Home, name: &str) -> bool
-    ensures { result ≡ chains.same_home (home_view home.now) (a_library name.now) }
-{
-    home.is_library && home.name.as_str() == name
 }

@@ -2,8 +2,8 @@
 //!
 //! `chain` (chaining) reads each template once (reading, shelf), goes its way to the root (way),
 //! finds what is reached (discovery, including, importing), and looks at the rules (rules, supers).
-//! Where sources come from is the trait `Library` (library). Read first: specs/Chains.antt, which
-//! chains an entry has.
+//! Names are kept in order (sets). Where sources come from is the trait `Library` (library), and
+//! that a refusal lasts is a law (laws). Read first: specs/Chains.antt, which chains an entry has.
 #![tactic(auto)]
 
 mod chaining;

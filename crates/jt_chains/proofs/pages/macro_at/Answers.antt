@@ -1,5 +1,5 @@
 use borrow.Author.Tests.{ltb-true}
-use Rattle.std.proofs.Common.{map, sym, ap, ◌∙◌}
+use Rattle.std.proofs.Common.{sym, ap, ◌∙◌}
 use Rattle.std.specs.Prelude.{option_and_then}
 use Rattle.jt_trees.specs.StatementView.{stmt_view}
 use Rattle.jt_chains.specs.Parts.{name_at}

@@ -1,4 +1,4 @@
-use Rattle.std.proofs.Common.{map, subst, sym, ap, ◌∙◌, Some, None}
+use Rattle.std.proofs.Common.{map, subst, sym, ap, ◌∙◌, Some}
 use Rattle.jt_trees.specs.StatementView.{stmt_view, body_of}
 use Rattle.jt_chains.specs.Chain.{macro_of}
 use Rattle.jt_chains.specs.Parts.{name_at}
