@@ -4,10 +4,14 @@ ghost use Rattle.jt_escape.specs.Escaping.{escaped, escaped_byte};
 
 use jt_budget::{Budget, Spent};
 
-// Whether a byte is written as it is.
+// Whether a byte is written as it is. Those above the last one that is not, as letters, are found by one comparison.
+#[tactic(auto, using(crate::proofs::Computed::kept_above))]
 fn is_kept(byte: u8) -> bool
     ensures { result ≡ true → escaped_byte byte ≡ byte ∷ [] }
 {
+    if byte > b'>' {
+        return true;
+    }
     !matches!(byte, b'&' | b'<' | b'>' | b'\'' | b'"')
 }
 
@@ -30,9 +34,13 @@ fn stays_plain(plain: bool, byte: u8) -> bool
 }
 
 // How many bytes are written for one.
+#[tactic(auto, using(crate::proofs::Computed::kept_above))]
 fn escaped_len(byte: u8) -> u64
     ensures { result ≡ length (escaped_byte byte) }
 {
+    if byte > b'>' {
+        return 1;
+    }
     match byte {
         b'&' | b'\'' | b'"' => 5,
         b'<' | b'>' => 4,
