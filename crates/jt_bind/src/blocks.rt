@@ -50,7 +50,7 @@ impl<'a> Tables<'a> {
     }
 }
 
-impl<'s, 'a> Resolver<'s, 'a> {
+impl<'t, 's, 'a> Resolver<'t, 's, 'a> {
     /// What the parameters of a block's bodies read, in a row.
     pub(crate) fn block_arguments(
         &self,

@@ -74,7 +74,7 @@ pub(crate) fn entered<'a>(
     Ok(Inside { frames, free })
 }
 
-impl<'s, 'a> Resolver<'s, 'a> {
+impl<'t, 's, 'a> Resolver<'t, 's, 'a> {
     /// Puts what the names read, into locals from the first that holds nothing, behind other
     /// statements.
     pub(crate) fn put_copies(&self, names: &[&str], done: &mut Vec<SStmt>) -> Result<(), NoMemory>

@@ -34,7 +34,7 @@ use jt_resolved::{Maker, SExpr};
 use jt_trees::{BinaryOperator, Expr};
 use jt_value::{NoMemory, Value};
 
-impl<'s, 'a> Resolver<'s, 'a> {
+impl<'t, 's, 'a> Resolver<'t, 's, 'a> {
     /// Resolves an expression.
     #[tactic(auto, using(jt_trees::proofs::ExpressionViews::view_List, jt_trees::proofs::ExpressionViews::view_Map, jt_trees::proofs::ExpressionViews::view_Attribute))]
     #[cycle(expressions)]
@@ -404,11 +404,12 @@ impl<'s, 'a> Resolver<'s, 'a> {
             → RowAdds (asides_of self.now (written.pairs_view pairs.now) left) left done.old done.new
             pool.old pool.new) }
     {
-        let mut here = *self;
+        let mut spot = self.spot;
         for (_, value) in pairs {
+            let here = Resolver { spot, ..*self };
             let next = here.resolve_expression(value, pool)?;
-            done.push((Some(here.spot.free), next))?;
-            here.spot.free = more(here.spot.free, 1)?;
+            done.push((Some(spot.free), next))?;
+            spot.free = more(spot.free, 1)?;
         }
         Ok(())
     }

@@ -27,7 +27,7 @@ use jt_trees::{Expr, Parameter};
 use jt_value::{NoMemory, Value};
 use std::alloc::Global;
 
-impl<'s, 'a> Resolver<'s, 'a> {
+impl<'t, 's, 'a> Resolver<'t, 's, 'a> {
     /// Fills the parameters of a macro behind those that are given by place: each has what was kept
     /// aside for its name in the locals from the first free one on, or its default.
     pub(crate) fn fill(

@@ -17,7 +17,7 @@ use jt_resolved::{SExpr, Slot};
 use jt_trees::Filtering;
 use jt_value::{NoMemory, Value};
 
-impl<'s, 'a> Resolver<'s, 'a> {
+impl<'t, 's, 'a> Resolver<'t, 's, 'a> {
     /// Puts the value of a slot through each filter.
     pub(crate) fn resolve_filterings(
         &self,

@@ -65,7 +65,7 @@ impl<'a> Tables<'a> {
     }
 }
 
-impl<'s, 'a> Resolver<'s, 'a> {
+impl<'t, 's, 'a> Resolver<'t, 's, 'a> {
     /// The slot of a name.
     pub(crate) fn slot(&self, name: &str) -> Option<Slot>
         ensures { option_map slot_view result ≡ slot_in name.now (table_of self.now) }

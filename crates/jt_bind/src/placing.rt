@@ -58,7 +58,7 @@ fn seen_by<'s, 'a>(spot: &Spot<'s, 'a>, scoped: bool) -> Spot<'s, 'a>
     if scoped { *spot } else { spot.outside() }
 }
 
-impl<'s, 'a> Resolver<'s, 'a> {
+impl<'t, 's, 'a> Resolver<'t, 's, 'a> {
     /// What an included chain is handed under a name: what the name reads, or nothing.
     fn handed(&self, with_context: bool, name: &str) -> SExpr
         ensures { (p : List Tree)
@@ -111,7 +111,7 @@ impl<'s, 'a> Resolver<'s, 'a> {
             ignore_missing,
             with_context,
         } = inclusion;
-        if !self.tables.has_source(name) {
+        if self.tables.is_missing(name) {
             return put_missing(&self.spot, line, ignore_missing, done);
         }
         let Some(place) = self.tables.chain_place(name) else {

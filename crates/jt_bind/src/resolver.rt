@@ -8,9 +8,9 @@ use std::alloc::Global;
 /// What resolves the parts of a chain where it stands: names to slots, by the tables of the chains,
 /// and literals and data to places of a pool.
 #[derive(Clone, Copy)]
-pub(crate) struct Resolver<'s, 'a> {
+pub(crate) struct Resolver<'t, 's, 'a> {
     pub alloc: Global,
-    pub tables: &'s Tables<'a>,
+    pub tables: &'t Tables<'a>,
     pub spot: Spot<'s, 'a>,
 }
 

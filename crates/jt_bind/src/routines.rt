@@ -67,7 +67,7 @@ fn sets_names(statement: &Stmt) -> bool
     }
 }
 
-impl<'s, 'a> Resolver<'s, 'a> {
+impl<'t, 's, 'a> Resolver<'t, 's, 'a> {
     /// Resolves a body in a scope of its own, with these parameters.
     fn resolve_routine(
         &self,

@@ -15,7 +15,7 @@ use jt_resolved::{SExpr, Slot};
 use jt_value::NoMemory;
 use std::alloc::Global;
 
-impl<'s, 'a> Resolver<'s, 'a> {
+impl<'t, 's, 'a> Resolver<'t, 's, 'a> {
     /// What names read, in a row.
     pub(crate) fn reads(&self, names: &[&str]) -> Result<Vec<(Option<usize>, SExpr)>, NoMemory>
         ensures { IfOk result (λ row. (p : List Tree)

@@ -28,7 +28,7 @@ use jt_resolved::{Place, SExpr, SStmt, Slot, Targets};
 use jt_trees::{Expr, Stmt};
 use jt_value::{NoMemory, Value};
 
-impl<'s, 'a> Resolver<'s, 'a> {
+impl<'t, 's, 'a> Resolver<'t, 's, 'a> {
     /// Resolves statements, behind others that are resolved.
     #[cycle(statements)]
     pub(crate) fn resolve_body(
@@ -362,12 +362,13 @@ impl<'s, 'a> Resolver<'s, 'a> {
             (values_of self.now (written.pairs_view pairs.now) line behind) behind
             done.old.items done.new.items (values pool.old) (values pool.new)) }
     {
-        let mut here = *self;
+        let mut spot = self.spot;
         for (_, value) in pairs {
+            let here = Resolver { spot, ..*self };
             let given = here.resolve_expression(value, pool)?;
-            let target = Targets::One(Slot::Local(here.spot.free));
-            put_assign(&here.spot, line, target, given, done)?;
-            here.spot.free = more(here.spot.free, 1)?;
+            let target = Targets::One(Slot::Local(spot.free));
+            put_assign(&spot, line, target, given, done)?;
+            spot.free = more(spot.free, 1)?;
         }
         Ok(())
     }

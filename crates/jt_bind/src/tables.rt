@@ -1,7 +1,7 @@
 //! The tables of the chains and libraries, which are laid out.
 
 ghost use Rattle.std.specs.Prelude.{◌≡◌, ◌<◌, ℕ, length, get_or, IfOk};
-ghost use Rattle.std.specs.Option.{is_some};
+ghost use Rattle.std.specs.Option.{is_none};
 ghost use Rattle.jt_chains.specs.Chain.{a_chain, a_library};
 ghost use Rattle.jt_chains.specs.Places.{home_at};
 ghost use Rattle.jt_layout.specs.Laid.{IsHomeAt};
@@ -109,11 +109,11 @@ impl<'a> Tables<'a> {
         self.scope.libraries.place(name)
     }
 
-    /// Whether a template of the name was read.
-    pub(crate) fn has_source(&self, name: &str) -> bool
-        ensures { result ≡ is_some ((world_in self.now).sources name.now) }
+    /// Whether no template of the name was read.
+    pub(crate) fn is_missing(&self, name: &str) -> bool
+        ensures { result ≡ is_none ((world_in self.now).sources name.now) }
     {
-        self.scope.sources.place(name).is_some()
+        self.scope.sources.place(name).is_none()
     }
 
     /// How many units there are.

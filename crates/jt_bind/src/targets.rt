@@ -18,7 +18,7 @@ use jt_resolved::{Slot, Targets};
 use jt_value::NoMemory;
 use std::alloc::Global;
 
-impl<'s, 'a> Resolver<'s, 'a> {
+impl<'t, 's, 'a> Resolver<'t, 's, 'a> {
     /// The slot of a name that is set.
     pub(crate) fn set_slot(&self, name: &str) -> Slot
         ensures { slot_view result ≡ resolve.slot_of name.now (table_of self.now) }

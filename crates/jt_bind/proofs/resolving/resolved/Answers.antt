@@ -14,8 +14,8 @@ use Rattle.jt_bind.proofs.resolving.resolved.Goals as goal
 
 pub returns : goal.returns
 returns c =
-    let s = c.in_ok-scope.scope in
-    let same = c.in_ok-scope.ensures.chain in
+    let s = c.in_ok-tables.tables in
+    let same = c.in_ok-tables.ensures.chain in
     let p : Program = record {
       templates = c.in_ok-templates.templates;
       names = c.in_ok-names.names;

@@ -89,7 +89,7 @@ resolve_attribute-returns t c =
 pub resolve_asides-returns : goal.resolve_asides-returns
 resolve_asides-returns t c = λ left.
     let l = c.loop-value in
-    of_left _ _ _ _ _ _ _ (at_drop_all (λ (z : List Entry). asides_in c.args.self.now.tables.now (pairs_view z) l.here.spot left) c.args.pairs.now l.value-index (omega arith)) (l.invariant left)
+    of_left _ _ _ _ _ _ _ (at_drop_all (λ (z : List Entry). asides_in c.args.self.now.tables.now (pairs_view z) l.spot left) c.args.pairs.now l.value-index (omega arith)) (l.invariant left)
 
 pub resolve_asides-loop-value-preserved : goal.resolve_asides-loop-value-preserved
 resolve_asides-loop-value-preserved t c = λ left.
@@ -98,11 +98,11 @@ resolve_asides-loop-value-preserved t c = λ left.
     let ps = c.args.pairs.now in
     let x = c.loop-value-item.result in
     let rest = pairs_view (drop (l.value-index + 1) ps) in
-    let value = expr_in scope (expr_view x.1) l.here.spot in
+    let value = expr_in scope (expr_view x.1) l.spot in
     row_both _ _ _ _ _ _ _ _ _ (l.invariant left)
-    (of_whole _ _ _ _ _ _ _ (ap (λ (n : ℕ). slots.aside l.here.spot.free value (asides_in scope rest (record l.here.spot { free = n }) left)) (c.in_ok-here.ensures ∙ add-one l.here.spot.free)
-    ∙ ap (λ r. asides_in scope r l.here.spot left) (sym (pairs_left ps l.value-index x c.loop-value-test.true c.loop-value-item.is)))
-    (row_aside l.here.spot.free value (asides_in scope rest (record l.here.spot { free = c.in_ok-here.field-0 }) left) c.in_ok-next.next l.done.items _ (values l.pool) _ c.in_ok-next.ensures c.in_ok-push.ensures.items))
+    (of_whole _ _ _ _ _ _ _ (ap (λ (n : ℕ). slots.aside l.spot.free value (asides_in scope rest (record l.spot { free = n }) left)) (c.in_ok-spot.ensures ∙ add-one l.spot.free)
+    ∙ ap (λ r. asides_in scope r l.spot left) (sym (pairs_left ps l.value-index x c.loop-value-test.true c.loop-value-item.is)))
+    (row_aside l.spot.free value (asides_in scope rest (record l.spot { free = c.in_ok-spot.field-0 }) left) c.in_ok-next.next l.done.items _ (values l.pool) _ c.in_ok-next.ensures c.in_ok-push.ensures.items))
 
 pub resolve_item-returns : goal.resolve_item-returns
 resolve_item-returns t c =

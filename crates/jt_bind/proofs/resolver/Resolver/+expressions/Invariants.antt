@@ -74,7 +74,7 @@ invariant-resolve_row-loop-expr l = (left : SRow Constant) → RowLeads (row_in 
     l.initial.done.items l.done.items (values l.initial.pool) (values l.pool)
 
 abbrev pub invariant-resolve_asides-loop-value : goal.invariant-resolve_asides-loop-value
-invariant-resolve_asides-loop-value l = (left : SRow Constant) → RowLeads (asides_in l.self.tables.now (pairs_view l.pairs) l.self.spot left) (asides_in l.self.tables.now (pairs_view (drop l.value-index l.pairs)) l.here.spot left)
+invariant-resolve_asides-loop-value l = (left : SRow Constant) → RowLeads (asides_in l.self.tables.now (pairs_view l.pairs) l.self.spot left) (asides_in l.self.tables.now (pairs_view (drop l.value-index l.pairs)) l.spot left)
     l.initial.done.items l.done.items (values l.initial.pool) (values l.pool)
 
 abbrev pub invariant-resolve_entries-loop-key : goal.invariant-resolve_entries-loop-key

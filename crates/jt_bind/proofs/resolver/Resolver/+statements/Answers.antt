@@ -188,14 +188,14 @@ resolve_statement-returns-in_ok-shown-in-FilterBlock t c =
     let us = c.deref-in-FilterBlock.result.now in
     let fs = filterings_view c.deref-in-FilterBlock-2.result.now in
     let b = body_view us in
-    let free = c.in_ok-more-in-FilterBlock.field-0 in
+    let free = c.in_ok-inside-in-FilterBlock.field-0 in
     let inside = spot_in scope (record spot { free = free }) in
     let first = alone (slots.capture spot.escaping (slots.local spot.free) (scoped_in scope b inside)) in
     let second = alone (slots.print (line_in scope spot v.line) spot.escaping (resolved_filters (world_in scope) (order_in scope) fs inside (slots.variable (slots.local spot.free)))) in
     IfOk-weaker c.put_print.result _ _ (λ u h. stmt_as scope spot (trees.filter_block v.line fs b) (stmt_view c.args.statement.now) _ _ _ _
     (ap (λ z. trees.filter_block v.line (filterings_view z) b) c.deref-in-FilterBlock-2.ensures.value ∙ ap (λ z. trees.filter_block v.line (filterings_view v.filterings.items) (body_view z)) c.deref-in-FilterBlock.ensures.value
     ∙ sym (ap stmt_view v.is ∙ view_FilterBlock v.line v.filterings v.body))
-    (led_of T (followed first second) _ _ _ _ _ (filter_shown scope spot v.line fs b free c.in_ok-more-in-FilterBlock.ensures)
+    (led_of T (followed first second) _ _ _ _ _ (filter_shown scope spot v.line fs b free c.in_ok-inside-in-FilterBlock.ensures)
     (led_both T first second _ _ _ _ _ _ c.in_ok-resolve_text-in-FilterBlock.ensures (h scope _ _ _ c.in_ok-shown-in-FilterBlock.ensures)))) c.put_print.ensures
 
 pub resolve_statement-returns-in-Autoescape : goal.resolve_statement-returns-in-Autoescape

@@ -1,4 +1,4 @@
-use Rattle.std.proofs.Common.{List, [], arith}
+use Rattle.std.proofs.Common.{ℕ, List, [], ap, arith}
 use Rattle.std.specs.Prelude.{if◌then◌else◌}
 use Rattle.std.proofs.lemmas.List.{at_drop_all}
 use denote.Ref.{Bor}
@@ -8,7 +8,7 @@ use Rattle.jt_resolved.specs.View.{expr_view}
 use Rattle.jt_names.specs.Names.{texts}
 use Rattle.jt_bind.specs.Scoped.{spot_in, templates_in}
 use Rattle.jt_bind.specs.Stated.{line_in}
-use Rattle.jt_bind.proofs.LeadingBodies.{lead_both, lead_left}
+use Rattle.jt_bind.proofs.LeadingBodies.{lead_both, lead_of, lead_left}
 use Rattle.jt_bind.proofs.Stating.{hand_step}
 use Rattle.jt_bind.proofs.resolver.Resolver.hand_on.Goals as goal
 
@@ -18,7 +18,7 @@ loop-name-preserved c = λ left p.
     let scope = c.args.self.now.tables.now in
     let spot = c.args.self.now.spot in
     lead_both (templates_in scope) _ _ _ _ _ _ _ _ _ (l.invariant left p)
-    (hand_step (templates_in scope) (line_in scope spot c.args.line) (if c.args.with_context then (spot_in scope spot).table else []) c.args.there.now.names.items l.name-index l.global c.in_ok-global.global _ (expr_view c.handed-value.result) l.done.items c.put_assign.new.done.items
+    (hand_step (templates_in scope) (line_in scope spot c.args.line) (if c.args.with_context then (spot_in scope spot).table else []) c.deref-name-items.result.now l.name-index l.global c.in_ok-global.global _ (expr_view c.handed-value.result) l.done.items c.put_assign.new.done.items
     c.loop-name-test.true c.in_ok-global.ensures (λ k q r. c.in_ok-put_assign.ensures scope k q r) c.handed-value.ensures left p)
 
 pub returns : goal.returns
@@ -26,5 +26,6 @@ returns c = λ p left.
     let l = c.loop-name in
     let scope = c.args.self.now.tables.now in
     let spot = c.args.self.now.spot in
-    lead_left (templates_in scope) _ _ _ _ _ _ _
-    (at_drop_all (λ (z : List (Bor Text)). followed (handed_on (line_in scope spot c.args.line) (if c.args.with_context then (spot_in scope spot).table else []) l.global (texts z)) left) c.args.there.now.names.items l.name-index (omega arith)) (l.invariant left p)
+    let handed = λ (n : ℕ) (z : List (Bor Text)). followed (handed_on (line_in scope spot c.args.line) (if c.args.with_context then (spot_in scope spot).table else []) n (texts z)) left in
+    lead_of (templates_in scope) _ _ _ _ _ _ _ (ap (handed c.args.there.now.first_slot) c.deref-name-items.ensures.value)
+    (lead_left (templates_in scope) _ _ _ _ _ _ _ (at_drop_all (handed l.global) c.deref-name-items.result.now l.name-index (omega arith)) (l.invariant left p))

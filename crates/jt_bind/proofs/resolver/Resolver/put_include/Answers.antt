@@ -1,4 +1,4 @@
-use Rattle.std.proofs.Common.{◌≡◌, refl, ℕ, [], sym, ap, ◌∙◌, subst, true, false, not, Option}
+use Rattle.std.proofs.Common.{◌≡◌, refl, ℕ, [], sym, ap, ◌∙◌, subst, true, false, Option}
 use Rattle.std.specs.Option.{is_none}
 use Rattle.std.proofs.lemmas.Result.{IfOk-weaker}
 use Rattle.jt_resolved.specs.Slots as slots
@@ -17,7 +17,7 @@ returns-in_default c =
     let i = c.args.inclusion in
     let x = i.name.now in
     let T = templates_in scope in
-    let there : is_none ((world_in scope).sources x) ≡ false = sym c.has_source.ensures ∙ ap not c.if-not-has_source.false in
+    let there : is_none ((world_in scope).sources x) ≡ false = sym c.is_missing.ensures ∙ c.if-is_missing.false in
     let P : Option ℕ → Type 0 = IsHomeAt (order_in scope) (a_chain x) in
     let absent = subst P c.in_default.is c.chain_place.ensures in
     IfOk-weaker c.put_run.result _ _ (λ u h p. led_of T _ _ _ _ _ _
@@ -25,8 +25,8 @@ returns-in_default c =
     (c.units.ensures ∙ sym (absent_unit (world_in scope) (order_in scope) x absent)))
     (h T slots.none p p (no_row _ c.new.ensures.items p))) c.put_run.ensures
 
-pub at-requires : goal.at-requires
-at-requires c =
+pub at-there-requires : goal.at-there-requires
+at-there-requires c =
     let P : Option ℕ → Type 0 = IsHomeAt (order_in c.args.self.now.tables.now) (a_chain c.args.inclusion.name.now) in
     (subst P c.in-Some.is c.chain_place.ensures).0
 
@@ -39,7 +39,7 @@ returns c =
     let world = world_in scope in
     let order = order_in scope in
     let chain = c.at-there.result.now in
-    let there : is_none (world.sources x) ≡ false = sym c.has_source.ensures ∙ ap not c.if-not-has_source.false in
+    let there : is_none (world.sources x) ≡ false = sym c.is_missing.ensures ∙ c.if-is_missing.false in
     let P : Option ℕ → Type 0 = IsHomeAt order (a_chain x) in
     let is = (subst P c.in-Some.is c.chain_place.ensures).1 in
     let laid = c.at-there.ensures in
@@ -48,11 +48,11 @@ returns c =
     (laid.named ∙ ap (names world order) is) (laid.chain_unit x is))
     (led_both T _ _ _ _ _ _ _ _ (c.in_ok-hand_on.ensures p) (h T slots.none p p (no_row _ c.new-2.ensures.items p)))) c.put_run-2.ensures
 
-pub returns-then-not-has_source : goal.returns-then-not-has_source
-returns-then-not-has_source c =
+pub returns-then-is_missing : goal.returns-then-is_missing
+returns-then-is_missing c =
     let scope = c.args.self.now.tables.now in
     let i = c.args.inclusion in
     let x = i.name.now in
-    let none : is_none ((world_in scope).sources x) ≡ true = sym c.has_source.ensures ∙ ap not c.if-not-has_source.true in
+    let none : is_none ((world_in scope).sources x) ≡ true = sym c.is_missing.ensures ∙ c.if-is_missing.true in
     IfOk-weaker c.put_missing.result _ _ (λ u h p. led_of (templates_in scope) _ _ _ _ _ _
     (include_missing scope c.args.self.now.spot i.line x i.ignore_missing i.with_context none) (h scope p)) c.put_missing.ensures

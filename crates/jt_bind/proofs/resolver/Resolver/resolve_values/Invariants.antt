@@ -7,5 +7,5 @@ use Rattle.jt_bind.specs.Stated.{values_in}
 use Rattle.jt_bind.proofs.resolver.Resolver.resolve_values.Given as goal
 
 abbrev pub invariant-loop-value : goal.invariant-loop-value
-invariant-loop-value l = (behind : SBody Constant) → BodyLeads (templates_in l.self.tables.now) (values_in l.self.tables.now (pairs_view l.pairs) l.self.spot l.line behind) (values_in l.self.tables.now (pairs_view (drop l.value-index l.pairs)) l.here.spot l.line behind)
+invariant-loop-value l = (behind : SBody Constant) → BodyLeads (templates_in l.self.tables.now) (values_in l.self.tables.now (pairs_view l.pairs) l.self.spot l.line behind) (values_in l.self.tables.now (pairs_view (drop l.value-index l.pairs)) l.spot l.line behind)
     l.initial.done.items l.done.items (values l.initial.pool) (values l.pool)
