@@ -1,5 +1,5 @@
 -- What the scanner's outcome says of a source's cut.
-use Rattle.std.proofs.Common.{◌≡◌, ℕ, ◌+◌, ◌≤◌, List, length, Result, Ok, Err, MatchResult, IfOk, IfErr, refl, arith}
+use Rattle.std.proofs.Common.{◌≡◌, ℕ, ◌+◌, ◌≤◌, List, length, Result, Ok, Err, MatchResult, IfOk, IfErr, refl, arith, rules}
 use Rattle.jt_scan.specs.declared.error.ScanError.{ScanError}
 use Rattle.jt_scan.specs.declared.error.ScanError.TheVariants as error
 use Rattle.jt_scan.specs.declared.segment.Kind.{Kind}
@@ -22,14 +22,7 @@ answers_weigh f x (Ok v) a = weighs (cut_says x (length x + 1) (f v) x a)
 answers_weigh f x (Err e) a = tt
 
 only_memory : (e : ScanError) (o : Result (List Segment) ScanError) (ss : List Segment) → o ≡ Ok ss → IsGiven e o → e ≡ error.NoMemory
-only_memory (error.UnclosedTag n) o ss h g = cc
-only_memory (error.UnclosedText n) o ss h g = cc
-only_memory (error.BadCharacter n) o ss h g = cc
-only_memory (error.BadEscape n) o ss h g = cc
-only_memory (error.NumberTooLarge n) o ss h g = cc
-only_memory (error.UnclosedRaw n) o ss h g = cc
-only_memory (error.SourceTooLong n) o ss h g = cc
-only_memory error.NoMemory o ss h g = refl
+only_memory e o ss h g = search (arith, rules)
 
 pub answers_only : {V : Type 0} (f : V → List Segment) (x : Text) (r : Result V ScanError) → Answers f x r → (ss : List Segment) → IsCut ss x → MatchResult r (λ v. f v ≡ ss) (λ e. e ≡ error.NoMemory)
 answers_only f x (Ok v) a ss c = let h = cut_found c (length x + 1) (omega arith) in cc
@@ -56,9 +49,7 @@ broken_may (behind_space h i) = broken_may i
 broken_may (behind_token b s i) = broken_may i
 
 faulty_may : {n : ℕ} {e : ScanError} {x : Text} → IsFaulty n e x → MayBe e
-faulty_may (in_tag i) = broken_may i
-faulty_may (no_endraw i r h) = tt
-faulty_may (in_comment h) = tt
+faulty_may x1 = search (arith, rules, broken_may)
 
 cuts_may : {source : Text} {e : ScanError} {ss : List Segment} {x : Text} → Cuts source (FaultyAt source e) ss x → MayBe e
 cuts_may (no_more f) = faulty_may f
@@ -68,14 +59,7 @@ found : (e : ScanError) (x : Text) → cut x (length x + 1) x ≡ Err e → IsFa
 found e x h = cut_refuses x (length x + 1) e x (omega arith) h
 
 holds : (e : ScanError) (x : Text) → IsGiven e (cut x (length x + 1) x) → IsRefusal e x
-holds (error.UnclosedTag n) x h = found _ x h
-holds (error.UnclosedText n) x h = found _ x h
-holds (error.BadCharacter n) x h = found _ x h
-holds (error.BadEscape n) x h = found _ x h
-holds (error.NumberTooLarge n) x h = found _ x h
-holds (error.UnclosedRaw n) x h = found _ x h
-holds (error.SourceTooLong n) x h = cuts_may (found _ x h).1
-holds error.NoMemory x h = tt
+holds e x h = search (arith, rules, found, cuts_may)
 
 pub answers_refused : {V : Type 0} (f : V → List Segment) (x : Text) (r : Result V ScanError) → Answers f x r → IfErr r (λ e. IsRefusal e x)
 answers_refused f x (Ok v) a = tt

@@ -1,5 +1,5 @@
 -- Bytes of a text against its characters.
-use Rattle.std.proofs.Common.{◌≡◌, ℕ, zero, suc, ◌+◌, ◌-◌, ◌<◌, ◌≤◌, ◌==◌, ◌||◌, ◌⊎◌, inl, inr, Bool, true, false, cond, List, [], ◌∷◌, ◌++◌, length, take, drop, get_or, count_by, refl, sym, ap, ap₂, subst, ◌∙◌, append-nil, arith, zero-add, length-append, length-take, IsUtf8, slice_range, Option, Some, None, unwrap_or}
+use Rattle.std.proofs.Common.{◌≡◌, ℕ, zero, suc, ◌+◌, ◌-◌, ◌<◌, ◌≤◌, ◌==◌, ◌||◌, ◌⊎◌, inl, inr, Bool, true, false, cond, List, [], ◌∷◌, ◌++◌, length, take, drop, get_or, count_by, refl, sym, ap, ap₂, subst, ◌∙◌, append-nil, arith, zero-add, length-append, length-take, IsUtf8, slice_range, Option, Some, None, unwrap_or, rules}
 use Rattle.std.proofs.lemmas.Bool.{cases_lt}
 use Rattle.std.proofs.lemmas.Bool.Decides.{nat_tests}
 use Rattle.std.proofs.lemmas.List.{take-append-drop}
@@ -82,11 +82,7 @@ count_lines t u = ap (count_by is_lf) (sym (encodes-chars t u)) ∙ count_all (c
 -- ---- two characters of ASCII that stand in front
 
 pub pair_up : (a b : ℕ) (cs : Text) → a < 128 → b < 128 → begins a b cs ≡ true → (get_or (encodes cs) 0 0 ≡ a) × (get_or (encodes cs) 1 0 ≡ b)
-pair_up a b [] la lb h = cc
-pair_up a b (c ∷ []) la lb h = cc
-pair_up a b (c ∷ d ∷ cs) la lb h =
-    let p = both (c == a) (d == b) h in let e : c ≡ a = grind (arith, nat_tests) in let f : d ≡ b = grind (arith, nat_tests) in
-    rw (e, f, encode_ascii a la, encode_ascii b lb) (refl, refl)
+pair_up a b cs la lb h = search (arith, rules, both, nat_tests, encode_ascii)
 
 byte_char : (a c : ℕ) (ys : List ℕ) → a < 128 → get_or (encode c ++ ys) 0 0 ≡ a → c ≡ a
 byte_char a c ys l h =
@@ -198,10 +194,7 @@ opens_up cs h = elim (opens_cases cs h) [
 ]
 
 any_of : (a b c : Bool) → (a ≡ true) ⊎ ((b ≡ true) ⊎ (c ≡ true)) → (a || b || c) ≡ true
-any_of true b c h = refl
-any_of false true c h = refl
-any_of false false true h = refl
-any_of false false false h = elim h [ inl e ↦ cc | inr o ↦ elim o [ inl e ↦ cc | inr e ↦ cc ] ]
+any_of a b c h = search (arith, rules)
 
 opens_down : (cs : Text) → OpensAt (encodes cs) 0 → opens cs ≡ true
 opens_down cs p = any_of (begins 123 123 cs) (begins 123 37 cs) (begins 123 35 cs) (elim (second_cases (get_or (encodes cs) 1 0) p.1) [
@@ -243,9 +236,7 @@ past_end (x ∷ b) zero h = absurd (omega arith)
 past_end (x ∷ b) (suc i) h = past_end b i (omega arith)
 
 reads : (b : List ℕ) (k : ℕ) → PairAt 35 125 b k → (j : ℕ) → j < 2 → get_or b (k + j) 0 ≡ get_or (35 ∷ 125 ∷ []) j 0
-reads b k p zero h = ap (λ m. get_or b m 0) (let e : k + 0 ≡ k = omega arith in e) ∙ p.0
-reads b k p (suc zero) h = p.1
-reads b k p (suc (suc j)) h = absurd (omega arith)
+reads b k p x4 h = search (arith, rules)
 
 fits : (b : List ℕ) (k : ℕ) → get_or b (k + 1) 0 ≡ 125 → k + 2 ≤ length b
 fits b k h = elim (cases_lt (k + 1) (length b)) [

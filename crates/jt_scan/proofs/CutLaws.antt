@@ -1,5 +1,5 @@
 -- The one cut of a source is found, and a refusal holds.
-use Rattle.std.proofs.Common.{◌≡◌, ℕ, zero, suc, ◌+◌, ◌<◌, ◌||◌, ◌⊎◌, inl, inr, Bool, true, false, List, [], ◌∷◌, ◌++◌, length, drop, refl, sym, ap, subst, ◌∙◌, arith, Option, Some, None, Result, Ok, Err, append-nil}
+use Rattle.std.proofs.Common.{◌≡◌, ℕ, zero, suc, ◌+◌, ◌<◌, ◌||◌, ◌⊎◌, inl, inr, Bool, true, false, List, [], ◌∷◌, ◌++◌, length, drop, refl, sym, ap, subst, ◌∙◌, arith, Option, Some, None, Result, Ok, Err, append-nil, rules}
 use Rattle.jt_scan.specs.declared.error.ScanError.{ScanError}
 use Rattle.jt_scan.specs.declared.error.ScanError.TheVariants.{UnclosedTag, UnclosedRaw}
 use Rattle.jt_scan.specs.declared.segment.Kind.{Kind}
@@ -27,10 +27,7 @@ comment_found : (n : ℕ) (x rest : Text) → NoneBegins ends_comment x (35 ∷ 
 comment_found n x rest h = rw (clear_of ends_comment x (35 ∷ 125 ∷ rest) h refl) refl
 
 none : (a b c : Bool) → (a || b || c) ≡ false → (a ≡ false) × (b ≡ false) × (c ≡ false)
-none false false false h = (refl, refl, refl)
-none true b c h = cc
-none false true c h = cc
-none false false true h = cc
+none a b c h = search (arith, rules)
 
 opens_none : (x : Text) → opens x ≡ false → (begins 123 123 x ≡ false) × (begins 123 37 x ≡ false) × (begins 123 35 x ≡ false)
 opens_none x h = none (begins 123 123 x) (begins 123 37 x) (begins 123 35 x) h

@@ -1,5 +1,5 @@
 -- A number in front is found, the longest one, and nothing else is.
-use Rattle.std.proofs.Common.{◌≡◌, ℕ, ◌+◌, ◌*◌, ◌-◌, ◌<◌, ◌≤◌, ◌==◌, ◌&&◌, ◌||◌, nat_lt, nat_le, Bool, true, false, cond, [], ◌∷◌, ◌++◌, length, refl, sym, ap, subst, ◌∙◌, arith, length-append, Option, Some, None}
+use Rattle.std.proofs.Common.{◌≡◌, ℕ, ◌+◌, ◌*◌, ◌-◌, ◌<◌, ◌≤◌, ◌==◌, ◌&&◌, ◌||◌, nat_lt, nat_le, Bool, true, false, cond, [], ◌∷◌, ◌++◌, length, refl, sym, ap, subst, ◌∙◌, arith, length-append, Option, Some, None, rules}
 use Rattle.std.proofs.lemmas.Bool.Decides.{nat_tests}
 use Rattle.jt_scan.specs.Literals.{Text, digit_value, is_digit, digit_first, Digits, no_digit, digit, spaced, goes_on, base_of, names_base, Numeral, decimal, zeros, based}
 use Rattle.jt_scan.specs.Scanning.{digits_at, next_digit, based_at, number_at}
@@ -101,9 +101,7 @@ or_true false = refl
 
 -- where a digit goes on in all, and none behind the digits, they have one
 goes_on_front : (base n m : ℕ) (x rest : Text) → Digits base n x m → goes_on base (x ++ rest) ≡ true → goes_on base rest ≡ false → goes_on base x ≡ true
-goes_on_front base n m x rest no_digit h f = let g = sym h ∙ f in cc
-goes_on_front base n m x rest (digit d g) h f = rw d refl
-goes_on_front base n m x rest (spaced {c} d g) h f = rw d (or_true (is_digit base 95))
+goes_on_front base n m x rest x6 h f = search (arith, rules, or_true)
 
 pub number_found : {s : Text} {n : ℕ} {rest : Text} → Numeral s n rest → (c : ℕ) × (x : Text) × (s ≡ c ∷ x) × (is_digit 10 c ≡ true) × (number_at c (x ++ rest) ≡ (n, rest))
 unfolding digit_value

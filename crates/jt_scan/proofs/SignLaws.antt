@@ -1,5 +1,5 @@
 -- A sign in front is found, the longest one, and nothing else is.
-use Rattle.std.proofs.Common.{◌≡◌, ℕ, ◌<◌, nat_lt, ◌&&◌, ◌||◌, ◌==◌, Bool, true, false, [], ◌∷◌, ◌++◌, length, Option, Some, None, refl, sym, ap, ap₂, subst, ◌∙◌, arith, cond}
+use Rattle.std.proofs.Common.{◌≡◌, ℕ, ◌<◌, nat_lt, ◌&&◌, ◌||◌, ◌==◌, Bool, true, false, [], ◌∷◌, ◌++◌, length, Option, Some, None, refl, sym, ap, ap₂, subst, ◌∙◌, arith, cond, rules}
 use Rattle.std.proofs.lemmas.Bool.Decides.{nat_tests}
 use Rattle.std.specs.Char.{is_ascii_alphabetic}
 use Rattle.jt_scan.specs.declared.segment.Sign.{Sign}
@@ -12,48 +12,7 @@ use Rattle.jt_scan.proofs.Tables.{no_start}
 
 pub sign_found : (t : Sign) (rest : Text) → SignEnds t rest → sign_at (sign_text t ++ rest) ≡ Some (t, rest)
 unfolding sign_at
-sign_found s.Plus [] h = refl
-sign_found s.Plus (d ∷ rest) h = refl
-sign_found s.Minus [] h = refl
-sign_found s.Minus (d ∷ rest) h = refl
-sign_found s.Times [] h = refl
-sign_found s.Times (d ∷ rest) h = rw h refl
-sign_found s.Percent [] h = refl
-sign_found s.Percent (d ∷ rest) h = refl
-sign_found s.Tilde [] h = refl
-sign_found s.Tilde (d ∷ rest) h = refl
-sign_found s.Less [] h = refl
-sign_found s.Less (d ∷ rest) h = rw h refl
-sign_found s.Greater [] h = refl
-sign_found s.Greater (d ∷ rest) h = rw h refl
-sign_found s.Assign [] h = refl
-sign_found s.Assign (d ∷ rest) h = rw h refl
-sign_found s.Dot [] h = refl
-sign_found s.Dot (d ∷ rest) h = refl
-sign_found s.Comma [] h = refl
-sign_found s.Comma (d ∷ rest) h = refl
-sign_found s.Colon [] h = refl
-sign_found s.Colon (d ∷ rest) h = refl
-sign_found s.Pipe [] h = refl
-sign_found s.Pipe (d ∷ rest) h = refl
-sign_found s.LeftParen [] h = refl
-sign_found s.LeftParen (d ∷ rest) h = refl
-sign_found s.RightParen [] h = refl
-sign_found s.RightParen (d ∷ rest) h = refl
-sign_found s.LeftBracket [] h = refl
-sign_found s.LeftBracket (d ∷ rest) h = refl
-sign_found s.RightBracket [] h = refl
-sign_found s.RightBracket (d ∷ rest) h = refl
-sign_found s.LeftBrace [] h = refl
-sign_found s.LeftBrace (d ∷ rest) h = refl
-sign_found s.RightBrace [] h = refl
-sign_found s.RightBrace (d ∷ rest) h = refl
-sign_found s.Power rest h = refl
-sign_found s.FloorDivide rest h = refl
-sign_found s.Equal rest h = refl
-sign_found s.NotEqual rest h = refl
-sign_found s.LessEqual rest h = refl
-sign_found s.GreaterEqual rest h = refl
+sign_found t rest h = search (arith, rules)
 
 -- some sign is found where a sign's spelling stands
 alone_there : (t : Sign) (o : Option Sign) (x : Text) → o ≡ Some t → alone o x ≡ None → ⊥
@@ -75,30 +34,7 @@ two_there c d t (Some s) more e w h = cc
 
 sign_there : (t : Sign) (rest : Text) → sign_at (sign_text t ++ rest) ≡ None → ⊥
 unfolding sign_at
-sign_there s.Plus rest h = one_there 43 s.Plus rest refl h
-sign_there s.Minus rest h = one_there 45 s.Minus rest refl h
-sign_there s.Times rest h = one_there 42 s.Times rest refl h
-sign_there s.Percent rest h = one_there 37 s.Percent rest refl h
-sign_there s.Tilde rest h = one_there 126 s.Tilde rest refl h
-sign_there s.Less rest h = one_there 60 s.Less rest refl h
-sign_there s.Greater rest h = one_there 62 s.Greater rest refl h
-sign_there s.Assign rest h = one_there 61 s.Assign rest refl h
-sign_there s.Dot rest h = one_there 46 s.Dot rest refl h
-sign_there s.Comma rest h = one_there 44 s.Comma rest refl h
-sign_there s.Colon rest h = one_there 58 s.Colon rest refl h
-sign_there s.Pipe rest h = one_there 124 s.Pipe rest refl h
-sign_there s.LeftParen rest h = one_there 40 s.LeftParen rest refl h
-sign_there s.RightParen rest h = one_there 41 s.RightParen rest refl h
-sign_there s.LeftBracket rest h = one_there 91 s.LeftBracket rest refl h
-sign_there s.RightBracket rest h = one_there 93 s.RightBracket rest refl h
-sign_there s.LeftBrace rest h = one_there 123 s.LeftBrace rest refl h
-sign_there s.RightBrace rest h = one_there 125 s.RightBrace rest refl h
-sign_there s.Power rest h = one_there 42 s.Times (42 ∷ rest) refl h
-sign_there s.Equal rest h = one_there 61 s.Assign (61 ∷ rest) refl h
-sign_there s.LessEqual rest h = one_there 60 s.Less (61 ∷ rest) refl h
-sign_there s.GreaterEqual rest h = one_there 62 s.Greater (61 ∷ rest) refl h
-sign_there s.FloorDivide rest h = two_there 47 47 s.FloorDivide (two_sign 47 47) rest refl refl h
-sign_there s.NotEqual rest h = two_there 33 61 s.NotEqual (two_sign 33 61) rest refl refl h
+sign_there t rest h = search (arith, rules, one_there, two_there)
 
 pub no_sign : (x : Text) → sign_at x ≡ None → NoSign x
 no_sign x h = λ t rest e. sign_there t rest (ap sign_at (sym e) ∙ h)
@@ -180,30 +116,7 @@ head_is : (c n : ℕ) → n ∷ [] ≡ c ∷ [] → c ≡ n
 head_is c n h = cc
 
 shut : (c d : ℕ) (u : Sign) → sign_text u ≡ c ∷ [] → two_sign c d ≡ None → goes_on u d ≡ false
-shut c d s.Plus e h = refl
-shut c d s.Minus e h = refl
-shut c d s.Times e h = stuck (d == 42) s.Power _ (subst (λ k. two_sign k d ≡ None) (head_is c 42 e) h)
-shut c d s.Percent e h = refl
-shut c d s.Tilde e h = refl
-shut c d s.Less e h = stuck (d == 61) s.LessEqual _ (subst (λ k. two_sign k d ≡ None) (head_is c 60 e) h)
-shut c d s.Greater e h = stuck (d == 61) s.GreaterEqual _ (subst (λ k. two_sign k d ≡ None) (head_is c 62 e) h)
-shut c d s.Assign e h = stuck (d == 61) s.Equal _ (subst (λ k. two_sign k d ≡ None) (head_is c 61 e) h)
-shut c d s.Dot e h = refl
-shut c d s.Comma e h = refl
-shut c d s.Colon e h = refl
-shut c d s.Pipe e h = refl
-shut c d s.LeftParen e h = refl
-shut c d s.RightParen e h = refl
-shut c d s.LeftBracket e h = refl
-shut c d s.RightBracket e h = refl
-shut c d s.LeftBrace e h = refl
-shut c d s.RightBrace e h = refl
-shut c d s.Power e h = refl
-shut c d s.FloorDivide e h = refl
-shut c d s.Equal e h = refl
-shut c d s.NotEqual e h = refl
-shut c d s.LessEqual e h = refl
-shut c d s.GreaterEqual e h = refl
+shut c d u e h = search (arith, rules, stuck, head_is)
 
 -- what is found is spelled in front
 abbrev pub FoundSign : Sign → Text → Text → Type 0

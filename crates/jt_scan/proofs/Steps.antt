@@ -1,5 +1,5 @@
 -- Steps of outcomes, and runs of characters.
-use Rattle.std.proofs.Common.{◌≡◌, ℕ, ◌==◌, ◌&&◌, Bool, true, false, cond, [], ◌∷◌, ◌++◌, drop, refl, ap, sym, ◌∙◌, arith, Ok, Err}
+use Rattle.std.proofs.Common.{◌≡◌, ℕ, ◌==◌, ◌&&◌, Bool, true, false, cond, [], ◌∷◌, ◌++◌, drop, refl, ap, sym, ◌∙◌, arith, Ok, Err, rules}
 use Rattle.std.proofs.lemmas.Bool.Decides.{nat_tests}
 use Rattle.unicode_ident.specs.Ident.{is_xid_continue}
 use Rattle.jt_scan.specs.declared.error.ScanError.{ScanError}
@@ -33,9 +33,7 @@ begins_says a b c (d ∷ cs) h =
     (grind (arith, nat_tests), ap (λ k. k ∷ cs) e)
 
 pub opener_says : (a b : ℕ) (x : Text) → begins a b x ≡ true → x ≡ a ∷ b ∷ drop 2 x
-opener_says a b [] h = cc
-opener_says a b (c ∷ []) h = cc
-opener_says a b (c ∷ d ∷ x) h = let p = begins_says a b c (d ∷ x) h in ap (λ k. k ∷ d ∷ x) p.0 ∙ ap (λ z. a ∷ z) p.1
+opener_says a b x h = search (arith, rules, begins_says)
 
 -- a run is the longest
 run_ends : (rest : Text) → NameEnds rest → run rest ≡ ([], rest)

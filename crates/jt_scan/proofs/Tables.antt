@@ -1,5 +1,5 @@
 -- What the tables of identifiers say of whitespace and of closers: they begin no name.
-use Rattle.std.proofs.Common.{◌≡◌, ℕ, ◌<◌, ◌||◌, ◌==◌, ◌&&◌, Bool, true, false, [], ◌∷◌, ◌++◌, refl, sym, ap, ap₂, subst, ◌∙◌, arith, Option, Some}
+use Rattle.std.proofs.Common.{◌≡◌, ℕ, ◌<◌, ◌||◌, ◌==◌, ◌&&◌, Bool, true, false, [], ◌∷◌, ◌++◌, refl, sym, ap, ap₂, subst, ◌∙◌, arith, Option, Some, rules}
 use Rattle.std.proofs.lemmas.Bool.Decides.{nat_tests}
 use Rattle.std.specs.Char.{is_ascii_alphabetic}
 use Rattle.unicode_ident.proofs.IdentLemmas.{is_xid_start-ascii}
@@ -42,12 +42,7 @@ closing_head k m.Minus rest = (45, closer k ∷ 125 ∷ rest, refl, refl)
 closing_head k m.Plus rest = (43, closer k ∷ 125 ∷ rest, refl, refl)
 
 pub closer_found : (k : Kind) (mark : Mark) (rest : Text) → may_close k mark ≡ true → closer_at k (closing_text k mark rest) ≡ Some (mark, rest)
-closer_found Variable m.Absent rest h = refl
-closer_found Variable m.Minus rest h = refl
-closer_found Variable m.Plus rest h = cc
-closer_found Block m.Absent rest h = refl
-closer_found Block m.Minus rest h = refl
-closer_found Block m.Plus rest h = refl
+closer_found k mark rest h = search (arith, rules)
 
 some_parts : {a b : Mark} {u v : Text} → ◌≡◌ {A = Option (Mark × Text)} (Some (a, u)) (Some (b, v)) → (a ≡ b) × (u ≡ v)
 some_parts {a} {b} {u} {v} e = let p : ◌≡◌ {A = Mark × Text} (a, u) (b, v) = cc in (ap (λ (q : Mark × Text). q.0) p, ap (λ (q : Mark × Text). q.1) p)
@@ -65,9 +60,7 @@ may_minus Block = refl
 
 -- the mark in front, with what is behind it
 pub mark_split : (c : ℕ) (x : Text) (b d : Bool) → (c == 45) ≡ b → (c == 43) ≡ d → c ∷ x ≡ mark_text (first_mark (c ∷ x)) ++ behind_mark (c ∷ x)
-mark_split c x true d h g = let e : c ≡ 45 = grind (arith, nat_tests) in rw e refl
-mark_split c x false true h g = let e : c ≡ 43 = grind (arith, nat_tests) in rw e refl
-mark_split c x false false h g = rw (h, g) refl
+mark_split c x b d h g = search (arith, rules, nat_tests)
 
 pub marked : (x : Text) → x ≡ mark_text (first_mark x) ++ behind_mark x
 marked [] = refl

@@ -1,5 +1,5 @@
 -- A token in front is found, the longest one, and nothing else is.
-use Rattle.std.proofs.Common.{◌≡◌, ℕ, pos, ◌+◌, ◌<◌, ◌≤◌, nat_lt, Bool, true, false, [], ◌∷◌, ◌++◌, length, refl, sym, ap, subst, ◌∙◌, arith, append_assoc, length-append, Option, Some, None, Ok, Err}
+use Rattle.std.proofs.Common.{◌≡◌, ℕ, pos, ◌+◌, ◌<◌, ◌≤◌, nat_lt, Bool, true, false, [], ◌∷◌, ◌++◌, length, refl, sym, ap, subst, ◌∙◌, arith, append_assoc, length-append, Option, Some, None, Ok, Err, rules}
 use Rattle.std.proofs.lemmas.Bool.Decides.{nat_tests}
 use Rattle.jt_scan.specs.declared.error.ScanError.{ScanError}
 use Rattle.jt_scan.specs.declared.error.ScanError.TheVariants as error
@@ -57,17 +57,11 @@ quote_no_digit c h = by (is_digit 10 c) refl
 
 -- a token's spelling begins with no whitespace
 pub spelled_head : {t : Token} {s rest : Text} → Spelled t s rest → (c : ℕ) × (cs : Text) × (s ≡ c ∷ cs) × (is_space c ≡ false)
-spelled_head (a_name {c} {x} h a w) = (c, x, refl, no_space c h)
-spelled_head (a_number m le) = let f = number_found m in (f.0, f.1, f.2, digit_no_space f.0 f.3)
-spelled_head (a_text {quote} {x} h e m) = (quote, x ++ (quote ∷ []), refl, quote_no_space quote h)
-spelled_head (a_sign {s = u} a) = let hd = sign_head u in (hd.0, hd.1, hd.2, hd.4)
+spelled_head c = search (arith, rules, no_space, number_found, digit_no_space, quote_no_space, sign_head)
 
 -- a token's spelling is no shorter than its weight
 pub spelled_weighs : {t : Token} {s rest : Text} → Spelled t s rest → token_weight t ≤ length s
-spelled_weighs (a_name h a w) = omega arith
-spelled_weighs (a_number m le) = omega (arith, ap length (number_found m).2)
-spelled_weighs (a_text {quote} {x} h e m) = omega (arith, length-append x (quote ∷ []))
-spelled_weighs (a_sign {s = u} a) = omega (arith, ap length (sign_head u).2)
+spelled_weighs x1 = search (arith, rules, number_found, sign_head)
 
 -- ---- which token is looked for
 

@@ -1,5 +1,5 @@
 -- One turn of the loop over a tag's tokens, and of the loop over segments.
-use Rattle.std.proofs.Common.{◌≡◌, ℕ, zero, suc, ◌+◌, ◌<◌, ◌≤◌, ◌==◌, Bool, true, false, List, [], ◌∷◌, ◌++◌, length, drop, refl, sym, ap, ap₂, subst, ◌∙◌, arith, append_assoc, append-nil, if◌then◌else◌, codes, Option, Some, None, Result, Ok, Err, length-append, IsUtf8, cond}
+use Rattle.std.proofs.Common.{◌≡◌, ℕ, zero, suc, ◌+◌, ◌<◌, ◌≤◌, ◌==◌, Bool, true, false, List, [], ◌∷◌, ◌++◌, length, drop, refl, sym, ap, ap₂, subst, ◌∙◌, arith, append_assoc, append-nil, if◌then◌else◌, codes, Option, Some, None, Result, Ok, Err, length-append, IsUtf8, cond, rules}
 use Rattle.std.proofs.lemmas.List.Sums.{sum_by-append, count_by-le-length}
 use Rattle.std.proofs.lemmas.Str.{encodes-chars, chars-nil, length-le-encodes}
 use Rattle.std.specs.Str.{chars}
@@ -24,14 +24,7 @@ use Rattle.jt_scan.proofs.Weight.{shrinks}
 
 -- what is given of one outcome is given of another that has the same refusals
 pub given_along : {A B : Type 0} (e : ScanError) (o : Result A ScanError) (p : Result B ScanError) → (o ≡ Err e → p ≡ Err e) → IsGiven e o → IsGiven e p
-given_along (error.UnclosedTag n) o p f g = f g
-given_along (error.UnclosedText n) o p f g = f g
-given_along (error.BadCharacter n) o p f g = f g
-given_along (error.BadEscape n) o p f g = f g
-given_along (error.NumberTooLarge n) o p f g = f g
-given_along (error.UnclosedRaw n) o p f g = f g
-given_along (error.SourceTooLong n) o p f g = f g
-given_along error.NoMemory o p f g = tt
+given_along e o p f g = search (arith, rules)
 
 pub no_memory_given : {A : Type 0} (e : ScanError) (o : Result A ScanError) → e ≡ error.NoMemory → IsGiven e o
 no_memory_given e o h = subst (λ k. IsGiven k o) (sym h) tt

@@ -1,5 +1,5 @@
 -- What stands in segments takes room in their source.
-use Rattle.std.proofs.Common.{◌≡◌, ℕ, ◌+◌, ◌<◌, ◌≤◌, ◌==◌, Bool, true, false, List, [], ◌∷◌, length, drop, codes, refl, ap, arith, Option, Some, None, length-append}
+use Rattle.std.proofs.Common.{◌≡◌, ℕ, ◌+◌, ◌<◌, ◌≤◌, ◌==◌, Bool, true, false, List, [], ◌∷◌, length, drop, codes, refl, ap, arith, Option, Some, None, length-append, rules}
 use Rattle.jt_scan.specs.declared.segment.Kind.{Kind}
 use Rattle.jt_scan.proofs.TokenLaws.{spelled_weighs}
 use Rattle.jt_scan.specs.Cut.{Text, Token, Segment, tokens_weight, weight, weight_of, Inside, closed, space, token, Cuts, no_more, IsSegment, some_data, a_tag, a_comment, a_raw, more, closing_text, behind_mark, is_mark, is_space, after_space, after_word, closer_at, first_mark, marks, endraw_closed, endraw_named, endraw_at, begins}
@@ -11,9 +11,7 @@ use Rattle.jt_scan.specs.declared.segment.Mark.TheVariants as m
 use Rattle.jt_scan.specs.declared.segment.Marks.{Marks}
 
 closing_long : (k : Kind) (mark : Mark) (rest : Text) → 2 + length rest ≤ length (closing_text k mark rest)
-closing_long k m.Absent rest = omega arith
-closing_long k m.Minus rest = omega arith
-closing_long k m.Plus rest = omega arith
+closing_long k mark rest = search (arith, rules)
 
 inside_weighs : {k : Kind} {depth : ℕ} {ts : List Token} {mark : Mark} {x rest : Text} → Inside k depth ts mark x rest → 2 + tokens_weight ts + length rest ≤ length x
 inside_weighs {k} (closed {mark} {rest} ok) = omega (arith, closing_long k mark rest)
@@ -56,9 +54,7 @@ named_short opening (Some y) x ends rest le e =
     omega (arith, le y refl, space_short y, ap length s.1, closing_long kind.Block c.0 rest)
 
 drop_short : (x : Text) → length (drop 2 x) ≤ length x
-drop_short [] = omega arith
-drop_short (c ∷ []) = omega arith
-drop_short (c ∷ d ∷ x) = omega arith
+drop_short x = search (arith, rules)
 
 pub endraw_short : (x : Text) (ends : Marks) (rest : Text) → endraw_at x ≡ Some (ends, rest) → length rest < length x
 unfolding endraw_at
