@@ -110,9 +110,9 @@ fn are_maps_equal(entries: &[(String, Value)], others: &[(String, Value)]) -> bo
     has_all_keys(entries, others) && are_first_values_equal(entries, others)
 }
 
-/// Whether one map has more keys than the other has entries, which is told where its keys ascend, so
-/// that none of them stands twice. A map out of a large context is then not searched for each key of
-/// a short one.
+/// Whether one map has more keys than the other has entries, which is told where its keys ascend:
+/// then none of them stands twice. A large map of a context is so not searched for each key of a
+/// short one.
 fn differ_in_number(entries: &[(String, Value)], others: &[(String, Value)]) -> bool
     ensures { IsTrue result
         → equal (tree.map (entries_view entries.now)) (tree.map (entries_view others.now)) ≡ false }
