@@ -1,5 +1,5 @@
 -- A rule that is broken by what was read is broken in each reading.
-use Rattle.std.proofs.Common.{◌≡◌, ℕ, Bool, true, false, List, ◌++◌, refl, sym, ap, subst, ◌∙◌, Option, Some, None}
+use Rattle.std.proofs.Common.{◌≡◌, Bool, true, false, List, refl, sym, ap, ◌∙◌, Option, Some, None}
 use Rattle.std.specs.List.{AllByRecursion}
 use Rattle.std.specs.Option.{is_none}
 use Rattle.jt_scan.specs.declared.options.Options.{Options}
@@ -10,7 +10,7 @@ use Rattle.jt_chains.specs.Chain.{Sources, Home, a_chain, Template, names_up, so
 use Rattle.jt_chains.specs.Rules as rules
 use Rattle.jt_chains.specs.Rules.{Asks, Reaches, here, asked}
 use Rattle.jt_inherit.specs.Chains.{Given, IsRead, IsOnly}
-use Rattle.jt_inherit.specs.Refusals.{Shows, IsMissing}
+use Rattle.jt_inherit.specs.Refusals.{IsMissing}
 use Rattle.jt_inherit.specs.Laws.{IsReading, IsLasting, RefusalLaws}
 use Rattle.jt_inherit.proofs.Carried as carried
 use Rattle.jt_inherit.proofs.Carried.{repeated_front}

@@ -22,7 +22,7 @@ use Rattle.jt_chains.specs.Rules.{Reaches, asked, way}
 use Rattle.jt_inherit.specs.Ways.{Leads, LeadsFrom, AreKnown, IsWay, IsWithin}
 use Rattle.jt_inherit.specs.declared.error.ChainError.{ChainError}
 use Rattle.jt_inherit.specs.declared.error.ChainError.TheVariants as error
-use Rattle.jt_inherit.proofs.Among.{reflexive, or_false, among_front, among_next, once_more, comes_again, map_more, all_more}
+use Rattle.jt_inherit.proofs.Among.{among_front, among_next, once_more, comes_again, map_more, all_more}
 use Rattle.jt_chains.proofs.Placed.{only_one, map_at, place_within}
 
 abbrev pub names : List Template → List Text

@@ -1,5 +1,5 @@
 -- What only private clauses cite: tables of the numbers of names, of chains and of libraries.
-use Rattle.std.specs.Prelude.{◌≡◌, ℕ, Bool, List, Option, string_bytes}
+use Rattle.std.specs.Prelude.{◌≡◌, Bool, List, string_bytes}
 use Rattle.std.specs.List.{position_from}
 use Rattle.std.specs.declared.string.String.{String}
 use Rattle.std.specs.declared.alloc.Global.{Global}
