@@ -70,3 +70,8 @@ and_then_assoc (does s) f g = refl
 and_then_assoc (stops e q) f g = refl
 and_then_assoc too_deep f g = refl
 and_then_assoc bad f g = refl
+
+pub bind_assoc : {A B C : Type 0} (m : Got A) (f : A → Got B) (g : B → Got C) → bind (bind m f) g ≡ bind m (λ x. bind (f x) g)
+bind_assoc (gives x) f g = refl
+bind_assoc (fails e q) f g = refl
+bind_assoc deeper f g = refl
