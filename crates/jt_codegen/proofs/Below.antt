@@ -1,5 +1,5 @@
 -- Tests whether the entries of statements are few enough.
-use Rattle.std.proofs.Common.{◌≡◌, ℕ, ◌+◌, ◌-◌, max, ◌<◌, ◌≤◌, Bool, true, false, ◌&&◌, List, [], ◌∷◌, length, drop, get_or, map, Option, refl, sym, ap, ◌∙◌, subst, arith, Vec, Global}
+use Rattle.std.proofs.Common.{◌≡◌, ℕ, ◌+◌, ◌-◌, max, ◌<◌, ◌≤◌, Bool, true, false, ◌&&◌, List, [], ◌∷◌, length, drop, get_or, map, Option, refl, sym, ap, ◌∙◌, subst, arith, Vec, Global, rules}
 use Rattle.std.specs.List.{AllByRecursion}
 use Rattle.std.proofs.lemmas.List.{drop_more, at_drop_all}
 use Rattle.std.specs.Prelude.{nat_le, option_map}
@@ -92,11 +92,7 @@ module _ (room : ℕ) (templates : List Text) where
   branches_low (b ∷ bs) = (nat_le (expr_height (expr_view b.1)) room && nat_le (body_height (body_view templates b.2.items end)) room) && branches_low bs
 
   all_of : (e x l o y : Bool) → ((e && (x && ((l && o) && true))) && y) ≡ ((((e && x) && l) && o) && y)
-  all_of true true true true y = refl
-  all_of true true true false y = refl
-  all_of true true false o y = refl
-  all_of true false l o y = refl
-  all_of false x l o y = refl
+  all_of e x l o y = search (arith, rules)
 
   -- the height of a choice
   split : (c x l y : ℕ) → nat_le (max (max c (max x l)) y) room ≡ (nat_le c room && (nat_le x room && nat_le l room)) && nat_le y room

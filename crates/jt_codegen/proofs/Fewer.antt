@@ -1,5 +1,5 @@
 -- Texts that ascend strictly, all of them among others, are no more than those.
-use Rattle.std.proofs.Common.{◌≡◌, suc, ◌≤◌, Bool, true, false, if◌then◌else◌, List, [], ◌∷◌, length, refl, sym, ap, ◌∙◌, subst, arith, inl, inr}
+use Rattle.std.proofs.Common.{◌≡◌, suc, ◌≤◌, Bool, true, false, if◌then◌else◌, List, [], ◌∷◌, length, refl, sym, ap, ◌∙◌, subst, arith, inl, inr, rules}
 use Rattle.std.specs.declared.cmp.Ordering.{Ordering}
 use Rattle.std.specs.declared.cmp.Ordering.TheVariants.{Less, Equal, Greater}
 use Rattle.std.specs.Ordering.{nat_cmp, is_lt, ordering_reverse}
@@ -12,9 +12,7 @@ use Rattle.jt_meaning.specs.Ascends.{IsBefore, Above, Ascends}
 use Rattle.jt_lower.proofs.Spots.{Among}
 
 less_is : (o : Ordering) → is_lt o ≡ true → o ≡ Less
-less_is Less e = refl
-less_is Equal e = absurd cc
-less_is Greater e = absurd cc
+less_is o e = search (arith, rules)
 
 before_trans : (x y z : Text) → IsBefore x y → IsBefore y z → IsBefore x z
 before_trans x y z a b = ap is_lt (nat_list_cmp_total.trans x y z (less_is (slice_cmp nat_cmp x y) a) (less_is (slice_cmp nat_cmp y z) b))

@@ -1,5 +1,5 @@
 -- Where no filter and no test has an unknown name, the tests and filters of chains are known.
-use Rattle.std.proofs.Common.{◌≡◌, ℕ, Bool, true, false, ◌||◌, List, [], ◌∷◌, ◌++◌, Option, Some, None, refl, sym, ◌∙◌, subst}
+use Rattle.std.proofs.Common.{◌≡◌, ℕ, Bool, true, false, ◌||◌, List, [], ◌∷◌, ◌++◌, Option, Some, None, refl, sym, ◌∙◌, subst, arith, rules}
 use Rattle.std.specs.Prelude.{not, if◌then◌else◌, flat_map, option_map, codes}
 use Rattle.std.specs.Str.{bytes_eq}
 use Rattle.std.specs.Option.{is_some, option_or}
@@ -165,9 +165,7 @@ module _ (fs : Filters) (named : (x : Text) (ts : Exprs) (ps : Pairs) → is_fil
   none_second (Some x) b h = absurd cc
 
   not_blamed : (line : ℕ) (f t : Bool) → blamed line f t ≡ None → (f ≡ false) × (t ≡ false)
-  not_blamed line true t h = absurd cc
-  not_blamed line false true h = absurd cc
-  not_blamed line false false h = (refl, refl)
+  not_blamed line f t h = search (arith, rules)
 
   at_known : (line : ℕ) (e : Expr) → unknown_in line (λ u. has_unknown u e) ≡ None → ExprKnown fs e
   at_known line e h = let b = not_blamed line (has_unknown n.Filter e) (has_unknown n.Test e) h in expr_known e b.0 b.1

@@ -1,5 +1,5 @@
 -- What is resolved is lawful: its slots are globals that there are, and its constants values that have a place.
-use Rattle.std.proofs.Common.{◌≡◌, ℕ, zero, suc, ◌+◌, ◌<◌, ◌≤◌, Bool, true, false, if◌then◌else◌, List, [], ◌∷◌, ◌++◌, length, Option, Some, None, inl, inr, arith, refl, ap, ◌∙◌, length-append}
+use Rattle.std.proofs.Common.{◌≡◌, ℕ, zero, suc, ◌+◌, ◌<◌, ◌≤◌, Bool, true, false, if◌then◌else◌, List, [], ◌∷◌, ◌++◌, length, Option, Some, None, inl, inr, arith, refl, ap, ◌∙◌, length-append, rules}
 use Rattle.std.specs.Option.{is_none}
 use Rattle.std.specs.List.{AllByRecursion}
 use Rattle.std.specs.Str.{bytes_eq}
@@ -43,10 +43,7 @@ use Rattle.jt_meaning.proofs.Reading.{home_same, home_is}
 use Rattle.jt_lower.proofs.Fitting.{all_append}
 
 literal_pooled : (l : Literal) → IsPooled (literal l)
-literal_pooled (written.number n) = tt
-literal_pooled (written.text s) = tt
-literal_pooled (written.truth b) = tt
-literal_pooled written.nothing = tt
+literal_pooled l = search (arith, rules)
 
 default_pooled : (l : Option Literal) → IsPooled (default_value l)
 default_pooled None = tt
@@ -127,10 +124,7 @@ module _ (front globals_count : ℕ) (some : 0 < front) where
   filtered_fine (Some f) b es h = h
 
   form_fine : (f : Form) (a b : SExpr Constant) → E a → E b → E (in_form f a b)
-  form_fine (operation o) a b h k = (h, (k, tt))
-  form_fine (negation o) a b h k = ((h, (k, tt)), tt)
-  form_fine conjunction a b h k = (h, k)
-  form_fine disjunction a b h k = (h, k)
+  form_fine f a b h k = search (arith, rules)
 
   filled_fine : (ps : List Parameter) (m d : ℕ) (ks : Table) → d + length ps ≤ front → Fine ks → R (filled ps m d ks)
   filled_fine [] m d ks l h = tt
@@ -170,9 +164,7 @@ module _ (front globals_count : ℕ) (some : 0 < front) where
   fresh_each m (x ∷ xs) = (tt, fresh_each (suc m) xs)
 
   fresh_fine : (m : ℕ) (xs : List Text) → TargetsLawful front globals_count (fresh_targets m xs)
-  fresh_fine m [] = tt
-  fresh_fine m (x ∷ []) = tt
-  fresh_fine m (x ∷ (y ∷ ys)) = fresh_each m (x ∷ (y ∷ ys))
+  fresh_fine m xs = search (arith, rules, fresh_each)
 
   kept_each : (t : Table) (xs : List Text) → Fine t → SlotsLawful front globals_count (kept_slots t xs)
   kept_each t [] h = tt
@@ -217,17 +209,7 @@ module _ (front globals_count : ℕ) (some : 0 < front) where
     globals_of_fine h = globals_fine (first_slot world order h) (names world order h) (few h)
 
     invoked_fined : (c : Callee) (f : Expr) (sp : Spot) (row asides : SRow Constant → SRow Constant) (m : ℕ) (ks : Table) → listed sp.home order ≡ true → callee world.sources (given world.sources sp.home) f ≡ c → Fine ks → Front row → Front asides → E (invoked world order c sp row asides m ks)
-    invoked_fined (a_macro k x) f sp row asides m ks i e h r a =
-        let rest = filled x.parameters m (default_place world order k x.name) ks in
-        r (asides rest) (a rest (filled_fine x.parameters m (default_place world order k x.name) ks (laid sp.home i f k x e) h))
-    invoked_fined a_range f sp row asides m ks i e h r a = r slots.none tt
-    invoked_fined a_super f sp row asides m ks i e h r a = super_fined sp sp.part
-    invoked_fined (a_block x) f sp row asides m ks i e h r a =
-        let t = globals world order sp.home in
-        let xs = block_parameters world order sp.home x in
-        body_fined sp.home sp.escaping (first_body (numbered_of world sp.home x)) (reads t xs) (reads_fine t xs (globals_of_fine sp.home))
-    invoked_fined a_cycle f sp row asides m ks i e h r a = (r slots.none tt, ((tt, (tt, tt)), tt))
-    invoked_fined no_callee f sp row asides m ks i e h r a = tt
+    invoked_fined c f sp row asides m ks i e h r a = search (arith, rules, filled_fine, sp, super_fined, body_fined, reads_fine, globals_of_fine)
 
     mutual
       pub fined : (e : Expr) (sp : Spot) → listed sp.home order ≡ true → Fine sp.table → E (resolved world order e sp)
@@ -303,11 +285,7 @@ module _ (front globals_count : ℕ) (some : 0 < front) where
 
     include_fined : (sp : Spot) (line : ℕ) (m : Text) (missing c : Bool) (b : Bool) → Fine sp.table
         → B (if b then left_out sp line missing else followed (handed_on (place sp line) (if c then sp.table else []) (first_slot world order (a_chain m)) (names world order (a_chain m))) (slots.stmt (run (unit world order (of_chain m)) slots.none) slots.end))
-    include_fined sp line m true c true t = tt
-    include_fined sp line m false c true t = (tt, tt)
-    include_fined sp line m missing c false t =
-        followed_fine (handed_on (place sp line) (if c then sp.table else []) (first_slot world order (a_chain m)) (names world order (a_chain m))) (slots.stmt (run (unit world order (of_chain m)) slots.none) slots.end)
-        (handed_fine (place sp line) (if c then sp.table else []) (first_slot world order (a_chain m)) (names world order (a_chain m)) (few (a_chain m)) (seen_fine c sp.table t)) ((tt, tt), tt)
+    include_fined sp line m missing c b t = search (arith, rules, followed_fine, sp, handed_fine, seen_fine)
 
     pub scope_fined : (b : Body) (sp : Spot) → Fine sp.table → B (resolved_body world order b (bound_all (set_in b) sp)) → B (scoped (set_in b) sp (resolved_body world order b))
     scope_fined b sp t h = copied_fine (place sp 1) sp.table sp.free (set_in b) (resolved_body world order b (bound_all (set_in b) sp)) t h

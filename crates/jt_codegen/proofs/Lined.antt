@@ -1,5 +1,5 @@
 -- The lines of the tags of a tree are those of its source, which has at most 1,048,576 line ends.
-use Rattle.std.proofs.Common.{ℕ, zero, suc, ◌+◌, ◌-◌, ◌*◌, ◌<◌, ◌≤◌, List, [], ◌∷◌, ◌++◌, length, map, codes, ap, arith}
+use Rattle.std.proofs.Common.{ℕ, zero, suc, ◌+◌, ◌-◌, ◌*◌, ◌<◌, ◌≤◌, List, [], ◌∷◌, ◌++◌, length, map, codes, ap, arith, rules}
 use Rattle.std.specs.Str.{chars, chars_after, continuation_len, lead_bits}
 use Rattle.std.specs.List.{AllByRecursion}
 use Rattle.jt_image.specs.IsCode.{max_line}
@@ -47,10 +47,7 @@ HasLine (cut.comment ms x) = Unit {0}
 HasLine (cut.raw ms d ends) = Unit {0}
 
 segment_lined : {n : ℕ} {s : Segment} {x rest : Text} → IsSegment n s x rest → IsLine n → HasLine s
-segment_lined (cut.some_data n e) l = tt
-segment_lined (cut.a_tag i e) l = l
-segment_lined (cut.a_comment n) l = tt
-segment_lined (cut.a_raw y i e n f) l = tt
+segment_lined x1 l = search (arith, rules)
 
 fewer_lines : {n : ℕ} {s : Segment} {x rest : Text} → IsSegment n s x rest → lines rest ≤ lines x
 fewer_lines {n} {s} {x} {rest} p =
@@ -92,10 +89,7 @@ text_pieces [] ps h = h
 text_pieces (c ∷ x) ps h = (tt, h)
 
 segment_pieces : (o : Options) (left right : Side) (s : Segment) (ps : List Piece) → HasLine s → ArePieces ps → ArePieces (with_segment o left right s ps)
-segment_pieces o left right (cut.data_of d) ps w h = text_pieces (kept.kept o left right d) ps h
-segment_pieces o left right (cut.tag k ms n ts) ps w h = (w, h)
-segment_pieces o left right (cut.comment ms x) ps w h = h
-segment_pieces o left right (cut.raw ms d ends) ps w h = text_pieces (kept.kept o (kept.block_side ms.closing) (kept.block_side ends.opening) d) ps h
+segment_pieces o left right s ps w h = search (arith, rules, text_pieces)
 
 pieces_lined : (o : Options) (left : Side) (ss : List Segment) → AllByRecursion HasLine ss → ArePieces (pieces_from left (map (λ s. (o, s)) ss))
 pieces_lined o left [] h = tt
@@ -111,19 +105,7 @@ HeadLines (a_loop l) = Unit {0}
 HeadLines (an_opening o) = Unit {0}
 
 says_lined : {line : ℕ} {o : Head} {ts : Tokens} → Says line o ts → IsLine line → HeadLines o
-says_lined (tags.says_if d) l = tt
-says_lined (tags.says_for d e f) l = tt
-says_lined (tags.says_set d e) l = l
-says_lined (tags.says_text r) l = tt
-says_lined (tags.says_with d) l = tt
-says_lined (tags.says_filter d) l = tt
-says_lined (tags.says_autoescape on) l = tt
-says_lined (tags.says_macro r d) l = tt
-says_lined (tags.says_include missing c) l = l
-says_lined (tags.says_import said r) l = tt
-says_lined (tags.says_from said d) l = tt
-says_lined tags.says_extends l = tt
-says_lined (tags.says_block scoped required r) l = tt
+says_lined x1 l = search (arith, rules)
 
 made_lined : (line : ℕ) (o : Opening) (b : Body) → IsLine line → BodyLines IsLine b → StmtLines IsLine (made line o b)
 made_lined line (a_text x) b l h = h

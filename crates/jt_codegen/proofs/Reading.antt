@@ -1,5 +1,5 @@
 -- Instructions by their fields, and units.
-use Rattle.std.proofs.Common.{◌≡◌, ℕ, ◌≤◌, true, false, List, [], ◌∷◌, ◌++◌, length, map, Option, None, Some, refl, sym, ap, ◌∙◌, subst, arith}
+use Rattle.std.proofs.Common.{◌≡◌, ℕ, ◌≤◌, true, false, List, [], ◌∷◌, ◌++◌, length, map, Option, None, Some, refl, sym, ap, ◌∙◌, subst, arith, rules}
 use Rattle.std.specs.Prelude.{option_map}
 use Rattle.jt_image.specs.declared.instruction.Instruction.{Instruction}
 use Rattle.jt_image.specs.declared.instruction.Instruction.TheVariants as op
@@ -23,34 +23,7 @@ use Rattle.jt_codegen.proofs.Emitting.{emits_alone}
 
 read_wire : (i : Instruction) → instruction_of (wire_of i) ≡ Some i
 unfolding instruction_of
-read_wire (op.Const n) = refl
-read_wire (op.Load n) = refl
-read_wire (op.Store n) = refl
-read_wire (op.GLoad n) = refl
-read_wire (op.GStore n) = refl
-read_wire op.Drop = refl
-read_wire op.Dup = refl
-read_wire (op.Emit n) = refl
-read_wire (op.Data n) = refl
-read_wire (op.Jump n) = refl
-read_wire (op.JumpIfFalse n) = refl
-read_wire (op.JumpIfTrue n) = refl
-read_wire (op.Op n) = refl
-read_wire (op.Filter n m k) = refl
-read_wire (op.Test n m) = refl
-read_wire (op.MakeList n) = refl
-read_wire (op.MakeMap n) = refl
-read_wire op.LoopStart = refl
-read_wire (op.LoopNext n) = refl
-read_wire (op.LoopGet n m) = refl
-read_wire (op.LoopKeep n) = refl
-read_wire op.LoopRewind = refl
-read_wire op.LoopEnd = refl
-read_wire op.CaptureBegin = refl
-read_wire (op.CaptureEnd n) = refl
-read_wire (op.Unpack n) = refl
-read_wire (op.Call n) = refl
-read_wire op.Return = refl
+read_wire i = search (arith, rules)
 
 pub read_wires : (is : List Instruction) → each_of instruction_of (map wire_of is) ≡ Some is
 read_wires [] = refl

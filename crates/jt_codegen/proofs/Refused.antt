@@ -1,5 +1,5 @@
 -- What the refusals of images say of the code of a program.
-use Rattle.std.proofs.Common.{◌≡◌, Option, Some, subst}
+use Rattle.std.proofs.Common.{◌≡◌, Option, Some, subst, arith, rules}
 use Rattle.jt_image.specs.Code.{Code}
 use Rattle.jt_image.specs.Parts.{IsRefusal, HasTables}
 use Rattle.jt_image.specs.declared.error.ImageError.{ImageError}
@@ -7,15 +7,7 @@ use Rattle.jt_image.specs.declared.error.ImageError.TheVariants as image_error
 use Rattle.jt_codegen.specs.Units.{RefusesCode, of_image}
 
 by_code : (e : ImageError) (k : Code) → HasTables k → IsRefusal e (Some k) → RefusesCode (of_image e) k
-by_code image_error.BadOpcode k t h = absurd cc
-by_code image_error.BadTable k t h = absurd (h t)
-by_code image_error.LimitPassed k t h = λ fits. h fits.limits
-by_code image_error.NoMemory k t h = tt
-by_code image_error.BadMagic k t h = absurd h
-by_code image_error.BadVersion k t h = absurd h
-by_code image_error.Truncated k t h = absurd h
-by_code image_error.Trailing k t h = absurd h
-by_code image_error.BadText k t h = absurd h
+by_code e k t h = search (arith, rules)
 
 pub assembly_refused : (e : ImageError) (o : Option Code) (k : Code) → HasTables k → o ≡ Some k → IsRefusal e o → RefusesCode (of_image e) k
 assembly_refused e o k t same h = by_code e k t (subst (IsRefusal e) same h)

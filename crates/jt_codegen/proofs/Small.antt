@@ -1,5 +1,5 @@
 -- The code of small chains has place in an image.
-use Rattle.std.proofs.Common.{◌≡◌, ℕ, suc, ◌+◌, ◌*◌, max, ◌<◌, ◌≤◌, ◌^◌, true, false, List, [], ◌∷◌, ◌++◌, length, map, refl, sym, ap, ◌∙◌, arith, length-append}
+use Rattle.std.proofs.Common.{◌≡◌, ℕ, suc, ◌+◌, ◌*◌, max, ◌<◌, ◌≤◌, ◌^◌, true, false, List, [], ◌∷◌, ◌++◌, length, map, refl, sym, ap, ◌∙◌, arith, length-append, rules}
 use Rattle.std.proofs.lemmas.List.{length-map}
 use Rattle.std.specs.Int.{w16, w32, w64, to_le_bytes, cast_unsigned}
 use Rattle.std.specs.List.{flat_map, AllByRecursion}
@@ -62,15 +62,7 @@ names_spelled i (x ∷ xs) h =
     omega (arith, h.0, ap length (flat_map-cons name_bytes n rest), length-append (name_bytes n) (flat_map name_bytes rest), name_len n, names_spelled (suc i) xs h.1)
 
 constant_spelled : (t : Tree) → length (constant_bytes (constant_of t)) ≤ value_bytes t + 9
-constant_spelled tree.undefined = omega arith
-constant_spelled tree.nothing = omega arith
-constant_spelled (tree.truth_value true) = omega arith
-constant_spelled (tree.truth_value false) = omega arith
-constant_spelled (tree.number z) = omega (arith, number_len (cast_unsigned w64 z) 4)
-constant_spelled (tree.text s) = omega (arith, text_len s 5)
-constant_spelled (tree.markup s) = omega (arith, text_len s 6)
-constant_spelled (tree.list ts) = omega arith
-constant_spelled (tree.map es) = omega arith
+constant_spelled t = search (arith, rules, number_len, text_len)
 
 constants_spelled : (ts : List Tree) → AllByRecursion (λ t. value_bytes t ≤ 2000) ts → length (flat_map constant_bytes (map constant_of ts)) ≤ 2009 * length ts
 constants_spelled [] h = omega arith

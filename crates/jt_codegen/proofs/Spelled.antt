@@ -1,5 +1,5 @@
 -- No name that a tree reads or binds is empty, since none is that a source spells.
-use Rattle.std.proofs.Common.{ℕ, ◌<◌, Bool, true, false, if◌then◌else◌, List, [], ◌∷◌, ◌++◌, length, map, codes, encode_utf8_all, Option, Some, None, arith}
+use Rattle.std.proofs.Common.{ℕ, ◌<◌, Bool, true, false, if◌then◌else◌, List, [], ◌∷◌, ◌++◌, length, map, codes, encode_utf8_all, Option, Some, None, arith, rules}
 use Rattle.std.specs.List.{AllByRecursion}
 use Rattle.std.proofs.lemmas.Str.{length-le-encodes}
 use Rattle.jt_scan.specs.declared.options.Options.{Options}
@@ -57,10 +57,7 @@ abbrev ArePieces : List Piece → Type 0
 ArePieces = AllByRecursion IsPiece
 
 token_word : {t : Token} {x rest : List ℕ} → cut.Spelled t x rest → IsWord t
-token_word (cut.a_name i a w) = omega arith
-token_word (cut.a_number m le) = tt
-token_word (cut.a_text i e m) = tt
-token_word (cut.a_sign e) = tt
+token_word x1 = search (arith, rules)
 
 inside_words : {k : Kind} {depth : ℕ} {ts : List Token} {mark : Mark} {x rest : List ℕ} → Inside k depth ts mark x rest → AreWords ts
 inside_words (cut.closed e) = tt
@@ -68,10 +65,7 @@ inside_words (cut.space i j) = inside_words j
 inside_words (cut.token c t i) = (token_word t, inside_words i)
 
 segment_words : {n : ℕ} {s : Segment} {x rest : List ℕ} → IsSegment n s x rest → HasWords s
-segment_words (cut.some_data n e) = tt
-segment_words (cut.a_tag i e) = inside_words i
-segment_words (cut.a_comment n) = tt
-segment_words (cut.a_raw y i e n f) = tt
+segment_words x1 = search (arith, rules, inside_words)
 
 cut_words : {source : List ℕ} {Ends : List ℕ → Type 0} {ss : List Segment} {x : List ℕ} → Cuts source Ends ss x → AllByRecursion HasWords ss
 cut_words (cut.no_more e) = tt
@@ -82,10 +76,7 @@ text_pieces [] ps h = h
 text_pieces (c ∷ x) ps h = (tt, h)
 
 segment_pieces : (o : Options) (left right : Side) (s : Segment) (ps : List Piece) → HasWords s → ArePieces ps → ArePieces (with_segment o left right s ps)
-segment_pieces o left right (cut.data_of d) ps w h = text_pieces (kept.kept o left right d) ps h
-segment_pieces o left right (cut.tag k ms n ts) ps w h = (w, h)
-segment_pieces o left right (cut.comment ms x) ps w h = h
-segment_pieces o left right (cut.raw ms d ends) ps w h = text_pieces (kept.kept o (kept.block_side ms.closing) (kept.block_side ends.opening) d) ps h
+segment_pieces o left right s ps w h = search (arith, rules, text_pieces)
 
 pieces_words : (o : Options) (left : Side) (ss : List Segment) → AllByRecursion HasWords ss → ArePieces (pieces_from left (map (λ s. (o, s)) ss))
 pieces_words o left [] h = tt

@@ -9,6 +9,10 @@ use Rattle.jt_resolved.specs.Size.{expr_height, row_height}
 use Rattle.jt_resolved.specs.View.{entry_front, expr_view, row_view}
 use Rattle.jt_resolved.proofs.ExpressionViews.{Entry, row_left}
 
+-- both are few enough where the greater one is
+pub both_low : (a b c : ℕ) → nat_le (max a b) c ≡ nat_le a c && nat_le b c
+both_low a b c = grind (arith, nat_tests)
+
 -- a value is one entry
 pub height_some : (e : SExpr ℕ) → 1 ≤ expr_height e
 height_some (slots.pooled i) = omega arith
@@ -24,6 +28,9 @@ height_some (slots.invoke u escaping es) = omega arith
 -- one expression in front of a row
 item_low : (h r left : ℕ) → nat_le h left ≡ true → 1 ≤ h → nat_le (max h (1 + r)) left ≡ nat_le r (left - 1)
 item_low h r left low some = grind (arith, nat_tests)
+
+high : (h r left : ℕ) → nat_le h left ≡ false → nat_le (max h r) left ≡ false
+high h r left e = grind (arith, nat_tests)
 
 aside_low : (h r left : ℕ) → nat_le h left ≡ true → nat_le (max h r) left ≡ nat_le r left
 aside_low h r left low = grind (arith, nat_tests)

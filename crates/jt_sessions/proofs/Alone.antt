@@ -142,6 +142,10 @@ distinct_added j s (e ∷ es) h d =
     let a = absent_front j e es h in
     (find_other e.0 j s es (λ g. other e.0 j a.0 (sym g)) ∙ d.0, distinct_added j s es a.1 d.1)
 
+below_more : (n m : ℕ) (es : List (ℕ × Session)) → n ≤ m → Below n es → Below m es
+below_more n m [] h b = tt
+below_more n m (e ∷ es) h b = (omega (arith, h, b.0), below_more n m es h b.1)
+
 below_replace : (n j : ℕ) (t : Session) (es : List (ℕ × Session)) → Below n es → Below n (replace j t es)
 below_replace n j t [] b = tt
 below_replace n j t (e ∷ es) b = step (below_replace n j t es b.1) (e.0 == j) refl

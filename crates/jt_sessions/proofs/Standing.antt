@@ -38,6 +38,16 @@ at_place i p xs e h s n d = record {
   first = n;
 }
 
+whole : (p : ℕ) (ys : List (ℕ × Session)) → length ys ≤ p → take p ys ≡ ys
+whole zero [] h = refl
+whole zero (y ∷ ys) h = absurd (omega (arith, h))
+whole (suc p) [] h = refl
+whole (suc p) (y ∷ ys) h = ap (λ (zs : List (ℕ × Session)). y ∷ zs) (whole p ys (omega (arith, h)))
+
+-- no entry of all has the id
+pub absent : (i : ℕ) (p : ℕ) (xs : List (ℕ × Session)) → length xs ≤ p → find i (take p xs) ≡ None → find i xs ≡ None
+absent i p xs h n = subst (λ (ys : List (ℕ × Session)). find i ys ≡ None) (whole p xs h) n
+
 pub found : (i p : ℕ) (xs : List (ℕ × Session)) (a : IsAt i p xs) → find i xs ≡ Some a.session
 found i p xs a = ap (find i) a.parts ∙ find_at i a.session a.before a.behind a.first
 
@@ -67,6 +77,13 @@ there i p xs d a =
     ap (λ (ys : List (ℕ × Session)). get_or ys p d) a.parts
     ∙ ap (λ (q : ℕ). get_or (a.before ++ (i, a.session) ∷ a.behind) q d) a.place
     ∙ get_or-append_seam a.before (i, a.session) a.behind d
+
+long : (ys : List (ℕ × Session)) (e : ℕ × Session) (zs : List (ℕ × Session)) → length ys < length (ys ++ e ∷ zs)
+long [] e zs = omega arith
+long (y ∷ ys) e zs = omega (arith, long ys e zs)
+
+pub within : (i p : ℕ) (xs : List (ℕ × Session)) (a : IsAt i p xs) → p < length xs
+within i p xs a = omega (arith, a.place, ap length a.parts, long a.before (i, a.session) a.behind)
 
 -- ---- what the calls do
 
