@@ -55,16 +55,9 @@ either true o inv to r r' m m' h h' = h
 either false o inv to r r' m m' h h' = h'
 
 pub and_then_assoc : (r : Ran) (f g : State → Ran) → and_then (and_then r f) g ≡ and_then r (λ s. and_then (f s) g)
-<<<<<<< HEAD
 and_then_assoc r f g = search (arith, rules)
-=======
-and_then_assoc (does s) f g = refl
-and_then_assoc (stops e q) f g = refl
-and_then_assoc too_deep f g = refl
-and_then_assoc bad f g = refl
 
 pub bind_assoc : {A B C : Type 0} (m : Got A) (f : A → Got B) (g : B → Got C) → bind (bind m f) g ≡ bind m (λ x. bind (f x) g)
 bind_assoc (gives x) f g = refl
 bind_assoc (fails e q) f g = refl
 bind_assoc deeper f g = refl
->>>>>>> hcode
