@@ -1,4 +1,4 @@
-use Rattle.std.proofs.Common.{refl, ◌+◌, List, map, drop, arith}
+use Rattle.std.proofs.Common.{ap, refl, ◌+◌, List, map, drop, arith}
 use Rattle.std.proofs.lemmas.List.{at_drop_all}
 use Rattle.jt_chains.specs.Layers.{layer_view}
 use Rattle.jt_chains.specs.View.{chain_view}
