@@ -95,11 +95,7 @@ impl<'t, 's, 'a> Resolver<'t, 's, 'a> {
 
     /// Resolves a list.
     #[cycle(expressions)]
-    fn resolve_list(
-        &self,
-        row: &[Expr],
-        pool: &mut Vec<Value>,
-    ) -> Result<SExpr, NoMemory>
+    fn resolve_list(&self, row: &[Expr], pool: &mut Vec<Value>) -> Result<SExpr, NoMemory>
         ensures { IfOk result (λ e. IsResolved self.now
             (trees.list_of (written.exprs_view row.now)) e pool.old pool.new) }
     {
@@ -174,7 +170,12 @@ impl<'t, 's, 'a> Resolver<'t, 's, 'a> {
     {
         let first = self.resolve_expression(left, pool)?;
         let second = self.resolve_expression(right, pool)?;
-        formed(self.alloc, form_of(self.spot.escaping, operator), first, second)
+        formed(
+            self.alloc,
+            form_of(self.spot.escaping, operator),
+            first,
+            second,
+        )
     }
 
     /// Resolves a choice without an other part.
@@ -339,11 +340,7 @@ impl<'t, 's, 'a> Resolver<'t, 's, 'a> {
 
     /// Resolves a call of `range`.
     #[cycle(expressions)]
-    fn resolve_range(
-        &self,
-        row: &[Expr],
-        pool: &mut Vec<Value>,
-    ) -> Result<SExpr, NoMemory>
+    fn resolve_range(&self, row: &[Expr], pool: &mut Vec<Value>) -> Result<SExpr, NoMemory>
         ensures { IfOk result (λ e. IsPlaced (slots.made
             (slots.operator (operators.range_of (length row.now)))
             (row_of self.now (written.exprs_view row.now) slots.none)) (expr_view e)
@@ -356,11 +353,7 @@ impl<'t, 's, 'a> Resolver<'t, 's, 'a> {
 
     /// Resolves `loop.cycle`: the item of a list by the turn.
     #[cycle(expressions)]
-    fn resolve_cycle(
-        &self,
-        row: &[Expr],
-        pool: &mut Vec<Value>,
-    ) -> Result<SExpr, NoMemory>
+    fn resolve_cycle(&self, row: &[Expr], pool: &mut Vec<Value>) -> Result<SExpr, NoMemory>
         ensures { IfOk result (λ e. IsPlaced (resolve.operation_of op.Item
             (slots.made slots.a_list
             (row_of self.now (written.exprs_view row.now) slots.none))

@@ -89,7 +89,13 @@ impl<'t, 's, 'a> Resolver<'t, 's, 'a> {
         let mut global = there.first_slot;
         for name in there.names.iter() {
             let value = self.handed(with_context, *name);
-            put_assign(&self.spot, line, Targets::One(Slot::Global(global)), value, done)?;
+            put_assign(
+                &self.spot,
+                line,
+                Targets::One(Slot::Global(global)),
+                value,
+                done,
+            )?;
             global = more(global, 1)?;
         }
         Ok(())

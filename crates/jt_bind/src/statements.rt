@@ -16,9 +16,7 @@ ghost use Rattle.jt_bind.specs.Stated.{IsBody, IsAsked, IsBranch, IsTurn};
 
 use crate::entering::{entered, keywords_of, texts_of};
 use crate::placing::Inclusion;
-use crate::putting::{
-    Loop, put_assign, put_capture, put_choice, put_data, put_loop, put_print,
-};
+use crate::putting::{Loop, put_assign, put_capture, put_choice, put_data, put_loop, put_print};
 use crate::resolver::Resolver;
 use crate::spot::Spot;
 use crate::targets::fresh_targets;
@@ -268,11 +266,7 @@ impl<'t, 's, 'a> Resolver<'t, 's, 'a> {
 
     /// Resolves a body in the scope around it.
     #[cycle(statements)]
-    fn resolve_whole(
-        &self,
-        body: &'a [Stmt],
-        pool: &mut Vec<Value>,
-    ) -> Result<Vec<SStmt>, NoMemory>
+    fn resolve_whole(&self, body: &'a [Stmt], pool: &mut Vec<Value>) -> Result<Vec<SStmt>, NoMemory>
         ensures { IfOk result (λ ss. IsBody (templates_of self.now)
             (body_of self.now (body_view body.now)) ss.items (values pool.old)
             (values pool.new)) }

@@ -1,4 +1,4 @@
-use Rattle.std.proofs.Common.{◌≡◌, ℕ, ◌+◌, ◌<◌, ◌≤◌, List, [], length, map, drop, refl, sym, ap, subst, arith}
+use Rattle.std.proofs.Common.{◌≡◌, ℕ, ◌+◌, ◌<◌, ◌≤◌, List, [], length, map, drop, refl, sym, ap, ◌∙◌, subst, arith}
 use Rattle.std.specs.Prelude.{flat_map}
 use Rattle.std.proofs.lemmas.List.{at_drop_all}
 use Rattle.jt_chains.specs.Chain.{Home}
@@ -17,7 +17,7 @@ pub turn_to-requires : goal.turn_to-requires
 turn_to-requires c =
     let l = c.loop-home in
     let same = ap (λ (ch : Chain). length (chain_view ch).order) l.invariant.same in
-    omega (arith, c.loop-home-test.true, c.homes.ensures.all, same)
+    omega (arith, c.loop-home-test.true, c.homes-home-end.ensures.all, same)
 
 pub loop-home-init : goal.loop-home-init
 loop-home-init c =
@@ -39,7 +39,7 @@ loop-home-preserved c =
     let i = l.home in
     let all = programs.routines W O in
     let old = values c.args.pool.now in
-    let in_order : i < length O = omega (arith, c.loop-home-test.true, c.homes.ensures.all) in
+    let in_order : i < length O = omega (arith, c.loop-home-test.true, c.homes-home-end.ensures.all) in
     let same : c.turn_to.new.self.chain.now ≡ s.chain.now = c.turn_to.ensures.same ∙ l.invariant.same in
     let Put : Chain → ℕ → Type 0 = (λ ch n. AreRoutines (map (λ t. t.name) (chain_view ch).templates) (programs.chain_routines (world_of (chain_view ch)) (chain_view ch).order (home_at (chain_view ch).order n))
     l.routines.items c.resolve_home.new.routines.items (values l.pool) (values c.resolve_home.new.pool)) in
@@ -61,6 +61,6 @@ returns c =
     let O = order_in s in
     let all = programs.routines W O in
     let old = values c.args.pool.now in
-    let le : length O ≤ l.home = omega (arith, c.loop-home-test.false, c.homes.ensures.all) in
+    let le : length O ≤ l.home = omega (arith, c.loop-home-test.false, c.homes-home-end.ensures.all) in
     let Left : List Home → Type 0 = (λ hs. RoutinesLead ts all (flat_map (programs.chain_routines W O) hs) [] l.routines.items old (values l.pool)) in
     lead_last ts all l.routines.items old (values l.pool) (subst Left (at_drop_all (λ hs. hs) O l.home le) l.invariant.lead)

@@ -1,9 +1,11 @@
-use Rattle.std.proofs.Common.{◌<◌, List, length, map, refl, sym, ap, ◌∙◌, arith}
+use Rattle.std.proofs.Common.{◌≡◌, ℕ, ◌<◌, List, length, map, refl, sym, ap, ◌∙◌, subst, arith}
 use Rattle.std.proofs.lemmas.List.{length-map}
 use Rattle.jt_chains.specs.Chain.{a_chain, templates}
 use Rattle.jt_chains.specs.Layers.{layer_view}
 use Rattle.jt_chains.specs.Pages.{home_view}
-use Rattle.jt_chains.specs.View.{chain_view}
+use Rattle.jt_chains.specs.Places.{home_at}
+use Rattle.jt_chains.specs.View.{chain_view, sources_of}
+use Rattle.jt_chains.specs.declared.linked.Chain.{Chain}
 use Rattle.jt_chains.specs.declared.layers.Layer.{Layer}
 use Rattle.jt_resolved.specs.Locals.{body_locals}
 use Rattle.jt_resolved.specs.View.{body_view}
@@ -22,7 +24,9 @@ returns c = λ n is.
     let p = values c.args.pool.now in
     let q = values c.resolve_layers.new.pool in
     let there : scope.home < length scope.chain.now.homes.items = omega (arith, c.stands.ensures, length-map scope.chain.now.homes.items home_view) in
-    let led = led_of T _ whole _ _ p q (ap (λ (z : List Layer). resolved_chain (world_in scope) (order_in scope) (home_in scope) (map (layer_view (chain_view scope.chain.now).templates) z)) c.deref.ensures.value ∙ ap (resolved_chain (world_in scope) (order_in scope) (home_in scope)) (c.in_ok-layers.ensures.there there)
+    let Listed : Chain → ℕ → Type 0 = λ ch i. i < length ch.homes.items → map (layer_view (chain_view ch).templates) c.in_ok-layers.layers.items ≡ templates (sources_of (chain_view ch)) (home_at (chain_view ch).order i) in
+    let listed = subst (λ i. Listed scope.chain.now i) c.home.ensures.is (subst (λ ch. Listed ch c.home.result) c.chain.ensures c.in_ok-layers.ensures.there) in
+    let led = led_of T _ whole _ _ p q (ap (λ (z : List Layer). resolved_chain (world_in scope) (order_in scope) (home_in scope) (map (layer_view (chain_view scope.chain.now).templates) z)) c.deref.ensures.value ∙ ap (resolved_chain (world_in scope) (order_in scope) (home_in scope)) (listed there)
     ∙ ap (λ h. resolved_chain (world_in scope) (order_in scope) h (templates (world_in scope).sources h)) is) (led_begun T _ _ _ _ p q c.new-done.ensures.items c.in_ok-resolve_layers.ensures) in
     routine_made T 0 0 whole c.resolve_layers.new.done c.in_ok-locals.locals _ p q led refl (locals_same T whole c.resolve_layers.new.done.items p q c.in_ok-locals.locals led
     (λ b. sym (ap (λ (z : List SStmt). body_locals (body_view T z b)) c.deref-2.ensures.value) ∙ c.in_ok-locals.ensures T b))

@@ -1,4 +1,5 @@
-use Rattle.std.proofs.Common.{refl, ◌+◌, List, map, drop, arith}
+use Rattle.std.proofs.Common.{ap, refl, ◌+◌, List, length, map, drop, arith}
+use Rattle.std.specs.Prelude.{◌==◌}
 use Rattle.std.proofs.lemmas.List.{at_drop_all}
 use Rattle.jt_chains.specs.Layers.{layer_view}
 use Rattle.jt_chains.specs.View.{chain_view}
@@ -26,4 +27,4 @@ loop-place-preserved c = λ left.
     let rest = resolved_chain (world_in scope) (order_in scope) (home_in scope) (map (layer_view ts) (drop (l.place + 1) c.args.layers.now)) in
     lead_both (templates_in scope) _ _ _ _ _ _ _ _ _ (l.invariant left)
     (lead_of (templates_in scope) _ _ _ _ _ _ _ (layers_turn scope ts c.args.layers.now l.place c.index-layers-place.result _ left c.loop-place-test.true c.index-layers-place.is (root_here ts c.args.layers.now l.place _ c.loop-place-test.true refl))
-    (led_of (templates_in scope) _ _ _ _ _ _ (ap (λ (z : Spot). layer_at scope z (body_view c.index-layers-place.result.body.now) _) c.top_spot.ensures) c.in_ok-resolve_layer.ensures (followed rest left)))
+    (led_of (templates_in scope) _ _ _ _ _ _ (ap (λ (z : Spot). layer_at scope z (body_view c.index-layers-place.result.body.now) (l.place + 1 == length c.args.layers.now)) c.top_spot.ensures) c.in_ok-resolve_layer.ensures (followed rest left)))
