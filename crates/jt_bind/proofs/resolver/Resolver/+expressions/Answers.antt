@@ -157,8 +157,8 @@ resolve_expression-returns-in_ok-test-in-Test t c =
     let us = c.deref-in-Test-3.result.now in
     let qs = c.in-Test.keywords.items in
     IfOk-weaker c.turned.result _ _ (λ e h. same_tree c.args.self.now.tables.now c.args.self.now.spot _ _ (coded e) _ _
-    (ap (λ x. trees.test (expr_view a) c.is_negated-in-Test.result x (exprs_view us) (pairs_view qs)) c.deref-in-Test-2.ensures
-    ∙ ap (λ n. trees.test (expr_view a) n (string_bytes c.in-Test.name) (exprs_view us) (pairs_view qs)) c.is_negated-in-Test.ensures
+    (ap (λ x. trees.test (expr_view a) c.is_negated.result x (exprs_view us) (pairs_view qs)) c.deref-in-Test-2.ensures
+    ∙ ap (λ n. trees.test (expr_view a) n (string_bytes c.in-Test.name) (exprs_view us) (pairs_view qs)) c.is_negated.ensures
     ∙ shown_test c.args.expr.now a c.in-Test.polarity c.in-Test.name us qs c.in-Test.value c.in-Test.row c.in-Test.keywords c.in-Test.is c.deref-in-Test.ensures c.deref-in-Test-3.ensures.value refl) (h _ _ _ (c.in_ok-test-in-Test.ensures (pairs_view qs)))) c.turned.ensures
 
 pub resolve_expression-returns-in_ok-value-in-Unary : goal.resolve_expression-returns-in_ok-value-in-Unary
