@@ -1,5 +1,5 @@
 -- The tables and the units of a program.
-use Rattle.std.proofs.Common.{◌≡◌, ℕ, suc, ◌+◌, ◌-◌, ◌<◌, ◌≤◌, List, [], ◌∷◌, ◌++◌, length, drop, get_or, map, ◌^◌, Option, Some, None, String, string_bytes, Global, refl, sym, ap, ◌∙◌, subst, arith, append_assoc, append-nil}
+use Rattle.std.proofs.Common.{◌≡◌, ℕ, suc, ◌+◌, ◌-◌, ◌<◌, ◌≤◌, List, [], ◌∷◌, ◌++◌, length, drop, get_or, map, ◌^◌, Option, Some, None, refl, sym, ap, ◌∙◌, subst, arith, append_assoc, append-nil}
 use Rattle.std.specs.Prelude.{option_map, flat_map}
 use Rattle.std.proofs.lemmas.List.{map-append, drop_more, at_drop_all}
 use Rattle.jt_image.specs.Code.{Section, Code}
@@ -8,7 +8,7 @@ use Rattle.jt_image.specs.declared.wire.Instr.{Instr}
 use Rattle.jt_image.specs.Reading.{instruction_of}
 use Rattle.jt_image.specs.IsCode.{total_len, max_instructions}
 use Rattle.jt_image.specs.declared.parts.Unit as given
-use Rattle.jt_image.specs.View.{name_view, names_view, constants_view, texts_view, spots_view}
+use Rattle.jt_image.specs.View.{names_view, constants_view, texts_view, spots_view}
 use Rattle.jt_image.specs.Parts.{in_front, each_of, section_of_unit, code_with, code_of_parts}
 use Rattle.jt_image.specs.declared.parts.Parts.{Parts}
 use Rattle.jt_constants.specs.Merged.{moved_unit}
@@ -21,9 +21,8 @@ use Rattle.jt_resolved.specs.declared.program.Place.{Place}
 use Rattle.jt_lower.specs.Compiles.{LowLaws}
 use Rattle.jt_lower.specs.Emission.{tag_view, places_view}
 use Rattle.jt_lower.specs.Fits.{ProgramFits}
-use Rattle.jt_lower.specs.Spots as spots
-use Rattle.jt_lower.specs.Lower.{unit_of, numbered, routine_places, places_of, compiled}
-use Rattle.jt_codegen.specs.Units.{FitUnits, Refuses, RefusesUnits, RefusesTemplates, RefusesCode}
+use Rattle.jt_lower.specs.Lower.{unit_of, numbered, routine_places, compiled}
+use Rattle.jt_codegen.specs.Units.{FitUnits, Refuses, RefusesUnits, RefusesCode}
 use Rattle.jt_codegen.proofs.Merging.{ps, units_fit}
 use Rattle.jt_codegen.specs.declared.emission.EmitError.{EmitError}
 use Rattle.jt_codegen.specs.declared.emission.EmitError.TheVariants as error

@@ -75,7 +75,7 @@ impl Emitter {
     }
 
     /// Puts a jump behind the others that is written when its target is known, and gives its point.
-    pub(crate) fn reserve(&mut self, jump: Instruction) -> Result<usize, AllocError>
+    pub fn reserve(&mut self, jump: Instruction) -> Result<usize, AllocError>
         ensures { IfOk result (λ point. Reserves self.old jump point self.new) }
     {
         let point = self.code.len();
@@ -84,7 +84,7 @@ impl Emitter {
     }
 
     /// Puts an instruction in place of the one at a point; nothing where the code ends before that.
-    pub(crate) fn patch(&mut self, point: usize, instruction: Option<Instruction>)
+    pub fn patch(&mut self, point: usize, instruction: Option<Instruction>)
         ensures { (i : Instruction) → Given instruction i → Patches self.old point i self.new }
     {
         match instruction {
