@@ -1,4 +1,4 @@
-use Rattle.std.proofs.Common.{List, ap, subst, ◌∙◌, sym}
+use Rattle.std.proofs.Common.{List, ap, subst, ◌∙◌}
 use Rattle.jt_value.specs.View.{entries_view}
 use Rattle.jt_machine.specs.Members.{Member, IsMissing, StandsAt}
 use Rattle.jt_machine.proofs.Members.{written, put_behind}
