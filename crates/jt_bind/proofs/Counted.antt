@@ -17,7 +17,7 @@ use Rattle.jt_resolved.specs.declared.program.SStmt.TheVariants as s
 use Rattle.jt_bind.specs.Counts.{aside_locals, target_locals}
 use Rattle.jt_bind.specs.Stated.{Branch}
 use Rattle.jt_resolved.proofs.ExpressionViews.{Entry}
-use Rattle.jt_resolved.proofs.StatementViews.{view_PutPooled, view_Print, view_Assign, view_If, view_For, view_Capture, view_Run}
+use Rattle.jt_resolved.proofs.StatementViews.{view_If, view_For, view_Capture}
 
 -- ---- places of the pool make no difference
 

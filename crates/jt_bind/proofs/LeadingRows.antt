@@ -1,8 +1,8 @@
 -- Expressions and rows that were put behind one another.
-use Rattle.std.proofs.Common.{◌≡◌, ℕ, ◌+◌, List, [], ◌∷◌, ◌++◌, length, refl, sym, ap, ◌∙◌, subst, Bool, Some, None, append_assoc, append-nil, length-append}
+use Rattle.std.proofs.Common.{◌≡◌, ℕ, ◌+◌, List, [], ◌∷◌, ◌++◌, length, sym, ap, ◌∙◌, subst, Bool, Some, None, append_assoc, append-nil, length-append}
 use Rattle.jt_value.specs.Tree.{Tree}
 use Rattle.jt_trees.specs.Expressions as trees
-use Rattle.jt_resolved.specs.Pool.{Constant, own, known, expr_values, row_values, placed_expr, placed_row}
+use Rattle.jt_resolved.specs.Pool.{Constant, expr_values, row_values, placed_expr, placed_row}
 use Rattle.jt_resolved.specs.Slots as slots
 use Rattle.jt_resolved.specs.Slots.{SExpr, SRow, Maker}
 use Rattle.jt_resolved.specs.View.{expr_view, row_view}

@@ -1,5 +1,5 @@
 -- What only private clauses cite: what the parts of a chain are resolved to where a resolver stands, and what is put behind others there.
-use Rattle.std.specs.Prelude.{ℕ, Bool, List, Option, Vec, if◌then◌else◌}
+use Rattle.std.specs.Prelude.{ℕ, Bool, List, Option, Vec}
 use Rattle.std.specs.declared.alloc.Global.{Global}
 use Rattle.jt_value.specs.Tree.{Tree}
 use Rattle.jt_value.specs.Place as place
