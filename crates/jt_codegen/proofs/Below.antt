@@ -189,9 +189,6 @@ module _ (room : ℕ) (templates : List Text) where
     pub all_low : RoutinesLow left → RoutinesLow all
     pub left_low : RoutinesLow all → RoutinesLow left
 
-  pub low_first : (rs : List given_routine.Routine) → SameLow rs (drop 0 rs)
-  low_first rs = record { all_low = λ h. h; left_low = λ h. h }
-
   pub low_more : (rs : List given_routine.Routine) (i : ℕ) (r : given_routine.Routine) (ss : List given.SStmt) → i < length rs → r ≡ get_or rs i r → ss ≡ r.body.items → Passes room (body_view templates ss) true → SameLow rs (drop i rs) → SameLow rs (drop (i + 1) rs)
   low_more rs i r ss lt is same passes s =
       let left : drop i rs ≡ r ∷ drop (i + 1) rs = drop_more rs i r lt ∙ ap (λ y. y ∷ drop (i + 1) rs) (sym is) in

@@ -72,9 +72,6 @@ module _ (templates : List Text) (h : ℕ) where
     pub counted : length ends + length left ≡ length all
     pub puts : (other : Asm) (final done : Emitter) → Puts templates now (inner_asm left other) final → Closes final ends done → Puts templates old (inner_asm all other) done
 
-  pub opens_first : (old : Emitter) (all : List SBranch) → Opens old all old all []
-  opens_first old all = record { counted = omega arith; puts = λ other final done p same. subst (λ z. Puts templates old (inner_asm all other) z) (sym same) p }
-
   closes_snoc : (final done : Emitter) (es : List ℕ) (m : ℕ) → Closes final (es ++ m ∷ []) done → (mid : Emitter) × Patches final m (op.Jump (length final.code.items)) mid × Closes mid es done
   closes_snoc final done [] m c = (done, subst (λ z. Patches z m (op.Jump (length z.code.items)) done) c.1 c.2, refl)
   closes_snoc final done (e ∷ es) m c = let r = closes_snoc final c.0 es m c.1 in (r.0, r.1, (c.0, r.2, c.2))

@@ -1,5 +1,5 @@
 -- The tables and the units of a program.
-use Rattle.std.proofs.Common.{◌≡◌, ℕ, suc, ◌+◌, ◌-◌, ◌<◌, ◌≤◌, List, [], ◌∷◌, ◌++◌, length, drop, get_or, map, ◌^◌, Option, Some, None, String, string_bytes, Global, refl, sym, ap, ◌∙◌, subst, arith, append_assoc, append-nil}
+use Rattle.std.proofs.Common.{◌≡◌, ℕ, suc, ◌+◌, ◌-◌, ◌<◌, ◌≤◌, List, [], ◌∷◌, ◌++◌, length, drop, get_or, map, ◌^◌, Option, Some, None, refl, sym, ap, ◌∙◌, subst, arith, append_assoc, append-nil}
 use Rattle.std.specs.Prelude.{option_map, flat_map}
 use Rattle.std.proofs.lemmas.List.{map-append, drop_more, at_drop_all}
 use Rattle.jt_image.specs.Code.{Section, Code}
@@ -8,7 +8,7 @@ use Rattle.jt_image.specs.declared.wire.Instr.{Instr}
 use Rattle.jt_image.specs.Reading.{instruction_of}
 use Rattle.jt_image.specs.IsCode.{total_len, max_instructions}
 use Rattle.jt_image.specs.declared.parts.Unit as given
-use Rattle.jt_image.specs.View.{name_view, names_view, constants_view, texts_view, spots_view}
+use Rattle.jt_image.specs.View.{names_view, constants_view, texts_view, spots_view}
 use Rattle.jt_image.specs.Parts.{in_front, each_of, section_of_unit, code_with, code_of_parts}
 use Rattle.jt_image.specs.declared.parts.Parts.{Parts}
 use Rattle.jt_constants.specs.Merged.{moved_unit}
@@ -21,28 +21,13 @@ use Rattle.jt_resolved.specs.declared.program.Place.{Place}
 use Rattle.jt_lower.specs.Compiles.{LowLaws}
 use Rattle.jt_lower.specs.Emission.{tag_view, places_view}
 use Rattle.jt_lower.specs.Fits.{ProgramFits}
-use Rattle.jt_lower.specs.Spots as spots
-use Rattle.jt_lower.specs.Lower.{unit_of, numbered, routine_places, places_of, compiled}
-use Rattle.jt_codegen.specs.Units.{FitUnits, Refuses, RefusesUnits, RefusesTemplates, RefusesCode}
+use Rattle.jt_lower.specs.Lower.{unit_of, numbered, routine_places, compiled}
+use Rattle.jt_codegen.specs.Units.{FitUnits, Refuses, RefusesUnits, RefusesCode}
 use Rattle.jt_codegen.proofs.Merging.{ps, units_fit}
 use Rattle.jt_codegen.specs.declared.emission.EmitError.{EmitError}
 use Rattle.jt_codegen.specs.declared.emission.EmitError.TheVariants as error
 
 -- ---- names
-
-pub name_more : (vs : List (ℕ × String Global)) (ns : List (String Global)) (i n : ℕ) (x s : String Global) → i < length ns → x ≡ get_or ns i x → string_bytes s ≡ string_bytes x → n ≡ i
-    → names_view vs ++ numbered i (map string_bytes (drop i ns)) ≡ numbered 0 (map string_bytes ns) → names_view (vs ++ (n, s) ∷ []) ++ numbered (i + 1) (map string_bytes (drop (i + 1) ns)) ≡ numbered 0 (map string_bytes ns)
-name_more vs ns i n x s lt is same at so_far =
-    let rest = map string_bytes (drop (i + 1) ns) in
-    let next : suc i ≡ i + 1 = omega arith in
-    let left : drop i ns ≡ x ∷ drop (i + 1) ns = drop_more ns i x lt ∙ ap (λ y. y ∷ drop (i + 1) ns) (sym is) in
-    ap (λ l. l ++ numbered (i + 1) rest) (map-append name_view vs ((n, s) ∷ []))
-    ∙ append_assoc (names_view vs) (name_view (n, s) ∷ []) (numbered (i + 1) rest)
-    ∙ ap (λ (t : Text). names_view vs ++ record { slot = n; text = t } ∷ numbered (i + 1) rest) same
-    ∙ ap (λ (k : ℕ). names_view vs ++ record { slot = k; text = string_bytes x } ∷ numbered (i + 1) rest) at
-    ∙ ap (λ (k : ℕ). names_view vs ++ record { slot = i; text = string_bytes x } ∷ numbered k rest) (sym next)
-    ∙ ap (λ l. names_view vs ++ numbered i (map string_bytes l)) (sym left)
-    ∙ so_far
 
 -- ---- units
 
@@ -90,9 +75,6 @@ module _ (templates : List Text) where
     pub whole : front ++ units left ≡ units all
     pub counted : total_len front + n ≡ max_instructions
     pub fits : FitUnits max_instructions (units all) → FitUnits n (units left)
-
-  pub made_first : (all : List Routine) → Made [] max_instructions all all
-  made_first all = record { front = []; read = refl; whole = refl; counted = omega arith; fits = λ h. h }
 
   each_snoc : (us : List given.Unit) (u : given.Unit) (front : List Section) (s : Section) → each_of section_of_unit us ≡ Some front → section_of_unit u ≡ Some s → each_of section_of_unit (us ++ u ∷ []) ≡ Some (front ++ s ∷ [])
   each_snoc [] u front s e is = let none : [] ≡ front = (let same : Some [] ≡ Some front = e in cc) in ap (λ o. in_front o (Some [])) is ∙ ap (λ l. Some (l ++ s ∷ [])) none
@@ -180,10 +162,6 @@ parts_are p parts before places read moves at v g n c t s =
     let us = units (templates_of p) p.routines.items in
     ap (option_map (code_with parts)) (moves us read ∙ ap (λ (l : List ℕ). Some (map (moved_unit l) us)) at)
     ∙ ap Some (same_code parts (map (moved_unit (ps (program_of p))) us) (compiled (program_of p)) v g n c refl t s)
-
-pub templates_refused : (e : EmitError) (p : Program) → RefusesTemplates e (spots.templates_of (places_of (program_of p))) → RefusesCode e (compiled (program_of p))
-templates_refused error.NoMemory p r = tt
-templates_refused error.CodeTooLong p r = λ fits. absurd (omega (arith, fits.limits.templates, r))
 
 pub numbered_len : (i : ℕ) (xs : List Text) → length (numbered i xs) ≡ length xs
 numbered_len i [] = refl

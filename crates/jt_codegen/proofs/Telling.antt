@@ -1,8 +1,7 @@
 -- What an image tells of places: templates are put in order, and places get their numbers.
-use Rattle.std.proofs.Common.{◌≡◌, ℕ, suc, ◌+◌, ◌<◌, ◌≤◌, true, false, if◌then◌else◌, List, [], ◌∷◌, ◌++◌, length, map, drop, get_or, Option, Some, None, refl, sym, ap, ◌∙◌, subst, arith, append_assoc, inl, inr}
+use Rattle.std.proofs.Common.{◌≡◌, ℕ, ◌+◌, ◌<◌, List, [], ◌∷◌, ◌++◌, length, map, drop, get_or, Option, Some, None, refl, sym, ap, ◌∙◌, subst, append_assoc, inl, inr}
 use Rattle.std.specs.List.{AllByRecursion}
-use Rattle.std.specs.Str.{bytes_eq}
-use Rattle.std.proofs.lemmas.List.{map-append, drop_more, at_drop_all}
+use Rattle.std.proofs.lemmas.List.{map-append, drop_more}
 use denote.Ref.{Bor}
 use Rattle.jt_value.specs.Place as place
 use Rattle.jt_trees.specs.Expressions.{Text}
@@ -35,9 +34,6 @@ named_more ts ps i d o ns ns' lt is e =
     ∙ first_inserted (tag_view ts o) (places_view ts rest) ns
     ∙ ap (λ l. all_inserted (templates_in (places_view ts l)) ns) (sym left)
 
-pub named_end : (ts : List Text) (ps : List (Option Place)) (i : ℕ) (ns : List Text) → length ps ≤ i → all_inserted (templates_in (places_view ts (drop i ps))) ns ≡ ns
-named_end ts ps i ns le = ap (λ l. all_inserted (templates_in (places_view ts l)) ns) (at_drop_all (λ l. l) ps i le)
-
 -- the template of each place is among those that are named
 each_named : (ns : List Text) (qs : List (Option place.Place)) → ((t : Text) → Among t (templates_in qs) → Among t ns) → AllByRecursion (IsNamed ns) qs
 each_named ns [] f = tt
@@ -52,24 +48,6 @@ all_named qs = each_named (templates_of qs) qs (λ t i. all_here t (templates_in
 -- so many were tried, and are other ones
 abbrev pub Tried : Text → List (Bor Text) → ℕ → Type 0
 Tried t ns i = number_of t (texts ns) ≡ i + number_of t (texts (drop i ns))
-
-name_left : (t : Text) (ns : List (Bor Text)) (i : ℕ) (n : Bor Text) → i < length ns → n ≡ get_or ns i n → number_of t (texts (drop i ns)) ≡ (if bytes_eq n.now t then 0 else suc (number_of t (texts (drop (i + 1) ns))))
-name_left t ns i n lt is = ap (λ l. number_of t (texts l)) (drop_more ns i n lt ∙ ap (λ y. y ∷ drop (i + 1) ns) (sym is))
-
-pub number_more : (t : Text) (ns : List (Bor Text)) (i : ℕ) (n : Bor Text) → i < length ns → n ≡ get_or ns i n → bytes_eq n.now t ≡ false → Tried t ns i → Tried t ns (i + 1)
-number_more t ns i n lt is other h =
-    let left = name_left t ns i n lt is ∙ ap (λ b. if b then 0 else suc (number_of t (texts (drop (i + 1) ns)))) other in
-    omega (arith, h, left)
-
-pub number_found : (t : Text) (ns : List (Bor Text)) (i : ℕ) (n : Bor Text) → i < length ns → n ≡ get_or ns i n → bytes_eq n.now t ≡ true → Tried t ns i → i ≡ number_of t (texts ns)
-number_found t ns i n lt is same h =
-    let left = name_left t ns i n lt is ∙ ap (λ b. if b then 0 else suc (number_of t (texts (drop (i + 1) ns)))) same in
-    omega (arith, h, left)
-
-pub number_end : (t : Text) (ns : List (Bor Text)) (i : ℕ) → length ns ≤ i → i ≤ length ns → Tried t ns i → i ≡ number_of t (texts ns)
-number_end t ns i le ge h =
-    let left : number_of t (texts (drop i ns)) ≡ 0 = ap (λ l. number_of t (texts l)) (at_drop_all (λ l. l) ns i le) in
-    omega (arith, h, left)
 
 -- ---- spots
 
