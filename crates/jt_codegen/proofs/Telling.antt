@@ -43,12 +43,6 @@ each_named ns (Some q ∷ qs) f = (number_within q.template ns (f q.template (in
 pub all_named : (qs : List (Option place.Place)) → AllByRecursion (IsNamed (templates_of qs)) qs
 all_named qs = each_named (templates_of qs) qs (λ t i. all_here t (templates_in qs) [] i)
 
--- ---- numbers
-
--- so many were tried, and are other ones
-abbrev pub Tried : Text → List (Bor Text) → ℕ → Type 0
-Tried t ns i = number_of t (texts ns) ≡ i + number_of t (texts (drop i ns))
-
 -- ---- spots
 
 -- those of the first places, whose templates are all named
