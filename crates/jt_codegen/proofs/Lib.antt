@@ -15,6 +15,7 @@ pub mod Importing
 pub mod Spelled
 pub mod Images
 pub mod Telling
+pub mod Searching
 pub mod Tagged
 pub mod Lined
 pub mod Fewer

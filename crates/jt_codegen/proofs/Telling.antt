@@ -2,17 +2,15 @@
 use Rattle.std.proofs.Common.{◌≡◌, ℕ, ◌+◌, ◌<◌, List, [], ◌∷◌, ◌++◌, length, map, drop, get_or, Option, Some, None, refl, sym, ap, ◌∙◌, subst, append_assoc, inl, inr}
 use Rattle.std.specs.List.{AllByRecursion}
 use Rattle.std.proofs.lemmas.List.{map-append, drop_more}
-use denote.Ref.{Bor}
 use Rattle.jt_value.specs.Place as place
 use Rattle.jt_trees.specs.Expressions.{Text}
 use Rattle.jt_trees.specs.Texts.{all_inserted}
-use Rattle.jt_names.specs.Names.{texts}
 use Rattle.jt_image.specs.Code.{Spot}
 use Rattle.jt_image.specs.View.{spot_view, spots_view}
 use Rattle.jt_image.specs.declared.parts.Spot as given
 use Rattle.jt_resolved.specs.declared.program.Place.{Place}
 use Rattle.jt_lower.specs.Emission.{tag_view, places_view}
-use Rattle.jt_lower.specs.Spots.{templates_in, templates_of, number_of, spot_of}
+use Rattle.jt_lower.specs.Spots.{templates_in, templates_of, spot_of}
 use Rattle.jt_lower.proofs.Spots.{Among, number_within, all_here}
 use Rattle.jt_codegen.specs.Naming.{IsNamed}
 
@@ -42,12 +40,6 @@ each_named ns (Some q ∷ qs) f = (number_within q.template ns (f q.template (in
 
 pub all_named : (qs : List (Option place.Place)) → AllByRecursion (IsNamed (templates_of qs)) qs
 all_named qs = each_named (templates_of qs) qs (λ t i. all_here t (templates_in qs) [] i)
-
--- ---- numbers
-
--- so many were tried, and are other ones
-abbrev pub Tried : Text → List (Bor Text) → ℕ → Type 0
-Tried t ns i = number_of t (texts ns) ≡ i + number_of t (texts (drop i ns))
 
 -- ---- spots
 

@@ -9,6 +9,7 @@ ghost use Rattle.jt_lower.specs.Emission.{tag_view, places_view};
 ghost use Rattle.jt_trees.specs.Texts.{all_inserted};
 ghost use Rattle.jt_names.specs.Names.{texts};
 ghost use Rattle.jt_lower.specs.Spots.{templates_in, templates_of, number_of, spot_of};
+ghost use Rattle.jt_meaning.specs.Ascends.{Ascends};
 ghost use Rattle.jt_codegen.specs.Naming.{IsNamed};
 ghost use Rattle.jt_codegen.specs.Units.{RefusesTemplates};
 
@@ -99,18 +100,12 @@ fn add_template<'a>(
     Ok(())
 }
 
-/// How many of these names stand before this one.
+/// How many of these names, which ascend, stand before this one: all where it isn't among them.
 fn number_of(name: &str, named: &[&str]) -> usize
+    requires ascend { Ascends (texts named.now) }
     ensures { result ≡ number_of name.now (texts named.now) }
 {
-    let mut before = 0;
-    for other in named {
-        if *other == name {
-            return before;
-        }
-        before += 1;
-    }
-    before
+    named.binary_search(&name).unwrap_or(named.len())
 }
 
 /// What an image tells of each place, by the numbers of these names.
@@ -121,6 +116,7 @@ fn spots_of(
     places: &[Option<Place>],
 ) -> Result<Vec<Spot>, AllocError>
     requires few { length named.now ≤ max_count }
+    requires ascend { Ascends (texts named.now) }
     requires named { AllByRecursion (IsNamed (texts named.now))
         (places_view (texts_view templates.now) places.now) }
     ensures { IfOk result (λ ss. spots_view ss.items
@@ -136,6 +132,7 @@ fn spots_of(
 /// What an image tells of a place, by the numbers of these names: they are counted from 1.
 fn spot_of(templates: &[String], named: &[&str], tag: Option<Place>) -> Spot
     requires few { length named.now ≤ max_count }
+    requires ascend { Ascends (texts named.now) }
     requires named { IsNamed (texts named.now) (tag_view (texts_view templates.now) tag) }
     ensures { spot_view result ≡ spot_of (texts named.now) (tag_view (texts_view templates.now) tag) }
 {
