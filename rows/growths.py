@@ -34,6 +34,7 @@ import subprocess
 import sys
 import tempfile
 
+import programs
 from growth_cases import CALLS, MORE_CALLS, TEMPLATES, WRITES, X, cases, in_folder
 
 HERE = pathlib.Path(__file__).resolve().parent
@@ -407,16 +408,11 @@ def calls_refused(pool, rows, trials, shim, folder):
 
 
 def main():
-    words = [word for word in sys.argv[1:] if word != "--table"]
-    if not 1 <= len(words) <= 2:
-        sys.exit("usage: rows/growths.py PROGRAM [TRIALS] [--table]")
-    program = os.path.realpath(words[0])
-    beside = pathlib.Path(program).parents[2] / "jt_trials/out/jt_trials"
-    trials = os.path.realpath(words[1] if len(words) == 2 else beside)
+    program, trials = programs.asked([word for word in sys.argv[1:] if word != "--table"], " [--table]")
     with tempfile.TemporaryDirectory(prefix="jt-growths-") as folder:
         shim = built(folder)
-        if not shim or not all(os.access(it, os.X_OK) for it in (program, trials)):
-            print(f"rows/growths.py: no compiler of C, or no program {program} or {trials}\n0 passed, 1 failed")
+        if not shim:
+            print("rows/growths.py: no compiler of C\n0 passed, 1 failed")
             sys.exit(1)
         rows = Rows("--table" in sys.argv)
         with concurrent.futures.ProcessPoolExecutor(os.cpu_count()) as pool:

@@ -26,6 +26,7 @@ import sys
 import tempfile
 
 import images_bytes
+import programs
 from images_bytes import Fault, Reader
 
 HERE = pathlib.Path(__file__).resolve().parent
@@ -216,14 +217,7 @@ def gathered(jobs):
 
 
 def main():
-    if not 2 <= len(sys.argv) <= 3:
-        sys.exit("usage: rows/hostile.py PROGRAM [TRIALS]")
-    program = os.path.realpath(sys.argv[1])
-    beside = pathlib.Path(program).parents[2] / "jt_trials/out/jt_trials"
-    trials = os.path.realpath(sys.argv[2] if len(sys.argv) == 3 else beside)
-    if not all(os.access(it, os.X_OK) for it in (program, trials)):
-        print(f"rows/hostile.py: no program {program} or {trials}\n0 passed, 1 failed")
-        sys.exit(1)
+    program, trials = programs.asked(sys.argv[1:])
     passed = failed = 0
     with concurrent.futures.ProcessPoolExecutor(os.cpu_count()) as pool:
         rows = {name: [pool.submit(judged_image, trials, name, *image, at) for at in range(IMAGE_STEP)]

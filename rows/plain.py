@@ -18,6 +18,7 @@ import sys
 import tempfile
 
 import images
+import programs
 import run
 
 HERE = pathlib.Path(__file__).resolve().parent
@@ -74,14 +75,7 @@ def tried(trials, part):
 
 
 def main():
-    if not 2 <= len(sys.argv) <= 3:
-        sys.exit("usage: rows/plain.py PROGRAM [TRIALS]")
-    program = os.path.realpath(sys.argv[1])
-    beside = pathlib.Path(program).parents[2] / "jt_trials/out/jt_trials"
-    trials = os.path.realpath(sys.argv[2] if len(sys.argv) == 3 else beside)
-    if not all(os.access(it, os.X_OK) for it in (program, trials)):
-        print(f"rows/plain.py: no program {program} or {trials}\n0 passed, 1 failed")
-        sys.exit(1)
+    program, trials = programs.asked(sys.argv[1:])
     cases = [case for case in [*all_of_templates(program), *all_of_images()] if len(case[2]) <= MOST]
     cases.sort(key=lambda case: len(case[2]))
     parts = [cases[at::PARTS] for at in range(PARTS) if cases[at::PARTS]]
