@@ -7,7 +7,7 @@ use Rattle.clap.specs.declared.builder.Arg.{Arg}
 use Rattle.clap.specs.declared.builder.Command.{Command}
 use Rattle.clap.specs.declared.builder.Command.TheViews.{out-Command as fields_of}
 use Rattle.jt_args.specs.declared.grammar.Argument.{Argument}
-use Rattle.jt_args.specs.declared.grammar.Form.{Form}
+use Rattle.jt_args.specs.declared.grammar.CommandForm.{CommandForm}
 use Rattle.jt_args.specs.Grammar.{app_for, rule_for, with_arguments, with_commands}
 
 or_false : (b : Bool) → (b || false) ≡ b
@@ -42,13 +42,13 @@ arguments_done target made xs i most least before =
     (sym (ap (λ ys. with_arguments (app_of made) ys) (none_left xs i most least)) ∙ before.0, before.1)
 
 -- one command more
-pub command_added : (target : App) (old part new : Command) (xs : List Form) (i : ℕ) (d : Form)
+pub command_added : (target : App) (old part new : Command) (xs : List CommandForm) (i : ℕ) (d : CommandForm)
     → i < length xs → (app_of part ≡ app_for (get_or xs i d)) × ((fields_of part).has_globals ≡ false) → AddsSubcommand old part new
     → with_commands (app_of old) (drop i xs) ≡ target → with_commands (app_of new) (drop (i + 1) xs) ≡ target
 command_added target old part new xs i d below made added before =
     let is : app_of new ≡ with_subcommand (app_of old) (app_for (get_or xs i d)).top = added.shape made.1 ∙ ap (λ a. with_subcommand (app_of old) a.top) made.0 in
     ap (λ a. with_commands a (drop (i + 1) xs)) is ∙ (sym (ap (λ ys. with_commands (app_of old) ys) (one_less xs i d below)) ∙ before)
 
-pub commands_done : (target : App) (made : Command) (xs : List Form) (i : ℕ) → i ≤ length xs → length xs ≤ i
+pub commands_done : (target : App) (made : Command) (xs : List CommandForm) (i : ℕ) → i ≤ length xs → length xs ≤ i
     → with_commands (app_of made) (drop i xs) ≡ target → app_of made ≡ target
 commands_done target made xs i most least before = sym (ap (λ ys. with_commands (app_of made) ys) (none_left xs i most least)) ∙ before

@@ -5,9 +5,9 @@ use Rattle.clap.specs.declared.builder.Command.{Command}
 use Rattle.clap.specs.declared.builder.Command.TheViews.{out-Command as fields_of}
 use Rattle.clap.specs.declared.builder.ArgAction.TheVariants.{Append}
 use Rattle.jt_args.specs.declared.grammar.Argument.{Argument}
-use Rattle.jt_args.specs.declared.grammar.Form.{Form}
-use Rattle.jt_args.specs.declared.grammar.Kind.{Kind}
-use Rattle.jt_args.specs.declared.grammar.Kind.TheVariants as kind
+use Rattle.jt_args.specs.declared.grammar.CommandForm.{CommandForm}
+use Rattle.jt_args.specs.declared.grammar.ArgumentKind.{ArgumentKind}
+use Rattle.jt_args.specs.declared.grammar.ArgumentKind.TheVariants as kind
 use Rattle.jt_args.specs.Line.{flag_rule, option_rule, word_rule}
 
 -- a command of this rule, with no argument that is for its subcommands too
@@ -15,7 +15,7 @@ abbrev pub IsApp : {E : Type 0} → Result Command E → App → Type 0
 IsApp made a = IfOk made (λ c. (app_of c ≡ a) × ((fields_of c).has_globals ≡ false))
 
 -- the rule of an argument of this kind and name
-abbrev pub rule_of_kind : Kind → Text → Rule
+abbrev pub rule_of_kind : ArgumentKind → Text → Rule
 rule_of_kind kind.Word name = word_rule name
 rule_of_kind kind.OptionalWord name = new_rule name
 rule_of_kind kind.Words name = record (new_rule name) { action = Some Append }
@@ -29,9 +29,9 @@ abbrev pub with_arguments : App → List Argument → App
 with_arguments a [] = a
 with_arguments a (x ∷ xs) = with_arguments (with_rule a (rule_for x)) xs
 
-abbrev pub app_for : Form → App
+abbrev pub app_for : CommandForm → App
 app_for form = with_arguments (new_app form.name.now) form.arguments.now
 
-abbrev pub with_commands : App → List Form → App
+abbrev pub with_commands : App → List CommandForm → App
 with_commands a [] = a
 with_commands a (form ∷ forms) = with_commands (with_subcommand a (app_for form).top) forms

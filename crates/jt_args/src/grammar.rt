@@ -10,7 +10,7 @@ use clap::{Arg, ArgAction, Command};
 use std::alloc::{AllocError, Global};
 
 /// A command with its words, options and flags.
-struct Form {
+struct CommandForm {
     name: &'static str,
     about: &'static str,
     arguments: &'static [Argument],
@@ -19,11 +19,11 @@ struct Form {
 /// A word, an option or a flag.
 struct Argument {
     name: &'static str,
-    kind: Kind,
+    kind: ArgumentKind,
     help: &'static str,
 }
 
-enum Kind {
+enum ArgumentKind {
     /// A word that has to be there.
     Word,
     /// A word that may be left out.
@@ -46,108 +46,108 @@ const SLICES: ValueParser<'static> = ValueParser::Signed(1, 1_000_000);
 
 const DIR: Argument = Argument {
     name: "DIR",
-    kind: Kind::Word,
+    kind: ArgumentKind::Word,
     help: "The directory of the templates",
 };
 
 const NAME: Argument = Argument {
     name: "NAME",
-    kind: Kind::Word,
+    kind: ArgumentKind::Word,
     help: "The template's name",
 };
 
 const OUT: Argument = Argument {
     name: "OUT",
-    kind: Kind::Word,
+    kind: ArgumentKind::Word,
     help: "The file for the image",
 };
 
 const IN: Argument = Argument {
     name: "IN",
-    kind: Kind::Word,
+    kind: ArgumentKind::Word,
     help: "The image's file",
 };
 
 const IMAGE: Argument = Argument {
     name: "IMAGE",
-    kind: Kind::Word,
+    kind: ArgumentKind::Word,
     help: "The image's file",
 };
 
 const CONTEXT: Argument = Argument {
     name: "CONTEXT",
-    kind: Kind::OptionalWord,
+    kind: ArgumentKind::OptionalWord,
     help: "A file of JSON: the values of names",
 };
 
 const PAIRS: Argument = Argument {
     name: "PAIRS",
-    kind: Kind::Words,
+    kind: ArgumentKind::Words,
     help: "The files of an image and of a context, for each session",
 };
 
 const TRIM_BLOCKS: Argument = Argument {
     name: "trim-blocks",
-    kind: Kind::Flag,
+    kind: ArgumentKind::Flag,
     help: "Drops a newline directly behind a block tag",
 };
 
 const LSTRIP_BLOCKS: Argument = Argument {
     name: "lstrip-blocks",
-    kind: Kind::Flag,
+    kind: ArgumentKind::Flag,
     help: "Drops the spaces of a line before a block tag",
 };
 
 const KEEP_TRAILING_NEWLINE: Argument = Argument {
     name: "keep-trailing-newline",
-    kind: Kind::Flag,
+    kind: ArgumentKind::Flag,
     help: "Keeps the last newline of each template",
 };
 
 const NO_AUTOESCAPE: Argument = Argument {
     name: "no-autoescape",
-    kind: Kind::Flag,
+    kind: ArgumentKind::Flag,
     help: "Escapes nothing unless a template says so",
 };
 
 const FUEL: Argument = Argument {
     name: "fuel",
-    kind: Kind::Number(LONG),
+    kind: ArgumentKind::Number(LONG),
     help: "What the instructions may cost [default: 1000000]",
 };
 
 const DEPTH: Argument = Argument {
     name: "depth",
-    kind: Kind::Number(USUAL),
+    kind: ArgumentKind::Number(USUAL),
     help: "How many calls may be open [default: 64]",
 };
 
 const OUTPUT: Argument = Argument {
     name: "output",
-    kind: Kind::Number(LONG),
+    kind: ArgumentKind::Number(LONG),
     help: "How many bytes may be put out [default: 1048576]",
 };
 
 const SIZE: Argument = Argument {
     name: "size",
-    kind: Kind::Number(USUAL),
+    kind: ArgumentKind::Number(USUAL),
     help: "How large a value may be [default: 1048576]",
 };
 
 const NESTING: Argument = Argument {
     name: "nesting",
-    kind: Kind::Number(SHORT),
+    kind: ArgumentKind::Number(SHORT),
     help: "How deep a value may nest [default: 32]",
 };
 
 const SLICE: Argument = Argument {
     name: "slice",
-    kind: Kind::Number(SLICES),
+    kind: ArgumentKind::Number(SLICES),
     help: "How many instructions a turn has, 1 to 1000000 [default: 100]",
 };
 
-const COMMANDS: [Form; 6] = [
-    Form {
+const COMMANDS: [CommandForm; 6] = [
+    CommandForm {
         name: "compile",
         about: "Compiles a template into an image",
         arguments: &[
@@ -160,17 +160,17 @@ const COMMANDS: [Form; 6] = [
             NO_AUTOESCAPE,
         ],
     },
-    Form {
+    CommandForm {
         name: "check",
         about: "Verifies an image",
         arguments: &[IMAGE],
     },
-    Form {
+    CommandForm {
         name: "run",
         about: "Runs an image and prints its text",
         arguments: &[IMAGE, CONTEXT, FUEL, DEPTH, OUTPUT, SIZE, NESTING],
     },
-    Form {
+    CommandForm {
         name: "render",
         about: "Compiles a template and prints its text",
         arguments: &[
@@ -188,12 +188,12 @@ const COMMANDS: [Form; 6] = [
             NESTING,
         ],
     },
-    Form {
+    CommandForm {
         name: "turns",
         about: "Runs images, each for its context, in turns",
         arguments: &[PAIRS, SLICE, FUEL, DEPTH, OUTPUT, SIZE, NESTING],
     },
-    Form {
+    CommandForm {
         name: "upgrade",
         about: "Writes an image in version 2, whose faults may have places",
         arguments: &[IN, OUT],
@@ -216,7 +216,7 @@ pub(crate) fn program<'a>(alloc: Global) -> Result<Command<'a>, AllocError>
 fn add_commands<'a>(
     alloc: Global,
     mut program: Command<'a>,
-    forms: &[Form],
+    forms: &[CommandForm],
 ) -> Result<Command<'a>, AllocError>
     ensures { IfOk result (λ c. app_of c ≡ with_commands (app_of program.entry) forms.now) }
 {
@@ -227,7 +227,7 @@ fn add_commands<'a>(
 }
 
 /// A command with its arguments.
-fn command<'a>(alloc: Global, form: &Form) -> Result<Command<'a>, AllocError>
+fn command<'a>(alloc: Global, form: &CommandForm) -> Result<Command<'a>, AllocError>
     ensures { IsApp result (app_for form.now) }
 {
     let mut command = Command::new(alloc, form.name).about(form.about);
@@ -244,10 +244,10 @@ fn arg<'a>(alloc: Global, wanted: &Argument) -> Arg<'a>
 {
     let made = Arg::new(alloc, wanted.name).help(wanted.help);
     match wanted.kind {
-        Kind::Word => made.required(true),
-        Kind::OptionalWord => made,
-        Kind::Words => made.action(ArgAction::Append),
-        Kind::Number(range) => made.long(wanted.name).value_parser(range),
-        Kind::Flag => made.long(wanted.name).action(ArgAction::SetTrue),
+        ArgumentKind::Word => made.required(true),
+        ArgumentKind::OptionalWord => made,
+        ArgumentKind::Words => made.action(ArgAction::Append),
+        ArgumentKind::Number(range) => made.long(wanted.name).value_parser(range),
+        ArgumentKind::Flag => made.long(wanted.name).action(ArgAction::SetTrue),
     }
 }

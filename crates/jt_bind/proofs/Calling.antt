@@ -15,7 +15,7 @@ use Rattle.jt_chains.specs.Uses.{count}
 use Rattle.jt_chains.specs.Chain.{Home, MacroBody}
 use Rattle.jt_rules.specs.World.{World}
 use Rattle.jt_resolved.specs.Pool.{Constant, own}
-use Rattle.jt_resolved.specs.Slots.{SExpr, absent, invoke, SRow, item, variable, local, made, a_list, field, pooled}
+use Rattle.jt_resolved.specs.Slots.{SlotExpr, absent, invoke, SRow, item, variable, local, made, a_list, field, pooled}
 use Rattle.jt_resolved.specs.View.{slot_view}
 use Rattle.jt_resolved.specs.declared.program.Slot.{Slot}
 use Rattle.jt_meaning.specs.Layout.{Table, slot_in, of_macro, of_body, unit, default_place}
@@ -56,5 +56,5 @@ pub locals_next : (xs : List Text) (i : ℕ) → i < length xs → item (variabl
 locals_next xs i lt = ap (λ (n : ℕ). item (variable (local i)) (first_locals n (drop (i + 1) xs))) (add-one i) ∙ sym (ap (first_locals i) (drop_more xs i [] lt))
 
 -- the item of a list by the turn among so many
-abbrev pub cycled : ℕ → SRow Constant → SExpr Constant
+abbrev pub cycled : ℕ → SRow Constant → SlotExpr Constant
 cycled n es = operation_of op.Item (made a_list es) (operation_of op.Remainder (field index0) (pooled (own (tree.number (pos n)))))

@@ -6,14 +6,14 @@ use Rattle.jt_trees.specs.Expressions.{Text}
 use Rattle.jt_resolved.specs.Locals.{slot_locals, slots_locals, targets_locals, expr_locals, row_locals, condition_locals, stmt_locals, body_locals}
 use Rattle.jt_resolved.specs.Pool.{Constant, placed_expr, placed_row, placed_condition, placed_stmt, placed_body}
 use Rattle.jt_resolved.specs.Slots as slots
-use Rattle.jt_resolved.specs.Slots.{SExpr, SRow, SStmt, SBody}
+use Rattle.jt_resolved.specs.Slots.{SlotExpr, SRow, SlotStmt, SBody}
 use Rattle.jt_resolved.specs.View.{Front, slot_view, targets_view, entry_front, expr_view, row_view, stmt_view, body_view, choice_view}
 use Rattle.jt_resolved.specs.declared.program.Slot as code_slot
 use Rattle.jt_resolved.specs.declared.program.Place.{Place}
 use Rattle.jt_resolved.specs.declared.program.Targets.{Targets}
-use Rattle.jt_resolved.specs.declared.program.SExpr as code
-use Rattle.jt_resolved.specs.declared.program.SStmt as code_stmt
-use Rattle.jt_resolved.specs.declared.program.SStmt.TheVariants as s
+use Rattle.jt_resolved.specs.declared.program.SlotExpr as code
+use Rattle.jt_resolved.specs.declared.program.SlotStmt as code_stmt
+use Rattle.jt_resolved.specs.declared.program.SlotStmt.TheVariants as s
 use Rattle.jt_bind.specs.Counts.{aside_locals, target_locals}
 use Rattle.jt_bind.specs.Stated.{Branch}
 use Rattle.jt_resolved.proofs.ExpressionViews.{Entry}
@@ -25,7 +25,7 @@ both_counted : (a b c d : ℕ) → a ≡ b → c ≡ d → max a c ≡ max b d
 both_counted a b c d e f = ap (λ n. max n c) e ∙ ap (max b) f
 
 mutual
-  pub expr_counted : (e : SExpr Constant) (n : ℕ) → expr_locals (placed_expr e n) ≡ expr_locals e
+  pub expr_counted : (e : SlotExpr Constant) (n : ℕ) → expr_locals (placed_expr e n) ≡ expr_locals e
   expr_counted (slots.pooled k) n = refl
   expr_counted (slots.variable s) n = refl
   expr_counted (slots.field f) n = refl
@@ -41,12 +41,12 @@ mutual
   row_counted (slots.item e es) n = both_counted _ _ _ _ (expr_counted e _) (row_counted es _)
   row_counted (slots.aside i e es) n = both_counted _ _ _ _ refl (both_counted _ _ _ _ (expr_counted e _) (row_counted es _))
 
-pub condition_counted : (k : Option (SExpr Constant)) (n : ℕ) → condition_locals (placed_condition k n) ≡ condition_locals k
+pub condition_counted : (k : Option (SlotExpr Constant)) (n : ℕ) → condition_locals (placed_condition k n) ≡ condition_locals k
 condition_counted None n = refl
 condition_counted (Some c) n = expr_counted c n
 
 mutual
-  pub stmt_counted : (c : SStmt Constant) (n : ℕ) → stmt_locals (placed_stmt c n) ≡ stmt_locals c
+  pub stmt_counted : (c : SlotStmt Constant) (n : ℕ) → stmt_locals (placed_stmt c n) ≡ stmt_locals c
   stmt_counted (slots.put_pooled k) n = refl
   stmt_counted (slots.print p escaping e) n = expr_counted e n
   stmt_counted (slots.assign p xs e) n = both_counted _ _ _ _ refl (expr_counted e n)
@@ -116,40 +116,40 @@ row_step es i b n k m m' r lt is given kept more so =
     first None = omega arith
     first (Some j) = omega arith
 
-pub body_step : (templates : List Text) (ss : List code_stmt.SStmt) (i : ℕ) (x : code_stmt.SStmt) (n m m' : ℕ) (behind : SBody ℕ) (r : ℕ) → i < length ss → x ≡ get_or ss i x
+pub body_step : (templates : List Text) (ss : List code_stmt.SlotStmt) (i : ℕ) (x : code_stmt.SlotStmt) (n m m' : ℕ) (behind : SBody ℕ) (r : ℕ) → i < length ss → x ≡ get_or ss i x
     → ((b : SBody ℕ) → body_locals (stmt_view templates x b) ≡ max n (body_locals b)) → m' ≡ max m n
     → max m (body_locals (body_view templates (drop i ss) behind)) ≡ r → max m' (body_locals (body_view templates (drop (i + 1) ss) behind)) ≡ r
 body_step templates ss i x n m m' behind r lt is counted more so =
     let rest = body_view templates (drop (i + 1) ss) behind in
     counted_on m m' n (body_locals rest) (body_locals (body_view templates (drop i ss) behind)) r more
-    (ap (λ (l : List code_stmt.SStmt). body_locals (body_view templates l behind)) (drop_more ss i x lt) ∙ ap (λ (z : code_stmt.SStmt). body_locals (stmt_view templates z rest)) (sym is) ∙ counted rest) so
+    (ap (λ (l : List code_stmt.SlotStmt). body_locals (body_view templates l behind)) (drop_more ss i x lt) ∙ ap (λ (z : code_stmt.SlotStmt). body_locals (stmt_view templates z rest)) (sym is) ∙ counted rest) so
 
-pub branch_step : (templates : List Text) (bs : List Branch) (i : ℕ) (b : Branch) (us : List code_stmt.SStmt) (n k m m' r : ℕ) → i < length bs → b ≡ get_or bs i b → us ≡ b.2.items → n ≡ expr_locals (expr_view b.1)
+pub branch_step : (templates : List Text) (bs : List Branch) (i : ℕ) (b : Branch) (us : List code_stmt.SlotStmt) (n k m m' r : ℕ) → i < length bs → b ≡ get_or bs i b → us ≡ b.2.items → n ≡ expr_locals (expr_view b.1)
     → ((z : SBody ℕ) → body_locals (body_view templates us z) ≡ max k (body_locals z)) → m' ≡ max m (max n k)
     → max m (branches_locals templates (drop i bs)) ≡ r → max m' (branches_locals templates (drop (i + 1) bs)) ≡ r
 branch_step templates bs i b us n k m m' r lt is body asked taken more so =
     let rest = branches_locals templates (drop (i + 1) bs) in
-    let inner : body_locals (body_view templates b.2.items slots.end) ≡ k = ap (λ (l : List code_stmt.SStmt). body_locals (body_view templates l slots.end)) (sym body) ∙ taken slots.end ∙ max_zero k in
+    let inner : body_locals (body_view templates b.2.items slots.end) ≡ k = ap (λ (l : List code_stmt.SlotStmt). body_locals (body_view templates l slots.end)) (sym body) ∙ taken slots.end ∙ max_zero k in
     counted_on m m' (max n k) rest (branches_locals templates (drop i bs)) r more
     (ap (branches_locals templates) (drop_more bs i b lt) ∙ ap (λ (z : Branch). branches_locals templates (z ∷ drop (i + 1) bs)) (sym is) ∙ ap (λ z. max (max z (body_locals (body_view templates b.2.items slots.end))) rest) (sym asked) ∙ ap (λ z. max (max n z) rest) inner) so
 
 -- ---- forms of statements
 
-module _ (templates : List Text) (x : code_stmt.SStmt) (behind : SBody ℕ) where
-  pub choice_done : (bs : Vec Branch Global) (other : Vec code_stmt.SStmt Global) (m n : ℕ) → x ≡ s.If bs other → ((b : SBody ℕ) → body_locals (body_view templates other.items b) ≡ max m (body_locals b)) → n ≡ max m (branches_locals templates bs.items)
+module _ (templates : List Text) (x : code_stmt.SlotStmt) (behind : SBody ℕ) where
+  pub choice_done : (bs : Vec Branch Global) (other : Vec code_stmt.SlotStmt Global) (m n : ℕ) → x ≡ s.If bs other → ((b : SBody ℕ) → body_locals (body_view templates other.items b) ≡ max m (body_locals b)) → n ≡ max m (branches_locals templates bs.items)
       → body_locals (stmt_view templates x behind) ≡ max n (body_locals behind)
   choice_done bs other m n is f h =
-      ap (λ (z : code_stmt.SStmt). body_locals (stmt_view templates z behind)) is ∙ ap body_locals (view_If templates bs other behind) ∙ choice_counted templates bs.items (body_view templates other.items) m f behind
+      ap (λ (z : code_stmt.SlotStmt). body_locals (stmt_view templates z behind)) is ∙ ap body_locals (view_If templates bs other behind) ∙ choice_counted templates bs.items (body_view templates other.items) m f behind
       ∙ ap (λ z. max z (body_locals behind)) (turned (branches_locals templates bs.items) m ∙ sym h)
     where
       turned : (a b : ℕ) → max a b ≡ max b a
       turned a b = omega arith
 
-  pub loop_counted : (p : Place) (xs : Targets) (e : code.SExpr) (c : Option code.SExpr) (body other : Vec code_stmt.SStmt Global) (m n k t l r : ℕ) → x ≡ s.For p xs e c body other → m ≡ targets_locals (targets_view xs) → n ≡ expr_locals (expr_view e)
+  pub loop_counted : (p : Place) (xs : Targets) (e : code.SlotExpr) (c : Option code.SlotExpr) (body other : Vec code_stmt.SlotStmt Global) (m n k t l r : ℕ) → x ≡ s.For p xs e c body other → m ≡ targets_locals (targets_view xs) → n ≡ expr_locals (expr_view e)
       → k ≡ condition_locals (option_map expr_view c) → ((b : SBody ℕ) → body_locals (body_view templates body.items b) ≡ max t (body_locals b)) → ((b : SBody ℕ) → body_locals (body_view templates other.items b) ≡ max l (body_locals b))
       → r ≡ max m (max (max n k) (max t l)) → body_locals (stmt_view templates x behind) ≡ max r (body_locals behind)
   loop_counted p xs e c body other m n k t l r is f g h a b z =
-      ap (λ (z : code_stmt.SStmt). body_locals (stmt_view templates z behind)) is ∙ ap body_locals (view_For templates p xs e c body other behind)
+      ap (λ (z : code_stmt.SlotStmt). body_locals (stmt_view templates z behind)) is ∙ ap body_locals (view_For templates p xs e c body other behind)
       ∙ ap (λ z. max z (body_locals behind))
       (ap (λ u. max u (max (max (expr_locals (expr_view e)) (condition_locals (option_map expr_view c))) (max (body_locals (body_view templates body.items slots.end)) (body_locals (body_view templates other.items slots.end))))) (sym f)
       ∙ ap (λ u. max m (max (max u (condition_locals (option_map expr_view c))) (max (body_locals (body_view templates body.items slots.end)) (body_locals (body_view templates other.items slots.end))))) (sym g)
@@ -157,8 +157,8 @@ module _ (templates : List Text) (x : code_stmt.SStmt) (behind : SBody ℕ) wher
       ∙ ap (λ u. max m (max (max n k) (max u (body_locals (body_view templates other.items slots.end))))) (a slots.end ∙ max_zero t)
       ∙ ap (λ u. max m (max (max n k) (max t u))) (b slots.end ∙ max_zero l) ∙ sym z)
 
-  pub capture_counted : (escaping : Bool) (y : code_slot.Slot) (body : Vec code_stmt.SStmt Global) (m n k : ℕ) → x ≡ s.Capture escaping y body → m ≡ slot_locals (slot_view y) → ((b : SBody ℕ) → body_locals (body_view templates body.items b) ≡ max n (body_locals b)) → k ≡ max m n
+  pub capture_counted : (escaping : Bool) (y : code_slot.Slot) (body : Vec code_stmt.SlotStmt Global) (m n k : ℕ) → x ≡ s.Capture escaping y body → m ≡ slot_locals (slot_view y) → ((b : SBody ℕ) → body_locals (body_view templates body.items b) ≡ max n (body_locals b)) → k ≡ max m n
       → body_locals (stmt_view templates x behind) ≡ max k (body_locals behind)
   capture_counted escaping y body m n k is f g h =
-      ap (λ (z : code_stmt.SStmt). body_locals (stmt_view templates z behind)) is ∙ ap body_locals (view_Capture templates escaping y body behind)
+      ap (λ (z : code_stmt.SlotStmt). body_locals (stmt_view templates z behind)) is ∙ ap body_locals (view_Capture templates escaping y body behind)
       ∙ ap (λ z. max z (body_locals behind)) (ap (λ z. max z (body_locals (body_view templates body.items slots.end))) (sym f) ∙ ap (max m) (g slots.end ∙ max_zero n) ∙ sym h)

@@ -4,9 +4,9 @@ use Rattle.jt_value.specs.Tree.{Tree}
 use Rattle.jt_trees.specs.Expressions as trees
 use Rattle.jt_resolved.specs.Pool.{Constant, expr_values, row_values, placed_expr, placed_row}
 use Rattle.jt_resolved.specs.Slots as slots
-use Rattle.jt_resolved.specs.Slots.{SExpr, SRow, Maker}
+use Rattle.jt_resolved.specs.Slots.{SlotExpr, SRow, Maker}
 use Rattle.jt_resolved.specs.View.{expr_view, row_view}
-use Rattle.jt_resolved.specs.declared.program.SExpr as code
+use Rattle.jt_resolved.specs.declared.program.SlotExpr as code
 use Rattle.jt_bind.specs.Scoped.{IsPlaced, RowLeads, expr_in}
 use Rattle.jt_bind.specs.Chains.{Chains}
 use Rattle.jt_bind.specs.declared.spot.Spot.{Spot}
@@ -22,13 +22,13 @@ grown_by p xs q e = ap length e ∙ length-append p xs
 pub both_pooled : (p xs ys q r : List Tree) → q ≡ p ++ xs → r ≡ q ++ ys → r ≡ p ++ (xs ++ ys)
 both_pooled p xs ys q r e f = f ∙ ap (λ l. l ++ ys) e ∙ append_assoc p xs ys
 
-pub conjunction_placed : (a b : SExpr Constant) (x y z : SExpr ℕ) (p q r : List Tree) → IsPlaced a x p q → IsPlaced b y q r → z ≡ slots.conjunction x y → IsPlaced (slots.conjunction a b) z p r
+pub conjunction_placed : (a b : SlotExpr Constant) (x y z : SlotExpr ℕ) (p q r : List Tree) → IsPlaced a x p q → IsPlaced b y q r → z ≡ slots.conjunction x y → IsPlaced (slots.conjunction a b) z p r
 conjunction_placed a b x y z p q r h g e = record {
   shown = e ∙ ap (λ w. slots.conjunction w y) h.shown ∙ ap (slots.conjunction (placed_expr a (length p))) (g.shown ∙ ap (placed_expr b) (grown_by p (expr_values a) q h.pooled));
   pooled = both_pooled p (expr_values a) (expr_values b) q r h.pooled g.pooled;
 }
 
-pub disjunction_placed : (a b : SExpr Constant) (x y z : SExpr ℕ) (p q r : List Tree) → IsPlaced a x p q → IsPlaced b y q r → z ≡ slots.disjunction x y → IsPlaced (slots.disjunction a b) z p r
+pub disjunction_placed : (a b : SlotExpr Constant) (x y z : SlotExpr ℕ) (p q r : List Tree) → IsPlaced a x p q → IsPlaced b y q r → z ≡ slots.disjunction x y → IsPlaced (slots.disjunction a b) z p r
 disjunction_placed a b x y z p q r h g e = record {
   shown = e ∙ ap (λ w. slots.disjunction w y) h.shown ∙ ap (slots.disjunction (placed_expr a (length p))) (g.shown ∙ ap (placed_expr b) (grown_by p (expr_values a) q h.pooled));
   pooled = both_pooled p (expr_values a) (expr_values b) q r h.pooled g.pooled;
@@ -39,7 +39,7 @@ disjunction_placed a b x y z p q r h g e = record {
 pub row_both : (a b c : SRow Constant) (es fs gs : List Entry) (p q r : List Tree) → RowLeads a b es fs p q → RowLeads b c fs gs q r → RowLeads a c es gs p r
 row_both a b c es fs gs p q r h g = record { shown = g.shown ∙ h.shown; pooled = g.pooled ∙ h.pooled }
 
-pub row_item : (c : SExpr Constant) (left : SRow Constant) (x : code.SExpr) (es fs : List Entry) (p q : List Tree) → IsPlaced c (expr_view x) p q → fs ≡ es ++ (None, x) ∷ [] → RowLeads (slots.item c left) left es fs p q
+pub row_item : (c : SlotExpr Constant) (left : SRow Constant) (x : code.SlotExpr) (es fs : List Entry) (p q : List Tree) → IsPlaced c (expr_view x) p q → fs ≡ es ++ (None, x) ∷ [] → RowLeads (slots.item c left) left es fs p q
 row_item c left x es fs p q h e = record {
   shown = ap (λ l. row_view l (placed_row left (length q))) e ∙ row_push es (None, x) (placed_row left (length q))
       ∙ ap (λ y. row_view es (slots.item y (placed_row left (length q)))) h.shown
@@ -47,7 +47,7 @@ row_item c left x es fs p q h e = record {
   pooled = ap (λ l. l ++ row_values left) h.pooled ∙ append_assoc p (expr_values c) (row_values left);
 }
 
-pub row_aside : (i : ℕ) (c : SExpr Constant) (left : SRow Constant) (x : code.SExpr) (es fs : List Entry) (p q : List Tree) → IsPlaced c (expr_view x) p q → fs ≡ es ++ (Some i, x) ∷ [] → RowLeads (slots.aside i c left) left es fs p q
+pub row_aside : (i : ℕ) (c : SlotExpr Constant) (left : SRow Constant) (x : code.SlotExpr) (es fs : List Entry) (p q : List Tree) → IsPlaced c (expr_view x) p q → fs ≡ es ++ (Some i, x) ∷ [] → RowLeads (slots.aside i c left) left es fs p q
 row_aside i c left x es fs p q h e = record {
   shown = ap (λ l. row_view l (placed_row left (length q))) e ∙ row_push es (Some i, x) (placed_row left (length q))
       ∙ ap (λ y. row_view es (slots.aside i y (placed_row left (length q)))) h.shown
@@ -56,16 +56,16 @@ row_aside i c left x es fs p q h e = record {
 }
 
 -- a row of which all is done
-pub made_placed : (k : Maker) (whole : SRow Constant) (es : List Entry) (z : SExpr ℕ) (p q : List Tree) → RowLeads whole slots.none [] es p q → z ≡ slots.made k (row_view es slots.none) → IsPlaced (slots.made k whole) z p q
+pub made_placed : (k : Maker) (whole : SRow Constant) (es : List Entry) (z : SlotExpr ℕ) (p q : List Tree) → RowLeads whole slots.none [] es p q → z ≡ slots.made k (row_view es slots.none) → IsPlaced (slots.made k whole) z p q
 made_placed k whole es z p q h e = record { shown = e ∙ ap (slots.made k) h.shown; pooled = sym (append-nil q) ∙ h.pooled }
 
-pub invoked_placed : (u : ℕ) (escaping : Bool) (whole : SRow Constant) (es : List Entry) (z : SExpr ℕ) (p q : List Tree) → RowLeads whole slots.none [] es p q → z ≡ slots.invoke u escaping (row_view es slots.none)
+pub invoked_placed : (u : ℕ) (escaping : Bool) (whole : SRow Constant) (es : List Entry) (z : SlotExpr ℕ) (p q : List Tree) → RowLeads whole slots.none [] es p q → z ≡ slots.invoke u escaping (row_view es slots.none)
     → IsPlaced (slots.invoke u escaping whole) z p q
 invoked_placed u escaping whole es z p q h e = record { shown = e ∙ ap (slots.invoke u escaping) h.shown; pooled = sym (append-nil q) ∙ h.pooled }
 
 -- ---- trees that are equal
 
-pub same_tree : (s : Chains) (spot : Spot) (x y : trees.Expr) (e : SExpr ℕ) (p q : List Tree) → x ≡ y → IsPlaced (expr_in s x spot) e p q → IsPlaced (expr_in s y spot) e p q
+pub same_tree : (s : Chains) (spot : Spot) (x y : trees.Expr) (e : SlotExpr ℕ) (p q : List Tree) → x ≡ y → IsPlaced (expr_in s x spot) e p q → IsPlaced (expr_in s y spot) e p q
 same_tree s spot x y e p q h = let P : trees.Expr → Type 0 = λ z. IsPlaced (expr_in s z spot) e p q in subst P h
 
 -- a row that began with nothing

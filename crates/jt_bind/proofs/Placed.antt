@@ -17,7 +17,7 @@ use Rattle.jt_meaning.specs.Layout.{Table, slot_in}
 use Rattle.jt_meaning.specs.Resolve.{Spot, slot_of, bound_table, bound_all}
 use Rattle.jt_names.specs.Names.{texts}
 use Rattle.jt_bind.specs.Scoped.{framed}
-use Rattle.jt_bind.specs.declared.frame.Frame.{Frame}
+use Rattle.jt_bind.specs.declared.name_scope.NameScope.{NameScope}
 
 -- the name of the template that a tag stands in
 pub name_shown : (ts : List Template) (i : ℕ) → unwrap_or (slice_get (map (λ t. t.name) ts) i) [] ≡ name_at ts i
@@ -27,16 +27,16 @@ pub place_shown : (ts : List Template) (i line : ℕ) → place_view (map (λ t.
 place_shown ts i line = ap (λ (x : Text). let p : place.Place = record { template = x; line = line } in p) (name_shown ts i)
 
 -- one scope more
-pub framed_push : (fs : List Frame) (f : Frame) (t : Table) → framed (fs ++ f ∷ []) t ≡ bound_table (texts f.names.items) f.first (framed fs t)
+pub framed_push : (fs : List NameScope) (f : NameScope) (t : Table) → framed (fs ++ f ∷ []) t ≡ bound_table (texts f.names.items) f.first (framed fs t)
 framed_push [] f t = refl
 framed_push (g ∷ fs) f t = framed_push fs f (bound_table (texts g.names.items) g.first t)
 
-pub entered_more : (rs : List (Rc Frame Global)) (r : Rc Frame Global) (f : Frame) (xs : List Text) (n : ℕ) (t : Table) → r.value ≡ f → texts f.names.items ≡ xs → f.first ≡ n
+pub entered_more : (rs : List (Rc NameScope Global)) (r : Rc NameScope Global) (f : NameScope) (xs : List Text) (n : ℕ) (t : Table) → r.value ≡ f → texts f.names.items ≡ xs → f.first ≡ n
     → framed (map (λ z. z.value) (rs ++ r ∷ [])) t ≡ bound_table xs n (framed (map (λ z. z.value) rs) t)
 entered_more rs r f xs n t e g h =
-    ap (λ l. framed l t) (map-append (λ (z : Rc Frame Global). z.value) rs (r ∷ []))
+    ap (λ l. framed l t) (map-append (λ (z : Rc NameScope Global). z.value) rs (r ∷ []))
     ∙ framed_push (map (λ z. z.value) rs) r.value t
-    ∙ ap (λ (z : Frame). bound_table (texts z.names.items) z.first (framed (map (λ z. z.value) rs) t)) e
+    ∙ ap (λ (z : NameScope). bound_table (texts z.names.items) z.first (framed (map (λ z. z.value) rs) t)) e
     ∙ ap (λ l. bound_table l f.first (framed (map (λ z. z.value) rs) t)) g
     ∙ ap (λ m. bound_table xs m (framed (map (λ z. z.value) rs) t)) h
 

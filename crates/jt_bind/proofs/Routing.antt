@@ -13,7 +13,7 @@ use Rattle.jt_resolved.specs.Pool.{Constant, body_values, routines_values, place
 use Rattle.jt_resolved.specs.Slots as slots
 use Rattle.jt_resolved.specs.Slots.{SBody}
 use Rattle.jt_resolved.specs.View.{body_view, routine_view}
-use Rattle.jt_resolved.specs.declared.program.SStmt.{SStmt}
+use Rattle.jt_resolved.specs.declared.program.SlotStmt.{SlotStmt}
 use Rattle.jt_resolved.specs.declared.program.Routine.{Routine}
 use Rattle.jt_layout.specs.Laid.{is_library}
 use Rattle.jt_bind.specs.Routines.{IsRoutine, AreRoutines, RoutinesLead, AllLed}
@@ -26,10 +26,10 @@ Planned = slots.Routine Constant
 
 module _ (templates : List Text) where
   -- the locals that were counted
-  pub locals_same : (w : SBody Constant) (ss : List SStmt) (p q : List Tree) (n : ℕ) → IsBody templates w ss p q → ((behind : SBody ℕ) → body_locals (body_view templates ss behind) ≡ max n (body_locals behind)) → n ≡ body_locals w
+  pub locals_same : (w : SBody Constant) (ss : List SlotStmt) (p q : List Tree) (n : ℕ) → IsBody templates w ss p q → ((behind : SBody ℕ) → body_locals (body_view templates ss behind) ≡ max n (body_locals behind)) → n ≡ body_locals w
   locals_same w ss p q n h counted = sym (max_zero n) ∙ sym (counted slots.end) ∙ ap body_locals (body_shown templates w ss p q h) ∙ body_counted w (length p)
 
-  pub routine_made : (parameters count : ℕ) (w : SBody Constant) (body : Vec SStmt Global) (n m : ℕ) (p q : List Tree) → IsBody templates w body.items p q → parameters ≡ count → n ≡ m
+  pub routine_made : (parameters count : ℕ) (w : SBody Constant) (body : Vec SlotStmt Global) (n m : ℕ) (p q : List Tree) → IsBody templates w body.items p q → parameters ≡ count → n ≡ m
       → IsRoutine templates (record { parameters = count; locals = m; body = w }) (record { parameters = parameters; locals = n; body = body }) p q
   routine_made parameters count w body n m p q h e f = record { shown = shown; pooled = body_pooled templates w body.items p q h }
     where

@@ -19,17 +19,17 @@ use Rattle.jt_trees.specs.declared.statement.Stmt.TheVariants as v
 use Rattle.jt_value.specs.Place.{Place}
 use Rattle.jt_resolved.specs.Pool.{Constant}
 use Rattle.jt_resolved.specs.Slots as slots
-use Rattle.jt_resolved.specs.Slots.{Slot, SExpr, SBody, local, global, one, Targets}
+use Rattle.jt_resolved.specs.Slots.{Slot, SlotExpr, SBody, local, global, one, Targets}
 use Rattle.jt_resolved.specs.View.{slot_view}
-use Rattle.jt_resolved.specs.declared.program.SExpr as code
+use Rattle.jt_resolved.specs.declared.program.SlotExpr as code
 use Rattle.jt_resolved.specs.declared.program.Slot as code_slot
-use Rattle.jt_resolved.specs.declared.program.SStmt.{SStmt}
+use Rattle.jt_resolved.specs.declared.program.SlotStmt.{SlotStmt}
 use Rattle.jt_meaning.specs.Layout.{Table, slot_in}
 use Rattle.jt_meaning.specs.Resolve.{Spot, read_from, followed, alone, copied, handed_on, resolved, resolved_values, resolved_body, resolved_condition, resolved_filters, grown, kept_slots, fresh_targets, bound_all, place}
 use Rattle.jt_names.specs.Names.{texts}
 use Rattle.jt_bind.specs.Chains.{Chains}
 use Rattle.jt_bind.specs.Names.{last_among}
-use Rattle.jt_bind.specs.declared.frame.Frame.{Frame}
+use Rattle.jt_bind.specs.declared.name_scope.NameScope.{NameScope}
 use Rattle.jt_bind.specs.declared.spot.Spot as code_spot
 use Rattle.jt_bind.specs.Scoped.{IsPlaced, BodyLeads, world_in, order_in, spot_in, templates_in, expr_in}
 use Rattle.jt_bind.specs.Stated.{Led, IsAsked, IsTurn, slot_if, line_in, stmt_in, body_in, choice_in, scoped_in, values_in}
@@ -49,8 +49,8 @@ copied_followed pl t n (x ∷ xs) b left = ap (slots.stmt (slots.assign pl (one 
 
 module _ (templates : List Text) (pl : Place) (t : Table) (ks : List (Bor Text)) (i n n' : ℕ) where
   -- one name more is copied into a local
-  pub copy_step : (d : Bor Text) (o : Option Slot) (e : SExpr ℕ) (ss ts : List SStmt) → o ≡ slot_in (get_or ks i d).now t → i < length ks → n' ≡ n + 1
-      → ((c : SExpr Constant) (p q : List Tree) → IsPlaced c e p q → Led templates (alone (slots.assign pl (one (local n)) c)) ss ts p q) → ((p : List Tree) → IsPlaced (read_from o) e p p)
+  pub copy_step : (d : Bor Text) (o : Option Slot) (e : SlotExpr ℕ) (ss ts : List SlotStmt) → o ≡ slot_in (get_or ks i d).now t → i < length ks → n' ≡ n + 1
+      → ((c : SlotExpr Constant) (p q : List Tree) → IsPlaced c e p q → Led templates (alone (slots.assign pl (one (local n)) c)) ss ts p q) → ((p : List Tree) → IsPlaced (read_from o) e p p)
       → (behind : SBody Constant) (p : List Tree) → BodyLeads templates (copied pl t n (texts (drop i ks)) behind) (copied pl t n' (texts (drop (i + 1) ks)) behind) ss ts p p
   copy_step d o e ss ts has lt more put reads behind p =
       let read = read_from (slot_in (get_or ks i d).now t) in
@@ -60,8 +60,8 @@ module _ (templates : List Text) (pl : Place) (t : Table) (ks : List (Bor Text))
       (put read p p (subst P has (reads p)) (copied pl t n' (texts (drop (i + 1) ks)) behind))
 
   -- one name more is handed on to a global
-  pub hand_step : (d : Bor Text) (e : SExpr ℕ) (ss ts : List SStmt) → i < length ks → n' ≡ n + 1
-      → ((c : SExpr Constant) (p q : List Tree) → IsPlaced c e p q → Led templates (alone (slots.assign pl (one (global n)) c)) ss ts p q) → ((p : List Tree) → IsPlaced (read_from (slot_in (get_or ks i d).now t)) e p p)
+  pub hand_step : (d : Bor Text) (e : SlotExpr ℕ) (ss ts : List SlotStmt) → i < length ks → n' ≡ n + 1
+      → ((c : SlotExpr Constant) (p q : List Tree) → IsPlaced c e p q → Led templates (alone (slots.assign pl (one (global n)) c)) ss ts p q) → ((p : List Tree) → IsPlaced (read_from (slot_in (get_or ks i d).now t)) e p p)
       → (left : SBody Constant) (p : List Tree) → BodyLeads templates (followed (handed_on pl t n (texts (drop i ks))) left) (followed (handed_on pl t n' (texts (drop (i + 1) ks))) left) ss ts p p
   hand_step d e ss ts lt more put reads left p =
       let read = read_from (slot_in (get_or ks i d).now t) in
@@ -77,7 +77,7 @@ values_followed world order (pair x e ps) sp line b left = ap (slots.stmt (slots
 
 -- ---- trees that are equal
 
-pub stmt_as : (s : Chains) (spot : code_spot.Spot) (x y : trees.Stmt) (ss ts : List SStmt) (p q : List Tree) → x ≡ y → Led (templates_in s) (stmt_in s x spot) ss ts p q → Led (templates_in s) (stmt_in s y spot) ss ts p q
+pub stmt_as : (s : Chains) (spot : code_spot.Spot) (x y : trees.Stmt) (ss ts : List SlotStmt) (p q : List Tree) → x ≡ y → Led (templates_in s) (stmt_in s x spot) ss ts p q → Led (templates_in s) (stmt_in s y spot) ss ts p q
 stmt_as s spot x y ss ts p q e h = led_of (templates_in s) (stmt_in s x spot) (stmt_in s y spot) ss ts p q (ap (λ z. stmt_in s z spot) e) h
 
 module _ (s : Chains) (spot : code_spot.Spot) (x : Stmt) where
@@ -107,14 +107,14 @@ filter_shown s spot line fs b n e =
     (alone (slots.print (line_in s spot line) spot.escaping (resolved_filters (world_in s) (order_in s) fs (spot_in s (record spot { free = m })) (slots.variable (local spot.free)))))) (e ∙ add-one spot.free)
 
 -- values, and what is behind them
-pub values_led : (s : Chains) (spot : code_spot.Spot) (ps : Pairs) (line : ℕ) (w : SBody Constant) (es fs gs : List SStmt) (p q r : List Tree)
+pub values_led : (s : Chains) (spot : code_spot.Spot) (ps : Pairs) (line : ℕ) (w : SBody Constant) (es fs gs : List SlotStmt) (p q r : List Tree)
     → ((behind : SBody Constant) → BodyLeads (templates_in s) (values_in s ps spot line behind) behind es fs p q) → Led (templates_in s) w fs gs q r → Led (templates_in s) (values_in s ps spot line w) es gs p r
 values_led s spot ps line w es fs gs p q r h g = λ left.
     lead_both (templates_in s) _ _ _ es fs gs p q r
     (lead_of (templates_in s) _ _ _ es fs p q (sym (values_followed (world_in s) (order_in s) ps (spot_in s spot) line w left)) (h (followed w left))) (g left)
 
 -- copies of what a scope sets, and its body
-pub scope_led : (s : Chains) (b : trees.Body) (sp : Spot) (spot : code_spot.Spot) (es fs gs : List SStmt) (p r : List Tree) → spot_in s spot ≡ bound_all (set_in b) sp
+pub scope_led : (s : Chains) (b : trees.Body) (sp : Spot) (spot : code_spot.Spot) (es fs gs : List SlotStmt) (p r : List Tree) → spot_in s spot ≡ bound_all (set_in b) sp
     → ((behind : SBody Constant) → BodyLeads (templates_in s) (copied (place sp 1) sp.table sp.free (set_in b) behind) behind es fs p p) → Led (templates_in s) (body_in s b spot) fs gs p r → Led (templates_in s) (scoped_in s b sp) es gs p r
 scope_led s b sp spot es fs gs p r e h g = λ left.
     let inner = resolved_body (world_in s) (order_in s) b (bound_all (set_in b) sp) in
@@ -124,16 +124,16 @@ scope_led s b sp spot es fs gs p r e h g = λ left.
     (lead_of (templates_in s) (followed (body_in s b spot) left) (followed inner left) left fs gs p r (ap (λ z. followed z left) same) (g left))
 
 -- copies of names that are another list
-pub copies_as : (s : Chains) (sp : Spot) (xs : List Text) (b : trees.Body) (es fs : List SStmt) (p : List Tree) → xs ≡ set_in b
+pub copies_as : (s : Chains) (sp : Spot) (xs : List Text) (b : trees.Body) (es fs : List SlotStmt) (p : List Tree) → xs ≡ set_in b
     → ((behind : SBody Constant) → BodyLeads (templates_in s) (copied (place sp 1) sp.table sp.free xs behind) behind es fs p p) → (behind : SBody Constant) → BodyLeads (templates_in s) (copied (place sp 1) sp.table sp.free (set_in b) behind) behind es fs p p
 copies_as s sp xs b es fs p e h behind = lead_of (templates_in s) _ _ behind es fs p p (ap (λ z. copied (place sp 1) sp.table sp.free z behind) e) (h behind)
 
 -- the same body at a place that is another
-pub scoped_as : (s : Chains) (b : trees.Body) (sp sq : Spot) (es fs : List SStmt) (p q : List Tree) → sp ≡ sq → Led (templates_in s) (scoped_in s b sp) es fs p q → Led (templates_in s) (scoped_in s b sq) es fs p q
+pub scoped_as : (s : Chains) (b : trees.Body) (sp sq : Spot) (es fs : List SlotStmt) (p q : List Tree) → sp ≡ sq → Led (templates_in s) (scoped_in s b sp) es fs p q → Led (templates_in s) (scoped_in s b sq) es fs p q
 scoped_as s b sp sq es fs p q e = led_of (templates_in s) (scoped_in s b sp) (scoped_in s b sq) es fs p q (ap (scoped_in s b) e)
 
 -- a loop's turn at a place that is another
-pub turn_as : (s : Chains) (b : trees.Body) (k : Option expressions.Expr) (sp sq : Spot) (d : Option code.SExpr) (ss : List SStmt) (p q r : List Tree) → sp ≡ sq → IsAsked (resolved_condition (world_in s) (order_in s) k sp) d p q → Led (templates_in s) (scoped_in s b sp) [] ss q r
+pub turn_as : (s : Chains) (b : trees.Body) (k : Option expressions.Expr) (sp sq : Spot) (d : Option code.SlotExpr) (ss : List SlotStmt) (p q r : List Tree) → sp ≡ sq → IsAsked (resolved_condition (world_in s) (order_in s) k sp) d p q → Led (templates_in s) (scoped_in s b sp) [] ss q r
     → IsTurn s (resolved_condition (world_in s) (order_in s) k sq) (scoped_in s b sq) d ss p r
 turn_as s b k sp sq d ss p q r e h g =
     let P : Spot → Type 0 = λ z. IsAsked (resolved_condition (world_in s) (order_in s) k z) d p q in
@@ -141,7 +141,7 @@ turn_as s b k sp sq d ss p q r e h g =
 
 -- ---- slots of names that are set
 
-pub kept_step : (t : Table) (ks : List (String Global)) (i : ℕ) (k : String Global) (last : Frame) (ss ts : List (Option code_slot.Slot)) (o : Option code_slot.Slot) {x : Text} → i < length ks → k ≡ get_or ks i k
+pub kept_step : (t : Table) (ks : List (String Global)) (i : ℕ) (k : String Global) (last : NameScope) (ss ts : List (Option code_slot.Slot)) (o : Option code_slot.Slot) {x : Text} → i < length ks → k ≡ get_or ks i k
     → texts last.names.items ≡ names_view ks → last.first ≡ 0 → option_map slot_view o ≡ slot_if (last_among x (texts last.names.items) last.first None) i (slot_in x t) → x ≡ string_bytes k → ts ≡ ss ++ o ∷ []
     → map (option_map slot_view) ss ++ kept_slots t (names_view (drop i ks)) ≡ kept_slots t (names_view ks)
     → map (option_map slot_view) ts ++ kept_slots t (names_view (drop (i + 1) ks)) ≡ kept_slots t (names_view ks)

@@ -12,8 +12,8 @@ use Rattle.jt_resolved.specs.Pool.{Constant}
 use Rattle.jt_resolved.specs.Slots as slots
 use Rattle.jt_resolved.specs.Slots.{SBody, SRow}
 use Rattle.jt_resolved.specs.View.{expr_view}
-use Rattle.jt_resolved.specs.declared.program.SExpr.{SExpr}
-use Rattle.jt_resolved.specs.declared.program.SStmt.{SStmt}
+use Rattle.jt_resolved.specs.declared.program.SlotExpr.{SlotExpr}
+use Rattle.jt_resolved.specs.declared.program.SlotStmt.{SlotStmt}
 use Rattle.jt_meaning.specs.Layout.{Table}
 use Rattle.jt_meaning.specs.Resolve as resolve
 use Rattle.jt_meaning.specs.Resolve.{locals_from}
@@ -22,7 +22,7 @@ use Rattle.jt_bind.specs.Scoped.{values, IsPlaced, RowLeads, spot_in, templates_
 use Rattle.jt_bind.specs.Stated.{Led, BodyLed, line_in, stmt_in, body_in, scoped_in, layer_at, values_in}
 
 -- a part of a row is put behind others, and its values at the end of a pool: what is left of it
-abbrev pub RowAdds : SRow Constant → SRow Constant → Vec (Option ℕ × SExpr) Global → Vec (Option ℕ × SExpr) Global → Vec Value Global → Vec Value Global → Type 0
+abbrev pub RowAdds : SRow Constant → SRow Constant → Vec (Option ℕ × SlotExpr) Global → Vec (Option ℕ × SlotExpr) Global → Vec Value Global → Vec Value Global → Type 0
 RowAdds whole left before after old new = RowLeads whole left before.items after.items (values old) (values new)
 
 module _ (r : Resolver) where
@@ -48,11 +48,11 @@ module _ (r : Resolver) where
 
   -- ---- expressions
 
-  abbrev pub expr_of : expressions.Expr → slots.SExpr Constant
+  abbrev pub expr_of : expressions.Expr → slots.SlotExpr Constant
   expr_of t = expr_in r.tables.now t r.spot
 
   -- what an expression is resolved to, with the values that it puts at the end of a pool
-  abbrev pub IsResolved : expressions.Expr → SExpr → Vec Value Global → Vec Value Global → Type 0
+  abbrev pub IsResolved : expressions.Expr → SlotExpr → Vec Value Global → Vec Value Global → Type 0
   IsResolved t e old new = IsPlaced (expr_of t) (expr_view e) (values old) (values new)
 
   abbrev pub row_of : expressions.Exprs → SRow Constant → SRow Constant
@@ -68,7 +68,7 @@ module _ (r : Resolver) where
   abbrev pub entries_of : expressions.Pairs → SRow Constant
   entries_of ps = entries_in r.tables.now ps r.spot
 
-  abbrev pub filtered_of : Option ℕ → slots.SExpr Constant → expressions.Exprs → expressions.Pairs → slots.SExpr Constant
+  abbrev pub filtered_of : Option ℕ → slots.SlotExpr Constant → expressions.Exprs → expressions.Pairs → slots.SlotExpr Constant
   filtered_of f c ts ps = filtered_in r.tables.now f c ts ps r.spot
 
   -- ---- statements
@@ -90,13 +90,13 @@ module _ (r : Resolver) where
   values_of ps line behind = values_in r.tables.now ps r.spot line behind
 
   -- all of a body is put behind other statements, and its values at the end of a pool
-  abbrev pub BodyAdds : SBody Constant → Vec SStmt Global → Vec SStmt Global → Vec Value Global → Vec Value Global → Type 0
+  abbrev pub BodyAdds : SBody Constant → Vec SlotStmt Global → Vec SlotStmt Global → Vec Value Global → Vec Value Global → Type 0
   BodyAdds whole before after old new = BodyLed r.tables.now whole before after old new
 
   -- so is what a statement is resolved to
-  abbrev pub StmtAdds : trees.Stmt → Vec SStmt Global → Vec SStmt Global → Vec Value Global → Vec Value Global → Type 0
+  abbrev pub StmtAdds : trees.Stmt → Vec SlotStmt Global → Vec SlotStmt Global → Vec Value Global → Vec Value Global → Type 0
   StmtAdds t before after old new = BodyAdds (stmt_of t) before after old new
 
   -- the same where the values are those of a pool
-  abbrev pub StmtLeads : trees.Stmt → Vec SStmt Global → Vec SStmt Global → List Tree → List Tree → Type 0
+  abbrev pub StmtLeads : trees.Stmt → Vec SlotStmt Global → Vec SlotStmt Global → List Tree → List Tree → Type 0
   StmtLeads t before after p q = Led templates_of (stmt_of t) before.items after.items p q

@@ -19,14 +19,14 @@ use Rattle.jt_trees.specs.Expressions as trees
 use Rattle.jt_resolved.specs.Slots as slots
 use Rattle.jt_resolved.specs.Slots.{SRow, SBody}
 use Rattle.jt_resolved.specs.View.{row_view, body_view}
-use Rattle.jt_resolved.specs.declared.program.SExpr.{SExpr}
-use Rattle.jt_resolved.specs.declared.program.SStmt.{SStmt}
+use Rattle.jt_resolved.specs.declared.program.SlotExpr.{SlotExpr}
+use Rattle.jt_resolved.specs.declared.program.SlotStmt.{SlotStmt}
 use Rattle.jt_meaning.specs.Layout.{Table, globals, numbered_bodies}
 use Rattle.jt_meaning.specs.Resolve as resolve
 use Rattle.jt_meaning.specs.Resolve.{Part, bound_table, filled_some, locals_from}
 use Rattle.jt_meaning.specs.Expressions.{filter_parameters}
 use Rattle.jt_names.specs.Names.{texts}
-use Rattle.jt_bind.specs.declared.frame.Frame.{Frame}
+use Rattle.jt_bind.specs.declared.name_scope.NameScope.{NameScope}
 use Rattle.jt_bind.specs.declared.spot.Spot.{Spot}
 use Rattle.jt_layout.specs.Laid.{IsLaid}
 use Rattle.jt_layout.specs.declared.laid.Laid.{Laid}
@@ -39,24 +39,24 @@ values pool = map view pool.items
 -- ---- what stands at the end of a pool that is filled from one list of values to another
 
 -- an expression, and the values that it put there
-pub record IsPlaced (c : slots.SExpr Constant) (e : slots.SExpr ℕ) (old new : List Tree) : Type 0 where
+pub record IsPlaced (c : slots.SlotExpr Constant) (e : slots.SlotExpr ℕ) (old new : List Tree) : Type 0 where
   pub shown : e ≡ placed_expr c (length old)
   pub pooled : new ≡ old ++ expr_values c
 
 -- expressions that were put behind others, so that of a row only a part is left to do
-pub record RowLeads (whole left : SRow Constant) (before after : List (Option ℕ × SExpr)) (old new : List Tree) : Type 0 where
+pub record RowLeads (whole left : SRow Constant) (before after : List (Option ℕ × SlotExpr)) (old new : List Tree) : Type 0 where
   pub shown : row_view after (placed_row left (length new)) ≡ row_view before (placed_row whole (length old))
   pub pooled : new ++ row_values left ≡ old ++ row_values whole
 
 -- statements that were put behind others, so that of a body only a part is left to do
-pub record BodyLeads (templates : List Text) (whole left : SBody Constant) (before after : List SStmt) (old new : List Tree) : Type 0 where
+pub record BodyLeads (templates : List Text) (whole left : SBody Constant) (before after : List SlotStmt) (old new : List Tree) : Type 0 where
   pub shown : body_view templates after (placed_body left (length new)) ≡ body_view templates before (placed_body whole (length old))
   pub pooled : new ++ body_values left ≡ old ++ body_values whole
 
 -- ---- where something is resolved
 
--- the names of frames, those of later ones further inside
-abbrev pub framed : List Frame → Table → Table
+-- the names of name_scopes, those of later ones further inside
+abbrev pub framed : List NameScope → Table → Table
 framed [] table = table
 framed (f ∷ fs) table = framed fs (bound_table (texts f.names.items) f.first table)
 
@@ -102,12 +102,12 @@ module _ (s : Chains) where
     template = name_at (chain_view s.chain.now).templates p.template;
     escaping = p.escaping;
     part = part_at (numbered_bodies world_in home_in) p.body;
-    table = framed (map (λ f. f.value) p.frames.now) globals_in;
+    table = framed (map (λ f. f.value) p.name_scopes.now) globals_in;
     free = p.free;
   }
 
   -- what the parts of a tree are resolved to
-  abbrev pub expr_in : trees.Expr → Spot → slots.SExpr Constant
+  abbrev pub expr_in : trees.Expr → Spot → slots.SlotExpr Constant
   expr_in e p = resolve.resolved world_in order_in e (spot_in p)
 
   abbrev pub row_in : trees.Exprs → Spot → SRow Constant → SRow Constant
@@ -120,7 +120,7 @@ module _ (s : Chains) where
   entries_in ps p = resolve.resolved_entries world_in order_in ps (spot_in p)
 
   -- a filter, by its number, of what is resolved, with the arguments that it is given
-  abbrev pub filtered_in : Option ℕ → slots.SExpr Constant → trees.Exprs → trees.Pairs → Spot → slots.SExpr Constant
+  abbrev pub filtered_in : Option ℕ → slots.SlotExpr Constant → trees.Exprs → trees.Pairs → Spot → slots.SlotExpr Constant
   filtered_in f c ts ps p =
       resolve.filtered_by f (spot_in p).escaping (slots.item c (row_in ts p (asides_in ps p
       (filled_some (filter_parameters world_in.filters f) (count ts) (keywords ps) (locals_from (spot_in p).free (keywords ps))))))

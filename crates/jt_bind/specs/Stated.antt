@@ -15,8 +15,8 @@ use Rattle.jt_resolved.specs.Slots as slots
 use Rattle.jt_resolved.specs.Slots.{SBody}
 use Rattle.jt_resolved.specs.View.{Front, place_view, expr_view, choice_view}
 use Rattle.jt_resolved.specs.declared.program.Place.{Place}
-use Rattle.jt_resolved.specs.declared.program.SExpr.{SExpr}
-use Rattle.jt_resolved.specs.declared.program.SStmt.{SStmt}
+use Rattle.jt_resolved.specs.declared.program.SlotExpr.{SlotExpr}
+use Rattle.jt_resolved.specs.declared.program.SlotStmt.{SlotStmt}
 use Rattle.jt_meaning.specs.Resolve as resolve
 use Rattle.jt_meaning.specs.Resolve.{followed}
 use Rattle.jt_bind.specs.Chains.{Chains}
@@ -25,20 +25,20 @@ use Rattle.jt_bind.specs.Scoped.{values, IsPlaced, BodyLeads, world_in, order_in
 
 -- the place of a branch's tag, its condition and its statements
 abbrev pub Branch : Type 0
-Branch = Place × SExpr × Vec SStmt Global
+Branch = Place × SlotExpr × Vec SlotStmt Global
 
 -- ---- what stands at the end of a pool that is filled from one list of values to another
 
 -- statements that were put behind others: all of a body, whatever is put behind it
-abbrev pub Led : List Text → SBody Constant → List SStmt → List SStmt → List Tree → List Tree → Type 0
+abbrev pub Led : List Text → SBody Constant → List SlotStmt → List SlotStmt → List Tree → List Tree → Type 0
 Led templates whole before after old new = (left : SBody Constant) → BodyLeads templates (followed whole left) left before after old new
 
 -- the statements of a body
-abbrev pub IsBody : List Text → SBody Constant → List SStmt → List Tree → List Tree → Type 0
+abbrev pub IsBody : List Text → SBody Constant → List SlotStmt → List Tree → List Tree → Type 0
 IsBody templates whole = Led templates whole []
 
 -- a condition, if there is one
-pub record IsAsked (k : Option (slots.SExpr Constant)) (condition : Option SExpr) (old new : List Tree) : Type 0 where
+pub record IsAsked (k : Option (slots.SlotExpr Constant)) (condition : Option SlotExpr) (old new : List Tree) : Type 0 where
   pub shown : option_map expr_view condition ≡ placed_condition k (length old)
   pub pooled : new ≡ old ++ condition_values k
 
@@ -49,7 +49,7 @@ pub record StandsFor (whole left : SBody Constant) (f : Front) (old new : ℕ) :
   pub until : new ≡ old + length (body_values whole)
 
 -- a branch: the place of its tag, its condition and its statements
-pub record IsBranch (templates : List Text) (at : place.Place) (c : slots.SExpr Constant) (whole : SBody Constant) (b : Branch) (old new : List Tree) : Type 0 where
+pub record IsBranch (templates : List Text) (at : place.Place) (c : slots.SlotExpr Constant) (whole : SBody Constant) (b : Branch) (old new : List Tree) : Type 0 where
   pub between : List Tree
   pub stands : place_view templates b.0 ≡ at
   pub asked : IsPlaced c (expr_view b.1) old between
@@ -75,7 +75,7 @@ module _ (s : Chains) where
   stmt_in t p = resolve.resolved_stmt (world_in s) (order_in s) t (spot_in s p)
 
   -- all of a body is put behind other statements, and its values at the end of a pool
-  abbrev pub BodyLed : SBody Constant → Vec SStmt Global → Vec SStmt Global → Vec Value Global → Vec Value Global → Type 0
+  abbrev pub BodyLed : SBody Constant → Vec SlotStmt Global → Vec SlotStmt Global → Vec Value Global → Vec Value Global → Type 0
   BodyLed whole before after old new = Led (templates_in s) whole before.items after.items (values old) (values new)
 
   abbrev pub body_in : trees.Body → Spot → SBody Constant
@@ -99,7 +99,7 @@ module _ (s : Chains) where
   values_in ps p line behind = resolve.resolved_values (world_in s) (order_in s) ps (spot_in s p) line behind
 
   -- the condition and the statements of a loop's turns
-  pub record IsTurn (k : Option (slots.SExpr Constant)) (whole : SBody Constant) (condition : Option SExpr) (body : List SStmt) (old new : List Tree) : Type 0 where
+  pub record IsTurn (k : Option (slots.SlotExpr Constant)) (whole : SBody Constant) (condition : Option SlotExpr) (body : List SlotStmt) (old new : List Tree) : Type 0 where
     pub between : List Tree
     pub asked : IsAsked k condition old between
     pub taken : IsBody (templates_in s) whole body between new

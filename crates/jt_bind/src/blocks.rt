@@ -18,7 +18,7 @@ use crate::resolver::Resolver;
 use crate::rows::first_locals;
 use crate::tables::Tables;
 use jt_layout::more;
-use jt_resolved::SExpr;
+use jt_resolved::SlotExpr;
 use jt_value::NoMemory;
 use std::alloc::Global;
 
@@ -55,7 +55,7 @@ impl<'t, 's, 'a> Resolver<'t, 's, 'a> {
     pub(crate) fn block_arguments(
         &self,
         name: &str,
-    ) -> Result<Vec<(Option<usize>, SExpr)>, NoMemory>
+    ) -> Result<Vec<(Option<usize>, SlotExpr)>, NoMemory>
         ensures { IfOk result (λ row. (p : List Tree)
             → RowLeads (resolve.reads (table_of self.now) (layout.block_parameters
             (world_in self.now.tables.now) (order_in self.now.tables.now)
@@ -66,7 +66,7 @@ impl<'t, 's, 'a> Resolver<'t, 's, 'a> {
 
     /// Resolves the call of a block, which does not see the names of the scopes around; absent where
     /// the block has no body.
-    pub(crate) fn block_called(&self, name: &str) -> Result<SExpr, NoMemory>
+    pub(crate) fn block_called(&self, name: &str) -> Result<SlotExpr, NoMemory>
         ensures { IfOk result (λ e. (row asides : slots.SRow Constant → slots.SRow Constant)
             (n : ℕ) (ks : layout.Table) (p : List Tree)
             → IsPlaced (resolve.invoked (world_in self.now.tables.now)
@@ -81,7 +81,7 @@ impl<'t, 's, 'a> Resolver<'t, 's, 'a> {
             ..*self
         };
         let row = outside.block_arguments(name)?;
-        Ok(SExpr::Invoke {
+        Ok(SlotExpr::Invoke {
             routine: unit,
             escaping: self.spot.escaping,
             row,
@@ -90,7 +90,7 @@ impl<'t, 's, 'a> Resolver<'t, 's, 'a> {
 
     /// Resolves the call of the next body of the block that this one belongs to: its parameters are
     /// handed on. Outside a block, and where no body is behind, it is absent.
-    pub(crate) fn super_called(&self) -> Result<SExpr, NoMemory>
+    pub(crate) fn super_called(&self) -> Result<SlotExpr, NoMemory>
         ensures { IfOk result (λ e. (p : List Tree)
             → IsPlaced (resolve.invoked_super (world_in self.now.tables.now)
             (order_in self.now.tables.now) (spot_of self.now) (spot_of self.now).part)
@@ -109,7 +109,7 @@ impl<'t, 's, 'a> Resolver<'t, 's, 'a> {
         let unit = more(here.body_unit, next)?;
         let parameters = self.tables.block_parameters(body.name);
         let row = first_locals(self.alloc, parameters.len())?;
-        Ok(SExpr::Invoke {
+        Ok(SlotExpr::Invoke {
             routine: unit,
             escaping: self.spot.escaping,
             row,

@@ -4,7 +4,7 @@ ghost use Rattle.std.specs.Prelude.{◌≡◌, List, map, IfOk};
 ghost use Rattle.std.specs.declared.alloc.Global.{Global};
 ghost use Rattle.std.specs.declared.rc.Rc.{Rc};
 ghost use denote.Ref.{Bor};
-ghost use Rattle.jt_bind.specs.declared.frame.Frame.{Frame};
+ghost use Rattle.jt_bind.specs.declared.name_scope.NameScope.{NameScope};
 ghost use Rattle.jt_trees.specs.ExpressionView.{pairs_view};
 ghost use Rattle.jt_chains.specs.Uses.{keywords};
 ghost use Rattle.jt_meaning.specs.Layout.{Table};
@@ -18,13 +18,13 @@ ghost use Rattle.jt_resolved.specs.Slots.{SBody};
 ghost use Rattle.jt_value.specs.Tree.{Tree};
 ghost use Rattle.jt_names.specs.Names.{texts};
 
-use crate::frame::Frame;
 use crate::lookup::reading;
+use crate::name_scope::NameScope;
 use crate::putting::put_assign;
 use crate::resolver::Resolver;
 use crate::spot::Spot;
 use jt_layout::more;
-use jt_resolved::{SStmt, Slot, Targets};
+use jt_resolved::{Slot, SlotStmt, Targets};
 use jt_trees::{Expr, Parameter};
 use jt_value::NoMemory;
 use std::alloc::Global;
@@ -33,7 +33,7 @@ use std::rc::Rc;
 /// The scopes around a place further inside, and the first local that holds nothing there.
 #[derive(Drop)]
 pub(crate) struct Inside<'a> {
-    pub frames: Vec<Rc<Frame<'a>>>,
+    pub name_scopes: Vec<Rc<NameScope<'a>>>,
     pub free: usize,
 }
 
@@ -43,19 +43,19 @@ fn framed_by<'a>(
     alloc: Global,
     spot: &Spot<'_, 'a>,
     names: Vec<&'a str>,
-) -> Result<Vec<Rc<Frame<'a>>>, NoMemory>
+) -> Result<Vec<Rc<NameScope<'a>>>, NoMemory>
     ensures { IfOk result (λ fs. (t : Table)
         → framed (map (λ f. f.value) fs.items) t
         ≡ bound_table (texts names.entry.items) spot.now.free
-        (framed (map (λ f. f.value) spot.now.frames.now) t)) }
+        (framed (map (λ f. f.value) spot.now.name_scopes.now) t)) }
 {
-    let mut frames = Vec::new(alloc);
-    for frame in spot.frames {
-        frames.push(frame.clone()?)?;
+    let mut name_scopes = Vec::new(alloc);
+    for name_scope in spot.name_scopes {
+        name_scopes.push(name_scope.clone()?)?;
     }
-    let inner = Frame::new(alloc, names, spot.free)?;
-    frames.push(Rc::new(alloc, inner)?)?;
-    Ok(frames)
+    let inner = NameScope::new(alloc, names, spot.free)?;
+    name_scopes.push(Rc::new(alloc, inner)?)?;
+    Ok(name_scopes)
 }
 
 /// Enters a scope that has these names.
@@ -64,20 +64,24 @@ pub(crate) fn entered<'a>(
     spot: &Spot<'_, 'a>,
     names: Vec<&'a str>,
 ) -> Result<Inside<'a>, NoMemory>
-    ensures { IfOk result (λ i. (s : Chains) (fr : Bor (List (Rc Frame Global)))
-        → fr.now ≡ i.frames.items
-        → spot_in s (record spot.now { frames = fr; free = i.free })
+    ensures { IfOk result (λ i. (s : Chains) (fr : Bor (List (Rc NameScope Global)))
+        → fr.now ≡ i.name_scopes.items
+        → spot_in s (record spot.now { name_scopes = fr; free = i.free })
         ≡ bound_all (texts names.entry.items) (spot_in s spot.now)) }
 {
     let free = more(spot.free, names.len())?;
-    let frames = framed_by(alloc, spot, names)?;
-    Ok(Inside { frames, free })
+    let name_scopes = framed_by(alloc, spot, names)?;
+    Ok(Inside { name_scopes, free })
 }
 
 impl<'t, 's, 'a> Resolver<'t, 's, 'a> {
     /// Puts what the names read, into locals from the first that holds nothing, behind other
     /// statements.
-    pub(crate) fn put_copies(&self, names: &[&str], done: &mut Vec<SStmt>) -> Result<(), NoMemory>
+    pub(crate) fn put_copies(
+        &self,
+        names: &[&str],
+        done: &mut Vec<SlotStmt>,
+    ) -> Result<(), NoMemory>
         ensures { IfOk result (λ u. (behind : SBody Constant) (p : List Tree)
             → BodyLeads (templates_of self.now) (copied (line_of self.now 1) (table_of self.now)
             self.now.spot.free (texts names.now) behind) behind done.old.items done.new.items p p) }

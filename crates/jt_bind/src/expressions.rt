@@ -30,7 +30,7 @@ use crate::rows::row_of;
 use jt_evaluation::{filter_of, filter_parameters, test_of};
 use jt_ids::{FilterId, OpId};
 use jt_layout::more;
-use jt_resolved::{Maker, SExpr};
+use jt_resolved::{Maker, SlotExpr};
 use jt_trees::{BinaryOperator, Expr};
 use jt_value::{NoMemory, Value};
 
@@ -42,7 +42,7 @@ impl<'t, 's, 'a> Resolver<'t, 's, 'a> {
         &self,
         expr: &Expr,
         pool: &mut Vec<Value>,
-    ) -> Result<SExpr, NoMemory>
+    ) -> Result<SlotExpr, NoMemory>
         ensures { IfOk result (λ e. IsResolved self.now (written.expr_view expr.now) e
             pool.old pool.new) }
     {
@@ -95,13 +95,13 @@ impl<'t, 's, 'a> Resolver<'t, 's, 'a> {
 
     /// Resolves a list.
     #[cycle(expressions)]
-    fn resolve_list(&self, row: &[Expr], pool: &mut Vec<Value>) -> Result<SExpr, NoMemory>
+    fn resolve_list(&self, row: &[Expr], pool: &mut Vec<Value>) -> Result<SlotExpr, NoMemory>
         ensures { IfOk result (λ e. IsResolved self.now
             (trees.list_of (written.exprs_view row.now)) e pool.old pool.new) }
     {
         let mut items = Vec::new(self.alloc);
         self.resolve_row(row, &mut items, pool)?;
-        Ok(SExpr::Made(Maker::List, items))
+        Ok(SlotExpr::Made(Maker::List, items))
     }
 
     /// Resolves a map.
@@ -110,13 +110,13 @@ impl<'t, 's, 'a> Resolver<'t, 's, 'a> {
         &self,
         pairs: &[(String, Expr)],
         pool: &mut Vec<Value>,
-    ) -> Result<SExpr, NoMemory>
+    ) -> Result<SlotExpr, NoMemory>
         ensures { IfOk result (λ e. IsResolved self.now
             (trees.map_of (written.pairs_view pairs.now)) e pool.old pool.new) }
     {
         let mut entries = Vec::new(self.alloc);
         self.resolve_entries(pairs, &mut entries, pool)?;
-        Ok(SExpr::Made(Maker::Map, entries))
+        Ok(SlotExpr::Made(Maker::Map, entries))
     }
 
     /// Resolves an attribute, or what a loop tells.
@@ -126,7 +126,7 @@ impl<'t, 's, 'a> Resolver<'t, 's, 'a> {
         value: &Expr,
         key: &str,
         pool: &mut Vec<Value>,
-    ) -> Result<SExpr, NoMemory>
+    ) -> Result<SlotExpr, NoMemory>
         ensures { IfOk result (λ e. IsResolved self.now
             (trees.attribute (written.expr_view value.now) key.now) e pool.old pool.new) }
     {
@@ -145,7 +145,7 @@ impl<'t, 's, 'a> Resolver<'t, 's, 'a> {
         value: &Expr,
         index: &Expr,
         pool: &mut Vec<Value>,
-    ) -> Result<SExpr, NoMemory>
+    ) -> Result<SlotExpr, NoMemory>
         ensures { IfOk result (λ e. IsResolved self.now
             (trees.item (written.expr_view value.now) (written.expr_view index.now)) e pool.old
             pool.new) }
@@ -163,7 +163,7 @@ impl<'t, 's, 'a> Resolver<'t, 's, 'a> {
         left: &Expr,
         right: &Expr,
         pool: &mut Vec<Value>,
-    ) -> Result<SExpr, NoMemory>
+    ) -> Result<SlotExpr, NoMemory>
         ensures { IfOk result (λ e. IsResolved self.now
             (trees.binary operator (written.expr_view left.now) (written.expr_view right.now)) e
             pool.old pool.new) }
@@ -185,7 +185,7 @@ impl<'t, 's, 'a> Resolver<'t, 's, 'a> {
         condition: &Expr,
         value: &Expr,
         pool: &mut Vec<Value>,
-    ) -> Result<SExpr, NoMemory>
+    ) -> Result<SlotExpr, NoMemory>
         ensures { IfOk result (λ e. IsResolved self.now
             (trees.when (written.expr_view condition.now) (written.expr_view value.now)) e pool.old
             pool.new) }
@@ -203,7 +203,7 @@ impl<'t, 's, 'a> Resolver<'t, 's, 'a> {
         value: &Expr,
         other: &Expr,
         pool: &mut Vec<Value>,
-    ) -> Result<SExpr, NoMemory>
+    ) -> Result<SlotExpr, NoMemory>
         ensures { IfOk result (λ e. IsResolved self.now
             (trees.choice (written.expr_view condition.now) (written.expr_view value.now)
             (written.expr_view other.now)) e pool.old pool.new) }
@@ -222,7 +222,7 @@ impl<'t, 's, 'a> Resolver<'t, 's, 'a> {
         name: &str,
         row: &[Expr],
         pool: &mut Vec<Value>,
-    ) -> Result<SExpr, NoMemory>
+    ) -> Result<SlotExpr, NoMemory>
         ensures { IfOk result (λ e. (ps : trees.Pairs)
             → IsResolved self.now (trees.test (written.expr_view value.now) false name.now
             (written.exprs_view row.now) ps) e pool.old pool.new) }
@@ -233,7 +233,7 @@ impl<'t, 's, 'a> Resolver<'t, 's, 'a> {
                 let first = self.resolve_expression(value, pool)?;
                 let mut operands = row_of(self.alloc, first)?;
                 self.resolve_row(row, &mut operands, pool)?;
-                Ok(SExpr::Made(Maker::Test(test), operands))
+                Ok(SlotExpr::Made(Maker::Test(test), operands))
             }
         }
     }
@@ -246,7 +246,7 @@ impl<'t, 's, 'a> Resolver<'t, 's, 'a> {
         name: &str,
         arguments: Arguments<'_>,
         pool: &mut Vec<Value>,
-    ) -> Result<SExpr, NoMemory>
+    ) -> Result<SlotExpr, NoMemory>
         ensures { IfOk result (λ e. IsResolved self.now
             (trees.filter (written.expr_view value.now) name.now
             (written.exprs_view arguments.entry.row.now)
@@ -266,11 +266,11 @@ impl<'t, 's, 'a> Resolver<'t, 's, 'a> {
     pub(crate) fn resolve_filtered(
         &self,
         filter: FilterId,
-        value: SExpr,
+        value: SlotExpr,
         arguments: Arguments<'_>,
         pool: &mut Vec<Value>,
-    ) -> Result<SExpr, NoMemory>
-        ensures { IfOk result (λ e. (c : slots.SExpr Constant) (p : List Tree)
+    ) -> Result<SlotExpr, NoMemory>
+        ensures { IfOk result (λ e. (c : slots.SlotExpr Constant) (p : List Tree)
             → IsPlaced c (expr_view value) p (values pool.old)
             → IsPlaced (filtered_of self.now (Some (filter_id filter)) c
             (written.exprs_view arguments.entry.row.now)
@@ -280,7 +280,7 @@ impl<'t, 's, 'a> Resolver<'t, 's, 'a> {
         self.resolve_given(arguments, &mut given, pool)?;
         let parameters = filter_parameters(self.alloc, filter)?;
         self.fill_some(&parameters, arguments, &mut given, pool)?;
-        Ok(SExpr::Made(
+        Ok(SlotExpr::Made(
             Maker::Filter {
                 filter,
                 escaping: self.spot.escaping,
@@ -296,7 +296,7 @@ impl<'t, 's, 'a> Resolver<'t, 's, 'a> {
         called: &Expr,
         arguments: Arguments<'_>,
         pool: &mut Vec<Value>,
-    ) -> Result<SExpr, NoMemory>
+    ) -> Result<SlotExpr, NoMemory>
         ensures { IfOk result (λ e. IsResolved self.now
             (trees.call (written.expr_view called.now) (written.exprs_view arguments.entry.row.now)
             (written.pairs_view arguments.entry.pairs.now)) e pool.old pool.new) }
@@ -318,7 +318,7 @@ impl<'t, 's, 'a> Resolver<'t, 's, 'a> {
         signature: Signature<'_>,
         arguments: Arguments<'_>,
         pool: &mut Vec<Value>,
-    ) -> Result<SExpr, NoMemory>
+    ) -> Result<SlotExpr, NoMemory>
         ensures { IfOk result (λ e. IsPlaced (slots.invoke signature.entry.unit
             self.now.spot.escaping (given_of self.now (written.exprs_view arguments.entry.row.now)
             (written.pairs_view arguments.entry.pairs.now) (resolve.filled
@@ -331,7 +331,7 @@ impl<'t, 's, 'a> Resolver<'t, 's, 'a> {
         self.resolve_given(arguments, &mut given, pool)?;
         self.fill(signature, arguments, &mut given)?;
         let escaping = self.spot.escaping;
-        Ok(SExpr::Invoke {
+        Ok(SlotExpr::Invoke {
             routine: signature.unit,
             escaping,
             row: given,
@@ -340,7 +340,7 @@ impl<'t, 's, 'a> Resolver<'t, 's, 'a> {
 
     /// Resolves a call of `range`.
     #[cycle(expressions)]
-    fn resolve_range(&self, row: &[Expr], pool: &mut Vec<Value>) -> Result<SExpr, NoMemory>
+    fn resolve_range(&self, row: &[Expr], pool: &mut Vec<Value>) -> Result<SlotExpr, NoMemory>
         ensures { IfOk result (λ e. IsPlaced (slots.made
             (slots.operator (operators.range_of (length row.now)))
             (row_of self.now (written.exprs_view row.now) slots.none)) (expr_view e)
@@ -348,12 +348,12 @@ impl<'t, 's, 'a> Resolver<'t, 's, 'a> {
     {
         let mut operands = Vec::new(self.alloc);
         self.resolve_row(row, &mut operands, pool)?;
-        Ok(SExpr::Made(Maker::Operator(range_of(row.len())), operands))
+        Ok(SlotExpr::Made(Maker::Operator(range_of(row.len())), operands))
     }
 
     /// Resolves `loop.cycle`: the item of a list by the turn.
     #[cycle(expressions)]
-    fn resolve_cycle(&self, row: &[Expr], pool: &mut Vec<Value>) -> Result<SExpr, NoMemory>
+    fn resolve_cycle(&self, row: &[Expr], pool: &mut Vec<Value>) -> Result<SlotExpr, NoMemory>
         ensures { IfOk result (λ e. IsPlaced (resolve.operation_of op.Item
             (slots.made slots.a_list
             (row_of self.now (written.exprs_view row.now) slots.none))
@@ -371,7 +371,7 @@ impl<'t, 's, 'a> Resolver<'t, 's, 'a> {
     pub(crate) fn resolve_row(
         &self,
         row: &[Expr],
-        done: &mut Vec<(Option<usize>, SExpr)>,
+        done: &mut Vec<(Option<usize>, SlotExpr)>,
         pool: &mut Vec<Value>,
     ) -> Result<(), NoMemory>
         ensures { IfOk result (λ u. (left : slots.SRow Constant)
@@ -390,7 +390,7 @@ impl<'t, 's, 'a> Resolver<'t, 's, 'a> {
     pub(crate) fn resolve_asides(
         &self,
         pairs: &[(String, Expr)],
-        done: &mut Vec<(Option<usize>, SExpr)>,
+        done: &mut Vec<(Option<usize>, SlotExpr)>,
         pool: &mut Vec<Value>,
     ) -> Result<(), NoMemory>
         ensures { IfOk result (λ u. (left : slots.SRow Constant)
@@ -412,7 +412,7 @@ impl<'t, 's, 'a> Resolver<'t, 's, 'a> {
     fn resolve_given(
         &self,
         arguments: Arguments<'_>,
-        done: &mut Vec<(Option<usize>, SExpr)>,
+        done: &mut Vec<(Option<usize>, SlotExpr)>,
         pool: &mut Vec<Value>,
     ) -> Result<(), NoMemory>
         ensures { IfOk result (λ u. (left : slots.SRow Constant)
@@ -429,7 +429,7 @@ impl<'t, 's, 'a> Resolver<'t, 's, 'a> {
     fn resolve_entries(
         &self,
         pairs: &[(String, Expr)],
-        done: &mut Vec<(Option<usize>, SExpr)>,
+        done: &mut Vec<(Option<usize>, SlotExpr)>,
         pool: &mut Vec<Value>,
     ) -> Result<(), NoMemory>
         ensures { IfOk result (λ u. RowAdds (entries_of self.now (written.pairs_view pairs.now))

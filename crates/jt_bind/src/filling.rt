@@ -22,7 +22,7 @@ use crate::lookup::value_or;
 use crate::pool::add_value;
 use crate::resolver::{Arguments, Resolver};
 use jt_layout::more;
-use jt_resolved::SExpr;
+use jt_resolved::SlotExpr;
 use jt_trees::{Expr, Parameter};
 use jt_value::{NoMemory, Value};
 use std::alloc::Global;
@@ -34,7 +34,7 @@ impl<'t, 's, 'a> Resolver<'t, 's, 'a> {
         &self,
         signature: Signature<'_>,
         arguments: Arguments<'_>,
-        done: &mut Vec<(Option<usize>, SExpr)>,
+        done: &mut Vec<(Option<usize>, SlotExpr)>,
     ) -> Result<(), NoMemory>
         ensures { IfOk result (λ u. (p : List Tree)
             → RowLeads (resolve.filled (parameters_view signature.entry.parameters.now)
@@ -58,7 +58,7 @@ impl<'t, 's, 'a> Resolver<'t, 's, 'a> {
         &self,
         parameters: &[Parameter],
         arguments: Arguments<'_>,
-        done: &mut Vec<(Option<usize>, SExpr)>,
+        done: &mut Vec<(Option<usize>, SlotExpr)>,
         pool: &mut Vec<Value>,
     ) -> Result<(), NoMemory>
         ensures { IfOk result (λ u. RowLeads (resolve.filled_some
@@ -85,14 +85,14 @@ impl<'t, 's, 'a> Resolver<'t, 's, 'a> {
         parameter: &Parameter,
         pairs: &[(String, Expr)],
         pool: &mut Vec<Value>,
-    ) -> Result<SExpr, NoMemory>
+    ) -> Result<SlotExpr, NoMemory>
         ensures { IfOk result (λ e. IsPlaced (resolve.value_or (slot_in
             (parameter_view parameter.now).name (kept_of self.now (written.pairs_view pairs.now)))
             (own (default_value (parameter_view parameter.now).default))) (expr_view e)
             (values pool.old) (values pool.new)) }
     {
         match self.kept(pairs, parameter.name.as_str())? {
-            Some(slot) => Ok(SExpr::Variable(slot)),
+            Some(slot) => Ok(SlotExpr::Variable(slot)),
             None => add_value(pool, default_of(self.alloc, parameter)?),
         }
     }

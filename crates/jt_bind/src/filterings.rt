@@ -13,7 +13,7 @@ ghost use Rattle.jt_bind.specs.Scoped.{values, IsPlaced, world_in, order_in};
 use crate::lookup::absent;
 use crate::resolver::{Arguments, Resolver};
 use jt_evaluation::filter_of;
-use jt_resolved::{SExpr, Slot};
+use jt_resolved::{Slot, SlotExpr};
 use jt_trees::Filtering;
 use jt_value::{NoMemory, Value};
 
@@ -24,14 +24,14 @@ impl<'t, 's, 'a> Resolver<'t, 's, 'a> {
         filterings: &[Filtering],
         value: Slot,
         pool: &mut Vec<Value>,
-    ) -> Result<SExpr, NoMemory>
+    ) -> Result<SlotExpr, NoMemory>
         ensures { IfOk result (λ e. IsPlaced (resolved_filters (world_in self.now.tables.now)
             (order_in self.now.tables.now) (filterings_view filterings.now) (spot_of self.now)
             (slots.variable (slot_view value))) (expr_view e) (values pool.old)
             (values pool.new)) }
     {
         let start = pool.len();
-        let mut resolved = SExpr::Variable(value);
+        let mut resolved = SlotExpr::Variable(value);
         for filtering in filterings {
             resolved = self.resolve_filtering(filtering, start, resolved, pool)?;
         }
@@ -44,10 +44,10 @@ impl<'t, 's, 'a> Resolver<'t, 's, 'a> {
         &self,
         filtering: &Filtering,
         start: usize,
-        value: SExpr,
+        value: SlotExpr,
         pool: &mut Vec<Value>,
-    ) -> Result<SExpr, NoMemory>
-        ensures { IfOk result (λ e. (c : slots.SExpr Constant) (p : List Tree)
+    ) -> Result<SlotExpr, NoMemory>
+        ensures { IfOk result (λ e. (c : slots.SlotExpr Constant) (p : List Tree)
             → length p ≡ start
             → IsPlaced c (expr_view value) p (values pool.old)
             → IsPlaced (filtered_of self.now ((world_in self.now.tables.now).filters.named

@@ -18,7 +18,7 @@ ghost use Rattle.jt_bind.specs.Scoped.{values, IsPlaced};
 
 use crate::pool::add_value;
 use jt_ids::OpId;
-use jt_resolved::{Field, Maker, SExpr};
+use jt_resolved::{Field, Maker, SlotExpr};
 use jt_trees::{BinaryOperator, Literal, UnaryOperator};
 use jt_value::{NoMemory, Value};
 use std::alloc::Global;
@@ -107,19 +107,24 @@ fn join(escaping: bool) -> OpId
 }
 
 /// An operation on one operand.
-pub(crate) fn on_one(alloc: Global, op: OpId, operand: SExpr) -> Result<SExpr, NoMemory>
-    ensures { IfOk result (λ e. (a : slots.SExpr Constant) (p q : List Tree)
+pub(crate) fn on_one(alloc: Global, op: OpId, operand: SlotExpr) -> Result<SlotExpr, NoMemory>
+    ensures { IfOk result (λ e. (a : slots.SlotExpr Constant) (p q : List Tree)
         → IsPlaced a (expr_view operand) p q
         → IsPlaced (slots.made (slots.operator op) (slots.item a slots.none)) (expr_view e) p q) }
 {
     let mut row = Vec::new(alloc);
     row.push((None, operand))?;
-    Ok(SExpr::Made(Maker::Operator(op), row))
+    Ok(SlotExpr::Made(Maker::Operator(op), row))
 }
 
 /// An operation on two operands.
-pub(crate) fn on_two(alloc: Global, op: OpId, left: SExpr, right: SExpr) -> Result<SExpr, NoMemory>
-    ensures { IfOk result (λ e. (a b : slots.SExpr Constant) (p q r : List Tree)
+pub(crate) fn on_two(
+    alloc: Global,
+    op: OpId,
+    left: SlotExpr,
+    right: SlotExpr,
+) -> Result<SlotExpr, NoMemory>
+    ensures { IfOk result (λ e. (a b : slots.SlotExpr Constant) (p q r : List Tree)
         → IsPlaced a (expr_view left) p q
         → IsPlaced b (expr_view right) q r
         → IsPlaced (resolve.operation_of op a b) (expr_view e) p r) }
@@ -127,12 +132,12 @@ pub(crate) fn on_two(alloc: Global, op: OpId, left: SExpr, right: SExpr) -> Resu
     let mut row = Vec::new(alloc);
     row.push((None, left))?;
     row.push((None, right))?;
-    Ok(SExpr::Made(Maker::Operator(op), row))
+    Ok(SlotExpr::Made(Maker::Operator(op), row))
 }
 
 /// Its truth turned round, where the flag says so.
-pub(crate) fn turned(alloc: Global, negated: bool, inside: SExpr) -> Result<SExpr, NoMemory>
-    ensures { IfOk result (λ e. (a : slots.SExpr Constant) (p q : List Tree)
+pub(crate) fn turned(alloc: Global, negated: bool, inside: SlotExpr) -> Result<SlotExpr, NoMemory>
+    ensures { IfOk result (λ e. (a : slots.SlotExpr Constant) (p q : List Tree)
         → IsPlaced a (expr_view inside) p q
         → IsPlaced (resolve.turned_round negated a) (expr_view e) p q) }
 {
@@ -147,10 +152,10 @@ pub(crate) fn turned(alloc: Global, negated: bool, inside: SExpr) -> Result<SExp
 pub(crate) fn formed(
     alloc: Global,
     form: Form,
-    left: SExpr,
-    right: SExpr,
-) -> Result<SExpr, NoMemory>
-    ensures { IfOk result (λ e. (a b : slots.SExpr Constant) (p q r : List Tree)
+    left: SlotExpr,
+    right: SlotExpr,
+) -> Result<SlotExpr, NoMemory>
+    ensures { IfOk result (λ e. (a b : slots.SlotExpr Constant) (p q r : List Tree)
         → IsPlaced a (expr_view left) p q
         → IsPlaced b (expr_view right) q r
         → IsPlaced (resolve.in_form (form_view form) a b) (expr_view e) p r) }
@@ -163,11 +168,11 @@ pub(crate) fn formed(
         }
         Form::Conjunction => {
             let first = Box::new(alloc, left)?;
-            Ok(SExpr::Conjunction(first, Box::new(alloc, right)?))
+            Ok(SlotExpr::Conjunction(first, Box::new(alloc, right)?))
         }
         Form::Disjunction => {
             let first = Box::new(alloc, left)?;
-            Ok(SExpr::Disjunction(first, Box::new(alloc, right)?))
+            Ok(SlotExpr::Disjunction(first, Box::new(alloc, right)?))
         }
     }
 }
@@ -175,11 +180,11 @@ pub(crate) fn formed(
 /// One of two expressions, by a condition.
 pub(crate) fn chosen(
     alloc: Global,
-    condition: SExpr,
-    value: SExpr,
-    other: SExpr,
-) -> Result<SExpr, NoMemory>
-    ensures { IfOk result (λ e. (c a b : slots.SExpr Constant) (p q r s : List Tree)
+    condition: SlotExpr,
+    value: SlotExpr,
+    other: SlotExpr,
+) -> Result<SlotExpr, NoMemory>
+    ensures { IfOk result (λ e. (c a b : slots.SlotExpr Constant) (p q r s : List Tree)
         → IsPlaced c (expr_view condition) p q
         → IsPlaced a (expr_view value) q r
         → IsPlaced b (expr_view other) r s
@@ -187,7 +192,7 @@ pub(crate) fn chosen(
 {
     let asked = Box::new(alloc, condition)?;
     let first = Box::new(alloc, value)?;
-    Ok(SExpr::Choice {
+    Ok(SlotExpr::Choice {
         condition: asked,
         value: first,
         other: Box::new(alloc, other)?,
@@ -199,14 +204,19 @@ pub(crate) fn turn_among(
     alloc: Global,
     count: usize,
     pool: &mut Vec<Value>,
-) -> Result<SExpr, NoMemory>
+) -> Result<SlotExpr, NoMemory>
     ensures { IfOk result (λ e. IsPlaced (resolve.operation_of Remainder (slots.field index0)
         (slots.pooled (own (tree.number (pos count))))) (expr_view e) (values pool.old)
         (values pool.new)) }
 {
     let number = number_of(count)?;
     let items = add_value(pool, number)?;
-    on_two(alloc, OpId::Remainder, SExpr::Field(Field::Index0), items)
+    on_two(
+        alloc,
+        OpId::Remainder,
+        SlotExpr::Field(Field::Index0),
+        items,
+    )
 }
 
 /// A count as a value.

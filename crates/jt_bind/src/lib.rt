@@ -3,7 +3,7 @@
 //! `resolved` (resolving) has the chains and libraries laid out (tables), and resolves one after the
 //! other (homes, routines): a `Resolver` stands at a place of a chain (resolver, spot), and its
 //! methods resolve statements (statements) and the expressions in them (expressions), where names
-//! stand in frames (frame) and values in a pool (pool, shared). Whether they keep the rules is
+//! stand in name_scopes (name_scope) and values in a pool (pool, shared). Whether they keep the rules is
 //! another crate's matter. Read first: resolving.rt; what comes out is said in jt_meaning's
 //! specs/Resolve.antt.
 #![tactic(auto)]
@@ -15,11 +15,11 @@ mod expressions;
 mod filling;
 mod filterings;
 mod forms;
-mod frame;
 mod homes;
 mod locals;
 mod lookup;
 mod loops;
+mod name_scope;
 mod placing;
 mod pool;
 mod program_names;

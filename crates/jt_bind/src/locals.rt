@@ -9,7 +9,7 @@ ghost use Rattle.jt_resolved.specs.Slots.{SBody};
 ghost use Rattle.jt_resolved.specs.View.{slot_view, targets_view, expr_view, row_view, stmt_view, body_view};
 
 use jt_layout::more;
-use jt_resolved::{SExpr, SStmt, Slot, Targets};
+use jt_resolved::{Slot, SlotExpr, SlotStmt, Targets};
 use jt_value::NoMemory;
 
 /// The larger one of two numbers.
@@ -73,24 +73,24 @@ fn targets_locals(targets: &Targets) -> Result<usize, NoMemory>
 
 /// The locals of an expression.
 #[cycle(expressions)]
-fn expr_locals(expr: &SExpr) -> Result<usize, NoMemory>
+fn expr_locals(expr: &SlotExpr) -> Result<usize, NoMemory>
     ensures { IfOk result (λ n. n ≡ locals.expr_locals (expr_view expr.now)) }
 {
     match expr {
-        SExpr::Pooled(_) => Ok(0),
-        SExpr::Variable(slot) => slot_locals(*slot),
-        SExpr::Field(_) => Ok(0),
-        SExpr::Absent => Ok(0),
-        SExpr::Made(_, row) => row_locals(row),
-        SExpr::Conjunction(left, right) => {
+        SlotExpr::Pooled(_) => Ok(0),
+        SlotExpr::Variable(slot) => slot_locals(*slot),
+        SlotExpr::Field(_) => Ok(0),
+        SlotExpr::Absent => Ok(0),
+        SlotExpr::Made(_, row) => row_locals(row),
+        SlotExpr::Conjunction(left, right) => {
             let first = expr_locals(left)?;
             Ok(larger(first, expr_locals(right)?))
         }
-        SExpr::Disjunction(left, right) => {
+        SlotExpr::Disjunction(left, right) => {
             let first = expr_locals(left)?;
             Ok(larger(first, expr_locals(right)?))
         }
-        SExpr::Choice {
+        SlotExpr::Choice {
             condition,
             value,
             other,
@@ -99,13 +99,13 @@ fn expr_locals(expr: &SExpr) -> Result<usize, NoMemory>
             let first = expr_locals(value)?;
             Ok(larger(asked, larger(first, expr_locals(other)?)))
         }
-        SExpr::Invoke { row, .. } => row_locals(row),
+        SlotExpr::Invoke { row, .. } => row_locals(row),
     }
 }
 
 /// The locals of a row.
 #[cycle(expressions)]
-fn row_locals(row: &[(Option<usize>, SExpr)]) -> Result<usize, NoMemory>
+fn row_locals(row: &[(Option<usize>, SlotExpr)]) -> Result<usize, NoMemory>
     ensures { IfOk result (λ n. n ≡ locals.row_locals (row_view row.now slots.none)) }
 {
     let mut most = 0;
@@ -117,7 +117,7 @@ fn row_locals(row: &[(Option<usize>, SExpr)]) -> Result<usize, NoMemory>
 }
 
 /// The locals of a condition, if there is one.
-fn condition_locals(condition: &Option<SExpr>) -> Result<usize, NoMemory>
+fn condition_locals(condition: &Option<SlotExpr>) -> Result<usize, NoMemory>
     ensures { IfOk result
         (λ n. n ≡ locals.condition_locals (option_map expr_view condition.now)) }
 {
@@ -129,15 +129,15 @@ fn condition_locals(condition: &Option<SExpr>) -> Result<usize, NoMemory>
 
 /// The locals of a statement.
 #[cycle(statements)]
-fn stmt_locals(statement: &SStmt) -> Result<usize, NoMemory>
+fn stmt_locals(statement: &SlotStmt) -> Result<usize, NoMemory>
     ensures { IfOk result (λ n. (templates : List Text) (behind : SBody ℕ)
         → locals.body_locals (stmt_view templates statement.now behind)
         ≡ max n (locals.body_locals behind)) }
 {
     match statement {
-        SStmt::PutPooled(_) => Ok(0),
-        SStmt::Print { value: expr, .. } => expr_locals(expr),
-        SStmt::Assign {
+        SlotStmt::PutPooled(_) => Ok(0),
+        SlotStmt::Print { value: expr, .. } => expr_locals(expr),
+        SlotStmt::Assign {
             targets,
             value: expr,
             ..
@@ -145,7 +145,7 @@ fn stmt_locals(statement: &SStmt) -> Result<usize, NoMemory>
             let taken = targets_locals(targets)?;
             Ok(larger(taken, expr_locals(expr)?))
         }
-        SStmt::If(branches, other) => {
+        SlotStmt::If(branches, other) => {
             let mut most = body_locals(other)?;
             for (_, condition, body) in branches {
                 let asked = expr_locals(condition)?;
@@ -153,7 +153,7 @@ fn stmt_locals(statement: &SStmt) -> Result<usize, NoMemory>
             }
             Ok(most)
         }
-        SStmt::For {
+        SlotStmt::For {
             targets,
             over: items,
             condition,
@@ -168,17 +168,17 @@ fn stmt_locals(statement: &SStmt) -> Result<usize, NoMemory>
             let last = body_locals(other)?;
             Ok(larger(taken, larger(larger(given, asked), larger(turn, last))))
         }
-        SStmt::Capture { slot, body, .. } => {
+        SlotStmt::Capture { slot, body, .. } => {
             let kept = slot_locals(*slot)?;
             Ok(larger(kept, body_locals(body)?))
         }
-        SStmt::Run(_, row) => row_locals(row),
+        SlotStmt::Run(_, row) => row_locals(row),
     }
 }
 
 /// The locals of statements.
 #[cycle(statements)]
-pub(crate) fn body_locals(body: &[SStmt]) -> Result<usize, NoMemory>
+pub(crate) fn body_locals(body: &[SlotStmt]) -> Result<usize, NoMemory>
     ensures { IfOk result (λ n. (templates : List Text) (behind : SBody ℕ)
         → locals.body_locals (body_view templates body.now behind)
         ≡ max n (locals.body_locals behind)) }

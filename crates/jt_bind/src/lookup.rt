@@ -14,24 +14,24 @@ ghost use Rattle.jt_bind.specs.Scoped.{IsPlaced, globals_in};
 use crate::resolver::Resolver;
 use crate::tables::Tables;
 use jt_layout::more;
-use jt_resolved::{SExpr, Slot};
+use jt_resolved::{Slot, SlotExpr};
 use jt_trees::Expr;
 use jt_value::NoMemory;
 
 /// What a slot holds, or the value at a place of the pool.
-pub(crate) fn value_or(slot: Option<Slot>, place: usize) -> SExpr
+pub(crate) fn value_or(slot: Option<Slot>, place: usize) -> SlotExpr
     ensures { (p : List Tree)
         → IsPlaced (resolve.value_or (option_map slot_view slot) (known place)) (expr_view result) p
         p }
 {
     match slot {
-        Some(slot) => SExpr::Variable(slot),
-        None => SExpr::Pooled(place),
+        Some(slot) => SlotExpr::Variable(slot),
+        None => SlotExpr::Pooled(place),
     }
 }
 
 /// What a name reads: a name that has no slot is undefined.
-pub(crate) fn reading(slot: Option<Slot>) -> SExpr
+pub(crate) fn reading(slot: Option<Slot>) -> SlotExpr
     ensures { (p : List Tree)
         → IsPlaced (resolve.read_from (option_map slot_view slot)) (expr_view result) p p }
 {
@@ -39,17 +39,17 @@ pub(crate) fn reading(slot: Option<Slot>) -> SExpr
 }
 
 /// No value.
-pub(crate) fn no_value() -> SExpr
+pub(crate) fn no_value() -> SlotExpr
     ensures { (p : List Tree) → IsPlaced resolve.no_value (expr_view result) p p }
 {
-    SExpr::Pooled(0)
+    SlotExpr::Pooled(0)
 }
 
 /// What no name means.
-pub(crate) fn absent() -> SExpr
+pub(crate) fn absent() -> SlotExpr
     ensures { (p : List Tree) → IsPlaced slots.absent (expr_view result) p p }
 {
-    SExpr::Absent
+    SlotExpr::Absent
 }
 
 impl<'a> Tables<'a> {
@@ -70,10 +70,10 @@ impl<'t, 's, 'a> Resolver<'t, 's, 'a> {
     pub(crate) fn slot(&self, name: &str) -> Option<Slot>
         ensures { option_map slot_view result ≡ slot_in name.now (table_of self.now) }
     {
-        let mut left = self.spot.frames.len();
+        let mut left = self.spot.name_scopes.len();
         while left > 0 {
             left -= 1;
-            if let Some(local) = self.spot.frames[left].index.place(name) {
+            if let Some(local) = self.spot.name_scopes[left].index.place(name) {
                 return Some(Slot::Local(local));
             }
         }

@@ -10,7 +10,7 @@ ghost use Rattle.jt_resolved.specs.View.{field_view, expr_view};
 ghost use Rattle.jt_bind.specs.Scoped.{IsPlaced};
 
 use crate::lookup::absent;
-use jt_resolved::{Field, SExpr};
+use jt_resolved::{Field, SlotExpr};
 use jt_trees::Expr;
 
 /// Whether an expression is the bare name `loop`.
@@ -42,12 +42,12 @@ pub(crate) fn field_of(name: &str) -> Option<Field>
 }
 
 /// What a loop tells; an unknown field is absent.
-pub(crate) fn told(field: Option<Field>) -> SExpr
+pub(crate) fn told(field: Option<Field>) -> SlotExpr
     ensures { (p : List Tree)
         → IsPlaced (resolve.field_from (option_map field_view field)) (expr_view result) p p }
 {
     match field {
-        Some(field) => SExpr::Field(field),
+        Some(field) => SlotExpr::Field(field),
         None => absent(),
     }
 }

@@ -18,7 +18,7 @@ use crate::putting::{put_assign, put_print, put_run};
 use crate::resolver::Resolver;
 use crate::spot::Spot;
 use jt_layout::{Laid, more};
-use jt_resolved::{SExpr, SStmt, Slot, Targets};
+use jt_resolved::{Slot, SlotExpr, SlotStmt, Targets};
 use jt_value::NoMemory;
 
 /// An `include`: the line of its tag, its name, whether the name may be missing, and whether it is
@@ -37,7 +37,7 @@ fn put_missing(
     spot: &Spot<'_, '_>,
     line: u32,
     ignore_missing: bool,
-    done: &mut Vec<SStmt>,
+    done: &mut Vec<SlotStmt>,
 ) -> Result<(), NoMemory>
     ensures { IfOk result (λ u. (s : Chains) (p : List Tree)
         → Led (templates_in s) (resolve.left_out (spot_in s spot.now) line ignore_missing)
@@ -60,7 +60,7 @@ fn seen_by<'s, 'a>(spot: &Spot<'s, 'a>, scoped: bool) -> Spot<'s, 'a>
 
 impl<'t, 's, 'a> Resolver<'t, 's, 'a> {
     /// What an included chain is handed under a name: what the name reads, or nothing.
-    fn handed(&self, with_context: bool, name: &str) -> SExpr
+    fn handed(&self, with_context: bool, name: &str) -> SlotExpr
         ensures { (p : List Tree)
             → IsPlaced (resolve.read_from
             (slot_in name.now (if with_context then table_of self.now else []))) (expr_view result)
@@ -79,7 +79,7 @@ impl<'t, 's, 'a> Resolver<'t, 's, 'a> {
         line: u32,
         with_context: bool,
         there: &Laid<'_>,
-        done: &mut Vec<SStmt>,
+        done: &mut Vec<SlotStmt>,
     ) -> Result<(), NoMemory>
         ensures { IfOk result (λ u. (p : List Tree)
             → Led (templates_in self.now.tables.now) (resolve.handed_on (line_of self.now line)
@@ -105,7 +105,7 @@ impl<'t, 's, 'a> Resolver<'t, 's, 'a> {
     pub(crate) fn put_include(
         &self,
         inclusion: Inclusion<'_>,
-        done: &mut Vec<SStmt>,
+        done: &mut Vec<SlotStmt>,
     ) -> Result<(), NoMemory>
         ensures { IfOk result (λ u. (p : List Tree)
             → StmtLeads self.now (trees.include inclusion.entry.line inclusion.entry.name.now
@@ -134,7 +134,7 @@ impl<'t, 's, 'a> Resolver<'t, 's, 'a> {
         &self,
         name: &str,
         scoped: bool,
-        done: &mut Vec<SStmt>,
+        done: &mut Vec<SlotStmt>,
     ) -> Result<(), NoMemory>
         ensures { IfOk result (λ u. (line : ℕ) (required : Bool) (body : Body) (p : List Tree)
             → StmtLeads self.now (trees.block line name.now scoped required body) done.old done.new

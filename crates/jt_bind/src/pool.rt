@@ -8,22 +8,26 @@ ghost use Rattle.jt_resolved.specs.Slots as slots;
 ghost use Rattle.jt_resolved.specs.View.{expr_view};
 ghost use Rattle.jt_bind.specs.Scoped.{values, IsPlaced};
 
-use jt_resolved::SExpr;
+use jt_resolved::SlotExpr;
 use jt_value::{NoMemory, Value};
 use std::alloc::Global;
 
 /// Puts a value at the end of the pool, and gives the expression that it is.
-pub(crate) fn add_value(pool: &mut Vec<Value>, value: Value) -> Result<SExpr, NoMemory>
+pub(crate) fn add_value(pool: &mut Vec<Value>, value: Value) -> Result<SlotExpr, NoMemory>
     ensures { IfOk result (λ e. IsPlaced (slots.pooled (own (view value))) (expr_view e)
         (values pool.old) (values pool.new)) }
 {
     let place = pool.len();
     pool.push(value)?;
-    Ok(SExpr::Pooled(place))
+    Ok(SlotExpr::Pooled(place))
 }
 
 /// Puts a text at the end of the pool, and gives the expression that it is.
-pub(crate) fn add_text(alloc: Global, text: &str, pool: &mut Vec<Value>) -> Result<SExpr, NoMemory>
+pub(crate) fn add_text(
+    alloc: Global,
+    text: &str,
+    pool: &mut Vec<Value>,
+) -> Result<SlotExpr, NoMemory>
     ensures { IfOk result (λ e. IsPlaced (slots.pooled (own (tree.text text.now)))
         (expr_view e) (values pool.old) (values pool.new)) }
 {

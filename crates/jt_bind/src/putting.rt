@@ -14,7 +14,7 @@ ghost use Rattle.jt_resolved.specs.View.{expr_view, slot_view, targets_view};
 ghost use Rattle.jt_bind.specs.Stated.{Led, IsBody, IsAsked, ChoiceLeads, line_in};
 
 use crate::spot::Spot;
-use jt_resolved::{Place, SExpr, SStmt, Slot, Targets};
+use jt_resolved::{Place, Slot, SlotExpr, SlotStmt, Targets};
 use jt_value::{NoMemory, Value};
 use std::alloc::Global;
 
@@ -22,7 +22,7 @@ use std::alloc::Global;
 pub(crate) fn put_data(
     alloc: Global,
     text: &str,
-    done: &mut Vec<SStmt>,
+    done: &mut Vec<SlotStmt>,
     pool: &mut Vec<Value>,
 ) -> Result<(), NoMemory>
     ensures { IfOk result (λ u. (templates : List Text)
@@ -31,7 +31,7 @@ pub(crate) fn put_data(
 {
     let place = pool.len();
     pool.push(Value::text(alloc, text)?)?;
-    done.push(SStmt::PutPooled(place))?;
+    done.push(SlotStmt::PutPooled(place))?;
     Ok(())
 }
 
@@ -39,10 +39,10 @@ pub(crate) fn put_data(
 pub(crate) fn put_print(
     spot: &Spot<'_, '_>,
     line: u32,
-    value: SExpr,
-    done: &mut Vec<SStmt>,
+    value: SlotExpr,
+    done: &mut Vec<SlotStmt>,
 ) -> Result<(), NoMemory>
-    ensures { IfOk result (λ u. (s : Chains) (c : slots.SExpr Constant) (p q : List Tree)
+    ensures { IfOk result (λ u. (s : Chains) (c : slots.SlotExpr Constant) (p q : List Tree)
         → IsPlaced c (expr_view value) p q
         → Led (templates_in s) (alone (slots.print (line_in s spot.now line) spot.now.escaping c))
         done.old.items done.new.items p q) }
@@ -51,7 +51,7 @@ pub(crate) fn put_print(
         template: spot.template,
         line,
     };
-    done.push(SStmt::Print {
+    done.push(SlotStmt::Print {
         place,
         escaping: spot.escaping,
         value,
@@ -64,10 +64,10 @@ pub(crate) fn put_assign(
     spot: &Spot<'_, '_>,
     line: u32,
     targets: Targets,
-    value: SExpr,
-    done: &mut Vec<SStmt>,
+    value: SlotExpr,
+    done: &mut Vec<SlotStmt>,
 ) -> Result<(), NoMemory>
-    ensures { IfOk result (λ u. (s : Chains) (c : slots.SExpr Constant) (p q : List Tree)
+    ensures { IfOk result (λ u. (s : Chains) (c : slots.SlotExpr Constant) (p q : List Tree)
         → IsPlaced c (expr_view value) p q
         → Led (templates_in s)
         (alone (slots.assign (line_in s spot.now line) (targets_view targets) c)) done.old.items
@@ -77,7 +77,7 @@ pub(crate) fn put_assign(
         template: spot.template,
         line,
     };
-    done.push(SStmt::Assign {
+    done.push(SlotStmt::Assign {
         place,
         targets,
         value,
@@ -87,9 +87,9 @@ pub(crate) fn put_assign(
 
 /// Puts branches and the else part behind other statements.
 pub(crate) fn put_choice(
-    branches: Vec<(Place, SExpr, Vec<SStmt>)>,
-    other: Vec<SStmt>,
-    done: &mut Vec<SStmt>,
+    branches: Vec<(Place, SlotExpr, Vec<SlotStmt>)>,
+    other: Vec<SlotStmt>,
+    done: &mut Vec<SlotStmt>,
 ) -> Result<(), NoMemory>
     ensures { IfOk result (λ u. (templates : List Text) (whole last : SBody Constant)
         (p q r : List Tree)
@@ -97,7 +97,7 @@ pub(crate) fn put_choice(
         → IsBody templates last other.items q r
         → Led templates whole done.old.items done.new.items p r) }
 {
-    done.push(SStmt::If(branches, other))?;
+    done.push(SlotStmt::If(branches, other))?;
     Ok(())
 }
 
@@ -105,10 +105,10 @@ pub(crate) fn put_choice(
 #[derive(Drop)]
 pub(crate) struct Loop {
     pub targets: Targets,
-    pub items: SExpr,
-    pub condition: Option<SExpr>,
-    pub body: Vec<SStmt>,
-    pub other: Vec<SStmt>,
+    pub items: SlotExpr,
+    pub condition: Option<SlotExpr>,
+    pub body: Vec<SlotStmt>,
+    pub other: Vec<SlotStmt>,
 }
 
 /// Puts a loop behind other statements.
@@ -116,10 +116,10 @@ pub(crate) fn put_loop(
     spot: &Spot<'_, '_>,
     line: u32,
     made: Loop,
-    done: &mut Vec<SStmt>,
+    done: &mut Vec<SlotStmt>,
 ) -> Result<(), NoMemory>
-    ensures { IfOk result (λ u. (s : Chains) (c : slots.SExpr Constant)
-        (k : Option (slots.SExpr Constant)) (turn last : SBody Constant) (p q r t v : List Tree)
+    ensures { IfOk result (λ u. (s : Chains) (c : slots.SlotExpr Constant)
+        (k : Option (slots.SlotExpr Constant)) (turn last : SBody Constant) (p q r t v : List Tree)
         → IsPlaced c (expr_view made.items) p q
         → IsAsked k made.condition q r
         → IsBody (templates_in s) turn made.body.items r t
@@ -139,7 +139,7 @@ pub(crate) fn put_loop(
         body,
         other,
     } = made;
-    done.push(SStmt::For {
+    done.push(SlotStmt::For {
         place,
         targets,
         over: items,
@@ -154,8 +154,8 @@ pub(crate) fn put_loop(
 pub(crate) fn put_capture(
     escaping: bool,
     slot: Slot,
-    body: Vec<SStmt>,
-    done: &mut Vec<SStmt>,
+    body: Vec<SlotStmt>,
+    done: &mut Vec<SlotStmt>,
 ) -> Result<(), NoMemory>
     ensures { IfOk result (λ u. (templates : List Text) (whole : SBody Constant)
         (p q : List Tree)
@@ -163,7 +163,7 @@ pub(crate) fn put_capture(
         → Led templates (alone (slots.capture escaping (slot_view slot) whole)) done.old.items
         done.new.items p q) }
 {
-    done.push(SStmt::Capture {
+    done.push(SlotStmt::Capture {
         escaping,
         slot,
         body,
@@ -174,13 +174,13 @@ pub(crate) fn put_capture(
 /// Puts what a routine prints on a row of arguments behind other statements.
 pub(crate) fn put_run(
     unit: usize,
-    row: Vec<(Option<usize>, SExpr)>,
-    done: &mut Vec<SStmt>,
+    row: Vec<(Option<usize>, SlotExpr)>,
+    done: &mut Vec<SlotStmt>,
 ) -> Result<(), NoMemory>
     ensures { IfOk result (λ u. (templates : List Text) (es : SRow Constant) (p q : List Tree)
         → RowLeads es slots.none [] row.items p q
         → Led templates (alone (slots.run unit es)) done.old.items done.new.items p q) }
 {
-    done.push(SStmt::Run(unit, row))?;
+    done.push(SlotStmt::Run(unit, row))?;
     Ok(())
 }

@@ -25,7 +25,7 @@ use crate::resolver::Resolver;
 use crate::spot::Spot;
 use crate::tables::Tables;
 use jt_chains::Layer;
-use jt_resolved::{Routine, SStmt};
+use jt_resolved::{Routine, SlotStmt};
 use jt_trees::Stmt;
 use jt_value::{NoMemory, Value};
 use std::alloc::Global;
@@ -40,7 +40,7 @@ fn top_spot<'s, 'a>(tables: &'s Tables<'a>, template: usize) -> Spot<'s, 'a>
         template,
         escaping: tables.chain().autoescape,
         body: None,
-        frames: &[],
+        name_scopes: &[],
         free: 0,
     }
 }
@@ -95,7 +95,7 @@ impl<'t, 's, 'a> Resolver<'t, 's, 'a> {
     fn resolve_if_set(
         &self,
         statement: &'a Stmt,
-        done: &mut Vec<SStmt>,
+        done: &mut Vec<SlotStmt>,
         pool: &mut Vec<Value>,
     ) -> Result<(), NoMemory>
         ensures { IfOk result (λ u. BodyAdds self.now (if is_set (stmt_view statement.now) then
@@ -112,7 +112,7 @@ impl<'t, 's, 'a> Resolver<'t, 's, 'a> {
     fn resolve_sets(
         &self,
         body: &'a [Stmt],
-        done: &mut Vec<SStmt>,
+        done: &mut Vec<SlotStmt>,
         pool: &mut Vec<Value>,
     ) -> Result<(), NoMemory>
         ensures { IfOk result (λ u. BodyAdds self.now
@@ -130,7 +130,7 @@ impl<'t, 's, 'a> Resolver<'t, 's, 'a> {
         &self,
         body: &'a [Stmt],
         is_root: bool,
-        done: &mut Vec<SStmt>,
+        done: &mut Vec<SlotStmt>,
         pool: &mut Vec<Value>,
     ) -> Result<(), NoMemory>
         ensures { IfOk result (λ u. BodyAdds self.now (layer_of self.now (body_view body.now)
@@ -148,7 +148,7 @@ fn resolve_layers<'a>(
     alloc: Global,
     tables: &Tables<'a>,
     layers: &[Layer<'a>],
-    done: &mut Vec<SStmt>,
+    done: &mut Vec<SlotStmt>,
     pool: &mut Vec<Value>,
 ) -> Result<(), NoMemory>
     ensures { IfOk result (λ u. BodyLed tables.now (resolve.resolved_chain (world_in tables.now)
@@ -265,7 +265,7 @@ fn resolve_blocks<'a>(
             template: block.template,
             escaping: block.escaping,
             body: Some(place),
-            frames: &[],
+            name_scopes: &[],
             free: 0,
         };
         let resolver = Resolver {

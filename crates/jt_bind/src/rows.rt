@@ -11,13 +11,13 @@ ghost use Rattle.jt_resolved.specs.Slots as slots;
 
 use crate::lookup::reading;
 use crate::resolver::Resolver;
-use jt_resolved::{SExpr, Slot};
+use jt_resolved::{Slot, SlotExpr};
 use jt_value::NoMemory;
 use std::alloc::Global;
 
 impl<'t, 's, 'a> Resolver<'t, 's, 'a> {
     /// What names read, in a row.
-    pub(crate) fn reads(&self, names: &[&str]) -> Result<Vec<(Option<usize>, SExpr)>, NoMemory>
+    pub(crate) fn reads(&self, names: &[&str]) -> Result<Vec<(Option<usize>, SlotExpr)>, NoMemory>
         ensures { IfOk result (λ row. (p : List Tree)
             → RowLeads (resolve.reads (table_of self.now) (texts names.now)) slots.none [] row.items
             p p) }
@@ -34,20 +34,23 @@ impl<'t, 's, 'a> Resolver<'t, 's, 'a> {
 pub(crate) fn first_locals(
     alloc: Global,
     count: usize,
-) -> Result<Vec<(Option<usize>, SExpr)>, NoMemory>
+) -> Result<Vec<(Option<usize>, SlotExpr)>, NoMemory>
     ensures { IfOk result (λ row. (xs : List Text) (p : List Tree)
         → length xs ≡ count
         → RowLeads (resolve.first_locals 0 xs) slots.none [] row.items p p) }
 {
     let mut row = Vec::new(alloc);
     for local in 0..count {
-        row.push((None, SExpr::Variable(Slot::Local(local))))?;
+        row.push((None, SlotExpr::Variable(Slot::Local(local))))?;
     }
     Ok(row)
 }
 
 /// A row of one expression.
-pub(crate) fn row_of(alloc: Global, first: SExpr) -> Result<Vec<(Option<usize>, SExpr)>, NoMemory>
+pub(crate) fn row_of(
+    alloc: Global,
+    first: SlotExpr,
+) -> Result<Vec<(Option<usize>, SlotExpr)>, NoMemory>
     ensures { IfOk result (λ row. row.items ≡ (None, first) ∷ []) }
 {
     Ok(vec![in alloc; (None, first)]?)

@@ -1,6 +1,6 @@
 //! Where something is resolved.
 
-use crate::frame::Frame;
+use crate::name_scope::NameScope;
 use std::rc::Rc;
 
 /// Where something is resolved: the place of its template, whether what is printed is escaped,
@@ -11,7 +11,7 @@ pub(crate) struct Spot<'s, 'a> {
     pub template: usize,
     pub escaping: bool,
     pub body: Option<usize>,
-    pub frames: &'s [Rc<Frame<'a>>],
+    pub name_scopes: &'s [Rc<NameScope<'a>>],
     pub free: usize,
 }
 
@@ -27,7 +27,7 @@ impl<'s, 'a> Spot<'s, 'a> {
             ≡ record (spot_in scope self.entry) { table = globals_in scope } }
     {
         Spot {
-            frames: &self.frames[..0],
+            name_scopes: &self.name_scopes[..0],
             ..self
         }
     }

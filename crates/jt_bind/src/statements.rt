@@ -22,7 +22,7 @@ use crate::spot::Spot;
 use crate::targets::fresh_targets;
 use jt_layout::more;
 use jt_names::set_names;
-use jt_resolved::{Place, SExpr, SStmt, Slot, Targets};
+use jt_resolved::{Place, Slot, SlotExpr, SlotStmt, Targets};
 use jt_trees::{Expr, Stmt};
 use jt_value::{NoMemory, Value};
 
@@ -32,7 +32,7 @@ impl<'t, 's, 'a> Resolver<'t, 's, 'a> {
     pub(crate) fn resolve_body(
         &self,
         body: &'a [Stmt],
-        done: &mut Vec<SStmt>,
+        done: &mut Vec<SlotStmt>,
         pool: &mut Vec<Value>,
     ) -> Result<(), NoMemory>
         ensures { IfOk result (λ u. BodyAdds self.now (body_of self.now (body_view body.now))
@@ -49,7 +49,7 @@ impl<'t, 's, 'a> Resolver<'t, 's, 'a> {
     pub(crate) fn resolve_statement(
         &self,
         statement: &'a Stmt,
-        done: &mut Vec<SStmt>,
+        done: &mut Vec<SlotStmt>,
         pool: &mut Vec<Value>,
     ) -> Result<(), NoMemory>
         ensures { IfOk result (λ u. StmtAdds self.now (stmt_view statement.now) done.old
@@ -151,7 +151,7 @@ impl<'t, 's, 'a> Resolver<'t, 's, 'a> {
         line: u32,
         condition: &Expr,
         pool: &mut Vec<Value>,
-    ) -> Result<(Place, SExpr, Vec<SStmt>), NoMemory>
+    ) -> Result<(Place, SlotExpr, Vec<SlotStmt>), NoMemory>
         ensures { IfOk result (λ b. IsBranch (templates_of self.now)
             (line_of self.now line)
             (expr_of self.now (written.expr_view condition.now))
@@ -174,7 +174,7 @@ impl<'t, 's, 'a> Resolver<'t, 's, 'a> {
         names: &'a [String],
         condition: &Option<Expr>,
         pool: &mut Vec<Value>,
-    ) -> Result<(Option<SExpr>, Vec<SStmt>), NoMemory>
+    ) -> Result<(Option<SlotExpr>, Vec<SlotStmt>), NoMemory>
         ensures { IfOk result (λ t. IsTurn self.now.tables.now (resolve.resolved_condition
             (world_in self.now.tables.now) (order_in self.now.tables.now) (option_map written.expr_view condition.now)
             (resolve.bound_all (names_view names.now) (spot_of self.now)))
@@ -185,7 +185,7 @@ impl<'t, 's, 'a> Resolver<'t, 's, 'a> {
         let inner = entered(self.alloc, &self.spot, texts_of(self.alloc, names)?)?;
         let inside = Resolver {
             spot: Spot {
-                frames: &inner.frames,
+                name_scopes: &inner.name_scopes,
                 free: inner.free,
                 ..self.spot
             },
@@ -203,7 +203,7 @@ impl<'t, 's, 'a> Resolver<'t, 's, 'a> {
         &self,
         body: &'a [Stmt],
         names: Vec<&'a str>,
-        done: &mut Vec<SStmt>,
+        done: &mut Vec<SlotStmt>,
         pool: &mut Vec<Value>,
     ) -> Result<(), NoMemory>
         ensures { IfOk result (λ u. BodyAdds self.now (scoped_of self.now (body_view body.now)
@@ -213,7 +213,7 @@ impl<'t, 's, 'a> Resolver<'t, 's, 'a> {
         let inner = entered(self.alloc, &self.spot, names)?;
         let inside = Resolver {
             spot: Spot {
-                frames: &inner.frames,
+                name_scopes: &inner.name_scopes,
                 free: inner.free,
                 ..self.spot
             },
@@ -228,7 +228,7 @@ impl<'t, 's, 'a> Resolver<'t, 's, 'a> {
     fn resolve_scoped(
         &self,
         body: &'a [Stmt],
-        done: &mut Vec<SStmt>,
+        done: &mut Vec<SlotStmt>,
         pool: &mut Vec<Value>,
     ) -> Result<(), NoMemory>
         ensures { IfOk result (λ u. BodyAdds self.now (scoped_of self.now (body_view body.now)
@@ -239,7 +239,7 @@ impl<'t, 's, 'a> Resolver<'t, 's, 'a> {
         let inner = entered(self.alloc, &self.spot, names)?;
         let inside = Resolver {
             spot: Spot {
-                frames: &inner.frames,
+                name_scopes: &inner.name_scopes,
                 free: inner.free,
                 ..self.spot
             },
@@ -254,7 +254,7 @@ impl<'t, 's, 'a> Resolver<'t, 's, 'a> {
         &self,
         body: &'a [Stmt],
         pool: &mut Vec<Value>,
-    ) -> Result<Vec<SStmt>, NoMemory>
+    ) -> Result<Vec<SlotStmt>, NoMemory>
         ensures { IfOk result (λ ss. IsBody (templates_of self.now)
             (scoped_of self.now (body_view body.now) (spot_of self.now)) ss.items
             (values pool.old) (values pool.new)) }
@@ -266,7 +266,11 @@ impl<'t, 's, 'a> Resolver<'t, 's, 'a> {
 
     /// Resolves a body in the scope around it.
     #[cycle(statements)]
-    fn resolve_whole(&self, body: &'a [Stmt], pool: &mut Vec<Value>) -> Result<Vec<SStmt>, NoMemory>
+    fn resolve_whole(
+        &self,
+        body: &'a [Stmt],
+        pool: &mut Vec<Value>,
+    ) -> Result<Vec<SlotStmt>, NoMemory>
         ensures { IfOk result (λ ss. IsBody (templates_of self.now)
             (body_of self.now (body_view body.now)) ss.items (values pool.old)
             (values pool.new)) }
@@ -283,7 +287,7 @@ impl<'t, 's, 'a> Resolver<'t, 's, 'a> {
         &self,
         body: &'a [Stmt],
         slot: Slot,
-        done: &mut Vec<SStmt>,
+        done: &mut Vec<SlotStmt>,
         pool: &mut Vec<Value>,
     ) -> Result<(), NoMemory>
         ensures { IfOk result (λ u. BodyAdds self.now (resolve.alone
@@ -300,7 +304,7 @@ impl<'t, 's, 'a> Resolver<'t, 's, 'a> {
         &self,
         body: &'a [Stmt],
         escaping: bool,
-        done: &mut Vec<SStmt>,
+        done: &mut Vec<SlotStmt>,
         pool: &mut Vec<Value>,
     ) -> Result<(), NoMemory>
         ensures { IfOk result (λ u. (line : ℕ) → StmtAdds self.now
@@ -316,7 +320,7 @@ impl<'t, 's, 'a> Resolver<'t, 's, 'a> {
         &self,
         line: u32,
         value: &Expr,
-        done: &mut Vec<SStmt>,
+        done: &mut Vec<SlotStmt>,
         pool: &mut Vec<Value>,
     ) -> Result<(), NoMemory>
         ensures { IfOk result (λ u. StmtAdds self.now
@@ -331,7 +335,7 @@ impl<'t, 's, 'a> Resolver<'t, 's, 'a> {
         &self,
         condition: &Option<Expr>,
         pool: &mut Vec<Value>,
-    ) -> Result<Option<SExpr>, NoMemory>
+    ) -> Result<Option<SlotExpr>, NoMemory>
         ensures { IfOk result (λ k. IsAsked (resolve.resolved_condition (world_in self.now.tables.now)
             (order_in self.now.tables.now) (option_map written.expr_view condition.now)
             (spot_of self.now)) k (values pool.old) (values pool.new)) }
@@ -348,7 +352,7 @@ impl<'t, 's, 'a> Resolver<'t, 's, 'a> {
         &self,
         line: u32,
         pairs: &[(String, Expr)],
-        done: &mut Vec<SStmt>,
+        done: &mut Vec<SlotStmt>,
         pool: &mut Vec<Value>,
     ) -> Result<(), NoMemory>
         ensures { IfOk result (λ u. (behind : SBody Constant)

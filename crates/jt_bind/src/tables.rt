@@ -9,7 +9,7 @@ ghost use Rattle.jt_meaning.specs.Layout.{keys};
 ghost use Rattle.jt_bind.specs.Scoped.{world_in, order_in, home_in, IsTable};
 
 use jt_chains::Chain;
-use jt_layout::{Laid, Scope, lay_out};
+use jt_layout::{HomeTables, Laid, lay_out};
 use jt_value::NoMemory;
 use std::alloc::Global;
 use std::marker::Model;
@@ -17,7 +17,7 @@ use std::marker::Model;
 /// The tables of the chains and libraries, and the one of them that is resolved. They are laid out.
 #[derive(Drop)]
 pub(crate) struct Tables<'a> {
-    scope: Scope<'a>,
+    scope: HomeTables<'a>,
 }
 
 impl<'a> Model for Tables<'a> {

@@ -11,7 +11,7 @@ ghost use Rattle.jt_names.specs.Names.{texts};
 ghost use Rattle.jt_bind.specs.Stated.{slot_if};
 
 use crate::entering::texts_of;
-use crate::frame::Frame;
+use crate::name_scope::NameScope;
 use crate::resolver::Resolver;
 use jt_layout::more;
 use jt_resolved::{Slot, Targets};
@@ -27,7 +27,7 @@ impl<'t, 's, 'a> Resolver<'t, 's, 'a> {
     }
 
     /// What is kept of a name that is set at a place: its slot where that place is its last.
-    fn kept_slot(&self, last: &Frame<'_>, place: usize, name: &str) -> Option<Slot>
+    fn kept_slot(&self, last: &NameScope<'_>, place: usize, name: &str) -> Option<Slot>
         ensures { option_map slot_view result
             ≡ slot_if (last_among name.now (texts last.now.names.items) last.now.first None) place
             (slot_in name.now (table_of self.now)) }
@@ -49,7 +49,7 @@ impl<'t, 's, 'a> Resolver<'t, 's, 'a> {
         ensures { IfOk result (λ ss. map (option_map slot_view) ss.items
             ≡ resolve.kept_slots (table_of self.now) (names_view names.now)) }
     {
-        let last = Frame::new(self.alloc, texts_of(self.alloc, names)?, 0)?;
+        let last = NameScope::new(self.alloc, texts_of(self.alloc, names)?, 0)?;
         let mut slots = Vec::with_capacity(self.alloc, names.len())?;
         for (place, name) in names.iter().enumerate() {
             slots.push(self.kept_slot(&last, place, name.as_str()))?;

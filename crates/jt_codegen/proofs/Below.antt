@@ -6,15 +6,15 @@ use Rattle.std.specs.Prelude.{nat_le, option_map}
 use Rattle.std.proofs.lemmas.Bool.Decides.{nat_tests}
 use Rattle.jt_trees.specs.Expressions.{Text}
 use Rattle.jt_resolved.specs.Slots as slots
-use Rattle.jt_resolved.specs.Slots.{SStmt, SBody, end}
+use Rattle.jt_resolved.specs.Slots.{SlotStmt, SBody, end}
 use Rattle.jt_resolved.specs.View.{Front, slot_view, targets_view, place_view, expr_view, stmt_view, body_view, choice_view, routine_view}
 use Rattle.jt_resolved.specs.declared.program.Place.{Place}
 use Rattle.jt_resolved.specs.declared.program.Slot.{Slot}
 use Rattle.jt_resolved.specs.declared.program.Targets.{Targets}
-use Rattle.jt_resolved.specs.declared.program.SExpr.{SExpr}
-use Rattle.jt_resolved.specs.declared.program.SStmt as given
+use Rattle.jt_resolved.specs.declared.program.SlotExpr.{SlotExpr}
+use Rattle.jt_resolved.specs.declared.program.SlotStmt as given
 use Rattle.jt_resolved.specs.declared.program.Routine as given_routine
-use Rattle.jt_resolved.specs.declared.program.SStmt.TheVariants as v
+use Rattle.jt_resolved.specs.declared.program.SlotStmt.TheVariants as v
 use Rattle.jt_resolved.specs.Size.{expr_height, targets_height, condition_height, stmt_height, body_height}
 use Rattle.jt_resolved.proofs.StatementViews.{SBranch, view_If, view_For, view_Capture}
 
@@ -41,7 +41,7 @@ passes_alone room f o h = h end ∙ ap (λ z. o && z) (zero_low room) ∙ last o
     last false = refl
 
 -- a statement that is seen as this one
-pub passes_one : (room : ℕ) (f : Front) (x : SStmt ℕ) (o : Bool) → ((behind : SBody ℕ) → f behind ≡ slots.stmt x behind) → o ≡ nat_le (stmt_height x) room → Passes room f o
+pub passes_one : (room : ℕ) (f : Front) (x : SlotStmt ℕ) (o : Bool) → ((behind : SBody ℕ) → f behind ≡ slots.stmt x behind) → o ≡ nat_le (stmt_height x) room → Passes room f o
 passes_one room f x o seen same behind = ap (λ b. nat_le (body_height b) room) (seen behind) ∙ both_low (stmt_height x) (body_height behind) room ∙ ap (λ z. z && nat_le (body_height behind) room) (sym same)
 
 module _ (room : ℕ) (templates : List Text) where
@@ -56,7 +56,7 @@ module _ (room : ℕ) (templates : List Text) where
       both_low u (max (1 + max x (max y z)) v) room
       ∙ ap (λ q. nat_le u room && q) (both_low (1 + max x (max y z)) v room ∙ ap (λ q. q && nat_le v room) (raised (max x (max y z)) room some ∙ both_low x (max y z) (room - 1) ∙ ap (λ q. nat_le x (room - 1) && q) (both_low y z (room - 1))))
 
-  pub for_passes : (s : given.SStmt) (p : Place) (xs : Targets) (e : SExpr) (c : Option SExpr) (body other : Vec given.SStmt Global) (body' other' : List given.SStmt) (h t w b o : Bool) → 1 ≤ room
+  pub for_passes : (s : given.SlotStmt) (p : Place) (xs : Targets) (e : SlotExpr) (c : Option SlotExpr) (body other : Vec given.SlotStmt Global) (body' other' : List given.SlotStmt) (h t w b o : Bool) → 1 ≤ room
       → s ≡ v.For p xs e c body other → body' ≡ body.items → other' ≡ other.items
       → h ≡ nat_le (expr_height (expr_view e)) room → t ≡ nat_le (targets_height (targets_view xs)) (room - 1) → w ≡ nat_le (condition_height (option_map expr_view c)) (room - 1)
       → Passes (room - 1) (body_view templates body') b → Passes room (body_view templates other') o
@@ -67,7 +67,7 @@ module _ (room : ℕ) (templates : List Text) where
       let z = body_height (body_view templates body' end) in
       let u = expr_height (expr_view e) in
       let k = body_height (body_view templates other' end) in
-      let form = λ (l m : List given.SStmt). slots.for_each (place_view templates p) (targets_view xs) (expr_view e) (option_map expr_view c) (body_view templates l end) (body_view templates m end) in
+      let form = λ (l m : List given.SlotStmt). slots.for_each (place_view templates p) (targets_view xs) (expr_view e) (option_map expr_view c) (body_view templates l end) (body_view templates m end) in
       passes_one room (stmt_view templates s) (form body' other') (((h && t) && (w && b)) && o)
       (λ behind. ap (λ q. stmt_view templates q behind) is ∙ view_For templates p xs e c body other behind ∙ ap (λ l. slots.stmt (form l other.items) behind) (sym same_body) ∙ ap (λ l. slots.stmt (form body' l) behind) (sym same_other))
       (sym (loop_low x y z u k some
@@ -78,10 +78,10 @@ module _ (room : ℕ) (templates : List Text) where
       ∙ ap (λ q. h && ((t && (w && b)) && q)) (passes_alone room (body_view templates other') o is_o)
       ∙ regrouped h t w b o))
 
-  pub capture_passes : (s : given.SStmt) (escaping : Bool) (x : Slot) (body : Vec given.SStmt Global) (body' : List given.SStmt) (b : Bool) → 1 ≤ room → s ≡ v.Capture escaping x body → body' ≡ body.items → Passes (room - 1) (body_view templates body') b
+  pub capture_passes : (s : given.SlotStmt) (escaping : Bool) (x : Slot) (body : Vec given.SlotStmt Global) (body' : List given.SlotStmt) (b : Bool) → 1 ≤ room → s ≡ v.Capture escaping x body → body' ≡ body.items → Passes (room - 1) (body_view templates body') b
       → Passes room (stmt_view templates s) b
   capture_passes s escaping x body body' b some is same is_b =
-      let form = λ (l : List given.SStmt). slots.capture escaping (slot_view x) (body_view templates l end) in
+      let form = λ (l : List given.SlotStmt). slots.capture escaping (slot_view x) (body_view templates l end) in
       passes_one room (stmt_view templates s) (form body') b (λ behind. ap (λ q. stmt_view templates q behind) is ∙ view_Capture templates escaping x body behind ∙ ap (λ l. slots.stmt (form l) behind) (sym same))
       (sym (raised (body_height (body_view templates body' end)) room some ∙ passes_alone (room - 1) (body_view templates body') b is_b))
 
@@ -125,13 +125,13 @@ module _ (room : ℕ) (templates : List Text) where
   branches_next bs i b lt is = ap branches_low (drop_more bs i b lt) ∙ ap (λ (x : SBranch). branches_low (x ∷ drop (i + 1) bs)) (sym is)
 
   -- a branch that was looked at
-  branch_same : (b : SBranch) (ss : List given.SStmt) (t u : Bool) → ss ≡ b.2.items → t ≡ nat_le (expr_height (expr_view b.1)) room → Passes room (body_view templates ss) u
+  branch_same : (b : SBranch) (ss : List given.SlotStmt) (t u : Bool) → ss ≡ b.2.items → t ≡ nat_le (expr_height (expr_view b.1)) room → Passes room (body_view templates ss) u
       → (nat_le (expr_height (expr_view b.1)) room && nat_le (body_height (body_view templates b.2.items end)) room) ≡ (t && u)
   branch_same b ss t u same e f =
-      ap (λ (l : List given.SStmt). nat_le (expr_height (expr_view b.1)) room && nat_le (body_height (body_view templates l end)) room) (sym same) ∙ ap (λ z. z && nat_le (body_height (body_view templates ss end)) room) (sym e)
+      ap (λ (l : List given.SlotStmt). nat_le (expr_height (expr_view b.1)) room && nat_le (body_height (body_view templates l end)) room) (sym same) ∙ ap (λ z. z && nat_le (body_height (body_view templates ss end)) room) (sym e)
       ∙ ap (λ z. t && z) (passes_alone room (body_view templates ss) u f)
 
-  pub branch_passed : (bs : List SBranch) (i : ℕ) (b : SBranch) (ss : List given.SStmt) (t u : Bool) → i < length bs → b ≡ get_or bs i b → ss ≡ b.2.items → t ≡ nat_le (expr_height (expr_view b.1)) room
+  pub branch_passed : (bs : List SBranch) (i : ℕ) (b : SBranch) (ss : List given.SlotStmt) (t u : Bool) → i < length bs → b ≡ get_or bs i b → ss ≡ b.2.items → t ≡ nat_le (expr_height (expr_view b.1)) room
       → Passes room (body_view templates ss) u → t ≡ true → u ≡ true → branches_low (drop i bs) ≡ branches_low (drop (i + 1) bs)
   branch_passed bs i b ss t u lt is same e f low too =
       branches_next bs i b lt is ∙ ap (λ z. z && branches_low (drop (i + 1) bs)) (branch_same b ss t u same e f ∙ ap (λ z. z && u) low ∙ too)
@@ -140,7 +140,7 @@ module _ (room : ℕ) (templates : List Text) where
   condition_high bs i b t lt is e high =
       branches_next bs i b lt is ∙ ap (λ z. (z && nat_le (body_height (body_view templates b.2.items end)) room) && branches_low (drop (i + 1) bs)) (sym e ∙ high)
 
-  pub inside_high : (bs : List SBranch) (i : ℕ) (b : SBranch) (ss : List given.SStmt) (t u : Bool) → i < length bs → b ≡ get_or bs i b → ss ≡ b.2.items → t ≡ nat_le (expr_height (expr_view b.1)) room
+  pub inside_high : (bs : List SBranch) (i : ℕ) (b : SBranch) (ss : List given.SlotStmt) (t u : Bool) → i < length bs → b ≡ get_or bs i b → ss ≡ b.2.items → t ≡ nat_le (expr_height (expr_view b.1)) room
       → Passes room (body_view templates ss) u → u ≡ false → branches_low (drop i bs) ≡ false
   inside_high bs i b ss t u lt is same e f high =
       branches_next bs i b lt is ∙ ap (λ z. z && branches_low (drop (i + 1) bs)) (branch_same b ss t u same e f ∙ ap (λ z. t && z) high ∙ none t)
@@ -149,28 +149,28 @@ module _ (room : ℕ) (templates : List Text) where
       none true = refl
       none false = refl
 
-  if_view : (x : given.SStmt) (bs : Vec SBranch Global) (other : Vec given.SStmt Global) (bs' : List SBranch) (other' : List given.SStmt) → x ≡ v.If bs other → bs' ≡ bs.items → other' ≡ other.items → (behind : SBody ℕ) → stmt_view templates x behind ≡ choice_view templates bs' (body_view templates other') behind
+  if_view : (x : given.SlotStmt) (bs : Vec SBranch Global) (other : Vec given.SlotStmt Global) (bs' : List SBranch) (other' : List given.SlotStmt) → x ≡ v.If bs other → bs' ≡ bs.items → other' ≡ other.items → (behind : SBody ℕ) → stmt_view templates x behind ≡ choice_view templates bs' (body_view templates other') behind
   if_view x bs other bs' other' is p q behind =
       ap (λ z. stmt_view templates z behind) is ∙ view_If templates bs other behind
       ∙ ap (λ (l : List SBranch). choice_view templates l (body_view templates other.items) behind) (sym p)
-      ∙ ap (λ (l : List given.SStmt). choice_view templates bs' (body_view templates l) behind) (sym q)
+      ∙ ap (λ (l : List given.SlotStmt). choice_view templates bs' (body_view templates l) behind) (sym q)
 
   -- a statement of branches
-  pub if_passes : (x : given.SStmt) (bs : Vec SBranch Global) (other : Vec given.SStmt Global) (bs' : List SBranch) (other' : List given.SStmt) (o : Bool) → x ≡ v.If bs other → bs' ≡ bs.items → other' ≡ other.items → branches_low bs' ≡ true
+  pub if_passes : (x : given.SlotStmt) (bs : Vec SBranch Global) (other : Vec given.SlotStmt Global) (bs' : List SBranch) (other' : List given.SlotStmt) (o : Bool) → x ≡ v.If bs other → bs' ≡ bs.items → other' ≡ other.items → branches_low bs' ≡ true
       → Passes room (body_view templates other') o → Passes room (stmt_view templates x) o
   if_passes x bs other bs' other' o is p q all h behind =
       ap (λ b. nat_le (body_height b) room) (if_view x bs other bs' other' is p q behind) ∙ choice_passes bs' (body_view templates other') o h behind ∙ ap (λ z. (z && o) && nat_le (body_height behind) room) all
 
-  pub if_blocked : (x : given.SStmt) (bs : Vec SBranch Global) (other : Vec given.SStmt Global) (bs' : List SBranch) → x ≡ v.If bs other → bs' ≡ bs.items → branches_low bs' ≡ false → (behind : SBody ℕ) → nat_le (body_height (stmt_view templates x behind)) room ≡ false
+  pub if_blocked : (x : given.SlotStmt) (bs : Vec SBranch Global) (other : Vec given.SlotStmt Global) (bs' : List SBranch) → x ≡ v.If bs other → bs' ≡ bs.items → branches_low bs' ≡ false → (behind : SBody ℕ) → nat_le (body_height (stmt_view templates x behind)) room ≡ false
   if_blocked x bs other bs' is p high behind =
       ap (λ b. nat_le (body_height b) room) (if_view x bs other bs' other.items is p refl behind) ∙ choice_high bs' (body_view templates other.items) behind high
 
   -- ---- statements, one after the other
 
-  statements_left : (ss : List given.SStmt) (i : ℕ) (x : given.SStmt) → i < length ss → x ≡ get_or ss i x → (behind : SBody ℕ) → body_view templates (drop i ss) behind ≡ stmt_view templates x (body_view templates (drop (i + 1) ss) behind)
+  statements_left : (ss : List given.SlotStmt) (i : ℕ) (x : given.SlotStmt) → i < length ss → x ≡ get_or ss i x → (behind : SBody ℕ) → body_view templates (drop i ss) behind ≡ stmt_view templates x (body_view templates (drop (i + 1) ss) behind)
   statements_left ss i x lt is behind = ap (λ l. body_view templates l behind) (drop_more ss i x lt) ∙ ap (λ z. stmt_view templates z (body_view templates (drop (i + 1) ss) behind)) (sym is)
 
-  pub body_next : (ss : List given.SStmt) (i : ℕ) (x : given.SStmt) (t : Bool) (behind : SBody ℕ) → i < length ss → x ≡ get_or ss i x → Passes room (stmt_view templates x) t
+  pub body_next : (ss : List given.SlotStmt) (i : ℕ) (x : given.SlotStmt) (t : Bool) (behind : SBody ℕ) → i < length ss → x ≡ get_or ss i x → Passes room (stmt_view templates x) t
       → nat_le (body_height (body_view templates (drop i ss) behind)) room ≡ t && nat_le (body_height (body_view templates (drop (i + 1) ss) behind)) room
   body_next ss i x t behind lt is h = ap (λ b. nat_le (body_height b) room) (statements_left ss i x lt is behind) ∙ h (body_view templates (drop (i + 1) ss) behind)
 
@@ -185,17 +185,17 @@ module _ (room : ℕ) (templates : List Text) where
     pub all_low : RoutinesLow left → RoutinesLow all
     pub left_low : RoutinesLow all → RoutinesLow left
 
-  pub low_more : (rs : List given_routine.Routine) (i : ℕ) (r : given_routine.Routine) (ss : List given.SStmt) → i < length rs → r ≡ get_or rs i r → ss ≡ r.body.items → Passes room (body_view templates ss) true → SameLow rs (drop i rs) → SameLow rs (drop (i + 1) rs)
+  pub low_more : (rs : List given_routine.Routine) (i : ℕ) (r : given_routine.Routine) (ss : List given.SlotStmt) → i < length rs → r ≡ get_or rs i r → ss ≡ r.body.items → Passes room (body_view templates ss) true → SameLow rs (drop i rs) → SameLow rs (drop (i + 1) rs)
   low_more rs i r ss lt is same passes s =
       let left : drop i rs ≡ r ∷ drop (i + 1) rs = drop_more rs i r lt ∙ ap (λ y. y ∷ drop (i + 1) rs) (sym is) in
-      let low : nat_le (body_height (body_view templates r.body.items end)) room ≡ true = ap (λ (l : List given.SStmt). nat_le (body_height (body_view templates l end)) room) (sym same) ∙ passes_alone room (body_view templates ss) true passes in
+      let low : nat_le (body_height (body_view templates r.body.items end)) room ≡ true = ap (λ (l : List given.SlotStmt). nat_le (body_height (body_view templates l end)) room) (sym same) ∙ passes_alone room (body_view templates ss) true passes in
       let within : body_height (body_view templates r.body.items end) ≤ room = grind (arith, nat_tests) in
       record { all_low = λ h. s.all_low (subst RoutinesLow (sym left) (within, h)); left_low = λ h. (subst RoutinesLow left (s.left_low h)).1 }
 
-  pub low_not : (rs : List given_routine.Routine) (i : ℕ) (r : given_routine.Routine) (ss : List given.SStmt) → i < length rs → r ≡ get_or rs i r → ss ≡ r.body.items → Passes room (body_view templates ss) false → SameLow rs (drop i rs) → ¬ (RoutinesLow rs)
+  pub low_not : (rs : List given_routine.Routine) (i : ℕ) (r : given_routine.Routine) (ss : List given.SlotStmt) → i < length rs → r ≡ get_or rs i r → ss ≡ r.body.items → Passes room (body_view templates ss) false → SameLow rs (drop i rs) → ¬ (RoutinesLow rs)
   low_not rs i r ss lt is same passes s = λ h.
       let left : drop i rs ≡ r ∷ drop (i + 1) rs = drop_more rs i r lt ∙ ap (λ y. y ∷ drop (i + 1) rs) (sym is) in
-      let high : nat_le (body_height (body_view templates r.body.items end)) room ≡ false = ap (λ (l : List given.SStmt). nat_le (body_height (body_view templates l end)) room) (sym same) ∙ passes_alone room (body_view templates ss) false passes in
+      let high : nat_le (body_height (body_view templates r.body.items end)) room ≡ false = ap (λ (l : List given.SlotStmt). nat_le (body_height (body_view templates l end)) room) (sym same) ∙ passes_alone room (body_view templates ss) false passes in
       let within : body_height (body_view templates r.body.items end) ≤ room = (subst RoutinesLow left (s.left_low h)).0 in
       grind (arith, nat_tests)
 

@@ -9,7 +9,7 @@ use Rattle.jt_resolved.specs.Slots as slots
 use Rattle.jt_resolved.specs.Slots.{SBody}
 use Rattle.jt_resolved.specs.View.{Front, slot_view, place_view, expr_view, stmt_view, body_view, choice_view}
 use Rattle.jt_resolved.specs.declared.program.Slot.{Slot}
-use Rattle.jt_resolved.specs.declared.program.SStmt.{SStmt}
+use Rattle.jt_resolved.specs.declared.program.SlotStmt.{SlotStmt}
 use Rattle.jt_lower.specs.Asm.{Asm, nil, one, both, choose}
 use Rattle.jt_lower.specs.Lower.{expr_asm, store_if_of, stores_asm, stmt_asm, body_asm}
 use Rattle.jt_lower.specs.Emission.{StandsFor, Puts, Reserves, Patches, Ends}
@@ -24,7 +24,7 @@ stands_itself n = record { same = λ l. refl; above = λ l. l }
 -- ---- statements
 
 -- a statement alone in front of others
-pub emits_one : (ts : List Text) (h : ℕ) (old new : Emitter) (s : slots.SStmt ℕ) → Puts ts old (stmt_asm s h) new → Emits ts h old (λ behind. slots.stmt s behind) new
+pub emits_one : (ts : List Text) (h : ℕ) (old new : Emitter) (s : slots.SlotStmt ℕ) → Puts ts old (stmt_asm s h) new → Emits ts h old (λ behind. slots.stmt s behind) new
 emits_one ts h old new s p = λ behind final q. puts_then ts old new final (stmt_asm s h) (body_asm behind h) p q
 
 pub emits_as : (ts : List Text) (h : ℕ) (old new : Emitter) (f g : Front) → ((behind : SBody ℕ) → f behind ≡ g behind) → Emits ts h old g new → Emits ts h old f new
@@ -39,16 +39,16 @@ abbrev pub Leads : List Text → ℕ → Emitter → Front → Emitter → Front
 Leads ts h old all now left = (behind : SBody ℕ) (final : Emitter) → Puts ts now (body_asm (left behind) h) final → Puts ts old (body_asm (all behind) h) final
 
 module _ (templates : List Text) (h : ℕ) where
-  statements_left : (ss : List SStmt) (i : ℕ) (s : SStmt) → i < length ss → s ≡ get_or ss i s → (behind : SBody ℕ) → body_view templates (drop i ss) behind ≡ stmt_view templates s (body_view templates (drop (i + 1) ss) behind)
+  statements_left : (ss : List SlotStmt) (i : ℕ) (s : SlotStmt) → i < length ss → s ≡ get_or ss i s → (behind : SBody ℕ) → body_view templates (drop i ss) behind ≡ stmt_view templates s (body_view templates (drop (i + 1) ss) behind)
   statements_left ss i s lt is behind =
-      ap (λ l. body_view templates l behind) (drop_more ss i s lt) ∙ ap (λ (x : SStmt). stmt_view templates x (body_view templates (drop (i + 1) ss) behind)) (sym is)
+      ap (λ l. body_view templates l behind) (drop_more ss i s lt) ∙ ap (λ (x : SlotStmt). stmt_view templates x (body_view templates (drop (i + 1) ss) behind)) (sym is)
 
-  pub leads_more : (ss : List SStmt) (i : ℕ) (s : SStmt) (old now new : Emitter) (all : Front) → i < length ss → s ≡ get_or ss i s → Leads templates h old all now (body_view templates (drop i ss)) → Emits templates h now (stmt_view templates s) new
+  pub leads_more : (ss : List SlotStmt) (i : ℕ) (s : SlotStmt) (old now new : Emitter) (all : Front) → i < length ss → s ≡ get_or ss i s → Leads templates h old all now (body_view templates (drop i ss)) → Emits templates h now (stmt_view templates s) new
       → Leads templates h old all new (body_view templates (drop (i + 1) ss))
   leads_more ss i s old now new all lt is l e = λ behind final q.
       l behind final (subst (λ b. Puts templates now (body_asm b h) final) (sym (statements_left ss i s lt is behind)) (e (body_view templates (drop (i + 1) ss) behind) final q))
 
-  pub leads_all : (ss : List SStmt) (i : ℕ) (old now : Emitter) (all : Front) → length ss ≤ i → Leads templates h old all now (body_view templates (drop i ss)) → Emits templates h old all now
+  pub leads_all : (ss : List SlotStmt) (i : ℕ) (old now : Emitter) (all : Front) → length ss ≤ i → Leads templates h old all now (body_view templates (drop i ss)) → Emits templates h old all now
   leads_all ss i old now all le l = λ behind final q.
       l behind final (subst (λ b. Puts templates now (body_asm b h) final) (sym (at_drop_all (λ es. body_view templates es behind) ss i le)) q)
 
@@ -76,7 +76,7 @@ module _ (templates : List Text) (h : ℕ) where
   closes_snoc final done [] m c = (done, subst (λ z. Patches z m (op.Jump (length z.code.items)) done) c.1 c.2, refl)
   closes_snoc final done (e ∷ es) m c = let r = closes_snoc final c.0 es m c.1 in (r.0, r.1, (c.0, r.2, c.2))
 
-  pub opens_more : (bs : List SBranch) (i : ℕ) (b : SBranch) (ss : List SStmt) (old now c1 c2 c3 c4 : Emitter) (ends : List ℕ) (choice last : ℕ) → i < length bs → b ≡ get_or bs i b → ss ≡ b.2.items → Opens old bs now (drop i bs) ends
+  pub opens_more : (bs : List SBranch) (i : ℕ) (b : SBranch) (ss : List SlotStmt) (old now c1 c2 c3 c4 : Emitter) (ends : List ℕ) (choice last : ℕ) → i < length bs → b ≡ get_or bs i b → ss ≡ b.2.items → Opens old bs now (drop i bs) ends
       → Puts templates now (expr_asm (Some (place_view templates b.0)) (expr_view b.1) h) c1 → Reserves c1 (op.JumpIfFalse 0) choice c2 → Emits templates h c2 (body_view templates ss) c3 → Ends c3 choice last c4
       → Opens old bs c4 (drop (i + 1) bs) (ends ++ last ∷ [])
   opens_more bs i b ss old now c1 c2 c3 c4 ends choice last lt is same o tested tests taken ended = record {

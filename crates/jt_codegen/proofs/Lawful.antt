@@ -29,7 +29,7 @@ use Rattle.jt_meaning.specs.Layout.{Table, slot_in, globals_from, in_globals, de
 use Rattle.jt_meaning.specs.Meaning.{is_set}
 use Rattle.jt_meaning.specs.Programs.{body_routines, entry_routines, chain_routines, routines, count_globals, program}
 use Rattle.jt_resolved.specs.Slots as slots
-use Rattle.jt_resolved.specs.Slots.{Slot, local, SExpr, SRow, SBody, variable, run, Routine}
+use Rattle.jt_resolved.specs.Slots.{Slot, local, SlotExpr, SRow, SBody, variable, run, Routine}
 use Rattle.jt_resolved.specs.Takes.{BodyTakes}
 use Rattle.jt_evaluation.specs.TheFilters.{the_filters}
 use Rattle.jt_resolved.specs.Pool.{Constant, own, known}
@@ -50,7 +50,7 @@ default_pooled None = tt
 default_pooled (Some l) = literal_pooled l
 
 module _ (front globals_count : ℕ) (some : 0 < front) where
-  abbrev E : SExpr Constant → Type 0
+  abbrev E : SlotExpr Constant → Type 0
   E = ExprLawful front globals_count
 
   abbrev R : SRow Constant → Type 0
@@ -107,11 +107,11 @@ module _ (front globals_count : ℕ) (some : 0 < front) where
   field_fine None = tt
   field_fine (Some f) = tt
 
-  either_fine : (b : Bool) (x y : SExpr Constant) → E x → E y → E (if b then x else y)
+  either_fine : (b : Bool) (x y : SlotExpr Constant) → E x → E y → E (if b then x else y)
   either_fine true x y h k = h
   either_fine false x y h k = k
 
-  turned_fine : (b : Bool) (e : SExpr Constant) → E e → E (turned_round b e)
+  turned_fine : (b : Bool) (e : SlotExpr Constant) → E e → E (turned_round b e)
   turned_fine false e h = h
   turned_fine true e h = (h, tt)
 
@@ -123,7 +123,7 @@ module _ (front globals_count : ℕ) (some : 0 < front) where
   filtered_fine None b es h = tt
   filtered_fine (Some f) b es h = h
 
-  form_fine : (f : Form) (a b : SExpr Constant) → E a → E b → E (in_form f a b)
+  form_fine : (f : Form) (a b : SlotExpr Constant) → E a → E b → E (in_form f a b)
   form_fine f a b h k = search (arith, rules)
 
   filled_fine : (ps : List Parameter) (m d : ℕ) (ks : Table) → d + length ps ≤ front → Fine ks → R (filled ps m d ks)
@@ -255,7 +255,7 @@ module _ (front globals_count : ℕ) (some : 0 < front) where
     condition_fined None sp i t = tt
     condition_fined (Some c) sp i t = fined c sp i t
 
-    filters_fined : (fs : List Filtering) (sp : Spot) (e : SExpr Constant) → listed sp.home order ≡ true → Fine sp.table → E e → E (resolved_filters world order fs sp e)
+    filters_fined : (fs : List Filtering) (sp : Spot) (e : SlotExpr Constant) → listed sp.home order ≡ true → Fine sp.table → E e → E (resolved_filters world order fs sp e)
     filters_fined [] sp e i t h = h
     filters_fined (f ∷ fs) sp e i t h =
         let n = world.filters.named f.name f.arguments f.keywords in

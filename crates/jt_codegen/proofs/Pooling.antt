@@ -12,7 +12,7 @@ use Rattle.jt_meaning.specs.Layout.{defaults_of, numbered_bodies, shared}
 use Rattle.jt_meaning.specs.Programs.{program, body_routines, entry_routines, chain_routines, routines}
 use Rattle.jt_meaning.specs.Resolve.{macro_routine}
 use Rattle.jt_resolved.specs.Slots as slots
-use Rattle.jt_resolved.specs.Slots.{SExpr, SRow, Targets, SStmt, SBody, Routine, Program}
+use Rattle.jt_resolved.specs.Slots.{SlotExpr, SRow, Targets, SlotStmt, SBody, Routine, Program}
 use Rattle.jt_resolved.specs.Pool.{Constant, own, known, constant_values, expr_values, row_values, condition_values, stmt_values, body_values, routines_values, placed_routines}
 use Rattle.jt_resolved.specs.Size.{expr_size, row_size, condition_size, stmt_size, body_size, routines_size}
 use Rattle.jt_lower.specs.Compiles.{LowLaws}
@@ -28,7 +28,7 @@ constant_few (own v) = omega arith
 constant_few (known i) = omega arith
 
 mutual
-  expr_few : (e : SExpr Constant) → length (expr_values e) ≤ expr_size e
+  expr_few : (e : SlotExpr Constant) → length (expr_values e) ≤ expr_size e
   expr_few (slots.pooled k) = constant_few k
   expr_few (slots.variable s) = omega arith
   expr_few (slots.field f) = omega arith
@@ -44,12 +44,12 @@ mutual
   row_few (slots.item e es) = omega (arith, length-append (expr_values e) (row_values es), expr_few e, row_few es)
   row_few (slots.aside i e es) = omega (arith, length-append (expr_values e) (row_values es), expr_few e, row_few es)
 
-condition_few : (xs : Targets) (c : Option (SExpr Constant)) → length (condition_values c) ≤ condition_size xs c
+condition_few : (xs : Targets) (c : Option (SlotExpr Constant)) → length (condition_values c) ≤ condition_size xs c
 condition_few xs None = omega arith
 condition_few xs (Some c) = omega (arith, expr_few c)
 
 mutual
-  stmt_few : (s : SStmt Constant) → length (stmt_values s) ≤ stmt_size s
+  stmt_few : (s : SlotStmt Constant) → length (stmt_values s) ≤ stmt_size s
   stmt_few (slots.put_pooled k) = constant_few k
   stmt_few (slots.print p escaping e) = omega (arith, expr_few e)
   stmt_few (slots.assign p xs e) = omega (arith, expr_few e)

@@ -3,7 +3,7 @@ use Rattle.std.proofs.Common.{ℕ, ◌<◌, Bool, true, false, if◌then◌else�
 use Rattle.std.specs.List.{AllByRecursion}
 use Rattle.std.proofs.lemmas.Str.{length-le-encodes}
 use Rattle.jt_scan.specs.declared.options.Options.{Options}
-use Rattle.jt_scan.specs.declared.segment.Kind.{Kind}
+use Rattle.jt_scan.specs.declared.segment.TagKind.{TagKind}
 use Rattle.jt_scan.specs.declared.segment.Mark.{Mark}
 use Rattle.jt_scan.specs.declared.segment.Sign.{Sign}
 use Rattle.jt_scan.specs.declared.segment.Sign.TheVariants as s
@@ -59,7 +59,7 @@ ArePieces = AllByRecursion IsPiece
 token_word : {t : Token} {x rest : List ℕ} → cut.Spelled t x rest → IsWord t
 token_word x1 = search (arith, rules)
 
-inside_words : {k : Kind} {depth : ℕ} {ts : List Token} {mark : Mark} {x rest : List ℕ} → Inside k depth ts mark x rest → AreWords ts
+inside_words : {k : TagKind} {depth : ℕ} {ts : List Token} {mark : Mark} {x rest : List ℕ} → Inside k depth ts mark x rest → AreWords ts
 inside_words (cut.closed e) = tt
 inside_words (cut.space i j) = inside_words j
 inside_words (cut.token c t i) = (token_word t, inside_words i)

@@ -15,7 +15,7 @@ use Rattle.jt_meaning.specs.Layout.{Table, counted_from, numbered_bodies, number
 use Rattle.jt_meaning.specs.Programs.{body_routines, entry_routines, chain_routines, routines, program}
 use Rattle.jt_meaning.specs.Resolve.{Spot, place, left_out, grown, bound_all, copied, scoped, handed_on, followed, first_body, resolved_values, placed_body, resolved_stmt, resolved_body, resolved_choice, resolved_sets, top_spot, resolved_chain, macro_routine}
 use Rattle.jt_resolved.specs.Slots as slots
-use Rattle.jt_resolved.specs.Slots.{SExpr, SRow, Targets, SStmt, SBody, Routine, Slot}
+use Rattle.jt_resolved.specs.Slots.{SlotExpr, SRow, Targets, SlotStmt, SBody, Routine, Slot}
 use Rattle.jt_resolved.specs.Pool.{Constant, placed_stmt, placed_body as pooled_body, placed_routines}
 use Rattle.jt_lower.specs.Asm.{Asm, nil, one, both, choose as either, when, each, invoke, places}
 use Rattle.jt_lower.specs.Lower.{expr_asm, row_asm, stores_asm, take_asm, kept_asm, stmt_asm, body_asm, routine_places, places_of}
@@ -54,7 +54,7 @@ module _ (L : ℕ → Type 0) where
 
 module _ (P : Place → Type 0) where
   abbrev mutual
-    StmtPlaced : {K : Type 0} → SStmt K → Type 0
+    StmtPlaced : {K : Type 0} → SlotStmt K → Type 0
     StmtPlaced (slots.put_pooled k) = Unit {0}
     StmtPlaced (slots.print p escaping e) = P p
     StmtPlaced (slots.assign p xs e) = P p
@@ -92,7 +92,7 @@ module _ (P : Place → Type 0) where
   asm_placed (invoke o u) h = (h, tt)
 
   mutual
-    expr_placed : (e : SExpr ℕ) (o : Option Place) (h : ℕ) → OnTag o → AsmPlaced (expr_asm o e h)
+    expr_placed : (e : SlotExpr ℕ) (o : Option Place) (h : ℕ) → OnTag o → AsmPlaced (expr_asm o e h)
     expr_placed (slots.pooled i) o h t = t
     expr_placed (slots.variable s) o h t = t
     expr_placed (slots.field f) o h t = t
@@ -116,12 +116,12 @@ module _ (P : Place → Type 0) where
   take_placed (slots.one s) o t = t
   take_placed (slots.several ss) o t = (t, stores_placed ss o t)
 
-  kept_placed : (c : Option (SExpr ℕ)) (xs : Targets) (o : Option Place) → OnTag o → AsmPlaced (kept_asm o xs c)
+  kept_placed : (c : Option (SlotExpr ℕ)) (xs : Targets) (o : Option Place) → OnTag o → AsmPlaced (kept_asm o xs c)
   kept_placed None xs o t = tt
   kept_placed (Some c) xs o t = (((t, take_placed xs o t), (expr_placed c o 0 t, t)), t)
 
   mutual
-    stmt_coded : (s : SStmt ℕ) (h : ℕ) → StmtPlaced s → AsmPlaced (stmt_asm s h)
+    stmt_coded : (s : SlotStmt ℕ) (h : ℕ) → StmtPlaced s → AsmPlaced (stmt_asm s h)
     stmt_coded (slots.put_pooled i) h t = tt
     stmt_coded (slots.print p escaping e) h t = (expr_placed e (Some p) h t, t)
     stmt_coded (slots.assign p xs e) h t = (expr_placed e (Some p) h t, take_placed xs (Some p) t)
@@ -145,7 +145,7 @@ module _ (P : Place → Type 0) where
   -- ---- constants that get their places in the pool leave them
 
   mutual
-    stmt_pooled : (s : SStmt Constant) (n : ℕ) → StmtPlaced s → StmtPlaced (placed_stmt s n)
+    stmt_pooled : (s : SlotStmt Constant) (n : ℕ) → StmtPlaced s → StmtPlaced (placed_stmt s n)
     stmt_pooled (slots.put_pooled k) n t = tt
     stmt_pooled (slots.print p escaping e) n t = t
     stmt_pooled (slots.assign p xs e) n t = t

@@ -14,7 +14,7 @@ ghost use Rattle.jt_codegen.specs.Units.{Refuses};
 use crate::targets::{emit_item, emit_targets};
 use jt_image::{Instruction, Unit};
 use jt_lower::{Emitter, call_of, data_of, emit_expression, emit_row, flag, store_of};
-use jt_resolved::{Place, Routine, SExpr, SStmt, Slot, Targets};
+use jt_resolved::{Place, Routine, Slot, SlotExpr, SlotStmt, Targets};
 use std::alloc::{AllocError, AllocFailed, Global};
 
 /// Why no code is made.
@@ -99,7 +99,7 @@ fn emit_condition(
     code: &mut Emitter,
     tag: Option<Place>,
     targets: &Targets,
-    condition: &Option<SExpr>,
+    condition: &Option<SlotExpr>,
 ) -> Result<(), AllocError>
     ensures { OnOk result ((templates : List Text)
         → Puts templates code.old (kept_asm (tag_view templates tag) (targets_view targets.now)
@@ -124,7 +124,7 @@ fn emit_printed(
     code: &mut Emitter,
     tag: Place,
     escaping: bool,
-    expr: &SExpr,
+    expr: &SlotExpr,
     above: usize,
 ) -> Result<(), AllocError>
     ensures { OnOk result ((templates : List Text) (h : ℕ)
@@ -153,7 +153,7 @@ fn close_all(code: &mut Emitter, ends: &[usize])
 fn emit_statement(
     alloc: Global,
     code: &mut Emitter,
-    statement: &SStmt,
+    statement: &SlotStmt,
     above: usize,
 ) -> Result<(), AllocError>
     ensures { OnOk result ((templates : List Text) (h : ℕ)
@@ -161,16 +161,16 @@ fn emit_statement(
         → Emits templates h code.old (stmt_view templates statement.now) code.new) }
 {
     match statement {
-        SStmt::PutPooled(place) => {
+        SlotStmt::PutPooled(place) => {
             code.put(None, data_of(*place))?;
             Ok(())
         }
-        SStmt::Print {
+        SlotStmt::Print {
             place: tag,
             escaping,
             value: expr,
         } => emit_printed(code, *tag, *escaping, expr, above),
-        SStmt::Assign {
+        SlotStmt::Assign {
             place: tag,
             targets,
             value: expr,
@@ -179,7 +179,7 @@ fn emit_statement(
             emit_targets(code, Some(*tag), targets)?;
             Ok(())
         }
-        SStmt::If(branches, other) => {
+        SlotStmt::If(branches, other) => {
             let mut ends = Vec::new(alloc);
             for (tag, condition, body) in branches {
                 emit_expression(code, Some(*tag), condition, above)?;
@@ -192,7 +192,7 @@ fn emit_statement(
             close_all(code, &ends);
             Ok(())
         }
-        SStmt::For {
+        SlotStmt::For {
             place: tag,
             targets,
             over: iterated,
@@ -204,12 +204,12 @@ fn emit_statement(
                 alloc, code, *tag, targets, iterated, condition, body, other, above,
             )
         }
-        SStmt::Capture {
+        SlotStmt::Capture {
             escaping,
             slot,
             body,
         } => emit_capture(alloc, code, *escaping, *slot, body, above),
-        SStmt::Run(routine, row) => {
+        SlotStmt::Run(routine, row) => {
             emit_row(code, None, row, above)?;
             code.put(None, call_of(*routine))?;
             Ok(())
@@ -224,10 +224,10 @@ fn emit_loop(
     code: &mut Emitter,
     tag: Place,
     targets: &Targets,
-    iterated: &SExpr,
-    condition: &Option<SExpr>,
-    body: &[SStmt],
-    other: &[SStmt],
+    iterated: &SlotExpr,
+    condition: &Option<SlotExpr>,
+    body: &[SlotStmt],
+    other: &[SlotStmt],
     above: usize,
 ) -> Result<(), AllocError>
     ensures { OnOk result ((templates : List Text) (h : ℕ)
@@ -259,7 +259,7 @@ fn emit_capture(
     code: &mut Emitter,
     escaping: bool,
     slot: Slot,
-    body: &[SStmt],
+    body: &[SlotStmt],
     above: usize,
 ) -> Result<(), AllocError>
     ensures { OnOk result ((templates : List Text) (h : ℕ)
@@ -281,7 +281,7 @@ fn emit_capture(
 fn emit_statements(
     alloc: Global,
     code: &mut Emitter,
-    body: &[SStmt],
+    body: &[SlotStmt],
     above: usize,
 ) -> Result<(), AllocError>
     ensures { OnOk result ((templates : List Text) (h : ℕ)

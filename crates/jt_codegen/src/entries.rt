@@ -9,7 +9,7 @@ ghost use Rattle.jt_resolved.specs.Slots.{SBody};
 ghost use Rattle.jt_resolved.specs.View.{targets_view, expr_view, stmt_view, body_view, routine_view};
 
 use jt_lower::{fits_expression, fits_row};
-use jt_resolved::{Routine, SExpr, SStmt, Targets};
+use jt_resolved::{Routine, SlotExpr, SlotStmt, Targets};
 
 /// Whether what takes a value needs at most so many entries.
 fn fits_targets(targets: &Targets, room: usize) -> bool
@@ -22,7 +22,7 @@ fn fits_targets(targets: &Targets, room: usize) -> bool
 }
 
 /// Whether a condition needs at most so many entries.
-fn fits_condition(condition: &Option<SExpr>, room: usize) -> bool
+fn fits_condition(condition: &Option<SlotExpr>, room: usize) -> bool
     ensures { result ≡ nat_le (condition_height (option_map expr_view condition.now)) room }
 {
     match condition {
@@ -33,20 +33,20 @@ fn fits_condition(condition: &Option<SExpr>, room: usize) -> bool
 
 /// Whether a statement needs at most so many entries.
 #[cycle(entries)]
-fn fits_statement(statement: &SStmt, room: usize) -> bool
+fn fits_statement(statement: &SlotStmt, room: usize) -> bool
     ensures { (templates : List Text) (behind : SBody ℕ)
         → nat_le (body_height (stmt_view templates statement.now behind)) room
         ≡ result && nat_le (body_height behind) room }
 {
     match statement {
-        SStmt::PutPooled(_) => true,
-        SStmt::Print { value: expr, .. } => fits_expression(expr, room),
-        SStmt::Assign {
+        SlotStmt::PutPooled(_) => true,
+        SlotStmt::Print { value: expr, .. } => fits_expression(expr, room),
+        SlotStmt::Assign {
             targets,
             value: expr,
             ..
         } => fits_expression(expr, room) && fits_targets(targets, room),
-        SStmt::If(branches, other) => {
+        SlotStmt::If(branches, other) => {
             for (_, condition, body) in branches {
                 if !fits_expression(condition, room) {
                     return false;
@@ -57,7 +57,7 @@ fn fits_statement(statement: &SStmt, room: usize) -> bool
             }
             fits_body(other, room)
         }
-        SStmt::For {
+        SlotStmt::For {
             targets,
             over: iterated,
             condition,
@@ -72,14 +72,14 @@ fn fits_statement(statement: &SStmt, room: usize) -> bool
             let turn = fits_condition(condition, room - 1) & fits_body(body, room - 1);
             head & turn & fits_body(other, room)
         }
-        SStmt::Capture { body, .. } => room >= 1 && fits_body(body, room - 1),
-        SStmt::Run(_, row) => fits_row(row, room),
+        SlotStmt::Capture { body, .. } => room >= 1 && fits_body(body, room - 1),
+        SlotStmt::Run(_, row) => fits_row(row, room),
     }
 }
 
 /// Whether statements need at most so many entries.
 #[cycle(entries)]
-fn fits_body(body: &[SStmt], room: usize) -> bool
+fn fits_body(body: &[SlotStmt], room: usize) -> bool
     ensures { (templates : List Text) (behind : SBody ℕ)
         → nat_le (body_height (body_view templates body.now behind)) room
         ≡ result && nat_le (body_height behind) room }

@@ -9,8 +9,8 @@ use Rattle.jt_expr.specs.declared.cursor.Cursor.{Cursor}
 use Rattle.jt_expr.specs.declared.error.ExprError.{ExprError}
 use Rattle.jt_expr.specs.declared.error.ExprError.TheVariants as e
 use Rattle.jt_expr.specs.declared.rows.Form.{Form}
-use Rattle.jt_expr.specs.declared.rows.Chain.{Chain}
-use Rattle.jt_expr.specs.declared.rows.Chain.TheVariants as c
+use Rattle.jt_expr.specs.declared.rows.ChainLevel.{ChainLevel}
+use Rattle.jt_expr.specs.declared.rows.ChainLevel.TheVariants as c
 use Rattle.jt_expr.specs.declared.rows.Row.{Row}
 use Rattle.jt_expr.specs.declared.rows.Row.TheVariants as w
 use Rattle.jt_expr.specs.declared.part.Part.{Part}
@@ -99,7 +99,7 @@ row_view w.Entries = grammar.entries
 row_view w.Arguments = grammar.arguments
 row_view w.Keywords = grammar.keywords
 
-abbrev pub level_of_chain : Chain → Level
+abbrev pub level_of_chain : ChainLevel → Level
 level_of_chain c.Disjunction = grammar.disjunction
 level_of_chain c.Conjunction = grammar.conjunction
 level_of_chain c.Sum = grammar.sum
@@ -108,7 +108,7 @@ level_of_chain c.Product = grammar.product
 level_of_chain c.Power = grammar.power
 
 -- what stands between the operators of a level
-abbrev pub operand_of : ℕ → Chain → Reader Expr
+abbrev pub operand_of : ℕ → ChainLevel → Reader Expr
 operand_of below k = read_at (read below) (suc below) (next (level_of_chain k))
 
 -- a function value that reads what lies deeper

@@ -9,7 +9,7 @@ ghost use Rattle.jt_expr.specs.Cursor.{ahead, Takes, TakesSign, TakesAName};
 ghost use Rattle.jt_expr.specs.Gives.{level_of_chain, Operates, TakesName, TakesText, GivesWord};
 
 use crate::error::ExprError;
-use crate::rows::Chain;
+use crate::rows::ChainLevel;
 use crate::words::{is_operand, is_reserved, is_word};
 use jt_scan::{Sign, Token};
 use jt_trees::BinaryOperator;
@@ -162,17 +162,17 @@ impl<'a> Cursor<'a> {
     }
 
     /// An operator of the level.
-    pub(crate) fn operator(&mut self, level: Chain) -> Option<BinaryOperator>
+    pub(crate) fn operator(&mut self, level: ChainLevel) -> Option<BinaryOperator>
         ensures { Operates (reading.operator (level_of_chain level) (ahead self.old))
             (ahead self.old) result (ahead self.new) }
     {
         match level {
-            Chain::Disjunction => self.or_operator(),
-            Chain::Conjunction => self.and_operator(),
-            Chain::Sum => self.sum_operator(),
-            Chain::Concatenation => self.concatenation_operator(),
-            Chain::Product => self.product_operator(),
-            Chain::Power => self.power_operator(),
+            ChainLevel::Disjunction => self.or_operator(),
+            ChainLevel::Conjunction => self.and_operator(),
+            ChainLevel::Sum => self.sum_operator(),
+            ChainLevel::Concatenation => self.concatenation_operator(),
+            ChainLevel::Product => self.product_operator(),
+            ChainLevel::Power => self.power_operator(),
         }
     }
 

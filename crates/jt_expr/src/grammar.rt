@@ -23,7 +23,7 @@ use crate::cursor::Cursor;
 use crate::error::ExprError;
 use crate::making;
 use crate::part::{Part, Parts};
-use crate::rows::{Chain, Element, Form, Keyed, Row, Step};
+use crate::rows::{ChainLevel, Element, Form, Keyed, Row, Step};
 use crate::words::{is_reserved, literal_of};
 use jt_scan::{Sign, Token, text_value};
 use jt_trees::{BinaryOperator, Literal, Polarity, UnaryOperator};
@@ -522,18 +522,18 @@ impl<F: Fn(Global, &mut Cursor<'_>, usize, Form) -> Result<Part, ExprError>> Gra
     /// What stands between the operators of a level.
     #[cycle(chain)]
     #[tactic(auto, unfolding(crate::specs::Reading::read_at))]
-    fn operand(&self, cursor: &mut Cursor<'_>, level: Chain) -> Result<Part, ExprError>
+    fn operand(&self, cursor: &mut Cursor<'_>, level: ChainLevel) -> Result<Part, ExprError>
         requires { Nests F.Fn self.now.below self.now.inner }
         ensures { Gives (operand_of self.now.below level (ahead cursor.old)) result
             (ahead cursor.new) }
     {
         match level {
-            Chain::Disjunction => self.chain(cursor, Chain::Conjunction),
-            Chain::Conjunction => self.inversion(cursor),
-            Chain::Sum => self.chain(cursor, Chain::Concatenation),
-            Chain::Concatenation => self.chain(cursor, Chain::Product),
-            Chain::Product => self.chain(cursor, Chain::Power),
-            Chain::Power => self.postscript(cursor),
+            ChainLevel::Disjunction => self.chain(cursor, ChainLevel::Conjunction),
+            ChainLevel::Conjunction => self.inversion(cursor),
+            ChainLevel::Sum => self.chain(cursor, ChainLevel::Concatenation),
+            ChainLevel::Concatenation => self.chain(cursor, ChainLevel::Product),
+            ChainLevel::Product => self.chain(cursor, ChainLevel::Power),
+            ChainLevel::Power => self.postscript(cursor),
         }
     }
 
@@ -543,7 +543,7 @@ impl<F: Fn(Global, &mut Cursor<'_>, usize, Form) -> Result<Part, ExprError>> Gra
     fn chain_step(
         &self,
         cursor: &mut Cursor<'_>,
-        level: Chain,
+        level: ChainLevel,
         left: Part,
     ) -> Result<Step, ExprError>
         requires { Nests F.Fn self.now.below self.now.inner }
@@ -561,7 +561,7 @@ impl<F: Fn(Global, &mut Cursor<'_>, usize, Form) -> Result<Part, ExprError>> Gra
     /// Operands with operators of the level between them.
     #[cycle(chain)]
     #[tactic(auto, unfolding(crate::specs::Reading::read_chain))]
-    fn chain(&self, cursor: &mut Cursor<'_>, level: Chain) -> Result<Part, ExprError>
+    fn chain(&self, cursor: &mut Cursor<'_>, level: ChainLevel) -> Result<Part, ExprError>
         requires { Nests F.Fn self.now.below self.now.inner }
         ensures { Gives (spec.read_chain (spec.read self.now.below) (suc self.now.below)
             (level_of_chain level) (operand_of self.now.below level) (ahead cursor.old)) result
@@ -585,11 +585,11 @@ impl<F: Fn(Global, &mut Cursor<'_>, usize, Form) -> Result<Part, ExprError>> Gra
         ensures { Gives (spec.read_comparison (spec.read self.now.below) (suc self.now.below)
             (ahead cursor.old)) result (ahead cursor.new) }
     {
-        let left = self.chain(cursor, Chain::Sum)?;
+        let left = self.chain(cursor, ChainLevel::Sum)?;
         let Some(op) = cursor.comparison() else {
             return Ok(left);
         };
-        let right = self.chain(cursor, Chain::Sum)?;
+        let right = self.chain(cursor, ChainLevel::Sum)?;
         self.binary(op, left, right)
     }
 
@@ -638,7 +638,7 @@ impl<F: Fn(Global, &mut Cursor<'_>, usize, Form) -> Result<Part, ExprError>> Gra
         if !cursor.eat_word("if") {
             return Ok(value);
         }
-        let condition = self.chain(cursor, Chain::Disjunction)?;
+        let condition = self.chain(cursor, ChainLevel::Disjunction)?;
         self.else_part(cursor, value, condition)
     }
 
@@ -650,7 +650,7 @@ impl<F: Fn(Global, &mut Cursor<'_>, usize, Form) -> Result<Part, ExprError>> Gra
             (spec.read_whole (spec.read self.now.below) (suc self.now.below) (ahead cursor.old))
             result (ahead cursor.new) }
     {
-        let value = self.chain(cursor, Chain::Disjunction)?;
+        let value = self.chain(cursor, ChainLevel::Disjunction)?;
         self.if_part(cursor, value)
     }
 
@@ -663,7 +663,7 @@ impl<F: Fn(Global, &mut Cursor<'_>, usize, Form) -> Result<Part, ExprError>> Gra
     {
         match form {
             Form::Whole => self.whole(cursor),
-            Form::Disjunction => self.chain(cursor, Chain::Disjunction),
+            Form::Disjunction => self.chain(cursor, ChainLevel::Disjunction),
             Form::Inversion => self.inversion(cursor),
             Form::Signed => self.signed(cursor),
             Form::Postfix => self.postfix(cursor),

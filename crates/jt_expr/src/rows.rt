@@ -96,7 +96,7 @@ pub enum Form {
 
 /// A level at which any number of operators may stand between operands, from the loosest.
 #[derive(Clone, Copy)]
-pub enum Chain {
+pub enum ChainLevel {
     Disjunction,
     Conjunction,
     Sum,

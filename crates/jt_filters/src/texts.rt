@@ -11,7 +11,7 @@ ghost use Rattle.jt_filter_meaning.specs.Texts as texts;
 
 use crate::operand::Operand;
 use itoa::Buffer;
-use jt_ops::{Kind, Piece};
+use jt_ops::{Piece, TextKind};
 use jt_value::{Fault, NoMemory, Value, ValueError};
 use std::alloc::Global;
 
@@ -66,18 +66,18 @@ pub(crate) fn escape_measure(operand: Operand<'_>) -> Result<(u64, u32), Fault>
 
 /// The kind that an operand's text keeps.
 #[tactic(auto, using(crate::proofs::Measured::markup_kept, crate::proofs::Measured::others_kept))]
-fn kind_of(operand: Operand<'_>) -> Kind
+fn kind_of(operand: Operand<'_>) -> TextKind
     ensures { (s : List ℕ) → of_kind result s ≡ of_same_kind (tree_of operand.entry) s }
 {
     if operand.is_markup() {
-        Kind::Markup
+        TextKind::Markup
     } else {
-        Kind::Plain
+        TextKind::Plain
     }
 }
 
 /// The text of one piece.
-fn piece_value(alloc: Global, piece: &Piece<'_>, kind: Kind) -> Result<Value, NoMemory>
+fn piece_value(alloc: Global, piece: &Piece<'_>, kind: TextKind) -> Result<Value, NoMemory>
     ensures { IfOk result (λ v. view v ≡ of_kind kind (written piece.now)) }
 {
     let mut text = String::with_capacity(alloc, piece.len() as usize)?;
@@ -100,7 +100,7 @@ pub(crate) fn safe(alloc: Global, operand: Operand<'_>) -> Result<Value, ValueEr
 {
     let mut buffer = Buffer::new();
     let text = operand.shown(&mut buffer)?;
-    Ok(piece_value(alloc, &Piece::Raw(text), Kind::Markup)?)
+    Ok(piece_value(alloc, &Piece::Raw(text), TextKind::Markup)?)
 }
 
 /// Filter `escape`.
@@ -121,7 +121,7 @@ pub(crate) fn force_escape(alloc: Global, operand: Operand<'_>) -> Result<Value,
 {
     let mut buffer = Buffer::new();
     let text = operand.shown(&mut buffer)?;
-    Ok(piece_value(alloc, &Piece::Escaped(text), Kind::Markup)?)
+    Ok(piece_value(alloc, &Piece::Escaped(text), TextKind::Markup)?)
 }
 
 /// Filter `lower`.

@@ -8,9 +8,9 @@ use Rattle.std.proofs.lemmas.List.Sums.{sum_by-set}
 use Rattle.std.proofs.lemmas.Option.{unwrap_or-slice_get}
 use Rattle.std.proofs.lemmas.Bool.Decides.{nat_tests}
 use Rattle.jt_graph.specs.Graph.{Graph, among, next_of, Reaches, step, further, AreOrdered, IsOrder}
-use Rattle.jt_graph.specs.Walks.{is_new, is_open, is_done, mark_of, done_of, IsWalk, LeadTo, GoesOn}
-use Rattle.jt_graph.specs.declared.walk.Mark.{Mark}
-use Rattle.jt_graph.specs.declared.walk.Mark.TheVariants.{New, Open, Done}
+use Rattle.jt_graph.specs.Walks.{is_new, is_open, is_done, visit_of, done_of, IsWalk, LeadTo, GoesOn}
+use Rattle.jt_graph.specs.declared.walk.VisitState.{VisitState}
+use Rattle.jt_graph.specs.declared.walk.VisitState.TheVariants.{New, Open, Done}
 use Rattle.jt_graph.specs.declared.walk.Walk.{Walk}
 use Rattle.jt_graph.specs.View.{graph_of}
 use Rattle.std.specs.declared.vec.Vec.{Vec}
@@ -39,45 +39,45 @@ either false f g = g refl
 pub never : {P : Type 0} → false ≡ true → P
 never h = absurd (cc)
 
--- ---- marks
+-- ---- visits
 
-set_mark : (ms : List Mark) (i : ℕ) (m : Mark) → i < length ms → mark_of (set ms i m) i ≡ m
-set_mark ms i m lt = unwrap_or-slice_get (set ms i m) i New ∙ get_or-set_same ms i m New lt
+set_visit : (ms : List VisitState) (i : ℕ) (m : VisitState) → i < length ms → visit_of (set ms i m) i ≡ m
+set_visit ms i m lt = unwrap_or-slice_get (set ms i m) i New ∙ get_or-set_same ms i m New lt
 
-keep_mark : (ms : List Mark) (i j : ℕ) (m : Mark) → (j ≡ i → ⊥) → mark_of (set ms i m) j ≡ mark_of ms j
-keep_mark ms i j m apart = unwrap_or-slice_get (set ms i m) j New ∙ get_or-set_other ms i j m New apart ∙ sym (unwrap_or-slice_get ms j New)
+keep_visit : (ms : List VisitState) (i j : ℕ) (m : VisitState) → (j ≡ i → ⊥) → visit_of (set ms i m) j ≡ visit_of ms j
+keep_visit ms i j m apart = unwrap_or-slice_get (set ms i m) j New ∙ get_or-set_other ms i j m New apart ∙ sym (unwrap_or-slice_get ms j New)
 
--- what a test says of marks when one of them changes
-pub told_set : (p : Mark → Bool) (ms : List Mark) (i j : ℕ) (m : Mark) → i < length ms → p (mark_of (set ms i m) j) ≡ cond (i == j) (p m) (p (mark_of ms j))
+-- what a test says of visits when one of them changes
+pub told_set : (p : VisitState → Bool) (ms : List VisitState) (i j : ℕ) (m : VisitState) → i < length ms → p (visit_of (set ms i m) j) ≡ cond (i == j) (p m) (p (visit_of ms j))
 told_set p ms i j m lt = either (i == j)
-    (λ e. ap (λ k. p (mark_of (set ms i m) k)) (sym (equal i j e)) ∙ ap p (set_mark ms i m lt) ∙ sym (ap (λ b. cond b (p m) (p (mark_of ms j))) e))
-    (λ e. ap p (keep_mark ms i j m (λ q. differ i j e (sym q))) ∙ sym (ap (λ b. cond b (p m) (p (mark_of ms j))) e))
+    (λ e. ap (λ k. p (visit_of (set ms i m) k)) (sym (equal i j e)) ∙ ap p (set_visit ms i m lt) ∙ sym (ap (λ b. cond b (p m) (p (visit_of ms j))) e))
+    (λ e. ap p (keep_visit ms i j m (λ q. differ i j e (sym q))) ∙ sym (ap (λ b. cond b (p m) (p (visit_of ms j))) e))
 
-pub fewer_news : (ms : List Mark) (i : ℕ) → i < length ms → mark_of ms i ≡ New → count_by is_new (set ms i Open) + 1 ≡ count_by is_new ms
+pub fewer_news : (ms : List VisitState) (i : ℕ) → i < length ms → visit_of ms i ≡ New → count_by is_new (set ms i Open) + 1 ≡ count_by is_new ms
 fewer_news ms i lt e =
     let at : get_or ms i New ≡ New = sym (unwrap_or-slice_get ms i New) ∙ e in
-    let f : Mark → ℕ = λ m. cond (is_new m) 1 0 in
+    let f : VisitState → ℕ = λ m. cond (is_new m) 1 0 in
     let old : f (get_or ms i New) ≡ 1 = ap f at in
     let s = sum_by-set f ms i Open New lt in
     omega (arith, s, old)
 
-pub same_news : (ms : List Mark) (i : ℕ) → i < length ms → is_open (mark_of ms i) ≡ true → count_by is_new (set ms i Done) ≡ count_by is_new ms
+pub same_news : (ms : List VisitState) (i : ℕ) → i < length ms → is_open (visit_of ms i) ≡ true → count_by is_new (set ms i Done) ≡ count_by is_new ms
 same_news ms i lt e =
-    let f : Mark → ℕ = λ m. cond (is_new m) 1 0 in
-    let at : get_or ms i New ≡ mark_of ms i = sym (unwrap_or-slice_get ms i New) in
-    let old : f (get_or ms i New) ≡ 0 = ap f at ∙ ap (λ b. cond b 1 0) (opened (mark_of ms i) e) in
+    let f : VisitState → ℕ = λ m. cond (is_new m) 1 0 in
+    let at : get_or ms i New ≡ visit_of ms i = sym (unwrap_or-slice_get ms i New) in
+    let old : f (get_or ms i New) ≡ 0 = ap f at ∙ ap (λ b. cond b 1 0) (opened (visit_of ms i) e) in
     let s = sum_by-set f ms i Done New lt in
     omega (arith, s, old)
   where
-    opened : (m : Mark) → is_open m ≡ true → is_new m ≡ false
+    opened : (m : VisitState) → is_open m ≡ true → is_new m ≡ false
     opened New h = absurd (cc)
     opened Open h = refl
     opened Done h = absurd (cc)
 
 -- ---- what is read
 
-pub read_mark : (ms : List Mark) (i : ℕ) (m : Mark) → i < length ms → m ≡ get_or ms i m → mark_of ms i ≡ m
-read_mark ms i m lt is = unwrap_or-slice_get ms i New ∙ get_or_default ms i New m lt ∙ sym is
+pub read_visit : (ms : List VisitState) (i : ℕ) (m : VisitState) → i < length ms → m ≡ get_or ms i m → visit_of ms i ≡ m
+read_visit ms i m lt is = unwrap_or-slice_get ms i New ∙ get_or_default ms i New m lt ∙ sym is
 
 pub next_at : (vs : List (Vec ℕ Global)) (i : ℕ) (v : Vec ℕ Global) → i < length vs → v ≡ get_or vs i v → next_of (graph_of vs) i ≡ v.items
 next_at [] i v lt is = absurd (omega arith)
@@ -139,54 +139,54 @@ new_at zero j = refl
 new_at (suc n) zero = refl
 new_at (suc n) (suc j) = new_at n j
 
-pub all_new : (ms : List Mark) (n j : ℕ) → ms ≡ replicate n New → mark_of ms j ≡ New
-all_new ms n j e = ap (λ is. mark_of is j) e ∙ unwrap_or-slice_get (replicate n New) j New ∙ new_at n j
+pub all_new : (ms : List VisitState) (n j : ℕ) → ms ≡ replicate n New → visit_of ms j ≡ New
+all_new ms n j e = ap (λ is. visit_of is j) e ∙ unwrap_or-slice_get (replicate n New) j New ∙ new_at n j
 
-pub new_walk : (g : Graph) (w : Walk) (n : ℕ) → w.marks.items ≡ replicate n New → n ≡ length g → w.done.items ≡ [] → IsWalk g w
+pub new_walk : (g : Graph) (w : Walk) (n : ℕ) → w.visits.items ≡ replicate n New → n ≡ length g → w.done.items ≡ [] → IsWalk g w
 new_walk g w n new e d =
     let none : done_of w ≡ [] = ap reverse d in
     record {
       each = ap length new ∙ length-replicate n New ∙ e;
-      told = λ j. ap is_done (all_new w.marks.items n j new) ∙ sym (ap (among j) none);
+      told = λ j. ap is_done (all_new w.visits.items n j new) ∙ sym (ap (among j) none);
       within = subst (AllByRecursion (λ j. j < length g)) (sym none) tt;
       ordered = subst (AreOrdered g) (sym none) tt;
     }
 
 -- ---- a number opens
 
-pub opened_walk : (g : Graph) (v w : Walk) (i : ℕ) → i < length g → mark_of v.marks.items i ≡ New → w.marks.items ≡ set v.marks.items i Open → w.done.items ≡ v.done.items → IsWalk g v → IsWalk g w
+pub opened_walk : (g : Graph) (v w : Walk) (i : ℕ) → i < length g → visit_of v.visits.items i ≡ New → w.visits.items ≡ set v.visits.items i Open → w.done.items ≡ v.done.items → IsWalk g v → IsWalk g w
 opened_walk g v w i lt new e d walk =
     let done : done_of w ≡ done_of v = ap reverse d in
-    let within : i < length v.marks.items = omega (arith, walk.each) in
+    let within : i < length v.visits.items = omega (arith, walk.each) in
     record {
-      each = ap length e ∙ length-set v.marks.items i Open ∙ walk.each;
-      told = λ j. ap (λ ms. is_done (mark_of ms j)) e ∙ told_set is_done v.marks.items i j Open within ∙ still j ∙ walk.told j ∙ sym (ap (among j) done);
+      each = ap length e ∙ length-set v.visits.items i Open ∙ walk.each;
+      told = λ j. ap (λ ms. is_done (visit_of ms j)) e ∙ told_set is_done v.visits.items i j Open within ∙ still j ∙ walk.told j ∙ sym (ap (among j) done);
       within = subst (AllByRecursion (λ j. j < length g)) (sym done) walk.within;
       ordered = subst (AreOrdered g) (sym done) walk.ordered;
     }
   where
-    still : (j : ℕ) → cond (i == j) false (is_done (mark_of v.marks.items j)) ≡ is_done (mark_of v.marks.items j)
+    still : (j : ℕ) → cond (i == j) false (is_done (visit_of v.visits.items j)) ≡ is_done (visit_of v.visits.items j)
     still j = either (i == j)
-        (λ q. ap (λ b. cond b false (is_done (mark_of v.marks.items j))) q ∙ sym (ap (λ k. is_done (mark_of v.marks.items k)) (sym (equal i j q)) ∙ ap is_done new))
-        (λ q. ap (λ b. cond b false (is_done (mark_of v.marks.items j))) q)
+        (λ q. ap (λ b. cond b false (is_done (visit_of v.visits.items j))) q ∙ sym (ap (λ k. is_done (visit_of v.visits.items k)) (sym (equal i j q)) ∙ ap is_done new))
+        (λ q. ap (λ b. cond b false (is_done (visit_of v.visits.items j))) q)
 
 -- what leads to an open number leads to the next one, as it does itself
-pub lead_next : (g : Graph) (v u w : Walk) (i k : ℕ) → i < length v.marks.items → u.marks.items ≡ set v.marks.items i Open
-    → ((j : ℕ) → is_open (mark_of w.marks.items j) ≡ is_open (mark_of u.marks.items j)) → LeadTo g v i → among k (next_of g i) ≡ true → LeadTo g w k
+pub lead_next : (g : Graph) (v u w : Walk) (i k : ℕ) → i < length v.visits.items → u.visits.items ≡ set v.visits.items i Open
+    → ((j : ℕ) → is_open (visit_of w.visits.items j) ≡ is_open (visit_of u.visits.items j)) → LeadTo g v i → among k (next_of g i) ≡ true → LeadTo g w k
 lead_next g v u w i k lt e same lead edge j h = either (i == j)
     (λ q. subst (λ n. Reaches g n k) (equal i j q) (step edge))
-    (λ q. one_more (lead j (sym (ap (λ b. cond b true (is_open (mark_of v.marks.items j))) q) ∙ sym (told_set is_open v.marks.items i j Open lt) ∙ sym (ap (λ ms. is_open (mark_of ms j)) e) ∙ sym (same j) ∙ h)) edge)
+    (λ q. one_more (lead j (sym (ap (λ b. cond b true (is_open (visit_of v.visits.items j))) q) ∙ sym (told_set is_open v.visits.items i j Open lt) ∙ sym (ap (λ ms. is_open (visit_of ms j)) e) ∙ sym (same j) ∙ h)) edge)
 
 -- ---- a number is done
 
-pub done_walk : (g : Graph) (w x : Walk) (i : ℕ) → i < length g → is_open (mark_of w.marks.items i) ≡ true → x.marks.items ≡ set w.marks.items i Done → x.done.items ≡ w.done.items ++ i ∷ []
-    → ((j : ℕ) → among j (next_of g i) ≡ true → is_done (mark_of w.marks.items j) ≡ true) → IsWalk g w → IsWalk g x
+pub done_walk : (g : Graph) (w x : Walk) (i : ℕ) → i < length g → is_open (visit_of w.visits.items i) ≡ true → x.visits.items ≡ set w.visits.items i Done → x.done.items ≡ w.done.items ++ i ∷ []
+    → ((j : ℕ) → among j (next_of g i) ≡ true → is_done (visit_of w.visits.items j) ≡ true) → IsWalk g w → IsWalk g x
 done_walk g w x i lt now_open e d next walk =
     let done : done_of x ≡ i ∷ done_of w = ap reverse d ∙ reverse-append w.done.items (i ∷ []) in
-    let within : i < length w.marks.items = omega (arith, walk.each) in
+    let within : i < length w.visits.items = omega (arith, walk.each) in
     record {
-      each = ap length e ∙ length-set w.marks.items i Done ∙ walk.each;
-      told = λ j. ap (λ ms. is_done (mark_of ms j)) e ∙ told_set is_done w.marks.items i j Done within ∙ ap (λ b. cond (i == j) true b) (walk.told j) ∙ either_one (i == j) (among j (done_of w)) ∙ sym (ap (among j) done);
+      each = ap length e ∙ length-set w.visits.items i Done ∙ walk.each;
+      told = λ j. ap (λ ms. is_done (visit_of ms j)) e ∙ told_set is_done w.visits.items i j Done within ∙ ap (λ b. cond (i == j) true b) (walk.told j) ∙ either_one (i == j) (among j (done_of w)) ∙ sym (ap (among j) done);
       within = subst (AllByRecursion (λ j. j < length g)) (sym done) (lt, walk.within);
       ordered = subst (AreOrdered g) (sym done) (fresh, (λ j a. sym (walk.told j) ∙ next j a, walk.ordered));
     }
@@ -195,46 +195,46 @@ done_walk g w x i lt now_open e d next walk =
     either_one true b = refl
     either_one false b = refl
 
-    not_done : (m : Mark) → is_open m ≡ true → is_done m ≡ false
+    not_done : (m : VisitState) → is_open m ≡ true → is_done m ≡ false
     not_done New h = refl
     not_done Open h = refl
     not_done Done h = absurd (cc)
 
     fresh : not (among i (done_of w)) ≡ true
-    fresh = ap not (sym (walk.told i) ∙ not_done (mark_of w.marks.items i) now_open)
+    fresh = ap not (sym (walk.told i) ∙ not_done (visit_of w.visits.items i) now_open)
 
 -- from before a number opened until it is done
-pub done_goes : (g : Graph) (v u w x : Walk) (i : ℕ) → i < length v.marks.items → i < length w.marks.items → mark_of v.marks.items i ≡ New → u.marks.items ≡ set v.marks.items i Open
-    → GoesOn u w → x.marks.items ≡ set w.marks.items i Done → GoesOn v x
+pub done_goes : (g : Graph) (v u w x : Walk) (i : ℕ) → i < length v.visits.items → i < length w.visits.items → visit_of v.visits.items i ≡ New → u.visits.items ≡ set v.visits.items i Open
+    → GoesOn u w → x.visits.items ≡ set w.visits.items i Done → GoesOn v x
 done_goes g v u w x i lv lw new e goes f =
     record {
-      opens = λ j. ap (λ ms. is_open (mark_of ms j)) f ∙ told_set is_open w.marks.items i j Done lw ∙ ap (cond (i == j) false) (goes.opens j ∙ ap (λ ms. is_open (mark_of ms j)) e ∙ told_set is_open v.marks.items i j Open lv) ∙ same_open j;
-      dones = λ j h. ap (λ ms. is_done (mark_of ms j)) f ∙ told_set is_done w.marks.items i j Done lw ∙ still j h;
+      opens = λ j. ap (λ ms. is_open (visit_of ms j)) f ∙ told_set is_open w.visits.items i j Done lw ∙ ap (cond (i == j) false) (goes.opens j ∙ ap (λ ms. is_open (visit_of ms j)) e ∙ told_set is_open v.visits.items i j Open lv) ∙ same_open j;
+      dones = λ j h. ap (λ ms. is_done (visit_of ms j)) f ∙ told_set is_done w.visits.items i j Done lw ∙ still j h;
       fewer =
-          let a = fewer_news v.marks.items i lv new in
-          let b = same_news w.marks.items i lw now_open in
+          let a = fewer_news v.visits.items i lv new in
+          let b = same_news w.visits.items i lw now_open in
           let c = goes.fewer in
-          let p : count_by is_new u.marks.items ≡ count_by is_new (set v.marks.items i Open) = ap (count_by is_new) e in
-          let q : count_by is_new x.marks.items ≡ count_by is_new (set w.marks.items i Done) = ap (count_by is_new) f in
+          let p : count_by is_new u.visits.items ≡ count_by is_new (set v.visits.items i Open) = ap (count_by is_new) e in
+          let q : count_by is_new x.visits.items ≡ count_by is_new (set w.visits.items i Done) = ap (count_by is_new) f in
           omega (arith, a, b, c, p, q);
     }
   where
-    now_open : is_open (mark_of w.marks.items i) ≡ true
-    now_open = goes.opens i ∙ ap (λ ms. is_open (mark_of ms i)) e ∙ told_set is_open v.marks.items i i Open lv ∙ ap (λ b. cond b true (is_open (mark_of v.marks.items i))) (itself i)
+    now_open : is_open (visit_of w.visits.items i) ≡ true
+    now_open = goes.opens i ∙ ap (λ ms. is_open (visit_of ms i)) e ∙ told_set is_open v.visits.items i i Open lv ∙ ap (λ b. cond b true (is_open (visit_of v.visits.items i))) (itself i)
 
-    same_open : (j : ℕ) → cond (i == j) false (cond (i == j) true (is_open (mark_of v.marks.items j))) ≡ is_open (mark_of v.marks.items j)
+    same_open : (j : ℕ) → cond (i == j) false (cond (i == j) true (is_open (visit_of v.visits.items j))) ≡ is_open (visit_of v.visits.items j)
     same_open j = either (i == j)
-        (λ q. ap (λ b. cond b false (cond b true (is_open (mark_of v.marks.items j)))) q ∙ sym (ap (λ k. is_open (mark_of v.marks.items k)) (sym (equal i j q)) ∙ ap is_open new))
-        (λ q. ap (λ b. cond b false (cond b true (is_open (mark_of v.marks.items j)))) q)
+        (λ q. ap (λ b. cond b false (cond b true (is_open (visit_of v.visits.items j)))) q ∙ sym (ap (λ k. is_open (visit_of v.visits.items k)) (sym (equal i j q)) ∙ ap is_open new))
+        (λ q. ap (λ b. cond b false (cond b true (is_open (visit_of v.visits.items j)))) q)
 
-    still : (j : ℕ) → is_done (mark_of v.marks.items j) ≡ true → cond (i == j) true (is_done (mark_of w.marks.items j)) ≡ true
+    still : (j : ℕ) → is_done (visit_of v.visits.items j) ≡ true → cond (i == j) true (is_done (visit_of w.visits.items j)) ≡ true
     still j h = either (i == j)
-        (λ q. ap (λ b. cond b true (is_done (mark_of w.marks.items j))) q)
-        (λ q. ap (λ b. cond b true (is_done (mark_of w.marks.items j))) q ∙ goes.dones j (ap (λ ms. is_done (mark_of ms j)) e ∙ told_set is_done v.marks.items i j Open lv ∙ ap (λ b. cond b false (is_done (mark_of v.marks.items j))) q ∙ h))
+        (λ q. ap (λ b. cond b true (is_done (visit_of w.visits.items j))) q)
+        (λ q. ap (λ b. cond b true (is_done (visit_of w.visits.items j))) q ∙ goes.dones j (ap (λ ms. is_done (visit_of ms j)) e ∙ told_set is_done v.visits.items i j Open lv ∙ ap (λ b. cond b false (is_done (visit_of v.visits.items j))) q ∙ h))
 
-pub still_open : (v u w : Walk) (i : ℕ) → i < length v.marks.items → u.marks.items ≡ set v.marks.items i Open → GoesOn u w → is_open (mark_of w.marks.items i) ≡ true
+pub still_open : (v u w : Walk) (i : ℕ) → i < length v.visits.items → u.visits.items ≡ set v.visits.items i Open → GoesOn u w → is_open (visit_of w.visits.items i) ≡ true
 still_open v u w i lv e goes =
-    goes.opens i ∙ ap (λ ms. is_open (mark_of ms i)) e ∙ told_set is_open v.marks.items i i Open lv ∙ ap (λ b. cond b true (is_open (mark_of v.marks.items i))) (itself i)
+    goes.opens i ∙ ap (λ ms. is_open (visit_of ms i)) e ∙ told_set is_open v.visits.items i i Open lv ∙ ap (λ b. cond b true (is_open (visit_of v.visits.items i))) (itself i)
 
 pub goes_none : (w : Walk) → GoesOn w w
 goes_none w = record { opens = λ j. refl; dones = λ j h. h; fewer = omega arith }
@@ -252,7 +252,7 @@ passed_on (Err y) e f h is = let same : y ≡ f = cc in sym h ∙ same
 
 -- ---- a walk goes through all numbers
 
-pub none_lead : (g : Graph) (w : Walk) (i : ℕ) → ((j : ℕ) → is_open (mark_of w.marks.items j) ≡ false) → LeadTo g w i
+pub none_lead : (g : Graph) (w : Walk) (i : ℕ) → ((j : ℕ) → is_open (visit_of w.visits.items j) ≡ false) → LeadTo g w i
 none_lead g w i closed j h =
     let e : false ≡ true = sym (closed j) ∙ h in
     absurd (cc)
@@ -263,7 +263,7 @@ before_next P n m is old new j lt = either (n == j) (λ e. subst P (equal n j e)
     below : (n ≡ j → ⊥) → j < n
     below apart = omega arith
 
-pub all_ordered : (g : Graph) (w : Walk) (is : List ℕ) → is ≡ done_of w → IsWalk g w → ((j : ℕ) → j < length g → is_done (mark_of w.marks.items j) ≡ true) → IsOrder g is
+pub all_ordered : (g : Graph) (w : Walk) (is : List ℕ) → is ≡ done_of w → IsWalk g w → ((j : ℕ) → j < length g → is_done (visit_of w.visits.items j) ≡ true) → IsOrder g is
 all_ordered g w is e walk all = record {
   all = λ j lt. ap (among j) e ∙ sym (walk.told j) ∙ all j lt;
   within = subst (AllByRecursion (λ j. j < length g)) (sym e) walk.within;

@@ -3,14 +3,14 @@
 ghost use Rattle.std.specs.Prelude.{◌≡◌, ◌<◌, ℕ, true, false, length, OnOk, IfOk};
 ghost use Rattle.jt_graph.specs.Graph.{HasCycle, IsClosed};
 ghost use Rattle.jt_graph.specs.View.{graph_of};
-ghost use Rattle.jt_graph.specs.Walks.{IsWalk, LeadTo, GoesOn, is_done, is_open, mark_of};
+ghost use Rattle.jt_graph.specs.Walks.{IsWalk, LeadTo, GoesOn, is_done, is_open, visit_of};
 
 use crate::error::OrderError;
 use std::alloc::{AllocError, Global};
 
 /// What is known of a number.
 #[derive(Clone, Copy, PartialEq, Eq)]
-pub(crate) enum Mark {
+pub(crate) enum VisitState {
     /// Nothing yet.
     New,
     /// It leads to the number at which the walk is, or it is that number.
@@ -23,17 +23,17 @@ pub(crate) enum Mark {
 /// order first.
 #[derive(Drop)]
 pub(crate) struct Walk {
-    pub(crate) marks: Vec<Mark>,
+    pub(crate) visits: Vec<VisitState>,
     pub(crate) done: Vec<usize>,
 }
 
 /// A walk over so many numbers that has not begun.
 pub(crate) fn begin(alloc: Global, next: &[Vec<usize>]) -> Result<Walk, AllocError>
     ensures walk { IfOk result (IsWalk (graph_of next.now)) }
-    ensures closed { IfOk result (λ w. (j : ℕ) → is_open (mark_of w.marks.items j) ≡ false) }
+    ensures closed { IfOk result (λ w. (j : ℕ) → is_open (visit_of w.visits.items j) ≡ false) }
 {
     Ok(Walk {
-        marks: vec![in alloc; Mark::New; next.len()]?,
+        visits: vec![in alloc; VisitState::New; next.len()]?,
         done: Vec::with_capacity(alloc, next.len())?,
     })
 }
@@ -47,19 +47,19 @@ pub(crate) fn visit(next: &[Vec<usize>], walk: &mut Walk, number: usize) -> Resu
     requires lead { LeadTo (graph_of next.now) walk.old number }
     ensures walk { OnOk result (IsWalk (graph_of next.now) walk.new) }
     ensures goes { OnOk result (GoesOn walk.old walk.new) }
-    ensures done { OnOk result (is_done (mark_of walk.new.marks.items number) ≡ true) }
+    ensures done { OnOk result (is_done (visit_of walk.new.visits.items number) ≡ true) }
     ensures cycle { result ≡ Err OrderError.Cycle → HasCycle (graph_of next.now) }
 {
-    match walk.marks[number] {
-        Mark::Done => return Ok(()),
-        Mark::Open => return Err(OrderError::Cycle),
-        Mark::New => {}
+    match walk.visits[number] {
+        VisitState::Done => return Ok(()),
+        VisitState::Open => return Err(OrderError::Cycle),
+        VisitState::New => {}
     }
-    walk.marks[number] = Mark::Open;
+    walk.visits[number] = VisitState::Open;
     for other in &next[number] {
         visit(next, walk, *other)?;
     }
     walk.done.push(number)?;
-    walk.marks[number] = Mark::Done;
+    walk.visits[number] = VisitState::Done;
     Ok(())
 }

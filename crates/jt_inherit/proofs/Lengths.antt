@@ -2,7 +2,7 @@
 use Rattle.std.proofs.Common.{◌≡◌, ℕ, ◌+◌, ◌<◌, ◌≤◌, Bool, List, [], ◌∷◌, ◌++◌, length, ap, arith, chars, IsUtf8, ⊎_elim}
 use Rattle.std.proofs.lemmas.Bool.{cases_lt}
 use Rattle.std.proofs.lemmas.Str.{encodes-chars, length-le-encodes}
-use Rattle.jt_scan.specs.declared.segment.Kind.{Kind}
+use Rattle.jt_scan.specs.declared.segment.TagKind.{TagKind}
 use Rattle.jt_scan.specs.Cut.{Text, Token, Segment, Spelled, a_name, a_number, a_text, a_sign, Inside, closed, space, token, Cuts, no_more, more, IsSegment, some_data, a_tag, a_comment, a_raw, second}
 use Rattle.jt_scan.specs.declared.segment.Mark.{Mark}
 use Rattle.jt_inherit.proofs.Raws.{closing_long, behind_short, endraw_short}
@@ -22,7 +22,7 @@ token_short (a_text {quote} {x} {v} h e m) =
     omega (arith, means_short m, bytes-cons quote (x ++ (quote ∷ [])), bytes-append x (quote ∷ []))
 token_short (a_sign a) = omega arith
 
-inside_short : {k : Kind} {depth : ℕ} {ts : List Token} {mark : Mark} {x rest : Text} → Inside k depth ts mark x rest → tokens_bytes ts + bytes rest ≤ bytes x
+inside_short : {k : TagKind} {depth : ℕ} {ts : List Token} {mark : Mark} {x rest : Text} → Inside k depth ts mark x rest → tokens_bytes ts + bytes rest ≤ bytes x
 inside_short {k} (closed {mark} {rest} ok) = omega (arith, closing_long k mark rest)
 inside_short (space {c = c} {x = x} h i) = omega (arith, inside_short i, bytes-cons c x)
 inside_short (token {s = s} {x = x} b t i) = omega (arith, inside_short i, token_short t, bytes-append s x)

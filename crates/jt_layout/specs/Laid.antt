@@ -17,7 +17,7 @@ use Rattle.jt_meaning.specs.Resolve.{first_body, next_given}
 use Rattle.jt_layout.specs.Names.{place_in}
 use Rattle.jt_names.specs.Names.{texts}
 use Rattle.jt_layout.specs.declared.laid.Laid.{Laid}
-use Rattle.jt_layout.specs.declared.scope.Scope.{Scope}
+use Rattle.jt_layout.specs.declared.home_tables.HomeTables.{HomeTables}
 
 abbrev pub is_library : Home → Bool
 is_library (a_chain n) = false
@@ -71,7 +71,7 @@ IsHomeAt order h None = listed h order ≡ false
 IsHomeAt order h (Some i) = (i < length order) × (home_at order i ≡ h)
 
 -- the tables of all chains and libraries
-pub record IsLaidOut (s : Scope) : Type 0 where
+pub record IsLaidOut (s : HomeTables) : Type 0 where
   pub inside : s.home < length s.homes.items
   pub all_homes : length s.homes.items ≡ length (chain_view s.chain.now).order
   pub each : (i : ℕ) (l : Laid) → i < length s.homes.items → l ≡ get_or s.homes.items i l

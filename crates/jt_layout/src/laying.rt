@@ -19,12 +19,12 @@ use crate::count::more;
 use crate::front::Front;
 use crate::gathered::{Gathered, gather};
 use crate::given::given_by_name;
+use crate::home_tables::HomeTables;
 use crate::index::Index;
 use crate::laid::Laid;
 use crate::lists::template_names;
 use crate::macros::macros_of;
 use crate::places::home_places;
-use crate::scope::Scope;
 use jt_chains::{Chain, Home};
 use jt_value::NoMemory;
 use std::alloc::Global;
@@ -186,7 +186,7 @@ fn lay_chains<'a>(
 /// # Errors
 ///
 /// `NoMemory` where a growth was refused.
-pub fn lay_out(alloc: Global, chain: &Chain) -> Result<Scope<'_>, NoMemory>
+pub fn lay_out(alloc: Global, chain: &Chain) -> Result<HomeTables<'_>, NoMemory>
     ensures laid { IfOk result (λ s. IsLaidOut s) }
     ensures chain { IfOk result (λ s. s.chain.now ≡ chain.now) }
     ensures first { IfOk result (λ s. s.home ≡ 0) }
@@ -197,7 +197,7 @@ pub fn lay_out(alloc: Global, chain: &Chain) -> Result<Scope<'_>, NoMemory>
     let libraries = home_places(alloc, &chain.homes, true)?;
     let gathered = gather(alloc, chain, &sources)?;
     let tables = lay_chains(alloc, chain, gathered)?;
-    Ok(Scope {
+    Ok(HomeTables {
         chain,
         homes: tables.homes,
         places,

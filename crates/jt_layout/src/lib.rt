@@ -2,7 +2,7 @@
 //! globals, macros and bodies as units.
 //!
 //! `lay_out` (laying) makes a table of each chain and library (laid), and all of them together are
-//! a `Scope` (scope). Read first: specs/Laid.antt, what the tables say.
+//! a `HomeTables` (home_tables). Read first: specs/Laid.antt, what the tables say.
 #![tactic(auto)]
 
 mod bodies;
@@ -10,6 +10,7 @@ mod count;
 mod front;
 mod gathered;
 mod given;
+mod home_tables;
 mod includes;
 mod index;
 mod laid;
@@ -17,11 +18,10 @@ mod laying;
 mod lists;
 mod macros;
 mod places;
-mod scope;
 
 pub use count::more;
 pub use index::Index;
 pub use jt_value::NoMemory;
 pub use laid::Laid;
 pub use laying::lay_out;
-pub use scope::Scope;
+pub use scope::HomeTables;

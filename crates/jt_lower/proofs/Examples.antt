@@ -15,14 +15,14 @@ use Rattle.jt_evaluation.specs.Got.{gives, fails, deeper}
 use Rattle.jt_trees.specs.Expressions.{Text}
 use Rattle.jt_evaluation.specs.TheFilters.{the_filters}
 use Rattle.jt_evaluation.specs.Loops as loops
-use Rattle.jt_resolved.specs.Slots.{local, global, operator, filter, SExpr, pooled, variable, field, made, invoke, none, item, aside, several, SBody, put_pooled, print, if_else, for_each, capture, run, end, stmt, Routine, Program, smean}
+use Rattle.jt_resolved.specs.Slots.{local, global, operator, filter, SlotExpr, pooled, variable, field, made, invoke, none, item, aside, several, SBody, put_pooled, print, if_else, for_each, capture, run, end, stmt, Routine, Program, smean}
 use Rattle.jt_lower.specs.Lower.{compiled}
 use Rattle.jt_lower.specs.Fits.{TakesRow, RoutineFits, IsPooled, ProgramFits}
 
 abbrev tag : ℕ → Place
 tag line = record { template = codes "page"; line = line }
 
-abbrev here : ℕ → SExpr ℕ
+abbrev here : ℕ → SlotExpr ℕ
 here i = variable (local i)
 
 -- {% for a, b in xs if a %}{{ loop.last }}:{{ b }}{% else %}none{% endfor %}{% set t %}{{ y }}{% endset %}, a block's call on t, and

@@ -7,7 +7,7 @@ use Rattle.jt_ids.specs.TestTable.{test_values}
 use Rattle.jt_filter_meaning.specs.FilterIds.{filter_of, accepts}
 use Rattle.jt_image.specs.Typed.{max_entries}
 use Rattle.jt_resolved.specs.Slots as slots
-use Rattle.jt_resolved.specs.Slots.{Slot, local, global, Maker, SExpr, SRow, Targets, SStmt, SBody, Routine, Program}
+use Rattle.jt_resolved.specs.Slots.{Slot, local, global, Maker, SlotExpr, SRow, Targets, SlotStmt, SBody, Routine, Program}
 use Rattle.jt_resolved.specs.Size.{row_count, body_height}
 
 abbrev even : ℕ → Bool
@@ -39,7 +39,7 @@ module _ (p : Program) (count : ℕ) where
   slot_ok (global i) = nat_lt i p.globals
 
   abbrev mutual
-    expr_ok : Bool → SExpr ℕ → Bool
+    expr_ok : Bool → SlotExpr ℕ → Bool
     expr_ok inside (slots.pooled i) = nat_lt i (length p.pool)
     expr_ok inside (slots.variable s) = slot_ok s
     expr_ok inside (slots.field f) = inside
@@ -67,7 +67,7 @@ module _ (p : Program) (count : ℕ) where
   targets_ok (slots.one s) = slot_ok s
   targets_ok (slots.several ss) = each_ok ss
 
-  abbrev condition_ok : Option (SExpr ℕ) → Bool
+  abbrev condition_ok : Option (SlotExpr ℕ) → Bool
   condition_ok None = true
   condition_ok (Some c) = expr_ok false c
 
@@ -76,7 +76,7 @@ module _ (p : Program) (count : ℕ) where
   is_text o = false
 
   abbrev mutual
-    stmt_ok : Bool → SStmt ℕ → Bool
+    stmt_ok : Bool → SlotStmt ℕ → Bool
     stmt_ok inside (slots.put_pooled i) = is_text (slice_get p.pool i)
     stmt_ok inside (slots.print q escaping e) = expr_ok inside e
     stmt_ok inside (slots.assign q xs e) = targets_ok xs && expr_ok inside e

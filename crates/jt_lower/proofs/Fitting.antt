@@ -8,7 +8,7 @@ use Rattle.jt_value.specs.Tree as tree
 use Rattle.jt_value.specs.Tree.{Tree}
 use Rattle.jt_trees.specs.Expressions.{Text}
 use Rattle.jt_resolved.specs.Slots as slots
-use Rattle.jt_resolved.specs.Slots.{Slot, local, global, Maker, SExpr, SRow, Targets, SStmt, SBody, Routine, Program}
+use Rattle.jt_resolved.specs.Slots.{Slot, local, global, Maker, SlotExpr, SRow, Targets, SlotStmt, SBody, Routine, Program}
 use Rattle.jt_resolved.specs.Locals.{slot_locals, slots_locals, targets_locals, expr_locals, row_locals, condition_locals, stmt_locals, body_locals}
 use Rattle.jt_resolved.specs.Pool.{Constant, own, known, constant_values, expr_values, row_values, condition_values, stmt_values, body_values, routines_values, placed, placed_expr, placed_row, placed_condition, placed_stmt, placed_body, placed_routine, placed_routines}
 use Rattle.jt_resolved.specs.Size.{row_count, expr_height, row_height, condition_height, stmt_height, body_height, expr_size, row_size, condition_size, stmt_size, body_size, routines_size}
@@ -80,7 +80,7 @@ bare_placed (slots.aside i e es) n b = absurd b
 -- ---- heights and sizes
 
 mutual
-  expr_low : (e : SExpr Constant) (n : ℕ) → expr_height (placed_expr e n) ≡ expr_height e
+  expr_low : (e : SlotExpr Constant) (n : ℕ) → expr_height (placed_expr e n) ≡ expr_height e
   expr_low (slots.pooled k) n = refl
   expr_low (slots.variable s) n = refl
   expr_low (slots.field f) n = refl
@@ -96,12 +96,12 @@ mutual
   row_low (slots.item e es) n = omega (arith, expr_low e n, row_low es (n + length (expr_values e)))
   row_low (slots.aside i e es) n = omega (arith, expr_low e n, row_low es (n + length (expr_values e)))
 
-condition_low : (c : Option (SExpr Constant)) (n : ℕ) → condition_height (placed_condition c n) ≡ condition_height c
+condition_low : (c : Option (SlotExpr Constant)) (n : ℕ) → condition_height (placed_condition c n) ≡ condition_height c
 condition_low None n = refl
 condition_low (Some c) n = expr_low c n
 
 mutual
-  stmt_low : (s : SStmt Constant) (n : ℕ) → stmt_height (placed_stmt s n) ≡ stmt_height s
+  stmt_low : (s : SlotStmt Constant) (n : ℕ) → stmt_height (placed_stmt s n) ≡ stmt_height s
   stmt_low (slots.put_pooled k) n = refl
   stmt_low (slots.print q escaping e) n = expr_low e n
   stmt_low (slots.assign q xs e) n = omega (arith, expr_low e n)
@@ -118,7 +118,7 @@ mutual
   body_low (slots.stmt s rest) n = omega (arith, stmt_low s n, body_low rest (n + length (stmt_values s)))
 
 mutual
-  expr_sized : (e : SExpr Constant) (n : ℕ) → expr_size (placed_expr e n) ≡ expr_size e
+  expr_sized : (e : SlotExpr Constant) (n : ℕ) → expr_size (placed_expr e n) ≡ expr_size e
   expr_sized (slots.pooled k) n = refl
   expr_sized (slots.variable s) n = refl
   expr_sized (slots.field f) n = refl
@@ -134,12 +134,12 @@ mutual
   row_sized (slots.item e es) n = omega (arith, expr_sized e n, row_sized es (n + length (expr_values e)))
   row_sized (slots.aside i e es) n = omega (arith, expr_sized e n, row_sized es (n + length (expr_values e)))
 
-kept_sized : (xs : Targets) (c : Option (SExpr Constant)) (n : ℕ) → condition_size xs (placed_condition c n) ≡ condition_size xs c
+kept_sized : (xs : Targets) (c : Option (SlotExpr Constant)) (n : ℕ) → condition_size xs (placed_condition c n) ≡ condition_size xs c
 kept_sized xs None n = refl
 kept_sized xs (Some c) n = omega (arith, expr_sized c n)
 
 mutual
-  stmt_sized : (s : SStmt Constant) (n : ℕ) → stmt_size (placed_stmt s n) ≡ stmt_size s
+  stmt_sized : (s : SlotStmt Constant) (n : ℕ) → stmt_size (placed_stmt s n) ≡ stmt_size s
   stmt_sized (slots.put_pooled k) n = refl
   stmt_sized (slots.print q escaping e) n = omega (arith, expr_sized e n)
   stmt_sized (slots.assign q xs e) n = omega (arith, expr_sized e n)
@@ -184,7 +184,7 @@ module _ (names : List Text) (globals : ℕ) (front : List Tree) (rs : List (Rou
   text_pooled k h = search (arith, rules)
 
   mutual
-    expr_pooled : (e : SExpr Constant) → ExprLawful before globals e → Pooled (expr_values e)
+    expr_pooled : (e : SlotExpr Constant) → ExprLawful before globals e → Pooled (expr_values e)
     expr_pooled (slots.pooled k) h = constant_pooled k h
     expr_pooled (slots.variable s) h = tt
     expr_pooled (slots.field f) h = tt
@@ -200,12 +200,12 @@ module _ (names : List Text) (globals : ℕ) (front : List Tree) (rs : List (Rou
     row_pooled (slots.item e es) h = all_append IsPooled (expr_values e) (row_values es) (expr_pooled e h.0) (row_pooled es h.1)
     row_pooled (slots.aside i e es) h = all_append IsPooled (expr_values e) (row_values es) (expr_pooled e h.0) (row_pooled es h.1)
 
-  condition_pooled : (c : Option (SExpr Constant)) → ConditionLawful before globals c → Pooled (condition_values c)
+  condition_pooled : (c : Option (SlotExpr Constant)) → ConditionLawful before globals c → Pooled (condition_values c)
   condition_pooled None h = tt
   condition_pooled (Some c) h = expr_pooled c h
 
   mutual
-    stmt_pooled : (s : SStmt Constant) → StmtLawful before globals s → Pooled (stmt_values s)
+    stmt_pooled : (s : SlotStmt Constant) → StmtLawful before globals s → Pooled (stmt_values s)
     stmt_pooled (slots.put_pooled k) h = text_pooled k h
     stmt_pooled (slots.print q escaping e) h = expr_pooled e h
     stmt_pooled (slots.assign q xs e) h = expr_pooled e h.1
@@ -252,7 +252,7 @@ module _ (names : List Text) (globals : ℕ) (front : List Tree) (rs : List (Rou
     maker_fits k i t = search (arith, rules)
 
     mutual
-      expr_fits : (e : SExpr Constant) (inside : Bool) (n : ℕ) → ExprTakes the_filters p.routines inside (placed_expr e n) → ExprLawful before globals e → PoolAt p.pool n (expr_values e) → expr_locals e ≤ count → ExprFits p count inside (placed_expr e n)
+      expr_fits : (e : SlotExpr Constant) (inside : Bool) (n : ℕ) → ExprTakes the_filters p.routines inside (placed_expr e n) → ExprLawful before globals e → PoolAt p.pool n (expr_values e) → expr_locals e ≤ count → ExprFits p count inside (placed_expr e n)
       expr_fits (slots.pooled k) inside n t h at le = constant_fits k n h at
       expr_fits (slots.variable s) inside n t h at le = slot_fits s h le
       expr_fits (slots.field f) inside n t h at le = t
@@ -290,12 +290,12 @@ module _ (names : List Text) (globals : ℕ) (front : List Tree) (rs : List (Rou
     targets_fit (slots.one s) h le = slot_fits s h le
     targets_fit (slots.several ss) h le = each_fits ss h le
 
-    condition_fits : (c : Option (SExpr Constant)) (n : ℕ) → ConditionTakes the_filters p.routines (placed_condition c n) → ConditionLawful before globals c → PoolAt p.pool n (condition_values c) → condition_locals c ≤ count → ConditionFits p count (placed_condition c n)
+    condition_fits : (c : Option (SlotExpr Constant)) (n : ℕ) → ConditionTakes the_filters p.routines (placed_condition c n) → ConditionLawful before globals c → PoolAt p.pool n (condition_values c) → condition_locals c ≤ count → ConditionFits p count (placed_condition c n)
     condition_fits None n t h at le = tt
     condition_fits (Some c) n t h at le = expr_fits c false n t h at le
 
     mutual
-      stmt_fits : (s : SStmt Constant) (inside : Bool) (n : ℕ) → StmtTakes the_filters p.routines inside (placed_stmt s n) → StmtLawful before globals s → PoolAt p.pool n (stmt_values s) → stmt_locals s ≤ count → StmtFits p count inside (placed_stmt s n)
+      stmt_fits : (s : SlotStmt Constant) (inside : Bool) (n : ℕ) → StmtTakes the_filters p.routines inside (placed_stmt s n) → StmtLawful before globals s → PoolAt p.pool n (stmt_values s) → stmt_locals s ≤ count → StmtFits p count inside (placed_stmt s n)
       stmt_fits (slots.put_pooled k) inside n t h at le = text_fits k n h at
       stmt_fits (slots.print q escaping e) inside n t h at le = expr_fits e inside n t h at le
       stmt_fits (slots.assign q xs e) inside n t h at le = (targets_fit xs h.0 (omega (arith, le)), expr_fits e inside n t h.1 at (omega (arith, le)))

@@ -34,7 +34,7 @@ use Rattle.jt_trees.specs.Expressions.{Text}
 use Rattle.jt_evaluation.specs.TheFilters.{the_filters}
 use Rattle.jt_evaluation.specs.Loops.{Field, Loop, result_listed, items_of_value, tree_at}
 use Rattle.jt_resolved.specs.Slots as slots
-use Rattle.jt_resolved.specs.Slots.{Slot, local, global, Maker, SExpr, SRow, Targets, SStmt, SBody, Routine, Program, Memory, Valued, Listed, Written, SCalls, load, put_at, store, store_if, store_each, take, make, valued, sturns, sgone_over, in_front, svalue, svalues, skept, smeaning, smeanings}
+use Rattle.jt_resolved.specs.Slots.{Slot, local, global, Maker, SlotExpr, SRow, Targets, SlotStmt, SBody, Routine, Program, Memory, Valued, Listed, Written, SCalls, load, put_at, store, store_if, store_each, take, make, valued, sturns, sgone_over, in_front, svalue, svalues, skept, smeaning, smeanings}
 use Rattle.jt_lower.specs.Asm.{Asm, nil, one, both, choose, when, each, invoke, Ran, does, bad, and_then, of_plain, turns, of_written, into_buffers, called, run}
 use Rattle.jt_resolved.specs.Size.{row_count}
 use Rattle.jt_lower.specs.Lower.{half, maker, told_as, flag, load_of, store_of, expr_asm, row_asm, store_if_of, stores_asm, take_asm, turn_asm, over_asm, kept_asm, stmt_asm, body_asm, unit_of, lowered}
@@ -269,7 +269,7 @@ module _ (p : Program) (call : SCalls) (has : HasPool (lowered p) p.pool) (keep 
 
   -- ---- expressions
 
-  abbrev Means : SExpr ℕ → Option Loop → Memory → Got Valued
+  abbrev Means : SlotExpr ℕ → Option Loop → Memory → Got Valued
   Means e l m = svalue the_filters (tree_at p.pool) call e l m
 
   abbrev MeansRow : SRow ℕ → Option Loop → Memory → Got Listed
@@ -296,7 +296,7 @@ module _ (p : Program) (call : SCalls) (has : HasPool (lowered p) p.pool) (keep 
   load_does (global i) q es bs m = refl
 
   mutual
-    pub expr_does : (e : SExpr ℕ) (q : Option Place) (inside : Bool) (h : ℕ) (l : Option Loop) (es : List Entry) (bs : List (List ℕ)) (out : Text) (m : Memory) → ExprFits p count inside e → FrameAt inside h es l → Kept out m → IsOpen bs
+    pub expr_does : (e : SlotExpr ℕ) (q : Option Place) (inside : Bool) (h : ℕ) (l : Option Loop) (es : List Entry) (bs : List (List ℕ)) (out : Text) (m : Memory) → ExprFits p count inside e → FrameAt inside h es l → Kept out m → IsOpen bs
         → Does q (KeptValue out) (ValueOn es bs) (code (expr_asm q e h) (at_bufs es bs m)) (Means e l m)
     expr_does (slots.pooled i) q inside h l es bs out m fit fr w opened = (ap (λ v. does (at_bufs (value v ∷ es) bs m)) (has.values i), w)
     expr_does (slots.variable s) q inside h l es bs out m fit fr w opened = (load_does s q es bs m, w)
@@ -402,7 +402,7 @@ module _ (p : Program) (call : SCalls) (has : HasPool (lowered p) p.pool) (keep 
   abbrev LoopOn : List Entry → List (List ℕ) → Listed → State
   LoopOn es bs x = at_bufs (frame (loop_over x.values) ∷ es) bs x.memory
 
-  abbrev Sifts : SExpr ℕ → Targets → List Tree → Memory → Got Listed
+  abbrev Sifts : SlotExpr ℕ → Targets → List Tree → Memory → Got Listed
   Sifts c xs vs m = skept the_filters (tree_at p.pool) call (Some c) xs vs m
 
   one_more : (c : Bool) (all kept : List Tree) (v : Tree) (es : List Entry) (bs : List (List ℕ)) (x : Listed) → SiftedOn all (if c then kept ++ v ∷ [] else kept) es bs x ≡ SiftedOn all kept es bs (if c then in_front v x else x)
@@ -414,7 +414,7 @@ module _ (p : Program) (call : SCalls) (has : HasPool (lowered p) p.pool) (keep 
   one_more_kept false v out x w = w
 
   -- the first pass over the items: those are kept for which the condition holds
-  sift_does : (c : SExpr ℕ) (xs : Targets) (q : Option Place) (es : List Entry) (bs : List (List ℕ)) (out : Text) (all vs done : List Tree) (b : ℕ) (kept : List Tree) (m : Memory) → TargetsFit p count xs → ExprFits p count false c
+  sift_does : (c : SlotExpr ℕ) (xs : Targets) (q : Option Place) (es : List Entry) (bs : List (List ℕ)) (out : Text) (all vs done : List Tree) (b : ℕ) (kept : List Tree) (m : Memory) → TargetsFit p count xs → ExprFits p count false c
       → all ≡ done ++ vs → b ≡ length done → Kept out m → IsOpen bs
       → Does q (KeptItems out) (SiftedOn all kept es bs) (turns (code (turn_asm q xs (both (expr_asm q c 0) (one q (op.LoopKeep 0))))) (length vs) (at_bufs (framed all b kept es) bs m)) (Sifts c xs vs m)
   sift_does c xs q es bs out all [] done b kept m fx fc e n w opened =
@@ -443,7 +443,7 @@ module _ (p : Program) (call : SCalls) (has : HasPool (lowered p) p.pool) (keep 
       (sift_does c xs q es bs out all vs (done ++ v ∷ []) (suc b) kept' r.memory fx fc (e ∙ sym (append_assoc done (v ∷ []) vs)) (omega (arith, n, length-append done (v ∷ []))) w2 opened)
       (λ y w3. (one_more (tree.truth r.value) all kept v es bs y, one_more_kept (tree.truth r.value) v out y w3)))))))
 
-  keep_does : (c : Option (SExpr ℕ)) (xs : Targets) (q : Option Place) (es : List Entry) (bs : List (List ℕ)) (out : Text) (vs : List Tree) (m : Memory) → TargetsFit p count xs → ConditionFits p count c → Kept out m → IsOpen bs
+  keep_does : (c : Option (SlotExpr ℕ)) (xs : Targets) (q : Option Place) (es : List Entry) (bs : List (List ℕ)) (out : Text) (vs : List Tree) (m : Memory) → TargetsFit p count xs → ConditionFits p count c → Kept out m → IsOpen bs
       → Does q (KeptItems out) (LoopOn es bs) (code (kept_asm q xs c) (at_bufs (frame (loop_over vs) ∷ es) bs m)) (skept the_filters (tree_at p.pool) call c xs vs m)
   keep_does None xs q es bs out vs m fx fc w opened = (refl, w)
   keep_does (Some c) xs q es bs out vs m fx fc w opened =
@@ -461,7 +461,7 @@ module _ (p : Program) (call : SCalls) (has : HasPool (lowered p) p.pool) (keep 
 
   -- ---- statements
 
-  abbrev MeansStmt : SStmt ℕ → Option Loop → Memory → Got Memory
+  abbrev MeansStmt : SlotStmt ℕ → Option Loop → Memory → Got Memory
   MeansStmt s l m = smeaning the_filters (tree_at p.pool) call s l m
 
   abbrev MeansBody : SBody ℕ → Option Loop → Memory → Got Memory
@@ -561,7 +561,7 @@ module _ (p : Program) (call : SCalls) (has : HasPool (lowered p) p.pool) (keep 
   printed_by deeper es pre bufs out m fit h = refl
 
   mutual
-    pub stmt_does : (s : SStmt ℕ) (inside : Bool) (h : ℕ) (l : Option Loop) (es : List Entry) (pre : Text) (bufs : List (List ℕ)) (m : Memory) → StmtFits p count inside s → FrameAt inside h es l → Sized m
+    pub stmt_does : (s : SlotStmt ℕ) (inside : Bool) (h : ℕ) (l : Option Loop) (es : List Entry) (pre : Text) (bufs : List (List ℕ)) (m : Memory) → StmtFits p count inside s → FrameAt inside h es l → Sized m
         → Does None Sized (at_memory es pre bufs) (code (stmt_asm s h) (at_memory es pre bufs m)) (MeansStmt s l m)
     stmt_does (slots.put_pooled i) inside h l es pre bufs m fit fr w =
         (ap (λ t. does (at_bufs es (((pre ++ m.out) ++ t) ∷ bufs) m)) (has.texts i) ∙ put_runs (bytes_of (tree_at p.pool i)) es pre bufs m, record { locals = w.locals; globals = w.globals })

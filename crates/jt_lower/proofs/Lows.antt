@@ -4,7 +4,7 @@ use Rattle.std.specs.Prelude.{nat_le}
 use Rattle.std.specs.Option.{is_some}
 use Rattle.std.proofs.lemmas.Bool.Decides.{nat_tests}
 use Rattle.jt_resolved.specs.Slots as slots
-use Rattle.jt_resolved.specs.Slots.{SExpr, none}
+use Rattle.jt_resolved.specs.Slots.{SlotExpr, none}
 use Rattle.jt_resolved.specs.Size.{expr_height, row_height}
 use Rattle.jt_resolved.specs.View.{entry_front, expr_view, row_view}
 use Rattle.jt_resolved.proofs.ExpressionViews.{Entry, row_left}
@@ -14,7 +14,7 @@ pub both_low : (a b c : ℕ) → nat_le (max a b) c ≡ nat_le a c && nat_le b c
 both_low a b c = grind (arith, nat_tests)
 
 -- a value is one entry
-pub height_some : (e : SExpr ℕ) → 1 ≤ expr_height e
+pub height_some : (e : SlotExpr ℕ) → 1 ≤ expr_height e
 height_some (slots.pooled i) = omega arith
 height_some (slots.variable s) = omega arith
 height_some (slots.field f) = omega arith
@@ -46,7 +46,7 @@ row_more es room i left next e lt is low stays l = l ∙ ap (λ r. nat_le (row_h
     by None = item_low (expr_height (expr_view e.1)) (row_height (row_view (drop (i + 1) es) none)) left low (height_some (expr_view e.1))
     by (Some n) = aside_low (expr_height (expr_view e.1)) (row_height (row_view (drop (i + 1) es) none)) left low
 
-pub some_left : (e : SExpr ℕ) (left : ℕ) → nat_le (expr_height e) left ≡ true → 1 ≤ left
+pub some_left : (e : SlotExpr ℕ) (left : ℕ) → nat_le (expr_height e) left ≡ true → 1 ≤ left
 some_left e left low = let some = height_some e in grind (arith, nat_tests)
 
 pub made_low : (r room : ℕ) → 1 ≤ room → nat_le (max 1 r) room ≡ nat_le r room

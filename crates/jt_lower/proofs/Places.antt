@@ -8,7 +8,7 @@ use Rattle.jt_evaluation.specs.Filters.{Filters}
 use Rattle.jt_evaluation.specs.Values.{as_value}
 use Rattle.jt_evaluation.specs.Loops.{Loop, items_of_value}
 use Rattle.jt_resolved.specs.Slots as slots
-use Rattle.jt_resolved.specs.Slots.{SExpr, SRow, Targets, SStmt, SBody, Program, Memory, Valued, Listed, SCalls, store, take, sturns, sgone_over, in_front, svalue, svalues, skept, smeaning, smeanings}
+use Rattle.jt_resolved.specs.Slots.{SlotExpr, SRow, Targets, SlotStmt, SBody, Program, Memory, Valued, Listed, SCalls, store, take, sturns, sgone_over, in_front, svalue, svalues, skept, smeaning, smeanings}
 use Rattle.jt_lower.specs.Fits.{IsBare, StmtFits, BodyFits}
 
 abbrev pub HasPlace : {A : Type 0} → Got A → Type 0
@@ -49,7 +49,7 @@ module _ (filters : Filters) (constant : ℕ → Tree) (call : SCalls) (calls : 
   over_has means other h g xs tag (v ∷ vs) m = turns_has means h xs tag (v ∷ vs) 0 (v ∷ vs) m
 
   mutual
-    stmt_has : (s : SStmt ℕ) (inside : Bool) (l : Option Loop) (m : Memory) → StmtFits p count inside s → HasPlace (smeaning filters constant call s l m)
+    stmt_has : (s : SlotStmt ℕ) (inside : Bool) (l : Option Loop) (m : Memory) → StmtFits p count inside s → HasPlace (smeaning filters constant call s l m)
     stmt_has (slots.put_pooled i) inside l m f = tt
     stmt_has (slots.print tag escaping e) inside l m f = at_has tag _
     stmt_has (slots.assign tag xs e) inside l m f = at_has tag _

@@ -6,7 +6,7 @@ use Rattle.jt_value.specs.Tree.{Tree}
 use Rattle.jt_value.specs.Place.{Place}
 use Rattle.jt_evaluation.specs.Got.{Got, gives, fails, deeper, bind, checked, at}
 use Rattle.jt_evaluation.specs.Values.{shown, bytes_of, as_value}
-use Rattle.jt_resolved.specs.Slots.{with_locals, SExpr, SRow, Targets, SStmt, SBody, Routine, Memory, Valued, Listed, Written, SCalls, local, store, take, make, valued, sturns, sgone_over, in_front, svalue, svalues, skept, smeaning, smeanings, sperformed, scalls, smean_of}
+use Rattle.jt_resolved.specs.Slots.{with_locals, SlotExpr, SRow, Targets, SlotStmt, SBody, Routine, Memory, Valued, Listed, Written, SCalls, local, store, take, make, valued, sturns, sgone_over, in_front, svalue, svalues, skept, smeaning, smeanings, sperformed, scalls, smean_of}
 use Rattle.jt_evaluation.specs.Filters.{Filters}
 use Rattle.jt_evaluation.specs.Loops.{Loop, items_of_value, tree_at}
 use Rattle.jt_resolved.specs.Slots as slots
@@ -44,14 +44,14 @@ module _ (filters : Filters) (pool : List Tree) where
   constant_same (known i) n at = refl
 
   module _ (call call' : SCalls) (calls : (u : ℕ) (ts gs : List Tree) → call u ts gs ≡ call' u ts gs) where
-    abbrev V : SExpr Constant → Option Loop → Memory → Got Valued
+    abbrev V : SlotExpr Constant → Option Loop → Memory → Got Valued
     V e l m = svalue filters (constant_in pool) call e l m
 
-    abbrev V' : SExpr ℕ → Option Loop → Memory → Got Valued
+    abbrev V' : SlotExpr ℕ → Option Loop → Memory → Got Valued
     V' e l m = svalue filters (tree_at pool) call' e l m
 
     mutual
-      expr_same : (e : SExpr Constant) (n : ℕ) (l : Option Loop) (m : Memory) → PoolAt pool n (expr_values e) → V e l m ≡ V' (placed_expr e n) l m
+      expr_same : (e : SlotExpr Constant) (n : ℕ) (l : Option Loop) (m : Memory) → PoolAt pool n (expr_values e) → V e l m ≡ V' (placed_expr e n) l m
       expr_same (slots.pooled k) n l m at = ap (valued m) (constant_same k n at)
       expr_same (slots.variable s) n l m at = refl
       expr_same (slots.field f) n l m at = refl
@@ -96,7 +96,7 @@ module _ (filters : Filters) (pool : List Tree) where
           (expr_same e n l m (pool_front pool n (expr_values e) (row_values es) at))
           (λ r. row_same es p l (store (local i) r.value r.memory) (pool_back pool n (expr_values e) (row_values es) at))
 
-    kept_same : (c : Option (SExpr Constant)) (n : ℕ) (xs : Targets) (vs : List Tree) (m : Memory) → PoolAt pool n (condition_values c) → skept filters (constant_in pool) call c xs vs m ≡ skept filters (tree_at pool) call' (placed_condition c n) xs vs m
+    kept_same : (c : Option (SlotExpr Constant)) (n : ℕ) (xs : Targets) (vs : List Tree) (m : Memory) → PoolAt pool n (condition_values c) → skept filters (constant_in pool) call c xs vs m ≡ skept filters (tree_at pool) call' (placed_condition c n) xs vs m
     kept_same None n xs vs m at = refl
     kept_same (Some c) n xs [] m at = refl
     kept_same (Some c) n xs (v ∷ vs) m at =
@@ -112,7 +112,7 @@ module _ (filters : Filters) (pool : List Tree) where
     S' b l m = smeanings filters (tree_at pool) call' b l m
 
     mutual
-      stmt_same : (s : SStmt Constant) (n : ℕ) (l : Option Loop) (m : Memory) → PoolAt pool n (stmt_values s) → smeaning filters (constant_in pool) call s l m ≡ smeaning filters (tree_at pool) call' (placed_stmt s n) l m
+      stmt_same : (s : SlotStmt Constant) (n : ℕ) (l : Option Loop) (m : Memory) → PoolAt pool n (stmt_values s) → smeaning filters (constant_in pool) call s l m ≡ smeaning filters (tree_at pool) call' (placed_stmt s n) l m
       stmt_same (slots.put_pooled k) n l m at = ap (λ t. gives (record m { out = m.out ++ bytes_of t })) (constant_same k n at)
       stmt_same (slots.print q escaping e) n l m p = ap (λ g. at q (bind g (λ r. bind (shown escaping r.value) (λ s. gives (record r.memory { out = r.memory.out ++ s }))))) (expr_same e n l m p)
       stmt_same (slots.assign q xs e) n l m p = ap (λ g. at q (bind g (λ r. take xs r.value r.memory))) (expr_same e n l m p)

@@ -4,7 +4,7 @@ use Rattle.jt_image.specs.declared.instruction.Instruction.TheVariants as op
 use Rattle.jt_image.specs.IsCode.{total_len}
 use Rattle.jt_value.specs.Place.{Place}
 use Rattle.jt_resolved.specs.Slots as slots
-use Rattle.jt_resolved.specs.Slots.{Slot, SExpr, SRow, Targets, SStmt, SBody, Routine, Program}
+use Rattle.jt_resolved.specs.Slots.{Slot, SlotExpr, SRow, Targets, SlotStmt, SBody, Routine, Program}
 use Rattle.jt_lower.specs.Asm.{Asm, nil, one, both, choose, when, each, invoke, flat}
 use Rattle.jt_lower.specs.Lower.{expr_asm, row_asm, stores_asm, take_asm, kept_asm, stmt_asm, body_asm, unit_of, lowered}
 use Rattle.jt_resolved.specs.Size.{expr_size, row_size, targets_size, condition_size, stmt_size, body_size, routines_size}
@@ -34,7 +34,7 @@ flat_size (each a) n =
 flat_size (invoke o u) n = refl
 
 mutual
-  expr_sized : (e : SExpr ℕ) (o : Option Place) (h : ℕ) → asm_size (expr_asm o e h) ≡ expr_size e
+  expr_sized : (e : SlotExpr ℕ) (o : Option Place) (h : ℕ) → asm_size (expr_asm o e h) ≡ expr_size e
   expr_sized (slots.pooled i) o h = refl
   expr_sized (slots.variable s) o h = refl
   expr_sized (slots.field f) o h = refl
@@ -58,12 +58,12 @@ take_sized : (xs : Targets) (o : Option Place) → asm_size (take_asm o xs) ≡ 
 take_sized (slots.one s) o = refl
 take_sized (slots.several ss) o = omega (arith, stores_sized ss o)
 
-kept_sized : (c : Option (SExpr ℕ)) (xs : Targets) (o : Option Place) → asm_size (kept_asm o xs c) ≡ condition_size xs c
+kept_sized : (c : Option (SlotExpr ℕ)) (xs : Targets) (o : Option Place) → asm_size (kept_asm o xs c) ≡ condition_size xs c
 kept_sized None xs o = refl
 kept_sized (Some c) xs o = omega (arith, take_sized xs o, expr_sized c o 0)
 
 mutual
-  stmt_sized : (s : SStmt ℕ) (h : ℕ) → asm_size (stmt_asm s h) ≡ stmt_size s
+  stmt_sized : (s : SlotStmt ℕ) (h : ℕ) → asm_size (stmt_asm s h) ≡ stmt_size s
   stmt_sized (slots.put_pooled i) h = refl
   stmt_sized (slots.print tag escaping e) h = omega (arith, expr_sized e (Some tag) h)
   stmt_sized (slots.assign tag xs e) h = omega (arith, expr_sized e (Some tag) h, take_sized xs (Some tag))

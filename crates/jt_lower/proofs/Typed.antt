@@ -21,7 +21,7 @@ use Rattle.jt_image.specs.Loops.{field_id}
 use Rattle.jt_image.specs.Typed.{Equal, HasSame, IsTypedUnit, IsTyped, max_entries}
 use Rattle.jt_value.specs.Place.{Place}
 use Rattle.jt_resolved.specs.Slots as slots
-use Rattle.jt_resolved.specs.Slots.{Slot, local, global, Maker, SExpr, SRow, Targets, SStmt, SBody, Routine, Program}
+use Rattle.jt_resolved.specs.Slots.{Slot, local, global, Maker, SlotExpr, SRow, Targets, SlotStmt, SBody, Routine, Program}
 use Rattle.jt_lower.specs.Asm.{Asm, nil, one, both, choose, when, each, invoke, flat}
 use Rattle.jt_resolved.specs.Size.{row_count, expr_height, row_height, targets_height, condition_height, stmt_height, body_height}
 use Rattle.jt_lower.specs.Lower.{maker, told_as, flag, load_of, store_of, expr_asm, row_asm, store_if_of, stores_asm, take_asm, turn_asm, over_asm, kept_asm, stmt_asm, body_asm, unit_of, constant_of, lowered}
@@ -226,7 +226,7 @@ raise true h e S f = f
 
 -- a form needs an entry, and a row one for each of its values
 mutual
-  some_height : (e : SExpr ℕ) → 1 ≤ expr_height e
+  some_height : (e : SlotExpr ℕ) → 1 ≤ expr_height e
   some_height (slots.pooled i) = omega arith
   some_height (slots.variable s) = omega arith
   some_height (slots.field x) = omega arith
@@ -314,7 +314,7 @@ module _ (p : Program) (count : ℕ) where
   take_types (slots.several ss) o S f le = (pushes (length ss) S, (omega arith, λ u q l room. goes u q (pushes (length ss) S) room), stores_types ss o S f (omega arith))
 
   mutual
-    expr_types : (e : SExpr ℕ) (o : Option Place) (inside : Bool) (h : ℕ) (S : Shape) → ExprFits p count inside e → FrameIn inside h S → length S + expr_height e ≤ max_entries → Leading (expr_asm o e h) S (kind.Value ∷ S)
+    expr_types : (e : SlotExpr ℕ) (o : Option Place) (inside : Bool) (h : ℕ) (S : Shape) → ExprFits p count inside e → FrameIn inside h S → length S + expr_height e ≤ max_entries → Leading (expr_asm o e h) S (kind.Value ∷ S)
     expr_types (slots.pooled i) o inside h S f fr le = (omega arith, λ u q l room. required _ flaw.BadIndex _ (in_pool i f) ∙ goes u q (kind.Value ∷ S) room)
     expr_types (slots.variable s) o inside h S f fr le = (omega arith, loads s S f)
     expr_types (slots.field x) o false h S f fr le = absurd cc
@@ -385,7 +385,7 @@ module _ (p : Program) (count : ℕ) where
         (kind.Value ∷ S, (low, λ u q l room. goes u q (kind.Value ∷ S) room), (S, refl, omega (arith, le), refl, ho)),
       )
 
-  kept_types : (c : Option (SExpr ℕ)) (xs : Targets) (o : Option Place) (S : Shape) → TargetsFit p count xs → ConditionFits p count c → length S + (1 + targets_height xs) ≤ max_entries → length S + (1 + condition_height c) ≤ max_entries → Leading (kept_asm o xs c) (kind.Frame ∷ S) (kind.Frame ∷ S)
+  kept_types : (c : Option (SlotExpr ℕ)) (xs : Targets) (o : Option Place) (S : Shape) → TargetsFit p count xs → ConditionFits p count c → length S + (1 + targets_height xs) ≤ max_entries → length S + (1 + condition_height c) ≤ max_entries → Leading (kept_asm o xs c) (kind.Frame ∷ S) (kind.Frame ∷ S)
   kept_types None xs o S f g le lc = refl
   kept_types (Some c) xs o S f g le lc =
       let low : length (kind.Frame ∷ S) ≤ max_entries = omega (arith, le) in
@@ -402,7 +402,7 @@ module _ (p : Program) (count : ℕ) where
       )
 
   mutual
-    stmt_types : (s : SStmt ℕ) (inside : Bool) (h : ℕ) (S : Shape) → StmtFits p count inside s → FrameIn inside h S → length S + stmt_height s ≤ max_entries → Leading (stmt_asm s h) S S
+    stmt_types : (s : SlotStmt ℕ) (inside : Bool) (h : ℕ) (S : Shape) → StmtFits p count inside s → FrameIn inside h S → length S + stmt_height s ≤ max_entries → Leading (stmt_asm s h) S S
     stmt_types (slots.put_pooled i) inside h S f fr le = (omega arith, λ u q l room. required _ flaw.BadIndex _ (text_in_pool i f) ∙ goes u q S room)
     stmt_types (slots.print tag escaping e) inside h S f fr le = (kind.Value ∷ S, expr_types e (Some tag) inside h S f fr (omega arith), (omega (arith, some_height e), emits escaping S))
     stmt_types (slots.assign tag xs e) inside h S f fr le = (kind.Value ∷ S, expr_types e (Some tag) inside h S f.1 fr (omega arith), take_types xs (Some tag) S f.0 (omega arith))

@@ -26,7 +26,7 @@ use Rattle.jt_image.specs.Parts.{KeepsLimits}
 use Rattle.jt_image.specs.Typed.{max_entries}
 use Rattle.jt_value.specs.Place.{Place}
 use Rattle.jt_resolved.specs.Slots as slots
-use Rattle.jt_resolved.specs.Slots.{Slot, local, global, Maker, SExpr, SRow, Targets, SStmt, SBody, Routine, Program}
+use Rattle.jt_resolved.specs.Slots.{Slot, local, global, Maker, SlotExpr, SRow, Targets, SlotStmt, SBody, Routine, Program}
 use Rattle.jt_resolved.specs.Size.{row_count, targets_height, expr_height, row_height, condition_height, stmt_height, body_height}
 use Rattle.jt_constants.specs.Merged.{new_places, moved_unit}
 use Rattle.jt_constants.proofs.Sizes.{units_len, units_room}
@@ -130,7 +130,7 @@ module _ (p : Program) (locals : ℕ) (pool : length p.pool ≤ 2 ^ 32) (globals
   called_plain u n h = omega (arith, units, slice_get_within p.routines u h.routine h.is)
 
   mutual
-    expr_plain : (inside : Bool) (e : SExpr ℕ) (o : Option Place) (h : ℕ) → ExprFits p locals inside e → h + expr_height e ≤ max_entries → Plain (expr_asm o e h)
+    expr_plain : (inside : Bool) (e : SlotExpr ℕ) (o : Option Place) (h : ℕ) → ExprFits p locals inside e → h + expr_height e ≤ max_entries → Plain (expr_asm o e h)
     expr_plain inside (slots.pooled i) o h f low = omega (arith, f, pool)
     expr_plain inside (slots.variable s) o h f low = load_plain s f
     expr_plain inside (slots.field k) o h f low = (field_fits (told_as k), omega (arith, low))
@@ -162,12 +162,12 @@ module _ (p : Program) (locals : ℕ) (pool : length p.pool ≤ 2 ^ 32) (globals
   item_plain : (o : Option Place) → Plain (one o (op.LoopGet 0 0))
   item_plain o = (omega arith, omega arith)
 
-  kept_plain : (c : Option (SExpr ℕ)) (xs : Targets) (o : Option Place) → TargetsFit p locals xs → targets_height xs ≤ max_entries → ConditionFits p locals c → condition_height c ≤ max_entries → Plain (kept_asm o xs c)
+  kept_plain : (c : Option (SlotExpr ℕ)) (xs : Targets) (o : Option Place) → TargetsFit p locals xs → targets_height xs ≤ max_entries → ConditionFits p locals c → condition_height c ≤ max_entries → Plain (kept_asm o xs c)
   kept_plain None xs o f low g under = tt
   kept_plain (Some c) xs o f low g under = (((item_plain o, take_plain xs o f low), (expr_plain false c o 0 g (omega (arith, under)), omega arith)), tt)
 
   mutual
-    stmt_plain : (inside : Bool) (s : SStmt ℕ) (h : ℕ) → StmtFits p locals inside s → h + stmt_height s ≤ max_entries → Plain (stmt_asm s h)
+    stmt_plain : (inside : Bool) (s : SlotStmt ℕ) (h : ℕ) → StmtFits p locals inside s → h + stmt_height s ≤ max_entries → Plain (stmt_asm s h)
     stmt_plain inside (slots.put_pooled i) h f low = omega (arith, pool, slice_get_within p.pool i _ f.1)
     stmt_plain inside (slots.print q escaping e) h f low = (expr_plain inside e (Some q) h f low, flag_fits escaping)
     stmt_plain inside (slots.assign q xs e) h f low = (expr_plain inside e (Some q) h f.1 (omega (arith, low)), take_plain xs (Some q) f.0 (omega (arith, low)))

@@ -10,7 +10,7 @@ use Rattle.jt_image.specs.Typed.{max_entries}
 use Rattle.jt_resolved.specs.Takes.{InPairs}
 use Rattle.jt_trees.specs.Expressions.{Text}
 use Rattle.jt_resolved.specs.Slots as slots
-use Rattle.jt_resolved.specs.Slots.{Slot, local, global, Maker, SExpr, SRow, Targets, SStmt, SBody, Routine, Program}
+use Rattle.jt_resolved.specs.Slots.{Slot, local, global, Maker, SlotExpr, SRow, Targets, SlotStmt, SBody, Routine, Program}
 use Rattle.jt_resolved.specs.Size.{row_count, body_height}
 
 -- each takes so many values
@@ -43,7 +43,7 @@ module _ (p : Program) (locals : ℕ) where
 
   -- true inside a loop of the routine
   abbrev mutual
-    pub ExprFits : Bool → SExpr ℕ → Type 0
+    pub ExprFits : Bool → SlotExpr ℕ → Type 0
     ExprFits inside (slots.pooled i) = i < length p.pool
     ExprFits inside (slots.variable s) = SlotFits s
     ExprFits inside (slots.field f) = inside ≡ true
@@ -72,7 +72,7 @@ module _ (p : Program) (locals : ℕ) where
   TargetsFit (slots.several ss) = SlotsFit ss
 
   -- a condition sees no loop
-  abbrev pub ConditionFits : Option (SExpr ℕ) → Type 0
+  abbrev pub ConditionFits : Option (SlotExpr ℕ) → Type 0
   ConditionFits None = Unit {0}
   ConditionFits (Some c) = ExprFits false c
 
@@ -81,7 +81,7 @@ module _ (p : Program) (locals : ℕ) where
   TextFits i = (t : Text) × (slice_get p.pool i ≡ Some (tree.text t))
 
   abbrev mutual
-    pub StmtFits : Bool → SStmt ℕ → Type 0
+    pub StmtFits : Bool → SlotStmt ℕ → Type 0
     StmtFits inside (slots.put_pooled i) = TextFits i
     StmtFits inside (slots.print q escaping e) = ExprFits inside e
     StmtFits inside (slots.assign q xs e) = TargetsFit xs × ExprFits inside e

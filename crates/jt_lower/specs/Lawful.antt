@@ -6,7 +6,7 @@ use Rattle.jt_value.specs.Tree.{Tree}
 use Rattle.jt_image.specs.Typed.{max_entries}
 use Rattle.jt_trees.specs.Expressions.{Text}
 use Rattle.jt_resolved.specs.Slots as slots
-use Rattle.jt_resolved.specs.Slots.{Slot, local, global, Maker, SExpr, SRow, Targets, SStmt, SBody, Routine, Program}
+use Rattle.jt_resolved.specs.Slots.{Slot, local, global, Maker, SlotExpr, SRow, Targets, SlotStmt, SBody, Routine, Program}
 use Rattle.jt_evaluation.specs.TheFilters.{the_filters}
 use Rattle.jt_resolved.specs.Takes.{BodyTakes}
 use Rattle.jt_resolved.specs.Locals.{body_locals}
@@ -31,7 +31,7 @@ module _ (front globals : ℕ) where
   SlotLawful (global i) = i < globals
 
   abbrev mutual
-    pub ExprLawful : SExpr Constant → Type 0
+    pub ExprLawful : SlotExpr Constant → Type 0
     ExprLawful (slots.pooled k) = ConstantLawful k
     ExprLawful (slots.variable s) = SlotLawful s
     ExprLawful (slots.field f) = Unit {0}
@@ -59,12 +59,12 @@ module _ (front globals : ℕ) where
   TargetsLawful (slots.one s) = SlotLawful s
   TargetsLawful (slots.several ss) = SlotsLawful ss
 
-  abbrev pub ConditionLawful : Option (SExpr Constant) → Type 0
+  abbrev pub ConditionLawful : Option (SlotExpr Constant) → Type 0
   ConditionLawful None = Unit {0}
   ConditionLawful (Some c) = ExprLawful c
 
   abbrev mutual
-    pub StmtLawful : SStmt Constant → Type 0
+    pub StmtLawful : SlotStmt Constant → Type 0
     StmtLawful (slots.put_pooled k) = TextLawful k
     StmtLawful (slots.print q escaping e) = ExprLawful e
     StmtLawful (slots.assign q xs e) = TargetsLawful xs × ExprLawful e

@@ -18,7 +18,7 @@ use Rattle.jt_evaluation.specs.Loops as loops
 use Rattle.jt_evaluation.specs.Loops.{Field}
 use Rattle.jt_resolved.specs.Size.{row_count}
 use Rattle.jt_resolved.specs.Slots as slots
-use Rattle.jt_resolved.specs.Slots.{Slot, local, global, Maker, SExpr, SRow, Targets, SStmt, SBody, Routine, Program}
+use Rattle.jt_resolved.specs.Slots.{Slot, local, global, Maker, SlotExpr, SRow, Targets, SlotStmt, SBody, Routine, Program}
 use Rattle.jt_lower.specs.Asm.{Asm, nil, one, both, choose, when, each, invoke, flat, places}
 use Rattle.jt_lower.specs.Spots.{templates_of, spot_of}
 
@@ -63,7 +63,7 @@ store_of (global i) = op.GStore i
 
 -- Each has the place of its tag, which a fault of it gets, and the entries above the innermost loop of its routine.
 abbrev mutual
-  pub expr_asm : Option Place → SExpr ℕ → ℕ → Asm
+  pub expr_asm : Option Place → SlotExpr ℕ → ℕ → Asm
   expr_asm o (slots.pooled i) h = one o (op.Const i)
   expr_asm o (slots.variable s) h = one o (load_of s)
   expr_asm o (slots.field f) h = one o (op.LoopGet (field_id (told_as f)) h)
@@ -103,12 +103,12 @@ abbrev pub over_asm : Option Place → Targets → Asm → Asm → Asm
 over_asm o xs body other = both (each (turn_asm o xs body)) (both (one o op.LoopEnd) (when other))
 
 -- the items for which the condition holds, in place of all
-abbrev pub kept_asm : Option Place → Targets → Option (SExpr ℕ) → Asm
+abbrev pub kept_asm : Option Place → Targets → Option (SlotExpr ℕ) → Asm
 kept_asm o xs None = nil
 kept_asm o xs (Some c) = both (each (turn_asm o xs (both (expr_asm o c 0) (one o (op.LoopKeep 0))))) (one o op.LoopRewind)
 
 abbrev mutual
-  pub stmt_asm : SStmt ℕ → ℕ → Asm
+  pub stmt_asm : SlotStmt ℕ → ℕ → Asm
   stmt_asm (slots.put_pooled i) h = one None (op.Data i)
   stmt_asm (slots.print p escaping e) h = both (expr_asm (Some p) e h) (one (Some p) (op.Emit (flag escaping)))
   stmt_asm (slots.assign p xs e) h = both (expr_asm (Some p) e h) (take_asm (Some p) xs)

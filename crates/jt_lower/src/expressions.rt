@@ -12,7 +12,7 @@ ghost use Rattle.jt_lower.specs.Emission.{StandsFor, tag_view, Puts};
 use crate::emitter::Emitter;
 use crate::instructions::{call_of, constant_of, flag, load_of, made_of, store_of, told_of};
 use jt_image::Instruction;
-use jt_resolved::{Place, SExpr, Slot};
+use jt_resolved::{Place, Slot, SlotExpr};
 use std::alloc::AllocError;
 
 /// Puts the code of an expression of a tag behind the others, with so many entries above the innermost loop.
@@ -20,7 +20,7 @@ use std::alloc::AllocError;
 pub fn emit_expression(
     code: &mut Emitter,
     tag: Option<Place>,
-    expr: &SExpr,
+    expr: &SlotExpr,
     above: usize,
 ) -> Result<(), AllocError>
     ensures { OnOk result ((templates : List Text) (h : ℕ)
@@ -28,32 +28,32 @@ pub fn emit_expression(
         → Puts templates code.old (expr_asm (tag_view templates tag) (expr_view expr.now) h) code.new) }
 {
     match expr {
-        SExpr::Pooled(place) => {
+        SlotExpr::Pooled(place) => {
             code.put(tag, constant_of(*place))?;
             Ok(())
         }
-        SExpr::Variable(slot) => {
+        SlotExpr::Variable(slot) => {
             code.put(tag, load_of(*slot))?;
             Ok(())
         }
-        SExpr::Field(told) => {
+        SlotExpr::Field(told) => {
             code.put(tag, told_of(*told, above))?;
             Ok(())
         }
-        SExpr::Absent => Ok(()),
-        SExpr::Made(made, row) => {
+        SlotExpr::Absent => Ok(()),
+        SlotExpr::Made(made, row) => {
             emit_row(code, tag, row, above)?;
             code.put(tag, made_of(*made, count_values(row)))?;
             Ok(())
         }
-        SExpr::Conjunction(left, right) => emit_conjunction(code, tag, left, right, above),
-        SExpr::Disjunction(left, right) => emit_disjunction(code, tag, left, right, above),
-        SExpr::Choice {
+        SlotExpr::Conjunction(left, right) => emit_conjunction(code, tag, left, right, above),
+        SlotExpr::Disjunction(left, right) => emit_disjunction(code, tag, left, right, above),
+        SlotExpr::Choice {
             condition,
             value: taken,
             other,
         } => emit_choice(code, tag, condition, taken, other, above),
-        SExpr::Invoke {
+        SlotExpr::Invoke {
             routine,
             escaping,
             row,
@@ -73,8 +73,8 @@ pub fn emit_expression(
 fn emit_conjunction(
     code: &mut Emitter,
     tag: Option<Place>,
-    left: &SExpr,
-    right: &SExpr,
+    left: &SlotExpr,
+    right: &SlotExpr,
     above: usize,
 ) -> Result<(), AllocError>
     ensures { OnOk result ((templates : List Text) (h : ℕ)
@@ -97,8 +97,8 @@ fn emit_conjunction(
 fn emit_disjunction(
     code: &mut Emitter,
     tag: Option<Place>,
-    left: &SExpr,
-    right: &SExpr,
+    left: &SlotExpr,
+    right: &SlotExpr,
     above: usize,
 ) -> Result<(), AllocError>
     ensures { OnOk result ((templates : List Text) (h : ℕ)
@@ -121,9 +121,9 @@ fn emit_disjunction(
 fn emit_choice(
     code: &mut Emitter,
     tag: Option<Place>,
-    condition: &SExpr,
-    taken: &SExpr,
-    other: &SExpr,
+    condition: &SlotExpr,
+    taken: &SlotExpr,
+    other: &SlotExpr,
     above: usize,
 ) -> Result<(), AllocError>
     ensures { OnOk result ((templates : List Text) (h : ℕ)
@@ -142,7 +142,7 @@ fn emit_choice(
 }
 
 /// How many values a row has: what is kept aside is none of them.
-fn count_values(row: &[(Option<usize>, SExpr)]) -> usize
+fn count_values(row: &[(Option<usize>, SlotExpr)]) -> usize
     ensures { result ≡ row_count (row_view row.now none) }
 {
     let mut count = 0;
@@ -159,7 +159,7 @@ fn count_values(row: &[(Option<usize>, SExpr)]) -> usize
 pub fn emit_row(
     code: &mut Emitter,
     tag: Option<Place>,
-    row: &[(Option<usize>, SExpr)],
+    row: &[(Option<usize>, SlotExpr)],
     above: usize,
 ) -> Result<(), AllocError>
     ensures { OnOk result ((templates : List Text) (h : ℕ)

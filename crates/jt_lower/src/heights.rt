@@ -5,20 +5,21 @@ ghost use Rattle.jt_resolved.specs.Size.{expr_height, row_height};
 ghost use Rattle.jt_resolved.specs.Slots.{none};
 ghost use Rattle.jt_resolved.specs.View.{expr_view, row_view};
 
-use jt_resolved::SExpr;
+use jt_resolved::SlotExpr;
 
 /// Whether an expression needs at most so many entries.
 #[cycle(heights)]
-pub fn fits_expression(expr: &SExpr, room: usize) -> bool
+pub fn fits_expression(expr: &SlotExpr, room: usize) -> bool
     ensures { result ≡ nat_le (expr_height (expr_view expr.now)) room }
 {
     match expr {
-        SExpr::Pooled(_) | SExpr::Variable(_) | SExpr::Field(_) | SExpr::Absent => room >= 1,
-        SExpr::Made(_, row) => room >= 1 && fits_row(row, room),
-        SExpr::Conjunction(left, right) | SExpr::Disjunction(left, right) => {
+        SlotExpr::Pooled(_) | SlotExpr::Variable(_) | SlotExpr::Field(_) | SlotExpr::Absent => room
+            >= 1,
+        SlotExpr::Made(_, row) => room >= 1 && fits_row(row, room),
+        SlotExpr::Conjunction(left, right) | SlotExpr::Disjunction(left, right) => {
             room >= 2 && fits_expression(left, room) && fits_expression(right, room)
         }
-        SExpr::Choice {
+        SlotExpr::Choice {
             condition,
             value: taken,
             other,
@@ -27,13 +28,13 @@ pub fn fits_expression(expr: &SExpr, room: usize) -> bool
                 && fits_expression(taken, room)
                 && fits_expression(other, room)
         }
-        SExpr::Invoke { row, .. } => room >= 1 && fits_row(row, room - 1),
+        SlotExpr::Invoke { row, .. } => room >= 1 && fits_row(row, room - 1),
     }
 }
 
 /// Whether a row of expressions, each above the values before it, needs at most so many entries.
 #[cycle(heights)]
-pub fn fits_row(row: &[(Option<usize>, SExpr)], room: usize) -> bool
+pub fn fits_row(row: &[(Option<usize>, SlotExpr)], room: usize) -> bool
     ensures { result ≡ nat_le (row_height (row_view row.now none)) room }
 {
     let mut left = room;

@@ -20,7 +20,7 @@ use Rattle.jt_rules.specs.World.{World}
 use Rattle.jt_meaning.specs.Expressions.{filter_parameters}
 use Rattle.jt_meaning.specs.Layout.{Table, slot_in, names, numbered_of, globals, block_parameters, default_place, first_slot, unit, of_chain}
 use Rattle.jt_resolved.specs.Slots as slots
-use Rattle.jt_resolved.specs.Slots.{Slot, local, SExpr, SRow, Targets, one, several, SBody, variable, run}
+use Rattle.jt_resolved.specs.Slots.{Slot, local, SlotExpr, SRow, Targets, one, several, SBody, variable, run}
 use Rattle.jt_resolved.specs.Pool.{Constant, own, known, expr_values, row_values, condition_values, stmt_values, body_values}
 use Rattle.jt_meaning.specs.Resolve.{value_or, turned_round, tested_by, filtered_by, in_form, field_from, followed, locals_from, fresh_targets, set_targets, filled, filled_some, first_locals, reads, handed_on, Part, Spot, place, grown, bound_all, copied, scoped, next_given, first_body, invoked_body, invoked_super, invoked, resolved, resolved_row, resolved_asides, resolved_entries, resolved_condition, resolved_filters, resolved_values, placed_body, resolved_stmt, resolved_body, resolved_choice, left_out}
 use Rattle.jt_meaning.specs.Bytes.{value_bytes}
@@ -39,7 +39,7 @@ bytes_append (v ∷ a) b = omega (arith, bytes_append a b)
 pub literal_is : (l : Literal) → value_bytes (literal l) ≡ literal_bytes l
 literal_is l = search (arith, rules)
 
-abbrev expr_count : SExpr Constant → ℕ
+abbrev expr_count : SlotExpr Constant → ℕ
 expr_count e = bytes_in (expr_values e)
 
 abbrev row_count : SRow Constant → ℕ
@@ -48,7 +48,7 @@ row_count es = bytes_in (row_values es)
 abbrev body_count : SBody Constant → ℕ
 body_count b = bytes_in (body_values b)
 
-either_count : (b : Bool) (x y : SExpr Constant) (n : ℕ) → expr_count x ≤ n → expr_count y ≤ n → expr_count (if b then x else y) ≤ n
+either_count : (b : Bool) (x y : SlotExpr Constant) (n : ℕ) → expr_count x ≤ n → expr_count y ≤ n → expr_count (if b then x else y) ≤ n
 either_count true x y n h k = h
 either_count false x y n h k = k
 
@@ -64,13 +64,13 @@ field_count : (f : Option Field) → expr_count (field_from f) ≡ 0
 field_count None = refl
 field_count (Some f) = refl
 
-pair_count : (a b : SExpr Constant) → row_count (slots.item a (slots.item b slots.none)) ≡ expr_count a + expr_count b
+pair_count : (a b : SlotExpr Constant) → row_count (slots.item a (slots.item b slots.none)) ≡ expr_count a + expr_count b
 pair_count a b = omega (arith, bytes_append (expr_values a) (row_values (slots.item b slots.none)), bytes_append (expr_values b) [])
 
-single_count : (a : SExpr Constant) → row_count (slots.item a slots.none) ≡ expr_count a
+single_count : (a : SlotExpr Constant) → row_count (slots.item a slots.none) ≡ expr_count a
 single_count a = omega (arith, bytes_append (expr_values a) [])
 
-turned_count : (b : Bool) (e : SExpr Constant) → expr_count (turned_round b e) ≤ expr_count e
+turned_count : (b : Bool) (e : SlotExpr Constant) → expr_count (turned_round b e) ≤ expr_count e
 turned_count false e = omega arith
 turned_count true e = omega (arith, single_count e)
 
@@ -82,7 +82,7 @@ filtered_count : (f : Option ℕ) (b : Bool) (es : SRow Constant) → expr_count
 filtered_count None b es = omega arith
 filtered_count (Some f) b es = omega arith
 
-form_count : (f : Form) (a b : SExpr Constant) → expr_count (in_form f a b) ≤ expr_count a + expr_count b
+form_count : (f : Form) (a b : SlotExpr Constant) → expr_count (in_form f a b) ≤ expr_count a + expr_count b
 form_count f a b = search (arith, rules, pair_count, single_count, bytes_append)
 
 filled_count : (ps : List Parameter) (n d : ℕ) (ks : Table) → row_count (filled ps n d ks) ≡ 0
@@ -119,7 +119,7 @@ followed_count slots.end b = omega arith
 followed_count (slots.stmt s rest) b =
     omega (arith, followed_count rest b, bytes_append (stmt_values s) (body_values rest), bytes_append (stmt_values s) (body_values (followed rest b)))
 
-alone_count : (s : slots.SStmt Constant) → body_count (slots.stmt s slots.end) ≡ bytes_in (stmt_values s)
+alone_count : (s : slots.SlotStmt Constant) → body_count (slots.stmt s slots.end) ≡ bytes_in (stmt_values s)
 alone_count s = omega (arith, bytes_append (stmt_values s) [])
 
 pub copied_count : (p : Place) (t : Table) (n : ℕ) (xs : List Text) (b : SBody Constant) → body_count (copied p t n xs b) ≡ body_count b
@@ -158,7 +158,7 @@ module _ (world : World) (order : List Home) where
       let xs = block_parameters world order sp.home x in
       omega (arith, body_counted sp.home sp.escaping (first_body (numbered_of world sp.home x)) (reads t xs) (reads_count t xs))
   invoked_counted a_cycle sp row asides n ks w v r a =
-      let i : SExpr Constant = slots.made (slots.operator op.Remainder) (slots.item (slots.field index0) (slots.item (slots.pooled (own (tree.number (pos n)))) slots.none)) in
+      let i : SlotExpr Constant = slots.made (slots.operator op.Remainder) (slots.item (slots.field index0) (slots.item (slots.pooled (own (tree.number (pos n)))) slots.none)) in
       omega (arith, r slots.none, pair_count (slots.made slots.a_list (row slots.none)) i)
   invoked_counted no_callee sp row asides n ks w v r a = omega arith
 
@@ -235,7 +235,7 @@ module _ (world : World) (order : List Home) where
   condition_counted None sp k = omega arith
   condition_counted (Some c) sp k = omega (arith, counted c sp k)
 
-  filters_counted : (fs : List Filtering) (sp : Spot) (e : SExpr Constant) → Three → expr_count (resolved_filters world order fs sp e) ≤ expr_count e + filtering_bytes fs
+  filters_counted : (fs : List Filtering) (sp : Spot) (e : SlotExpr Constant) → Three → expr_count (resolved_filters world order fs sp e) ≤ expr_count e + filtering_bytes fs
   filters_counted [] sp e k = omega arith
   filters_counted (f ∷ fs) sp e k =
       let i = world.filters.named f.name f.arguments f.keywords in

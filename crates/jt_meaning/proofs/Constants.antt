@@ -18,13 +18,13 @@ use Rattle.jt_rules.specs.World.{World}
 use Rattle.jt_meaning.specs.Expressions.{filter_parameters}
 use Rattle.jt_meaning.specs.Layout.{Table, slot_in, names, numbered_of, globals, block_parameters, default_place, first_slot, unit, of_chain}
 use Rattle.jt_resolved.specs.Slots as slots
-use Rattle.jt_resolved.specs.Slots.{Slot, local, SExpr, SRow, Targets, one, several, SBody, variable, run}
+use Rattle.jt_resolved.specs.Slots.{Slot, local, SlotExpr, SRow, Targets, one, several, SBody, variable, run}
 use Rattle.jt_resolved.specs.Pool.{Constant, own, known, expr_values, row_values, condition_values, stmt_values, body_values}
 use Rattle.jt_meaning.specs.Resolve.{value_or, turned_round, tested_by, filtered_by, in_form, field_from, followed, locals_from, fresh_targets, set_targets, filled, filled_some, first_locals, reads, handed_on, Part, Spot, place, grown, bound_all, copied, scoped, next_given, first_body, invoked_body, invoked_super, invoked, resolved, resolved_row, resolved_asides, resolved_entries, resolved_condition, resolved_filters, resolved_values, placed_body, resolved_stmt, resolved_body, resolved_choice, left_out}
 use Rattle.jt_meaning.specs.Measure.{stmt_own, body_own, branch_own}
 use Rattle.jt_meaning.proofs.Sizing.{expr_some, is_some_weight}
 
-abbrev expr_count : SExpr Constant → ℕ
+abbrev expr_count : SlotExpr Constant → ℕ
 expr_count e = length (expr_values e)
 
 abbrev row_count : SRow Constant → ℕ
@@ -33,7 +33,7 @@ row_count es = length (row_values es)
 abbrev body_count : SBody Constant → ℕ
 body_count b = length (body_values b)
 
-either_count : (b : Bool) (x y : SExpr Constant) (n : ℕ) → expr_count x ≤ n → expr_count y ≤ n → expr_count (if b then x else y) ≤ n
+either_count : (b : Bool) (x y : SlotExpr Constant) (n : ℕ) → expr_count x ≤ n → expr_count y ≤ n → expr_count (if b then x else y) ≤ n
 either_count true x y n h k = h
 either_count false x y n h k = k
 
@@ -49,13 +49,13 @@ field_count : (f : Option Field) → expr_count (field_from f) ≡ 0
 field_count None = refl
 field_count (Some f) = refl
 
-pair_count : (a b : SExpr Constant) → row_count (slots.item a (slots.item b slots.none)) ≡ expr_count a + expr_count b
+pair_count : (a b : SlotExpr Constant) → row_count (slots.item a (slots.item b slots.none)) ≡ expr_count a + expr_count b
 pair_count a b = omega (arith, length-append (expr_values a) (row_values (slots.item b slots.none)), length-append (expr_values b) [])
 
-single_count : (a : SExpr Constant) → row_count (slots.item a slots.none) ≡ expr_count a
+single_count : (a : SlotExpr Constant) → row_count (slots.item a slots.none) ≡ expr_count a
 single_count a = omega (arith, length-append (expr_values a) [])
 
-turned_count : (b : Bool) (e : SExpr Constant) → expr_count (turned_round b e) ≤ expr_count e
+turned_count : (b : Bool) (e : SlotExpr Constant) → expr_count (turned_round b e) ≤ expr_count e
 turned_count false e = omega arith
 turned_count true e = omega (arith, single_count e)
 
@@ -67,7 +67,7 @@ filtered_count : (f : Option ℕ) (b : Bool) (es : SRow Constant) → expr_count
 filtered_count None b es = omega arith
 filtered_count (Some f) b es = omega arith
 
-form_count : (f : Form) (a b : SExpr Constant) → expr_count (in_form f a b) ≤ expr_count a + expr_count b
+form_count : (f : Form) (a b : SlotExpr Constant) → expr_count (in_form f a b) ≤ expr_count a + expr_count b
 form_count (operation o) a b = omega (arith, pair_count a b)
 form_count (negation o) a b = omega (arith, pair_count a b, single_count (slots.made (slots.operator o) (slots.item a (slots.item b slots.none))))
 form_count conjunction a b = omega (arith, length-append (expr_values a) (expr_values b))
@@ -116,7 +116,7 @@ followed_count slots.end b = omega arith
 followed_count (slots.stmt s rest) b =
     omega (arith, followed_count rest b, length-append (stmt_values s) (body_values rest), length-append (stmt_values s) (body_values (followed rest b)))
 
-alone_count : (s : slots.SStmt Constant) → body_count (slots.stmt s slots.end) ≡ length (stmt_values s)
+alone_count : (s : slots.SlotStmt Constant) → body_count (slots.stmt s slots.end) ≡ length (stmt_values s)
 alone_count s = omega (arith, length-append (stmt_values s) [])
 
 pub copied_count : (p : Place) (t : Table) (n : ℕ) (xs : List Text) (b : SBody Constant) → body_count (copied p t n xs b) ≡ body_count b
@@ -155,7 +155,7 @@ module _ (world : World) (order : List Home) where
       let xs = block_parameters world order sp.home x in
       omega (arith, body_counted sp.home sp.escaping (first_body (numbered_of world sp.home x)) (reads t xs) (reads_count t xs))
   invoked_counted a_cycle sp row asides n ks w v r a =
-      let i : SExpr Constant = slots.made (slots.operator op.Remainder) (slots.item (slots.field index0) (slots.item (slots.pooled (own (tree.number (pos n)))) slots.none)) in
+      let i : SlotExpr Constant = slots.made (slots.operator op.Remainder) (slots.item (slots.field index0) (slots.item (slots.pooled (own (tree.number (pos n)))) slots.none)) in
       omega (arith, r slots.none, pair_count (slots.made slots.a_list (row slots.none)) i)
   invoked_counted no_callee sp row asides n ks w v r a = omega arith
 
@@ -232,7 +232,7 @@ module _ (world : World) (order : List Home) where
   condition_counted None sp k = omega arith
   condition_counted (Some c) sp k = omega (arith, counted c sp k)
 
-  filters_counted : (fs : List Filtering) (sp : Spot) (e : SExpr Constant) → Three → expr_count (resolved_filters world order fs sp e) ≤ expr_count e + filtering_weight fs
+  filters_counted : (fs : List Filtering) (sp : Spot) (e : SlotExpr Constant) → Three → expr_count (resolved_filters world order fs sp e) ≤ expr_count e + filtering_weight fs
   filters_counted [] sp e k = omega arith
   filters_counted (f ∷ fs) sp e k =
       let i = world.filters.named f.name f.arguments f.keywords in

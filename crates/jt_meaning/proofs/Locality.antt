@@ -20,7 +20,7 @@ use Rattle.jt_rules.specs.World.{World}
 use Rattle.jt_meaning.specs.Expressions.{filter_parameters}
 use Rattle.jt_meaning.specs.Layout.{Table, slot_in, globals_from, names, numbered_of, globals, block_parameters, default_place, first_slot, unit, of_chain}
 use Rattle.jt_resolved.specs.Slots as slots
-use Rattle.jt_resolved.specs.Slots.{Slot, local, global, SExpr, SRow, Targets, one, several, SBody, variable, run}
+use Rattle.jt_resolved.specs.Slots.{Slot, local, global, SlotExpr, SRow, Targets, one, several, SBody, variable, run}
 use Rattle.jt_resolved.specs.Pool.{Constant, own, known}
 use Rattle.jt_meaning.specs.Resolve.{value_or, turned_round, tested_by, filtered_by, in_form, field_from, followed, locals_from, fresh, fresh_targets, kept_slots, set_targets, filled, filled_some, first_locals, reads, handed_on, Part, Spot, place, grown, bound_table, bound_all, slot_of, copied, scoped, next_given, first_body, invoked_body, invoked_super, invoked, resolved, resolved_row, resolved_asides, resolved_entries, resolved_condition, resolved_filters, resolved_values, placed_body, resolved_stmt, resolved_body, resolved_choice, left_out}
 use Rattle.jt_resolved.specs.Locals.{slot_locals, slots_locals, targets_locals, expr_locals, row_locals, condition_locals, body_locals}
@@ -102,11 +102,11 @@ module _ (n : ℕ) (some : 1 ≤ n) where
   field_local None = refl
   field_local (Some f) = refl
 
-  either_local : (b : Bool) (x y : SExpr Constant) → expr_locals x ≤ n → expr_locals y ≤ n → expr_locals (if b then x else y) ≤ n
+  either_local : (b : Bool) (x y : SlotExpr Constant) → expr_locals x ≤ n → expr_locals y ≤ n → expr_locals (if b then x else y) ≤ n
   either_local true x y h k = h
   either_local false x y h k = k
 
-  turned_local : (b : Bool) (e : SExpr Constant) → expr_locals (turned_round b e) ≤ expr_locals e
+  turned_local : (b : Bool) (e : SlotExpr Constant) → expr_locals (turned_round b e) ≤ expr_locals e
   turned_local false e = omega arith
   turned_local true e = omega arith
 
@@ -118,7 +118,7 @@ module _ (n : ℕ) (some : 1 ≤ n) where
   filtered_local None b es = omega arith
   filtered_local (Some f) b es = omega arith
 
-  form_local : (f : Form) (a b : SExpr Constant) → expr_locals (in_form f a b) ≤ max (expr_locals a) (expr_locals b)
+  form_local : (f : Form) (a b : SlotExpr Constant) → expr_locals (in_form f a b) ≤ max (expr_locals a) (expr_locals b)
   form_local f a b = search (arith, rules)
 
   filled_local : (ps : List Parameter) (m d : ℕ) (ks : Table) → Below ks → row_locals (filled ps m d ks) ≤ n
@@ -249,7 +249,7 @@ module _ (n : ℕ) (some : 1 ≤ n) where
     condition_localed None sp t k = omega arith
     condition_localed (Some c) sp t k = localed c sp t (omega (arith, k))
 
-    filters_localed : (fs : List Filtering) (sp : Spot) (e : SExpr Constant) → Below sp.table → sp.free + filtering_weight fs ≤ n → expr_locals e ≤ n → expr_locals (resolved_filters world order fs sp e) ≤ n
+    filters_localed : (fs : List Filtering) (sp : Spot) (e : SlotExpr Constant) → Below sp.table → sp.free + filtering_weight fs ≤ n → expr_locals e ≤ n → expr_locals (resolved_filters world order fs sp e) ≤ n
     filters_localed [] sp e t k h = h
     filters_localed (f ∷ fs) sp e t k h =
         let i = world.filters.named f.name f.arguments f.keywords in

@@ -20,7 +20,7 @@ use Rattle.jt_rules.specs.World.{World}
 use Rattle.jt_meaning.specs.Expressions.{filter_parameters}
 use Rattle.jt_meaning.specs.Layout.{Table, slot_in, names, numbered_of, globals, block_parameters, default_place, first_slot, unit, of_chain}
 use Rattle.jt_resolved.specs.Slots as slots
-use Rattle.jt_resolved.specs.Slots.{Slot, local, SExpr, SRow, Targets, one, several, SBody, variable, run}
+use Rattle.jt_resolved.specs.Slots.{Slot, local, SlotExpr, SRow, Targets, one, several, SBody, variable, run}
 use Rattle.jt_resolved.specs.Pool.{Constant, own, known}
 use Rattle.jt_meaning.specs.Resolve.{value_or, turned_round, tested_by, filtered_by, in_form, field_from, followed, locals_from, fresh_targets, set_targets, filled, filled_some, first_locals, reads, handed_on, Part, Spot, place, grown, bound_all, copied, scoped, next_given, first_body, invoked_body, invoked_super, invoked, resolved, resolved_row, resolved_asides, resolved_entries, resolved_condition, resolved_filters, resolved_values, placed_body, resolved_stmt, resolved_body, resolved_choice, left_out}
 use Rattle.jt_resolved.specs.Size.{targets_height, expr_height, row_height, condition_height, body_height}
@@ -30,7 +30,7 @@ use Rattle.jt_meaning.proofs.Sizing.{expr_some, operator_some, is_some_weight, k
 
 -- ---- parts
 
-either_low : (b : Bool) (x y : SExpr Constant) (n : ℕ) → 2 * expr_height x ≤ n → 2 * expr_height y ≤ n → 2 * expr_height (if b then x else y) ≤ n
+either_low : (b : Bool) (x y : SlotExpr Constant) (n : ℕ) → 2 * expr_height x ≤ n → 2 * expr_height y ≤ n → 2 * expr_height (if b then x else y) ≤ n
 either_low true x y n h k = h
 either_low false x y n h k = k
 
@@ -42,7 +42,7 @@ field_low : (f : Option Field) → expr_height (field_from f) ≡ 1
 field_low None = refl
 field_low (Some f) = refl
 
-turned_low : (b : Bool) (e : SExpr Constant) → expr_height (turned_round b e) ≤ max 1 (expr_height e)
+turned_low : (b : Bool) (e : SlotExpr Constant) → expr_height (turned_round b e) ≤ max 1 (expr_height e)
 turned_low false e = omega arith
 turned_low true e = omega arith
 
@@ -54,7 +54,7 @@ filtered_low : (f : Option ℕ) (b : Bool) (es : SRow Constant) → expr_height 
 filtered_low None b es = omega arith
 filtered_low (Some f) b es = omega arith
 
-form_low : (f : Form) (a b : SExpr Constant) → expr_height (in_form f a b) ≤ max (expr_height a) (max 2 (1 + expr_height b))
+form_low : (f : Form) (a b : SlotExpr Constant) → expr_height (in_form f a b) ≤ max (expr_height a) (max 2 (1 + expr_height b))
 form_low f a b = search (arith, rules)
 
 filled_low : (ps : List Parameter) (n d : ℕ) (ks : Table) → row_height (filled ps n d ks) ≤ length ps
@@ -283,7 +283,7 @@ module _ (world : World) (order : List Home) (q : ℕ) where
   condition_low None sp k = omega arith
   condition_low (Some c) sp k = omega (arith, resolved_low c sp k)
 
-  filters_low : (fs : List Filtering) (sp : Spot) (e : SExpr Constant) → HasAtMost world order q sp.home → 2 * expr_height (resolved_filters world order fs sp e) ≤ max (2 * expr_height e) (1 + filtering_weight fs + 2 * q)
+  filters_low : (fs : List Filtering) (sp : Spot) (e : SlotExpr Constant) → HasAtMost world order q sp.home → 2 * expr_height (resolved_filters world order fs sp e) ≤ max (2 * expr_height e) (1 + filtering_weight fs + 2 * q)
   filters_low [] sp e k = omega arith
   filters_low (f ∷ fs) sp e k =
       let i = world.filters.named f.name f.arguments f.keywords in

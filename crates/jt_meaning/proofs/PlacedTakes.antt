@@ -5,7 +5,7 @@ use Rattle.std.specs.List.{AllByRecursion}
 use Rattle.jt_chains.specs.Chain.{Home}
 use Rattle.jt_evaluation.specs.Filters.{Filters}
 use Rattle.jt_rules.specs.World.{World}
-use Rattle.jt_resolved.specs.Slots.{SExpr, pooled, variable, field, absent, made, conjunction, disjunction, choice, invoke, SRow, none, item, aside, SStmt, put_pooled, print, assign, if_else, for_each, capture, run, SBody, end, stmt, Routine}
+use Rattle.jt_resolved.specs.Slots.{SlotExpr, pooled, variable, field, absent, made, conjunction, disjunction, choice, invoke, SRow, none, item, aside, SlotStmt, put_pooled, print, assign, if_else, for_each, capture, run, SBody, end, stmt, Routine}
 use Rattle.jt_resolved.specs.Size.{row_count}
 use Rattle.jt_resolved.specs.Takes.{MakerTakes, HasParameters, ExprTakes, RowTakes, ConditionTakes, StmtTakes, BodyTakes}
 use Rattle.jt_resolved.specs.Pool.{Constant, expr_values, condition_values, stmt_values, body_values, placed_expr, placed_row, placed_condition, placed_stmt, placed_body, placed_routines}
@@ -30,7 +30,7 @@ count_placed (aside i e es) n = count_placed es (n + length (expr_values e))
 
 module _ (fs : Filters) (rs : List (Routine Constant)) (k : ℕ) where
   mutual
-    expr_placed : (l : Bool) (e : SExpr Constant) (n : ℕ) → ExprTakes fs rs l e → ExprTakes fs (placed_routines rs k) l (placed_expr e n)
+    expr_placed : (l : Bool) (e : SlotExpr Constant) (n : ℕ) → ExprTakes fs rs l e → ExprTakes fs (placed_routines rs k) l (placed_expr e n)
     expr_placed l (pooled c) n h = tt
     expr_placed l (variable s) n h = tt
     expr_placed l (field f) n h = h
@@ -46,12 +46,12 @@ module _ (fs : Filters) (rs : List (Routine Constant)) (k : ℕ) where
     row_placed l (item e es) n h = (expr_placed l e n h.0, row_placed l es (n + length (expr_values e)) h.1)
     row_placed l (aside i e es) n h = (expr_placed l e n h.0, row_placed l es (n + length (expr_values e)) h.1)
 
-  condition_placed : (c : Option (SExpr Constant)) (n : ℕ) → ConditionTakes fs rs c → ConditionTakes fs (placed_routines rs k) (placed_condition c n)
+  condition_placed : (c : Option (SlotExpr Constant)) (n : ℕ) → ConditionTakes fs rs c → ConditionTakes fs (placed_routines rs k) (placed_condition c n)
   condition_placed None n h = tt
   condition_placed (Some c) n h = expr_placed false c n h
 
   mutual
-    stmt_placed : (l : Bool) (s : SStmt Constant) (n : ℕ) → StmtTakes fs rs l s → StmtTakes fs (placed_routines rs k) l (placed_stmt s n)
+    stmt_placed : (l : Bool) (s : SlotStmt Constant) (n : ℕ) → StmtTakes fs rs l s → StmtTakes fs (placed_routines rs k) l (placed_stmt s n)
     stmt_placed l (put_pooled c) n h = tt
     stmt_placed l (print p on e) n h = expr_placed l e n h
     stmt_placed l (assign p xs e) n h = expr_placed l e n h

@@ -6,7 +6,7 @@ use Rattle.jt_value.specs.Tree.{Tree}
 use Rattle.jt_value.specs.Place.{Place}
 use Rattle.jt_evaluation.specs.Got.{Got, gives, bind, checked, at}
 use Rattle.jt_evaluation.specs.Values.{shown, bytes_of, as_value}
-use Rattle.jt_resolved.specs.Slots.{with_locals, SExpr, pooled, variable, field, absent, made, conjunction, disjunction, choice, invoke, SRow, none, item, aside, Targets, SStmt, put_pooled, print, assign, if_else, for_each, capture, run, SBody, end, stmt, Routine, Memory, Valued, Listed, SCalls, take, store, local, make, valued, in_front, svalue, svalues, skept, sturns, sgone_over, smeaning, smeanings, sperformed, scalls}
+use Rattle.jt_resolved.specs.Slots.{with_locals, SlotExpr, pooled, variable, field, absent, made, conjunction, disjunction, choice, invoke, SRow, none, item, aside, Targets, SlotStmt, put_pooled, print, assign, if_else, for_each, capture, run, SBody, end, stmt, Routine, Memory, Valued, Listed, SCalls, take, store, local, make, valued, in_front, svalue, svalues, skept, sturns, sgone_over, smeaning, smeanings, sperformed, scalls}
 use Rattle.jt_evaluation.specs.Loops.{Loop, items_of_value, tree_at}
 use Rattle.jt_evaluation.specs.Filters.{Filters}
 use Rattle.jt_resolved.specs.Pool.{Constant, own, known, constant_in, constant_values, expr_values, row_values, condition_values, stmt_values, body_values, routines_values, placed, placed_expr, placed_row, placed_condition, placed_stmt, placed_body, placed_routines}
@@ -27,10 +27,10 @@ module _ (fs : Filters) (pool : List Tree) (call call' : SCalls) (same : (u : �
   constant_placed (own v) n h = h.0
   constant_placed (known i) n h = refl
 
-  abbrev by_value : SExpr Constant → Option Loop → Memory → Got Valued
+  abbrev by_value : SlotExpr Constant → Option Loop → Memory → Got Valued
   by_value e l m = svalue fs (constant_in pool) call e l m
 
-  abbrev by_place : SExpr ℕ → Option Loop → Memory → Got Valued
+  abbrev by_place : SlotExpr ℕ → Option Loop → Memory → Got Valued
   by_place e l m = svalue fs (tree_at pool) call' e l m
 
   abbrev row_by_value : SRow Constant → Option Loop → Memory → Got Listed
@@ -48,7 +48,7 @@ module _ (fs : Filters) (pool : List Tree) (call call' : SCalls) (same : (u : �
   then_same g h f k e d = ap (λ z. bind z f) e ∙ bind_ext h f k d
 
   mutual
-    expr_placed : (e : SExpr Constant) (n : ℕ) (l : Option Loop) (m : Memory) → Held pool n (expr_values e) → by_place (placed_expr e n) l m ≡ by_value e l m
+    expr_placed : (e : SlotExpr Constant) (n : ℕ) (l : Option Loop) (m : Memory) → Held pool n (expr_values e) → by_place (placed_expr e n) l m ≡ by_value e l m
     expr_placed (pooled k) n l m h = ap (valued m) (constant_placed k n h)
     expr_placed (variable s) n l m h = refl
     expr_placed (field f) n l m h = refl
@@ -87,7 +87,7 @@ module _ (fs : Filters) (pool : List Tree) (call call' : SCalls) (same : (u : �
         (expr_placed e n l m (held_front pool n (expr_values e) (row_values es) h))
         (λ r. row_placed es (n + length (expr_values e)) l (store (local i) r.value r.memory) (held_back pool n (expr_values e) (row_values es) h))
 
-  kept_placed : (c : Option (SExpr Constant)) (n : ℕ) (xs : Targets) (vs : List Tree) (m : Memory) → Held pool n (condition_values c) → skept fs (tree_at pool) call' (placed_condition c n) xs vs m ≡ skept fs (constant_in pool) call c xs vs m
+  kept_placed : (c : Option (SlotExpr Constant)) (n : ℕ) (xs : Targets) (vs : List Tree) (m : Memory) → Held pool n (condition_values c) → skept fs (tree_at pool) call' (placed_condition c n) xs vs m ≡ skept fs (constant_in pool) call c xs vs m
   kept_placed None n xs vs m h = refl
   kept_placed (Some c) n xs [] m h = refl
   kept_placed (Some c) n xs (v ∷ vs) m h =
@@ -114,7 +114,7 @@ module _ (fs : Filters) (pool : List Tree) (call call' : SCalls) (same : (u : �
   body_by_place b l m = smeanings fs (tree_at pool) call' b l m
 
   mutual
-    stmt_placed : (s : SStmt Constant) (n : ℕ) (l : Option Loop) (m : Memory) → Held pool n (stmt_values s) → smeaning fs (tree_at pool) call' (placed_stmt s n) l m ≡ smeaning fs (constant_in pool) call s l m
+    stmt_placed : (s : SlotStmt Constant) (n : ℕ) (l : Option Loop) (m : Memory) → Held pool n (stmt_values s) → smeaning fs (tree_at pool) call' (placed_stmt s n) l m ≡ smeaning fs (constant_in pool) call s l m
     stmt_placed (put_pooled k) n l m h = ap (λ v. gives (record m { out = m.out ++ bytes_of v })) (constant_placed k n h)
     stmt_placed (print p on e) n l m h = ap (λ g. at p (bind g (λ r. bind (shown on r.value) (λ s. gives (record r.memory { out = r.memory.out ++ s }))))) (expr_placed e n l m h)
     stmt_placed (assign p xs e) n l m h = ap (λ g. at p (bind g (λ r. take xs r.value r.memory))) (expr_placed e n l m h)

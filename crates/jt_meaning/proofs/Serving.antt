@@ -11,7 +11,7 @@ use Rattle.jt_rules.specs.World.{World}
 use Rattle.jt_meaning.specs.Expressions.{filter_parameters}
 use Rattle.jt_chains.specs.Includes.{needs_by, needs_in, needs_under}
 use Rattle.jt_resolved.specs.Slots as slots
-use Rattle.jt_resolved.specs.Slots.{Slot, local, global, one, SExpr, SBody, none, assign, capture, run, Routine}
+use Rattle.jt_resolved.specs.Slots.{Slot, local, global, one, SlotExpr, SBody, none, assign, capture, run, Routine}
 use Rattle.jt_resolved.specs.Size.{row_count}
 use Rattle.jt_resolved.specs.Takes.{HasParameters, ConditionTakes, BodyTakes}
 use Rattle.jt_rules.specs.Known.{ExprKnown, ConditionKnown, FilteringKnown, StmtKnown, BodyKnown, BranchesKnown}
@@ -52,7 +52,7 @@ module _ (world : World) (order : List Home) where
         tt,
       )
 
-  filters_take : (w : Within) (fs : List Filtering) (sp : Spot) (e : SExpr Constant) → Stands world order sp.home → PartTail world order w.in_block sp.home sp.part → filtering_broken world sp.home fs w ≡ None → FilteringKnown world.filters fs → ETakes world order w.in_loop e
+  filters_take : (w : Within) (fs : List Filtering) (sp : Spot) (e : SlotExpr Constant) → Stands world order sp.home → PartTail world order w.in_block sp.home sp.part → filtering_broken world sp.home fs w ≡ None → FilteringKnown world.filters fs → ETakes world order w.in_loop e
       → ETakes world order w.in_loop (resolved_filters world order fs sp e)
   filters_take w [] sp e k t h f r = r
   filters_take w (g ∷ fs) sp e k t h f r =

@@ -23,7 +23,7 @@ use Rattle.jt_rules.specs.World.{World}
 use Rattle.jt_meaning.specs.Expressions.{filter_parameters}
 use Rattle.jt_meaning.specs.Layout.{Table, slot_in, names, numbered_of, globals, block_parameters, is_scoped, default_place, first_slot, unit, of_chain}
 use Rattle.jt_resolved.specs.Slots as slots
-use Rattle.jt_resolved.specs.Slots.{Slot, local, SExpr, SRow, Targets, one, several, SBody, variable, run}
+use Rattle.jt_resolved.specs.Slots.{Slot, local, SlotExpr, SRow, Targets, one, several, SBody, variable, run}
 use Rattle.jt_resolved.specs.Pool.{Constant, own, known}
 use Rattle.jt_meaning.specs.Resolve.{value_or, turned_round, tested_by, filtered_by, in_form, field_from, followed, locals_from, fresh, fresh_targets, kept_slots, set_targets, filled, filled_some, first_locals, reads, handed_on, Part, Spot, place, grown, bound_all, copied, scoped, next_given, first_body, invoked_body, invoked_super, invoked, resolved, resolved_row, resolved_asides, resolved_entries, resolved_condition, resolved_filters, resolved_values, placed_body, resolved_stmt, resolved_body, resolved_choice, left_out}
 use Rattle.jt_resolved.specs.Size.{targets_size, expr_size, row_size, condition_size, body_size}
@@ -61,7 +61,7 @@ is_some_weight true = omega arith
 
 -- ---- parts
 
-either_size : (b : Bool) (x y : SExpr Constant) (n : ℕ) → expr_size x ≤ n → expr_size y ≤ n → expr_size (if b then x else y) ≤ n
+either_size : (b : Bool) (x y : SlotExpr Constant) (n : ℕ) → expr_size x ≤ n → expr_size y ≤ n → expr_size (if b then x else y) ≤ n
 either_size true x y n h k = h
 either_size false x y n h k = k
 
@@ -73,7 +73,7 @@ field_size : (f : Option Field) → expr_size (field_from f) ≤ 1
 field_size None = omega arith
 field_size (Some f) = omega arith
 
-turned_size : (b : Bool) (e : SExpr Constant) → expr_size (turned_round b e) ≤ expr_size e + 1
+turned_size : (b : Bool) (e : SlotExpr Constant) → expr_size (turned_round b e) ≤ expr_size e + 1
 turned_size false e = omega arith
 turned_size true e = omega arith
 
@@ -85,7 +85,7 @@ filtered_size : (f : Option ℕ) (b : Bool) (es : SRow Constant) → expr_size (
 filtered_size None b es = omega arith
 filtered_size (Some f) b es = omega arith
 
-form_size : (f : Form) (a b : SExpr Constant) → expr_size (in_form f a b) ≤ expr_size a + expr_size b + 4
+form_size : (f : Form) (a b : SlotExpr Constant) → expr_size (in_form f a b) ≤ expr_size a + expr_size b + 4
 form_size f a b = search (arith, rules)
 
 filled_size : (ps : List Parameter) (n d : ℕ) (ks : Table) → row_size (filled ps n d ks) ≤ length ps
@@ -289,7 +289,7 @@ module _ (world : World) (order : List Home) where
   condition_sized xs None sp n k h = omega arith
   condition_sized xs (Some c) sp n k h = omega (arith, h, resolved_sized c sp k)
 
-  filters_sized : (fs : List Filtering) (sp : Spot) (e : SExpr Constant) → IsFew world order sp.home → expr_size (resolved_filters world order fs sp e) ≤ expr_size e + 100 * filtering_weight fs
+  filters_sized : (fs : List Filtering) (sp : Spot) (e : SlotExpr Constant) → IsFew world order sp.home → expr_size (resolved_filters world order fs sp e) ≤ expr_size e + 100 * filtering_weight fs
   filters_sized [] sp e k = omega arith
   filters_sized (f ∷ fs) sp e k =
       let i = world.filters.named f.name f.arguments f.keywords in

@@ -22,7 +22,7 @@ use Rattle.jt_meaning.specs.Expressions.{block_text, value, named_values}
 use Rattle.jt_meaning.specs.Meaning.{put, within, captured, turns, gone_over, without_source, kept, through, meaning, meanings, chosen}
 use Rattle.jt_chains.specs.Includes.{needs_by, needs_in, needs_under}
 use Rattle.jt_resolved.specs.Slots as slots
-use Rattle.jt_resolved.specs.Slots.{Slot, local, global, Targets, one, several, SExpr, SStmt, SBody, none, assign, capture, run, Memory, Valued, Listed, Written, SCalls, load, put_at, store, store_if, take, in_front, sturns, sgone_over, svalue, svalues, skept, smeaning, smeanings}
+use Rattle.jt_resolved.specs.Slots.{Slot, local, global, Targets, one, several, SlotExpr, SlotStmt, SBody, none, assign, capture, run, Memory, Valued, Listed, Written, SCalls, load, put_at, store, store_if, take, in_front, sturns, sgone_over, svalue, svalues, skept, smeaning, smeanings}
 use Rattle.jt_meaning.specs.Layout.{Table, slot_in, globals_from, of_chain, of_body, names, first_slot, globals, block_parameters, is_scoped, numbered_of, unit}
 use Rattle.jt_meaning.specs.Programs.{pool}
 use Rattle.jt_resolved.specs.Pool.{Constant, constant_in}
@@ -158,7 +158,7 @@ module _ (world : World) (order : List Home) (calls : Calls) (scall : SCalls) (m
   abbrev pub constants : Constant → Tree
   constants = constant_in (pool world order)
 
-  abbrev pub sstmt : SStmt Constant → Option Loop → Memory → Got Memory
+  abbrev pub sstmt : SlotStmt Constant → Option Loop → Memory → Got Memory
   sstmt s l m = smeaning world.filters constants scall s l m
 
   abbrev pub sbody : SBody Constant → Option Loop → Memory → Got Memory
@@ -180,7 +180,7 @@ module _ (world : World) (order : List Home) (calls : Calls) (scall : SCalls) (m
   followed_same (slots.stmt s rest) b l m =
       bind_ext (sstmt s l m) (λ n. sbody (followed rest b) l n) (λ n. bind (sbody rest l n) (λ o. sbody b l o)) (λ n. followed_same rest b l n) ∙ sym (bind_assoc (sstmt s l m) (λ n. sbody rest l n) (λ o. sbody b l o))
 
-  alone_same : (s : SStmt Constant) (l : Option Loop) (m : Memory) → sbody (alone s) l m ≡ sstmt s l m
+  alone_same : (s : SlotStmt Constant) (l : Option Loop) (m : Memory) → sbody (alone s) l m ≡ sstmt s l m
   alone_same s l m = bind_gives (sstmt s l m)
 
   -- ---- what a statement may change
@@ -445,7 +445,7 @@ module _ (world : World) (order : List Home) (calls : Calls) (scall : SCalls) (m
       (scope_both body sp l q (inside [] env) [] (record m { out = [] }) (good_kept world order (good_inside g) (kept_out (record m { out = [] }) refl refl (kept_same sp.free (lim sp) m))) (inside_inner env []) refl i own same))
 
   -- filters one after the other
-  through_same : (fs : List Filtering) (sp : Spot) (l : Option Loop) (q : Option Placement) (env : Env) (m : Memory) (g : Got Tree) (e : SExpr Constant) → Good world order sp q env m → AllAmong (filtering_names fs) (ns sp)
+  through_same : (fs : List Filtering) (sp : Spot) (l : Option Loop) (q : Option Placement) (env : Env) (m : Memory) (g : Got Tree) (e : SlotExpr Constant) → Good world order sp q env m → AllAmong (filtering_names fs) (ns sp)
       → Both (Evaluated sp.free (lim sp) m) g (svalue world.filters constants scall e l m)
       → Both (Evaluated sp.free (lim sp) m) (through world calls fs (around_of world order sp l q) env g) (svalue world.filters constants scall (resolved_filters world order fs sp e) l m)
   through_same [] sp l q env m g e good i u = u

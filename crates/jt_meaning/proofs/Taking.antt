@@ -28,7 +28,7 @@ use Rattle.jt_evaluation.specs.Filters.{Filters, some_given}
 use Rattle.jt_rules.specs.World.{World}
 use Rattle.jt_meaning.specs.Expressions.{filter_parameters}
 use Rattle.jt_resolved.specs.Slots as slots
-use Rattle.jt_resolved.specs.Slots.{Slot, operator, a_list, made, SExpr, SRow, none, Routine}
+use Rattle.jt_resolved.specs.Slots.{Slot, operator, a_list, made, SlotExpr, SRow, none, Routine}
 use Rattle.jt_resolved.specs.Size.{row_count}
 use Rattle.jt_rules.specs.Known.{IsThere, ExprKnown, RowKnown, PairsKnown}
 use Rattle.jt_meaning.specs.Layout.{Table, slot_in, block_parameters, globals, numbered_of, default_place}
@@ -136,7 +136,7 @@ module _ (world : World) (order : List Home) where
   abbrev pub rs : List (Routine Constant)
   rs = routines world order
 
-  abbrev pub ETakes : Bool → SExpr Constant → Type 0
+  abbrev pub ETakes : Bool → SlotExpr Constant → Type 0
   ETakes l e = ExprTakes world.filters rs l e
 
   abbrev pub RTakes : Bool → SRow Constant → Type 0
@@ -179,10 +179,10 @@ module _ (world : World) (order : List Home) where
   locals_count n [] = refl
   locals_count n (x ∷ xs) = ap suc (locals_count (suc n) xs)
 
-  form_takes : (l : Bool) (f : Form) (a b : SExpr Constant) → TakesTwo f → ETakes l a → ETakes l b → ETakes l (in_form f a b)
+  form_takes : (l : Bool) (f : Form) (a b : SlotExpr Constant) → TakesTwo f → ETakes l a → ETakes l b → ETakes l (in_form f a b)
   form_takes l f a b t h k = search (arith, rules)
 
-  turned_takes : (l n : Bool) (e : SExpr Constant) → ETakes l e → ETakes l (turned_round n e)
+  turned_takes : (l n : Bool) (e : SlotExpr Constant) → ETakes l e → ETakes l (turned_round n e)
   turned_takes l false e h = h
   turned_takes l true e h = (refl, (h, tt))
 
@@ -244,7 +244,7 @@ module _ (world : World) (order : List Home) where
   fields_take l None there h = absurd (cc)
   fields_take l (Some f) there h = h
 
-  attribute_takes : (w : Within) (b : Bool) (k : Text) (r : Option ScopeError) (e : SExpr Constant) → (if b then refused (not (w.in_loop && is_some (field_named k))) error.LoopOutside else r) ≡ None → (r ≡ None → ETakes w.in_loop e)
+  attribute_takes : (w : Within) (b : Bool) (k : Text) (r : Option ScopeError) (e : SlotExpr Constant) → (if b then refused (not (w.in_loop && is_some (field_named k))) error.LoopOutside else r) ≡ None → (r ≡ None → ETakes w.in_loop e)
       → ETakes w.in_loop (if b then field_from (field_named k) else operation_of op.Item e (slots.pooled (own (tree.text k))))
   attribute_takes w true k r e h f =
       let both = not_false (w.in_loop && is_some (field_named k)) (not_refused (not (w.in_loop && is_some (field_named k))) error.LoopOutside h) in

@@ -32,7 +32,7 @@ use Rattle.jt_evaluation.specs.Filters.{Filters, default_value, parameters, some
 use Rattle.jt_rules.specs.World.{World}
 use Rattle.jt_meaning.specs.Around.{Placement, the_macro, the_block, Calls}
 use Rattle.jt_resolved.specs.Slots as slots
-use Rattle.jt_resolved.specs.Slots.{Slot, local, Maker, operator, a_list, a_map, SExpr, made, SRow, none, Memory, Valued, Listed, Written, SCalls, load, store, make, valued, in_front, svalue, svalues}
+use Rattle.jt_resolved.specs.Slots.{Slot, local, Maker, operator, a_list, a_map, SlotExpr, made, SRow, none, Memory, Valued, Listed, Written, SCalls, load, store, make, valued, in_front, svalue, svalues}
 use Rattle.jt_meaning.specs.Layout.{Table, slot_in, first_slot, of_macro, of_body, names, globals, block_parameters, is_scoped, numbered_of, numbered_bodies, counted_from, unit, default_place}
 use Rattle.jt_meaning.specs.Programs.{pool}
 use Rattle.jt_resolved.specs.Pool.{Constant, own, known, constant_in}
@@ -163,7 +163,7 @@ module _ (world : World) (order : List Home) (calls : Calls) (scall : SCalls) (m
   abbrev pub constants : Constant → Tree
   constants = constant_in (pool world order)
 
-  abbrev pub seen : SExpr Constant → Memory → Got Valued
+  abbrev pub seen : SlotExpr Constant → Memory → Got Valued
   seen e m = svalue fs constants scall e l m
 
   abbrev pub seen_row : SRow Constant → Memory → Got Listed
@@ -174,7 +174,7 @@ module _ (world : World) (order : List Home) (calls : Calls) (scall : SCalls) (m
       → bind (bind g (λ r. gives (in_front r.value (record { values = []; memory = r.memory })))) (λ r. f r.values r.memory) ≡ bind g (λ r. f (r.value ∷ []) r.memory)
   one_after g f = search (arith, rules)
 
-  on_one : (o : OpId) (e : SExpr Constant) (m : Memory) → seen (made (operator o) (slots.item e none)) m ≡ bind (seen e m) (λ r. bind (operated o (r.value ∷ [])) (valued r.memory))
+  on_one : (o : OpId) (e : SlotExpr Constant) (m : Memory) → seen (made (operator o) (slots.item e none)) m ≡ bind (seen e m) (λ r. bind (operated o (r.value ∷ [])) (valued r.memory))
   on_one o e m = one_after (seen e m) (λ vs n. bind (operated o vs) (valued n))
 
   two_after : (g : Got Valued) (h : Memory → Got Valued) (f : List Tree → Memory → Got Valued)
@@ -191,7 +191,7 @@ module _ (world : World) (order : List Home) (calls : Calls) (scall : SCalls) (m
   two_after (fails e p) h f = refl
   two_after deeper h f = refl
 
-  on_two : (o : OpId) (e k : SExpr Constant) (m : Memory)
+  on_two : (o : OpId) (e k : SlotExpr Constant) (m : Memory)
       → seen (operation_of o e k) m ≡ bind (seen e m) (λ r. bind (seen k r.memory) (λ s. bind (operated o (r.value ∷ s.value ∷ [])) (valued s.memory)))
   on_two o e k m = two_after (seen e m) (λ n. seen k n) (λ vs n. bind (operated o vs) (valued n))
 
@@ -209,25 +209,25 @@ module _ (world : World) (order : List Home) (calls : Calls) (scall : SCalls) (m
   made_both k o es e u = bind_both u (λ vs r w. done_as (o vs) (make fs k r.values) (e vs ∙ ap (make fs k) (sym w.values)) w.kept w.out)
 
   -- one operand
-  one_both : {b g : ℕ} {m : Memory} {h : Got Tree} (o : OpId) (e : SExpr Constant) → Both (Evaluated b g m) h (seen e m)
+  one_both : {b g : ℕ} {m : Memory} {h : Got Tree} (o : OpId) (e : SlotExpr Constant) → Both (Evaluated b g m) h (seen e m)
       → Both (Evaluated b g m) (bind h (λ v. operated o (v ∷ []))) (seen (made (operator o) (slots.item e none)) m)
   one_both {m = m} o e u = by_right (on_one o e m) (bind_both u (λ v r w. done_as (operators.operation o (v ∷ [])) (operators.operation o (r.value ∷ [])) (ap (λ x. operators.operation o (x ∷ [])) (sym w.value)) w.kept w.out))
 
-  turned_both : {b g : ℕ} {m : Memory} {h : Got Tree} (n : Bool) (e : SExpr Constant) → Both (Evaluated b g m) h (seen e m) → Both (Evaluated b g m) (turned n h) (seen (turned_round n e) m)
+  turned_both : {b g : ℕ} {m : Memory} {h : Got Tree} (n : Bool) (e : SlotExpr Constant) → Both (Evaluated b g m) h (seen e m) → Both (Evaluated b g m) (turned n h) (seen (turned_round n e) m)
   turned_both false e u = u
   turned_both true e u = one_both op.Not e u
 
   -- from a memory that was kept
-  abbrev Later : ℕ → ℕ → Memory → Got Tree → SExpr Constant → Type 0
+  abbrev Later : ℕ → ℕ → Memory → Got Tree → SlotExpr Constant → Type 0
   Later b g m h e = (n : Memory) → Kept b g m n → n.out ≡ m.out → Both (Evaluated b g n) h (seen e n)
 
   after : {b g : ℕ} {m n : Memory} {v : Tree} {r : Valued} → Kept b g m n → n.out ≡ m.out → Evaluated b g n v r → Evaluated b g m v r
   after u o w = record { value = w.value; kept = kept_then u w.kept; out = w.out ∙ o }
 
-  then_both : {b g : ℕ} {m : Memory} {h : Got Tree} (e : SExpr Constant) → Later b g m h e → (n : Memory) → Kept b g m n → n.out ≡ m.out → Both (Evaluated b g m) h (seen e n)
+  then_both : {b g : ℕ} {m : Memory} {h : Got Tree} (e : SlotExpr Constant) → Later b g m h e → (n : Memory) → Kept b g m n → n.out ≡ m.out → Both (Evaluated b g m) h (seen e n)
   then_both e later n u o = weaken (λ v r w. after u o w) (later n u o)
 
-  two_both : {b g : ℕ} {m : Memory} {h k : Got Tree} (o : OpId) (e f : SExpr Constant) → Both (Evaluated b g m) h (seen e m) → Later b g m k f
+  two_both : {b g : ℕ} {m : Memory} {h k : Got Tree} (o : OpId) (e f : SlotExpr Constant) → Both (Evaluated b g m) h (seen e m) → Later b g m k f
       → Both (Evaluated b g m) (bind h (λ v. bind k (λ w. operated o (v ∷ w ∷ [])))) (seen (operation_of o e f) m)
   two_both {m = m} o e f u later =
       by_right (on_two o e f m) (bind_both u (λ v r w. bind_both (then_both f later r.memory w.kept w.out) (λ x s z.
@@ -241,14 +241,14 @@ module _ (world : World) (order : List Home) (calls : Calls) (scall : SCalls) (m
   itself : {b g : ℕ} {m : Memory} (v : Tree) (r : Valued) → Evaluated b g m v r → Both (Evaluated b g m) (gives v) (gives r)
   itself v r w = both w
 
-  form_both : {b g : ℕ} {m : Memory} {h k : Got Tree} (f : Form) (e i : SExpr Constant) → Both (Evaluated b g m) h (seen e m) → Later b g m k i
+  form_both : {b g : ℕ} {m : Memory} {h k : Got Tree} (f : Form) (e i : SlotExpr Constant) → Both (Evaluated b g m) h (seen e m) → Later b g m k i
       → Both (Evaluated b g m) (combined f h k) (seen (in_form f e i) m)
   form_both (operation o) e i u later = two_both o e i u later
   form_both (negation o) e i u later = turned_both true (operation_of o e i) (two_both o e i u later)
   form_both conjunction e i u later = bind_both u (λ v r w. truth_both v r.value w.value (then_both i later r.memory w.kept w.out) (itself v r w))
   form_both disjunction e i u later = bind_both u (λ v r w. truth_both v r.value w.value (itself v r w) (then_both i later r.memory w.kept w.out))
 
-  choice_both : {b g : ℕ} {m : Memory} {h k j : Got Tree} (c e i : SExpr Constant) → Both (Evaluated b g m) h (seen c m) → Later b g m k e → Later b g m j i
+  choice_both : {b g : ℕ} {m : Memory} {h k j : Got Tree} (c e i : SlotExpr Constant) → Both (Evaluated b g m) h (seen c m) → Later b g m k e → Later b g m j i
       → Both (Evaluated b g m) (either h k j) (seen (slots.choice c e i) m)
   choice_both c e i u later other = bind_both u (λ v r w. truth_both v r.value w.value (then_both e later r.memory w.kept w.out) (then_both i other r.memory w.kept w.out))
 
@@ -261,7 +261,7 @@ module _ (world : World) (order : List Home) (calls : Calls) (scall : SCalls) (m
   filtered_both (Some f) on es u = made_both (slots.filter f on) (λ vs. fs.operation f on vs) es (λ vs. refl) u
 
   -- a value with others behind it
-  item_gives : (e : SExpr Constant) (es : SRow Constant) (m : Memory) (v : Tree) (vs : List Tree) → seen e m ≡ gives (record { value = v; memory = m }) → seen_row es m ≡ gives (record { values = vs; memory = m })
+  item_gives : (e : SlotExpr Constant) (es : SRow Constant) (m : Memory) (v : Tree) (vs : List Tree) → seen e m ≡ gives (record { value = v; memory = m }) → seen_row es m ≡ gives (record { values = vs; memory = m })
       → seen_row (slots.item e es) m ≡ gives (record { values = v ∷ vs; memory = m })
   item_gives e es m v vs p q = ap (λ g. bind g (λ r. bind (seen_row es r.memory) (λ rs. gives (in_front r.value rs)))) p ∙ ap (λ g. bind g (λ rs. gives (in_front v rs))) q
 
@@ -325,7 +325,7 @@ module _ (world : World) (order : List Home) (calls : Calls) (scall : SCalls) (m
   abbrev pub end : Spot → ℕ
   end sp = limit world order sp.home
 
-  abbrev pub Same : Spot → Memory → Got Tree → SExpr Constant → Type 0
+  abbrev pub Same : Spot → Memory → Got Tree → SlotExpr Constant → Type 0
   Same sp m g e = Both (Evaluated sp.free (end sp) m) g (seen e m)
 
   -- a text by names, and what a routine writes over a memory that was kept
@@ -365,7 +365,7 @@ module _ (world : World) (order : List Home) (calls : Calls) (scall : SCalls) (m
   abbrev pub ns : Spot → List Text
   ns sp = read_names world order sp.home
 
-  attribute_both : {m : Memory} (b : Bool) (k : Text) (sp : Spot) (h : Got Tree) (e : SExpr Constant) (xs : List Text) → AllAmong (if b then [] else xs) (ns sp) → (AllAmong xs (ns sp) → Same sp m h e)
+  attribute_both : {m : Memory} (b : Bool) (k : Text) (sp : Spot) (h : Got Tree) (e : SlotExpr Constant) (xs : List Text) → AllAmong (if b then [] else xs) (ns sp) → (AllAmong xs (ns sp) → Same sp m h e)
       → Same sp m (if b then field_of (field_named k) l else bind h (λ v. operated op.Item (v ∷ tree.text k ∷ []))) (if b then field_from (field_named k) else operation_of op.Item e (slots.pooled (own (tree.text k))))
   attribute_both true k sp h e xs i f = field_both sp (field_named k)
   attribute_both false k sp h e xs i f = two_both op.Item e (slots.pooled (own (tree.text k))) (f i) (λ n u o. given_both sp (tree.text k))
@@ -425,7 +425,7 @@ module _ (world : World) (order : List Home) (calls : Calls) (scall : SCalls) (m
       (ap (λ y. operators.operation op.Item (tree.list (items_of y) ∷ k ∷ [])) (sym w.0.values) ∙ ap (λ y. operators.operation op.Item (tree.list (items_of r.values) ∷ y ∷ [])) (sym z.value))
       (kept_then w.0.kept z.kept) (z.out ∙ w.0.out)))))
     where
-      left : SExpr Constant
+      left : SlotExpr Constant
       left = operation_of op.Remainder (slots.field index0) (slots.pooled (own (tree.number (pos n))))
 
   -- the row of a block's parameters: what their names read
@@ -635,7 +635,7 @@ module _ (world : World) (order : List Home) (calls : Calls) (scall : SCalls) (m
         both (record { values = ap (λ y. tree.text x ∷ y ∷ s.values) w.value ∙ ap (λ ys. tree.text x ∷ v ∷ ys) z.values; kept = kept_then w.kept z.kept; out = z.out ∙ w.out }))))
 
   -- a filter on what an expression gives
-  pub filter_both : {m : Memory} {h : Got Tree} (x : Text) (ts : Exprs) (ps : written.Pairs) (sp : Spot) (env : Env) (e : SExpr Constant) → Good world order sp q env m → AllAmong (row_names ts) (ns sp) → AllAmong (pair_names ps) (ns sp) → Same sp m h e
+  pub filter_both : {m : Memory} {h : Got Tree} (x : Text) (ts : Exprs) (ps : written.Pairs) (sp : Spot) (env : Env) (e : SlotExpr Constant) → Good world order sp q env m → AllAmong (row_names ts) (ns sp) → AllAmong (pair_names ps) (ns sp) → Same sp m h e
       → Same sp m (filtered fs (fs.named x ts ps) sp.escaping (bind h (λ v. bind (values world calls ts (around_of world order sp l q) env) (λ vs. bind (named_values world calls ps (around_of world order sp l q) env) (λ ks.
       gives (v ∷ arguments (filter_parameters fs (fs.named x ts ps)) vs (keywords ps) ks))))))
       (filtered_by (fs.named x ts ps) sp.escaping (slots.item e (resolved_row world order ts sp (resolved_asides world order ps sp (filled_some (filter_parameters fs (fs.named x ts ps)) (count ts) (keywords ps) (locals_from sp.free (keywords ps)))))))

@@ -13,7 +13,7 @@ use Rattle.jt_meaning.specs.Meaning.{is_set}
 use Rattle.jt_chains.specs.Uses.{set_in}
 use Rattle.jt_meaning.specs.Layout.{first_slot, names, block_parameters, counted_from, numbered_bodies, shared, defaults_of}
 use Rattle.jt_resolved.specs.Slots as slots
-use Rattle.jt_resolved.specs.Slots.{SExpr, SRow, SStmt, SBody, Routine}
+use Rattle.jt_resolved.specs.Slots.{SlotExpr, SRow, SlotStmt, SBody, Routine}
 use Rattle.jt_resolved.specs.Pool.{Constant, expr_values, condition_values, stmt_values, body_values, routines_values, placed_expr, placed_row, placed_condition, placed_stmt, placed_body, placed_routines}
 use Rattle.jt_meaning.specs.Resolve.{followed, Part, Spot, bound_table, bound_all, scoped, resolved_stmt, resolved_body, resolved_sets, top_spot, resolved_chain, macro_routine}
 use Rattle.jt_meaning.specs.Programs.{body_routines, entry_routines, chain_routines, routines, count_globals, program}
@@ -174,7 +174,7 @@ module _ (world : World) (order : List Home) (h : Home) where
 -- ---- places in the pool change no size and no height
 
 mutual
-  expr_placed : (e : SExpr Constant) (n : ℕ) → (expr_size (placed_expr e n) ≡ expr_size e) × (expr_height (placed_expr e n) ≡ expr_height e)
+  expr_placed : (e : SlotExpr Constant) (n : ℕ) → (expr_size (placed_expr e n) ≡ expr_size e) × (expr_height (placed_expr e n) ≡ expr_height e)
   expr_placed (slots.pooled c) n = (refl, refl)
   expr_placed (slots.variable s) n = (refl, refl)
   expr_placed (slots.field f) n = (refl, refl)
@@ -192,12 +192,12 @@ mutual
   row_placed (slots.item e es) n = let a = expr_placed e n in let b = row_placed es (n + length (expr_values e)) in (omega (arith, a.0, b.0), omega (arith, a.1, b.1))
   row_placed (slots.aside i e es) n = let a = expr_placed e n in let b = row_placed es (n + length (expr_values e)) in (omega (arith, a.0, b.0), omega (arith, a.1, b.1))
 
-condition_placed : (xs : slots.Targets) (c : Option (SExpr Constant)) (n : ℕ) → (condition_size xs (placed_condition c n) ≡ condition_size xs c) × (condition_height (placed_condition c n) ≡ condition_height c)
+condition_placed : (xs : slots.Targets) (c : Option (SlotExpr Constant)) (n : ℕ) → (condition_size xs (placed_condition c n) ≡ condition_size xs c) × (condition_height (placed_condition c n) ≡ condition_height c)
 condition_placed xs None n = (refl, refl)
 condition_placed xs (Some c) n = let a = expr_placed c n in (omega (arith, a.0), a.1)
 
 mutual
-  stmt_placed : (s : SStmt Constant) (n : ℕ) → (stmt_size (placed_stmt s n) ≡ stmt_size s) × (stmt_height (placed_stmt s n) ≡ stmt_height s)
+  stmt_placed : (s : SlotStmt Constant) (n : ℕ) → (stmt_size (placed_stmt s n) ≡ stmt_size s) × (stmt_height (placed_stmt s n) ≡ stmt_height s)
   stmt_placed (slots.put_pooled c) n = (refl, refl)
   stmt_placed (slots.print p on e) n = let a = expr_placed e n in (omega (arith, a.0), a.1)
   stmt_placed (slots.assign p xs e) n = let a = expr_placed e n in (omega (arith, a.0), omega (arith, a.1))

@@ -23,47 +23,47 @@ use Rattle.jt_meaning.specs.Expressions.{filter_parameters}
 use Rattle.jt_meaning.specs.Meaning.{is_set}
 use Rattle.jt_meaning.specs.Layout.{Table, slot_in, of_chain, of_macro, of_body, names, numbered_of, first_slot, globals, block_parameters, unit, default_place}
 use Rattle.jt_resolved.specs.Slots as slots
-use Rattle.jt_resolved.specs.Slots.{Slot, local, global, SExpr, pooled, variable, field, absent, made, invoke, operator, a_list, a_map, SRow, none, aside, Targets, one, several, SStmt, put_pooled, assign, if_else, capture, run, SBody, Routine}
+use Rattle.jt_resolved.specs.Slots.{Slot, local, global, SlotExpr, pooled, variable, field, absent, made, invoke, operator, a_list, a_map, SRow, none, aside, Targets, one, several, SlotStmt, put_pooled, assign, if_else, capture, run, SBody, Routine}
 use Rattle.jt_resolved.specs.Locals.{body_locals}
 use Rattle.jt_resolved.specs.Pool.{Constant, own, known}
 
 -- ---- parts
 
-abbrev pub no_value : SExpr Constant
+abbrev pub no_value : SlotExpr Constant
 no_value = pooled (known 0)
 
-abbrev pub value_or : Option Slot → Constant → SExpr Constant
+abbrev pub value_or : Option Slot → Constant → SlotExpr Constant
 value_or None k = pooled k
 value_or (Some s) k = variable s
 
 -- a name that has no slot is undefined
-abbrev pub read_from : Option Slot → SExpr Constant
+abbrev pub read_from : Option Slot → SlotExpr Constant
 read_from s = value_or s (known 0)
 
 -- an operation on two operands
-abbrev pub operation_of : OpId → SExpr Constant → SExpr Constant → SExpr Constant
+abbrev pub operation_of : OpId → SlotExpr Constant → SlotExpr Constant → SlotExpr Constant
 operation_of o a b = made (operator o) (slots.item a (slots.item b none))
 
-abbrev pub turned_round : Bool → SExpr Constant → SExpr Constant
+abbrev pub turned_round : Bool → SlotExpr Constant → SlotExpr Constant
 turned_round false e = e
 turned_round true e = made (operator op.Not) (slots.item e none)
 
 -- an unknown test, filter or field is absent; the parser and the rules know each
-abbrev pub tested_by : Option TestId → SRow Constant → SExpr Constant
+abbrev pub tested_by : Option TestId → SRow Constant → SlotExpr Constant
 tested_by None es = absent
 tested_by (Some t) es = made (slots.test t) es
 
-abbrev pub filtered_by : Option ℕ → Bool → SRow Constant → SExpr Constant
+abbrev pub filtered_by : Option ℕ → Bool → SRow Constant → SlotExpr Constant
 filtered_by None escaping es = absent
 filtered_by (Some f) escaping es = made (slots.filter f escaping) es
 
-abbrev pub in_form : Form → SExpr Constant → SExpr Constant → SExpr Constant
+abbrev pub in_form : Form → SlotExpr Constant → SlotExpr Constant → SlotExpr Constant
 in_form (operation o) a b = operation_of o a b
 in_form (negation o) a b = turned_round true (operation_of o a b)
 in_form conjunction a b = slots.conjunction a b
 in_form disjunction a b = slots.disjunction a b
 
-abbrev pub field_from : Option Field → SExpr Constant
+abbrev pub field_from : Option Field → SlotExpr Constant
 field_from None = absent
 field_from (Some f) = field f
 
@@ -71,7 +71,7 @@ abbrev pub followed : SBody Constant → SBody Constant → SBody Constant
 followed slots.end b = b
 followed (slots.stmt s rest) b = slots.stmt s (followed rest b)
 
-abbrev pub alone : SStmt Constant → SBody Constant
+abbrev pub alone : SlotStmt Constant → SBody Constant
 alone s = slots.stmt s slots.end
 
 -- names in locals from one on
@@ -188,17 +188,17 @@ module _ (world : World) (order : List Home) where
   -- ---- calls
 
   -- a body as a value; absent where there is none: the rules see to it that there is one
-  abbrev pub invoked_body : Home → Bool → Option ℕ → SRow Constant → SExpr Constant
+  abbrev pub invoked_body : Home → Bool → Option ℕ → SRow Constant → SlotExpr Constant
   invoked_body h escaping None es = absent
   invoked_body h escaping (Some i) es = invoke (unit world order (of_body h i)) escaping es
 
   -- the next body in the same scope: its parameters are handed on; outside a block it is absent: the rules refuse it
-  abbrev pub invoked_super : Spot → Option Part → SExpr Constant
+  abbrev pub invoked_super : Spot → Option Part → SlotExpr Constant
   invoked_super sp None = absent
   invoked_super sp (Some p) = invoked_body sp.home sp.escaping (next_given p.behind) (first_locals 0 (block_parameters world order sp.home p.name))
 
   -- a call, by its arguments in front of a row, how many are given by place, and the locals that hold those given by name
-  abbrev pub invoked : Callee → Spot → (SRow Constant → SRow Constant) → (SRow Constant → SRow Constant) → ℕ → Table → SExpr Constant
+  abbrev pub invoked : Callee → Spot → (SRow Constant → SRow Constant) → (SRow Constant → SRow Constant) → ℕ → Table → SlotExpr Constant
   invoked (a_macro h m) sp row asides n ks =
       invoke (unit world order (of_macro h m.name)) sp.escaping (row (asides (filled m.parameters n (default_place world order h m.name) ks)))
   invoked a_range sp row asides n ks = made (operator (range_of n)) (row none)
@@ -212,7 +212,7 @@ module _ (world : World) (order : List Home) where
   -- ---- expressions: what is given by name goes into locals behind those that hold something
 
   abbrev mutual
-    pub resolved : Expr → Spot → SExpr Constant
+    pub resolved : Expr → Spot → SlotExpr Constant
     resolved (constant l) sp = pooled (own (literal l))
     resolved (name x) sp = read_from (slot_in x sp.table)
     resolved (group a) sp = resolved a sp
@@ -244,12 +244,12 @@ module _ (world : World) (order : List Home) where
     resolved_entries no_pairs sp = none
     resolved_entries (pair k a ps) sp = slots.item (pooled (own (tree.text k))) (slots.item (resolved a sp) (resolved_entries ps sp))
 
-  abbrev pub resolved_condition : Option Expr → Spot → Option (SExpr Constant)
+  abbrev pub resolved_condition : Option Expr → Spot → Option (SlotExpr Constant)
   resolved_condition None sp = None
   resolved_condition (Some c) sp = Some (resolved c sp)
 
   -- an expression put through each filter
-  abbrev pub resolved_filters : List Filtering → Spot → SExpr Constant → SExpr Constant
+  abbrev pub resolved_filters : List Filtering → Spot → SlotExpr Constant → SlotExpr Constant
   resolved_filters [] sp e = e
   resolved_filters (f ∷ fs) sp e =
       resolved_filters fs sp (filtered_by (world.filters.named f.name f.arguments f.keywords) sp.escaping (slots.item e (resolved_row f.arguments sp (resolved_asides f.keywords sp

@@ -2,8 +2,8 @@
 use Rattle.std.specs.Prelude.{ℕ, List}
 use Rattle.jt_value.specs.Tree.{Tree, text, markup}
 use Rattle.jt_escape.specs.Escaping.{escaped}
-use Rattle.jt_ops.specs.declared.text.Kind.{Kind}
-use Rattle.jt_ops.specs.declared.text.Kind.TheVariants as kind
+use Rattle.jt_ops.specs.declared.text.TextKind.{TextKind}
+use Rattle.jt_ops.specs.declared.text.TextKind.TheVariants as kind
 use Rattle.jt_ops.specs.declared.text.Piece.{Piece}
 use Rattle.jt_ops.specs.declared.text.Piece.TheVariants as piece
 
@@ -13,6 +13,6 @@ written (piece.Raw t) = t.now
 written (piece.Escaped t) = escaped t.now
 
 -- the value of a text
-abbrev pub of_kind : Kind → List ℕ → Tree
+abbrev pub of_kind : TextKind → List ℕ → Tree
 of_kind kind.Plain bytes = text bytes
 of_kind kind.Markup bytes = markup bytes

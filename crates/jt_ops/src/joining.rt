@@ -9,7 +9,7 @@ ghost use Rattle.jt_ops.specs.Limited.{limited_by, Answers};
 use crate::arithmetic::{product, sum};
 use crate::limits::{Limits, OpError, allow, made, number_within};
 use crate::operands::misfit;
-use crate::text::{Kind, Piece, concatenated, repeated};
+use crate::text::{Piece, TextKind, concatenated, repeated};
 use itoa::Buffer;
 use jt_value::{NoMemory, Value, ValueList};
 use std::alloc::Global;
@@ -27,14 +27,20 @@ pub(crate) fn add(
     match (left, right) {
         (Value::Int(x), Value::Int(y)) => number_within(sum(*x, *y), limits),
         (Value::Text(s), Value::Text(t)) => {
-            concatenated(alloc, &Piece::Raw(s), &Piece::Raw(t), Kind::Plain, limits)
+            concatenated(
+                alloc,
+                &Piece::Raw(s),
+                &Piece::Raw(t),
+                TextKind::Plain,
+                limits,
+            )
         }
         (Value::Text(s), Value::Markup(t)) => {
             concatenated(
                 alloc,
                 &Piece::Escaped(s),
                 &Piece::Raw(t),
-                Kind::Markup,
+                TextKind::Markup,
                 limits,
             )
         }
@@ -43,12 +49,18 @@ pub(crate) fn add(
                 alloc,
                 &Piece::Raw(s),
                 &Piece::Escaped(t),
-                Kind::Markup,
+                TextKind::Markup,
                 limits,
             )
         }
         (Value::Markup(s), Value::Markup(t)) => {
-            concatenated(alloc, &Piece::Raw(s), &Piece::Raw(t), Kind::Markup, limits)
+            concatenated(
+                alloc,
+                &Piece::Raw(s),
+                &Piece::Raw(t),
+                TextKind::Markup,
+                limits,
+            )
         }
         (Value::List(list), Value::List(more)) => joined_lists(alloc, list, more, limits),
         _ => Err(misfit(left, right).into()),
@@ -66,8 +78,8 @@ pub(crate) fn multiply(
 {
     match (left, right) {
         (Value::Int(x), Value::Int(y)) => number_within(product(*x, *y), limits),
-        (Value::Text(s), Value::Int(n)) => repeated(alloc, s, *n, Kind::Plain, limits),
-        (Value::Markup(s), Value::Int(n)) => repeated(alloc, s, *n, Kind::Markup, limits),
+        (Value::Text(s), Value::Int(n)) => repeated(alloc, s, *n, TextKind::Plain, limits),
+        (Value::Markup(s), Value::Int(n)) => repeated(alloc, s, *n, TextKind::Markup, limits),
         _ => Err(misfit(left, right).into()),
     }
 }
@@ -85,7 +97,7 @@ pub(crate) fn join(
     let mut right_buffer = Buffer::new();
     let left = Piece::Raw(left.shown(&mut left_buffer)?);
     let right = Piece::Raw(right.shown(&mut right_buffer)?);
-    concatenated(alloc, &left, &right, Kind::Plain, limits)
+    concatenated(alloc, &left, &right, TextKind::Plain, limits)
 }
 
 /// Operator `~`, escaping.
@@ -100,17 +112,23 @@ pub(crate) fn join_escaping(
 {
     match (left, right) {
         (Value::Markup(s), Value::Markup(t)) => {
-            concatenated(alloc, &Piece::Raw(s), &Piece::Raw(t), Kind::Markup, limits)
+            concatenated(
+                alloc,
+                &Piece::Raw(s),
+                &Piece::Raw(t),
+                TextKind::Markup,
+                limits,
+            )
         }
         (Value::Markup(s), _) => {
             let mut buffer = Buffer::new();
             let right = Piece::Escaped(right.shown(&mut buffer)?);
-            concatenated(alloc, &Piece::Raw(s), &right, Kind::Markup, limits)
+            concatenated(alloc, &Piece::Raw(s), &right, TextKind::Markup, limits)
         }
         (_, Value::Markup(t)) => {
             let mut buffer = Buffer::new();
             let left = Piece::Escaped(left.shown(&mut buffer)?);
-            concatenated(alloc, &left, &Piece::Raw(t), Kind::Markup, limits)
+            concatenated(alloc, &left, &Piece::Raw(t), TextKind::Markup, limits)
         }
         _ => join(alloc, left, right, limits),
     }

@@ -25,4 +25,4 @@ pub use limits::{Limits, OpError, allow, copy_within, within};
 pub use operators::{binary, binary_owned, unary};
 pub use ranges::range;
 pub use testing::{test, test_of, test_of_text};
-pub use text::{Kind, Piece};
+pub use text::{Piece, TextKind};

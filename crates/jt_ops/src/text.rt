@@ -14,19 +14,19 @@ use std::alloc::Global;
 
 /// Whether a text is plain or markup.
 #[derive(Clone, Copy)]
-pub enum Kind {
+pub enum TextKind {
     Plain,
     Markup,
 }
 
-impl Kind {
+impl TextKind {
     /// The value of a text.
     pub fn value(self, text: String) -> Result<Value, NoMemory>
         ensures { IfOk result (λ v. view v ≡ of_kind self (string_bytes text)) }
     {
         match self {
-            Kind::Plain => Value::from_text(text),
-            Kind::Markup => Value::from_markup(text),
+            TextKind::Plain => Value::from_text(text),
+            TextKind::Markup => Value::from_markup(text),
         }
     }
 }
@@ -91,7 +91,7 @@ pub(crate) fn concatenated(
     alloc: Global,
     left: &Piece<'_>,
     right: &Piece<'_>,
-    kind: Kind,
+    kind: TextKind,
     limits: Limits,
 ) -> Result<Value, OpError>
     ensures { let text = written left.now ++ written right.now in
@@ -107,7 +107,7 @@ fn text_of_two(
     alloc: Global,
     left: &Piece<'_>,
     right: &Piece<'_>,
-    kind: Kind,
+    kind: TextKind,
     room: usize,
 ) -> Result<Value, NoMemory>
     ensures { IfOk result (λ v. view v ≡ of_kind kind (written left.now ++ written right.now)) }
@@ -124,7 +124,7 @@ pub(crate) fn repeated(
     alloc: Global,
     text: &str,
     number: i64,
-    kind: Kind,
+    kind: TextKind,
     limits: Limits,
 ) -> Result<Value, OpError>
     ensures { Answers result
@@ -155,7 +155,7 @@ fn repetition(
     alloc: Global,
     text: &str,
     count: u64,
-    kind: Kind,
+    kind: TextKind,
     room: usize,
 ) -> Result<Value, NoMemory>
     ensures { IfOk result (λ v. view v ≡ of_kind kind (repeat count text.now)) }

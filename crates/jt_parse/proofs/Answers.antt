@@ -13,19 +13,19 @@ use Rattle.jt_expr.specs.Promises.{ExpressionLaws}
 use Rattle.jt_parse.proofs.Weighs.{weighs_less}
 use Rattle.jt_parse.proofs.Short.{no_longer}
 use Rattle.jt_parse.specs.Names.{body_unknown}
-use Rattle.jt_parse.specs.Places.{is_placed}
+use Rattle.jt_parse.specs.Positions.{is_placed}
 use Rattle.jt_parse.specs.Grammar.{Spelled}
 use Rattle.jt_parse.specs.Reading.{Fault, Parsed}
 use Rattle.jt_trees.specs.StatementView.{body_of}
 use Rattle.jt_parse.specs.View.{reads_of}
-use Rattle.jt_parse.specs.Gives.{GivesBody, GivesNames, GivesPlaces, IsNone, not_read, misplaced, GivesKnown, Finds}
+use Rattle.jt_parse.specs.Gives.{GivesBody, GivesNames, GivesPositions, IsNone, not_read, misplaced, GivesKnown, Finds}
 use Rattle.jt_parse.specs.Refusals.{HoldsUnknown, IsRefusal}
 use Rattle.jt_parse.specs.declared.error.ParseError.{ParseError}
 use Rattle.jt_parse.specs.declared.error.ParseError.TheVariants as e
 use Rattle.jt_trees.specs.declared.statement.Template.{Template}
 use Rattle.jt_parse.proofs.Exact.{exact, is_read, syntax_only, deep_only}
 
--- ---- what is read, its places, and its names
+-- ---- what is read, its positions, and its names
 
 pub refused_read : (O : Result Body Fault → Type 0) (f : ParseError) → GivesBody O (Err f) → GivesKnown O (Err f)
 refused_read O (e.Syntax l) g = not_read g
@@ -37,7 +37,7 @@ refused_read O e.NoMemory g = tt
 pub known_body : (O : Result Body Fault → Type 0) (b : Body) (t : Template) → body_of t ≡ b → O (Ok b) → is_placed b ≡ true → body_unknown b ≡ None → GivesKnown O (Ok t)
 known_body O b t e is p k = subst (λ z. O (Ok z) × (is_placed z ≡ true) × (body_unknown z ≡ None)) (sym e) (is, p, k)
 
-pub found_misplaced : (O : Result Body Fault → Type 0) (b : Body) (f : ParseError) → O (Ok b) → GivesPlaces (is_placed b) (Err f) → GivesKnown O (Err f)
+pub found_misplaced : (O : Result Body Fault → Type 0) (b : Body) (f : ParseError) → O (Ok b) → GivesPositions (is_placed b) (Err f) → GivesKnown O (Err f)
 found_misplaced O b (e.Syntax l) is g = misplaced (b, is, g)
 found_misplaced O b (e.TooDeep l) is g = absurd g
 found_misplaced O b (e.UnknownFilter l) is g = absurd g

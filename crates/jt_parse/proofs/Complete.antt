@@ -9,7 +9,7 @@ use Rattle.jt_trees.specs.Statements.{Stmt, data_of, print, choose, Body, end, s
 use Rattle.jt_parse.specs.Kept.{Piece}
 use Rattle.jt_parse.specs.Tags.{Loop, Opening, a_text, values, filters, escaping, a_macro, a_block, Head, made, looped, Says, says_if, says_for, says_set, says_text, says_with, says_filter, says_autoescape, says_macro, says_include, says_import, says_from, says_extends, says_block, Ends, by_word, by_name, opening_levels, loop_levels, head_levels}
 use Rattle.jt_parse.specs.Grammar.{block, Forms, nothing_more, some_data, a_print, one_tag, an_if_statement, a_for_statement, enclosed, GoesOn, no_elif, an_elif, Otherwise, no_else, an_else}
-use Rattle.jt_parse.specs.Reading.{then_all, then_one, then_branches, then_branch, Frame, in_branch, in_else, in_loop, in_loop_else, in_opening, Fault, State, state, start, headed, After, Steps, Runs, ended, role, HeadTag, else_tag, end_tag}
+use Rattle.jt_parse.specs.Reading.{then_all, then_one, then_branches, then_branch, OpenStmt, in_branch, in_else, in_loop, in_loop_else, in_opening, Fault, State, state, start, headed, After, Steps, Runs, ended, role, HeadTag, else_tag, end_tag}
 use Rattle.jt_parse.proofs.Bodies.{all_end, all_all, branches_all}
 use Rattle.jt_parse.proofs.Levels.{Within, fits, chained, mapped, only_step, reads_on}
 
@@ -33,19 +33,19 @@ head_word (says_block scoped required h) n st s r = (codes "block", _, refl, r)
 
 -- the first tag of a statement is read
 head_reads : {line : ℕ} {h : Head} {x : List Token} → Says line h x → (n : ℕ) (st : State) (ps : List Piece) (o : Result State Fault)
-    → Runs n st (block line x ∷ ps) o → Within (length st.frames + head_levels h) n (Runs n (headed line h st) ps) o
+    → Runs n st (block line x ∷ ps) o → Within (length st.open_stmts + head_levels h) n (Runs n (headed line h st) ps) o
 head_reads {line} {h} {x} d n st ps o r =
-    reads_on {Form = λ g. Says line g x} {height = λ g. length st.frames + head_levels g} {next = λ g. headed line g st} h d
+    reads_on {Form = λ g. Says line g x} {height = λ g. length st.open_stmts + head_levels g} {next = λ g. headed line g st} h d
     (λ s t. let q = head_word d n st s t in by s q.0 q.1 q.2 q.3) r
   where
-    by : (s : Result State Fault) (w : List ℕ) (ts : List Token) → x ≡ word w ∷ ts → HeadTag n line w ts st s → After (λ g. Says line g x) (λ g. length st.frames + head_levels g) n (λ g. headed line g st) s
-    by s w ts e t = subst (λ z. After (λ g. Says line g z) (λ g. length st.frames + head_levels g) n (λ g. headed line g st) s) (sym e) t
+    by : (s : Result State Fault) (w : List ℕ) (ts : List Token) → x ≡ word w ∷ ts → HeadTag n line w ts st s → After (λ g. Says line g x) (λ g. length st.open_stmts + head_levels g) n (λ g. headed line g st) s
+    by s w ts e t = subst (λ z. After (λ g. Says line g z) (λ g. length st.open_stmts + head_levels g) n (λ g. headed line g st) s) (sym e) t
 
 same_bytes : (x : List ℕ) → bytes_eq x x ≡ true
 same_bytes x = (bytes_eq-Decides x x).1 refl
 
 -- the tag that ends a statement is read
-end_step : {o : Opening} {us : List Token} → Ends o us → (n last : ℕ) (a inside : Body) (line : ℕ) (fs : List Frame) (s : Result State Fault)
+end_step : {o : Opening} {us : List Token} → Ends o us → (n last : ℕ) (a inside : Body) (line : ℕ) (fs : List OpenStmt) (s : Result State Fault)
     → Steps n (state inside (in_opening a line o ∷ fs)) (block last us) s → s ≡ Ok (state (then_one a (made line o inside)) fs)
 unfolding role end_tag
 end_step (by_word (a_text x)) n last a inside line fs s r = r
@@ -88,7 +88,7 @@ joined xs ys ps rest c = append_assoc xs (ys ++ (c ∷ ps)) rest ∙ ap (λ z. x
 mutual
   unfolding role else_tag end_tag
 
-  pub forms_are_read : {b : Body} {x : List Piece} → Forms b x → (n : ℕ) (a : Body) (fs : List Frame) (rest : List Piece) (o : Result State Fault) → length fs ≤ n
+  pub forms_are_read : {b : Body} {x : List Piece} → Forms b x → (n : ℕ) (a : Body) (fs : List OpenStmt) (rest : List Piece) (o : Result State Fault) → length fs ≤ n
       → Runs n (state a fs) (x ++ rest) o → Within (length fs + body_levels b) n (Runs n (state (then_all a b) fs) rest) o
   forms_are_read nothing_more n a fs rest o h r = fits (omega (arith, h)) (subst (λ c. Runs n (state c fs) rest o) (sym (all_end a)) r)
   forms_are_read (some_data {body} {d} f) n a fs rest o h r =
@@ -110,7 +110,7 @@ mutual
   forms_are_read (an_if_statement {body} {inside} {other} {bs} {line} {c} {ts} {xs} {ys} {ps} last d i g f) n a fs rest o h r =
       let s : Stmt = choose (branch line c inside bs) other in
       let closing : Piece = block last (word (codes "endif") ∷ []) in
-      let fr : Frame = in_branch a no_branches line c in
+      let fr : OpenStmt = in_branch a no_branches line c in
       let m2 : ℕ = suc (length fs) + body_levels inside in
       let m3 : ℕ = suc (length fs) + max (branch_levels bs) (body_levels other) in
       let m4 : ℕ = length fs + body_levels body in
@@ -127,7 +127,7 @@ mutual
   forms_are_read (a_for_statement {body} {inside} {other} {line} {l} {ts} {xs} {ys} {ps} last d i e f) n a fs rest o h r =
       let s : Stmt = looped line l inside other in
       let closing : Piece = block last (word (codes "endfor") ∷ []) in
-      let fr : Frame = in_loop a line l in
+      let fr : OpenStmt = in_loop a line l in
       let m2 : ℕ = suc (length fs) + body_levels inside in
       let m3 : ℕ = suc (length fs) + body_levels other in
       let m4 : ℕ = length fs + body_levels body in
@@ -144,7 +144,7 @@ mutual
   forms_are_read (enclosed {body} {inside} {line} {o = p} {ts} {us} {xs} {ps} last d i e f) n a fs rest o h r =
       let s : Stmt = made line p inside in
       let closing : Piece = block last us in
-      let fr : Frame = in_opening a line p in
+      let fr : OpenStmt = in_opening a line p in
       let m2 : ℕ = suc (length fs) + body_levels inside in
       let m4 : ℕ = length fs + body_levels body in
       chained (length fs + suc (opening_levels p)) (max m2 m4) (length fs + body_levels (stmt s body)) n
@@ -157,7 +157,7 @@ mutual
       (λ q. subst (λ b. Runs n (state b fs) rest o) (all_all a (stmt s end) body) q)))
 
   loop_is_read : {other : Body} {ys : List Piece} → Otherwise other ys
-      → (n : ℕ) (a : Body) (line : ℕ) (l : Loop) (inside : Body) (fs : List Frame) (last : ℕ) (rest : List Piece) (o : Result State Fault) → suc (length fs) ≤ n
+      → (n : ℕ) (a : Body) (line : ℕ) (l : Loop) (inside : Body) (fs : List OpenStmt) (last : ℕ) (rest : List Piece) (o : Result State Fault) → suc (length fs) ≤ n
       → Runs n (state inside (in_loop a line l ∷ fs)) (ys ++ (block last (word (codes "endfor") ∷ []) ∷ rest)) o
       → Within (suc (length fs) + body_levels other) n (Runs n (state (then_one a (looped line l inside other)) fs) rest) o
   loop_is_read no_else n a line l inside fs last rest o h r = fits (omega (arith, h)) (only_step (λ q t. t) r)
@@ -168,7 +168,7 @@ mutual
       (λ q. only_step (λ y t. t) q)
 
   rest_is_read : {bs : Branches} {other : Body} {ys : List Piece} → GoesOn bs other ys
-      → (n : ℕ) (a : Body) (done : Branches) (line : ℕ) (c : Expr) (inside : Body) (fs : List Frame) (last : ℕ) (rest : List Piece) (o : Result State Fault) → suc (length fs) ≤ n
+      → (n : ℕ) (a : Body) (done : Branches) (line : ℕ) (c : Expr) (inside : Body) (fs : List OpenStmt) (last : ℕ) (rest : List Piece) (o : Result State Fault) → suc (length fs) ≤ n
       → Runs n (state inside (in_branch a done line c ∷ fs)) (ys ++ (block last (word (codes "endif") ∷ []) ∷ rest)) o
       → Within (suc (length fs) + max (branch_levels bs) (body_levels other)) n
       (Runs n (state (then_one a (choose (then_branches done (branch line c inside bs)) other)) fs) rest) o
@@ -181,7 +181,7 @@ mutual
   rest_is_read (an_elif {inside = b} {other} {bs} {line = l} {c = e} {ts} {xs} {ys} d i g) n a done line c inside fs last rest o h r =
       let tail : List Piece = block last (word (codes "endif") ∷ []) ∷ rest in
       let before : Branches = then_branch done line c inside in
-      let fr : Frame = in_branch a before l e in
+      let fr : OpenStmt = in_branch a before l e in
       let m2 : ℕ = suc (length fs) + body_levels b in
       let m3 : ℕ = suc (length fs) + max (branch_levels bs) (body_levels other) in
       chained (suc (length fs) + levels e) (max m2 m3) (suc (length fs) + max (branch_levels (branch l e b bs)) (body_levels other)) n

@@ -42,7 +42,7 @@ syntax_only n b ps (stopped r) f = by (read_whole n (Err syntax) f r)
 syntax_only n b ps (left_open {b = c} {f = g} {fs} r) f = by (read_whole n (Ok (state c (g ∷ fs))) f r)
   where
     by : Within (body_levels b) n (λ z. z ≡ Ok (state b [])) (Ok (state c (g ∷ fs))) → ⊥
-    by (fits le e) = let p : state c (g ∷ fs) ≡ state b [] = cc in let q = ap (λ (s : State). s.frames) p in absurd (cc)
+    by (fits le e) = let p : state c (g ∷ fs) ≡ state b [] = cc in let q = ap (λ (s : State). s.open_stmts) p in absurd (cc)
     by (beyond gt e) = different deep (state c (g ∷ fs)) e
 
 -- each tree that is spelled so is too deep

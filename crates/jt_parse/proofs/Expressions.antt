@@ -5,7 +5,7 @@ use Rattle.jt_scan.specs.Cut.{Token}
 use Rattle.jt_trees.specs.Expressions.{Expr, levels}
 use Rattle.jt_parse.specs.Tags.{Head, Says, says_if, says_for, says_set, says_text, says_with, says_filter, says_autoescape, says_macro, says_include, says_import, says_from, says_extends, says_block, head_levels}
 use Rattle.jt_trees.specs.Statements.{Body, end, Branches}
-use Rattle.jt_parse.specs.Reading.{Frame, in_branch, then_branch, State, state, After, ElifTag}
+use Rattle.jt_parse.specs.Reading.{OpenStmt, in_branch, then_branch, State, state, After, ElifTag}
 use Rattle.jt_parse.specs.Gives.{GivesOnly, Refuses}
 use Rattle.jt_expr.specs.Grammar.{Tokens, word, Spells, whole}
 use Rattle.jt_expr.specs.Promises.{Leads}
@@ -69,22 +69,22 @@ fitting around limit n l all le = omega (arith, all, le)
 
 -- ---- {% elif c %}
 
-module _ (n line : ℕ) (ts : List Token) (body before : Body) (done : Branches) (l : ℕ) (c : Expr) (frames fs : List Frame) (is : frames ≡ in_branch before done l c ∷ fs) (outer : ℕ) (same : outer ≡ length fs) where
+module _ (n line : ℕ) (ts : List Token) (body before : Body) (done : Branches) (l : ℕ) (c : Expr) (open_stmts fs : List OpenStmt) (is : open_stmts ≡ in_branch before done l c ∷ fs) (outer : ℕ) (same : outer ≡ length fs) where
   abbrev Next : Expr → State
   Next e = state end (in_branch before (then_branch done l c body) line e ∷ fs)
 
-  pub elif_over : (x : ParseError) (k : ℕ) → x ≡ e.TooDeep k → nat_lt outer n ≡ false → Refuses (ElifTag n line ts body frames) x
+  pub elif_over : (x : ParseError) (k : ℕ) → x ≡ e.TooDeep k → nat_lt outer n ≡ false → Refuses (ElifTag n line ts body open_stmts) x
   elif_over x k deep h =
       subst (λ z. Refuses (ElifTag n line ts body z) x) (sym is)
       (no_room (λ c. Spells whole c ts) (λ c. suc (length fs) + levels c) n Next k x deep (λ b d. expression_over outer (length fs) n (levels b) h same))
 
-  pub elif_refused : (x : ParseError) (limit : ℕ) → nat_lt outer n ≡ true → limit ≡ n - suc outer → GivesOnly expr_view (λ c. Spells whole c ts) levels limit (Err x) → Refuses (ElifTag n line ts body frames) x
+  pub elif_refused : (x : ParseError) (limit : ℕ) → nat_lt outer n ≡ true → limit ≡ n - suc outer → GivesOnly expr_view (λ c. Spells whole c ts) levels limit (Err x) → Refuses (ElifTag n line ts body open_stmts) x
   elif_refused x limit h left g =
       subst (λ z. Refuses (ElifTag n line ts body z) x) (sym is)
       (after_refused expr_view (λ c. Spells whole c ts) levels (suc (length fs)) limit n Next (one_left outer (length fs) n limit h same left) x g)
 
   pub elif_ok : (a : Tree) (st : State) (limit : ℕ) → nat_lt outer n ≡ true → limit ≡ n - suc outer → GivesOnly expr_view (λ c. Spells whole c ts) levels limit (Ok a) → st ≡ Next (expr_view a)
-      → ElifTag n line ts body frames (Ok st)
+      → ElifTag n line ts body open_stmts (Ok st)
   elif_ok a st limit h left g to =
       subst (λ z. ElifTag n line ts body z (Ok st)) (sym is)
       (after_ok expr_view (λ c. Spells whole c ts) levels (suc (length fs)) limit n Next (one_left outer (length fs) n limit h same left) a st g to)

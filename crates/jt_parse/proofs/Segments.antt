@@ -6,7 +6,7 @@ use Rattle.jt_scan.specs.declared.segment.Segment.{Segment}
 use Rattle.jt_trees.specs.Statements.{Body}
 use Rattle.jt_parse.specs.Kept.{Side, nothing, side_ahead, side_behind, with_segment, pieces_from}
 use Rattle.jt_parse.specs.View.{reads_of}
-use Rattle.jt_parse.specs.Reading.{Fault, syntax, Frame, State, state, Runs, ended, start, Parsed, whole, left_open}
+use Rattle.jt_parse.specs.Reading.{Fault, syntax, OpenStmt, State, state, Runs, ended, start, Parsed, whole, left_open}
 use Rattle.jt_parse.specs.Gives.{Refuses}
 use Rattle.jt_parse.specs.declared.error.ParseError.{ParseError}
 use Rattle.jt_parse.proofs.Steps.{read_on, read_refused}
@@ -34,13 +34,13 @@ module _ (n : ℕ) (st : State) (left right : Side) (all rest : List Segment) (s
   segment_refused x q = read_refused n st left right (s.options, segment_view s) (reads_of (behind_first rest)) (reads_of all) x from_first ahead q
 
 -- no segment is left
-module _ (n : ℕ) (b : Body) (frames : List Frame) (left : Side) (all : List Segment) where
-  all_read : (rest : List Segment) → length rest < 1 → Leads n (state b frames) left rest all → Runs n start (pieces_from nothing (reads_of all)) (Ok (state b frames))
-  all_read [] h inv = inv (Ok (state b frames)) ended
+module _ (n : ℕ) (b : Body) (open_stmts : List OpenStmt) (left : Side) (all : List Segment) where
+  all_read : (rest : List Segment) → length rest < 1 → Leads n (state b open_stmts) left rest all → Runs n start (pieces_from nothing (reads_of all)) (Ok (state b open_stmts))
+  all_read [] h inv = inv (Ok (state b open_stmts)) ended
   all_read (s ∷ rest) h inv = absurd (omega (arith, h))
 
-  pub closed_all : (rest : List Segment) → length rest < 1 → Leads n (state b frames) left rest all → frames ≡ [] → Parsed n (pieces_from nothing (reads_of all)) (Ok b)
+  pub closed_all : (rest : List Segment) → length rest < 1 → Leads n (state b open_stmts) left rest all → open_stmts ≡ [] → Parsed n (pieces_from nothing (reads_of all)) (Ok b)
   closed_all rest h inv e = whole (subst (λ z. Runs n start (pieces_from nothing (reads_of all)) (Ok (state b z))) e (all_read rest h inv))
 
-  pub stays_open : (rest : List Segment) (f : Frame) (fs : List Frame) → length rest < 1 → Leads n (state b frames) left rest all → frames ≡ f ∷ fs → Parsed n (pieces_from nothing (reads_of all)) (Err syntax)
+  pub stays_open : (rest : List Segment) (f : OpenStmt) (fs : List OpenStmt) → length rest < 1 → Leads n (state b open_stmts) left rest all → open_stmts ≡ f ∷ fs → Parsed n (pieces_from nothing (reads_of all)) (Err syntax)
   stays_open rest f fs h inv e = left_open (subst (λ z. Runs n start (pieces_from nothing (reads_of all)) (Ok (state b z))) e (all_read rest h inv))

@@ -1,7 +1,7 @@
 -- What is read is spelled so.
 use Rattle.std.proofs.Common.{◌≡◌, ℕ, ◌&&◌, Bool, true, false, List, [], ◌∷◌, ◌++◌, codes, refl, sym, ap, subst, ◌∙◌, append_assoc, Result, Ok, Err, encode_utf8_all, bytes_eq}
 use Rattle.std.proofs.lemmas.Slice.Eq.{bytes_eq-Decides}
-use Rattle.jt_scan.specs.declared.segment.Kind.TheVariants as kind
+use Rattle.jt_scan.specs.declared.segment.TagKind.TheVariants as kind
 use Rattle.jt_scan.specs.Cut as cut
 use Rattle.jt_scan.specs.Cut.{Token}
 use Rattle.jt_trees.specs.Expressions.{Expr, Text}
@@ -13,7 +13,7 @@ use Rattle.jt_parse.specs.Kept.{Piece}
 use Rattle.jt_parse.specs.Tags.{Loop, Opening, a_text, values, filters, escaping, a_macro, a_block, Head, a_statement, an_if, a_loop, an_opening, made, looped, Says, Ends, by_word, by_name, end_word}
 use Rattle.jt_parse.specs.Grammar.{block, Forms, nothing_more, some_data, a_print, one_tag, an_if_statement, a_for_statement, enclosed, GoesOn, no_elif, an_elif, Otherwise, no_else, an_else}
 use Rattle.jt_parse.specs.Reading as reading
-use Rattle.jt_parse.specs.Reading.{then_all, then_one, then_branches, then_branch, Frame, in_branch, in_else, in_loop, in_loop_else, in_opening, Fault, syntax, State, state, headed, PrintTag, HeadTag, ElifTag, Role, is_elif, is_else, is_end, is_head, role, BlockTag, Steps, Runs, ended, refused, went_on, start, else_tag, names_end, none_left, ends_frame, finished, end_tag, is_end_word}
+use Rattle.jt_parse.specs.Reading.{then_all, then_one, then_branches, then_branch, OpenStmt, in_branch, in_else, in_loop, in_loop_else, in_opening, Fault, syntax, State, state, headed, PrintTag, HeadTag, ElifTag, Role, is_elif, is_else, is_end, is_head, role, BlockTag, Steps, Runs, ended, refused, went_on, start, else_tag, names_end, none_left, ends_open_stmt, finished, end_tag, is_end_word}
 use Rattle.jt_parse.proofs.Bodies.{all_end, all_all, branches_all}
 use Rattle.jt_scan.proofs.Steps.{by_test}
 
@@ -23,32 +23,32 @@ endif last = block last (word (codes "endif") ∷ [])
 abbrev endfor : ℕ → Piece
 endfor last = block last (word (codes "endfor") ∷ [])
 
--- `Closes a fs ps w`: behind the statements a, with the frames fs open, the pieces ps make the whole w
-data Closes : Body → List Frame → List Piece → Body → Type 0 where
+-- `Closes a fs ps w`: behind the statements a, with the open_stmts fs open, the pieces ps make the whole w
+data Closes : Body → List OpenStmt → List Piece → Body → Type 0 where
   outside : {a w : Body} {ps : List Piece} → (b : Body) → Forms b ps → then_all a b ≡ w → Closes a [] ps w
-  inside_if : {a before w : Body} {done : Branches} {line : ℕ} {c : Expr} {fs : List Frame} {ps : List Piece}
+  inside_if : {a before w : Body} {done : Branches} {line : ℕ} {c : Expr} {fs : List OpenStmt} {ps : List Piece}
       → (inner other : Body) (bs q : Branches) (last : ℕ) (xs ys rest : List Piece)
       → Forms inner xs → GoesOn bs other ys → then_branches done (branch line c (then_all a inner) bs) ≡ q → xs ++ (ys ++ (endif last ∷ rest)) ≡ ps
       → Closes (then_one before (choose q other)) fs rest w → Closes a (in_branch before done line c ∷ fs) ps w
-  inside_else : {a before w : Body} {done : Branches} {fs : List Frame} {ps : List Piece}
+  inside_else : {a before w : Body} {done : Branches} {fs : List OpenStmt} {ps : List Piece}
       → (inner other : Body) (last : ℕ) (xs rest : List Piece)
       → Forms inner xs → then_all a inner ≡ other → xs ++ (endif last ∷ rest) ≡ ps
       → Closes (then_one before (choose done other)) fs rest w → Closes a (in_else before done ∷ fs) ps w
-  inside_loop : {a before w : Body} {line : ℕ} {l : Loop} {fs : List Frame} {ps : List Piece}
+  inside_loop : {a before w : Body} {line : ℕ} {l : Loop} {fs : List OpenStmt} {ps : List Piece}
       → (inner other i : Body) (last : ℕ) (xs ys rest : List Piece)
       → Forms inner xs → Otherwise other ys → then_all a inner ≡ i → xs ++ (ys ++ (endfor last ∷ rest)) ≡ ps
       → Closes (then_one before (looped line l i other)) fs rest w → Closes a (in_loop before line l ∷ fs) ps w
-  inside_loop_else : {a before inside w : Body} {line : ℕ} {l : Loop} {fs : List Frame} {ps : List Piece}
+  inside_loop_else : {a before inside w : Body} {line : ℕ} {l : Loop} {fs : List OpenStmt} {ps : List Piece}
       → (inner other : Body) (last : ℕ) (xs rest : List Piece)
       → Forms inner xs → then_all a inner ≡ other → xs ++ (endfor last ∷ rest) ≡ ps
       → Closes (then_one before (looped line l inside other)) fs rest w → Closes a (in_loop_else before line l inside ∷ fs) ps w
-  inside_opening : {a before w : Body} {line : ℕ} {o : Opening} {fs : List Frame} {ps : List Piece}
+  inside_opening : {a before w : Body} {line : ℕ} {o : Opening} {fs : List OpenStmt} {ps : List Piece}
       → (inner i : Body) (last : ℕ) (us : List Token) (xs rest : List Piece)
       → Forms inner xs → then_all a inner ≡ i → Ends o us → xs ++ (block last us ∷ rest) ≡ ps
       → Closes (then_one before (made line o i)) fs rest w → Closes a (in_opening before line o ∷ fs) ps w
 
 -- statements t, which the pieces x spell, stand in front
-grows : {a w : Body} {fs : List Frame} {ps : List Piece} (t : Body) (x : List Piece) → ((b : Body) (tail : List Piece) → Forms b tail → Forms (then_all t b) (x ++ tail))
+grows : {a w : Body} {fs : List OpenStmt} {ps : List Piece} (t : Body) (x : List Piece) → ((b : Body) (tail : List Piece) → Forms b tail → Forms (then_all t b) (x ++ tail))
     → Closes (then_all a t) fs ps w → Closes a fs (x ++ ps) w
 grows {a} {w} {ps = ps} t x more (outside b f e) = outside (then_all t b) (more b ps f) (sym (all_all a t b) ∙ e)
 grows {a} t x more (inside_if {done = done} {line = line} {c = c} inner other bs q last xs ys rest f g qe e r) =
@@ -68,7 +68,7 @@ grows {a} t x more (inside_opening inner i last us xs rest f ie d e r) =
 split : (xs ys tail : List Piece) (c : Piece) → (xs ++ (ys ++ (c ∷ []))) ++ tail ≡ xs ++ (ys ++ (c ∷ tail))
 split xs ys tail c = append_assoc xs (ys ++ (c ∷ [])) tail ∙ ap (λ z. xs ++ z) (append_assoc ys (c ∷ []) tail)
 
-opened_if : {a w : Body} {line : ℕ} {c : Expr} {ts : List Token} {fs : List Frame} {ps : List Piece} → Says line (an_if c) ts
+opened_if : {a w : Body} {line : ℕ} {c : Expr} {ts : List Token} {fs : List OpenStmt} {ps : List Piece} → Says line (an_if c) ts
     → Closes end (in_branch a no_branches line c ∷ fs) ps w → Closes a fs (block line ts ∷ ps) w
 opened_if {a} {w} {line} {c} {ts} {fs} {ps} d (inside_if inner other bs q last xs ys rest f g qe se r) =
     let s : Stmt = choose (branch line c inner bs) other in
@@ -79,7 +79,7 @@ opened_if {a} {w} {line} {c} {ts} {fs} {ps} d (inside_if inner other bs q last x
     (λ b tail k. subst (λ z. Forms (stmt s b) (tag ∷ z)) (sym (split xs ys tail (endif last))) (an_if_statement last d f g k))
     (subst (λ z. Closes (then_one a (choose z other)) fs rest w) (sym qe) r))
 
-opened_loop : {a w : Body} {line : ℕ} {l : Loop} {ts : List Token} {fs : List Frame} {ps : List Piece} → Says line (a_loop l) ts
+opened_loop : {a w : Body} {line : ℕ} {l : Loop} {ts : List Token} {fs : List OpenStmt} {ps : List Piece} → Says line (a_loop l) ts
     → Closes end (in_loop a line l ∷ fs) ps w → Closes a fs (block line ts ∷ ps) w
 opened_loop {a} {w} {line} {l} {ts} {fs} {ps} d (inside_loop inner other i last xs ys rest f g ie se r) =
     let s : Stmt = looped line l inner other in
@@ -90,7 +90,7 @@ opened_loop {a} {w} {line} {l} {ts} {fs} {ps} d (inside_loop inner other i last 
     (λ b tail k. subst (λ z. Forms (stmt s b) (tag ∷ z)) (sym (split xs ys tail (endfor last))) (a_for_statement last d f g k))
     (subst (λ z. Closes (then_one a (looped line l z other)) fs rest w) (sym ie) r))
 
-opened_other : {a w : Body} {line : ℕ} {o : Opening} {ts : List Token} {fs : List Frame} {ps : List Piece} → Says line (an_opening o) ts
+opened_other : {a w : Body} {line : ℕ} {o : Opening} {ts : List Token} {fs : List OpenStmt} {ps : List Piece} → Says line (an_opening o) ts
     → Closes end (in_opening a line o ∷ fs) ps w → Closes a fs (block line ts ∷ ps) w
 opened_other {a} {w} {line} {o} {ts} {fs} {ps} d (inside_opening inner i last us xs rest f ie e se r) =
     let s : Stmt = made line o inner in
@@ -101,7 +101,7 @@ opened_other {a} {w} {line} {o} {ts} {fs} {ps} d (inside_opening inner i last us
     (λ b tail k. subst (λ z. Forms (stmt s b) (tag ∷ z)) (sym (append_assoc xs (block last us ∷ []) tail)) (enclosed last d f e k))
     (subst (λ z. Closes (then_one a (made line o z)) fs rest w) (sym ie) r))
 
-elif_in : {a before w : Body} {done : Branches} {l line : ℕ} {c e : Expr} {ts : List Token} {fs : List Frame} {ps : List Piece} → Spells expressions.whole e ts
+elif_in : {a before w : Body} {done : Branches} {l line : ℕ} {c e : Expr} {ts : List Token} {fs : List OpenStmt} {ps : List Piece} → Spells expressions.whole e ts
     → Closes end (in_branch before (then_branch done l c a) line e ∷ fs) ps w → Closes a (in_branch before done l c ∷ fs) (block line (word (codes "elif") ∷ ts) ∷ ps) w
 elif_in {a} {done = done} {l} {line} {c} {e} {ts} d (inside_if inner other bs q last xs ys rest f g qe se r) =
     inside_if end other (branch line e inner bs) q last [] (block line (word (codes "elif") ∷ ts) ∷ (xs ++ ys)) rest nothing_more (an_elif d f g)
@@ -109,7 +109,7 @@ elif_in {a} {done = done} {l} {line} {c} {e} {ts} d (inside_if inner other bs q 
     (ap (λ z. block line (word (codes "elif") ∷ ts) ∷ z) (append_assoc xs ys (endif last ∷ rest) ∙ se))
     r
 
-else_in : {a before w : Body} {done : Branches} {l line : ℕ} {c : Expr} {fs : List Frame} {ps : List Piece}
+else_in : {a before w : Body} {done : Branches} {l line : ℕ} {c : Expr} {fs : List OpenStmt} {ps : List Piece}
     → Closes end (in_else before (then_branch done l c a) ∷ fs) ps w → Closes a (in_branch before done l c ∷ fs) (block line (word (codes "else") ∷ []) ∷ ps) w
 else_in {a} {before} {w} {done} {l} {line} {c} {fs} {ps} (inside_else inner other last xs rest f i se r) =
     inside_if end inner no_branches (then_branch done l c a) last [] (block line (word (codes "else") ∷ []) ∷ xs) rest nothing_more (no_elif (an_else f))
@@ -117,7 +117,7 @@ else_in {a} {before} {w} {done} {l} {line} {c} {fs} {ps} (inside_else inner othe
     (ap (λ z. block line (word (codes "else") ∷ []) ∷ z) se)
     (subst (λ z. Closes (then_one before (choose (then_branch done l c a) z)) fs rest w) (sym i) r)
 
-loop_else_in : {a before w : Body} {l : Loop} {k line : ℕ} {fs : List Frame} {ps : List Piece}
+loop_else_in : {a before w : Body} {l : Loop} {k line : ℕ} {fs : List OpenStmt} {ps : List Piece}
     → Closes end (in_loop_else before k l a ∷ fs) ps w → Closes a (in_loop before k l ∷ fs) (block line (word (codes "else") ∷ []) ∷ ps) w
 loop_else_in {a} {before} {w} {l} {k} {line} {fs} {ps} (inside_loop_else inner other last xs rest f i se r) =
     inside_loop end inner a last [] (block line (word (codes "else") ∷ []) ∷ xs) rest nothing_more (an_else f) (all_end a)
@@ -134,7 +134,7 @@ no_error f a e = absurd (cc)
 
 -- the rest of a reading
 abbrev Rest : List Piece → Body → State → Type 0
-Rest ps w st = Closes st.body st.frames ps w
+Rest ps w st = Closes st.body st.open_stmts ps w
 
 print_sound : (n line : ℕ) (ts : List Token) (st next : State) (ps : List Piece) (w : Body) → PrintTag n line ts st (Ok next) → Rest ps w next → Rest (kept.tag kind.Variable line ts ∷ ps) w st
 print_sound n line ts st next ps w q r =
@@ -149,7 +149,7 @@ headed_sound line x (an_opening o) st ps w d r = opened_other d r
 head_tag_sound : (n line : ℕ) (x : Text) (ts : List Token) (st next : State) (ps : List Piece) (w : Body) → HeadTag n line x ts st (Ok next) → Rest ps w next → Rest (block line (word x ∷ ts) ∷ ps) w st
 head_tag_sound n line x ts st next ps w q r = headed_sound line (word x ∷ ts) q.0 st ps w q.1 (subst (Rest ps w) q.4 r)
 
-elif_sound : (n line : ℕ) (ts : List Token) (a : Body) (fs : List Frame) (next : State) (ps : List Piece) (w : Body) → ElifTag n line ts a fs (Ok next) → Rest ps w next → Closes a fs (block line (word (codes "elif") ∷ ts) ∷ ps) w
+elif_sound : (n line : ℕ) (ts : List Token) (a : Body) (fs : List OpenStmt) (next : State) (ps : List Piece) (w : Body) → ElifTag n line ts a fs (Ok next) → Rest ps w next → Closes a fs (block line (word (codes "elif") ∷ ts) ∷ ps) w
 elif_sound n line ts a [] next ps w e r = no_error syntax next e
 elif_sound n line ts a (in_else before done ∷ fs) next ps w e r = no_error syntax next e
 elif_sound n line ts a (in_loop before k l ∷ fs) next ps w e r = no_error syntax next e
@@ -157,7 +157,7 @@ elif_sound n line ts a (in_loop_else before k l i ∷ fs) next ps w e r = no_err
 elif_sound n line ts a (in_opening before k o ∷ fs) next ps w e r = no_error syntax next e
 elif_sound n line ts a (in_branch before done l c ∷ fs) next ps w q r = elif_in q.1 (subst (Rest ps w) q.4 r)
 
-else_sound : (line : ℕ) (ts : List Token) (a : Body) (fs : List Frame) (next : State) (ps : List Piece) (w : Body) → Ok next ≡ else_tag ts a fs → Rest ps w next → Closes a fs (block line (word (codes "else") ∷ ts) ∷ ps) w
+else_sound : (line : ℕ) (ts : List Token) (a : Body) (fs : List OpenStmt) (next : State) (ps : List Piece) (w : Body) → Ok next ≡ else_tag ts a fs → Rest ps w next → Closes a fs (block line (word (codes "else") ∷ ts) ∷ ps) w
 unfolding else_tag
 else_sound line (t ∷ ts) a fs next ps w e r = no_error syntax next e
 else_sound line [] a [] next ps w e r = no_error syntax next e
@@ -191,26 +191,26 @@ opening_ends (filters y) x (t ∷ ts) h n = cc
 opening_ends (escaping y) x (t ∷ ts) h n = cc
 opening_ends (a_macro y z) x (t ∷ ts) h n = cc
 
-frame_sound : (line : ℕ) (x : Text) (ts : List Token) (a : Body) (f : Frame) (fs : List Frame) (ps : List Piece) (w : Body) → ends_frame x ts f ≡ true
+open_stmt_sound : (line : ℕ) (x : Text) (ts : List Token) (a : Body) (f : OpenStmt) (fs : List OpenStmt) (ps : List Piece) (w : Body) → ends_open_stmt x ts f ≡ true
     → Closes (then_one (reading.before f) (finished a f)) fs ps w → Closes a (f ∷ fs) (block line (word x ∷ ts) ∷ ps) w
-frame_sound line x ts a (in_branch before done l c) fs ps w h r =
+open_stmt_sound line x ts a (in_branch before done l c) fs ps w h r =
     inside_if end end no_branches (then_branch done l c a) line [] [] ps nothing_more (no_elif no_else) (ap (λ i. then_branches done (branch l c i no_branches)) (all_end a)) (ap (λ z. z ∷ ps) (alone x (codes "endif") line ts h)) r
-frame_sound line x ts a (in_else before done) fs ps w h r =
+open_stmt_sound line x ts a (in_else before done) fs ps w h r =
     inside_else end a line [] ps nothing_more (all_end a) (ap (λ z. z ∷ ps) (alone x (codes "endif") line ts h)) r
-frame_sound line x ts a (in_loop before k l) fs ps w h r =
+open_stmt_sound line x ts a (in_loop before k l) fs ps w h r =
     inside_loop end end a line [] [] ps nothing_more no_else (all_end a) (ap (λ z. z ∷ ps) (alone x (codes "endfor") line ts h)) r
-frame_sound line x ts a (in_loop_else before k l i) fs ps w h r =
+open_stmt_sound line x ts a (in_loop_else before k l i) fs ps w h r =
     inside_loop_else end a line [] ps nothing_more (all_end a) (ap (λ z. z ∷ ps) (alone x (codes "endfor") line ts h)) r
-frame_sound line x ts a (in_opening before k o) fs ps w h r =
+open_stmt_sound line x ts a (in_opening before k o) fs ps w h r =
     let b = both (bytes_eq x (end_word o)) (names_end o ts) h in
     inside_opening end a line (word x ∷ ts) [] ps nothing_more (all_end a) (opening_ends o x ts b.0 b.1) refl r
 
-end_sound : (line : ℕ) (x : Text) (ts : List Token) (a : Body) (fs : List Frame) (next : State) (ps : List Piece) (w : Body) → Ok next ≡ end_tag x ts a fs → Rest ps w next → Closes a fs (block line (word x ∷ ts) ∷ ps) w
+end_sound : (line : ℕ) (x : Text) (ts : List Token) (a : Body) (fs : List OpenStmt) (next : State) (ps : List Piece) (w : Body) → Ok next ≡ end_tag x ts a fs → Rest ps w next → Closes a fs (block line (word x ∷ ts) ∷ ps) w
 unfolding end_tag
 end_sound line x ts a [] next ps w e r = no_error syntax next e
 end_sound line x ts a (f ∷ fs) next ps w e r =
-    by_test (ends_frame x ts f) _ _ _ (sym e)
-    (λ h q. frame_sound line x ts a f fs ps w h (subst (Rest ps w) (sym (ok_is q)) r))
+    by_test (ends_open_stmt x ts f) _ _ _ (sym e)
+    (λ h q. open_stmt_sound line x ts a f fs ps w h (subst (Rest ps w) (sym (ok_is q)) r))
     (λ h q. no_error syntax next (sym q))
 
 -- a word that is w
@@ -226,9 +226,9 @@ unfolding role
 else_word x e = by_test (bytes_eq x (codes "elif")) _ _ _ e (λ h q. cc) (λ h1 e1. by_test (bytes_eq x (codes "else")) _ _ _ e1 (λ h q. h) (λ h2 e2. by_test (is_end_word x) _ _ _ e2 (λ h q. cc) (λ h3 e3. cc)))
 
 block_sound : (n line : ℕ) (x : Text) (ts : List Token) (st next : State) (ps : List Piece) (w : Body) (k : Role) → role x ≡ k → BlockTag k n line x ts st (Ok next) → Rest ps w next → Rest (block line (word x ∷ ts) ∷ ps) w st
-block_sound n line x ts st next ps w is_elif h q r = with_word x (codes "elif") line ts ps w st (elif_word x h) (elif_sound n line ts st.body st.frames next ps w q r)
-block_sound n line x ts st next ps w is_else h q r = with_word x (codes "else") line ts ps w st (else_word x h) (else_sound line ts st.body st.frames next ps w q r)
-block_sound n line x ts st next ps w is_end h q r = end_sound line x ts st.body st.frames next ps w q r
+block_sound n line x ts st next ps w is_elif h q r = with_word x (codes "elif") line ts ps w st (elif_word x h) (elif_sound n line ts st.body st.open_stmts next ps w q r)
+block_sound n line x ts st next ps w is_else h q r = with_word x (codes "else") line ts ps w st (else_word x h) (else_sound line ts st.body st.open_stmts next ps w q r)
+block_sound n line x ts st next ps w is_end h q r = end_sound line x ts st.body st.open_stmts next ps w q r
 block_sound n line x ts st next ps w is_head h q r = head_tag_sound n line x ts st next ps w q r
 
 step_sound : (n : ℕ) (p : Piece) (st next : State) (ps : List Piece) (w : Body) → Steps n st p (Ok next) → Rest ps w next → Rest (p ∷ ps) w st

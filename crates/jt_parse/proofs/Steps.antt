@@ -9,7 +9,7 @@ use Rattle.jt_scan.proofs.Turns.{not_empty}
 use Rattle.jt_trees.specs.Statements.{data_of}
 use Rattle.jt_parse.specs.Kept.{tag, Side, nothing, side_ahead, side_behind, Piece, Read, with_text, with_segment, kept, block_side, pieces_from}
 use Rattle.jt_parse.specs.Reading.{Fault, syntax, deep, State, grown, Steps, Runs, ended, refused, went_on, start, Parsed, stopped}
-use Rattle.jt_scan.specs.declared.segment.Kind.{Kind}
+use Rattle.jt_scan.specs.declared.segment.TagKind.{TagKind}
 use Rattle.jt_scan.specs.declared.segment.Marks.{Marks}
 use Rattle.jt_parse.specs.declared.parser.Parser.{Parser}
 use Rattle.jt_parse.specs.Gives.{Refuses, GivesState}
@@ -98,7 +98,7 @@ one_refused n st p (e.UnknownTest l) s = s
 one_refused n st p e.NoMemory s = tt
 
 -- a tag as a segment
-pub tag_runs : (n : ℕ) (st : State) (o : Options) (left right : Side) (k : Kind) (ms : Marks) (line : ℕ) (ts : List Token) (r : Result (Unit {0}) ParseError) (new : Parser) → GivesState (Steps n st (tag k line ts)) r new
+pub tag_runs : (n : ℕ) (st : State) (o : Options) (left right : Side) (k : TagKind) (ms : Marks) (line : ℕ) (ts : List Token) (r : Result (Unit {0}) ParseError) (new : Parser) → GivesState (Steps n st (tag k line ts)) r new
     → GivesState (Runs n st (with_segment o left right (cut.tag k ms line ts) [])) r new
 tag_runs n st o left right k ms line ts (Ok u) new g = went_on g ended
 tag_runs n st o left right k ms line ts (Err x) new g = one_refused n st (tag k line ts) x g

@@ -7,19 +7,19 @@ use Rattle.jt_expr.specs.declared.error.ExprError.TheVariants as fault
 use Rattle.jt_expr.specs.declared.named.Named.{Named}
 use Rattle.jt_expr.specs.declared.named.Named.TheVariants as named
 use Rattle.jt_parse.specs.Names.{Found, body_unknown}
-use Rattle.jt_parse.specs.Places.{is_placed}
+use Rattle.jt_parse.specs.Positions.{is_placed}
 use Rattle.jt_trees.specs.Statements.{Body}
 use Rattle.jt_parse.specs.Reading as reading
-use Rattle.jt_parse.specs.Reading.{Fault, syntax, deep, State, state, Frame}
+use Rattle.jt_parse.specs.Reading.{Fault, syntax, deep, State, state, OpenStmt}
 use Rattle.jt_trees.specs.StatementView.{body_view, branches_view, body_of}
 use Rattle.jt_parse.specs.HeadView.{loop_view, opening_view}
 use Rattle.jt_parse.specs.declared.error.ParseError.{ParseError}
 use Rattle.jt_parse.specs.declared.error.ParseError.TheVariants as e
 use Rattle.jt_trees.specs.declared.statement.Stmt.{Stmt}
 use Rattle.jt_trees.specs.declared.statement.Template.{Template}
-use Rattle.jt_parse.specs.declared.frames.Frame.{Frame as Open}
-use Rattle.jt_parse.specs.declared.frames.Kind.{Kind}
-use Rattle.jt_parse.specs.declared.frames.Kind.TheVariants as k
+use Rattle.jt_parse.specs.declared.open_stmts.OpenStmt.{OpenStmt as Open}
+use Rattle.jt_parse.specs.declared.open_stmts.OpenKind.{OpenKind}
+use Rattle.jt_parse.specs.declared.open_stmts.OpenKind.TheVariants as k
 use Rattle.jt_parse.specs.declared.parser.Parser.{Parser}
 
 -- The only thing of the form, within the levels. A refusal says that nothing is of the form, or all has more levels.
@@ -40,22 +40,22 @@ Refuses O (e.UnknownTest line) = ⊥
 Refuses O e.NoMemory = Unit {0}
 
 -- what is open, behind the statements before it
-abbrev pub frame_by : Body → ℕ → Kind → Frame
-frame_by before line (k.Branch bs l c) = reading.in_branch before (branches_view bs.items) l (expr_view c)
-frame_by before line (k.Else bs) = reading.in_else before (branches_view bs.items)
-frame_by before line (k.Loop l) = reading.in_loop before line (loop_view l)
-frame_by before line (k.LoopElse l body) = reading.in_loop_else before line (loop_view l) (body_view body.items)
-frame_by before line (k.Opening o) = reading.in_opening before line (opening_view o)
+abbrev pub open_stmt_by : Body → ℕ → OpenKind → OpenStmt
+open_stmt_by before line (k.Branch bs l c) = reading.in_branch before (branches_view bs.items) l (expr_view c)
+open_stmt_by before line (k.Else bs) = reading.in_else before (branches_view bs.items)
+open_stmt_by before line (k.Loop l) = reading.in_loop before line (loop_view l)
+open_stmt_by before line (k.LoopElse l body) = reading.in_loop_else before line (loop_view l) (body_view body.items)
+open_stmt_by before line (k.Opening o) = reading.in_opening before line (opening_view o)
 
-abbrev pub frame_view : Open → Frame
-frame_view f = frame_by (body_view f.before.items) f.line f.kind
+abbrev pub open_stmt_view : Open → OpenStmt
+open_stmt_view f = open_stmt_by (body_view f.before.items) f.line f.kind
 
--- the last frame is the innermost
-abbrev pub frames_view : List Open → List Frame
-frames_view fs = reverse (map frame_view fs)
+-- the last open_stmt is the innermost
+abbrev pub open_stmts_view : List Open → List OpenStmt
+open_stmts_view fs = reverse (map open_stmt_view fs)
 
 abbrev pub state_view : Parser → State
-state_view p = state (body_view p.body.items) (frames_view p.frames.items)
+state_view p = state (body_view p.body.items) (open_stmts_view p.open_stmts.items)
 
 abbrev pub GivesState : (Result State Fault → Type 0) → Result (Unit {0}) ParseError → Parser → Type 0
 GivesState O (Ok u) new = O (Ok (state_view new))
@@ -83,13 +83,13 @@ GivesNames found (Err (e.UnknownTest line)) = found ≡ Some (line, named.Test)
 GivesNames found (Err e.NoMemory) = ⊥
 
 -- statements stand where they may, or the refusal says that they don't
-abbrev pub GivesPlaces : Bool → Result (Unit {0}) ParseError → Type 0
-GivesPlaces placed (Ok u) = placed ≡ true
-GivesPlaces placed (Err (e.Syntax line)) = placed ≡ false
-GivesPlaces placed (Err (e.TooDeep line)) = ⊥
-GivesPlaces placed (Err (e.UnknownFilter line)) = ⊥
-GivesPlaces placed (Err (e.UnknownTest line)) = ⊥
-GivesPlaces placed (Err e.NoMemory) = ⊥
+abbrev pub GivesPositions : Bool → Result (Unit {0}) ParseError → Type 0
+GivesPositions placed (Ok u) = placed ≡ true
+GivesPositions placed (Err (e.Syntax line)) = placed ≡ false
+GivesPositions placed (Err (e.TooDeep line)) = ⊥
+GivesPositions placed (Err (e.UnknownFilter line)) = ⊥
+GivesPositions placed (Err (e.UnknownTest line)) = ⊥
+GivesPositions placed (Err e.NoMemory) = ⊥
 
 -- what is read, where its statements stand where they may
 abbrev pub IsMisplaced : (Result Body Fault → Type 0) → Type 0

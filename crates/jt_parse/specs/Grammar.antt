@@ -1,7 +1,7 @@
--- Which tree the pieces of a source spell: one rule a form. What tags say is in Tags, and the places that the language
--- allows to tags are in Places.
+-- Which tree the pieces of a source spell: one rule a form. What tags say is in Tags, and the positions that the language
+-- allows to tags are in Positions.
 use Rattle.std.specs.Prelude.{◌≡◌, ℕ, true, List, [], ◌∷◌, ◌++◌, codes, encode_utf8_all}
-use Rattle.jt_scan.specs.declared.segment.Kind.TheVariants as kind
+use Rattle.jt_scan.specs.declared.segment.TagKind.TheVariants as kind
 use Rattle.jt_scan.specs.Cut.{Token}
 use Rattle.jt_trees.specs.Expressions.{Expr}
 use Rattle.jt_expr.specs.Grammar.{word, whole, Spells}
@@ -9,7 +9,7 @@ use Rattle.jt_trees.specs.Statements.{Stmt, data_of, print, choose, Body, end, s
 use Rattle.jt_parse.specs.Kept as kept
 use Rattle.jt_parse.specs.Kept.{Piece}
 use Rattle.jt_parse.specs.Tags.{Loop, Opening, a_statement, an_if, a_loop, an_opening, made, looped, Says, Ends}
-use Rattle.jt_parse.specs.Places.{is_placed}
+use Rattle.jt_parse.specs.Positions.{is_placed}
 
 -- a block tag of a line, with these tokens
 abbrev pub block : ℕ → List Token → Piece

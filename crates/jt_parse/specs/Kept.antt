@@ -2,8 +2,8 @@
 -- Each segment comes with the options of its source. A text is a list of characters.
 use Rattle.std.specs.Prelude.{ℕ, ◌-◌, ◌==◌, ◌||◌, ◌&&◌, Bool, true, false, List, [], ◌∷◌, length, take, if◌then◌else◌}
 use Rattle.jt_scan.specs.declared.options.Options.{Options}
-use Rattle.jt_scan.specs.declared.segment.Kind.{Kind}
-use Rattle.jt_scan.specs.declared.segment.Kind.TheVariants as kind
+use Rattle.jt_scan.specs.declared.segment.TagKind.{TagKind}
+use Rattle.jt_scan.specs.declared.segment.TagKind.TheVariants as kind
 use Rattle.jt_scan.specs.declared.segment.Mark.{Mark}
 use Rattle.jt_scan.specs.declared.segment.Mark.TheVariants as m
 use Rattle.jt_scan.specs.Cut as cut
@@ -19,7 +19,7 @@ pub data Side : Type 0 where
   block_side : Mark → Side
   variable_side : Mark → Side
 
-abbrev pub side_of : Kind → Mark → Side
+abbrev pub side_of : TagKind → Mark → Side
 side_of kind.Block mark = block_side mark
 side_of kind.Variable mark = variable_side mark
 
@@ -103,7 +103,7 @@ pub data Piece : Type 0 where
   -- never empty
   text : Text → Piece
   -- with its line
-  tag : Kind → ℕ → List Token → Piece
+  tag : TagKind → ℕ → List Token → Piece
 
 abbrev pub with_text : Text → List Piece → List Piece
 with_text [] ps = ps

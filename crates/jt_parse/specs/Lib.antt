@@ -4,8 +4,8 @@ pub mod Grammar
 pub mod HeadView
 pub mod Kept
 pub mod Names
-pub mod PlaceView
-pub mod Places
+pub mod PositionView
+pub mod Positions
 pub mod Readers
 pub mod Reading
 pub mod Refusals

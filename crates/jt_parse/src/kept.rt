@@ -7,7 +7,7 @@ ghost use Rattle.jt_scan.specs.View.{part_view};
 ghost use Rattle.jt_parse.specs.Kept as spec;
 ghost use Rattle.jt_parse.specs.SideView.{side_view, ahead_view, test_of};
 
-use jt_scan::{Kind, Mark, Options, Part, Segment, behind_space, first};
+use jt_scan::{Mark, Options, Part, Segment, TagKind, behind_space, first};
 
 /// What stands beside a text.
 #[derive(Clone, Copy)]
@@ -32,12 +32,12 @@ pub enum Space {
 }
 
 /// A tag's side.
-fn side_of(kind: Kind, mark: Mark) -> Side
+fn side_of(kind: TagKind, mark: Mark) -> Side
     ensures { side_view result ≡ spec.side_of kind mark }
 {
     match kind {
-        Kind::Block => Side::Block(mark),
-        Kind::Variable => Side::Variable(mark),
+        TagKind::Block => Side::Block(mark),
+        TagKind::Variable => Side::Variable(mark),
     }
 }
 

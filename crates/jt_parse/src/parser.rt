@@ -1,7 +1,7 @@
 //! The tree that the segments of a template spell.
 //!
 //! The segments are read one after the other, and each statement that is open is kept in a row of
-//! frames, so that no source, however deep, reaches the end of the stack.
+//! open_stmts, so that no source, however deep, reaches the end of the stack.
 
 ghost use Rattle.std.specs.Prelude.{◌≡◌, ◌≤◌, ◌-◌, suc, length, nat_lt, None, true, false, [], ◌∷◌, map, IfOk, IfErr, MatchResult};
 ghost use Rattle.std.specs.Str.{chars};
@@ -19,22 +19,22 @@ ghost use Rattle.jt_trees.specs.StatementView.{body_of};
 ghost use Rattle.jt_parse.specs.View.{reads_of};
 ghost use Rattle.jt_parse.specs.HeadView.{head_view};
 ghost use Rattle.jt_parse.specs.SideView.{side_view, ahead_view};
-ghost use Rattle.jt_parse.specs.Gives.{GivesState, GivesBody, GivesKnown, frame_by, frame_view, frames_view, state_view};
+ghost use Rattle.jt_parse.specs.Gives.{GivesState, GivesBody, GivesKnown, open_stmt_by, open_stmt_view, open_stmts_view, state_view};
 ghost use Rattle.jt_parse.specs.Refusals.{IsRefusal, max_levels};
 ghost use Rattle.jt_parse.specs.declared.error.ParseError.TheVariants as error;
 
 use crate::error::ParseError;
 use crate::expression::{copy_of, expression, head, is_word};
-use crate::frames::{
-    Frame, Kind, close_frame, ends_frame, is_end_word, pop_frame, push_branch, push_frame,
-    push_statement, unclosed,
-};
 use crate::heads::Head;
 use crate::kept::{Side, kept, side_ahead, side_behind};
 use crate::names::check_body;
-use crate::places::check_places;
+use crate::open_stmts::{
+    OpenKind, OpenStmt, close_open_stmt, ends_open_stmt, is_end_word, pop_open_stmt, push_branch,
+    push_open_stmt, push_statement, unclosed,
+};
+use crate::positions::check_positions;
 use jt_expr::expression_laws;
-use jt_scan::{Kind as TagKind, Part, Segment, Token};
+use jt_scan::{Part, Segment, TagKind, Token};
 use jt_trees::{Stmt, Template};
 use std::alloc::Global;
 use std::mem;
@@ -49,7 +49,7 @@ struct Parser {
     /// The statements of the innermost part that is open.
     body: Vec<Stmt>,
     /// The open statements, the innermost last.
-    frames: Vec<Frame>,
+    open_stmts: Vec<OpenStmt>,
 }
 
 /// How many levels an expression may have in a statement with so many others around it.
@@ -67,10 +67,10 @@ fn levels_left(outer: usize, line: u32) -> Result<u8, ParseError>
 }
 
 /// The number of open statements.
-fn depth(frames: &Vec<Frame>) -> usize
-    ensures { result ≡ length (frames_view frames.now.items) }
+fn depth(open_stmts: &Vec<OpenStmt>) -> usize
+    ensures { result ≡ length (open_stmts_view open_stmts.now.items) }
 {
-    frames.len()
+    open_stmts.len()
 }
 
 impl Parser {
@@ -80,21 +80,21 @@ impl Parser {
             (reading.PrintTag max_levels line (map token_view tokens.now) (state_view self.old))
             result self.new }
     {
-        let levels = levels_left(depth(&self.frames), line)?;
+        let levels = levels_left(depth(&self.open_stmts), line)?;
         let printed = expression(self.alloc, tokens, levels, line)?;
         push_statement(&mut self.body, Stmt::Print(line, printed))?;
         Ok(())
     }
 
     /// One open statement more.
-    fn open(&mut self, line: u32, kind: Kind) -> Result<(), ParseError>
+    fn open(&mut self, line: u32, kind: OpenKind) -> Result<(), ParseError>
         ensures opened { IfOk result (λ u. state_view self.new
             ≡ reading.state trees.end
-            (frame_by (state_view self.old).body line kind ∷ (state_view self.old).frames)) }
+            (open_stmt_by (state_view self.old).body line kind ∷ (state_view self.old).open_stmts)) }
         ensures refused { IfErr result (λ e. e ≡ error.NoMemory) }
     {
         let before = mem::replace(&mut self.body, Vec::new(self.alloc));
-        push_frame(&mut self.frames, Frame { before, line, kind })
+        push_open_stmt(&mut self.open_stmts, OpenStmt { before, line, kind })
     }
 
     /// What follows the first tag of a statement.
@@ -107,10 +107,10 @@ impl Parser {
             Head::Statement(statement) => push_statement(&mut self.body, statement),
             Head::If(condition) => {
                 let branches = Vec::new(self.alloc);
-                self.open(line, Kind::Branch(branches, line, condition))
+                self.open(line, OpenKind::Branch(branches, line, condition))
             }
-            Head::Loop(head) => self.open(line, Kind::Loop(head)),
-            Head::Opening(opening) => self.open(line, Kind::Opening(opening)),
+            Head::Loop(head) => self.open(line, OpenKind::Loop(head)),
+            Head::Opening(opening) => self.open(line, OpenKind::Opening(opening)),
         }
     }
 
@@ -119,7 +119,7 @@ impl Parser {
         ensures { GivesState (reading.HeadTag max_levels line (chars word.now)
             (map token_view tokens.now) (state_view self.old)) result self.new }
     {
-        let levels = levels_left(depth(&self.frames), line)?;
+        let levels = levels_left(depth(&self.open_stmts), line)?;
         let head = head(self.alloc, word, tokens, levels, line)?;
         self.headed(line, head)?;
         Ok(())
@@ -128,64 +128,64 @@ impl Parser {
     /// `{% elif c %}`
     fn elif_tag(&mut self, line: u32, tokens: &[Token<'_>]) -> Result<(), ParseError>
         ensures { GivesState (reading.ElifTag max_levels line (map token_view tokens.now)
-            (state_view self.old).body (state_view self.old).frames) result self.new }
+            (state_view self.old).body (state_view self.old).open_stmts) result self.new }
     {
-        let Some(frame) = pop_frame(&mut self.frames) else {
+        let Some(open_stmt) = pop_open_stmt(&mut self.open_stmts) else {
             return Err(ParseError::Syntax { line });
         };
-        let Frame {
+        let OpenStmt {
             before,
             line: opening,
             kind,
-        } = frame;
-        let Kind::Branch(mut branches, first, condition) = kind else {
+        } = open_stmt;
+        let OpenKind::Branch(mut branches, first, condition) = kind else {
             return Err(ParseError::Syntax { line });
         };
-        let levels = levels_left(depth(&self.frames), line)?;
+        let levels = levels_left(depth(&self.open_stmts), line)?;
         let next = expression(self.alloc, tokens, levels, line)?;
         let body = mem::replace(&mut self.body, Vec::new(self.alloc));
         push_branch(&mut branches, first, condition, body)?;
-        let frame = Frame {
+        let open_stmt = OpenStmt {
             before,
             line: opening,
-            kind: Kind::Branch(branches, line, next),
+            kind: OpenKind::Branch(branches, line, next),
         };
-        push_frame(&mut self.frames, frame)?;
+        push_open_stmt(&mut self.open_stmts, open_stmt)?;
         Ok(())
     }
 
-    /// What the else part of a frame is read in.
+    /// What the else part of a open_stmt is read in.
     fn else_by(&mut self, line: u32) -> Result<(), ParseError>
         ensures { GivesState
-            (λ o. o ≡ reading.else_by (state_view self.old).body (state_view self.old).frames)
+            (λ o. o ≡ reading.else_by (state_view self.old).body (state_view self.old).open_stmts)
             result self.new }
     {
-        let Some(frame) = pop_frame(&mut self.frames) else {
+        let Some(open_stmt) = pop_open_stmt(&mut self.open_stmts) else {
             return Err(ParseError::Syntax { line });
         };
-        let Frame {
+        let OpenStmt {
             before,
             line: opening,
             kind,
-        } = frame;
+        } = open_stmt;
         let kind = match kind {
-            Kind::Branch(mut branches, first, condition) => {
+            OpenKind::Branch(mut branches, first, condition) => {
                 let body = mem::replace(&mut self.body, Vec::new(self.alloc));
                 push_branch(&mut branches, first, condition, body)?;
-                Kind::Else(branches)
+                OpenKind::Else(branches)
             }
-            Kind::Loop(head) => {
+            OpenKind::Loop(head) => {
                 let body = mem::replace(&mut self.body, Vec::new(self.alloc));
-                Kind::LoopElse(head, body)
+                OpenKind::LoopElse(head, body)
             }
             _ => return Err(ParseError::Syntax { line }),
         };
-        let frame = Frame {
+        let open_stmt = OpenStmt {
             before,
             line: opening,
             kind,
         };
-        push_frame(&mut self.frames, frame)?;
+        push_open_stmt(&mut self.open_stmts, open_stmt)?;
         Ok(())
     }
 
@@ -194,7 +194,7 @@ impl Parser {
     fn else_tag(&mut self, line: u32, tokens: &[Token<'_>]) -> Result<(), ParseError>
         ensures { GivesState (λ o. o
             ≡ reading.else_tag (map token_view tokens.now) (state_view self.old).body
-            (state_view self.old).frames) result self.new }
+            (state_view self.old).open_stmts) result self.new }
     {
         if !tokens.is_empty() {
             return Err(ParseError::Syntax { line });
@@ -206,21 +206,21 @@ impl Parser {
     #[tactic(auto, unfolding(crate::specs::Reading::end_tag))]
     fn close(
         &mut self,
-        frame: Frame,
+        open_stmt: OpenStmt,
         line: u32,
         word: &str,
         tokens: &[Token<'_>],
     ) -> Result<(), ParseError>
         ensures { GivesState (λ o. o
             ≡ reading.end_tag (chars word.now) (map token_view tokens.now)
-            (state_view self.old).body (frame_view frame ∷ (state_view self.old).frames)) result
+            (state_view self.old).body (open_stmt_view open_stmt ∷ (state_view self.old).open_stmts)) result
             self.new }
     {
-        if !ends_frame(&frame, word, tokens) {
-            drop(frame);
+        if !ends_open_stmt(&open_stmt, word, tokens) {
+            drop(open_stmt);
             return Err(ParseError::Syntax { line });
         }
-        close_frame(self.alloc, frame, &mut self.body)
+        close_open_stmt(self.alloc, open_stmt, &mut self.body)
     }
 
     /// A tag that ends a statement.
@@ -228,10 +228,10 @@ impl Parser {
     fn end_tag(&mut self, line: u32, word: &str, tokens: &[Token<'_>]) -> Result<(), ParseError>
         ensures { GivesState (λ o. o
             ≡ reading.end_tag (chars word.now) (map token_view tokens.now)
-            (state_view self.old).body (state_view self.old).frames) result self.new }
+            (state_view self.old).body (state_view self.old).open_stmts) result self.new }
     {
-        match pop_frame(&mut self.frames) {
-            Some(frame) => self.close(frame, line, word, tokens),
+        match pop_open_stmt(&mut self.open_stmts) {
+            Some(open_stmt) => self.close(open_stmt, line, word, tokens),
             None => Err(ParseError::Syntax { line }),
         }
     }
@@ -308,7 +308,7 @@ fn read(alloc: Global, segments: &[Segment<'_>]) -> Result<Vec<Stmt>, ParseError
     let mut parser = Parser {
         alloc,
         body: Vec::new(alloc),
-        frames: Vec::new(alloc),
+        open_stmts: Vec::new(alloc),
     };
     let mut left = Side::Nothing;
     let mut rest = segments;
@@ -317,7 +317,7 @@ fn read(alloc: Global, segments: &[Segment<'_>]) -> Result<Vec<Stmt>, ParseError
         left = side_behind(&segment.part);
         rest = behind;
     }
-    match unclosed(parser.frames) {
+    match unclosed(parser.open_stmts) {
         Some(line) => Err(ParseError::Syntax { line }),
         None => Ok(parser.body),
     }
@@ -328,7 +328,7 @@ fn read_known(alloc: Global, segments: &[Segment<'_>]) -> Result<Template, Parse
     ensures { GivesKnown (reading.Parsed max_levels (kept.pieces (reads_of segments.now))) result }
 {
     let body = read(alloc, segments)?;
-    check_places(&body)?;
+    check_positions(&body)?;
     check_body(&body)?;
     Ok(Template::new(body))
 }

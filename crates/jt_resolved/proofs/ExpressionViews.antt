@@ -7,16 +7,16 @@ use Rattle.jt_resolved.specs.View.{slot_view, field_view, maker_view, entry_fron
 use Rattle.jt_resolved.specs.declared.program.Slot.{Slot}
 use Rattle.jt_resolved.specs.declared.program.Field.{Field}
 use Rattle.jt_resolved.specs.declared.program.Maker.{Maker}
-use Rattle.jt_resolved.specs.declared.program.SExpr.{SExpr, fold-roll-SExpr}
-use Rattle.jt_resolved.specs.declared.program.SExpr.TheOpen.{SExpr-F}
-use Rattle.jt_resolved.specs.declared.program.SExpr.TheVariants as e
-use Rattle.jt_resolved.specs.declared.program.SExpr.TheVariants.{rolls-Pooled, rolls-Variable, rolls-Field, rolls-Absent, rolls-Made, rolls-Conjunction, rolls-Disjunction, rolls-Choice, rolls-Invoke}
+use Rattle.jt_resolved.specs.declared.program.SlotExpr.{SlotExpr, fold-roll-SlotExpr}
+use Rattle.jt_resolved.specs.declared.program.SlotExpr.TheOpen.{SlotExpr-F}
+use Rattle.jt_resolved.specs.declared.program.SlotExpr.TheVariants as e
+use Rattle.jt_resolved.specs.declared.program.SlotExpr.TheVariants.{rolls-Pooled, rolls-Variable, rolls-Field, rolls-Absent, rolls-Made, rolls-Conjunction, rolls-Disjunction, rolls-Choice, rolls-Invoke}
 
 abbrev pub Entry : Type 0
-Entry = Option ℕ × SExpr
+Entry = Option ℕ × SlotExpr
 
 abbrev Shown : Type 0
-Shown = Option ℕ × slots.SExpr ℕ
+Shown = Option ℕ × slots.SlotExpr ℕ
 
 -- a view of each entry that keeps the local, and shows the expression
 row_map : (g : Entry → Shown) → ((b : Entry) → (g b).0 ≡ b.0) → ((b : Entry) → (g b).1 ≡ expr_view b.1) → (es : List Entry) (behind : SRow ℕ) → row_front (map g es) behind ≡ row_view es behind
@@ -24,56 +24,56 @@ row_map g k v [] behind = refl
 row_map g k v (b ∷ bs) behind =
     ap (λ (z : SRow ℕ). entry_front (g b).0 (g b).1 z) (row_map g k v bs behind)
     ∙ ap (λ (i : Option ℕ). entry_front i (g b).1 (row_view bs behind)) (k b)
-    ∙ ap (λ (x : slots.SExpr ℕ). entry_front b.0 x (row_view bs behind)) (v b)
+    ∙ ap (λ (x : slots.SlotExpr ℕ). entry_front b.0 x (row_view bs behind)) (v b)
 
 pub view_Pooled : (i : ℕ) → expr_view (e.Pooled i) ≡ slots.pooled i
-view_Pooled i = ap expr_view (sym (rolls-Pooled i)) ∙ fold-roll-SExpr (slots.SExpr ℕ) expr_step (SExpr-F.Pooled i)
+view_Pooled i = ap expr_view (sym (rolls-Pooled i)) ∙ fold-roll-SlotExpr (slots.SlotExpr ℕ) expr_step (SlotExpr-F.Pooled i)
 
 pub view_Variable : (s : Slot) → expr_view (e.Variable s) ≡ slots.variable (slot_view s)
-view_Variable s = ap expr_view (sym (rolls-Variable s)) ∙ fold-roll-SExpr (slots.SExpr ℕ) expr_step (SExpr-F.Variable s)
+view_Variable s = ap expr_view (sym (rolls-Variable s)) ∙ fold-roll-SlotExpr (slots.SlotExpr ℕ) expr_step (SlotExpr-F.Variable s)
 
 pub view_Field : (f : Field) → expr_view (e.Field f) ≡ slots.field (field_view f)
-view_Field f = ap expr_view (sym (rolls-Field f)) ∙ fold-roll-SExpr (slots.SExpr ℕ) expr_step (SExpr-F.Field f)
+view_Field f = ap expr_view (sym (rolls-Field f)) ∙ fold-roll-SlotExpr (slots.SlotExpr ℕ) expr_step (SlotExpr-F.Field f)
 
 pub view_Absent : expr_view e.Absent ≡ slots.absent
-view_Absent = ap expr_view (sym rolls-Absent) ∙ fold-roll-SExpr (slots.SExpr ℕ) expr_step SExpr-F.Absent
+view_Absent = ap expr_view (sym rolls-Absent) ∙ fold-roll-SlotExpr (slots.SlotExpr ℕ) expr_step SlotExpr-F.Absent
 
 pub view_Made : (k : Maker) (es : Vec Entry Global) → expr_view (e.Made k es) ≡ slots.made (maker_view k) (row_view es.items none)
 view_Made k es =
-    ap expr_view (sym (rolls-Made k es)) ∙ fold-roll-SExpr (slots.SExpr ℕ) expr_step (SExpr-F.Made k es)
+    ap expr_view (sym (rolls-Made k es)) ∙ fold-roll-SlotExpr (slots.SlotExpr ℕ) expr_step (SlotExpr-F.Made k es)
     ∙ ap (slots.made (maker_view k)) (row_map _ (λ b. refl) (λ b. refl) es.items none)
 
-pub view_Conjunction : (a b : Box SExpr Global) → expr_view (e.Conjunction a b) ≡ slots.conjunction (expr_view a.value) (expr_view b.value)
-view_Conjunction a b = ap expr_view (sym (rolls-Conjunction a b)) ∙ fold-roll-SExpr (slots.SExpr ℕ) expr_step (SExpr-F.Conjunction a b)
+pub view_Conjunction : (a b : Box SlotExpr Global) → expr_view (e.Conjunction a b) ≡ slots.conjunction (expr_view a.value) (expr_view b.value)
+view_Conjunction a b = ap expr_view (sym (rolls-Conjunction a b)) ∙ fold-roll-SlotExpr (slots.SlotExpr ℕ) expr_step (SlotExpr-F.Conjunction a b)
 
-pub view_Disjunction : (a b : Box SExpr Global) → expr_view (e.Disjunction a b) ≡ slots.disjunction (expr_view a.value) (expr_view b.value)
-view_Disjunction a b = ap expr_view (sym (rolls-Disjunction a b)) ∙ fold-roll-SExpr (slots.SExpr ℕ) expr_step (SExpr-F.Disjunction a b)
+pub view_Disjunction : (a b : Box SlotExpr Global) → expr_view (e.Disjunction a b) ≡ slots.disjunction (expr_view a.value) (expr_view b.value)
+view_Disjunction a b = ap expr_view (sym (rolls-Disjunction a b)) ∙ fold-roll-SlotExpr (slots.SlotExpr ℕ) expr_step (SlotExpr-F.Disjunction a b)
 
-pub view_Choice : (c a b : Box SExpr Global) → expr_view (e.Choice c a b) ≡ slots.choice (expr_view c.value) (expr_view a.value) (expr_view b.value)
-view_Choice c a b = ap expr_view (sym (rolls-Choice c a b)) ∙ fold-roll-SExpr (slots.SExpr ℕ) expr_step (SExpr-F.Choice c a b)
+pub view_Choice : (c a b : Box SlotExpr Global) → expr_view (e.Choice c a b) ≡ slots.choice (expr_view c.value) (expr_view a.value) (expr_view b.value)
+view_Choice c a b = ap expr_view (sym (rolls-Choice c a b)) ∙ fold-roll-SlotExpr (slots.SlotExpr ℕ) expr_step (SlotExpr-F.Choice c a b)
 
 pub view_Invoke : (u : ℕ) (escaping : Bool) (es : Vec Entry Global) → expr_view (e.Invoke u escaping es) ≡ slots.invoke u escaping (row_view es.items none)
 view_Invoke u escaping es =
-    ap expr_view (sym (rolls-Invoke u escaping es)) ∙ fold-roll-SExpr (slots.SExpr ℕ) expr_step (SExpr-F.Invoke u escaping es)
+    ap expr_view (sym (rolls-Invoke u escaping es)) ∙ fold-roll-SlotExpr (slots.SlotExpr ℕ) expr_step (SlotExpr-F.Invoke u escaping es)
     ∙ ap (slots.invoke u escaping) (row_map _ (λ b. refl) (λ b. refl) es.items none)
 
 -- ---- by what stands behind the references
 
-pub seen_conjunction : (s : SExpr) (a b : Box SExpr Global) (x y : SExpr) → s ≡ e.Conjunction a b → x ≡ a.value → y ≡ b.value → expr_view s ≡ slots.conjunction (expr_view x) (expr_view y)
+pub seen_conjunction : (s : SlotExpr) (a b : Box SlotExpr Global) (x y : SlotExpr) → s ≡ e.Conjunction a b → x ≡ a.value → y ≡ b.value → expr_view s ≡ slots.conjunction (expr_view x) (expr_view y)
 seen_conjunction s a b x y is p q = ap expr_view is ∙ view_Conjunction a b ∙ ap (λ z. slots.conjunction (expr_view z) (expr_view b.value)) (sym p) ∙ ap (λ z. slots.conjunction (expr_view x) (expr_view z)) (sym q)
 
-pub seen_disjunction : (s : SExpr) (a b : Box SExpr Global) (x y : SExpr) → s ≡ e.Disjunction a b → x ≡ a.value → y ≡ b.value → expr_view s ≡ slots.disjunction (expr_view x) (expr_view y)
+pub seen_disjunction : (s : SlotExpr) (a b : Box SlotExpr Global) (x y : SlotExpr) → s ≡ e.Disjunction a b → x ≡ a.value → y ≡ b.value → expr_view s ≡ slots.disjunction (expr_view x) (expr_view y)
 seen_disjunction s a b x y is p q = ap expr_view is ∙ view_Disjunction a b ∙ ap (λ z. slots.disjunction (expr_view z) (expr_view b.value)) (sym p) ∙ ap (λ z. slots.disjunction (expr_view x) (expr_view z)) (sym q)
 
-pub seen_choice : (s : SExpr) (c a b : Box SExpr Global) (w x y : SExpr) → s ≡ e.Choice c a b → w ≡ c.value → x ≡ a.value → y ≡ b.value → expr_view s ≡ slots.choice (expr_view w) (expr_view x) (expr_view y)
+pub seen_choice : (s : SlotExpr) (c a b : Box SlotExpr Global) (w x y : SlotExpr) → s ≡ e.Choice c a b → w ≡ c.value → x ≡ a.value → y ≡ b.value → expr_view s ≡ slots.choice (expr_view w) (expr_view x) (expr_view y)
 seen_choice s c a b w x y is o p q =
     ap expr_view is ∙ view_Choice c a b ∙ ap (λ z. slots.choice (expr_view z) (expr_view a.value) (expr_view b.value)) (sym o)
     ∙ ap (λ z. slots.choice (expr_view w) (expr_view z) (expr_view b.value)) (sym p) ∙ ap (λ z. slots.choice (expr_view w) (expr_view x) (expr_view z)) (sym q)
 
-pub seen_made : (s : SExpr) (k : Maker) (es : Vec Entry Global) (ds : List Entry) → s ≡ e.Made k es → ds ≡ es.items → expr_view s ≡ slots.made (maker_view k) (row_view ds none)
+pub seen_made : (s : SlotExpr) (k : Maker) (es : Vec Entry Global) (ds : List Entry) → s ≡ e.Made k es → ds ≡ es.items → expr_view s ≡ slots.made (maker_view k) (row_view ds none)
 seen_made s k es ds is same = ap expr_view is ∙ view_Made k es ∙ ap (λ (l : List Entry). slots.made (maker_view k) (row_view l none)) (sym same)
 
-pub seen_invoke : (s : SExpr) (u : ℕ) (escaping : Bool) (es : Vec Entry Global) (ds : List Entry) → s ≡ e.Invoke u escaping es → ds ≡ es.items → expr_view s ≡ slots.invoke u escaping (row_view ds none)
+pub seen_invoke : (s : SlotExpr) (u : ℕ) (escaping : Bool) (es : Vec Entry Global) (ds : List Entry) → s ≡ e.Invoke u escaping es → ds ≡ es.items → expr_view s ≡ slots.invoke u escaping (row_view ds none)
 seen_invoke s u escaping es ds is same = ap expr_view is ∙ view_Invoke u escaping es ∙ ap (λ (l : List Entry). slots.invoke u escaping (row_view l none)) (sym same)
 
 -- ---- rows

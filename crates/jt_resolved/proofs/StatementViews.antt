@@ -8,18 +8,18 @@ use Rattle.jt_resolved.specs.View.{Front, slot_view, targets_view, place_view, e
 use Rattle.jt_resolved.specs.declared.program.Place.{Place}
 use Rattle.jt_resolved.specs.declared.program.Slot.{Slot}
 use Rattle.jt_resolved.specs.declared.program.Targets.{Targets}
-use Rattle.jt_resolved.specs.declared.program.SExpr.{SExpr}
-use Rattle.jt_resolved.specs.declared.program.SStmt.{SStmt, the_lemmas, fold-roll-SStmt}
-use Rattle.jt_resolved.specs.declared.program.SStmt.TheOpen.{SStmt-F}
-use Rattle.jt_resolved.specs.declared.program.SStmt.TheVariants as s
-use Rattle.jt_resolved.specs.declared.program.SStmt.TheVariants.{rolls-If, rolls-For, rolls-Capture}
+use Rattle.jt_resolved.specs.declared.program.SlotExpr.{SlotExpr}
+use Rattle.jt_resolved.specs.declared.program.SlotStmt.{SlotStmt, the_lemmas, fold-roll-SlotStmt}
+use Rattle.jt_resolved.specs.declared.program.SlotStmt.TheOpen.{SlotStmt-F}
+use Rattle.jt_resolved.specs.declared.program.SlotStmt.TheVariants as s
+use Rattle.jt_resolved.specs.declared.program.SlotStmt.TheVariants.{rolls-If, rolls-For, rolls-Capture}
 use Rattle.jt_resolved.proofs.ExpressionViews.{Entry}
 
 abbrev pub SBranch : Type 0
-SBranch = Place × SExpr × Vec SStmt Global
+SBranch = Place × SlotExpr × Vec SlotStmt Global
 
 abbrev Shown : Type 0
-Shown = Place × SExpr × Vec Front Global
+Shown = Place × SlotExpr × Vec Front Global
 
 module _ (templates : List Text) where
   -- a view of each branch that keeps place and condition, and shows each statement inside
@@ -28,33 +28,33 @@ module _ (templates : List Text) where
   choice_map g p q r [] other behind = refl
   choice_map g p q r (b ∷ bs) other behind =
       let rest = choice_front templates (map g bs) other slots.end in
-      let shown = λ (l : Place) (e : SExpr) (fs : List Front) (z : SBody ℕ). slots.stmt (slots.if_else (place_view templates l) (expr_view e) (body_front fs slots.end) z) behind in
+      let shown = λ (l : Place) (e : SlotExpr) (fs : List Front) (z : SBody ℕ). slots.stmt (slots.if_else (place_view templates l) (expr_view e) (body_front fs slots.end) z) behind in
       ap (λ (l : Place). shown l (g b).1 (g b).2.items rest) (p b)
-      ∙ ap (λ (e : SExpr). shown b.0 e (g b).2.items rest) (q b)
+      ∙ ap (λ (e : SlotExpr). shown b.0 e (g b).2.items rest) (q b)
       ∙ ap (λ (fs : List Front). shown b.0 b.1 fs rest) (r b)
       ∙ ap (λ (z : SBody ℕ). shown b.0 b.1 (map (stmt_view templates) b.2.items) z) (choice_map g p q r bs other slots.end)
 
-  pub view_If : (bs : Vec SBranch Global) (other : Vec SStmt Global) (behind : SBody ℕ) → stmt_view templates (s.If bs other) behind ≡ choice_view templates bs.items (body_view templates other.items) behind
+  pub view_If : (bs : Vec SBranch Global) (other : Vec SlotStmt Global) (behind : SBody ℕ) → stmt_view templates (s.If bs other) behind ≡ choice_view templates bs.items (body_view templates other.items) behind
   view_If bs other behind =
-      ap (λ (x : SStmt). stmt_view templates x behind) (sym (rolls-If bs other)) ∙ ap (λ (f : Front). f behind) (fold-roll-SStmt Front (stmt_step templates) (SStmt-F.If bs other))
+      ap (λ (x : SlotStmt). stmt_view templates x behind) (sym (rolls-If bs other)) ∙ ap (λ (f : Front). f behind) (fold-roll-SlotStmt Front (stmt_step templates) (SlotStmt-F.If bs other))
       ∙ choice_map _ (λ b. refl) (λ b. refl) (λ b. refl) bs.items (body_view templates other.items) behind
 
-  pub view_For : (p : Place) (xs : Targets) (e : SExpr) (c : Option SExpr) (body other : Vec SStmt Global) (behind : SBody ℕ) → stmt_view templates (s.For p xs e c body other) behind
+  pub view_For : (p : Place) (xs : Targets) (e : SlotExpr) (c : Option SlotExpr) (body other : Vec SlotStmt Global) (behind : SBody ℕ) → stmt_view templates (s.For p xs e c body other) behind
       ≡ slots.stmt (slots.for_each (place_view templates p) (targets_view xs) (expr_view e) (option_map expr_view c) (body_view templates body.items slots.end) (body_view templates other.items slots.end)) behind
   view_For p xs e c body other behind =
-      ap (λ (x : SStmt). stmt_view templates x behind) (sym (rolls-For p xs e c body other)) ∙ ap (λ (f : Front). f behind) (fold-roll-SStmt Front (stmt_step templates) (SStmt-F.For p xs e c body other))
+      ap (λ (x : SlotStmt). stmt_view templates x behind) (sym (rolls-For p xs e c body other)) ∙ ap (λ (f : Front). f behind) (fold-roll-SlotStmt Front (stmt_step templates) (SlotStmt-F.For p xs e c body other))
 
-  pub view_Capture : (escaping : Bool) (x : Slot) (body : Vec SStmt Global) (behind : SBody ℕ) → stmt_view templates (s.Capture escaping x body) behind ≡ slots.stmt (slots.capture escaping (slot_view x) (body_view templates body.items slots.end)) behind
+  pub view_Capture : (escaping : Bool) (x : Slot) (body : Vec SlotStmt Global) (behind : SBody ℕ) → stmt_view templates (s.Capture escaping x body) behind ≡ slots.stmt (slots.capture escaping (slot_view x) (body_view templates body.items slots.end)) behind
   view_Capture escaping x body behind =
-      ap (λ (z : SStmt). stmt_view templates z behind) (sym (rolls-Capture escaping x body)) ∙ ap (λ (f : Front). f behind) (fold-roll-SStmt Front (stmt_step templates) (SStmt-F.Capture escaping x body))
+      ap (λ (z : SlotStmt). stmt_view templates z behind) (sym (rolls-Capture escaping x body)) ∙ ap (λ (f : Front). f behind) (fold-roll-SlotStmt Front (stmt_step templates) (SlotStmt-F.Capture escaping x body))
 
   pub view_PutPooled : (i : ℕ) (behind : SBody ℕ) → stmt_view templates (s.PutPooled i) behind ≡ slots.stmt (slots.put_pooled i) behind
   view_PutPooled i behind = search (rules, the_lemmas)
 
-  pub view_Print : (p : Place) (escaping : Bool) (e : SExpr) (behind : SBody ℕ) → stmt_view templates (s.Print p escaping e) behind ≡ slots.stmt (slots.print (place_view templates p) escaping (expr_view e)) behind
+  pub view_Print : (p : Place) (escaping : Bool) (e : SlotExpr) (behind : SBody ℕ) → stmt_view templates (s.Print p escaping e) behind ≡ slots.stmt (slots.print (place_view templates p) escaping (expr_view e)) behind
   view_Print p escaping e behind = search (rules, the_lemmas)
 
-  pub view_Assign : (p : Place) (xs : Targets) (e : SExpr) (behind : SBody ℕ) → stmt_view templates (s.Assign p xs e) behind ≡ slots.stmt (slots.assign (place_view templates p) (targets_view xs) (expr_view e)) behind
+  pub view_Assign : (p : Place) (xs : Targets) (e : SlotExpr) (behind : SBody ℕ) → stmt_view templates (s.Assign p xs e) behind ≡ slots.stmt (slots.assign (place_view templates p) (targets_view xs) (expr_view e)) behind
   view_Assign p xs e behind = search (rules, the_lemmas)
 
   pub view_Run : (u : ℕ) (es : Vec Entry Global) (behind : SBody ℕ) → stmt_view templates (s.Run u es) behind ≡ slots.stmt (slots.run u (row_view es.items none)) behind
@@ -62,7 +62,7 @@ module _ (templates : List Text) where
 
   -- ---- one statement or one branch more
 
-  pub body_push : (ss : List SStmt) (x : SStmt) (behind : SBody ℕ) → body_view templates (ss ++ x ∷ []) behind ≡ body_view templates ss (stmt_view templates x behind)
+  pub body_push : (ss : List SlotStmt) (x : SlotStmt) (behind : SBody ℕ) → body_view templates (ss ++ x ∷ []) behind ≡ body_view templates ss (stmt_view templates x behind)
   body_push [] x behind = refl
   body_push (y ∷ ss) x behind = ap (stmt_view templates y) (body_push ss x behind)
 

@@ -1,6 +1,6 @@
 -- How many locals a resolved body uses: one more than the last one that is stored or loaded.
 use Rattle.std.specs.Prelude.{ℕ, suc, max, List, [], ◌∷◌, Option, Some, None}
-use Rattle.jt_resolved.specs.Slots.{Slot, local, global, SExpr, pooled, variable, field, absent, made, conjunction, disjunction, choice, invoke, SRow, none, item, aside, Targets, one, several, SStmt, put_pooled, print, assign, if_else, for_each, capture, run, SBody, end, stmt}
+use Rattle.jt_resolved.specs.Slots.{Slot, local, global, SlotExpr, pooled, variable, field, absent, made, conjunction, disjunction, choice, invoke, SRow, none, item, aside, Targets, one, several, SlotStmt, put_pooled, print, assign, if_else, for_each, capture, run, SBody, end, stmt}
 
 abbrev pub slot_locals : Slot → ℕ
 slot_locals (local i) = suc i
@@ -17,7 +17,7 @@ targets_locals (several ss) = slots_locals ss
 
 module _ {K : Type 0} where
   abbrev mutual
-    pub expr_locals : SExpr K → ℕ
+    pub expr_locals : SlotExpr K → ℕ
     expr_locals (pooled k) = 0
     expr_locals (variable s) = slot_locals s
     expr_locals (field f) = 0
@@ -33,12 +33,12 @@ module _ {K : Type 0} where
     row_locals (item e es) = max (expr_locals e) (row_locals es)
     row_locals (aside i e es) = max (suc i) (max (expr_locals e) (row_locals es))
 
-  abbrev pub condition_locals : Option (SExpr K) → ℕ
+  abbrev pub condition_locals : Option (SlotExpr K) → ℕ
   condition_locals None = 0
   condition_locals (Some c) = expr_locals c
 
   abbrev mutual
-    pub stmt_locals : SStmt K → ℕ
+    pub stmt_locals : SlotStmt K → ℕ
     stmt_locals (put_pooled k) = 0
     stmt_locals (print p escaping e) = expr_locals e
     stmt_locals (assign p xs e) = max (targets_locals xs) (expr_locals e)

@@ -2,7 +2,7 @@
 use Rattle.std.specs.Prelude.{ℕ, ◌+◌, List, [], ◌∷◌, ◌++◌, length, Option, Some, None}
 use Rattle.jt_value.specs.Tree.{Tree}
 use Rattle.jt_evaluation.specs.Loops.{tree_at}
-use Rattle.jt_resolved.specs.Slots.{SExpr, pooled, variable, field, absent, made, conjunction, disjunction, choice, invoke, SRow, none, item, aside, SStmt, put_pooled, print, assign, if_else, for_each, capture, run, SBody, end, stmt, Routine}
+use Rattle.jt_resolved.specs.Slots.{SlotExpr, pooled, variable, field, absent, made, conjunction, disjunction, choice, invoke, SRow, none, item, aside, SlotStmt, put_pooled, print, assign, if_else, for_each, capture, run, SBody, end, stmt, Routine}
 
 -- a value that takes a place of the pool where it stands, or one of those in front of the pool
 pub data Constant : Type 0 where
@@ -20,7 +20,7 @@ constant_values (own v) = v ∷ []
 constant_values (known i) = []
 
 abbrev mutual
-  pub expr_values : SExpr Constant → List Tree
+  pub expr_values : SlotExpr Constant → List Tree
   expr_values (pooled k) = constant_values k
   expr_values (variable s) = []
   expr_values (field f) = []
@@ -36,12 +36,12 @@ abbrev mutual
   row_values (item e es) = expr_values e ++ row_values es
   row_values (aside i e es) = expr_values e ++ row_values es
 
-abbrev pub condition_values : Option (SExpr Constant) → List Tree
+abbrev pub condition_values : Option (SlotExpr Constant) → List Tree
 condition_values None = []
 condition_values (Some c) = expr_values c
 
 abbrev mutual
-  pub stmt_values : SStmt Constant → List Tree
+  pub stmt_values : SlotStmt Constant → List Tree
   stmt_values (put_pooled k) = constant_values k
   stmt_values (print p escaping e) = expr_values e
   stmt_values (assign p xs e) = expr_values e
@@ -65,7 +65,7 @@ placed (own v) n = n
 placed (known i) n = i
 
 abbrev mutual
-  pub placed_expr : SExpr Constant → ℕ → SExpr ℕ
+  pub placed_expr : SlotExpr Constant → ℕ → SlotExpr ℕ
   placed_expr (pooled k) n = pooled (placed k n)
   placed_expr (variable s) n = variable s
   placed_expr (field f) n = field f
@@ -81,12 +81,12 @@ abbrev mutual
   placed_row (item e es) n = item (placed_expr e n) (placed_row es (n + length (expr_values e)))
   placed_row (aside i e es) n = aside i (placed_expr e n) (placed_row es (n + length (expr_values e)))
 
-abbrev pub placed_condition : Option (SExpr Constant) → ℕ → Option (SExpr ℕ)
+abbrev pub placed_condition : Option (SlotExpr Constant) → ℕ → Option (SlotExpr ℕ)
 placed_condition None n = None
 placed_condition (Some c) n = Some (placed_expr c n)
 
 abbrev mutual
-  pub placed_stmt : SStmt Constant → ℕ → SStmt ℕ
+  pub placed_stmt : SlotStmt Constant → ℕ → SlotStmt ℕ
   placed_stmt (put_pooled k) n = put_pooled (placed k n)
   placed_stmt (print p escaping e) n = print p escaping (placed_expr e n)
   placed_stmt (assign p xs e) n = assign p xs (placed_expr e n)

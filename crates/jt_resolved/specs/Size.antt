@@ -1,6 +1,6 @@
 -- How large resolved trees are, in instructions and entries: what each form stands for, before any code exists.
 use Rattle.std.specs.Prelude.{ℕ, suc, ◌+◌, max, List, [], ◌∷◌, length, Option, Some, None}
-use Rattle.jt_resolved.specs.Slots.{SExpr, pooled, variable, field, absent, made, conjunction, disjunction, choice, invoke, SRow, none, item, aside, Targets, one, several, SStmt, put_pooled, print, assign, if_else, for_each, capture, run, SBody, end, stmt, Routine}
+use Rattle.jt_resolved.specs.Slots.{SlotExpr, pooled, variable, field, absent, made, conjunction, disjunction, choice, invoke, SRow, none, item, aside, Targets, one, several, SlotStmt, put_pooled, print, assign, if_else, for_each, capture, run, SBody, end, stmt, Routine}
 
 -- the values of a row
 abbrev pub row_count : {K : Type 0} → SRow K → ℕ
@@ -22,7 +22,7 @@ module _ {K : Type 0} where
   -- ---- size: the instructions that a form stands for
 
   abbrev mutual
-    pub expr_size : SExpr K → ℕ
+    pub expr_size : SlotExpr K → ℕ
     expr_size (pooled k) = 1
     expr_size (variable s) = 1
     expr_size (field f) = 1
@@ -40,12 +40,12 @@ module _ {K : Type 0} where
     row_size (aside i e es) = expr_size e + 1 + row_size es
 
   -- the pass before the turns: next, item, targets, condition, keep, back, and the rewinding
-  abbrev pub condition_size : Targets → Option (SExpr K) → ℕ
+  abbrev pub condition_size : Targets → Option (SlotExpr K) → ℕ
   condition_size xs None = 0
   condition_size xs (Some c) = 5 + targets_size xs + expr_size c
 
   abbrev mutual
-    pub stmt_size : SStmt K → ℕ
+    pub stmt_size : SlotStmt K → ℕ
     stmt_size (put_pooled k) = 1
     stmt_size (print p escaping e) = expr_size e + 1
     stmt_size (assign p xs e) = expr_size e + targets_size xs
@@ -68,7 +68,7 @@ module _ {K : Type 0} where
   -- ---- height: the entries that a form needs, above those that are there; the value of an expression is one
 
   abbrev mutual
-    pub expr_height : SExpr K → ℕ
+    pub expr_height : SlotExpr K → ℕ
     expr_height (pooled k) = 1
     expr_height (variable s) = 1
     expr_height (field f) = 1
@@ -86,12 +86,12 @@ module _ {K : Type 0} where
     row_height (item e es) = max (expr_height e) (1 + row_height es)
     row_height (aside i e es) = max (expr_height e) (row_height es)
 
-  abbrev pub condition_height : Option (SExpr K) → ℕ
+  abbrev pub condition_height : Option (SlotExpr K) → ℕ
   condition_height None = 0
   condition_height (Some c) = expr_height c
 
   abbrev mutual
-    pub stmt_height : SStmt K → ℕ
+    pub stmt_height : SlotStmt K → ℕ
     stmt_height (put_pooled k) = 0
     stmt_height (print p escaping e) = expr_height e
     stmt_height (assign p xs e) = max (expr_height e) (targets_height xs)

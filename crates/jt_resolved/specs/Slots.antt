@@ -34,27 +34,27 @@ pub data Maker : Type 0 where
   a_map : Maker
 
 mutual
-  pub data SExpr (K : Type 0) : Type 0 where
-    pooled : K → SExpr K
-    variable : Slot → SExpr K
+  pub data SlotExpr (K : Type 0) : Type 0 where
+    pooled : K → SlotExpr K
+    variable : Slot → SlotExpr K
     -- of the innermost loop
-    field : Field → SExpr K
+    field : Field → SlotExpr K
     -- what no name means: it has no instruction, and neither text nor fault at any depth
-    absent : SExpr K
-    made : Maker → SRow K → SExpr K
+    absent : SlotExpr K
+    made : Maker → SRow K → SlotExpr K
     -- the first if it is false, else the second; the first if it is true, else the second
-    conjunction : SExpr K → SExpr K → SExpr K
-    disjunction : SExpr K → SExpr K → SExpr K
+    conjunction : SlotExpr K → SlotExpr K → SlotExpr K
+    disjunction : SlotExpr K → SlotExpr K → SlotExpr K
     -- the second if the first is true, else the third
-    choice : SExpr K → SExpr K → SExpr K → SExpr K
+    choice : SlotExpr K → SlotExpr K → SlotExpr K → SlotExpr K
     -- the text of a routine on a row of arguments: markup with true, else a plain text
-    invoke : ℕ → Bool → SRow K → SExpr K
+    invoke : ℕ → Bool → SRow K → SlotExpr K
 
   -- expressions from left to right: a value of the row, or one that is kept aside in a local
   pub data SRow (K : Type 0) : Type 0 where
     none : SRow K
-    item : SExpr K → SRow K → SRow K
-    aside : ℕ → SExpr K → SRow K → SRow K
+    item : SlotExpr K → SRow K → SRow K
+    aside : ℕ → SlotExpr K → SRow K → SRow K
 
 -- what takes a value: a slot, or several that take its items, each one or none
 pub data Targets : Type 0 where
@@ -62,22 +62,22 @@ pub data Targets : Type 0 where
   several : List (Option Slot) → Targets
 
 mutual
-  pub data SStmt (K : Type 0) : Type 0 where
+  pub data SlotStmt (K : Type 0) : Type 0 where
     -- a plain text, as it is
-    put_pooled : K → SStmt K
-    print : Place → Bool → SExpr K → SStmt K
-    assign : Place → Targets → SExpr K → SStmt K
-    if_else : Place → SExpr K → SBody K → SBody K → SStmt K
+    put_pooled : K → SlotStmt K
+    print : Place → Bool → SlotExpr K → SlotStmt K
+    assign : Place → Targets → SlotExpr K → SlotStmt K
+    if_else : Place → SlotExpr K → SBody K → SBody K → SlotStmt K
     -- what takes the items, what is gone over, the condition, the body of a turn, and the else part
-    for_each : Place → Targets → SExpr K → Option (SExpr K) → SBody K → SBody K → SStmt K
+    for_each : Place → Targets → SlotExpr K → Option (SlotExpr K) → SBody K → SBody K → SlotStmt K
     -- the text of a body into a slot: markup with true, else a plain text
-    capture : Bool → Slot → SBody K → SStmt K
+    capture : Bool → Slot → SBody K → SlotStmt K
     -- what a routine prints on a row of arguments
-    run : ℕ → SRow K → SStmt K
+    run : ℕ → SRow K → SlotStmt K
 
   pub data SBody (K : Type 0) : Type 0 where
     end : SBody K
-    stmt : SStmt K → SBody K → SBody K
+    stmt : SlotStmt K → SBody K → SBody K
 
 -- a unit of code: its parameters, its locals, the parameters among them, and its body
 pub record Routine (K : Type 0) : Type 0 where
@@ -179,7 +179,7 @@ with_locals (suc n) (t ∷ ts) = t ∷ with_locals n ts
 
 module _ {K : Type 0} (filters : Filters) (constant : K → Tree) (call : SCalls) where
   abbrev mutual
-    pub svalue : SExpr K → Option Loop → Memory → Got Valued
+    pub svalue : SlotExpr K → Option Loop → Memory → Got Valued
     svalue (pooled k) l m = valued m (constant k)
     svalue (variable s) l m = valued m (load s m)
     svalue (field f) l m = bind (loop_field f l) (valued m)
@@ -198,7 +198,7 @@ module _ {K : Type 0} (filters : Filters) (constant : K → Tree) (call : SCalls
     svalues (aside i e es) l m = bind (svalue e l m) (λ r. svalues es l (store (local i) r.value r.memory))
 
   -- the items for which the condition holds, each taken by the targets first; it sees no loop
-  abbrev pub skept : Option (SExpr K) → Targets → List Tree → Memory → Got Listed
+  abbrev pub skept : Option (SlotExpr K) → Targets → List Tree → Memory → Got Listed
   skept None xs vs m = gives (record { values = vs; memory = m })
   skept (Some c) xs [] m = gives (record { values = []; memory = m })
   skept (Some c) xs (v ∷ vs) m =
@@ -206,7 +206,7 @@ module _ {K : Type 0} (filters : Filters) (constant : K → Tree) (call : SCalls
       gives (if tree.truth r.value then in_front v rest else rest))))
 
   abbrev mutual
-    pub smeaning : SStmt K → Option Loop → Memory → Got Memory
+    pub smeaning : SlotStmt K → Option Loop → Memory → Got Memory
     smeaning (put_pooled k) l m = gives (record m { out = m.out ++ bytes_of (constant k) })
     smeaning (print p escaping e) l m =
         at p (bind (svalue e l m) (λ r. bind (shown escaping r.value) (λ s. gives (record r.memory { out = r.memory.out ++ s }))))

@@ -5,7 +5,7 @@ use Rattle.jt_ids.specs.OpTable.{op_operands}
 use Rattle.jt_ids.specs.TestTable.{test_values}
 use Rattle.jt_evaluation.specs.Filters.{Filters}
 use Rattle.jt_resolved.specs.Size.{row_count}
-use Rattle.jt_resolved.specs.Slots.{Maker, operator, test, filter, a_list, a_map, SExpr, pooled, variable, field, absent, made, conjunction, disjunction, choice, invoke, SRow, none, item, aside, SStmt, put_pooled, print, assign, if_else, for_each, capture, run, SBody, end, stmt, Routine}
+use Rattle.jt_resolved.specs.Slots.{Maker, operator, test, filter, a_list, a_map, SlotExpr, pooled, variable, field, absent, made, conjunction, disjunction, choice, invoke, SRow, none, item, aside, SlotStmt, put_pooled, print, assign, if_else, for_each, capture, run, SBody, end, stmt, Routine}
 
 -- keys and values in turn
 abbrev pub InPairs : ℕ → Type 0
@@ -28,7 +28,7 @@ HasParameters (Some r) n = r.parameters ≡ n
 module _ {K : Type 0} (fs : Filters) (rs : List (Routine K)) where
   -- with true: a loop is around
   abbrev mutual
-    pub ExprTakes : Bool → SExpr K → Type 0
+    pub ExprTakes : Bool → SlotExpr K → Type 0
     ExprTakes l (pooled k) = Unit {0}
     ExprTakes l (variable s) = Unit {0}
     ExprTakes l (field f) = IsTrue l
@@ -45,12 +45,12 @@ module _ {K : Type 0} (fs : Filters) (rs : List (Routine K)) where
     RowTakes l (item e es) = ExprTakes l e × RowTakes l es
     RowTakes l (aside i e es) = ExprTakes l e × RowTakes l es
 
-  abbrev pub ConditionTakes : Option (SExpr K) → Type 0
+  abbrev pub ConditionTakes : Option (SlotExpr K) → Type 0
   ConditionTakes None = Unit {0}
   ConditionTakes (Some c) = ExprTakes false c
 
   abbrev mutual
-    pub StmtTakes : Bool → SStmt K → Type 0
+    pub StmtTakes : Bool → SlotStmt K → Type 0
     StmtTakes l (put_pooled k) = Unit {0}
     StmtTakes l (print p escaping e) = ExprTakes l e
     StmtTakes l (assign p xs e) = ExprTakes l e

@@ -17,10 +17,10 @@ use Rattle.jt_resolved.specs.declared.program.Maker.{Maker}
 use Rattle.jt_resolved.specs.declared.program.Maker.TheVariants as m
 use Rattle.jt_resolved.specs.declared.program.Targets.{Targets}
 use Rattle.jt_resolved.specs.declared.program.Targets.TheVariants as t
-use Rattle.jt_resolved.specs.declared.program.SExpr.{SExpr, fold-SExpr}
-use Rattle.jt_resolved.specs.declared.program.SExpr.TheOpen.{SExpr-F}
-use Rattle.jt_resolved.specs.declared.program.SStmt.{SStmt, fold-SStmt}
-use Rattle.jt_resolved.specs.declared.program.SStmt.TheOpen.{SStmt-F}
+use Rattle.jt_resolved.specs.declared.program.SlotExpr.{SlotExpr, fold-SlotExpr}
+use Rattle.jt_resolved.specs.declared.program.SlotExpr.TheOpen.{SlotExpr-F}
+use Rattle.jt_resolved.specs.declared.program.SlotStmt.{SlotStmt, fold-SlotStmt}
+use Rattle.jt_resolved.specs.declared.program.SlotStmt.TheOpen.{SlotStmt-F}
 use Rattle.jt_resolved.specs.declared.program.Routine.{Routine}
 use Rattle.jt_resolved.specs.declared.program.Program.{Program}
 
@@ -51,31 +51,31 @@ targets_view (t.One s) = slots.one (slot_view s)
 targets_view (t.Several ss) = slots.several (map (option_map slot_view) ss.items)
 
 -- an expression in front of a row: an argument, or one that is kept aside
-abbrev pub entry_front : Option ℕ → slots.SExpr ℕ → SRow ℕ → SRow ℕ
+abbrev pub entry_front : Option ℕ → slots.SlotExpr ℕ → SRow ℕ → SRow ℕ
 entry_front None e behind = slots.item e behind
 entry_front (Some i) e behind = slots.aside i e behind
 
-abbrev pub row_front : List (Option ℕ × slots.SExpr ℕ) → SRow ℕ → SRow ℕ
+abbrev pub row_front : List (Option ℕ × slots.SlotExpr ℕ) → SRow ℕ → SRow ℕ
 row_front [] behind = behind
 row_front (e ∷ es) behind = entry_front e.0 e.1 (row_front es behind)
 
 -- one expression, with each expression inside already seen
-abbrev pub expr_step : SExpr-F (slots.SExpr ℕ) → slots.SExpr ℕ
-expr_step (SExpr-F.Pooled i) = slots.pooled i
-expr_step (SExpr-F.Variable s) = slots.variable (slot_view s)
-expr_step (SExpr-F.Field f) = slots.field (field_view f)
-expr_step SExpr-F.Absent = slots.absent
-expr_step (SExpr-F.Made k es) = slots.made (maker_view k) (row_front es.items slots.none)
-expr_step (SExpr-F.Conjunction a b) = slots.conjunction a.value b.value
-expr_step (SExpr-F.Disjunction a b) = slots.disjunction a.value b.value
-expr_step (SExpr-F.Choice c a b) = slots.choice c.value a.value b.value
-expr_step (SExpr-F.Invoke u escaping es) = slots.invoke u escaping (row_front es.items slots.none)
+abbrev pub expr_step : SlotExpr-F (slots.SlotExpr ℕ) → slots.SlotExpr ℕ
+expr_step (SlotExpr-F.Pooled i) = slots.pooled i
+expr_step (SlotExpr-F.Variable s) = slots.variable (slot_view s)
+expr_step (SlotExpr-F.Field f) = slots.field (field_view f)
+expr_step SlotExpr-F.Absent = slots.absent
+expr_step (SlotExpr-F.Made k es) = slots.made (maker_view k) (row_front es.items slots.none)
+expr_step (SlotExpr-F.Conjunction a b) = slots.conjunction a.value b.value
+expr_step (SlotExpr-F.Disjunction a b) = slots.disjunction a.value b.value
+expr_step (SlotExpr-F.Choice c a b) = slots.choice c.value a.value b.value
+expr_step (SlotExpr-F.Invoke u escaping es) = slots.invoke u escaping (row_front es.items slots.none)
 
-abbrev pub expr_view : SExpr → slots.SExpr ℕ
-expr_view = fold-SExpr (slots.SExpr ℕ) expr_step
+abbrev pub expr_view : SlotExpr → slots.SlotExpr ℕ
+expr_view = fold-SlotExpr (slots.SlotExpr ℕ) expr_step
 
 -- expressions in front of a row
-abbrev pub row_view : List (Option ℕ × SExpr) → SRow ℕ → SRow ℕ
+abbrev pub row_view : List (Option ℕ × SlotExpr) → SRow ℕ → SRow ℕ
 row_view [] behind = behind
 row_view (e ∷ es) behind = entry_front e.0 (expr_view e.1) (row_view es behind)
 
@@ -92,30 +92,30 @@ module _ (templates : List Text) where
   place_view p = record { template = unwrap_or (slice_get templates p.template) []; line = p.line }
 
   -- each branch has the later ones in its other part, and the last one the else part
-  abbrev pub choice_front : List (Place × SExpr × Vec Front Global) → Front → Front
+  abbrev pub choice_front : List (Place × SlotExpr × Vec Front Global) → Front → Front
   choice_front [] other behind = other behind
   choice_front (b ∷ bs) other behind = slots.stmt (slots.if_else (place_view b.0) (expr_view b.1) (body_front b.2.items slots.end) (choice_front bs other slots.end)) behind
 
   -- one statement, with each statement inside already seen as what it puts in front
-  abbrev pub stmt_step : SStmt-F Front → Front
-  stmt_step (SStmt-F.PutPooled i) behind = slots.stmt (slots.put_pooled i) behind
-  stmt_step (SStmt-F.Print p escaping e) behind = slots.stmt (slots.print (place_view p) escaping (expr_view e)) behind
-  stmt_step (SStmt-F.Assign p xs e) behind = slots.stmt (slots.assign (place_view p) (targets_view xs) (expr_view e)) behind
-  stmt_step (SStmt-F.If bs other) behind = choice_front bs.items (body_front other.items) behind
-  stmt_step (SStmt-F.For p xs e c body other) behind =
+  abbrev pub stmt_step : SlotStmt-F Front → Front
+  stmt_step (SlotStmt-F.PutPooled i) behind = slots.stmt (slots.put_pooled i) behind
+  stmt_step (SlotStmt-F.Print p escaping e) behind = slots.stmt (slots.print (place_view p) escaping (expr_view e)) behind
+  stmt_step (SlotStmt-F.Assign p xs e) behind = slots.stmt (slots.assign (place_view p) (targets_view xs) (expr_view e)) behind
+  stmt_step (SlotStmt-F.If bs other) behind = choice_front bs.items (body_front other.items) behind
+  stmt_step (SlotStmt-F.For p xs e c body other) behind =
       slots.stmt (slots.for_each (place_view p) (targets_view xs) (expr_view e) (option_map expr_view c) (body_front body.items slots.end) (body_front other.items slots.end)) behind
-  stmt_step (SStmt-F.Capture escaping s body) behind = slots.stmt (slots.capture escaping (slot_view s) (body_front body.items slots.end)) behind
-  stmt_step (SStmt-F.Run u es) behind = slots.stmt (slots.run u (row_view es.items slots.none)) behind
+  stmt_step (SlotStmt-F.Capture escaping s body) behind = slots.stmt (slots.capture escaping (slot_view s) (body_front body.items slots.end)) behind
+  stmt_step (SlotStmt-F.Run u es) behind = slots.stmt (slots.run u (row_view es.items slots.none)) behind
 
   -- a statement in front of others
-  abbrev pub stmt_view : SStmt → Front
-  stmt_view = fold-SStmt Front stmt_step
+  abbrev pub stmt_view : SlotStmt → Front
+  stmt_view = fold-SlotStmt Front stmt_step
 
   -- statements in front of others
-  abbrev pub body_view : List SStmt → Front
+  abbrev pub body_view : List SlotStmt → Front
   body_view ss = body_front (map stmt_view ss)
 
-  abbrev pub choice_view : List (Place × SExpr × Vec SStmt Global) → Front → Front
+  abbrev pub choice_view : List (Place × SlotExpr × Vec SlotStmt Global) → Front → Front
   choice_view [] other behind = other behind
   choice_view (b ∷ bs) other behind = slots.stmt (slots.if_else (place_view b.0) (expr_view b.1) (body_view b.2.items slots.end) (choice_view bs other slots.end)) behind
 

@@ -6,4 +6,4 @@
 
 mod program;
 
-pub use program::{Field, Maker, Place, Program, Routine, SExpr, SStmt, Slot, Targets};
+pub use program::{Field, Maker, Place, Program, Routine, Slot, SlotExpr, SlotStmt, Targets};

@@ -61,7 +61,7 @@ pub enum Maker {
 /// An expression. A row of arguments goes from left to right; what has a number isn't an argument,
 /// but kept aside in that local.
 #[derive(Drop)]
-pub enum SExpr {
+pub enum SlotExpr {
     /// The value at a place of the pool.
     Pooled(usize),
     /// The value of a slot.
@@ -71,22 +71,22 @@ pub enum SExpr {
     /// What no name means: it has no instruction.
     Absent,
     /// What is made of the values of a row.
-    Made(Maker, Vec<(Option<usize>, SExpr)>),
+    Made(Maker, Vec<(Option<usize>, SlotExpr)>),
     /// The first if it is false, else the second.
-    Conjunction(Box<SExpr>, Box<SExpr>),
+    Conjunction(Box<SlotExpr>, Box<SlotExpr>),
     /// The first if it is true, else the second.
-    Disjunction(Box<SExpr>, Box<SExpr>),
+    Disjunction(Box<SlotExpr>, Box<SlotExpr>),
     /// The value if the condition is true, else the other one.
     Choice {
-        condition: Box<SExpr>,
-        value: Box<SExpr>,
-        other: Box<SExpr>,
+        condition: Box<SlotExpr>,
+        value: Box<SlotExpr>,
+        other: Box<SlotExpr>,
     },
     /// The text of a routine on a row of arguments: markup while escaping, else a plain text.
     Invoke {
         routine: usize,
         escaping: bool,
-        row: Vec<(Option<usize>, SExpr)>,
+        row: Vec<(Option<usize>, SlotExpr)>,
     },
 }
 
@@ -101,41 +101,41 @@ pub enum Targets {
 
 /// A statement.
 #[derive(Drop)]
-pub enum SStmt {
+pub enum SlotStmt {
     /// The plain text at a place of the pool, as it is.
     PutPooled(usize),
     /// What an expression prints, and whether it is escaped.
     Print {
         place: Place,
         escaping: bool,
-        value: SExpr,
+        value: SlotExpr,
     },
     /// A value into what takes it.
     Assign {
         place: Place,
         targets: Targets,
-        value: SExpr,
+        value: SlotExpr,
     },
     /// The branches, each with the place of its tag, its condition and statements, and the else part.
-    If(Vec<(Place, SExpr, Vec<SStmt>)>, Vec<SStmt>),
+    If(Vec<(Place, SlotExpr, Vec<SlotStmt>)>, Vec<SlotStmt>),
     /// What takes the items, what is gone over, the condition, the statements of a turn, and the
     /// else part.
     For {
         place: Place,
         targets: Targets,
-        over: SExpr,
-        condition: Option<SExpr>,
-        body: Vec<SStmt>,
-        other: Vec<SStmt>,
+        over: SlotExpr,
+        condition: Option<SlotExpr>,
+        body: Vec<SlotStmt>,
+        other: Vec<SlotStmt>,
     },
     /// The text of statements into a slot: markup while escaping, else a plain text.
     Capture {
         escaping: bool,
         slot: Slot,
-        body: Vec<SStmt>,
+        body: Vec<SlotStmt>,
     },
     /// What a routine prints on a row of arguments.
-    Run(usize, Vec<(Option<usize>, SExpr)>),
+    Run(usize, Vec<(Option<usize>, SlotExpr)>),
 }
 
 /// A unit of code to be: its parameters, its locals, the parameters among them, and its statements.
@@ -143,7 +143,7 @@ pub enum SStmt {
 pub struct Routine {
     pub parameters: usize,
     pub locals: usize,
-    pub body: Vec<SStmt>,
+    pub body: Vec<SlotStmt>,
 }
 
 /// A resolved chain. Routine 0 is the entry's.

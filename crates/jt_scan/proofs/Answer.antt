@@ -2,7 +2,7 @@
 use Rattle.std.proofs.Common.{◌≡◌, ℕ, ◌+◌, ◌≤◌, List, length, Result, Ok, Err, MatchResult, IfOk, IfErr, refl, arith, rules}
 use Rattle.jt_scan.specs.declared.error.ScanError.{ScanError}
 use Rattle.jt_scan.specs.declared.error.ScanError.TheVariants as error
-use Rattle.jt_scan.specs.declared.segment.Kind.{Kind}
+use Rattle.jt_scan.specs.declared.segment.TagKind.{TagKind}
 use Rattle.jt_scan.specs.Cut.{Text, Segment, Cuts, no_more, more, IsCut, weight_of}
 use Rattle.jt_scan.specs.Refused.{IsBroken, no_closer, no_quote, bad_escape, too_large, no_token, behind_space, behind_token, IsFaulty, in_tag, no_endraw, in_comment, IsFaultOf, IsRefusal}
 use Rattle.jt_scan.specs.Scanning.{cut, IsGiven}
@@ -39,7 +39,7 @@ MayBe (error.UnclosedRaw n) = Unit {0}
 MayBe (error.SourceTooLong n) = ⊥
 MayBe error.NoMemory = ⊥
 
-broken_may : {k : Kind} {n depth : ℕ} {e : ScanError} {x : Text} → IsBroken k n depth e x → MayBe e
+broken_may : {k : TagKind} {n depth : ℕ} {e : ScanError} {x : Text} → IsBroken k n depth e x → MayBe e
 broken_may no_closer = tt
 broken_may (no_quote q u) = tt
 broken_may (bad_escape z q n h) = tt

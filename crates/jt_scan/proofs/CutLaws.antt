@@ -2,8 +2,8 @@
 use Rattle.std.proofs.Common.{◌≡◌, ℕ, zero, suc, ◌+◌, ◌<◌, ◌||◌, ◌⊎◌, inl, inr, Bool, true, false, List, [], ◌∷◌, ◌++◌, length, drop, refl, sym, ap, subst, ◌∙◌, arith, Option, Some, None, Result, Ok, Err, append-nil, rules}
 use Rattle.jt_scan.specs.declared.error.ScanError.{ScanError}
 use Rattle.jt_scan.specs.declared.error.ScanError.TheVariants.{UnclosedTag, UnclosedRaw}
-use Rattle.jt_scan.specs.declared.segment.Kind.{Kind}
-use Rattle.jt_scan.specs.declared.segment.Kind.TheVariants.{Variable, Block}
+use Rattle.jt_scan.specs.declared.segment.TagKind.{TagKind}
+use Rattle.jt_scan.specs.declared.segment.TagKind.TheVariants.{Variable, Block}
 use Rattle.jt_scan.specs.Cut.{Text, Token, second, Segment, data_of, tag, comment, opens, begins, ends_comment, NoneBegins, EndsData, IsSegment, some_data, a_tag, a_comment, a_raw, Cuts, no_more, more, line_at, raw, marks, comment_marks, first_mark, behind_mark, is_raw, ends_raw, endraw_at, is_found, Inside}
 use Rattle.jt_scan.specs.declared.segment.Mark.{Mark}
 use Rattle.jt_scan.specs.declared.segment.Marks.{Marks}
@@ -32,7 +32,7 @@ none a b c h = search (arith, rules)
 opens_none : (x : Text) → opens x ≡ false → (begins 123 123 x ≡ false) × (begins 123 37 x ≡ false) × (begins 123 35 x ≡ false)
 opens_none x h = none (begins 123 123 x) (begins 123 37 x) (begins 123 35 x) h
 
-tag_found : {k : Kind} {ts : List Token} {mark : Mark} (x : Text) {rest : Text} → Inside k 0 ts mark (behind_mark x) rest → (n : ℕ) → is_raw k ts ≡ false
+tag_found : {k : TagKind} {ts : List Token} {mark : Mark} (x : Text) {rest : Text} → Inside k 0 ts mark (behind_mark x) rest → (n : ℕ) → is_raw k ts ≡ false
     → tag_at k n x ≡ Ok (tag k (marks (first_mark x) mark) n ts, rest)
 tag_found {k} {ts} {mark} x {rest} i n r =
     ap (λ o. o >>= λ p z. tag_of k n (marks (first_mark x) p.1) p.0 z) (inside_found i n (length (behind_mark x) + 1) (omega arith)) ∙ (rw r refl)
@@ -84,11 +84,11 @@ raw_says n ms s x rest e = let c = clear_says ends_raw x in by (clear_run ends_r
     by d y w h None is q = cc
     by d y w h (Some p) is q = let u = ok_parts q in (d, y, p.0, w, h, is ∙ ap (λ z. Some (p.0, z)) u.1, u.0)
 
-raw_is_block : (k : Kind) (ts : List Token) → is_raw k ts ≡ true → k ≡ Block
+raw_is_block : (k : TagKind) (ts : List Token) → is_raw k ts ≡ true → k ≡ Block
 raw_is_block Variable ts h = cc
 raw_is_block Block ts h = refl
 
-tag_of_says : (k : Kind) (n : ℕ) (mark : Mark) (ts : List Token) (s : Segment) (x u rest : Text) → Inside k 0 ts mark (behind_mark x) u → tag_of k n (marks (first_mark x) mark) ts u ≡ Ok (s, rest) → IsSegment n s (123 ∷ second k ∷ x) rest
+tag_of_says : (k : TagKind) (n : ℕ) (mark : Mark) (ts : List Token) (s : Segment) (x u rest : Text) → Inside k 0 ts mark (behind_mark x) u → tag_of k n (marks (first_mark x) mark) ts u ≡ Ok (s, rest) → IsSegment n s (123 ∷ second k ∷ x) rest
 tag_of_says k n mark ts s x u rest i e =
     by_test (is_raw k ts) _ _ _ e
     (λ h q.
@@ -102,7 +102,7 @@ tag_of_says k n mark ts s x u rest i e =
     subst (λ z. IsSegment n z (123 ∷ second k ∷ x) rest) p.0
     (a_tag (subst (λ z. Inside k 0 ts mark (behind_mark x) z) p.1 i) h))
 
-tag_says : (k : Kind) (n : ℕ) (s : Segment) (x rest : Text) → tag_at k n x ≡ Ok (s, rest) → IsSegment n s (123 ∷ second k ∷ x) rest
+tag_says : (k : TagKind) (n : ℕ) (s : Segment) (x rest : Text) → tag_at k n x ≡ Ok (s, rest) → IsSegment n s (123 ∷ second k ∷ x) rest
 tag_says k n s x rest e =
     let b = bind_ok (inside k n (length (behind_mark x) + 1) 0 (behind_mark x)) (λ p z. tag_of k n (marks (first_mark x) p.1) p.0 z) s rest e in
     tag_of_says k n b.0.1 b.0.0 s x b.1 rest (inside_says k n (length (behind_mark x) + 1) 0 b.0.0 b.0.1 (behind_mark x) b.1 b.2) b.3
@@ -181,7 +181,7 @@ raw_refuses n ms x e h = let c = clear_says ends_raw x in by (clear_run ends_raw
         let g : x ≡ d = w ∙ ap (λ z. d ++ z) f ∙ append-nil d in
         (sym (err_same q), subst (λ z. NoneBegins ends_raw z []) (sym g) (subst (NoneBegins ends_raw d) f h))
 
-tag_of_refuses : (k : Kind) (n : ℕ) (mark : Mark) (ts : List Token) (x u : Text) (e : ScanError) → Inside k 0 ts mark (behind_mark x) u → tag_of k n (marks (first_mark x) mark) ts u ≡ Err e → IsFaulty n e (123 ∷ second k ∷ x)
+tag_of_refuses : (k : TagKind) (n : ℕ) (mark : Mark) (ts : List Token) (x u : Text) (e : ScanError) → Inside k 0 ts mark (behind_mark x) u → tag_of k n (marks (first_mark x) mark) ts u ≡ Err e → IsFaulty n e (123 ∷ second k ∷ x)
 tag_of_refuses k n mark ts x u e i h =
     by_test (is_raw k ts) _ _ _ h
     (λ r q.
@@ -192,7 +192,7 @@ tag_of_refuses k n mark ts x u e i h =
     (no_endraw (subst (λ j. Inside j 0 ts mark (behind_mark x) u) b i) (subst (λ j. is_raw j ts ≡ true) b r) f.1)))
     (λ r q. cc)
 
-tag_refuses : (k : Kind) (n : ℕ) (x : Text) (e : ScanError) (o : Outcome Tokens) → inside k n (length (behind_mark x) + 1) 0 (behind_mark x) ≡ o
+tag_refuses : (k : TagKind) (n : ℕ) (x : Text) (e : ScanError) (o : Outcome Tokens) → inside k n (length (behind_mark x) + 1) 0 (behind_mark x) ≡ o
     → (o >>= λ p z. tag_of k n (marks (first_mark x) p.1) p.0 z) ≡ Err e → IsFaulty n e (123 ∷ second k ∷ x)
 tag_refuses k n x e (Ok p) w h = tag_of_refuses k n p.0.1 p.0.0 x p.1 e (inside_says k n (length (behind_mark x) + 1) 0 p.0.0 p.0.1 (behind_mark x) p.1 w) h
 tag_refuses k n x e (Err d) w h = in_tag (inside_refuses k n (length (behind_mark x) + 1) 0 (behind_mark x) e (omega arith) (w ∙ ap (λ u. Err u) (err_same h)))

@@ -2,7 +2,7 @@
 use Rattle.std.proofs.Common.{◌≡◌, ℕ, zero, suc, ◌<◌, ◌==◌, ◌&&◌, if◌then◌else◌, Bool, true, false, List, [], ◌∷◌, ◌++◌, length, refl, sym, ap, subst, ◌∙◌, arith, Option, Some, None, Ok, Err, length-append}
 use Rattle.std.proofs.lemmas.Bool.Decides.{nat_tests}
 use Rattle.jt_scan.specs.declared.error.ScanError.{ScanError}
-use Rattle.jt_scan.specs.declared.segment.Kind.{Kind}
+use Rattle.jt_scan.specs.declared.segment.TagKind.{TagKind}
 use Rattle.jt_scan.specs.declared.segment.Mark.{Mark}
 use Rattle.jt_scan.specs.Cut.{Text, Token, may_close, closing_text, closer_at, is_found, closes, braces, is_space, Spelled, Inside, closed, space, token}
 use Rattle.jt_scan.specs.Refused.{IsBroken, no_closer as has_no_closer, behind_space, behind_token}
@@ -13,11 +13,11 @@ use Rattle.jt_scan.proofs.Tables.{closing_head, closer_found, IsCloser, closer_s
 
 -- ---- what stands in front
 
-front_closes : (k : Kind) (line : ℕ) (mark : Mark) (rest : Text) → may_close k mark ≡ true → front_at k line 0 (closing_text k mark rest) ≡ Ok (closing mark, rest)
+front_closes : (k : TagKind) (line : ℕ) (mark : Mark) (rest : Text) → may_close k mark ≡ true → front_at k line 0 (closing_text k mark rest) ≡ Ok (closing mark, rest)
 unfolding front_at
 front_closes k line mark rest h = rw (closer_found k mark rest h) refl
 
-not_closed : (k : Kind) (line depth : ℕ) (x : Text) → closes k depth x ≡ false → front_at k line depth x ≡ (token_at line x >>= λ t u. Ok (spells t, u))
+not_closed : (k : TagKind) (line depth : ℕ) (x : Text) → closes k depth x ≡ false → front_at k line depth x ≡ (token_at line x >>= λ t u. Ok (spells t, u))
 unfolding front_at
 not_closed k line depth x h = by (depth == 0) (closer_at k x) h
   where
@@ -26,13 +26,13 @@ not_closed k line depth x h = by (depth == 0) (closer_at k x) h
     by true (Some p) e = cc
     by false o e = refl
 
-front_spells : (k : Kind) (line depth : ℕ) {t : Token} {s x : Text} → closes k depth (s ++ x) ≡ false → Spelled t s x → front_at k line depth (s ++ x) ≡ Ok (spells t, x)
+front_spells : (k : TagKind) (line depth : ℕ) {t : Token} {s x : Text} → closes k depth (s ++ x) ≡ false → Spelled t s x → front_at k line depth (s ++ x) ≡ Ok (spells t, x)
 front_spells k line depth {t} {s} {x} b sp = not_closed k line depth (s ++ x) b ∙ (rw (token_found line sp) refl)
 
 is_none : (n : ℕ) → (n == 0) ≡ true → n ≡ 0
 is_none n e = grind (arith, nat_tests)
 
-closed_front : (k : Kind) (line depth : ℕ) (f : Front) (x rest : Text) → closes k depth x ≡ true → front_at k line depth x ≡ Ok (f, rest) → (depth ≡ 0) × (mark : Mark) × (f ≡ closing mark) × IsCloser k mark x rest
+closed_front : (k : TagKind) (line depth : ℕ) (f : Front) (x rest : Text) → closes k depth x ≡ true → front_at k line depth x ≡ Ok (f, rest) → (depth ≡ 0) × (mark : Mark) × (f ≡ closing mark) × IsCloser k mark x rest
 unfolding front_at
 closed_front k line depth f x rest h e = by (depth == 0) (closer_at k x) refl refl h e
   where
@@ -45,11 +45,11 @@ closed_front k line depth f x rest h e = by (depth == 0) (closer_at k x) refl re
         (is_none depth d, p.0, sym u.0, closer_says k p.0 x rest (is ∙ ap (λ z. Some (p.0, z)) u.1))
 
 -- the closer, where no brace is open, or a token's spelling
-abbrev pub IsFront : Kind → ℕ → Front → Text → Text → Type 0
+abbrev pub IsFront : TagKind → ℕ → Front → Text → Text → Type 0
 IsFront k depth (closing mark) x rest = (depth ≡ 0) × (may_close k mark ≡ true) × (x ≡ closing_text k mark rest)
 IsFront k depth (spells t) x rest = (s : Text) × (x ≡ s ++ rest) × Spelled t s rest × (length rest < length x) × (closes k depth x ≡ false)
 
-pub front_says : (k : Kind) (line depth : ℕ) (f : Front) (x rest : Text) → front_at k line depth x ≡ Ok (f, rest) → IsFront k depth f x rest
+pub front_says : (k : TagKind) (line depth : ℕ) (f : Front) (x rest : Text) → front_at k line depth x ≡ Ok (f, rest) → IsFront k depth f x rest
 front_says k line depth f x rest e = by (closes k depth x) refl
   where
     by : (b : Bool) → closes k depth x ≡ b → IsFront k depth f x rest
@@ -66,7 +66,7 @@ spells_err : (o : Outcome Token) (e : ScanError) → (o >>= λ t u. Ok (spells t
 spells_err (Ok p) e h = cc
 spells_err (Err d) e h = ap (λ k. Err k) (err_same h)
 
-no_refusal : (k : Kind) (line depth : ℕ) (x : Text) (e : ScanError) → closes k depth x ≡ true → front_at k line depth x ≡ Err e → ⊥
+no_refusal : (k : TagKind) (line depth : ℕ) (x : Text) (e : ScanError) → closes k depth x ≡ true → front_at k line depth x ≡ Err e → ⊥
 unfolding front_at
 no_refusal k line depth x e h q = by (depth == 0) (closer_at k x) h q
   where
@@ -75,7 +75,7 @@ no_refusal k line depth x e h q = by (depth == 0) (closer_at k x) h q
     by false o g r = cc
     by true (Some p) g r = cc
 
-pub front_refuses : (k : Kind) (line depth : ℕ) (x : Text) (e : ScanError) → ((c : ℕ) (cs : Text) → x ≡ c ∷ cs → is_space c ≡ false) → front_at k line depth x ≡ Err e → IsBroken k line depth e x
+pub front_refuses : (k : TagKind) (line depth : ℕ) (x : Text) (e : ScanError) → ((c : ℕ) (cs : Text) → x ≡ c ∷ cs → is_space c ≡ false) → front_at k line depth x ≡ Err e → IsBroken k line depth e x
 front_refuses k line depth x e s h = by (closes k depth x) refl
   where
     by : (b : Bool) → closes k depth x ≡ b → IsBroken k line depth e x
@@ -87,11 +87,11 @@ front_refuses k line depth x e s h = by (closes k depth x) refl
 pub pair_parts : {ts us : List Token} {a b : Mark} → ◌≡◌ {A = Tokens} (ts, a) (us, b) → (ts ≡ us) × (a ≡ b)
 pair_parts e = (ap (λ (p : Tokens). p.0) e, ap (λ (p : Tokens). p.1) e)
 
-inside_step : (k : Kind) (line m depth c : ℕ) (x cs : Text) → x ≡ c ∷ cs → is_space c ≡ false → inside k line (suc m) depth x ≡ (front_at k line depth x >>= then_inside (inside k line m) depth)
+inside_step : (k : TagKind) (line m depth c : ℕ) (x cs : Text) → x ≡ c ∷ cs → is_space c ≡ false → inside k line (suc m) depth x ≡ (front_at k line depth x >>= then_inside (inside k line m) depth)
 unfolding inside
 inside_step k line m depth c x cs e h = rw e (rw h refl)
 
-pub inside_found : {k : Kind} {depth : ℕ} {ts : List Token} {mark : Mark} {x rest : Text} → Inside k depth ts mark x rest → (line m : ℕ) → length x < m → inside k line m depth x ≡ Ok ((ts, mark), rest)
+pub inside_found : {k : TagKind} {depth : ℕ} {ts : List Token} {mark : Mark} {x rest : Text} → Inside k depth ts mark x rest → (line m : ℕ) → length x < m → inside k line m depth x ≡ Ok ((ts, mark), rest)
 unfolding inside
 inside_found (closed ok) line zero le = absurd (omega arith)
 inside_found (space h i) line zero le = absurd (omega arith)
@@ -104,7 +104,7 @@ inside_found {k} (token {depth} {s} {x} b sp i) line (suc m) le =
     let hd = spelled_head sp in
     inside_step k line m depth hd.0 (s ++ x) (hd.1 ++ x) (ap (λ y. y ++ x) hd.2) hd.3 ∙ (rw (front_spells k line depth b sp, inside_found i line m (omega (arith, length-append s x, ap length hd.2))) refl)
 
-pub inside_says : (k : Kind) (line m depth : ℕ) (ts : List Token) (mark : Mark) (x rest : Text) → inside k line m depth x ≡ Ok ((ts, mark), rest) → Inside k depth ts mark x rest
+pub inside_says : (k : TagKind) (line m depth : ℕ) (ts : List Token) (mark : Mark) (x rest : Text) → inside k line m depth x ≡ Ok ((ts, mark), rest) → Inside k depth ts mark x rest
 unfolding inside
 inside_says k line zero depth ts mark x rest e = cc
 inside_says k line (suc m) depth ts mark [] rest e = cc
@@ -132,7 +132,7 @@ with_err : (t : Token) (o : Outcome Tokens) (e : ScanError) → with_token t o �
 with_err t (Ok p) e h = cc
 with_err t (Err x) e h = ap (λ k. Err k) (err_same h)
 
-pub inside_refuses : (k : Kind) (line m depth : ℕ) (x : Text) (e : ScanError) → length x < m → inside k line m depth x ≡ Err e → IsBroken k line depth e x
+pub inside_refuses : (k : TagKind) (line m depth : ℕ) (x : Text) (e : ScanError) → length x < m → inside k line m depth x ≡ Err e → IsBroken k line depth e x
 unfolding inside
 inside_refuses k line zero depth x e le h = absurd (omega arith)
 inside_refuses k line (suc m) depth [] e le h = subst (λ f. IsBroken k line depth f []) (err_same h) has_no_closer

@@ -3,8 +3,8 @@ use Rattle.std.proofs.Common.{◌≡◌, ℕ, ◌<◌, ◌||◌, ◌==◌, ◌&&
 use Rattle.std.proofs.lemmas.Bool.Decides.{nat_tests}
 use Rattle.std.specs.Char.{is_ascii_alphabetic}
 use Rattle.unicode_ident.proofs.IdentLemmas.{is_xid_start-ascii}
-use Rattle.jt_scan.specs.declared.segment.Kind.{Kind}
-use Rattle.jt_scan.specs.declared.segment.Kind.TheVariants.{Variable, Block}
+use Rattle.jt_scan.specs.declared.segment.TagKind.{TagKind}
+use Rattle.jt_scan.specs.declared.segment.TagKind.TheVariants.{Variable, Block}
 use Rattle.jt_scan.specs.declared.segment.Mark.{Mark}
 use Rattle.jt_scan.specs.declared.segment.Mark.TheVariants as m
 use Rattle.jt_scan.specs.Cut.{Text, closer, begins, starts_name, is_space, closing_text, closer_at, marked_closer, may_close, first_mark, behind_mark, mark_text}
@@ -20,41 +20,41 @@ turned false b f h = refl
 pub no_space : (c : ℕ) → starts_name c ≡ true → is_space c ≡ false
 no_space c = turned (is_space c) (starts_name c) (λ h. no_start c (grind (arith, nat_tests)) (grind (arith, nat_tests)))
 
-no_end : (k : Kind) (c : ℕ) → starts_name c ≡ true → (c == closer k) ≡ false
+no_end : (k : TagKind) (c : ℕ) → starts_name c ≡ true → (c == closer k) ≡ false
 no_end Variable c = turned (c == 125) (starts_name c) (λ h. no_start c (grind (arith, nat_tests)) (grind (arith, nat_tests)))
 no_end Block c = turned (c == 37) (starts_name c) (λ h. no_start c (grind (arith, nat_tests)) (grind (arith, nat_tests)))
 
-pub no_closer : (k : Kind) (c : ℕ) (x : Text) → starts_name c ≡ true → begins (closer k) 125 (c ∷ x) ≡ false
+pub no_closer : (k : TagKind) (c : ℕ) (x : Text) → starts_name c ≡ true → begins (closer k) 125 (c ∷ x) ≡ false
 no_closer k c [] h = refl
 no_closer k c (d ∷ x) h = rw (no_end k c h)
 
-pub closer_begins : (k : Kind) (rest : Text) → begins (closer k) 125 (closer k ∷ 125 ∷ rest) ≡ true
+pub closer_begins : (k : TagKind) (rest : Text) → begins (closer k) 125 (closer k ∷ 125 ∷ rest) ≡ true
 closer_begins Variable rest = refl
 closer_begins Block rest = refl
 
 -- ---- closers with marks
 
 -- a closer begins with no whitespace
-pub closing_head : (k : Kind) (mark : Mark) (rest : Text) → (c : ℕ) × (cs : Text) × (closing_text k mark rest ≡ c ∷ cs) × (is_space c ≡ false)
+pub closing_head : (k : TagKind) (mark : Mark) (rest : Text) → (c : ℕ) × (cs : Text) × (closing_text k mark rest ≡ c ∷ cs) × (is_space c ≡ false)
 closing_head Variable m.Absent rest = (125, 125 ∷ rest, refl, refl)
 closing_head Block m.Absent rest = (37, 125 ∷ rest, refl, refl)
 closing_head k m.Minus rest = (45, closer k ∷ 125 ∷ rest, refl, refl)
 closing_head k m.Plus rest = (43, closer k ∷ 125 ∷ rest, refl, refl)
 
-pub closer_found : (k : Kind) (mark : Mark) (rest : Text) → may_close k mark ≡ true → closer_at k (closing_text k mark rest) ≡ Some (mark, rest)
+pub closer_found : (k : TagKind) (mark : Mark) (rest : Text) → may_close k mark ≡ true → closer_at k (closing_text k mark rest) ≡ Some (mark, rest)
 closer_found k mark rest h = search (arith, rules)
 
 some_parts : {a b : Mark} {u v : Text} → ◌≡◌ {A = Option (Mark × Text)} (Some (a, u)) (Some (b, v)) → (a ≡ b) × (u ≡ v)
 some_parts {a} {b} {u} {v} e = let p : ◌≡◌ {A = Mark × Text} (a, u) (b, v) = cc in (ap (λ (q : Mark × Text). q.0) p, ap (λ (q : Mark × Text). q.1) p)
 
-abbrev pub IsCloser : Kind → Mark → Text → Text → Type 0
+abbrev pub IsCloser : TagKind → Mark → Text → Text → Type 0
 IsCloser k mark x rest = (may_close k mark ≡ true) × (x ≡ closing_text k mark rest)
 
-may_absent : (k : Kind) → may_close k m.Absent ≡ true
+may_absent : (k : TagKind) → may_close k m.Absent ≡ true
 may_absent Variable = refl
 may_absent Block = refl
 
-may_minus : (k : Kind) → may_close k m.Minus ≡ true
+may_minus : (k : TagKind) → may_close k m.Minus ≡ true
 may_minus Variable = refl
 may_minus Block = refl
 
@@ -66,7 +66,7 @@ pub marked : (x : Text) → x ≡ mark_text (first_mark x) ++ behind_mark x
 marked [] = refl
 marked (c ∷ x) = mark_split c x (c == 45) (c == 43) refl refl
 
-behind_closes : (k : Kind) (mark : Mark) (y rest : Text) → marked_closer k (first_mark y) (behind_mark y) ≡ Some (mark, rest) → (first_mark y ≡ mark) × (may_close k mark ≡ true) × (behind_mark y ≡ closer k ∷ 125 ∷ rest)
+behind_closes : (k : TagKind) (mark : Mark) (y rest : Text) → marked_closer k (first_mark y) (behind_mark y) ≡ Some (mark, rest) → (first_mark y ≡ mark) × (may_close k mark ≡ true) × (behind_mark y ≡ closer k ∷ 125 ∷ rest)
 behind_closes k mark y rest e = by (first_mark y) (behind_mark y) e
   where
     by : (o : Mark) (z : Text) → marked_closer k o z ≡ Some (mark, rest) → (o ≡ mark) × (may_close k mark ≡ true) × (z ≡ closer k ∷ 125 ∷ rest)
@@ -81,7 +81,7 @@ behind_closes k mark y rest e = by (first_mark y) (behind_mark y) e
         (p.0, subst (λ a. may_close k a ≡ true) p.0 t.0, opener_says (closer k) 125 z t.1 ∙ ap (λ w. closer k ∷ 125 ∷ w) p.1))
         (λ b q. cc)
 
-pub closer_says : (k : Kind) (mark : Mark) (x rest : Text) → closer_at k x ≡ Some (mark, rest) → IsCloser k mark x rest
+pub closer_says : (k : TagKind) (mark : Mark) (x rest : Text) → closer_at k x ≡ Some (mark, rest) → IsCloser k mark x rest
 closer_says k mark x rest e =
     by_test (begins (closer k) 125 x) _ _ _ e
     (λ b q. let p = some_parts q in

@@ -3,7 +3,7 @@ use Rattle.std.proofs.Common.{◌≡◌, ℕ, pos, ◌+◌, ◌<◌, ◌≤◌, 
 use Rattle.std.proofs.lemmas.Bool.Decides.{nat_tests}
 use Rattle.jt_scan.specs.declared.error.ScanError.{ScanError}
 use Rattle.jt_scan.specs.declared.error.ScanError.TheVariants as error
-use Rattle.jt_scan.specs.declared.segment.Kind.{Kind}
+use Rattle.jt_scan.specs.declared.segment.TagKind.{TagKind}
 use Rattle.jt_scan.specs.declared.segment.Sign.{Sign}
 use Rattle.jt_scan.specs.Literals.{Text, digit_value, is_digit, is_quote, pieces}
 use Rattle.jt_scan.specs.Cut.{Token, name, number, text, sign, sign_text, closes, starts_name, is_space, max_number, Spelled, a_name, a_number, a_text, a_sign, token_weight}
@@ -159,7 +159,7 @@ token_says line t (c ∷ cs) rest e =
 err_same : {A : Type 0} {d e : ScanError} → ◌≡◌ {A = Outcome A} (Err d) (Err e) → d ≡ e
 err_same h = cc
 
-numbered_refuses : (k : Kind) (line depth c : ℕ) (cs : Text) (e : ScanError) → is_digit 10 c ≡ true → numbered line (number_at c cs) ≡ Err e → IsBroken k line depth e (c ∷ cs)
+numbered_refuses : (k : TagKind) (line depth c : ℕ) (cs : Text) (e : ScanError) → is_digit 10 c ≡ true → numbered line (number_at c cs) ≡ Err e → IsBroken k line depth e (c ∷ cs)
 numbered_refuses k line depth c cs e d h =
     by_test (nat_lt max_number (number_at c cs).0) _ _ _ h
     (λ b q.
@@ -170,7 +170,7 @@ numbered_refuses k line depth c cs e d h =
     above : (n : ℕ) → nat_lt max_number n ≡ true → max_number < n
     above n h = grind (arith, nat_tests)
 
-quoted_refuses : (k : Kind) (line depth c : ℕ) (cs : Text) (e : ScanError) (o : Option (Text × Text)) → is_quote c ≡ true → enclosed_at c false cs ≡ o → quoted line o ≡ Err e → IsBroken k line depth e (c ∷ cs)
+quoted_refuses : (k : TagKind) (line depth c : ℕ) (cs : Text) (e : ScanError) (o : Option (Text × Text)) → is_quote c ≡ true → enclosed_at c false cs ≡ o → quoted line o ≡ Err e → IsBroken k line depth e (c ∷ cs)
 quoted_refuses k line depth c cs e None h w q = subst (λ f. IsBroken k line depth f (c ∷ cs)) (err_same q) (no_quote h (enclosed_none c false cs w))
 quoted_refuses k line depth c cs e (Some p) h w q =
     by_test (pieces 0 p.0).1 _ _ _ q
@@ -179,7 +179,7 @@ quoted_refuses k line depth c cs e (Some p) h w q =
     let n = enclosed_says c false cs p.0 p.1 w in
     subst (λ f. IsBroken k line depth f (c ∷ cs)) (err_same r) (subst (λ z. IsBroken k line depth (error.BadEscape line) (c ∷ z)) (sym n.0) (bad_escape p.1 h n.1 (has_bad c p.0 n.1 b))))
 
-pub token_refuses : (k : Kind) (line depth : ℕ) (x : Text) (e : ScanError) → ((c : ℕ) (cs : Text) → x ≡ c ∷ cs → is_space c ≡ false) → closes k depth x ≡ false → token_at line x ≡ Err e → IsBroken k line depth e x
+pub token_refuses : (k : TagKind) (line depth : ℕ) (x : Text) (e : ScanError) → ((c : ℕ) (cs : Text) → x ≡ c ∷ cs → is_space c ≡ false) → closes k depth x ≡ false → token_at line x ≡ Err e → IsBroken k line depth e x
 unfolding token_at
 token_refuses k line depth [] e s b h = subst (λ f. IsBroken k line depth f []) (err_same h) has_no_closer
 token_refuses k line depth (c ∷ cs) e s b h =

@@ -6,8 +6,8 @@ use Rattle.std.specs.Str.{chars}
 use lib.Utf8.{encodes}
 use Rattle.jt_scan.specs.declared.error.ScanError.{ScanError}
 use Rattle.jt_scan.specs.declared.error.ScanError.TheVariants as error
-use Rattle.jt_scan.specs.declared.segment.Kind.{Kind}
-use Rattle.jt_scan.specs.declared.segment.Kind.TheVariants.{Variable, Block}
+use Rattle.jt_scan.specs.declared.segment.TagKind.{TagKind}
+use Rattle.jt_scan.specs.declared.segment.TagKind.TheVariants.{Variable, Block}
 use Rattle.jt_scan.specs.declared.segment.Sign.{Sign}
 use Rattle.jt_scan.specs.declared.segment.Sign.TheVariants as s
 use Rattle.jt_scan.specs.Cut as cuts
@@ -36,14 +36,14 @@ abbrev pub prefixed : List Token → Outcome Tokens → Outcome Tokens
 prefixed ts o = o >>= λ p z. Ok ((ts ++ p.0, p.1), z)
 
 -- the tokens ts are read, x is left, and so many braces are open
-abbrev pub IsRead : Kind → ℕ → Outcome Tokens → List Token → ℕ → Text → Type 0
+abbrev pub IsRead : TagKind → ℕ → Outcome Tokens → List Token → ℕ → Text → Type 0
 IsRead k line whole ts depth x = (m : ℕ) × (length x < m) × (prefixed ts (inside k line m depth x) ≡ whole)
 
 prefixed_none : (o : Outcome Tokens) → prefixed [] o ≡ o
 prefixed_none (Ok p) = refl
 prefixed_none (Err e) = refl
 
-pub read_none : (k : Kind) (line : ℕ) (x : Text) → IsRead k line (inside k line (length x + 1) 0 x) [] 0 x
+pub read_none : (k : TagKind) (line : ℕ) (x : Text) → IsRead k line (inside k line (length x + 1) 0 x) [] 0 x
 read_none k line x = (length x + 1, omega arith, prefixed_none (inside k line (length x + 1) 0 x))
 
 -- no whitespace stands in front
@@ -51,7 +51,7 @@ abbrev NoSpace : Text → Type 0
 NoSpace [] = Unit {0}
 NoSpace (c ∷ cs) = is_space c ≡ false
 
-skipped : (k : Kind) (line depth : ℕ) (x : Text) (m : ℕ) → length x < m → (n : ℕ) × (length (after_space x) < n) × (inside k line m depth x ≡ inside k line n depth (after_space x)) × NoSpace (after_space x)
+skipped : (k : TagKind) (line depth : ℕ) (x : Text) (m : ℕ) → length x < m → (n : ℕ) × (length (after_space x) < n) × (inside k line m depth x ≡ inside k line n depth (after_space x)) × NoSpace (after_space x)
 unfolding inside after_space
 skipped k line depth x zero le = absurd (omega arith)
 skipped k line depth [] (suc m) le = (suc m, le, refl, tt)
@@ -62,7 +62,7 @@ skipped k line depth (c ∷ cs) (suc m) le = stepped (is_space c) refl (skipped 
     stepped true h r = rw h r
     stepped false h r = rw h (suc m, le, rw h refl, h)
 
-front_of_none : (k : Kind) (line depth : ℕ) → front_at k line depth [] ≡ Err (error.UnclosedTag line)
+front_of_none : (k : TagKind) (line depth : ℕ) → front_at k line depth [] ≡ Err (error.UnclosedTag line)
 unfolding front_at token_at
 front_of_none k line depth = shut (depth == 0)
   where
@@ -70,34 +70,34 @@ front_of_none k line depth = shut (depth == 0)
     shut true = refl
     shut false = refl
 
-opened : (k : Kind) (line depth : ℕ) (y : Text) (n : ℕ) → length y < n → NoSpace y → (j : ℕ) × (length y < suc j) × (inside k line n depth y ≡ (front_at k line depth y >>= then_inside (inside k line j) depth))
+opened : (k : TagKind) (line depth : ℕ) (y : Text) (n : ℕ) → length y < n → NoSpace y → (j : ℕ) × (length y < suc j) × (inside k line n depth y ≡ (front_at k line depth y >>= then_inside (inside k line j) depth))
 unfolding inside
 opened k line depth y zero le s = absurd (omega arith)
 opened k line depth [] (suc n) le s = (n, le, sym (ap (λ o. o >>= then_inside (inside k line n) depth) (front_of_none k line depth)))
 opened k line depth (c ∷ cs) (suc n) le s = (n, le, rw s refl)
 
-abbrev pub IsTurn : Kind → ℕ → Outcome Tokens → List Token → ℕ → Text → Type 0
+abbrev pub IsTurn : TagKind → ℕ → Outcome Tokens → List Token → ℕ → Text → Type 0
 IsTurn k line whole ts depth y = (j : ℕ) × (length y < suc j) × (prefixed ts (front_at k line depth y >>= then_inside (inside k line j) depth) ≡ whole)
 
-pub turn : (k : Kind) (line : ℕ) (whole : Outcome Tokens) (ts : List Token) (depth : ℕ) (x : Text) → IsRead k line whole ts depth x → IsTurn k line whole ts depth (after_space x)
+pub turn : (k : TagKind) (line : ℕ) (whole : Outcome Tokens) (ts : List Token) (depth : ℕ) (x : Text) → IsRead k line whole ts depth x → IsTurn k line whole ts depth (after_space x)
 turn k line whole ts depth x r =
     let s = skipped k line depth x r.0 r.1 in
     let o = opened k line depth (after_space x) s.0 s.1 s.3 in
     (o.0, o.1, ap (prefixed ts) (sym (s.2 ∙ o.2)) ∙ r.2)
 
-pub turn_ends : (k : Kind) (line : ℕ) (whole : Outcome Tokens) (ts : List Token) (depth : ℕ) (mark : Mark) (y rest : Text) → IsTurn k line whole ts depth y → front_at k line depth y ≡ Ok (closing mark, rest) → whole ≡ Ok ((ts, mark), rest)
+pub turn_ends : (k : TagKind) (line : ℕ) (whole : Outcome Tokens) (ts : List Token) (depth : ℕ) (mark : Mark) (y rest : Text) → IsTurn k line whole ts depth y → front_at k line depth y ≡ Ok (closing mark, rest) → whole ≡ Ok ((ts, mark), rest)
 turn_ends k line whole ts depth mark y rest t e = sym t.2 ∙ (rw (e, append-nil ts) refl)
 
 after_one : (t : Token) (ts : List Token) (o : Outcome Tokens) → prefixed ts (with_token t o) ≡ prefixed (ts ++ (t ∷ [])) o
 after_one t ts (Ok p) = rw (append_assoc ts (t ∷ []) p.0.0) refl
 after_one t ts (Err e) = refl
 
-pub turn_goes_on : (k : Kind) (line : ℕ) (whole : Outcome Tokens) (ts : List Token) (depth : ℕ) (t : Token) (y rest : Text) → IsTurn k line whole ts depth y → front_at k line depth y ≡ Ok (spells t, rest) → IsRead k line whole (ts ++ (t ∷ [])) (braces depth t) rest
+pub turn_goes_on : (k : TagKind) (line : ℕ) (whole : Outcome Tokens) (ts : List Token) (depth : ℕ) (t : Token) (y rest : Text) → IsTurn k line whole ts depth y → front_at k line depth y ≡ Ok (spells t, rest) → IsRead k line whole (ts ++ (t ∷ [])) (braces depth t) rest
 turn_goes_on k line whole ts depth t y rest r e =
     let f : IsFront k depth (spells t) y rest = front_says k line depth (spells t) y rest e in
     (r.0, omega (arith, r.1, f.3), sym (after_one t ts (inside k line r.0 (braces depth t) rest)) ∙ ap (λ o. prefixed ts (o >>= then_inside (inside k line r.0) depth)) (sym e) ∙ r.2)
 
-pub turn_refused : (k : Kind) (line : ℕ) (whole : Outcome Tokens) (ts : List Token) (depth : ℕ) (y : Text) (e : ScanError) → IsTurn k line whole ts depth y → front_at k line depth y ≡ Err e → whole ≡ Err e
+pub turn_refused : (k : TagKind) (line : ℕ) (whole : Outcome Tokens) (ts : List Token) (depth : ℕ) (y : Text) (e : ScanError) → IsTurn k line whole ts depth y → front_at k line depth y ≡ Err e → whole ≡ Err e
 turn_refused k line whole ts depth y e r h = sym r.2 ∙ ap (λ o. prefixed ts (o >>= then_inside (inside k line r.0) depth)) h
 
 no_longer : (x : Text) → length (after_space x) ≤ length x
@@ -109,23 +109,23 @@ no_longer (c ∷ cs) = stepped (is_space c) refl (no_longer cs)
     stepped true h r = rw h (omega (arith, r))
     stepped false h r = rw h (omega arith)
 
-pub shorter : (k : Kind) (line depth : ℕ) (t : Token) (x rest : Text) → front_at k line depth (after_space x) ≡ Ok (spells t, rest) → length rest < length x
+pub shorter : (k : TagKind) (line depth : ℕ) (t : Token) (x rest : Text) → front_at k line depth (after_space x) ≡ Ok (spells t, rest) → length rest < length x
 shorter k line depth t x rest e =
     let f : IsFront k depth (spells t) (after_space x) rest = front_says k line depth (spells t) (after_space x) rest e in omega (arith, f.3, no_longer x)
 
 -- the same at the text behind whitespace
-pub tokens_end : (k : Kind) (line : ℕ) (whole : Outcome Tokens) (ts : List Token) (depth : ℕ) (mark : Mark) (x y rest : Text) → IsRead k line whole ts depth x → y ≡ after_space x → front_at k line depth y ≡ Ok (closing mark, rest) → whole ≡ Ok ((ts, mark), rest)
+pub tokens_end : (k : TagKind) (line : ℕ) (whole : Outcome Tokens) (ts : List Token) (depth : ℕ) (mark : Mark) (x y rest : Text) → IsRead k line whole ts depth x → y ≡ after_space x → front_at k line depth y ≡ Ok (closing mark, rest) → whole ≡ Ok ((ts, mark), rest)
 tokens_end k line whole ts depth mark x y rest r same e = turn_ends k line whole ts depth mark (after_space x) rest (turn k line whole ts depth x r) (subst (λ z. front_at k line depth z ≡ Ok (closing mark, rest)) same e)
 
-pub tokens_go_on : (k : Kind) (line : ℕ) (whole : Outcome Tokens) (ts us : List Token) (depth more : ℕ) (t : Token) (x y rest : Text) → IsRead k line whole ts depth x → y ≡ after_space x → front_at k line depth y ≡ Ok (spells t, rest) → us ≡ ts ++ (t ∷ []) → more ≡ braces depth t → IsRead k line whole us more rest
+pub tokens_go_on : (k : TagKind) (line : ℕ) (whole : Outcome Tokens) (ts us : List Token) (depth more : ℕ) (t : Token) (x y rest : Text) → IsRead k line whole ts depth x → y ≡ after_space x → front_at k line depth y ≡ Ok (spells t, rest) → us ≡ ts ++ (t ∷ []) → more ≡ braces depth t → IsRead k line whole us more rest
 tokens_go_on k line whole ts us depth more t x y rest r same e all braced =
     subst (λ d. IsRead k line whole us d rest) (sym braced)
     (subst (λ vs. IsRead k line whole vs (braces depth t) rest) (sym all) (turn_goes_on k line whole ts depth t (after_space x) rest (turn k line whole ts depth x r) (subst (λ z. front_at k line depth z ≡ Ok (spells t, rest)) same e)))
 
-pub tokens_shrink : (k : Kind) (line depth : ℕ) (t : Token) (x y rest : Text) → y ≡ after_space x → front_at k line depth y ≡ Ok (spells t, rest) → length rest < length x
+pub tokens_shrink : (k : TagKind) (line depth : ℕ) (t : Token) (x y rest : Text) → y ≡ after_space x → front_at k line depth y ≡ Ok (spells t, rest) → length rest < length x
 tokens_shrink k line depth t x y rest same e = shorter k line depth t x rest (subst (λ z. front_at k line depth z ≡ Ok (spells t, rest)) same e)
 
-pub tokens_refused : (k : Kind) (line : ℕ) (whole : Outcome Tokens) (ts : List Token) (depth : ℕ) (x y : Text) (e : ScanError) → IsRead k line whole ts depth x → y ≡ after_space x → IsGiven e (front_at k line depth y) → IsGiven e whole
+pub tokens_refused : (k : TagKind) (line : ℕ) (whole : Outcome Tokens) (ts : List Token) (depth : ℕ) (x y : Text) (e : ScanError) → IsRead k line whole ts depth x → y ≡ after_space x → IsGiven e (front_at k line depth y) → IsGiven e whole
 tokens_refused k line whole ts depth x y e r same g =
     given_along e (front_at k line depth y) whole (λ h. turn_refused k line whole ts depth (after_space x) e (turn k line whole ts depth x r) (subst (λ z. front_at k line depth z ≡ Err e) same h)) g
 
@@ -199,12 +199,12 @@ cut_refused source ss x line e r z at h =
     sym r.2 ∙ ap (before_all ss) j.2 ∙ ap (λ o. before_all ss (then_cut o (cut source j.0))) here
 
 -- a segment's text and the rest are what stood there
-closing_end : (k : Kind) (mark : Mark) (rest : Text) → EndsWith (closing_text k mark rest) rest
+closing_end : (k : TagKind) (mark : Mark) (rest : Text) → EndsWith (closing_text k mark rest) rest
 closing_end k m.Absent rest = (closer k ∷ 125 ∷ [], refl)
 closing_end k m.Minus rest = (45 ∷ closer k ∷ 125 ∷ [], refl)
 closing_end k m.Plus rest = (43 ∷ closer k ∷ 125 ∷ [], refl)
 
-inside_end : {k : Kind} {depth : ℕ} {ts : List Token} {mark : Mark} {x rest : Text} → Inside k depth ts mark x rest → EndsWith x rest
+inside_end : {k : TagKind} {depth : ℕ} {ts : List Token} {mark : Mark} {x rest : Text} → Inside k depth ts mark x rest → EndsWith x rest
 inside_end {k} (closed {mark} {rest} ok) = closing_end k mark rest
 inside_end (space {c} h i) = let e = inside_end i in (c ∷ e.0, ap (λ z. c ∷ z) e.1)
 inside_end (token {s} {rest} b p i) = let e = inside_end i in (s ++ e.0, ap (λ z. s ++ z) e.1 ∙ sym (append_assoc s e.0 rest))
@@ -304,7 +304,7 @@ few_chars t u = omega (arith, length-le-encodes (chars t), ap length (encodes-ch
 
 -- ---- what stands in front of a text
 
-pub segment_of_tag : (n : ℕ) (k : Kind) (x y : Text) → x ≡ 123 ∷ second k ∷ y → segment_at n x ≡ tag_at k n y
+pub segment_of_tag : (n : ℕ) (k : TagKind) (x y : Text) → x ≡ 123 ∷ second k ∷ y → segment_at n x ≡ tag_at k n y
 unfolding segment_at
 segment_of_tag n Variable x y e = rw e refl
 segment_of_tag n Block x y e = rw e refl
@@ -355,18 +355,18 @@ token_named line c x cs found rest e s r w =
 
 -- ---- the closer, or a token
 
-pub front_closed : (k : Kind) (line depth : ℕ) (x : Text) (mark : Mark) (rest : Text) → counted k depth x ≡ Some (mark, rest) → front_at k line depth x ≡ Ok (closing mark, rest)
+pub front_closed : (k : TagKind) (line depth : ℕ) (x : Text) (mark : Mark) (rest : Text) → counted k depth x ≡ Some (mark, rest) → front_at k line depth x ≡ Ok (closing mark, rest)
 unfolding front_at
 front_closed k line depth x mark rest e = rw e refl
 
 -- no closer that counts is in front
-abbrev pub IsOpen : Kind → ℕ → Text → Type 0
+abbrev pub IsOpen : TagKind → ℕ → Text → Type 0
 IsOpen k depth x = counted k depth x ≡ None
 
-pub front_spelled : (k : Kind) (line depth : ℕ) (x : Text) (t : Token) (rest : Text) → IsOpen k depth x → token_at line x ≡ Ok (t, rest) → front_at k line depth x ≡ Ok (spells t, rest)
+pub front_spelled : (k : TagKind) (line depth : ℕ) (x : Text) (t : Token) (rest : Text) → IsOpen k depth x → token_at line x ≡ Ok (t, rest) → front_at k line depth x ≡ Ok (spells t, rest)
 unfolding front_at
 front_spelled k line depth x t rest h e = rw (h, e) refl
 
-pub front_refused : (k : Kind) (line depth : ℕ) (x : Text) (e : ScanError) → IsOpen k depth x → IsGiven e (token_at line x) → IsGiven e (front_at k line depth x)
+pub front_refused : (k : TagKind) (line depth : ℕ) (x : Text) (e : ScanError) → IsOpen k depth x → IsGiven e (token_at line x) → IsGiven e (front_at k line depth x)
 unfolding front_at
 front_refused k line depth x e h g = given_along e (token_at line x) (front_at k line depth x) (λ w. rw (h, w) refl) g

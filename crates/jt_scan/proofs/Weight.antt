@@ -1,19 +1,19 @@
 -- What stands in segments takes room in their source.
 use Rattle.std.proofs.Common.{◌≡◌, ℕ, ◌+◌, ◌<◌, ◌≤◌, ◌==◌, Bool, true, false, List, [], ◌∷◌, length, drop, codes, refl, ap, arith, Option, Some, None, length-append, rules}
-use Rattle.jt_scan.specs.declared.segment.Kind.{Kind}
+use Rattle.jt_scan.specs.declared.segment.TagKind.{TagKind}
 use Rattle.jt_scan.proofs.TokenLaws.{spelled_weighs}
 use Rattle.jt_scan.specs.Cut.{Text, Token, Segment, tokens_weight, weight, weight_of, Inside, closed, space, token, Cuts, no_more, IsSegment, some_data, a_tag, a_comment, a_raw, more, closing_text, behind_mark, is_mark, is_space, after_space, after_word, closer_at, first_mark, marks, endraw_closed, endraw_named, endraw_at, begins}
 use Rattle.jt_scan.proofs.Steps.{by_test}
 use Rattle.jt_scan.proofs.Tables.{closer_says}
-use Rattle.jt_scan.specs.declared.segment.Kind.TheVariants as kind
+use Rattle.jt_scan.specs.declared.segment.TagKind.TheVariants as kind
 use Rattle.jt_scan.specs.declared.segment.Mark.{Mark}
 use Rattle.jt_scan.specs.declared.segment.Mark.TheVariants as m
 use Rattle.jt_scan.specs.declared.segment.Marks.{Marks}
 
-closing_long : (k : Kind) (mark : Mark) (rest : Text) → 2 + length rest ≤ length (closing_text k mark rest)
+closing_long : (k : TagKind) (mark : Mark) (rest : Text) → 2 + length rest ≤ length (closing_text k mark rest)
 closing_long k mark rest = search (arith, rules)
 
-inside_weighs : {k : Kind} {depth : ℕ} {ts : List Token} {mark : Mark} {x rest : Text} → Inside k depth ts mark x rest → 2 + tokens_weight ts + length rest ≤ length x
+inside_weighs : {k : TagKind} {depth : ℕ} {ts : List Token} {mark : Mark} {x rest : Text} → Inside k depth ts mark x rest → 2 + tokens_weight ts + length rest ≤ length x
 inside_weighs {k} (closed {mark} {rest} ok) = omega (arith, closing_long k mark rest)
 inside_weighs (space h i) = omega (arith, inside_weighs i)
 inside_weighs (token {s} {x} b sp i) = omega (arith, inside_weighs i, spelled_weighs sp, length-append s x)

@@ -2,8 +2,8 @@
 -- A text is a list of characters, each by its code point.
 pub use Rattle.jt_scan.specs.Literals.{Text}
 use Rattle.std.specs.Prelude.{◌≡◌, ℕ, ℤ, pos, ◌+◌, ◌-◌, ◌≤◌, Bool, true, false, ◌==◌, ◌&&◌, ◌||◌, List, [], ◌∷◌, ◌++◌, count_by, drop, codes, bytes_eq, if◌then◌else◌, Option, Some, None}
-use Rattle.jt_scan.specs.declared.segment.Kind.{Kind}
-use Rattle.jt_scan.specs.declared.segment.Kind.TheVariants as kind
+use Rattle.jt_scan.specs.declared.segment.TagKind.{TagKind}
+use Rattle.jt_scan.specs.declared.segment.TagKind.TheVariants as kind
 use Rattle.jt_scan.specs.declared.segment.Mark.{Mark}
 use Rattle.jt_scan.specs.declared.segment.Mark.TheVariants as m
 use Rattle.jt_scan.specs.declared.segment.Marks.{Marks}
@@ -156,17 +156,17 @@ comment_marks x = marks (first_mark x) (last_mark (behind_mark x))
 -- ---- a tag's inside
 
 -- `}}` closes a variable tag, and `%}` a block tag: the first character of the two
-abbrev pub closer : Kind → ℕ
+abbrev pub closer : TagKind → ℕ
 closer kind.Variable = 125
 closer kind.Block = 37
 
 -- before `}}` a `+` is an operator
-abbrev pub may_close : Kind → Mark → Bool
+abbrev pub may_close : TagKind → Mark → Bool
 may_close kind.Variable m.Plus = false
 may_close k mark = true
 
 -- a tag's closer with its mark
-abbrev pub closing_text : Kind → Mark → Text → Text
+abbrev pub closing_text : TagKind → Mark → Text → Text
 closing_text k mark rest = mark_text mark ++ (closer k ∷ 125 ∷ rest)
 
 -- the two characters stand in front
@@ -176,13 +176,13 @@ begins a b (c ∷ []) = false
 begins a b (c ∷ d ∷ rest) = c == a && d == b
 
 -- behind a mark
-abbrev pub marked_closer : Kind → Mark → Text → Option (Mark × Text)
+abbrev pub marked_closer : TagKind → Mark → Text → Option (Mark × Text)
 marked_closer k m.Absent x = None
 marked_closer k m.Minus x = if begins (closer k) 125 x then Some (m.Minus, drop 2 x) else None
 marked_closer k m.Plus x = if may_close k m.Plus && begins (closer k) 125 x then Some (m.Plus, drop 2 x) else None
 
 -- the mark of the closer in front, and what is behind it
-abbrev pub closer_at : Kind → Text → Option (Mark × Text)
+abbrev pub closer_at : TagKind → Text → Option (Mark × Text)
 closer_at k x = if begins (closer k) 125 x then Some (m.Absent, drop 2 x) else marked_closer k (first_mark x) (behind_mark x)
 
 abbrev pub is_found : {A : Type 0} → Option A → Bool
@@ -190,7 +190,7 @@ is_found None = false
 is_found (Some a) = true
 
 -- the tag's closer stands in front, where so many braces are open; it closes where none is
-abbrev pub closes : Kind → ℕ → Text → Bool
+abbrev pub closes : TagKind → ℕ → Text → Bool
 closes k depth x = depth == 0 && is_found (closer_at k x)
 
 -- how many braces are open behind a token
@@ -202,7 +202,7 @@ braces depth t = depth
 -- `Inside k depth ts mark x rest`: so many braces are open; x begins with the tokens ts, with any
 -- whitespace between or none, and the tag's first closer where no brace is open, with its mark, and the
 -- rest stands behind it
-pub data Inside (k : Kind) : ℕ → List Token → Mark → Text → Text → Type 0 where
+pub data Inside (k : TagKind) : ℕ → List Token → Mark → Text → Text → Type 0 where
   closed : {mark : Mark} {rest : Text} → may_close k mark ≡ true → Inside k 0 [] mark (closing_text k mark rest) rest
   space : {depth c : ℕ} {ts : List Token} {mark : Mark} {x rest : Text} → is_space c ≡ true → Inside k depth ts mark x rest → Inside k depth ts mark (c ∷ x) rest
   token : {depth : ℕ} {t : Token} {ts : List Token} {mark : Mark} {s x rest : Text} → closes k depth (s ++ x) ≡ false → Spelled t s x → Inside k (braces depth t) ts mark x rest → Inside k depth (t ∷ ts) mark (s ++ x) rest
@@ -212,7 +212,7 @@ pub data Inside (k : Kind) : ℕ → List Token → Mark → Text → Text → T
 pub data Segment : Type 0 where
   data_of : Text → Segment
   -- with its marks and its line
-  tag : Kind → Marks → ℕ → List Token → Segment
+  tag : TagKind → Marks → ℕ → List Token → Segment
   -- with its marks, and all that stands between the delimiters
   comment : Marks → Text → Segment
   -- a `raw` tag with its marks, the text behind it, and the `endraw` tag with its marks
@@ -237,7 +237,7 @@ EndsData [] = Unit {0}
 EndsData (c ∷ cs) = opens (c ∷ cs) ≡ true
 
 -- a tag whose only token is `raw`, if it is a block tag
-abbrev pub is_raw : Kind → List Token → Bool
+abbrev pub is_raw : TagKind → List Token → Bool
 is_raw kind.Variable ts = false
 is_raw kind.Block [] = false
 is_raw kind.Block (name x ∷ []) = bytes_eq x (codes "raw")
@@ -276,7 +276,7 @@ abbrev pub ends_raw : Text → Bool
 ends_raw x = is_found (endraw_at x)
 
 -- the second character of a tag's opener
-abbrev pub second : Kind → ℕ
+abbrev pub second : TagKind → ℕ
 second kind.Variable = 123
 second kind.Block = 37
 
@@ -294,7 +294,7 @@ line_at source x = 1 + lines source - lines x
 -- `endraw` tag is text.
 pub data IsSegment (n : ℕ) : Segment → Text → Text → Type 0 where
   some_data : {c : ℕ} {d rest : Text} → NoneBegins opens (c ∷ d) rest → EndsData rest → IsSegment n (data_of (c ∷ d)) (c ∷ (d ++ rest)) rest
-  a_tag : {k : Kind} {ts : List Token} {closing : Mark} {x rest : Text} → Inside k 0 ts closing (behind_mark x) rest → is_raw k ts ≡ false
+  a_tag : {k : TagKind} {ts : List Token} {closing : Mark} {x rest : Text} → Inside k 0 ts closing (behind_mark x) rest → is_raw k ts ≡ false
       → IsSegment n (tag k (marks (first_mark x) closing) n ts) (123 ∷ second k ∷ x) rest
   a_comment : {x rest : Text} → NoneBegins ends_comment x (35 ∷ 125 ∷ rest) → IsSegment n (comment (comment_marks x) x) (123 ∷ 35 ∷ (x ++ (35 ∷ 125 ∷ rest))) rest
   a_raw : {ts : List Token} {closing : Mark} {ends : Marks} {x d rest : Text} (y : Text) → Inside kind.Block 0 ts closing (behind_mark x) (d ++ y) → is_raw kind.Block ts ≡ true

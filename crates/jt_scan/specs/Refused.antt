@@ -2,15 +2,15 @@
 use Rattle.std.specs.Prelude.{◌≡◌, ℕ, ◌<◌, false, true, List, [], ◌∷◌, ◌++◌}
 use Rattle.jt_scan.specs.declared.error.ScanError.{ScanError}
 use Rattle.jt_scan.specs.declared.error.ScanError.TheVariants.{UnclosedTag, UnclosedText, BadCharacter, BadEscape, NumberTooLarge, UnclosedRaw, SourceTooLong, NoMemory}
-use Rattle.jt_scan.specs.declared.segment.Kind.{Kind}
-use Rattle.jt_scan.specs.declared.segment.Kind.TheVariants as kind
+use Rattle.jt_scan.specs.declared.segment.TagKind.{TagKind}
+use Rattle.jt_scan.specs.declared.segment.TagKind.TheVariants as kind
 use Rattle.jt_scan.specs.declared.segment.Mark.{Mark}
 use Rattle.jt_scan.specs.Cut.{Text, Token, Segment, second, closes, braces, is_space, starts_name, max_number, Spelled, NoneBegins, ends_comment, Cuts, line_at, NoSign, behind_mark, Inside, is_raw, ends_raw}
 use Rattle.jt_scan.specs.Literals.{is_digit, is_quote, Numeral, Enclosed, Unended, HasBadEscape}
 
 -- `IsBroken k n depth e x`: behind whitespace and tokens, the inside x of a tag of line n, where so
 -- many braces are open, has the fault e
-pub data IsBroken (k : Kind) (n : ℕ) : ℕ → ScanError → Text → Type 0 where
+pub data IsBroken (k : TagKind) (n : ℕ) : ℕ → ScanError → Text → Type 0 where
   -- the source ends inside the tag
   no_closer : {depth : ℕ} → IsBroken k n depth (UnclosedTag n) []
   -- the source ends inside a text
@@ -26,7 +26,7 @@ pub data IsBroken (k : Kind) (n : ℕ) : ℕ → ScanError → Text → Type 0 w
 
 -- a tag or a comment of line n begins here and has the fault
 pub data IsFaulty (n : ℕ) : ScanError → Text → Type 0 where
-  in_tag : {k : Kind} {e : ScanError} {x : Text} → IsBroken k n 0 e (behind_mark x) → IsFaulty n e (123 ∷ second k ∷ x)
+  in_tag : {k : TagKind} {e : ScanError} {x : Text} → IsBroken k n 0 e (behind_mark x) → IsFaulty n e (123 ∷ second k ∷ x)
   -- no `endraw` tag stands behind a `raw` tag
   no_endraw : {ts : List Token} {closing : Mark} {x y : Text} → Inside kind.Block 0 ts closing (behind_mark x) y → is_raw kind.Block ts ≡ true → NoneBegins ends_raw y []
       → IsFaulty n (UnclosedRaw n) (123 ∷ 37 ∷ x)

@@ -3,8 +3,8 @@ use Rattle.std.specs.Prelude.{◌≡◌, ℕ, pos, zero, suc, ◌+◌, ◌*◌, 
 use Rattle.unicode_ident.specs.Ident.{is_xid_continue}
 use Rattle.jt_scan.specs.declared.error.ScanError.{ScanError}
 use Rattle.jt_scan.specs.declared.error.ScanError.TheVariants.{UnclosedTag, UnclosedText, BadCharacter, BadEscape, NumberTooLarge, UnclosedRaw, NoMemory}
-use Rattle.jt_scan.specs.declared.segment.Kind.{Kind}
-use Rattle.jt_scan.specs.declared.segment.Kind.TheVariants.{Variable, Block}
+use Rattle.jt_scan.specs.declared.segment.TagKind.{TagKind}
+use Rattle.jt_scan.specs.declared.segment.TagKind.TheVariants.{Variable, Block}
 use Rattle.jt_scan.specs.declared.segment.Sign.{Sign}
 use Rattle.jt_scan.specs.declared.segment.Sign.TheVariants as s
 use Rattle.jt_scan.specs.declared.segment.Mark.{Mark}
@@ -161,10 +161,10 @@ front_by line (Some p) x = Ok (closing p.0, p.1)
 front_by line None x = token_at line x >>= λ t rest. Ok (spells t, rest)
 
 -- the closer in front that counts
-abbrev pub counted : Kind → ℕ → Text → Option (Mark × Text)
+abbrev pub counted : TagKind → ℕ → Text → Option (Mark × Text)
 counted k depth x = if depth == 0 then closer_at k x else None
 
-unfoldable pub front_at : Kind → ℕ → ℕ → Text → Outcome Front
+unfoldable pub front_at : TagKind → ℕ → ℕ → Text → Outcome Front
 front_at k line depth x = front_by line (counted k depth x) x
 
 -- tokens, and the mark of their tag's closer
@@ -180,7 +180,7 @@ then_inside f depth (closing mark) rest = Ok (([], mark), rest)
 then_inside f depth (spells t) rest = with_token t (f (braces depth t) rest)
 
 -- the tokens up to the closer, and what is behind it; the number m bounds the turns, and each takes a character
-unfoldable pub inside : Kind → ℕ → ℕ → ℕ → Text → Outcome Tokens
+unfoldable pub inside : TagKind → ℕ → ℕ → ℕ → Text → Outcome Tokens
 inside k line zero depth x = Err (UnclosedTag line)
 inside k line (suc n) depth [] = Err (UnclosedTag line)
 inside k line (suc n) depth (c ∷ cs) =
@@ -196,11 +196,11 @@ unfoldable pub raw_at : ℕ → Marks → Text → Outcome Segment
 raw_at line ms x = ended_raw line ms (clear_run ends_raw x).0 (endraw_at (clear_run ends_raw x).1)
 
 -- the segment that a tag with these tokens makes
-abbrev pub tag_of : Kind → ℕ → Marks → List Token → Text → Outcome Segment
+abbrev pub tag_of : TagKind → ℕ → Marks → List Token → Text → Outcome Segment
 tag_of k line ms ts rest = if is_raw k ts then raw_at line ms rest else Ok (tag k ms line ts, rest)
 
 -- x stands behind an opener
-abbrev pub tag_at : Kind → ℕ → Text → Outcome Segment
+abbrev pub tag_at : TagKind → ℕ → Text → Outcome Segment
 tag_at k line x =
     inside k line (length (behind_mark x) + 1) 0 (behind_mark x) >>= λ p rest. tag_of k line (marks (first_mark x) p.1) p.0 rest
 

@@ -6,7 +6,7 @@ ghost use Rattle.jt_scan.specs.Cut as cut;
 ghost use Rattle.jt_scan.specs.Scanning as spec;
 
 use crate::marks::{read_closer, read_mark};
-use crate::segment::{Kind, Marks};
+use crate::segment::{Marks, TagKind};
 use crate::text::{before, behind_pair, behind_space, first};
 
 /// What is behind the word `endraw`, where it is in front.
@@ -30,7 +30,7 @@ pub(crate) fn read_endraw(text: &str) -> Option<(Marks, &str)>
     let inside = behind_pair(text, '{', '%')?;
     let (opening, more) = read_mark(inside);
     let named = behind_endraw(behind_space(more))?;
-    let (closing, rest) = read_closer(behind_space(named), Kind::Block)?;
+    let (closing, rest) = read_closer(behind_space(named), TagKind::Block)?;
     Some((Marks { opening, closing }, rest))
 }
 

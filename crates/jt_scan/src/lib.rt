@@ -23,6 +23,6 @@ pub use error::ScanError;
 pub use options::Options;
 pub use quotes::text_value;
 pub use scanner::scan;
-pub use segment::{Kind, Mark, Marks, Part, Segment, Sign, Tag, Token};
+pub use segment::{Mark, Marks, Part, Segment, Sign, Tag, TagKind, Token};
 pub use source::{MAX_SOURCE_LEN, Source};
 pub use text::{behind_space, first};

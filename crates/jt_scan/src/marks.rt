@@ -4,7 +4,7 @@ ghost use Rattle.std.specs.Prelude.{◌≡◌, false, true, Some, None, MatchOpt
 ghost use Rattle.std.specs.Str.{chars};
 ghost use Rattle.jt_scan.specs.Cut as cut;
 
-use crate::segment::{Kind, Mark, Marks};
+use crate::segment::{Mark, Marks, TagKind};
 use crate::text::{behind_pair, first};
 
 /// The mark that a character is.
@@ -58,24 +58,24 @@ pub(crate) fn comment_marks(text: &str) -> Marks
 }
 
 /// The first character of the tag's closer, which ends with `}`.
-fn closer(kind: Kind) -> char
+fn closer(kind: TagKind) -> char
     ensures { result ≡ cut.closer kind }
 {
     match kind {
-        Kind::Variable => '}',
-        Kind::Block => '%',
+        TagKind::Variable => '}',
+        TagKind::Block => '%',
     }
 }
 
 /// Whether the mark may stand before the tag's closer.
-fn may_close(kind: Kind, mark: Mark) -> bool
+fn may_close(kind: TagKind, mark: Mark) -> bool
     ensures { result ≡ cut.may_close kind mark }
 {
-    !(kind == Kind::Variable && mark == Mark::Plus)
+    !(kind == TagKind::Variable && mark == Mark::Plus)
 }
 
 /// The mark of the closer in front, and what is behind it.
-pub(crate) fn read_closer(text: &str, kind: Kind) -> Option<(Mark, &str)>
+pub(crate) fn read_closer(text: &str, kind: TagKind) -> Option<(Mark, &str)>
     ensures { MatchOption result (cut.closer_at kind (chars text.now) ≡ None)
         (λ p. cut.closer_at kind (chars text.now) ≡ Some (p.0, chars p.1.now)) }
 {

@@ -14,18 +14,18 @@ use crate::error::ScanError;
 use crate::find::{split_comment, split_data};
 use crate::marks::{comment_marks, read_mark};
 use crate::options::Options;
-use crate::segment::{Kind, Marks, Part, Segment, Tag, Token};
+use crate::segment::{Marks, Part, Segment, Tag, TagKind, Token};
 use crate::source::Source;
 use crate::text::{before, behind_pair, is_word, lines};
 use crate::tokens::read_tokens;
 use std::alloc::Global;
 
 /// Whether the only token is the word `raw`.
-fn is_raw(kind: Kind, tokens: &[Token<'_>]) -> bool
+fn is_raw(kind: TagKind, tokens: &[Token<'_>]) -> bool
     ensures { result ≡ cut.is_raw kind (map token_view tokens.now) }
 {
     match (kind, tokens) {
-        (Kind::Block, [Token::Name(word)]) => is_word(word, "raw"),
+        (TagKind::Block, [Token::Name(word)]) => is_word(word, "raw"),
         _ => false,
     }
 }
@@ -47,7 +47,7 @@ fn read_raw(text: &str, marks: Marks, line: u32) -> Result<(Part<'_>, &str), Sca
 fn read_tag<'a>(
     alloc: Global,
     text: &'a str,
-    kind: Kind,
+    kind: TagKind,
     line: u32,
 ) -> Result<(Part<'a>, &'a str), ScanError>
     ensures { MatchResult result
@@ -91,10 +91,10 @@ fn read_part<'a>(alloc: Global, text: &'a str, line: u32) -> Result<(Part<'a>, &
         (λ e. spec.IsGiven e (spec.segment_at line (chars text.now))) }
 {
     if let Some(inside) = behind_pair(text, '{', '{') {
-        return read_tag(alloc, inside, Kind::Variable, line);
+        return read_tag(alloc, inside, TagKind::Variable, line);
     }
     if let Some(inside) = behind_pair(text, '{', '%') {
-        return read_tag(alloc, inside, Kind::Block, line);
+        return read_tag(alloc, inside, TagKind::Block, line);
     }
     if let Some(inside) = behind_pair(text, '{', '#') {
         return read_comment(inside, line);

@@ -70,7 +70,7 @@ pub enum Token<'a> {
 
 /// The kind of a tag.
 #[derive(Clone, Copy, Debug, PartialEq, Eq)]
-pub enum Kind {
+pub enum TagKind {
     /// `{{ .. }}`
     Variable,
     /// `{% .. %}`
@@ -101,7 +101,7 @@ pub struct Marks {
 #[derive(Debug, Drop)]
 pub struct Tag<'a> {
     /// Which of the two it is.
-    pub kind: Kind,
+    pub kind: TagKind,
     /// The marks inside its delimiters.
     pub marks: Marks,
     /// The line of the tag's first `{`, counted from 1.

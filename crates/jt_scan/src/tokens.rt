@@ -11,7 +11,7 @@ use crate::error::ScanError;
 use crate::marks::read_closer;
 use crate::numbers::{digit_value, read_number};
 use crate::quotes::{has_meaning, is_quote, split_quoted};
-use crate::segment::{Kind, Mark, Sign, Token};
+use crate::segment::{Mark, Sign, TagKind, Token};
 use crate::signs::read_sign;
 use crate::text::{before, behind_name, behind_space, first, starts_name};
 use std::alloc::Global;
@@ -79,7 +79,7 @@ fn read_token(text: &str, line: u32) -> Result<(Token<'_>, &str), ScanError>
 }
 
 /// The mark of the tag's closer, where it is in front and no brace is open, and what is behind it.
-fn counted_closer(text: &str, kind: Kind, depth: usize) -> Option<(Mark, &str)>
+fn counted_closer(text: &str, kind: TagKind, depth: usize) -> Option<(Mark, &str)>
     ensures { MatchOption result (spec.counted kind depth (chars text.now) ≡ None)
         (λ p. spec.counted kind depth (chars text.now) ≡ Some (p.0, chars p.1.now)) }
 {
@@ -93,7 +93,7 @@ fn counted_closer(text: &str, kind: Kind, depth: usize) -> Option<(Mark, &str)>
 /// What stands in front in a tag where so many braces are open, and what is behind it.
 fn read_front(
     text: &str,
-    kind: Kind,
+    kind: TagKind,
     depth: usize,
     line: u32,
 ) -> Result<(Front<'_>, &str), ScanError>
@@ -124,7 +124,7 @@ fn braces(depth: usize, token: Token<'_>) -> usize
 pub(crate) fn read_tokens<'a>(
     alloc: Global,
     text: &'a str,
-    kind: Kind,
+    kind: TagKind,
     line: u32,
 ) -> Result<(Vec<Token<'a>>, Mark, &'a str), ScanError>
     ensures { let outcome = spec.inside kind line (length (chars text.now) + 1) 0 (chars text.now)

@@ -3,8 +3,8 @@ use Rattle.std.proofs.lemmas.Result.{IfOk-weaker}
 use Rattle.jt_meaning.specs.Resolve.{operation_of}
 use Rattle.jt_resolved.specs.Slots as slots
 use Rattle.jt_resolved.specs.View.{expr_view}
-use Rattle.jt_resolved.specs.declared.program.SExpr.{SExpr}
-use Rattle.jt_resolved.specs.declared.program.SExpr.TheVariants as e
+use Rattle.jt_resolved.specs.declared.program.SlotExpr.{SlotExpr}
+use Rattle.jt_resolved.specs.declared.program.SlotExpr.TheVariants as e
 use Rattle.jt_bind.proofs.LeadingRows.{conjunction_placed, disjunction_placed}
 use Rattle.jt_resolved.proofs.ExpressionViews.{view_Conjunction, view_Disjunction}
 use Rattle.jt_bind.proofs.forms.formed.Goals as goal
@@ -21,8 +21,8 @@ returns-in_ok-new-in-Conjunction c =
     let first = c.in_ok-first-in-Conjunction.first in
     let second = c.in_ok-new-in-Conjunction.field-0 in
     let shown : expr_view (e.Conjunction first second) ≡ slots.conjunction (expr_view c.args.left) (expr_view c.args.right) =
-    view_Conjunction first second ∙ ap (λ (z : SExpr). slots.conjunction (expr_view z) (expr_view second.value)) c.in_ok-first-in-Conjunction.ensures.ok
-    ∙ ap (λ (z : SExpr). slots.conjunction (expr_view c.args.left) (expr_view z)) c.in_ok-new-in-Conjunction.ensures.ok in
+    view_Conjunction first second ∙ ap (λ (z : SlotExpr). slots.conjunction (expr_view z) (expr_view second.value)) c.in_ok-first-in-Conjunction.ensures.ok
+    ∙ ap (λ (z : SlotExpr). slots.conjunction (expr_view c.args.left) (expr_view z)) c.in_ok-new-in-Conjunction.ensures.ok in
     rw c.in-Conjunction.is (λ a b p q r f g. conjunction_placed a b (expr_view c.args.left) (expr_view c.args.right) (expr_view (e.Conjunction first second)) p q r f g shown)
 
 pub returns-in_ok-new-in-Disjunction : goal.returns-in_ok-new-in-Disjunction
@@ -30,6 +30,6 @@ returns-in_ok-new-in-Disjunction c =
     let first = c.in_ok-first-in-Disjunction.first in
     let second = c.in_ok-new-in-Disjunction.field-0 in
     let shown : expr_view (e.Disjunction first second) ≡ slots.disjunction (expr_view c.args.left) (expr_view c.args.right) =
-    view_Disjunction first second ∙ ap (λ (z : SExpr). slots.disjunction (expr_view z) (expr_view second.value)) c.in_ok-first-in-Disjunction.ensures.ok
-    ∙ ap (λ (z : SExpr). slots.disjunction (expr_view c.args.left) (expr_view z)) c.in_ok-new-in-Disjunction.ensures.ok in
+    view_Disjunction first second ∙ ap (λ (z : SlotExpr). slots.disjunction (expr_view z) (expr_view second.value)) c.in_ok-first-in-Disjunction.ensures.ok
+    ∙ ap (λ (z : SlotExpr). slots.disjunction (expr_view c.args.left) (expr_view z)) c.in_ok-new-in-Disjunction.ensures.ok in
     rw c.in-Disjunction.is (λ a b p q r f g. disjunction_placed a b (expr_view c.args.left) (expr_view c.args.right) (expr_view (e.Disjunction first second)) p q r f g shown)

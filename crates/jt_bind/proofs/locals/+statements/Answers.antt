@@ -2,7 +2,7 @@ use Rattle.std.proofs.Common.{List, max, sym, ap, ◌∙◌, arith}
 use Rattle.std.proofs.lemmas.List.{at_drop_all}
 use Rattle.jt_resolved.specs.Locals.{body_locals}
 use Rattle.jt_resolved.specs.View.{body_view}
-use Rattle.jt_resolved.specs.declared.program.SStmt.{SStmt}
+use Rattle.jt_resolved.specs.declared.program.SlotStmt.{SlotStmt}
 use Rattle.jt_bind.specs.Stated.{Branch}
 use Rattle.jt_bind.proofs.Counted.{branches_locals, max_zero, body_step, branch_step, choice_done, loop_counted, capture_counted}
 use Rattle.jt_bind.proofs.locals.+statements.Goals as goal
@@ -16,7 +16,7 @@ body_locals-loop-statement-preserved t c = λ ts behind.
 pub body_locals-returns : goal.body_locals-returns
 body_locals-returns t c = λ ts behind.
     let l = c.loop-statement in
-    sym (l.invariant ts behind) ∙ at_drop_all (λ (z : List SStmt). max l.most (body_locals (body_view ts z behind))) c.args.body.now l.statement-index (omega arith)
+    sym (l.invariant ts behind) ∙ at_drop_all (λ (z : List SlotStmt). max l.most (body_locals (body_view ts z behind))) c.args.body.now l.statement-index (omega arith)
 
 pub stmt_locals-loop-condition-preserved : goal.stmt_locals-loop-condition-preserved
 stmt_locals-loop-condition-preserved t c = λ ts.
@@ -29,7 +29,7 @@ stmt_locals-returns-after-loop-condition t c = λ ts behind.
     let l = c.loop-condition in
     let first = c.in_ok-most-in-If.most in
     choice_done ts c.args.statement.now behind c.in-If.branches c.in-If.other first l.most c.in-If.is
-    (λ b. sym (ap (λ (z : List SStmt). body_locals (body_view ts z b)) c.deref.ensures.value) ∙ c.in_ok-most-in-If.ensures ts b)
+    (λ b. sym (ap (λ (z : List SlotStmt). body_locals (body_view ts z b)) c.deref.ensures.value) ∙ c.in_ok-most-in-If.ensures ts b)
     (sym (max_zero l.most) ∙ sym (at_drop_all (λ (z : List Branch). max l.most (branches_locals ts z)) c.deref-condition-items.result.now l.condition-index (omega arith)) ∙ l.invariant ts
     ∙ ap (λ (z : List Branch). max first (branches_locals ts z)) c.deref-condition-items.ensures.value)
 
@@ -40,11 +40,11 @@ stmt_locals-returns-in_ok-last-in-For t c = λ ts behind.
     let k = c.in_ok-asked-in-For.asked in
     loop_counted ts c.args.statement.now behind c.in-For.place c.in-For.targets c.in-For.items c.in-For.condition c.in-For.body c.in-For.other m n k c.in_ok-turn-in-For.turn c.in_ok-last-in-For.last c.larger-in-For-4.result c.in-For.is
     c.in_ok-taken-in-For.ensures c.in_ok-given-in-For.ensures c.in_ok-asked-in-For.ensures
-    (λ b. sym (ap (λ (z : List SStmt). body_locals (body_view ts z b)) c.deref-in-For.ensures.value) ∙ c.in_ok-turn-in-For.ensures ts b)
-    (λ b. sym (ap (λ (z : List SStmt). body_locals (body_view ts z b)) c.deref-in-For-2.ensures.value) ∙ c.in_ok-last-in-For.ensures ts b)
+    (λ b. sym (ap (λ (z : List SlotStmt). body_locals (body_view ts z b)) c.deref-in-For.ensures.value) ∙ c.in_ok-turn-in-For.ensures ts b)
+    (λ b. sym (ap (λ (z : List SlotStmt). body_locals (body_view ts z b)) c.deref-in-For-2.ensures.value) ∙ c.in_ok-last-in-For.ensures ts b)
     (c.larger-in-For-4.ensures ∙ ap (max m) (c.larger-in-For-3.ensures ∙ ap (λ u. max u c.larger-in-For-2.result) c.larger-in-For.ensures ∙ ap (max (max n k)) c.larger-in-For-2.ensures))
 
 pub stmt_locals-returns-in_ok-body_locals-in-Capture : goal.stmt_locals-returns-in_ok-body_locals-in-Capture
 stmt_locals-returns-in_ok-body_locals-in-Capture t c = λ ts behind.
     capture_counted ts c.args.statement.now behind c.in-Capture.escaping c.in-Capture.slot c.in-Capture.body c.in_ok-kept-in-Capture.kept c.in_ok-body_locals-in-Capture.field-0 c.larger-in-Capture.result c.in-Capture.is
-    c.in_ok-kept-in-Capture.ensures (λ b. sym (ap (λ (z : List SStmt). body_locals (body_view ts z b)) c.deref-in-Capture.ensures.value) ∙ c.in_ok-body_locals-in-Capture.ensures ts b) c.larger-in-Capture.ensures
+    c.in_ok-kept-in-Capture.ensures (λ b. sym (ap (λ (z : List SlotStmt). body_locals (body_view ts z b)) c.deref-in-Capture.ensures.value) ∙ c.in_ok-body_locals-in-Capture.ensures ts b) c.larger-in-Capture.ensures

@@ -9,7 +9,7 @@ use Rattle.jt_chains.specs.declared.linked.Chain.{Chain}
 use Rattle.jt_chains.specs.declared.layers.Layer.{Layer}
 use Rattle.jt_resolved.specs.Locals.{body_locals}
 use Rattle.jt_resolved.specs.View.{body_view}
-use Rattle.jt_resolved.specs.declared.program.SStmt.{SStmt}
+use Rattle.jt_resolved.specs.declared.program.SlotStmt.{SlotStmt}
 use Rattle.jt_bind.specs.Scoped.{values, world_in, order_in, home_in, templates_in}
 use Rattle.jt_meaning.specs.Resolve.{resolved_chain}
 use Rattle.jt_bind.proofs.LeadingBodies.{led_begun, led_of}
@@ -29,4 +29,4 @@ returns c = λ n is.
     let led = led_of T _ whole _ _ p q (ap (λ (z : List Layer). resolved_chain (world_in scope) (order_in scope) (home_in scope) (map (layer_view (chain_view scope.chain.now).templates) z)) c.deref.ensures.value ∙ ap (resolved_chain (world_in scope) (order_in scope) (home_in scope)) (listed there)
     ∙ ap (λ h. resolved_chain (world_in scope) (order_in scope) h (templates (world_in scope).sources h)) is) (led_begun T _ _ _ _ p q c.new-done.ensures.items c.in_ok-resolve_layers.ensures) in
     routine_made T 0 0 whole c.resolve_layers.new.done c.in_ok-locals.locals _ p q led refl (locals_same T whole c.resolve_layers.new.done.items p q c.in_ok-locals.locals led
-    (λ b. sym (ap (λ (z : List SStmt). body_locals (body_view T z b)) c.deref-2.ensures.value) ∙ c.in_ok-locals.ensures T b))
+    (λ b. sym (ap (λ (z : List SlotStmt). body_locals (body_view T z b)) c.deref-2.ensures.value) ∙ c.in_ok-locals.ensures T b))

@@ -2,7 +2,7 @@ use Rattle.std.proofs.Common.{◌+◌, ◌<◌, length, drop, sym, append-nil, a
 use Rattle.std.proofs.lemmas.List.{at_drop_all}
 use Rattle.jt_resolved.specs.Slots.{variable, local}
 use Rattle.jt_resolved.specs.declared.program.Slot.TheVariants as s
-use Rattle.jt_resolved.specs.declared.program.SExpr.TheVariants as e
+use Rattle.jt_resolved.specs.declared.program.SlotExpr.TheVariants as e
 use Rattle.jt_meaning.specs.Resolve as resolve
 use Rattle.jt_bind.proofs.Calling.{locals_next}
 use Rattle.jt_bind.proofs.LeadingRows.{of_whole, of_left, row_both, row_item}

@@ -4,7 +4,7 @@ use Rattle.std.proofs.lemmas.Result.{IfOk-weaker}
 use Rattle.jt_image.specs.declared.instruction.Instruction.TheVariants as op
 use Rattle.jt_resolved.specs.Slots as slots
 use Rattle.jt_resolved.specs.Slots.{none}
-use Rattle.jt_resolved.specs.declared.program.SStmt.{SStmt}
+use Rattle.jt_resolved.specs.declared.program.SlotStmt.{SlotStmt}
 use Rattle.jt_resolved.specs.View.{slot_view, targets_view, place_view, expr_view, row_view, stmt_view, body_view, choice_view}
 use Rattle.jt_lower.specs.Asm.{Asm, one, both, each, when, invoke}
 use Rattle.jt_lower.specs.Lower.{flag, store_of, expr_asm, row_asm, take_asm, kept_asm, turn_asm, over_asm, body_asm, stmt_asm}
@@ -127,7 +127,7 @@ emit_statement-returns-in-For t c =
     let us = c.deref-in-For.result.now in
     IfOk-weaker c.emit_loop.result _ _ (λ u g. λ ts h s.
     let p = place_view ts v.tag in
-    let form = λ (ds es : List SStmt). slots.for_each p (targets_view v.targets) (expr_view v.iterated) (option_map expr_view v.condition) (body_view ts ds slots.end) (body_view ts es slots.end) in
+    let form = λ (ds es : List SlotStmt). slots.for_each p (targets_view v.targets) (expr_view v.iterated) (option_map expr_view v.condition) (body_view ts ds slots.end) (body_view ts es slots.end) in
     let whole = form v.body.items v.other.items in
     emits_as ts h c0 c1 (stmt_view ts c.args.statement.now) (λ b. slots.stmt whole b) (λ b. ap (λ x. stmt_view ts x b) v.is ∙ view_For ts v.tag v.targets v.iterated v.condition v.body v.other b)
     (emits_one ts h c0 c1 whole (subst (λ l. Puts ts c0 (stmt_asm (form l v.other.items) h) c1) c.deref-in-For.ensures.value

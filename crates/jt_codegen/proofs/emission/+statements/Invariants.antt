@@ -1,7 +1,7 @@
 use Rattle.std.proofs.Common.{ℕ, ◌+◌, ◌*◌, List, drop}
 use Rattle.std.specs.Prelude.{max}
 use denote.Param.Weighed.{most}
-use Rattle.jt_resolved.specs.declared.program.SStmt.{size-SStmt}
+use Rattle.jt_resolved.specs.declared.program.SlotStmt.{size-SlotStmt}
 use Rattle.jt_trees.specs.Expressions.{Text}
 use Rattle.jt_resolved.specs.View.{body_view}
 use Rattle.jt_lower.specs.Emission.{StandsFor}
@@ -11,16 +11,16 @@ use Rattle.jt_codegen.proofs.emission.+statements.Given as goal
 -- ---- how deep the statements are that are left, and who hands its own on
 
 abbrev pub decreases-emit_statement : goal.decreases-emit_statement
-decreases-emit_statement l = 3 * size-SStmt l.statement.now
+decreases-emit_statement l = 3 * size-SlotStmt l.statement.now
 
 abbrev pub decreases-emit_statements : goal.decreases-emit_statements
-decreases-emit_statements l = 3 * most (λ x. size-SStmt x) l.body.now + 1
+decreases-emit_statements l = 3 * most (λ x. size-SlotStmt x) l.body.now + 1
 
 abbrev pub decreases-emit_capture : goal.decreases-emit_capture
-decreases-emit_capture l = 3 * most (λ x. size-SStmt x) l.body.now + 2
+decreases-emit_capture l = 3 * most (λ x. size-SlotStmt x) l.body.now + 2
 
 abbrev pub decreases-emit_loop : goal.decreases-emit_loop
-decreases-emit_loop l = 3 * max (most (λ x. size-SStmt x) l.body.now) (most (λ x. size-SStmt x) l.other.now) + 2
+decreases-emit_loop l = 3 * max (most (λ x. size-SlotStmt x) l.body.now) (most (λ x. size-SlotStmt x) l.other.now) + 2
 
 -- ---- what is left
 

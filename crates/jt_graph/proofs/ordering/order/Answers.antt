@@ -1,7 +1,7 @@
 use Rattle.std.proofs.Common.{◌≡◌, true, Err, ap, ◌∙◌, ◌+◌, arith}
 use Rattle.jt_graph.specs.declared.error.OrderError.TheVariants.{Cycle}
 use Rattle.jt_graph.specs.View.{graph_of}
-use Rattle.jt_graph.specs.Walks.{is_done, mark_of}
+use Rattle.jt_graph.specs.Walks.{is_done, visit_of}
 use Rattle.jt_graph.proofs.Walked.{none_lead, before_next, all_ordered, graph_len, passed_on}
 use Rattle.jt_graph.proofs.ordering.order.Goals as goal
 
@@ -12,7 +12,7 @@ pub loop-number-preserved : goal.loop-number-preserved
 loop-number-preserved c = record {
   walked = c.in_ok-visit.ensures.walk;
   closed = λ j. c.in_ok-visit.ensures.goes.opens j ∙ c.loop-number.invariant.closed j;
-  reached = before_next (λ j. is_done (mark_of c.visit.new.walk.marks.items j) ≡ true) c.loop-number.number (c.loop-number.number + 1) (omega arith) (λ j lt. c.in_ok-visit.ensures.goes.dones j (c.loop-number.invariant.reached j lt)) c.in_ok-visit.ensures.done;
+  reached = before_next (λ j. is_done (visit_of c.visit.new.walk.visits.items j) ≡ true) c.loop-number.number (c.loop-number.number + 1) (omega arith) (λ j lt. c.in_ok-visit.ensures.goes.dones j (c.loop-number.invariant.reached j lt)) c.in_ok-visit.ensures.done;
 }
 
 pub returns-clause-ordered : goal.returns-clause-ordered

@@ -2,20 +2,20 @@ use Rattle.std.proofs.Common.{◌≡◌, ap, length, sym}
 use Rattle.std.proofs.Math.ListN.{replicate}
 use Rattle.jt_graph.specs.View.{graph_of}
 use Rattle.jt_graph.specs.Walks.{is_open}
-use Rattle.jt_graph.specs.declared.walk.Mark.TheVariants.{New}
+use Rattle.jt_graph.specs.declared.walk.VisitState.TheVariants.{New}
 use Rattle.jt_graph.proofs.Walked.{all_new, graph_len, new_walk}
 use Rattle.jt_graph.proofs.walk.begin.Goals as goal
 
 pub returns-clause-walk : goal.returns-clause-walk
 returns-clause-walk c =
-    let marks = c.in_ok-vec.field-0 in
+    let visits = c.in_ok-vec.field-0 in
     let done = c.in_ok-with_capacity.field-0 in
-    let new : marks.items ≡ replicate (length c.args.next.now) New = c.in_ok-vec.ensures.items_if_clones_equal (λ y is. is) in
+    let new : visits.items ≡ replicate (length c.args.next.now) New = c.in_ok-vec.ensures.items_if_clones_equal (λ y is. is) in
     let all = length c.args.next.now in
-    new_walk (graph_of c.args.next.now) (record { marks = marks; done = done }) all new (sym (graph_len c.args.next.now)) c.in_ok-with_capacity.ensures.items
+    new_walk (graph_of c.args.next.now) (record { visits = visits; done = done }) all new (sym (graph_len c.args.next.now)) c.in_ok-with_capacity.ensures.items
 
 pub returns-clause-closed : goal.returns-clause-closed
 returns-clause-closed c j =
-    let marks = c.in_ok-vec.field-0.items in
-    let new : marks ≡ replicate (length c.args.next.now) New = c.in_ok-vec.ensures.items_if_clones_equal (λ y is. is) in
-    ap is_open (all_new marks (length c.args.next.now) j new)
+    let visits = c.in_ok-vec.field-0.items in
+    let new : visits ≡ replicate (length c.args.next.now) New = c.in_ok-vec.ensures.items_if_clones_equal (λ y is. is) in
+    ap is_open (all_new visits (length c.args.next.now) j new)

@@ -3,7 +3,7 @@ use Rattle.std.specs.Prelude.{max}
 use denote.Param.Weighed.{most}
 use Rattle.jt_trees.specs.Expressions.{Text}
 use Rattle.jt_resolved.specs.Slots.{none}
-use Rattle.jt_resolved.specs.declared.program.SExpr.{size-SExpr}
+use Rattle.jt_resolved.specs.declared.program.SlotExpr.{size-SlotExpr}
 use Rattle.jt_resolved.specs.View.{row_view}
 use Rattle.jt_lower.specs.Lower.{row_asm}
 use Rattle.jt_lower.specs.Emission.{StandsFor, tag_view}
@@ -13,19 +13,19 @@ use Rattle.jt_lower.proofs.expressions.+expressions.Given as goal
 -- ---- how deep the expressions are that are left, and who hands its own on
 
 abbrev pub decreases-emit_expression : goal.decreases-emit_expression
-decreases-emit_expression l = 2 * size-SExpr l.expr.now
+decreases-emit_expression l = 2 * size-SlotExpr l.expr.now
 
 abbrev pub decreases-emit_row : goal.decreases-emit_row
-decreases-emit_row l = 2 * most (λ x. size-SExpr x.1) l.row.now + 1
+decreases-emit_row l = 2 * most (λ x. size-SlotExpr x.1) l.row.now + 1
 
 abbrev pub decreases-emit_conjunction : goal.decreases-emit_conjunction
-decreases-emit_conjunction l = 2 * max (size-SExpr l.left.now) (size-SExpr l.right.now) + 1
+decreases-emit_conjunction l = 2 * max (size-SlotExpr l.left.now) (size-SlotExpr l.right.now) + 1
 
 abbrev pub decreases-emit_disjunction : goal.decreases-emit_disjunction
-decreases-emit_disjunction l = 2 * max (size-SExpr l.left.now) (size-SExpr l.right.now) + 1
+decreases-emit_disjunction l = 2 * max (size-SlotExpr l.left.now) (size-SlotExpr l.right.now) + 1
 
 abbrev pub decreases-emit_choice : goal.decreases-emit_choice
-decreases-emit_choice l = 2 * max (size-SExpr l.condition.now) (max (size-SExpr l.taken.now) (size-SExpr l.other.now)) + 1
+decreases-emit_choice l = 2 * max (size-SlotExpr l.condition.now) (max (size-SlotExpr l.taken.now) (size-SlotExpr l.other.now)) + 1
 
 -- ---- of a row, what is left
 

@@ -1,7 +1,7 @@
 use Rattle.std.proofs.lemmas.Result.{err_from_is_err_and}
 use Rattle.jt_trees.specs.StatementView.{body_view}
 use Rattle.jt_parse.specs.SideView.{side_view}
-use Rattle.jt_parse.specs.Gives.{state_view, frames_view}
+use Rattle.jt_parse.specs.Gives.{state_view, open_stmts_view}
 use Rattle.jt_parse.proofs.Segments.{segment_read, segment_refused, closed_all, stays_open}
 use Rattle.jt_parse.proofs.parser.read.Goals as goal
 
@@ -19,10 +19,10 @@ returns-in_err-step c =
 
 pub returns-in-Some : goal.returns-in-Some
 returns-in-Some c =
-    stays_open 100 (body_view c.segments.parser.body.items) (frames_view c.segments.parser.frames.items) (side_view c.segments.left) c.args.segments.now c.segments.rest.now
+    stays_open 100 (body_view c.segments.parser.body.items) (open_stmts_view c.segments.parser.open_stmts.items) (side_view c.segments.left) c.args.segments.now c.segments.rest.now
     c.in-Some.ensures.0 c.in-Some.ensures.1 c.in_default.len_below c.segments.invariant c.in-Some.ensures.2
 
 pub returns-in-None : goal.returns-in-None
 returns-in-None c =
-    closed_all 100 (body_view c.segments.parser.body.items) (frames_view c.segments.parser.frames.items) (side_view c.segments.left) c.args.segments.now c.segments.rest.now
+    closed_all 100 (body_view c.segments.parser.body.items) (open_stmts_view c.segments.parser.open_stmts.items) (side_view c.segments.left) c.args.segments.now c.segments.rest.now
     c.in_default.len_below c.segments.invariant c.in-None.ensures

@@ -11,16 +11,16 @@ returns-in_err-body c =
     let p = err_from_is_err_and c.from_residual.result c.from_residual.ensures.1 in
     rw (p.1, p.2) (refused_read (Parsed 100 (pieces (reads_of c.args.segments.now))) c.in_err-body.field-0.0 c.in_err-body.ensures)
 
-pub returns-in_err-check_places : goal.returns-in_err-check_places
-returns-in_err-check_places c =
-    let p = err_from_is_err_and c.from_residual-in_err-check_places.result c.from_residual-in_err-check_places.ensures.1 in
-    rw (p.1, p.2) (found_misplaced (Parsed 100 (pieces (reads_of c.args.segments.now))) (body_view c.in_ok-body.body.items) c.in_err-check_places.field-0.0 c.in_ok-body.ensures c.in_err-check_places.ensures)
+pub returns-in_err-check_positions : goal.returns-in_err-check_positions
+returns-in_err-check_positions c =
+    let p = err_from_is_err_and c.from_residual-in_err-check_positions.result c.from_residual-in_err-check_positions.ensures.1 in
+    rw (p.1, p.2) (found_misplaced (Parsed 100 (pieces (reads_of c.args.segments.now))) (body_view c.in_ok-body.body.items) c.in_err-check_positions.field-0.0 c.in_ok-body.ensures c.in_err-check_positions.ensures)
 
 pub returns-in_err-check_body : goal.returns-in_err-check_body
 returns-in_err-check_body c =
     let p = err_from_is_err_and c.from_residual-in_err-check_body.result c.from_residual-in_err-check_body.ensures.1 in
-    rw (p.1, p.2) (found_unknown (Parsed 100 (pieces (reads_of c.args.segments.now))) (body_view c.in_ok-body.body.items) c.in_err-check_body.field-0.0 c.in_ok-body.ensures c.in_ok-check_places.ensures c.in_err-check_body.ensures)
+    rw (p.1, p.2) (found_unknown (Parsed 100 (pieces (reads_of c.args.segments.now))) (body_view c.in_ok-body.body.items) c.in_err-check_body.field-0.0 c.in_ok-body.ensures c.in_ok-check_positions.ensures c.in_err-check_body.ensures)
 
 pub returns : goal.returns
 returns c =
-    known_body (Parsed 100 (pieces (reads_of c.args.segments.now))) (body_view c.in_ok-body.body.items) c.new.result c.new.ensures c.in_ok-body.ensures c.in_ok-check_places.ensures c.in_ok-check_body.ensures
+    known_body (Parsed 100 (pieces (reads_of c.args.segments.now))) (body_view c.in_ok-body.body.items) c.new.result c.new.ensures c.in_ok-body.ensures c.in_ok-check_positions.ensures c.in_ok-check_body.ensures

@@ -1,5 +1,5 @@
 use Rattle.std.specs.Str.{chars}
-use Rattle.jt_scan.specs.declared.segment.Kind.TheVariants.{Variable, Block}
+use Rattle.jt_scan.specs.declared.segment.TagKind.TheVariants.{Variable, Block}
 use Rattle.jt_scan.proofs.Turns.{segment_of_tag, segment_of_comment, segment_of_data}
 use Rattle.jt_scan.proofs.scanner.read_part.Goals as goal
 

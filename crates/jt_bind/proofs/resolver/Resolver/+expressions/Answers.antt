@@ -23,7 +23,7 @@ use Rattle.jt_resolved.specs.Slots as slots
 use Rattle.jt_resolved.specs.Slots.{invoke}
 use Rattle.jt_evaluation.specs.TheFilters.{the_filters}
 use Rattle.jt_resolved.specs.View.{expr_view as coded, row_view}
-use Rattle.jt_resolved.specs.declared.program.SExpr.TheVariants as e
+use Rattle.jt_resolved.specs.declared.program.SlotExpr.TheVariants as e
 use Rattle.jt_resolved.specs.declared.program.Maker.TheVariants as m
 use Rattle.jt_bind.specs.Callees.{IsCallee}
 use Rattle.jt_bind.specs.declared.callee.Callee.{Callee}
@@ -315,7 +315,7 @@ resolve_call-returns-in-Macro t c =
     ∙ ap (λ (i : ℕ). invoked (world_in s) (order_in s) (a_macro m.0 m.1) (spot_in s spot) (λ z. row_in s ts spot z) (λ z. asides_in s ps spot z) i ks) (sym n)
     ∙ ap (λ z. invoked (world_in s) (order_in s) z (spot_in s spot) (λ y. row_in s ts spot y) (λ y. asides_in s ps spot y) (count ts) ks) (sym m.2.1) in
     IfOk-weaker c.resolve_macro.result _ _ (λ e h.
-    let P : slots.SExpr Constant → Type 0 = λ z. IsPlaced z (coded e) (values c.args.pool.now) (values c.resolve_macro.new.pool) in
+    let P : slots.SlotExpr Constant → Type 0 = λ z. IsPlaced z (coded e) (values c.args.pool.now) (values c.resolve_macro.new.pool) in
     subst P same h) c.resolve_macro.ensures
 
 pub resolve_call-returns-in-Range : goal.resolve_call-returns-in-Range
@@ -334,7 +334,7 @@ resolve_call-returns-in-Range t c =
     ap (λ (i : ℕ). slots.made (slots.operator (range_of i)) (row_in s ts spot slots.none)) (sym n)
     ∙ ap (λ z. invoked (world_in s) (order_in s) z (spot_in s spot) (λ y. row_in s ts spot y) (λ y. asides_in s ps spot y) (count ts) ks) (sym is) in
     IfOk-weaker c.resolve_range.result _ _ (λ e h.
-    let P : slots.SExpr Constant → Type 0 = λ z. IsPlaced z (coded e) (values c.args.pool.now) (values c.resolve_range.new.pool) in
+    let P : slots.SlotExpr Constant → Type 0 = λ z. IsPlaced z (coded e) (values c.args.pool.now) (values c.resolve_range.new.pool) in
     subst P same h) c.resolve_range.ensures
 
 pub resolve_call-returns-in-Cycle : goal.resolve_call-returns-in-Cycle
@@ -353,7 +353,7 @@ resolve_call-returns-in-Cycle t c =
     ap (λ (i : ℕ). cycled i (row_in s ts spot slots.none)) (sym n)
     ∙ ap (λ z. invoked (world_in s) (order_in s) z (spot_in s spot) (λ y. row_in s ts spot y) (λ y. asides_in s ps spot y) (count ts) ks) (sym is) in
     IfOk-weaker c.resolve_cycle.result _ _ (λ e h.
-    let P : slots.SExpr Constant → Type 0 = λ z. IsPlaced z (coded e) (values c.args.pool.now) (values c.resolve_cycle.new.pool) in
+    let P : slots.SlotExpr Constant → Type 0 = λ z. IsPlaced z (coded e) (values c.args.pool.now) (values c.resolve_cycle.new.pool) in
     subst P same h) c.resolve_cycle.ensures
 
 pub resolve_call-returns-in-Super : goal.resolve_call-returns-in-Super

@@ -60,7 +60,7 @@ resolve_scoped-returns t c =
     let b = body_view c.args.body.now in
     let sp = spot_in scope spot in
     let same = ap texts c.deref.ensures.value ∙ c.in_ok-names.ensures in
-    IfOk-weaker c.resolve_body.result _ _ (λ u h. scope_led scope b sp (record spot { frames = c.deref-2.result; free = c.in_ok-inner.inner.free }) _ _ _ _ _ (c.in_ok-inner.ensures scope c.deref-2.result c.deref-2.ensures.value ∙ ap (λ xs. bound_all xs sp) c.in_ok-names.ensures)
+    IfOk-weaker c.resolve_body.result _ _ (λ u h. scope_led scope b sp (record spot { name_scopes = c.deref-2.result; free = c.in_ok-inner.inner.free }) _ _ _ _ _ (c.in_ok-inner.ensures scope c.deref-2.result c.deref-2.ensures.value ∙ ap (λ xs. bound_all xs sp) c.in_ok-names.ensures)
     (copies_as scope sp (texts c.deref.result.now) b _ _ _ same (λ behind. c.in_ok-put_copies.ensures behind (values c.args.pool.now))) h) c.resolve_body.ensures
 
 pub resolve_within-returns : goal.resolve_within-returns

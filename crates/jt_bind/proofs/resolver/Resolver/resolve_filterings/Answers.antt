@@ -4,7 +4,7 @@ use Rattle.jt_value.specs.View.{view}
 use Rattle.jt_trees.specs.StatementView.{filterings_view}
 use Rattle.jt_trees.specs.declared.statement.Filtering.{Filtering}
 use Rattle.jt_resolved.specs.Pool.{Constant}
-use Rattle.jt_resolved.specs.Slots.{SExpr, variable}
+use Rattle.jt_resolved.specs.Slots.{SlotExpr, variable}
 use Rattle.jt_resolved.specs.View.{slot_view, expr_view}
 use Rattle.jt_meaning.specs.Resolve.{resolved_filters}
 use Rattle.jt_bind.specs.Scoped.{values, IsPlaced, world_in, order_in, spot_in}
@@ -31,6 +31,6 @@ loop-filtering-preserved c =
     let e = variable (slot_view c.args.value) in
     let old = values c.args.pool.now in
     let start : length old ≡ c.len-start.result = length-map c.args.pool.now.items view ∙ omega (arith, c.len-start.ensures, c.args.pool.now.ok.0) in
-    let P : SExpr Constant → Type 0 = λ z. IsPlaced z (expr_view c.in_ok-resolved.resolved) old (values c.resolve_filtering.new.pool) in
+    let P : SlotExpr Constant → Type 0 = λ z. IsPlaced z (expr_view c.in_ok-resolved.resolved) old (values c.resolve_filtering.new.pool) in
     subst P (filters_next s spot fs l.filtering-index c.filtering-item.result e c.loop-filtering-test.true c.filtering-item.is)
     (c.in_ok-resolved.ensures _ old start l.invariant)

@@ -4,7 +4,7 @@ use denote.Ref.{Bor}
 use Rattle.jt_trees.specs.Expressions.{Text}
 use Rattle.jt_trees.specs.StatementView as written
 use Rattle.jt_resolved.specs.View.{body_view}
-use Rattle.jt_resolved.specs.declared.program.SStmt.{SStmt}
+use Rattle.jt_resolved.specs.declared.program.SlotStmt.{SlotStmt}
 use Rattle.jt_names.specs.Names.{texts}
 use Rattle.jt_resolved.specs.Locals.{body_locals}
 use Rattle.jt_meaning.specs.Resolve.{bound_all}
@@ -27,4 +27,4 @@ returns c =
     let count = c.len-count.ensures ∙ names.ok.0 ∙ sym (length-map names.items (λ (k : Bor Text). k.now)) in
     routine_made T c.len-count.result (length (texts names.items)) whole body c.larger-locals.result (max (length (texts names.items)) (body_locals whole)) p q led count
     (c.larger-locals.ensures ∙ ap (λ n. max n c.in_ok-body_locals.field-0) count ∙ ap (max (length (texts names.items))) (locals_same T whole body.items p q c.in_ok-body_locals.field-0 led
-    (λ b. sym (ap (λ (z : List SStmt). body_locals (body_view T z b)) c.deref.ensures.value) ∙ c.in_ok-body_locals.ensures T b)))
+    (λ b. sym (ap (λ (z : List SlotStmt). body_locals (body_view T z b)) c.deref.ensures.value) ∙ c.in_ok-body_locals.ensures T b)))

@@ -2,14 +2,14 @@ use Rattle.std.proofs.Common.{◌≡◌, ℕ, ◌+◌, ◌-◌, ◌<◌, ◌≤�
 use Rattle.jt_meaning.specs.Layout.{slot_in}
 use Rattle.jt_bind.specs.Scoped.{globals_in, framed}
 use Rattle.jt_bind.proofs.Names.{found_or}
-use Rattle.jt_bind.proofs.Frames.{framed_found}
+use Rattle.jt_bind.proofs.NameScopes.{framed_found}
 use Rattle.jt_bind.proofs.resolver.Resolver.slot.Goals as goal
 
 pub returns-in-Some : goal.returns-in-Some
 returns-in-Some c =
     let l = c.loop-left in
     let x = c.args.name.now in
-    let rs = c.args.self.now.spot.frames.now in
+    let rs = c.args.self.now.spot.name_scopes.now in
     let t = globals_in c.args.self.now.tables.now in
     let i = l.left - 1 in
     let within : l.left ≤ length rs = l.invariant.within in
@@ -23,7 +23,7 @@ pub loop-left-preserved : goal.loop-left-preserved
 loop-left-preserved c =
     let l = c.loop-left in
     let x = c.args.name.now in
-    let rs = c.args.self.now.spot.frames.now in
+    let rs = c.args.self.now.spot.name_scopes.now in
     let t = globals_in c.args.self.now.tables.now in
     let i = l.left - 1 in
     let within : l.left ≤ length rs = l.invariant.within in

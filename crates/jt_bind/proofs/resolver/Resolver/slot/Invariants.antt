@@ -5,8 +5,8 @@ use Rattle.jt_bind.proofs.resolver.Resolver.slot.Given as goal
 
 abbrev pub invariant-loop-left : goal.invariant-loop-left
 invariant-loop-left l = record {
-  within : l.left ≤ length l.self.spot.frames.now;
-  same : slot_in l.name (framed (map (λ f. f.value) (take l.left l.self.spot.frames.now)) (globals_in l.self.tables.now)) ≡ slot_in l.name (framed (map (λ f. f.value) l.self.spot.frames.now) (globals_in l.self.tables.now));
+  within : l.left ≤ length l.self.spot.name_scopes.now;
+  same : slot_in l.name (framed (map (λ f. f.value) (take l.left l.self.spot.name_scopes.now)) (globals_in l.self.tables.now)) ≡ slot_in l.name (framed (map (λ f. f.value) l.self.spot.name_scopes.now) (globals_in l.self.tables.now));
 }
 
 abbrev pub decreases-loop-left : goal.decreases-loop-left

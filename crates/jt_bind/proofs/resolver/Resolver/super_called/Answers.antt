@@ -11,7 +11,7 @@ use Rattle.jt_chains.specs.declared.parts.Block.{Block}
 use Rattle.jt_resolved.specs.Pool.{Constant}
 use Rattle.jt_resolved.specs.Slots as slots
 use Rattle.jt_resolved.specs.View.{expr_view}
-use Rattle.jt_resolved.specs.declared.program.SExpr.TheVariants as e
+use Rattle.jt_resolved.specs.declared.program.SlotExpr.TheVariants as e
 use Rattle.jt_meaning.specs.Layout.{counted_from, numbered_bodies, block_parameters}
 use Rattle.jt_meaning.specs.Resolve.{Part, invoked_super, next_given, first_locals}
 use Rattle.jt_bind.specs.Callees.{unit_of}
@@ -76,7 +76,7 @@ returns-in_default-index c = λ p.
     let xs = block_parameters world order h body.name.now in
     let es = first_locals 0 xs in
     let P : Option Part → Type 0 = λ o. IsPlaced (invoked_super world order sp o) (expr_view c.absent-in_default-index.result) p p in
-    let Q : slots.SExpr Constant → Type 0 = λ z. IsPlaced z (expr_view c.absent-in_default-index.result) p p in
+    let Q : slots.SlotExpr Constant → Type 0 = λ z. IsPlaced z (expr_view c.absent-in_default-index.result) p p in
     subst P (sym (ap (part_at (numbered_bodies world h)) c.in-Some.is ∙ ap part_from left))
     (subst Q (none_called world order h escaping (next_given behind) es (ap (unit_of world order h) (sym c.in_default-index.is ∙ next))) (c.absent-in_default-index.ensures p))
 
@@ -117,6 +117,6 @@ returns c = λ p.
     let unit : Some u ≡ unit_of world order h (next_given behind) = ap Some (c.in_ok-unit.ensures ∙ laid.body_units k below) ∙ sym (ap (unit_of world order h) found) in
     let n : length xs ≡ length c.block_parameters-parameters.result.now = sym (ap length c.block_parameters-parameters.ensures) ∙ length-map c.block_parameters-parameters.result.now (λ k. k.now) in
     let P : Option Part → Type 0 = λ o. IsPlaced (invoked_super world order sp o) (expr_view (e.Invoke u escaping row)) p p in
-    let Q : slots.SExpr Constant → Type 0 = λ z. IsPlaced z (expr_view (e.Invoke u escaping row)) p p in
+    let Q : slots.SlotExpr Constant → Type 0 = λ z. IsPlaced z (expr_view (e.Invoke u escaping row)) p p in
     subst P (sym (ap (part_at (numbered_bodies world h)) c.in-Some.is ∙ ap part_from left))
     (subst Q (body_called world order h escaping (next_given behind) u es unit) (invoked_placed u escaping es row.items _ p p (c.in_ok-row.ensures xs p n) (view_Invoke u escaping row)))

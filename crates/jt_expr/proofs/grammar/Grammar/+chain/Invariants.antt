@@ -1,6 +1,6 @@
 use Rattle.std.proofs.Common.{◌≡◌, ℕ, ◌-◌, suc}
-use Rattle.jt_expr.specs.declared.rows.Chain.{Chain}
-use Rattle.jt_expr.specs.declared.rows.Chain.TheVariants as c
+use Rattle.jt_expr.specs.declared.rows.ChainLevel.{ChainLevel}
+use Rattle.jt_expr.specs.declared.rows.ChainLevel.TheVariants as c
 use Rattle.jt_trees.specs.ExpressionView.{expr_view}
 use Rattle.jt_expr.specs.Cursor.{ahead}
 use Rattle.jt_expr.specs.Gives.{level_of_chain, operand_of}
@@ -8,7 +8,7 @@ use Rattle.jt_expr.specs.Reading.{read, loop, chain_step, read_chain}
 use Rattle.jt_expr.proofs.grammar.Grammar.+chain.Given as goal
 
 -- more than of each reader that one of the level calls
-abbrev operand_rank : Chain → ℕ
+abbrev operand_rank : ChainLevel → ℕ
 operand_rank c.Power = 0
 operand_rank c.Product = 3
 operand_rank c.Concatenation = 6

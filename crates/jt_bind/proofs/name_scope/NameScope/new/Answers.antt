@@ -1,0 +1,24 @@
+use Rattle.std.proofs.Common.{List, None, sym, ap, ◌∙◌, arith}
+use Rattle.std.proofs.lemmas.List.{at_drop_all}
+use denote.Ref.{Bor}
+use Rattle.jt_trees.specs.Expressions.{Text}
+use Rattle.jt_layout.specs.Names.{place_in}
+use Rattle.jt_names.specs.Names.{texts}
+use Rattle.jt_bind.specs.Names.{last_among}
+use Rattle.jt_bind.proofs.Names.{placed_next}
+use Rattle.jt_bind.proofs.name_scope.NameScope.new.Goals as goal
+
+pub invariant_of-result : goal.invariant_of-result
+invariant_of-result c =
+    let l = c.loop-name in
+    let ks = c.deref-name-items.result.now in
+    record {
+      indexed = λ x. sym (at_drop_all (λ (z : List (Bor Text)). last_among x (texts z) l.local (place_in l.index.places x)) ks l.name-index (omega arith)) ∙ l.invariant x
+          ∙ ap (λ (z : List (Bor Text)). last_among x (texts z) c.args.first None) c.deref-name-items.ensures.value;
+    }
+
+pub loop-name-preserved : goal.loop-name-preserved
+loop-name-preserved c = λ x.
+    let l = c.loop-name in
+    placed_next c.deref-name-items.result.now l.name-index _ x l.local c.in_ok-local.local (place_in l.index.places x) (place_in c.put.new.self.places x) c.loop-name-test.true c.in_ok-local.ensures (c.in_ok-put.ensures x)
+    ∙ l.invariant x

@@ -1,0 +1,281 @@
+//! Statements that are open.
+
+ghost use Rattle.std.specs.Prelude.{◌≡◌, ◌∷◌, [], List, map, bytes_eq, IfOk, IfErr, MatchOption};
+ghost use Rattle.std.specs.Str.{chars};
+ghost use Rattle.jt_scan.specs.View.{token_view};
+ghost use Rattle.jt_trees.specs.ExpressionView.{expr_view};
+ghost use Rattle.jt_trees.specs.Statements as trees;
+ghost use Rattle.jt_parse.specs.Tags as tags;
+ghost use Rattle.jt_parse.specs.Reading as reading;
+ghost use Rattle.jt_trees.specs.StatementView.{stmt_view, body_view, branches_view};
+ghost use Rattle.jt_parse.specs.HeadView.{loop_view, opening_view};
+ghost use Rattle.jt_parse.specs.Gives.{open_stmt_view, open_stmt_by, open_stmts_view};
+ghost use Rattle.jt_parse.specs.declared.error.ParseError.TheVariants as error;
+
+use crate::error::ParseError;
+use crate::expression::{is_name, is_word};
+use crate::heads::{Loop, Opening};
+use jt_scan::Token;
+use jt_trees::{Expr, Stmt};
+use std::alloc::Global;
+use std::mem;
+
+/// What is open.
+#[derive(Drop)]
+pub enum OpenKind {
+    /// A branch of an `if`: the branches before it, its line and its condition.
+    Branch(Vec<(u32, Expr, Vec<Stmt>)>, u32, Expr),
+    /// The else part of an `if` with these branches.
+    Else(Vec<(u32, Expr, Vec<Stmt>)>),
+    /// A loop.
+    Loop(Loop),
+    /// The else part of a loop with this inside.
+    LoopElse(Loop, Vec<Stmt>),
+    /// Another statement.
+    Opening(Opening),
+}
+
+/// A statement that is open.
+#[derive(Drop)]
+pub struct OpenStmt {
+    /// The statements before it.
+    pub before: Vec<Stmt>,
+    /// The line of its first tag.
+    pub line: u32,
+    pub kind: OpenKind,
+}
+
+/// One statement behind the others.
+pub(crate) fn push_statement(body: &mut Vec<Stmt>, statement: Stmt) -> Result<(), ParseError>
+    ensures pushed { IfOk result (λ u. body_view body.new.items
+        ≡ reading.then_one (body_view body.old.items) (stmt_view statement)) }
+    ensures refused { IfErr result (λ e. e ≡ error.NoMemory) }
+{
+    body.push(statement)?;
+    Ok(())
+}
+
+/// One branch behind the others.
+pub(crate) fn push_branch(
+    branches: &mut Vec<(u32, Expr, Vec<Stmt>)>,
+    line: u32,
+    condition: Expr,
+    body: Vec<Stmt>,
+) -> Result<(), ParseError>
+    ensures pushed { IfOk result (λ u. branches_view branches.new.items
+        ≡ reading.then_branch (branches_view branches.old.items) line (expr_view condition)
+        (body_view body.items)) }
+    ensures refused { IfErr result (λ e. e ≡ error.NoMemory) }
+{
+    branches.push((line, condition, body))?;
+    Ok(())
+}
+
+/// Takes the innermost open_stmt.
+pub(crate) fn pop_open_stmt(open_stmts: &mut Vec<OpenStmt>) -> Option<OpenStmt>
+    ensures { MatchOption result (open_stmts_view open_stmts.old.items ≡ [])
+        (λ f. open_stmts_view open_stmts.old.items ≡ open_stmt_view f ∷ open_stmts_view open_stmts.new.items) }
+{
+    open_stmts.pop()
+}
+
+/// One open_stmt more.
+pub(crate) fn push_open_stmt(
+    open_stmts: &mut Vec<OpenStmt>,
+    open_stmt: OpenStmt,
+) -> Result<(), ParseError>
+    ensures pushed { IfOk result
+        (λ u. open_stmts_view open_stmts.new.items ≡ open_stmt_view open_stmt ∷ open_stmts_view open_stmts.old.items) }
+    ensures refused { IfErr result (λ e. e ≡ error.NoMemory) }
+{
+    open_stmts.push(open_stmt)?;
+    Ok(())
+}
+
+/// The statement of branches and an else part.
+fn if_statement(branches: Vec<(u32, Expr, Vec<Stmt>)>, other: Vec<Stmt>) -> Stmt
+    ensures { stmt_view result
+        ≡ trees.choose (branches_view branches.items) (body_view other.items) }
+{
+    Stmt::If(branches, other)
+}
+
+/// A loop with an else part.
+fn for_statement(line: u32, head: Loop, body: Vec<Stmt>, other: Vec<Stmt>) -> Stmt
+    ensures { stmt_view result
+        ≡ tags.looped line (loop_view head) (body_view body.items) (body_view other.items) }
+{
+    let Loop {
+        targets,
+        over,
+        condition,
+    } = head;
+    Stmt::For {
+        line,
+        targets,
+        over,
+        condition,
+        body,
+        other,
+    }
+}
+
+/// Another statement with this inside.
+fn enclosing(line: u32, opening: Opening, body: Vec<Stmt>) -> Stmt
+    ensures { stmt_view result ≡ tags.made line (opening_view opening) (body_view body.items) }
+{
+    match opening {
+        Opening::Text(name) => Stmt::SetBlock { line, name, body },
+        Opening::Values(values) => Stmt::With { line, values, body },
+        Opening::Filters(filters) => Stmt::FilterBlock {
+            line,
+            filters,
+            body,
+        },
+        Opening::Escaping(escaping) => Stmt::Autoescape {
+            line,
+            escaping,
+            body,
+        },
+        Opening::Macro(name, parameters) => Stmt::Macro {
+            line,
+            name,
+            parameters,
+            body,
+        },
+        Opening::Block {
+            name,
+            scoped,
+            required,
+        } => Stmt::Block {
+            line,
+            name,
+            scoped,
+            required,
+            body,
+        },
+    }
+}
+
+/// The statement of branches whose last one ends, with no else part.
+fn ended_branch(
+    alloc: Global,
+    branches: Vec<(u32, Expr, Vec<Stmt>)>,
+    line: u32,
+    condition: Expr,
+    body: Vec<Stmt>,
+) -> Result<Stmt, ParseError>
+    ensures ended { IfOk result (λ s. stmt_view s
+        ≡ trees.choose (reading.then_branch (branches_view branches.items) line
+        (expr_view condition) (body_view body.items)) trees.end) }
+    ensures refused { IfErr result (λ e. e ≡ error.NoMemory) }
+{
+    let mut branches = branches;
+    push_branch(&mut branches, line, condition, body)?;
+    Ok(if_statement(branches, Vec::new(alloc)))
+}
+
+/// The statement that ends.
+fn finished(alloc: Global, line: u32, kind: OpenKind, body: Vec<Stmt>) -> Result<Stmt, ParseError>
+    ensures finished { (before : trees.Body) → IfOk result (λ s. stmt_view s
+        ≡ reading.finished (body_view body.items) (open_stmt_by before line kind)) }
+    ensures refused { IfErr result (λ e. e ≡ error.NoMemory) }
+{
+    match kind {
+        OpenKind::Branch(branches, first, condition) => {
+            ended_branch(alloc, branches, first, condition, body)
+        }
+        OpenKind::Else(branches) => Ok(if_statement(branches, body)),
+        OpenKind::Loop(head) => Ok(for_statement(line, head, body, Vec::new(alloc))),
+        OpenKind::LoopElse(head, inside) => Ok(for_statement(line, head, inside, body)),
+        OpenKind::Opening(opening) => Ok(enclosing(line, opening, body)),
+    }
+}
+
+/// Ends a open_stmt, whose statements are given: they become those before it, with the one that ends
+/// behind them.
+pub(crate) fn close_open_stmt(
+    alloc: Global,
+    open_stmt: OpenStmt,
+    body: &mut Vec<Stmt>,
+) -> Result<(), ParseError>
+    ensures closed { IfOk result (λ u. body_view body.new.items
+        ≡ reading.then_one (reading.before (open_stmt_view open_stmt))
+        (reading.finished (body_view body.old.items) (open_stmt_view open_stmt))) }
+    ensures refused { IfErr result (λ e. e ≡ error.NoMemory) }
+{
+    let OpenStmt { before, line, kind } = open_stmt;
+    let inside = mem::replace(body, before);
+    let statement = finished(alloc, line, kind, inside)?;
+    push_statement(body, statement)
+}
+
+/// The line of the innermost open_stmt, if one is open.
+pub(crate) fn unclosed(open_stmts: Vec<OpenStmt>) -> Option<u32>
+    ensures { MatchOption result (open_stmts_view open_stmts.items ≡ [])
+        (λ l. (f : reading.OpenStmt) × (fs : List reading.OpenStmt)
+        × (open_stmts_view open_stmts.items ≡ f ∷ fs)) }
+{
+    let mut open_stmts = open_stmts;
+    match pop_open_stmt(&mut open_stmts) {
+        Some(open_stmt) => {
+            let line = open_stmt.line;
+            drop(open_stmt);
+            Some(line)
+        }
+        None => None,
+    }
+}
+
+/// Whether the tokens behind the word end a statement: there are none, or a block's name.
+fn names_end(opening: &Opening, tokens: &[Token<'_>]) -> bool
+    ensures { result ≡ reading.names_end (opening_view opening.now) (map token_view tokens.now) }
+{
+    match (opening, tokens) {
+        (_, []) => true,
+        (Opening::Block { name, .. }, [Token::Name(found)]) => is_name(found, name),
+        _ => false,
+    }
+}
+
+/// Whether the word ends a statement.
+fn is_end_of(opening: &Opening, word: &str) -> bool
+    ensures { result ≡ bytes_eq (chars word.now) (tags.end_word (opening_view opening.now)) }
+{
+    match opening {
+        Opening::Text(_) => is_word(word, "endset"),
+        Opening::Values(_) => is_word(word, "endwith"),
+        Opening::Filters(_) => is_word(word, "endfilter"),
+        Opening::Escaping(_) => is_word(word, "endautoescape"),
+        Opening::Macro(_, _) => is_word(word, "endmacro"),
+        Opening::Block { .. } => is_word(word, "endblock"),
+    }
+}
+
+/// Whether the tag with this word ends the open_stmt.
+pub(crate) fn ends_open_stmt(open_stmt: &OpenStmt, word: &str, tokens: &[Token<'_>]) -> bool
+    ensures { result
+        ≡ reading.ends_open_stmt (chars word.now) (map token_view tokens.now) (open_stmt_view open_stmt.now) }
+{
+    match &open_stmt.kind {
+        OpenKind::Branch(_, _, _) | OpenKind::Else(_) => is_word(word, "endif")
+            && tokens.is_empty(),
+        OpenKind::Loop(_) | OpenKind::LoopElse(_, _) => is_word(word, "endfor")
+            && tokens.is_empty(),
+        OpenKind::Opening(opening) => is_end_of(opening, word) && names_end(opening, tokens),
+    }
+}
+
+/// Whether the word ends some statement.
+pub(crate) fn is_end_word(word: &str) -> bool
+    ensures { result ≡ reading.is_end_word (chars word.now) }
+{
+    is_word(word, "endif")
+        || is_word(word, "endfor")
+        || is_word(word, "endset")
+        || is_word(word, "endwith")
+        || is_word(word, "endfilter")
+        || is_word(word, "endautoescape")
+        || is_word(word, "endmacro")
+        || is_word(word, "endblock")
+}
