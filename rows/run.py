@@ -9,7 +9,7 @@ a section of rows of that kind, `templates` or `commands`; in front of the first
 
 In every row these signs stand for characters: ␇ ␈ ␉ ␤ ␋ ␌ ␍ for those of the codes 7 to 13, ␠ for a space, ⍽ for the space of the
 code 160, ␀ for the code 0, ⌧ for a byte that is no text, and ∅ for nothing. `⟨3×a№⟩` is what stands behind the × so many times,
-where № is 0, 1, 2 and `№+1` is 1, 2, 3, and so on.
+where № is 0, 1, 2 and `№+1` is 1, 2, 3, and so on. In a repetition inside another one № counts the inner one, and №№ the outer.
 
 A row of templates is `part¦..¦source => wanted`. The source is the template `t`, which is rendered. A part is `NAME: source` for
 another template, a context (it begins with `{` or `[`) or options (they begin with `--`). Wanted is one of
@@ -80,16 +80,19 @@ class Malformed(Exception):
 
 
 def repeated(found):
-    """What ⟨N×piece⟩ stands for."""
+    """What ⟨N×piece⟩ stands for. `№№` stays behind as the sign of the repetition around it."""
     piece = found[2]
     if "№" not in piece:
         return piece * int(found[1])
-    return "".join(re.sub(r"№(?:\+([0-9]))?", lambda sign: str(n + int(sign[1] or 0)), piece) for n in range(int(found[1])))
+    number = lambda n: lambda sign: "№" if sign[0] == "№№" else str(n + int(sign[1] or 0))
+    return "".join(re.sub(r"№№|№(?:\+([0-9]))?", number(n), piece) for n in range(int(found[1])))
 
 
 def spread(text):
-    """A text with what its repetitions stand for."""
-    return re.sub("⟨([0-9]+)×([^⟨⟩]*)⟩", repeated, text)
+    """A text with what its repetitions stand for, the inner ones first."""
+    while (more := re.sub("⟨([0-9]+)×([^⟨⟩]*)⟩", repeated, text)) != text:
+        text = more
+    return text
 
 
 def unfolded(text):
