@@ -5,8 +5,8 @@
 //! 1. A [`Library`] answers the source of a name: two lines over a list or a map of yours.
 //! 2. [`compile`] makes the [`Image`] of a template of it under [`Options`]; what it refuses is a
 //!    [`CompileError`]. [`encode`] spells the image in bytes for another day or another machine, and
-//!    [`decode`] reads it back; [`view`] reads bytes in place, with no copy. Bytes of a stranger
-//!    that spell no image are an [`ImageError`].
+//!    [`decode`] reads it back; [`view`] reads bytes in place, with no copy. [`Code`] has the
+//!    readers of either. Bytes of a stranger that spell no image are an [`ImageError`].
 //! 3. [`verify`] accepts an image exactly where each point of its code has one shape, and what it
 //!    gives, [`Verified`], is the only thing that runs: keep it, and run it as often as you like.
 //! 4. A [`Context`] has the values of the names: [`context_from_json`] reads one, or `Context::new`
@@ -28,7 +28,7 @@ pub use error::RenderError;
 pub use jt_budget::{Budget, Spent};
 pub use jt_codegen::{CompileError, compile};
 pub use jt_contexts::{ContextError, context_from_json};
-pub use jt_image::{Image, ImageError, View, decode, encode, upgrade, view};
+pub use jt_image::{Code, Image, ImageError, View, decode, encode, upgrade, view};
 pub use jt_inherit::Library;
 pub use jt_machine::{
     Ended, IoSink, Machine, Outcome, Place, Progress, RunToError, Sink, SinkFailed, run, run_to,

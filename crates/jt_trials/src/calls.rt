@@ -6,7 +6,7 @@ use crate::stop::Stop;
 use jt_args::DEFAULT;
 use jt_codegen::{CompileError, compile};
 use jt_host::{ContextError, RenderError, context_from_json, render};
-use jt_image::{Image, ImageError, decode, encode};
+use jt_image::{Code, Image, ImageError, decode, encode};
 use jt_scan::Options;
 use jt_value::Context;
 use jt_verify::{Refusal, Verified, verify};
