@@ -6,8 +6,6 @@ mod parts;
 #[cfg(test)]
 mod pieces;
 #[cfg(test)]
-mod rows;
-#[cfg(test)]
 mod shapes;
 #[cfg(test)]
 mod slices;

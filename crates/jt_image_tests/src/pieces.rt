@@ -1,38 +1,13 @@
 //! Runs whose text is written in pieces.
 
-use crate::rows::rows_hold;
 use jt_budget::Budget;
 use jt_image::decode;
 use jt_machine::{IoSink, Sink, run_to};
+use jt_rows::{Slow, rows_hold};
 use jt_value::Context;
 use jt_verify::{Verified, verify};
 use std::alloc::Global;
-use std::io;
 use std::test::Fail;
-
-/// A writer that takes one byte a call, and fails once it took `left` of them.
-#[derive(Drop)]
-struct Slow {
-    taken: String,
-    left: usize,
-}
-
-impl io::Write for Slow {
-    fn write(&mut self, buf: &[u8]) -> io::Result<usize> {
-        let Some(byte) = buf.first() else {
-            return Ok(0);
-        };
-        if self.left == 0 || self.taken.push(char::from(*byte)).is_err() {
-            return Err(io::Error::from(io::ErrorKind::BrokenPipe));
-        }
-        self.left -= 1;
-        Ok(1)
-    }
-
-    fn flush(&mut self) -> io::Result<()> {
-        Ok(())
-    }
-}
 
 // The beginning of an image: the constants `a`, `zz`, `Hello` and 7, and one unit, up to how many instructions it has.
 const HEAD: [u8; 50] = [

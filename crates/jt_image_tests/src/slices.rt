@@ -1,9 +1,9 @@
 //! Runs that stop and go on.
 
-use crate::rows::{numbers, rows_hold};
 use jt_budget::Budget;
 use jt_image::decode;
 use jt_machine::Machine;
+use jt_rows::{numbers, rows_hold};
 use jt_value::{Context, Value};
 use jt_verify::verify;
 use std::alloc::Global;

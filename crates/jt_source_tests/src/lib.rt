@@ -3,15 +3,13 @@
 #![tactic(auto)]
 
 #[cfg(test)]
+mod image_of;
+#[cfg(test)]
 mod pieces;
 #[cfg(test)]
 mod plain_rows;
 #[cfg(test)]
-mod rows;
-#[cfg(test)]
 mod sessions;
-#[cfg(test)]
-mod shelf;
 #[cfg(test)]
 mod slices;
 #[cfg(test)]

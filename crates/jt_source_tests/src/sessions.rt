@@ -1,9 +1,9 @@
 //! Hosts, call by call.
 
-use crate::rows::rows_hold;
-use crate::shelf::{image_of, verified_of};
+use crate::image_of::{image_of, verified_of};
 use jt_args::DEFAULT;
 use jt_host::Host;
+use jt_rows::rows_hold;
 use jt_scan::Options;
 use jt_value::Context;
 use std::alloc::Global;

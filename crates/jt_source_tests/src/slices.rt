@@ -1,10 +1,10 @@
 //! A run that stops and goes on.
 
-use crate::rows::rows_hold;
-use crate::shelf::{image_of, verified_of};
+use crate::image_of::{image_of, verified_of};
 use jt_args::DEFAULT;
 use jt_budget::Budget;
 use jt_machine::Machine;
+use jt_rows::rows_hold;
 use jt_scan::Options;
 use jt_value::Context;
 use std::alloc::Global;

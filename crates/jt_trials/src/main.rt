@@ -19,7 +19,6 @@ mod images;
 mod places;
 mod plain;
 mod runs;
-mod shelf;
 mod sources;
 mod stop;
 mod turns;
