@@ -4,7 +4,7 @@
 //!
 //! 1. A [`Library`] answers the source of a name: two lines over a list or a map of yours.
 //! 2. [`compile`] makes the [`Image`] of a template of it under [`Options`]; what it refuses is a
-//!    [`CompileError`]. [`encode`] spells the image in bytes for another day or another machine, and
+//! [`CompileError`]. [`encode`] spells the image in bytes for another day or another machine, and
 //!    [`decode`] reads it back; [`view`] reads bytes in place, with no copy. [`Code`] has the
 //!    readers of either. Bytes of a stranger that spell no image are an [`ImageError`].
 //! 3. [`verify`] accepts an image exactly where each point of its code has one shape, and what it
@@ -14,9 +14,9 @@
 //! 5. [`run`] under a [`Budget`] ends with exactly one [`Outcome`]: a text, a [`Fault`] of the
 //!    template with its [`Place`], or the number of the budget that was [`Spent`].
 //!
-//! `docs/embedding.md` shows each step. Other ways to run: [`run_to`] writes the text into a [`Sink`]
-//! as it is made; a [`Machine`] stops after so many instructions and goes on later; a [`Host`] has
-//! up to 64 sessions that take turns; and [`render`] is the whole way in one call.
+//! `docs/embedding.md` shows each step. Other ways to run: [`run_to`] writes the text into a
+//! [`Sink`] as it is made; a [`Machine`] stops after so many instructions and goes on later; a
+//! [`Host`] has up to 64 sessions that take turns; and [`render`] is the whole way in one call.
 //!
 //! Each call that allocates takes the allocator first, and answers want of memory in its own error.
 #![tactic(auto)]

@@ -1,4 +1,5 @@
-//! Calls of images, the verifier and runs that the program does not make. All that it shows stands in rows/images.txt.
+//! Calls of images, the verifier and runs that the program does not make. All that it shows stands
+//! in rows/images.txt.
 #![tactic(auto)]
 
 #[cfg(test)]

@@ -55,7 +55,8 @@ fn entry(alloc: Global, spelling: &str) -> Result<(u16, String), Fail> {
     Ok((slot.parse::<u16>()?, String::from_str(alloc, name)?))
 }
 
-// A unit of these parameters, this kind and these locals, and of one instruction with this opcode and this field c.
+// A unit of these parameters, this kind and these locals, and of one instruction with this opcode
+// and this field c.
 fn unit_of(alloc: Global, asked: &str) -> Result<Unit, Fail> {
     let [parameters, kind, locals, op, c] = numbers::<5>(asked)?;
     let instruction = Instr {

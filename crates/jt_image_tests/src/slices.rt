@@ -41,8 +41,8 @@ fn machine(alloc: Global, budget: Budget) -> Result<Machine, Fail> {
     }
 }
 
-// What two advances answer, whether an outcome is lent then, and the outcome. A row is the fuel, the limit of size, and the
-// instructions of the two.
+// What two advances answer, whether an outcome is lent then, and the outcome. A row is the fuel,
+// the limit of size, and the instructions of the two.
 fn advanced(alloc: Global, asked: &str) -> Result<String, Fail> {
     let [fuel, size, first, second] = numbers::<4>(asked)?;
     let budget = Budget {

@@ -1,5 +1,5 @@
-//! The machine comes to the same end as the plain machine, with every fuel from 0 to 200: on images written by hand, and on those of
-//! rows of sources.
+//! The machine comes to the same end as the plain machine, with every fuel from 0 to 200: on images
+//! written by hand, and on those of rows of sources.
 
 use crate::image_of::{image_of, verified_of};
 use crate::sources::{CHAINS, FILTERS, MACROS, OVER_ITEMS, STATEMENTS, WHITESPACE, WORKED};
@@ -82,7 +82,8 @@ struct Case<'a, 'b> {
     in_place: VerifiedView<'b>,
 }
 
-// Whether a run of the machine ends as one of the plain machine, which neither is stuck nor lacks memory.
+// Whether a run of the machine ends as one of the plain machine, which neither is stuck nor lacks
+// memory.
 fn ends_so(outcome: &Outcome, plain: &Result<String, End>) -> bool {
     match (outcome, plain) {
         (Outcome::Text(text), Ok(plain)) => text.as_str() == plain.as_str(),

@@ -35,8 +35,9 @@ fn turned(alloc: Global, host: &mut Host, count: u32, id: u64) -> Result<String,
     Ok(format!(in alloc; "{answer:?}")?)
 }
 
-// What a host answers: `open 3 x` opens three sessions of the source `x`, `turn 3 1` gives the session 1 three turns of an
-// instruction, `slice 3 1` one turn of three; and `outcome 1` and `close 1` are of the session 1.
+// What a host answers: `open 3 x` opens three sessions of the source `x`, `turn 3 1` gives the
+// session 1 three turns of an instruction, `slice 3 1` one turn of three; and `outcome 1` and
+// `close 1` are of the session 1.
 fn answered(alloc: Global, host: &mut Host, call: &str) -> Result<String, Fail> {
     let (name, of) = call.split_once(" ").ok_or("a call has no session")?;
     let (count, behind) = of.split_once(" ").unwrap_or(("1", of));

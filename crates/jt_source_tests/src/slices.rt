@@ -10,7 +10,8 @@ use jt_value::Context;
 use std::alloc::Global;
 use std::test::Fail;
 
-// What two advances of a run answer, and how it ended. A row is the fuel, the instructions of each of the two, and the source.
+// What two advances of a run answer, and how it ended. A row is the fuel, the instructions of each
+// of the two, and the source.
 fn advanced(alloc: Global, asked: &str) -> Result<String, Fail> {
     let (fuel, asked) = asked.split_once(" ").ok_or("a row has no first advance")?;
     let (first, asked) = asked.split_once(" ").ok_or("a row has no second one")?;

@@ -11,8 +11,8 @@ use jt_scan::Options;
 use jt_value::Context;
 use jt_verify::{Refusal, Verified, verify};
 
-/// The answers of all calls on a row. What they made is handed on, for a session; there is none where the row's context or templates
-/// are refused.
+/// The answers of all calls on a row. What they made is handed on, for a session; there is none
+/// where the row's context or templates are refused.
 pub(crate) fn row_answers(
     rt: &HostRuntime,
     row: &str,

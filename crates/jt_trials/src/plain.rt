@@ -12,9 +12,9 @@ use jt_value::Context;
 use jt_verify::{Verified, VerifiedView, verify, verify_view};
 use std::alloc::Global;
 
-/// Prints three letters of an image, one for each of the limits: `t`, `f` or `s` as it ends with the most fuel, or `>` where a
-/// run, whole or in place, ends otherwise than the plain machine. One `-` stands for them where there is no context, no image, or
-/// one that is refused.
+/// Prints three letters of an image, one for each of the limits: `t`, `f` or `s` as it ends with
+/// the most fuel, or `>` where a run, whole or in place, ends otherwise than the plain machine. One
+/// `-` stands for them where there is no context, no image, or one that is refused.
 pub(crate) fn plain_answers(rt: &HostRuntime, of: &str) -> Result<(), Stop> {
     let (json, digits) = of.split_once('¦').ok_or(Stop::Other)?;
     let bytes = bytes_of(rt.alloc(), digits)?;

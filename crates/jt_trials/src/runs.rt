@@ -90,7 +90,8 @@ pub(crate) fn whole(rt: &HostRuntime, verified: &Verified, context: &Context) ->
     Ok(())
 }
 
-/// A run whose text is written, a byte a call. Where a growth is refused a beginning of the text was written.
+/// A run whose text is written, a byte a call. Where a growth is refused a beginning of the text
+/// was written.
 pub(crate) fn in_pieces(
     rt: &HostRuntime,
     verified: &Verified,

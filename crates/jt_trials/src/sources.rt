@@ -1,4 +1,5 @@
-//! Sources that strangers change. Each beginning and each change of one byte of a template gives a letter:
+//! Sources that strangers change. Each beginning and each change of one byte of a template gives a
+//! letter:
 //!
 //!     S P C V G  the compiler refuses it
 //!     t f s      it is compiled, accepted, and its run ends with a text, a fault or a spent number
@@ -35,8 +36,8 @@ struct Trial<'a, 'b> {
     context: &'a Context,
 }
 
-/// Prints the letters of each template of a row at some places: that of the beginning in front of it, and those of the byte's other
-/// values in ascending order.
+/// Prints the letters of each template of a row at some places: that of the beginning in front of
+/// it, and those of the byte's other values in ascending order.
 pub(crate) fn source_answers(rt: &HostRuntime, of: &str) -> Result<(), Stop> {
     let (places, row) = Places::read(of)?;
     let text = row.replace(rt.alloc(), "␤", "\n")?;
