@@ -69,7 +69,8 @@ impl Budget {
         self.depth += 1;
     }
 
-    /// Whether a value of this size and nesting is within the limits. The size is tested first; nothing is taken.
+    /// Whether a value of this size and nesting is within the limits. The size is tested first;
+    /// nothing is taken.
     pub fn fits(&self, size: u64, nesting: u32) -> Result<(), Spent>
         ensures ok { OnOk result ((size ≤ self.now.size) × (nesting ≤ self.now.nesting)) }
         ensures err { IfErr result (λ e. ((e ≡ Spent.Size) × (self.now.size < size))

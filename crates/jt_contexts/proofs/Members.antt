@@ -1,5 +1,5 @@
 -- The values of items and members, one after another.
-use Rattle.std.proofs.Common.{◌≡◌, ◌∙◌, ◌++◌, ◌||◌, ℕ, Bool, true, false, List, [], ◌∷◌, Option, Some, None, String, Global, Less, Greater, ap, ap₂, refl, sym, map, option_map, string_bytes, string_cmp, nat_cmp, length, arith}
+use Rattle.std.proofs.Common.{◌≡◌, ◌∙◌, ◌++◌, ◌||◌, ℕ, Bool, true, false, List, [], ◌∷◌, Option, Some, None, String, Global, Less, Greater, ap, ap₂, refl, sym, map, option_map, string_bytes, string_cmp, nat_cmp, length, arith, rules}
 use Rattle.std.specs.Prelude.{OnOk, Result, Ok, Err}
 use Rattle.std.specs.Result.{is_err}
 use Rattle.std.specs.List.{AllByRecursion}
@@ -116,11 +116,7 @@ members_middle p [] m rest e = rw e refl
 members_middle p (d ∷ done) m rest e = or_right _ _ (members_middle p done m rest e)
 
 pub item_flaw : (done : List Json) (j : Json) (rest : List Json) (e : ContextError) → Flaw (json_view j) e → ItemsFlaw (json_items (done ++ j ∷ rest)) e
-item_flaw done j rest error.NotJson h = h
-item_flaw done j rest error.NotObject h = h
-item_flaw done j rest error.NotWhole h = items_middle is_not_whole done j rest h
-item_flaw done j rest error.OutOfRange h = items_middle is_out_of_range done j rest h
-item_flaw done j rest error.NoMemory h = cc
+item_flaw a0 a1 a2 a3 a4 = search (arith, rules, items_middle)
 
 pub member_flaw : (done : List Member) (m : Member) (rest : List Member) (e : ContextError) → Flaw (json_view m.1) e → MembersFlaw (members_view (done ++ m ∷ rest)) e
 member_flaw done m rest error.NotJson h = h

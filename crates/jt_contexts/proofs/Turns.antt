@@ -1,5 +1,5 @@
 -- What tokens spell, one turn of the grammar after another, and maps beside the members that they stand for.
-use Rattle.std.proofs.Common.{◌≡◌, ◌∙◌, ◌++◌, ℕ, ◌-◌, ◌<◌, ◌≤◌, List, [], ◌∷◌, length, map, Option, Some, None, option_map, option_and_then, String, Global, Ordering, Less, Equal, Greater, string_bytes, string_cmp, nat_cmp, refl, sym, ap, ap₂}
+use Rattle.std.proofs.Common.{◌≡◌, ◌∙◌, ◌++◌, ℕ, ◌-◌, ◌<◌, ◌≤◌, List, [], ◌∷◌, length, map, Option, Some, None, option_map, option_and_then, String, Global, Ordering, Less, Equal, Greater, string_bytes, string_cmp, nat_cmp, refl, sym, ap, ap₂, arith, rules}
 use Rattle.std.specs.List.{AllByRecursion}
 use Rattle.std.specs.List.Sorted.{IsStrictlySortedBy}
 use Rattle.std.specs.Map.{keys_of}
@@ -77,9 +77,7 @@ module _ (p : Parse json.Json) where
   members_over old n ts r enough e = ap (converted (λ ms. of_members ms old)) (members_end p n ts r enough e)
 
 pub whole_read : (o : Option (json.Json × List Token)) (d : Data) → converted of_json o ≡ Some (d, []) → option_and_then of_json (option_and_then (λ p. if_last p.0 p.1) o) ≡ Some d
-whole_read o d e =
-    let j = converted_some of_json o d [] e in
-    ap (λ (q : Option (json.Json × List Token)). option_and_then of_json (option_and_then (λ p. if_last p.0 p.1) q)) j.1 ∙ j.2
+whole_read o d e = search (arith, rules, converted_some)
 
 -- a number that stands for a value
 pub whole_data : (o : Option Num) (t : Tree) → option_and_then number_of o ≡ Some t → (n : Num) × (o ≡ Some n) × (number_of n ≡ Some t)
@@ -129,9 +127,7 @@ record First (k : List ℕ) (o : Option Tree) (r : Option Pairs) (ps : Pairs) : 
   pub all : ps ≡ (k, value) ∷ rest
 
 first : (k : List ℕ) (o : Option Tree) (r : Option Pairs) (ps : Pairs) → option_and_then (λ t. option_map (λ qs. (k, t) ∷ qs) r) o ≡ Some ps → First k o r ps
-first k None r ps e = absurd cc
-first k (Some t) None ps e = absurd cc
-first k (Some t) (Some qs) ps e = let same : (k, t) ∷ qs ≡ ps = cc in record { value = t; rest = qs; is = refl; others = refl; all = sym same }
+first a0 a1 a2 a3 a4 = search (arith, rules)
 
 more : (k : List ℕ) (d : Data) (ms : Members) (t : Tree) (ps : Pairs) → value_of d ≡ Some t → pairs_in ms ≡ Some ps → pairs_in (member k d ms) ≡ Some ((k, t) ∷ ps)
 more k d ms t ps h e = ap₂ (λ o r. option_and_then (λ t. option_map (λ qs. (k, t) ∷ qs) r) o) h e

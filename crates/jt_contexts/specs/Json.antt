@@ -1,5 +1,6 @@
--- The values that JSON stands for, and why some of it stands for none. What a text is as JSON is the JSON
--- crate's reading: an object has each key once, with the last of its values, in byte order of the keys.
+-- The values that JSON stands for, and why some of it stands for none. What a text is as JSON is
+-- the JSON crate's reading: an object has each key once, with the last of its values, in byte order
+-- of the keys.
 use Rattle.std.specs.Prelude.{◌≡◌, ◌^◌, ◌||◌, ℕ, pos, Bool, true, false, List, [], ◌∷◌, Option, Some, None, option_map, option_and_then, nat_lt, nat_le, if◌then◌else◌}
 use Rattle.serde_json.specs.Data.{Num, unsigned, negative, float, Data, null, boolean, number, string, array, object, Items, no_items, item, Members, no_members, member}
 use Rattle.serde_json.specs.Find.{as_object}
@@ -34,12 +35,14 @@ abbrev mutual
 
   pub entries_of : Members → Option tree.Entries
   entries_of no_members = Some tree.no_entries
-  entries_of (member k d ms) = option_and_then (λ t. option_map (tree.entry k t) (entries_of ms)) (value_of d)
+  entries_of (member k d ms) =
+      option_and_then (λ t. option_map (tree.entry k t) (entries_of ms)) (value_of d)
 
 -- the names of an object with their values, in its order
 abbrev pub pairs_in : Members → Option Pairs
 pairs_in no_members = Some []
-pairs_in (member k d ms) = option_and_then (λ t. option_map (λ ps. (k, t) ∷ ps) (pairs_in ms)) (value_of d)
+pairs_in (member k d ms) =
+    option_and_then (λ t. option_map (λ ps. (k, t) ∷ ps) (pairs_in ms)) (value_of d)
 
 -- the text is an object of these names and values
 abbrev pub IsContext : List ℕ → Pairs → Type 0

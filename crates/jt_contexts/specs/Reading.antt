@@ -11,14 +11,16 @@ use Rattle.jt_value.specs.View.{items_view}
 use Rattle.jt_value.specs.declared.value.Value.{Value}
 use Rattle.jt_contexts.specs.Json.{value_of, items_of, pairs_in}
 
--- the tokens begin with JSON, nested no deeper than the number, that stands for the value, and end with the others
+-- the tokens begin with JSON, nested no deeper than the number, that stands for the value, and end
+-- with the others
 pub record Spells (depth : ℕ) (ts : List Token) (t : Tree) (rest : List Token) : Type 0 where
   pub spelt : Data
   pub read : converted of_json (value depth ts) ≡ Some (spelt, rest)
   pub is : value_of spelt ≡ Some t
 
 -- with items of an array, up to its end
-pub record SpellsItems (depth : ℕ) (ts : List Token) (vs : List Value) (rest : List Token) : Type 0 where
+pub record SpellsItems (depth : ℕ) (ts : List Token) (vs : List Value) (rest : List Token) :
+    Type 0 where
   pub spelt : Items
   pub read : converted of_items (items (value depth) (length ts) ts) ≡ Some (spelt, rest)
   pub is : items_of spelt ≡ Some (items_view vs)
@@ -26,5 +28,7 @@ pub record SpellsItems (depth : ℕ) (ts : List Token) (vs : List Value) (rest :
 -- with members of an object, up to its end
 pub record SpellsMembers (depth : ℕ) (ts : List Token) (es : List (String Global × Value)) (rest : List Token) : Type 0 where
   pub spelt : Members
-  pub read : converted (λ ms. of_members ms no_members) (members (value depth) (length ts) ts) ≡ Some (spelt, rest)
+  pub read :
+      converted (λ ms. of_members ms no_members) (members (value depth) (length ts) ts)
+      ≡ Some (spelt, rest)
   pub is : pairs_in spelt ≡ Some (pairs es)

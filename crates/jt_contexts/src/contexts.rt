@@ -14,7 +14,8 @@ use jt_value::{Context, Value};
 use serde_json::Map;
 use std::alloc::Global;
 
-/// The context whose names have the values of the members of a JSON object, in byte order of the names.
+/// The context whose names have the values of the members of a JSON object, in byte order of the
+/// names.
 ///
 /// `null` is none, and a map has its entries in byte order of their keys. Of a key that stands
 /// twice the last value counts.

@@ -15,9 +15,12 @@ IsName name = Contains name 47 → ⊥
 
 -- a name is among these exactly where the disk has a file of that name directly in the directory
 abbrev pub AreNamesIn : Disk → List ℕ → List (List ℕ) → Type 0
-AreNamesIn disk dir names = (name : List ℕ) → (Contains names name) ↔ (IsName name × IsSome (file_at disk (path_in dir name)))
+AreNamesIn disk dir names =
+    (name : List ℕ)
+    → (Contains names name) ↔ (IsName name × IsSome (file_at disk (path_in dir name)))
 
--- all of what is known of a disk: a file holds its bytes and no others, a directory lists its files, and a path where there is no file fails
+-- all of what is known of a disk: a file holds its bytes and no others, a directory lists its
+-- files, and a path where there is no file fails
 abbrev pub known_of : Disk → Known
 known_of disk = record {
   holds = λ path bytes. file_at disk path ≡ Some bytes;

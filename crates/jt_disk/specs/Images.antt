@@ -9,12 +9,15 @@ use Rattle.jt_program.specs.Program.{IsImage, IsUpgraded}
 use Rattle.jt_disk.specs.declared.disk.Disk.{Disk}
 use Rattle.jt_disk.specs.Disk.{IsName, file_at}
 
--- the sources are the texts among the files directly in the directory, by the files' names, and no others
+-- the sources are the texts among the files directly in the directory, by the files' names, and no
+-- others
 abbrev pub AreTextsIn : Disk → List ℕ → (List ℕ → Option (List ℕ)) → Type 0
 AreTextsIn disk dir sources = (name source : List ℕ)
-    → (sources name ≡ Some source) ↔ (IsName name × (file_at disk (path_in dir name) ≡ Some source) × IsUtf8 source)
+    → (sources name ≡ Some source)
+    ↔ (IsName name × (file_at disk (path_in dir name) ≡ Some source) × IsUtf8 source)
 
--- the disk holds at OUT the bytes of an image of the template NAME, from the texts that it held in DIR before
+-- the disk holds at OUT the bytes of an image of the template NAME, from the texts that it held in
+-- DIR before
 pub record HoldsImage (old new : Disk) (rows : List Row) : Type 0 where
   pub sources : List ℕ → Option (List ℕ)
   pub texts : AreTextsIn old (word_of (codes "DIR") rows) sources

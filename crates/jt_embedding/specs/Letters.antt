@@ -13,7 +13,13 @@ use Rattle.jt_host.specs.declared.Outcome.TheVariants as outcome
 
 -- what is printed is escaped, and all else is as it stands
 abbrev pub usual : Options
-usual = record { trim_blocks = false; lstrip_blocks = false; keep_trailing_newline = false; autoescape = true }
+usual =
+    record {
+      trim_blocks = false;
+      lstrip_blocks = false;
+      keep_trailing_newline = false;
+      autoescape = true;
+    }
 
 -- a run of the code for the context that the text spells ends so
 abbrev pub IsWritten : Code → List ℕ → Budget → Outcome → Type 0

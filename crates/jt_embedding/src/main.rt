@@ -1,4 +1,5 @@
-//! A host of templates over jt_host alone: sources, an image, and a letter for each of three contexts.
+//! A host of templates over jt_host alone: sources, an image, and a letter for each of three
+//! contexts.
 //!
 //! Read first: `main`; what is proved of the image is said at `accepted`, of a letter at `written`.
 #![tactic(auto)]

@@ -15,7 +15,8 @@ are_printable (item t ts) = is_some (printed t) && are_printable ts
 
 -- the items' pieces, each behind a text
 abbrev pub led_pieces : Bool → List ℕ → Items → Option (List ℕ)
-led_pieces escaping between items = option_map (flat_map (λ text. between ++ text)) (pieces escaping items)
+led_pieces escaping between items =
+    option_map (flat_map (λ text. between ++ text)) (pieces escaping items)
 
 -- a text was appended, if there is one; else the fault says so
 abbrev pub Appends : Option (List ℕ) → List ℕ → Result (Unit {0}) ValueError → List ℕ → Type 0

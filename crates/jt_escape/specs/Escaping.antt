@@ -2,7 +2,8 @@
 -- longer character is ASCII: so a byte with the code of one of them is that character.
 use Rattle.std.specs.Prelude.{ℕ, ◌==◌, if◌then◌else◌, List, [], ◌∷◌, flat_map, Option, Some, None, unwrap_or, codes}
 
--- the entity that stands for a character, by the character's code: `&` is 38, `<` 60, `>` 62, `'` 39 and `"` 34
+-- the entity that stands for a character, by the character's code: `&` is 38, `<` 60, `>` 62, `'`
+-- 39 and `"` 34
 abbrev pub entity : ℕ → Option (List ℕ)
 entity byte =
     if byte == 38 then Some (codes "&amp;") else

@@ -1,6 +1,6 @@
--- The rule of filter `join`: the items' printed texts with the separator's between each two. Where an
--- item or the separator is markup, all is: then what isn't markup is escaped. The separator's text is
--- asked for in every case, also where nothing is to be separated.
+-- The rule of filter `join`: the items' printed texts with the separator's between each two. Where
+-- an item or the separator is markup, all is: then what isn't markup is escaped. The separator's
+-- text is asked for in every case, also where nothing is to be separated.
 use Rattle.std.specs.Prelude.{◌≡◌, ℕ, Bool, true, false, ◌||◌, if◌then◌else◌, List, [], ◌∷◌, Option, Some, None, option_map, option_and_then, Result, Ok, Err}
 use Rattle.std.specs.List.{join_by}
 use Rattle.jt_value.specs.Tree as tree
@@ -23,8 +23,8 @@ abbrev pub has_markup : Items → Bool
 has_markup no_items = false
 has_markup (item t ts) = is_markup t || has_markup ts
 
--- what a value gives to a join: its printed text, if it has one; while escaping, markup as it is and
--- all else escaped
+-- what a value gives to a join: its printed text, if it has one; while escaping, markup as it is
+-- and all else escaped
 abbrev pub piece : Bool → Tree → Option (List ℕ)
 piece true (tree.markup bytes) = Some bytes
 piece true t = option_map escaped (printed t)
@@ -33,12 +33,15 @@ piece false t = printed t
 -- the pieces of the items, if each has one
 abbrev pub pieces : Bool → Items → Option (List (List ℕ))
 pieces escaping no_items = Some []
-pieces escaping (item t ts) = option_and_then (λ first. option_map (λ rest. first ∷ rest) (pieces escaping ts)) (piece escaping t)
+pieces escaping (item t ts) =
+    option_and_then (λ first. option_map (λ rest. first ∷ rest) (pieces escaping ts))
+    (piece escaping t)
 
 -- the pieces with the separator's between each two, if all have one
 abbrev pub joined_text : Bool → Items → Tree → Option (List ℕ)
 joined_text escaping items separator =
-    option_and_then (λ between. option_map (join_by (λ text. text) between) (pieces escaping items)) (piece escaping separator)
+    option_and_then (λ between. option_map (join_by (λ text. text) between) (pieces escaping items))
+    (piece escaping separator)
 
 -- the value with that text, or the fault where there is none
 abbrev pub or_unprintable : (List ℕ → Tree) → Option (List ℕ) → Result Tree Fault
@@ -56,7 +59,9 @@ joined_as_markup items separator = or_unprintable tree.markup (joined_text true 
 -- `join` under autoescaping
 abbrev pub joined_markup : Items → Tree → Result Tree Fault
 joined_markup items separator =
-    if is_markup separator || has_markup items then joined_as_markup items separator else joined_plain items separator
+    if is_markup separator || has_markup items
+    then joined_as_markup items separator
+    else joined_plain items separator
 
 -- the answer is what the definition gives; want of memory says nothing
 abbrev pub IsAnswer : Result Tree Fault → Result Value ValueError → Type 0

@@ -15,7 +15,8 @@ use std::alloc::{AllocError, Global};
 
 /// The items' printed texts with the separator's between them, as `join` gives them under
 /// autoescaping: markup where an item or the separator is, with all else escaped, and else a plain
-/// text. The only fault is `Unprintable`, the separator's included where there is nothing to separate.
+/// text. The only fault is `Unprintable`, the separator's included where there is nothing to
+/// separate.
 pub fn join_markup(alloc: Global, items: &[Value], separator: &Value) -> Result<Value, ValueError>
     ensures answer { IsAnswer (joined_markup (items_view items.now) (view separator.now)) result }
     // Only where the join is a value is want of memory answered.

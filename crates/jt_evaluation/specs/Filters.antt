@@ -1,4 +1,5 @@
--- Arguments of macros and filters, by place and by name; and filters, until their crate brings them: what the language needs of them.
+-- Arguments of macros and filters, by place and by name; and filters, until their crate brings
+-- them: what the language needs of them.
 use Rattle.std.specs.Prelude.{ℕ, Bool, false, ◌||◌, List, [], ◌∷◌, unwrap_or, Option, Some, None, Result, if◌then◌else◌}
 use Rattle.jt_value.specs.Tree as tree
 use Rattle.jt_value.specs.Tree.{Tree}
@@ -30,7 +31,8 @@ default_value (Some l) = literal l
 abbrev pub parameters : List Parameter → List Tree → Pairs → Pairs
 parameters [] vs ks = []
 parameters (p ∷ ps) (v ∷ vs) ks = (p.name, v) ∷ parameters ps vs ks
-parameters (p ∷ ps) [] ks = (p.name, unwrap_or (look p.name ks) (default_value p.default)) ∷ parameters ps [] ks
+parameters (p ∷ ps) [] ks =
+    (p.name, unwrap_or (look p.name ks) (default_value p.default)) ∷ parameters ps [] ks
 
 -- whether one of the parameters is among these names
 abbrev pub some_given : List Parameter → List Text → Bool
@@ -41,7 +43,9 @@ some_given (p ∷ ps) ks = among p.name ks || some_given ps ks
 abbrev pub by_name : List Parameter → List Text → Pairs → List Tree
 by_name [] names ks = []
 by_name (p ∷ ps) names ks =
-    if some_given (p ∷ ps) names then unwrap_or (look p.name ks) (default_value p.default) ∷ by_name ps names ks else []
+    if some_given (p ∷ ps) names
+    then unwrap_or (look p.name ks) (default_value p.default) ∷ by_name ps names ks
+    else []
 
 -- a filter's arguments: by place, and then by name as far as some are given so
 abbrev pub arguments : List Parameter → List Tree → List Text → Pairs → List Tree

@@ -1,4 +1,5 @@
--- What a computation gives: a result, a fault with the place of its tag, or that it calls deeper than asked for.
+-- What a computation gives: a result, a fault with the place of its tag, or that it calls deeper
+-- than asked for.
 use Rattle.std.specs.Prelude.{Option, Some, None, Result, Ok, Err}
 use Rattle.jt_value.specs.declared.fault.Fault.{Fault}
 use Rattle.jt_value.specs.Place.{Place}

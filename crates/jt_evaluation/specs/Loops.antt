@@ -39,8 +39,11 @@ pub data Field : Type 0 where
 
 abbrev pub fields : List (Text × Field)
 fields =
-    (codes "index", index) ∷ (codes "index0", index0) ∷ (codes "revindex", revindex) ∷ (codes "revindex0", revindex0) ∷ (codes "first", first)
-    ∷ (codes "last", last) ∷ (codes "length", total) ∷ (codes "previtem", previtem) ∷ (codes "nextitem", nextitem) ∷ []
+    (codes "index", index)
+    ∷ (codes "index0", index0) ∷ (codes "revindex", revindex) ∷ (codes "revindex0", revindex0)
+    ∷ (codes "first", first)
+    ∷ (codes "last", last)
+    ∷ (codes "length", total) ∷ (codes "previtem", previtem) ∷ (codes "nextitem", nextitem) ∷ []
 
 abbrev pub field_among : Text → List (Text × Field) → Option Field
 field_among x [] = None

@@ -1,4 +1,5 @@
--- Values where they stand in templates: of literals, of names, of texts that were captured, and what is printed.
+-- Values where they stand in templates: of literals, of names, of texts that were captured, and
+-- what is printed.
 use Rattle.std.specs.Prelude.{Bool, true, false, [], Option, Some, None, unwrap_or, if◌then◌else◌}
 use Rattle.jt_value.specs.Tree as tree
 use Rattle.jt_value.specs.Tree.{Tree}
@@ -28,7 +29,8 @@ abbrev pub bytes_of : Tree → Text
 bytes_of (tree.text s) = s
 bytes_of t = []
 
--- ---- what printing gives: all but markup is escaped where escaping is on; a list or a map has no printed text
+-- ---- what printing gives: all but markup is escaped where escaping is on; a list or a map has no
+-- printed text
 
 abbrev pub shown_text : Bool → Option Text → Got Text
 shown_text escaping None = fails faults.Unprintable None

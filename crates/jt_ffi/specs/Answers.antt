@@ -23,7 +23,8 @@ put told old = if nat_le (length told) (length old) then told ++ drop (length to
 -- so it is told, with these numbers
 abbrev pub IsTold : List ℕ → ℕ → ℕ → ℕ → List ℕ → List ℕ → Answer → Type 0
 IsTold told status code line old new a =
-    (a ≡ record { status = status; code = code; line = line; reserved = 0; length = length told }) × (new ≡ put told old)
+    (a ≡ record { status = status; code = code; line = line; reserved = 0; length = length told })
+    × (new ≡ put told old)
 
 -- the number in a fault's code
 abbrev pub fault_number : Fault → ℕ
@@ -45,17 +46,21 @@ spent_number spent.Output = 3
 spent_number spent.Size = 4
 spent_number spent.Nesting = 5
 
--- Why there is nothing, by the program's statuses: a fault by its number, its template and its line, a number of the budget by its
--- number, and all else by a reason, of which no more is said, unless there is no memory for it.
+-- Why there is nothing, by the program's statuses: a fault by its number, its template and its
+-- line, a number of the budget by its number, and all else by a reason, of which no more is said,
+-- unless there is no memory for it.
 abbrev pub TellsFailure : Failure → List ℕ → List ℕ → Answer → Type 0
-TellsFailure (failure.Fault f (Some q)) old new a = IsTold (string_bytes q.template) 1 (fault_number f) q.line old new a
+TellsFailure (failure.Fault f (Some q)) old new a =
+    IsTold (string_bytes q.template) 1 (fault_number f) q.line old new a
 TellsFailure (failure.Fault f None) old new a = IsTold [] 1 (fault_number f) 0 old new a
 TellsFailure (failure.Spent s) old new a = IsTold [] 4 (spent_number s) 0 old new a
 TellsFailure failure.NoMemory old new a = IsTold [] 6 0 0 old new a
 TellsFailure e old new a =
-    IsTold [] 6 0 0 old new a ⊎ ((reason : List ℕ) × IsTold reason (code_of (status_of e)) 0 0 old new a)
+    IsTold [] 6 0 0 old new a
+    ⊎ ((reason : List ℕ) × IsTold reason (code_of (status_of e)) 0 0 old new a)
 
--- The ending is told: bytes with status 0, and a call that is none with status 2 and why it is none.
+-- The ending is told: bytes with status 0, and a call that is none with status 2 and why it is
+-- none.
 abbrev pub Tells : Ending → List ℕ → List ℕ → Answer → Type 0
 Tells (Ok bytes) old new a = IsTold bytes.items 0 0 0 old new a
 Tells (Err untold.Lengths) old new a = IsTold [] 2 1 0 old new a

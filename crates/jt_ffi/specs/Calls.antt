@@ -48,8 +48,10 @@ module _ (ns : List Lengths) (texts entry : List ℕ) where
   -- the template of the entry is rendered for a context under a budget, or why there is no text
   abbrev pub Renders : Options → List ℕ → Budget → Ending → Type 0
   Renders o context b (Ok bytes) =
-      IsGiven × ForContext context (λ x. ForText bytes.items (RendersTo (sources_in ns texts) entry o x b))
-  Renders o context b (Err (untold.Failure (failure.Context e))) = IsNoContext context (failure.Context e)
+      IsGiven
+      × ForContext context (λ x. ForText bytes.items (RendersTo (sources_in ns texts) entry o x b))
+  Renders o context b (Err (untold.Failure (failure.Context e))) =
+      IsNoContext context (failure.Context e)
   Renders o context b (Err (untold.Failure failure.NoMemory)) = Unit {0}
   Renders o context b (Err (untold.Failure e)) =
       IsGiven × ForContext context (λ x. RendersTo (sources_in ns texts) entry o x b (Err e))
@@ -64,7 +66,8 @@ Checks image (Err e) = ⊥
 -- the image runs for a context under a budget, or why there is no text
 abbrev pub Runs : List ℕ → List ℕ → Budget → Ending → Type 0
 Runs image context b (Ok bytes) = ForContext context (λ x. ForText bytes.items (ComesTo image x b))
-Runs image context b (Err (untold.Failure (failure.Context e))) = IsNoContext context (failure.Context e)
+Runs image context b (Err (untold.Failure (failure.Context e))) =
+    IsNoContext context (failure.Context e)
 Runs image context b (Err (untold.Failure failure.NoMemory)) = Unit {0}
 Runs image context b (Err (untold.Failure e)) = ForContext context (λ x. ComesTo image x b (Err e))
 Runs image context b (Err e) = ⊥

@@ -1,4 +1,5 @@
--- Templates as other languages hand them in: one run of bytes in which each name stands in front of its source, and the lengths of both.
+-- Templates as other languages hand them in: one run of bytes in which each name stands in front of
+-- its source, and the lengths of both.
 use Rattle.std.specs.Prelude.{◌≡◌, ◌≢◌, ◌+◌, ◌<◌, ◌≤◌, ℕ, List, [], ◌∷◌, Option, Some, None, Result, Ok, Err, String, length, take, drop, string_bytes, if◌then◌else◌}
 use Rattle.std.specs.declared.alloc.Global.{Global}
 use Rattle.std.specs.Borrow.{Bor}
@@ -28,7 +29,8 @@ behind n bytes = drop n.source (drop n.name bytes)
 -- each name and each source is a text
 abbrev pub AreTexts : List Lengths → List ℕ → Type 0
 AreTexts [] bytes = Unit {0}
-AreTexts (n ∷ ns) bytes = IsUtf8 (name_at n bytes) × IsUtf8 (source_at n bytes) × AreTexts ns (behind n bytes)
+AreTexts (n ∷ ns) bytes =
+    IsUtf8 (name_at n bytes) × IsUtf8 (source_at n bytes) × AreTexts ns (behind n bytes)
 
 -- the first, if there is one, and else the other
 abbrev pub or_else : Option (List ℕ) → Option (List ℕ) → Option (List ℕ)
@@ -37,12 +39,14 @@ or_else None other = other
 
 -- the source that the template at the front has under a name: none where that is not its own
 abbrev pub source_under : Lengths → List ℕ → List ℕ → Option (List ℕ)
-source_under n bytes name = if bytes_eq (name_at n bytes) name then Some (source_at n bytes) else None
+source_under n bytes name =
+    if bytes_eq (name_at n bytes) name then Some (source_at n bytes) else None
 
 -- the source of a name: of a name that stands there twice the last one
 abbrev pub sources_in : List Lengths → List ℕ → List ℕ → Option (List ℕ)
 sources_in [] bytes name = None
-sources_in (n ∷ ns) bytes name = or_else (sources_in ns (behind n bytes) name) (source_under n bytes name)
+sources_in (n ∷ ns) bytes name =
+    or_else (sources_in ns (behind n bytes) name) (source_under n bytes name)
 
 -- ---- how they are read: what is answered is so
 
@@ -59,9 +63,11 @@ IsCut n bytes (Err (untold.Failure e)) = ⊥
 abbrev pub IsRead : Lengths → List ℕ → Templates → Templates → Result (Bor (List ℕ)) Untold → Type 0
 IsRead n bytes old new (Ok rest) = (n.name + n.source ≤ length bytes)
     × IsUtf8 (name_at n bytes) × IsUtf8 (source_at n bytes) × (rest.now ≡ behind n bytes)
-    × ((name : List ℕ) → source_of new name ≡ or_else (source_under n bytes name) (source_of old name))
+    × ((name : List ℕ)
+    → source_of new name ≡ or_else (source_under n bytes name) (source_of old name))
 IsRead n bytes old new (Err untold.Lengths) = length bytes < n.name + n.source
-IsRead n bytes old new (Err untold.NotText) = IsUtf8 (name_at n bytes) → IsUtf8 (source_at n bytes) → ⊥
+IsRead n bytes old new (Err untold.NotText) =
+    IsUtf8 (name_at n bytes) → IsUtf8 (source_at n bytes) → ⊥
 IsRead n bytes old new (Err (untold.Failure failure.NoMemory)) = Unit {0}
 IsRead n bytes old new (Err (untold.Failure e)) = ⊥
 

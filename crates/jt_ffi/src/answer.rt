@@ -11,16 +11,18 @@ use std::alloc::{AllocError, Global};
 #[repr(C)]
 #[derive(Clone, Copy)]
 pub struct Answer {
-    /// As the program's statuses: 0 done, 1 fault, 2 a call that is none, 3 refused, 4 spent, 6 memory.
+    /// As the program's statuses: 0 done, 1 fault, 2 a call that is none, 3 refused, 4 spent, 6
+    /// memory.
     pub status: u32,
-    /// Of a fault its number, 2 for F2; of a budget that was spent 1 fuel, 2 depth, 3 output, 4 size,
-    /// 5 nesting; of a call that is none 1 lengths, 2 no text; else 0.
+    /// Of a fault its number, 2 for F2; of a budget that was spent 1 fuel, 2 depth, 3 output, 4
+    /// size, 5 nesting; of a call that is none 1 lengths, 2 no text; else 0.
     pub code: u32,
     /// Of a fault the line of its tag, counted from 1, or 0 where the image tells no place; else 0.
     pub line: u32,
     /// 0.
     pub reserved: u32,
-    /// How many bytes are told: the text or the image, the template of a fault, the reason of a refusal.
+    /// How many bytes are told: the text or the image, the template of a fault, the reason of a
+    /// refusal.
     pub length: u64,
 }
 
@@ -78,7 +80,8 @@ fn put(out: &mut [u8], told: &[u8])
     }
 }
 
-/// The reason of a refusal, with its code, as `P1 Syntax in page line 2`. Of a line, a file and a host, which no call has, there is none.
+/// The reason of a refusal, with its code, as `P1 Syntax in page line 2`. Of a line, a file and a
+/// host, which no call has, there is none.
 fn reason(alloc: Global, failure: &Failure) -> Result<String, AllocError> {
     match failure {
         Failure::Image(error) => format!(in alloc; "{error}"),

@@ -15,9 +15,9 @@ use std::alloc::Global;
 
 /// The image of the template `entry`, into the buffer.
 ///
-/// The templates stand in `texts` behind one another, each with its name in front of its source, and
-/// with its lengths in `lengths`. That they fit, that all is UTF-8 and that the templates compile is
-/// checked here.
+/// The templates stand in `texts` behind one another, each with its name in front of its source,
+/// and with its lengths in `lengths`. That they fit, that all is UTF-8 and that the templates
+/// compile is checked here.
 #[unsafe(no_mangle)]
 pub extern "C" fn jt_compile(
     alloc: Global,
@@ -34,9 +34,11 @@ pub extern "C" fn jt_compile(
     tell_ending(alloc, out, &ending)
 }
 
-/// Whether the bytes are an image that is accepted. Nothing is told where they are, and else why not.
+/// Whether the bytes are an image that is accepted. Nothing is told where they are, and else why
+/// not.
 ///
-/// An image that is accepted runs for every context and budget to a text, a fault or a spent number.
+/// An image that is accepted runs for every context and budget to a text, a fault or a spent
+/// number.
 #[unsafe(no_mangle)]
 pub extern "C" fn jt_check(alloc: Global, image: &[u8], out: &mut [u8]) -> Answer
     ensures { Answers (Checks image.now) out.old out.new result }
@@ -62,8 +64,8 @@ pub extern "C" fn jt_run(
     tell_ending(alloc, out, &ending)
 }
 
-/// The text of the template `entry` for a context under a budget, into the buffer: what `jt_compile`
-/// and `jt_run` do, in one call and with no image between them.
+/// The text of the template `entry` for a context under a budget, into the buffer: what
+/// `jt_compile` and `jt_run` do, in one call and with no image between them.
 #[unsafe(no_mangle)]
 pub extern "C" fn jt_render(
     alloc: Global,

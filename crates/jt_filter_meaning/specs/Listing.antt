@@ -64,7 +64,8 @@ abbrev pub reversed_items : Items → Items
 reversed_items no_items = no_items
 reversed_items (item t ts) = joined_items (reversed_items ts) (item t no_items)
 
--- `reverse`: of a text the plain text of its characters backwards; of a list, a map and undefined the items backwards
+-- `reverse`: of a text the plain text of its characters backwards; of a list, a map and undefined
+-- the items backwards
 abbrev pub reversed : Tree → Result Tree Fault
 reversed undefined = Ok (list no_items)
 reversed (text s) = Ok (text (backwards s))
@@ -88,6 +89,7 @@ pairs_of undefined = Ok (list no_items)
 pairs_of (map es) = Ok (list (pair_items es))
 pairs_of t = Err (misfit_of_one t)
 
--- `join` with a separator: under autoescaping, where an item or the separator is markup, all is, and what isn't is escaped
+-- `join` with a separator: under autoescaping, where an item or the separator is markup, all is,
+-- and what isn't is escaped
 abbrev pub joined_by : Bool → Tree → Items → Result Tree Fault
 joined_by autoescape d ts = if autoescape then joined_markup ts d else joined_plain ts d

@@ -1,4 +1,5 @@
--- Filters that call a filter or a test on each item, or look up its attribute: the name comes first, and its arguments behind it.
+-- Filters that call a filter or a test on each item, or look up its attribute: the name comes
+-- first, and its arguments behind it.
 use Rattle.std.specs.Prelude.{ℕ, ◌+◌, ◌==◌, Bool, true, false, ◌&&◌, nat_le, List, [], ◌∷◌, length, Option, Some, None, Result, Ok, Err, if◌then◌else◌}
 use Rattle.jt_value.specs.declared.fault.Fault.{Fault}
 use Rattle.jt_value.specs.declared.fault.Fault.TheVariants.{BadType, BadArgument}
@@ -46,7 +47,8 @@ abbrev pub as_list : Result Items Fault → Result Tree Fault
 as_list (Ok ts) = Ok (list ts)
 as_list (Err fault) = Err fault
 
--- the list of what each item gives; where nothing says what it is, that fault counts, also where there are no items
+-- the list of what each item gives; where nothing says what it is, that fault counts, also where
+-- there are no items
 abbrev pub gathered_by : Result (Tree → Result Items Fault) Fault → Items → Result Tree Fault
 gathered_by (Ok give) ts = as_list (gathered give ts)
 gathered_by (Err fault) ts = Err fault
@@ -66,7 +68,9 @@ if_kept t (Err fault) = Err fault
 abbrev pub judgement_of : Option TestId → List Tree → Result (Tree → Result Bool Fault) Fault
 judgement_of None arguments = Err BadArgument
 judgement_of (Some test) arguments =
-    if length arguments + 1 == test_values test then Ok (λ t. tested test (t ∷ arguments)) else Err BadArgument
+    if length arguments + 1 == test_values test
+    then Ok (λ t. tested test (t ∷ arguments))
+    else Err BadArgument
 
 -- the judgement by a test's name and its arguments, or by a value's truth where there is no name
 abbrev pub judgement : List Tree → Result (Tree → Result Bool Fault) Fault
@@ -88,7 +92,8 @@ judged judge (Ok t) = judge t
 judged judge (Err fault) = Err fault
 
 -- the items whose part passes a judgement, or fails it
-abbrev pub keeping : Bool → Option (List ℕ) → Result (Tree → Result Bool Fault) Fault → Result (Tree → Result Items Fault) Fault
+abbrev pub keeping : Bool → Option (List ℕ) → Result (Tree → Result Bool Fault) Fault
+    → Result (Tree → Result Items Fault) Fault
 keeping passes key (Ok judge) = Ok (λ t. if_kept t (passing passes (judged judge (part_of key t))))
 keeping passes key (Err fault) = Err fault
 
@@ -97,7 +102,8 @@ abbrev pub selecting : Bool → List Tree → Result (Tree → Result Items Faul
 selecting passes arguments = keeping passes None (judgement arguments)
 
 -- `selectattr` and `rejectattr`
-abbrev pub keeping_by : Bool → Option (List ℕ) → Result (Tree → Result Bool Fault) Fault → Result (Tree → Result Items Fault) Fault
+abbrev pub keeping_by : Bool → Option (List ℕ) → Result (Tree → Result Bool Fault) Fault
+    → Result (Tree → Result Items Fault) Fault
 keeping_by passes (Some key) found = keeping passes (Some key) found
 keeping_by passes None found = Err BadArgument
 
@@ -115,13 +121,17 @@ attributes (key ∷ []) = attribute_at (text_of key)
 attributes others = Err BadType
 
 -- `map` by a filter with arguments, if it may be called with so many
-abbrev pub mapping_by : Option FilterId → Bool → List Tree → Result (Tree → Result Items Fault) Fault
+abbrev pub mapping_by : Option FilterId → Bool → List Tree
+    → Result (Tree → Result Items Fault) Fault
 mapping_by None autoescape arguments = Err BadArgument
 mapping_by (Some f) autoescape arguments =
-    if takes_values f (length arguments + 1) then Ok (λ t. alone (single f autoescape (t ∷ arguments))) else Err BadArgument
+    if takes_values f (length arguments + 1)
+    then Ok (λ t. alone (single f autoescape (t ∷ arguments)))
+    else Err BadArgument
 
 abbrev pub mapping : Bool → List Tree → Result (Tree → Result Items Fault) Fault
-mapping autoescape (name ∷ arguments) = mapping_by (named_by filter_named (text_of name)) autoescape arguments
+mapping autoescape (name ∷ arguments) =
+    mapping_by (named_by filter_named (text_of name)) autoescape arguments
 mapping autoescape [] = Err BadType
 
 -- what such a filter with its arguments makes of each item

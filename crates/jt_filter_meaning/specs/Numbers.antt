@@ -18,7 +18,8 @@ absolute (negsuc n) = in_range (pos (suc n))
 
 -- the number of one decimal digit or more, and of nothing else
 abbrev pub number_of_digits : List ℕ → Option ℤ
-number_of_digits s = if is_nonempty s && list_all is_ascii_digit s then Some (pos (digits_value 10 s)) else None
+number_of_digits s =
+    if is_nonempty s && list_all is_ascii_digit s then Some (pos (digits_value 10 s)) else None
 
 -- the number of digits behind a `+` (43), a `-` (45) or no sign
 abbrev pub number_with_sign : List ℕ → Option ℤ
@@ -30,7 +31,8 @@ number_with_sign (b ∷ s) =
 
 -- the number that a text writes, if it has 64 bits
 abbrev pub number_of_text : List ℕ → Option ℤ
-number_of_text s = option_and_then (λ z. if is_in_range z then Some z else None) (number_with_sign s)
+number_of_text s =
+    option_and_then (λ z. if is_in_range z then Some z else None) (number_with_sign s)
 
 -- `int`: a number; 1 or 0 for a truth value; what a text writes; else the default
 abbrev pub as_int : Tree → Tree → Result Tree Fault
@@ -50,4 +52,5 @@ sum_behind (Err fault) ts = Err fault
 
 -- `sum`: of numbers alone
 abbrev pub total : Items → Result Tree Fault
-total ts = if all_numbers ts then as_number (sum_behind (Ok (pos 0)) ts) else Err (misfit_of_items ts)
+total ts =
+    if all_numbers ts then as_number (sum_behind (Ok (pos 0)) ts) else Err (misfit_of_items ts)

@@ -16,14 +16,16 @@ use Rattle.jt_filter_meaning.specs.Texts.{keeping_kind, unchanged, capitalized, 
 
 -- `default`: the other value where the input is undefined, or false while `boolean` is true
 abbrev pub or_default : Tree → Tree → Tree → Tree
-or_default t default boolean = if is_undefined t || (truth boolean && not (truth t)) then default else t
+or_default t default boolean =
+    if is_undefined t || (truth boolean && not (truth t)) then default else t
 
 -- `attr`: the item at a key that is a text
 abbrev pub attribute : Tree → Tree → Result Tree Fault
 attribute undefined key = Err Undefined
 attribute t key = if is_text key then item_of t key else Err BadArgument
 
--- such a filter on its values, the input first; a call never has another number of them than the filter takes
+-- such a filter on its values, the input first; a call never has another number of them than the
+-- filter takes
 abbrev pub single : FilterId → Bool → List Tree → Result Tree Fault
 single filter.Abs autoescape (t ∷ []) = on_number absolute t
 single filter.Attr autoescape (t ∷ name ∷ []) = attribute t name

@@ -1,4 +1,5 @@
--- Filters on printed texts. A text is its UTF-8 bytes; letters and whitespace are ASCII's, so the bytes of longer characters stay.
+-- Filters on printed texts. A text is its UTF-8 bytes; letters and whitespace are ASCII's, so the
+-- bytes of longer characters stay.
 use Rattle.std.specs.Prelude.{ℕ, zero, suc, ◌-◌, Bool, ◌||◌, ◌&&◌, ◌==◌, nat_le, List, [], ◌∷◌, ◌++◌, reverse, length, Result, Ok, Err, if◌then◌else◌}
 use Rattle.std.specs.Char.{to_ascii_uppercase}
 use Rattle.std.specs.Str.{chars, encode_utf8_all, str_to_ascii_lowercase}
@@ -58,15 +59,19 @@ escaped_once t = escaped_again t
 abbrev pub backwards : List ℕ → List ℕ
 backwards s = encode_utf8_all (reverse (chars s))
 
--- every `old` of a text replaced, from the left and without overlap, once so many bytes are passed over
+-- every `old` of a text replaced, from the left and without overlap, once so many bytes are passed
+-- over
 abbrev pub replaced_behind : ℕ → List ℕ → List ℕ → List ℕ → List ℕ
 replaced_behind skipped old new [] = []
 replaced_behind (suc skipped) old new (b ∷ s) = replaced_behind skipped old new s
 replaced_behind zero old new (b ∷ s) =
-    if begins_with (b ∷ s) old then new ++ replaced_behind (length old - 1) old new s else b ∷ replaced_behind zero old new s
+    if begins_with (b ∷ s) old
+    then new ++ replaced_behind (length old - 1) old new s
+    else b ∷ replaced_behind zero old new s
 
 -- `replace`: all three are plain texts, and `old` isn't empty
 abbrev pub replaced : Tree → Tree → Tree → Result Tree Fault
-replaced (text s) (text old) (text new) = if is_nonempty old then Ok (text (replaced_behind 0 old new s)) else Err BadArgument
+replaced (text s) (text old) (text new) =
+    if is_nonempty old then Ok (text (replaced_behind 0 old new s)) else Err BadArgument
 replaced (text s) old new = Err BadArgument
 replaced t old new = Err (misfit_of_one t)

@@ -1,69 +1,19 @@
 -- Items that count once, and items from the front.
-use Rattle.std.proofs.Common.{◌≡◌, ℕ, zero, suc, ◌+◌, ◌-◌, max, Bool, true, false, cond, List, Some, None, refl, sym, ap, ◌∙◌, arith, bytes_eq}
+use Rattle.std.proofs.Common.{◌≡◌, ℕ, zero, suc, ◌+◌, ◌-◌, max, true, false, List, Some, None, refl, sym, ap, ◌∙◌, arith, bytes_eq, rules}
 use Rattle.jt_value.specs.Equality.{equal}
 use Rattle.jt_value.specs.Payload.{text_of, joined_items}
-use Rattle.jt_value.specs.Tree as tree
 use Rattle.jt_value.specs.Tree.{Tree, Items, no_items, item, size, nesting, items_size, items_nesting}
 use Rattle.jt_filters.specs.Operands.{front}
 use Rattle.jt_filter_meaning.specs.Ordering.{alike, fold, has_alike, unseen}
 
 pub alike_texts : (t u : Tree) (r s : List ℕ) → Some r ≡ text_of t → Some s ≡ text_of u → alike t u ≡ bytes_eq (fold r) (fold s)
-alike_texts tree.undefined u r s e f = cc
-alike_texts tree.nothing u r s e f = cc
-alike_texts (tree.truth_value b) u r s e f = cc
-alike_texts (tree.number z) u r s e f = cc
-alike_texts (tree.text x) tree.undefined r s e f = cc
-alike_texts (tree.text x) tree.nothing r s e f = cc
-alike_texts (tree.text x) (tree.truth_value b) r s e f = cc
-alike_texts (tree.text x) (tree.number z) r s e f = cc
-alike_texts (tree.text x) (tree.text y) r s e f = let g : r ≡ x = cc in let h : s ≡ y = cc in ap (λ (k : List ℕ). bytes_eq (fold k) (fold y)) (sym g) ∙ ap (λ (k : List ℕ). bytes_eq (fold r) (fold k)) (sym h)
-alike_texts (tree.text x) (tree.markup y) r s e f = let g : r ≡ x = cc in let h : s ≡ y = cc in ap (λ (k : List ℕ). bytes_eq (fold k) (fold y)) (sym g) ∙ ap (λ (k : List ℕ). bytes_eq (fold r) (fold k)) (sym h)
-alike_texts (tree.text x) (tree.list ts) r s e f = cc
-alike_texts (tree.text x) (tree.map es) r s e f = cc
-alike_texts (tree.markup x) tree.undefined r s e f = cc
-alike_texts (tree.markup x) tree.nothing r s e f = cc
-alike_texts (tree.markup x) (tree.truth_value b) r s e f = cc
-alike_texts (tree.markup x) (tree.number z) r s e f = cc
-alike_texts (tree.markup x) (tree.text y) r s e f = let g : r ≡ x = cc in let h : s ≡ y = cc in ap (λ (k : List ℕ). bytes_eq (fold k) (fold y)) (sym g) ∙ ap (λ (k : List ℕ). bytes_eq (fold r) (fold k)) (sym h)
-alike_texts (tree.markup x) (tree.markup y) r s e f = let g : r ≡ x = cc in let h : s ≡ y = cc in ap (λ (k : List ℕ). bytes_eq (fold k) (fold y)) (sym g) ∙ ap (λ (k : List ℕ). bytes_eq (fold r) (fold k)) (sym h)
-alike_texts (tree.markup x) (tree.list ts) r s e f = cc
-alike_texts (tree.markup x) (tree.map es) r s e f = cc
-alike_texts (tree.list ts) u r s e f = cc
-alike_texts (tree.map es) u r s e f = cc
+alike_texts a0 a1 a2 a3 a4 a5 = search (arith, rules)
 
 pub first_no_text : (t u : Tree) → None ≡ text_of t → alike t u ≡ equal t u
-first_no_text tree.undefined u e = refl
-first_no_text tree.nothing u e = refl
-first_no_text (tree.truth_value b) u e = refl
-first_no_text (tree.number z) u e = refl
-first_no_text (tree.text x) u e = cc
-first_no_text (tree.markup x) u e = cc
-first_no_text (tree.list ts) u e = refl
-first_no_text (tree.map es) u e = refl
+first_no_text a0 a1 a2 = search (arith, rules)
 
 pub second_no_text : (t u : Tree) → None ≡ text_of u → alike t u ≡ equal t u
-second_no_text tree.undefined u e = refl
-second_no_text tree.nothing u e = refl
-second_no_text (tree.truth_value b) u e = refl
-second_no_text (tree.number z) u e = refl
-second_no_text (tree.text x) tree.undefined e = refl
-second_no_text (tree.text x) tree.nothing e = refl
-second_no_text (tree.text x) (tree.truth_value b) e = refl
-second_no_text (tree.text x) (tree.number z) e = refl
-second_no_text (tree.text x) (tree.text y) e = cc
-second_no_text (tree.text x) (tree.markup y) e = cc
-second_no_text (tree.text x) (tree.list ts) e = refl
-second_no_text (tree.text x) (tree.map es) e = refl
-second_no_text (tree.markup x) tree.undefined e = refl
-second_no_text (tree.markup x) tree.nothing e = refl
-second_no_text (tree.markup x) (tree.truth_value b) e = refl
-second_no_text (tree.markup x) (tree.number z) e = refl
-second_no_text (tree.markup x) (tree.text y) e = cc
-second_no_text (tree.markup x) (tree.markup y) e = cc
-second_no_text (tree.markup x) (tree.list ts) e = refl
-second_no_text (tree.markup x) (tree.map es) e = refl
-second_no_text (tree.list ts) u e = refl
-second_no_text (tree.map es) u e = refl
+second_no_text a0 a1 a2 = search (arith, rules)
 
 pub front_none : (n : ℕ) → front n no_items ≡ no_items
 front_none zero = refl
@@ -102,15 +52,11 @@ whole_next all n t rest e = ap (λ (ts : Items). joined_items ts rest) (front_ne
 -- a step over an item that is left out, or kept
 pub unseen_left : (all : Items) (n : ℕ) (t : Tree) (rest : Items) → joined_items (front n all) (item t rest) ≡ all → has_alike t (front n all) ≡ true
     → unseen (front n all) (item t rest) ≡ unseen (front (n + 1) all) rest
-unseen_left all n t rest e old =
-    ap (λ (b : Bool). cond b (unseen (joined_items (front n all) (item t no_items)) rest) (item t (unseen (joined_items (front n all) (item t no_items)) rest))) old
-    ∙ ap (λ (s : Items). unseen s rest) (sym (front_next all n t rest e))
+unseen_left all n t rest e old = search (arith, rules, front_next)
 
 pub unseen_kept : (all : Items) (n : ℕ) (t : Tree) (rest : Items) → joined_items (front n all) (item t rest) ≡ all → has_alike t (front n all) ≡ false
     → unseen (front n all) (item t rest) ≡ item t (unseen (front (n + 1) all) rest)
-unseen_kept all n t rest e new =
-    ap (λ (b : Bool). cond b (unseen (joined_items (front n all) (item t no_items)) rest) (item t (unseen (joined_items (front n all) (item t no_items)) rest))) new
-    ∙ ap (λ (s : Items). item t (unseen s rest)) (sym (front_next all n t rest e))
+unseen_kept all n t rest e new = search (arith, rules, front_next)
 
 pub left_size : (all : Items) (n : ℕ) (t : Tree) (rest : Items) → joined_items (front n all) (item t rest) ≡ all → has_alike t (front n all) ≡ true
     → items_size (unseen (front n all) (item t rest)) ≡ items_size (unseen (front (n + 1) all) rest)

@@ -1,6 +1,6 @@
 -- What is measured, allowed and built is what a filter gives under limits.
-use Rattle.std.proofs.Common.{◌≡◌, ℕ, ◌-◌, ◌^◌, min, Bool, true, false, cond, sym, ap}
-use Rattle.std.specs.Prelude.{Result, Ok, Err, nat_lt}
+use Rattle.std.proofs.Common.{◌≡◌, ℕ, ◌-◌, ◌^◌, min, Bool, cond, sym, ap, arith, rules}
+use Rattle.std.specs.Prelude.{Result, Ok, Err}
 use Rattle.jt_value.specs.declared.fault.Fault.{Fault}
 use Rattle.jt_value.specs.Tree as tree
 use Rattle.jt_value.specs.Tree.{Tree}
@@ -15,9 +15,7 @@ faulty limits (Ok t) fault e = cc
 faulty limits (Err other) fault e = let f : fault ≡ other = cc in ap (λ (x : Fault). Err (error.Fault x)) (sym f)
 
 never_by : (a b : Bool) (t : Tree) → cond a (Err error.TooLarge) (cond b (Err error.TooDeep) (Ok t)) ≡ Err error.NoMemory → ⊥
-never_by true b t e = cc
-never_by false true t e = cc
-never_by false false t e = cc
+never_by a0 a1 a2 a3 = search (arith, rules)
 
 abbrev size_of : Result (ℕ × ℕ) Fault → ℕ
 size_of (Ok m) = m.0
@@ -34,10 +32,7 @@ nesting_is : (t : Tree) (s n : ℕ) → Ok (s, n) ≡ measured (Ok t) → n ≡ 
 nesting_is t s n e = ap nesting_of e
 
 refused_by : (limits : Limits) (t : Tree) (x : OpError) → limited_by limits (Ok t) ≡ Err x → Answers (Err x) (limited_by limits (Ok t))
-refused_by limits t (error.Fault f) e = e
-refused_by limits t error.TooLarge e = e
-refused_by limits t error.TooDeep e = e
-refused_by limits t error.NoMemory e = absurd (never_by (nat_lt limits.size (tree.size t)) (nat_lt limits.nesting (tree.nesting t)) t e)
+refused_by a0 a1 a2 a3 = search (arith, rules, never_by)
 
 pub refused : (limits : Limits) (wanted : Result Tree Fault) (s n : ℕ) (x : OpError) → Ok (s, n) ≡ measured wanted
     → ((t : Tree) → s ≡ min (tree.size t) (2 ^ 64 - 1) → n ≡ min (tree.nesting t) (2 ^ 32 - 1) → limited_by limits (Ok t) ≡ Err x)

@@ -1,9 +1,8 @@
 -- What is built has a payload.
-use Rattle.std.proofs.Common.{◌≡◌, ℕ, Bool, true, false, cond, ◌||◌, List, Option, Some, None, refl}
+use Rattle.std.proofs.Common.{◌≡◌, ℕ, Bool, true, false, cond, ◌||◌, List, Option, Some, None, refl, arith, rules}
 use Rattle.std.specs.Prelude.{Result, Ok, Err}
 use Rattle.jt_value.specs.declared.fault.Fault.{Fault}
 use Rattle.jt_value.specs.declared.fault.ValueError.{ValueError}
-use Rattle.jt_value.specs.declared.fault.ValueError.TheVariants as error
 use Rattle.jt_value.specs.declared.value.Value.{Value}
 use Rattle.jt_value.specs.Iteration.{items_of_tree}
 use Rattle.jt_value.specs.Payload.{has_payload}
@@ -18,19 +17,10 @@ use Rattle.jt_filter_meaning.specs.Ordering.{sorted_list, sorted_pairs, distinct
 use Rattle.jt_filter_meaning.specs.Texts.{of_same_kind, keeping_kind, safe, escaped_once, escaped_again, replaced}
 
 pub built : (wanted : Result Tree Fault) (r : Result Value ValueError) → HasPayload wanted → IsAnswer wanted r → Builds wanted r
-built wanted (Ok v) p h = h
-built wanted (Err (error.Fault f)) p h = h
-built wanted (Err error.NoMemory) p h = p
+built a0 a1 a2 a3 = search (arith, rules)
 
 of_kind_payload : (t : Tree) (s : List ℕ) → has_payload (of_same_kind t s) ≡ true
-of_kind_payload tree.undefined s = refl
-of_kind_payload tree.nothing s = refl
-of_kind_payload (tree.truth_value b) s = refl
-of_kind_payload (tree.number z) s = refl
-of_kind_payload (tree.text x) s = refl
-of_kind_payload (tree.markup x) s = refl
-of_kind_payload (tree.list ts) s = refl
-of_kind_payload (tree.map es) s = refl
+of_kind_payload a0 a1 = search (arith, rules)
 
 printed_payload : (make : List ℕ → Tree) → ((s : List ℕ) → has_payload (make s) ≡ true) → (o : Option (List ℕ)) → HasPayload (or_unprintable make o)
 printed_payload make p (Some s) = p s
@@ -46,14 +36,7 @@ pub escaped_text : (t : Tree) → HasPayload (escaped_again t)
 escaped_text t = printed_payload _ (λ s. refl) (printed t)
 
 pub once_text : (t : Tree) → HasPayload (escaped_once t)
-once_text tree.undefined = escaped_text tree.undefined
-once_text tree.nothing = escaped_text tree.nothing
-once_text (tree.truth_value b) = escaped_text (tree.truth_value b)
-once_text (tree.number z) = escaped_text (tree.number z)
-once_text (tree.text x) = escaped_text (tree.text x)
-once_text (tree.markup x) = refl
-once_text (tree.list ts) = escaped_text (tree.list ts)
-once_text (tree.map es) = escaped_text (tree.map es)
+once_text a0 = search (arith, rules, escaped_text)
 
 of_items : (f : Items → Result Tree Fault) → ((ts : Items) → HasPayload (f ts)) → (r : Result Items Fault) → HasPayload (given f r)
 of_items f p (Ok ts) = p ts
@@ -84,55 +67,13 @@ pub sorted_of : (reverse : Bool) (t : Tree) → HasPayload (on_items (sorted_lis
 sorted_of reverse t = of_items (sorted_list reverse) (λ ts. by_order (have_order ts) _ _ refl) (items_of_tree t)
 
 pub reversed_of : (t : Tree) → HasPayload (reversed t)
-reversed_of tree.undefined = refl
-reversed_of tree.nothing = tt
-reversed_of (tree.truth_value b) = tt
-reversed_of (tree.number z) = tt
-reversed_of (tree.text x) = refl
-reversed_of (tree.markup x) = refl
-reversed_of (tree.list ts) = refl
-reversed_of (tree.map es) = refl
+reversed_of a0 = search (arith, rules)
 
 pub pairs_of_map : (t : Tree) → HasPayload (pairs_of t)
-pairs_of_map tree.undefined = refl
-pairs_of_map tree.nothing = tt
-pairs_of_map (tree.truth_value b) = tt
-pairs_of_map (tree.number z) = tt
-pairs_of_map (tree.text x) = tt
-pairs_of_map (tree.markup x) = tt
-pairs_of_map (tree.list ts) = tt
-pairs_of_map (tree.map es) = refl
+pairs_of_map a0 = search (arith, rules)
 
 pub sorted_map : (t : Tree) → HasPayload (sorted_pairs t)
-sorted_map tree.undefined = tt
-sorted_map tree.nothing = tt
-sorted_map (tree.truth_value b) = tt
-sorted_map (tree.number z) = tt
-sorted_map (tree.text x) = tt
-sorted_map (tree.markup x) = tt
-sorted_map (tree.list ts) = tt
-sorted_map (tree.map es) = refl
+sorted_map a0 = search (arith, rules)
 
 pub replaced_of : (t old new : Tree) → HasPayload (replaced t old new)
-replaced_of tree.undefined old new = tt
-replaced_of tree.nothing old new = tt
-replaced_of (tree.truth_value b) old new = tt
-replaced_of (tree.number z) old new = tt
-replaced_of (tree.text x) tree.undefined new = tt
-replaced_of (tree.text x) tree.nothing new = tt
-replaced_of (tree.text x) (tree.truth_value b) new = tt
-replaced_of (tree.text x) (tree.number z) new = tt
-replaced_of (tree.text x) (tree.text y) tree.undefined = tt
-replaced_of (tree.text x) (tree.text y) tree.nothing = tt
-replaced_of (tree.text x) (tree.text y) (tree.truth_value b) = tt
-replaced_of (tree.text x) (tree.text y) (tree.number z) = tt
-replaced_of (tree.text x) (tree.text y) (tree.text w) = by_order (is_nonempty y) _ _ refl
-replaced_of (tree.text x) (tree.text y) (tree.markup w) = tt
-replaced_of (tree.text x) (tree.text y) (tree.list ts) = tt
-replaced_of (tree.text x) (tree.text y) (tree.map es) = tt
-replaced_of (tree.text x) (tree.markup y) new = tt
-replaced_of (tree.text x) (tree.list ts) new = tt
-replaced_of (tree.text x) (tree.map es) new = tt
-replaced_of (tree.markup x) old new = tt
-replaced_of (tree.list ts) old new = tt
-replaced_of (tree.map es) old new = tt
+replaced_of a0 a1 a2 = search (arith, rules, by_order)

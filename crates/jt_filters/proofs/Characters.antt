@@ -1,5 +1,5 @@
 -- The first character of a text.
-use Rattle.std.proofs.Common.{◌≡◌, ℕ, List, ◌++◌, length, take, drop, sym, ap, ◌∙◌}
+use Rattle.std.proofs.Common.{◌≡◌, ℕ, List, ◌++◌, length, take, drop, arith, rules}
 use Rattle.std.proofs.Math.Seq.{take-append_seam, drop-append_seam}
 use Rattle.std.proofs.lemmas.Str.{chars_past_char, IsCharBoundary-at_seam, IsUtf8-past_char}
 use Rattle.std.specs.Char.{encode_utf8}
@@ -14,9 +14,4 @@ cut_behind bs rest c n valid is len = rw len (IsCharBoundary-at_seam bs (encode_
 -- a text is its first character and what lies behind it
 pub first_behind : (bs rest first behind : List ℕ) (c n : ℕ) → IsUtf8 bs → bs ≡ encode_utf8 c ++ rest → n ≡ length (encode_utf8 c) → first ≡ take n bs → behind ≡ drop n bs
     → character_items (chars bs) ≡ tree.item (tree.text first) (character_items (chars behind))
-first_behind bs rest first behind c n valid is len front back =
-    let f : first ≡ encode_utf8 c = front ∙ ap (λ (k : ℕ). take k bs) len ∙ ap (λ (xs : List ℕ). take (length (encode_utf8 c)) xs) is ∙ take-append_seam (encode_utf8 c) rest in
-    let b : behind ≡ rest = back ∙ ap (λ (k : ℕ). drop k bs) len ∙ ap (λ (xs : List ℕ). drop (length (encode_utf8 c)) xs) is ∙ drop-append_seam (encode_utf8 c) rest in
-    ap character_items (chars_past_char bs rest c valid is)
-    ∙ ap (λ (xs : List ℕ). tree.item (tree.text xs) (character_items (chars rest))) (sym f)
-    ∙ ap (λ (xs : List ℕ). tree.item (tree.text first) (character_items (chars xs))) (sym b)
+first_behind bs rest first behind c n valid is len front back = search (arith, rules, take-append_seam, drop-append_seam, chars_past_char)

@@ -1,5 +1,5 @@
 -- How long joined texts are.
-use Rattle.std.proofs.Common.{◌≡◌, ℕ, ◌+◌, ◌-◌, ◌^◌, min, Bool, true, false, cond, ◌||◌, ◌&&◌, not, List, [], ◌∷◌, ◌++◌, length, flat_map, Option, Some, None, refl, sym, ap, ◌∙◌, arith, length-append, append_assoc}
+use Rattle.std.proofs.Common.{◌≡◌, ℕ, ◌+◌, ◌-◌, ◌^◌, min, Bool, true, false, cond, ◌||◌, ◌&&◌, not, List, [], ◌∷◌, ◌++◌, length, flat_map, Option, Some, None, refl, sym, ap, ◌∙◌, arith, length-append, append_assoc, rules}
 use Rattle.std.proofs.lemmas.List.{append-nil}
 use Rattle.std.specs.Prelude.{Ok, Err, option_map}
 use Rattle.std.specs.List.{join_by}
@@ -16,37 +16,14 @@ use Rattle.jt_filters.specs.Operands.{measured, text_length, text_measure, led_l
 
 -- the same test of two crates
 same_markup : (d : Tree) (ts : Items) → joins.is_markup d || has_markup ts ≡ is_markup d || has_markup ts
-same_markup (tree.markup r) ts = refl
-same_markup tree.undefined ts = refl
-same_markup tree.nothing ts = refl
-same_markup (tree.truth_value b) ts = refl
-same_markup (tree.number z) ts = refl
-same_markup (tree.text r) ts = refl
-same_markup (tree.list us) ts = refl
-same_markup (tree.map es) ts = refl
+same_markup a0 a1 = search (arith, rules)
 
 -- what a value gives
 pub piece_is : (escaping : Bool) (t : Tree) (s : List ℕ) → printed t ≡ Some s → piece escaping t ≡ Some (cond (escaping && not (is_markup t)) (escaped s) s)
-piece_is false t s e = e
-piece_is true (tree.markup r) s e = e
-piece_is true tree.undefined s e = ap (option_map escaped) e
-piece_is true tree.nothing s e = ap (option_map escaped) e
-piece_is true (tree.truth_value b) s e = ap (option_map escaped) e
-piece_is true (tree.number z) s e = ap (option_map escaped) e
-piece_is true (tree.text r) s e = ap (option_map escaped) e
-piece_is true (tree.list ts) s e = ap (option_map escaped) e
-piece_is true (tree.map es) s e = ap (option_map escaped) e
+piece_is a0 a1 a2 a3 = search (arith, rules)
 
 pub no_piece : (escaping : Bool) (t : Tree) → printed t ≡ None → piece escaping t ≡ None
-no_piece false t e = e
-no_piece true (tree.markup r) e = cc
-no_piece true tree.undefined e = ap (option_map escaped) e
-no_piece true tree.nothing e = ap (option_map escaped) e
-no_piece true (tree.truth_value b) e = ap (option_map escaped) e
-no_piece true (tree.number z) e = ap (option_map escaped) e
-no_piece true (tree.text r) e = ap (option_map escaped) e
-no_piece true (tree.list ts) e = ap (option_map escaped) e
-no_piece true (tree.map es) e = ap (option_map escaped) e
+no_piece a0 a1 a2 = search (arith, rules)
 
 grown : (head between p : List ℕ) (n : ℕ) → n ≡ min (length p) (2 ^ 64 - 1)
     → min (min (min (length head) (2 ^ 64 - 1) + min (length between) (2 ^ 64 - 1)) (2 ^ 64 - 1) + n) (2 ^ 64 - 1) ≡ min (length (head ++ (between ++ p))) (2 ^ 64 - 1)
@@ -94,9 +71,7 @@ joined_length escaping t d ts n m e f = first_length escaping ts (piece escaping
 -- the first item has no text
 unprintable_by : (escaping : Bool) (ts : Items) (d p : Option (List ℕ)) (m : ℕ) (x : Fault) → Ok m ≡ text_length d → Err x ≡ text_length p
     → text_length (option_and_then (λ (between : List ℕ). option_map (join_by (λ (text : List ℕ). text) between) (option_and_then (λ (first : List ℕ). option_map (λ (rest : List (List ℕ)). first ∷ rest) (pieces escaping ts)) p)) d) ≡ Err x
-unprintable_by escaping ts None p m x e f = cc
-unprintable_by escaping ts (Some d) None m x e f = sym f
-unprintable_by escaping ts (Some d) (Some p) m x e f = cc
+unprintable_by a0 a1 a2 a3 a4 a5 a6 a7 = search (arith, rules)
 
 pub unprintable_first : (escaping : Bool) (t d : Tree) (ts : Items) (m : ℕ) (x : Fault) → Ok m ≡ text_length (piece escaping d) → Err x ≡ text_length (piece escaping t)
     → text_length (joined_text escaping (item t ts) d) ≡ Err x

@@ -1,5 +1,5 @@
 -- What is known of the items in front, by their codes.
-use Rattle.std.proofs.Common.{◌≡◌, ℕ, ◌+◌, Bool, true, false, cond, ◌||◌, List, [], ◌∷◌, ◌++◌, Some, None, refl, sym, ap, ◌∙◌, subst, true≢false}
+use Rattle.std.proofs.Common.{◌≡◌, ℕ, ◌+◌, Bool, true, false, cond, ◌||◌, List, [], ◌∷◌, ◌++◌, Some, None, refl, sym, ap, ◌∙◌, subst, true≢false, arith, rules}
 use Rattle.std.proofs.lemmas.Cmp.{nat_list_cmp_total}
 use Rattle.std.specs.BTreeMap.{BTreeMap, insert_entry, is_at}
 use Rattle.std.specs.Cmp.{tied_itself}
@@ -137,7 +137,4 @@ operands_pushed (x ∷ before) o us = ap (item (tree_of x)) (operands_pushed bef
 
 pub firsts_kept : (all : Items) (n : ℕ) (o : Operand) (rest : Items) (before after : List Operand) → joined_items (front n all) (item (tree_of o) rest) ≡ all → has_alike (tree_of o) (front n all) ≡ false → after ≡ before ++ o ∷ []
     → joined_items (operand_items after) (unseen (front (n + 1) all) rest) ≡ joined_items (operand_items before) (unseen (front n all) (item (tree_of o) rest))
-firsts_kept all n o rest before after e new is =
-    ap (λ (os : List Operand). joined_items (operand_items os) (unseen (front (n + 1) all) rest)) is
-    ∙ operands_pushed before o (unseen (front (n + 1) all) rest)
-    ∙ ap (λ (ts : Items). joined_items (operand_items before) ts) (sym (unseen_kept all n (tree_of o) rest e new))
+firsts_kept all n o rest before after e new is = search (arith, rules, operands_pushed, unseen_kept)

@@ -1,6 +1,6 @@
 -- Items, one more at the end.
 use Rattle.std.proofs.lemmas.List.{at_drop_more, at_drop_all}
-use Rattle.std.proofs.Common.{◌≡◌, ℕ, ◌+◌, ◌<◌, ◌≤◌, map, List, [], ◌∷◌, ◌++◌, length, drop, get_or, refl, sym, ap, ◌∙◌}
+use Rattle.std.proofs.Common.{◌≡◌, ℕ, ◌+◌, ◌<◌, ◌≤◌, map, List, [], ◌∷◌, ◌++◌, length, drop, get_or, refl, sym, ap, ◌∙◌, arith, rules}
 use Rattle.std.specs.Char.{encode_utf8}
 use Rattle.jt_value.specs.Tree as tree
 use Rattle.jt_value.specs.Tree.{Tree, Items, no_items, item}
@@ -17,11 +17,7 @@ joined_pushed no_items us u = refl
 joined_pushed (item t ts) us u = ap (item t) (joined_pushed ts us u)
 
 pub pushed : (before after : List Value) (v : Value) (u : Tree) (us : Items) → after ≡ before ++ v ∷ [] → view v ≡ u → joined_items (items_view after) us ≡ joined_items (items_view before) (item u us)
-pushed before after v u us is same =
-    ap (λ (vs : List Value). joined_items (items_view vs) us) is
-    ∙ ap (λ (ts : Items). joined_items ts us) (items_view-push before v)
-    ∙ ap (λ (w : Tree). joined_items (more_items (items_view before) w) us) same
-    ∙ joined_pushed (items_view before) us u
+pushed before after v u us is same = search (arith, rules, items_view-push, joined_pushed)
 
 pub joined_none : (ts : Items) → joined_items ts no_items ≡ ts
 joined_none no_items = refl
@@ -33,12 +29,7 @@ character_items-more (d ∷ cs) c = ap (item (tree.text (encode_utf8 d))) (chara
 
 -- one more character behind the others
 pub characters_pushed : (before after : List Value) (v : Value) (cs : List ℕ) (c : ℕ) → after ≡ before ++ v ∷ [] → view v ≡ tree.text (encode_utf8 c) → items_view before ≡ character_items cs → items_view after ≡ character_items (cs ++ c ∷ [])
-characters_pushed before after v cs c is same inv =
-    ap items_view is
-    ∙ items_view-push before v
-    ∙ ap (λ (w : Tree). more_items (items_view before) w) same
-    ∙ ap (λ (ts : Items). more_items ts (tree.text (encode_utf8 c))) inv
-    ∙ sym (character_items-more cs c)
+characters_pushed before after v cs c is same inv = search (arith, rules, items_view-push, character_items-more)
 
 -- a step of a loop over a list, from which items are made: one more item is made of the next element
 pub made_more : {X : Type 0} (F : List X → Items) (before after : List Value) (v : Value) (xs : List X) (i : ℕ) (x : X) (u : Tree) (all : Items) → i < length xs → x ≡ get_or xs i x → after ≡ before ++ v ∷ [] → view v ≡ u

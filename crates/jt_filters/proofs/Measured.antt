@@ -1,5 +1,5 @@
 -- The sizes of changed texts.
-use Rattle.std.proofs.Common.{◌≡◌, ℕ, ◌+◌, ◌-◌, ◌^◌, min, true, false, List, length, Some, refl, ap, ◌∙◌}
+use Rattle.std.proofs.Common.{◌≡◌, ℕ, ◌+◌, ◌-◌, ◌^◌, min, true, false, List, length, Some, ap, ◌∙◌, arith, rules}
 use Rattle.std.specs.Prelude.{Ok, Option}
 use Rattle.std.specs.Char.{to_ascii_lowercase, to_ascii_uppercase}
 use Rattle.std.specs.Str.{str_to_ascii_lowercase, str_to_ascii_uppercase}
@@ -13,14 +13,7 @@ use Rattle.jt_filters.specs.Operands.{measured}
 use Rattle.jt_filters.proofs.Changes.{capitalized_length, length-map}
 
 kept_size : (t : Tree) (s : List ℕ) → measured (Ok (of_same_kind t s)) ≡ Ok (min (1 + length s) (2 ^ 64 - 1), 0)
-kept_size tree.undefined s = refl
-kept_size tree.nothing s = refl
-kept_size (tree.truth_value b) s = refl
-kept_size (tree.number z) s = refl
-kept_size (tree.text r) s = refl
-kept_size (tree.markup r) s = refl
-kept_size (tree.list ts) s = refl
-kept_size (tree.map es) s = refl
+kept_size a0 a1 = search (arith, rules)
 
 pub kept_measured : (change : List ℕ → List ℕ) (t : Tree) (s : List ℕ) → printed t ≡ Some s → measured (keeping_kind change t) ≡ Ok (min (1 + length (change s)) (2 ^ 64 - 1), 0)
 kept_measured change t s is = ap (λ (o : Option (List ℕ)). measured (or_unprintable (λ r. of_same_kind t (change r)) o)) is ∙ kept_size t (change s)
@@ -50,41 +43,13 @@ pub escaped_measured : (t : Tree) (s : List ℕ) → printed t ≡ Some s → me
 escaped_measured t s is = ap (λ (o : Option (List ℕ)). measured (or_unprintable (λ r. tree.markup (escaped r)) o)) is
 
 pub markup_stays : (t : Tree) → is_markup t ≡ true → escaped_once t ≡ safe t
-markup_stays (tree.markup s) e = refl
-markup_stays tree.undefined e = cc
-markup_stays tree.nothing e = cc
-markup_stays (tree.truth_value b) e = cc
-markup_stays (tree.number z) e = cc
-markup_stays (tree.text s) e = cc
-markup_stays (tree.list ts) e = cc
-markup_stays (tree.map es) e = cc
+markup_stays a0 a1 = search (arith, rules)
 
 pub others_escaped : (t : Tree) → is_markup t ≡ false → escaped_once t ≡ escaped_again t
-others_escaped (tree.markup s) e = cc
-others_escaped tree.undefined e = refl
-others_escaped tree.nothing e = refl
-others_escaped (tree.truth_value b) e = refl
-others_escaped (tree.number z) e = refl
-others_escaped (tree.text s) e = refl
-others_escaped (tree.list ts) e = refl
-others_escaped (tree.map es) e = refl
+others_escaped a0 a1 = search (arith, rules)
 
 pub markup_kept : (t : Tree) (s : List ℕ) → is_markup t ≡ true → of_same_kind t s ≡ tree.markup s
-markup_kept (tree.markup r) s e = refl
-markup_kept tree.undefined s e = cc
-markup_kept tree.nothing s e = cc
-markup_kept (tree.truth_value b) s e = cc
-markup_kept (tree.number z) s e = cc
-markup_kept (tree.text r) s e = cc
-markup_kept (tree.list ts) s e = cc
-markup_kept (tree.map es) s e = cc
+markup_kept a0 a1 a2 = search (arith, rules)
 
 pub others_kept : (t : Tree) (s : List ℕ) → is_markup t ≡ false → of_same_kind t s ≡ tree.text s
-others_kept (tree.markup r) s e = cc
-others_kept tree.undefined s e = refl
-others_kept tree.nothing s e = refl
-others_kept (tree.truth_value b) s e = refl
-others_kept (tree.number z) s e = refl
-others_kept (tree.text r) s e = refl
-others_kept (tree.list ts) s e = refl
-others_kept (tree.map es) s e = refl
+others_kept a0 a1 a2 = search (arith, rules)

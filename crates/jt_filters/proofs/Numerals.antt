@@ -1,5 +1,5 @@
 -- The numbers that texts write.
-use Rattle.std.proofs.Common.{◌≡◌, ℕ, ◌^◌, ◌<◌, Bool, true, false, Option, Some, None, List, [], ◌∷◌, length, ℤ, pos, negsuc, refl, sym, ap, ◌∙◌, inl, inr, eqb-true, arith}
+use Rattle.std.proofs.Common.{◌≡◌, ℕ, ◌^◌, ◌<◌, Bool, true, false, Option, Some, None, List, [], ◌∷◌, length, ℤ, pos, negsuc, refl, sym, ap, ◌∙◌, inl, inr, arith, rules}
 use Rattle.std.specs.Prelude.{Result, Ok, Err, FitsSigned, ◌==◌, ◌⊎◌, if◌then◌else◌}
 use Rattle.std.specs.Char.{digit_value, is_ascii_digit}
 use Rattle.std.specs.Int.{w64}
@@ -31,9 +31,7 @@ digits_are [] h = absurd (omega (arith, h.0))
 digits_are (b ∷ ds) h = rw (small_all (b ∷ ds) h.1) refl
 
 digits_none : (all : Bool) (ds : List ℕ) → list_all is_ascii_digit ds ≡ all → ¬ IsNumeral 10 ds → number_of_digits ds ≡ None
-digits_none all [] e h = refl
-digits_none true (b ∷ ds) e h = absurd (h (omega arith, all_small (b ∷ ds) e))
-digits_none false (b ∷ ds) e h = rw e refl
+digits_none a0 a1 a2 a3 = search (arith, rules, all_small)
 
 numeral_by : (all : Bool) (ds : List ℕ) → list_all is_ascii_digit ds ≡ all → 0 < length ds → IsNumeral 10 ds ⊎ (¬ IsNumeral 10 ds)
 numeral_by true ds e some = inl (some, all_small ds e)
@@ -49,10 +47,7 @@ record Writes (s : List ℕ) : Type 0 where
   none : ¬ IsNumeral 10 (without_leading_sign s) → number_with_sign s ≡ None
 
 writes_by : (minus plus : Bool) (b : ℕ) (s : List ℕ) → (b == 45) ≡ minus → (b == 43) ≡ plus → Writes (b ∷ s)
-writes_by true true b s m p = absurd (omega (arith, eqb-true b 45 m, eqb-true b 43 p))
-writes_by true false b s m p = record { some = rw (m, p) (λ h. rw (digits_are s h) refl); none = rw (m, p) (λ n. rw (digits_none _ s refl n) refl) }
-writes_by false true b s m p = record { some = rw (m, p) (λ h. digits_are s h); none = rw (m, p) (λ n. digits_none _ s refl n) }
-writes_by false false b s m p = record { some = rw (m, p) (λ h. digits_are (b ∷ s) h); none = rw (m, p) (λ n. digits_none _ (b ∷ s) refl n) }
+writes_by a0 a1 a2 a3 a4 a5 = search (arith, rules, digits_are, digits_none)
 
 writes : (s : List ℕ) → Writes s
 writes [] = record { some = λ h. absurd (omega (arith, h.0)); none = λ h. refl }

@@ -3,8 +3,8 @@ use Rattle.std.specs.Prelude.{option_map, slice_get}
 use Rattle.std.specs.Option.{option_and_then}
 use Rattle.std.proofs.lemmas.Bool.Decides.{nat_tests}
 use Rattle.std.specs.Char.{encode_utf8}
-use Rattle.jt_ops.specs.ItemOf.{item_at, items_count, indexed_item, indexed_character, item_of, or_undefined, place}
-use Rattle.std.proofs.Common.{◌≡◌, ℕ, zero, suc, ℤ, ◌+◌, ◌-◌, negsuc, Bool, true, cond, ltb, List, [], ◌∷◌, length, Some, None, refl, ap, sym, ◌∙◌, arith}
+use Rattle.jt_ops.specs.ItemOf.{item_at, items_count, indexed_item, indexed_character, item_of}
+use Rattle.std.proofs.Common.{◌≡◌, ℕ, zero, suc, ℤ, ◌+◌, ◌-◌, negsuc, Bool, true, cond, ltb, List, [], ◌∷◌, length, Some, None, refl, ap, sym, ◌∙◌, arith, rules}
 use Rattle.jt_value.proofs.Lists.{Pair}
 use Rattle.jt_value.specs.View.{view, items_view, entries_view}
 use Rattle.jt_value.specs.declared.value.Value.{Value}
@@ -19,61 +19,26 @@ use Rattle.jt_value.specs.declared.fault.Fault.TheVariants as fault
 use Rattle.jt_value.specs.Payload.{text_of, items_of_list, entries_of_map}
 
 pub list_is : (t : Tree) (ts : Items) → Some ts ≡ items_of_list t → t ≡ tree.list ts
-list_is (tree.list us) ts e = cc
-list_is tree.undefined ts e = cc
-list_is tree.nothing ts e = cc
-list_is (tree.truth_value b) ts e = cc
-list_is (tree.number z) ts e = cc
-list_is (tree.text s) ts e = cc
-list_is (tree.markup s) ts e = cc
-list_is (tree.map es) ts e = cc
+list_is a0 a1 a2 = search (arith, rules)
 
 pub items_of_a_list : (t : Tree) (ts : Items) → Some ts ≡ items_of_list t → items_of_tree t ≡ Ok ts
 items_of_a_list t ts e = ap items_of_tree (list_is t ts e)
 
 pub items_of_a_text : (t : Tree) (s : List ℕ) → Some s ≡ text_of t → items_of_tree t ≡ Ok (character_items (chars s))
-items_of_a_text (tree.text r) s e = cc
-items_of_a_text (tree.markup r) s e = cc
-items_of_a_text tree.undefined s e = cc
-items_of_a_text tree.nothing s e = cc
-items_of_a_text (tree.truth_value b) s e = cc
-items_of_a_text (tree.number z) s e = cc
-items_of_a_text (tree.list us) s e = cc
-items_of_a_text (tree.map es) s e = cc
+items_of_a_text a0 a1 a2 = search (arith, rules)
 
 pub map_is : (t : Tree) (es : Entries) → Some es ≡ entries_of_map t → t ≡ tree.map es
-map_is (tree.map fs) es e = cc
-map_is tree.undefined es e = cc
-map_is tree.nothing es e = cc
-map_is (tree.truth_value b) es e = cc
-map_is (tree.number z) es e = cc
-map_is (tree.text s) es e = cc
-map_is (tree.markup s) es e = cc
-map_is (tree.list us) es e = cc
+map_is a0 a1 a2 = search (arith, rules)
 
 pub items_of_a_map : (t : Tree) (es : Entries) → Some es ≡ entries_of_map t → items_of_tree t ≡ Ok (key_items es)
 items_of_a_map t es e = ap items_of_tree (map_is t es e)
 
 -- nothing of the three, and not undefined
 pub items_of_all_else : (t : Tree) → None ≡ text_of t → None ≡ items_of_list t → None ≡ entries_of_map t → ¬ (t ≡ tree.undefined) → items_of_tree t ≡ Err fault.NotIterable
-items_of_all_else tree.undefined a b c d = absurd (d refl)
-items_of_all_else tree.nothing a b c d = refl
-items_of_all_else (tree.truth_value x) a b c d = refl
-items_of_all_else (tree.number z) a b c d = refl
-items_of_all_else (tree.text s) a b c d = cc
-items_of_all_else (tree.markup s) a b c d = cc
-items_of_all_else (tree.list us) a b c d = cc
-items_of_all_else (tree.map es) a b c d = cc
+items_of_all_else a0 a1 a2 a3 a4 = search (arith, rules)
 
 pub length_of_a_text : (t : Tree) (s : List ℕ) → Some s ≡ text_of t → length_of t ≡ counted (length (chars s))
-length_of_a_text (tree.text r) s e = let f : s ≡ r = cc in ap (λ (x : List ℕ). counted (length (chars x))) (sym f)
-length_of_a_text (tree.markup r) s e = let f : s ≡ r = cc in ap (λ (x : List ℕ). counted (length (chars x))) (sym f)
-length_of_a_text tree.undefined s e = cc
-length_of_a_text tree.nothing s e = cc
-length_of_a_text (tree.truth_value b) s e = cc
-length_of_a_text (tree.number z) s e = cc
-length_of_a_text (tree.list us) s e = cc
-length_of_a_text (tree.map es) s e = cc
+length_of_a_text a0 a1 a2 = search (arith, rules)
 
 pub length_of_a_list : (t : Tree) (vs : List Value) → Some (items_view vs) ≡ items_of_list t → length_of t ≡ counted (length vs)
 length_of_a_list t vs e = ap length_of (list_is t _ e) ∙ ap counted (items_count_view vs)
@@ -113,20 +78,11 @@ place_of_character cs None = refl
 place_of_character cs (Some i) = character_at cs i
 
 indexed_characters : (s : List ℕ) (i : ℤ) → indexed_character s i ≡ indexed_item (character_items (chars s)) i
-indexed_characters s i =
-    place_of_character (chars s) (place i (length (chars s)))
-    ∙ ap (λ (n : ℕ). option_and_then (item_at (character_items (chars s))) (place i n)) (sym (characters_count (chars s)))
+indexed_characters s i = search (arith, rules, place_of_character, characters_count)
 
 -- an item by an index, of a text or a list
 pub item_of_places : (t : Tree) (i : ℤ) → has_places t ≡ true → item_of t (tree.number i) ≡ on_items (item_named i) t
-item_of_places (tree.text s) i e = ap (λ (x : Option Tree). Ok (or_undefined x)) (indexed_characters s i)
-item_of_places (tree.markup s) i e = ap (λ (x : Option Tree). Ok (or_undefined x)) (indexed_characters s i)
-item_of_places (tree.list ts) i e = refl
-item_of_places tree.undefined i e = cc
-item_of_places tree.nothing i e = cc
-item_of_places (tree.truth_value b) i e = cc
-item_of_places (tree.number z) i e = cc
-item_of_places (tree.map es) i e = cc
+item_of_places a0 a1 a2 = search (arith, rules, indexed_characters)
 
 pub keys_count : (es : List Pair) → items_count (key_items (entries_view es)) ≡ length es
 keys_count [] = refl

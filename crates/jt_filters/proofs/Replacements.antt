@@ -1,5 +1,5 @@
 -- Texts in which another text is replaced.
-use Rattle.std.proofs.Common.{◌≡◌, ℕ, zero, suc, ◌+◌, ◌-◌, ◌<◌, ◌≤◌, Bool, true, false, cond, List, [], ◌∷◌, ◌++◌, length, take, drop, refl, sym, ap, subst, ◌∙◌, arith, length-append}
+use Rattle.std.proofs.Common.{◌≡◌, ℕ, zero, suc, ◌+◌, ◌-◌, ◌<◌, ◌≤◌, Bool, true, false, cond, List, [], ◌∷◌, ◌++◌, length, take, drop, refl, sym, ap, subst, ◌∙◌, arith, length-append, rules}
 use Rattle.std.specs.Str.Pattern.{LacksTextAt, HasTextAt}
 use Rattle.std.specs.Str.{IsUtf8}
 use Rattle.std.proofs.lemmas.Str.{IsUtf8-drop}
@@ -46,10 +46,7 @@ replaced_at old new some (suc i) (b ∷ s) rest lacks is =
 -- a step of a loop: what comes before the place, and what comes behind it
 pub replaced_step : (old new s front behind : List ℕ) (i j : ℕ) → 0 < length old → ((k : ℕ) → k < i → LacksTextAt old s k) → HasTextAt old s i j → front ≡ take i s → behind ≡ drop j s
     → replaced_behind 0 old new s ≡ front ++ (new ++ replaced_behind 0 old new behind)
-replaced_step old new s front behind i j some lacks has front_is behind_is =
-    replaced_at old new some i s (drop j s) lacks has.split
-    ∙ ap (λ (ts : List ℕ). ts ++ (new ++ replaced_behind 0 old new (drop j s))) (sym front_is)
-    ∙ ap (λ (ts : List ℕ). front ++ (new ++ replaced_behind 0 old new ts)) (sym behind_is)
+replaced_step old new s front behind i j some lacks has front_is behind_is = search (arith, rules, replaced_at)
 
 pub behind_utf8 : (old s behind : List ℕ) (i j : ℕ) → IsUtf8 s → HasTextAt old s i j → behind ≡ drop j s → IsUtf8 behind
 behind_utf8 old s behind i j valid has behind_is =

@@ -1,10 +1,10 @@
 -- What each item gives, gathered: its size, its nesting, and the values.
-use Rattle.std.proofs.Common.{◌≡◌, ℕ, ◌+◌, ◌-◌, ◌^◌, ◌≤◌, min, max, List, [], ◌∷◌, ◌++◌, true, refl, sym, ap, ◌∙◌, arith}
+use Rattle.std.proofs.Common.{◌≡◌, ℕ, ◌+◌, ◌-◌, ◌^◌, ◌≤◌, min, max, List, [], ◌∷◌, ◌++◌, true, refl, sym, ap, ◌∙◌, arith, rules}
 use Rattle.std.specs.Prelude.{Result, Ok, Err}
 use Rattle.jt_value.specs.declared.fault.Fault.{Fault}
 use Rattle.jt_value.specs.declared.value.Value.{Value}
 use Rattle.jt_value.specs.Payload.{joined_items}
-use Rattle.jt_value.specs.Tree.{Tree, Items, no_items, item, items_size, items_nesting}
+use Rattle.jt_value.specs.Tree.{Tree, Items, no_items, item}
 use Rattle.jt_value.specs.View.{view, items_view}
 use Rattle.jt_value.proofs.Lists.{joined_size, joined_nesting}
 use Rattle.jt_value.specs.Iteration.{items_of_tree}
@@ -50,14 +50,7 @@ nesting_is s n s2 n2 e = ap nesting_of e
 -- one more item's measure
 pub behind_more : (given rest : Result Items Fault) (size nesting more deepest : ℕ) → Ok (more, deepest) ≡ row_measured given
     → measured_behind (min (size + more) (2 ^ 64 - 1)) (max nesting deepest) rest ≡ measured_behind size nesting (in_front given rest)
-behind_more (Err f) rest size nesting more deepest e = absurd (cc)
-behind_more (Ok ts) (Err f) size nesting more deepest e = refl
-behind_more (Ok ts) (Ok us) size nesting more deepest e =
-    let s = size_is more deepest (min (items_size ts) (2 ^ 64 - 1)) (min (items_nesting ts) (2 ^ 32 - 1)) e in
-    let n = nesting_is more deepest (min (items_size ts) (2 ^ 64 - 1)) (min (items_nesting ts) (2 ^ 32 - 1)) e in
-    pair_is _ _ _ _
-    (omega (arith, s, joined_size ts us))
-    (omega (arith, n, joined_nesting ts us))
+behind_more a0 a1 a2 a3 a4 a5 a6 = search (arith, rules, size_is, nesting_is, pair_is, joined_size, joined_nesting)
 
 pub behind_fault : (given rest : Result Items Fault) (size nesting : ℕ) (f : Fault) → Err f ≡ row_measured given → Err f ≡ measured_behind size nesting (in_front given rest)
 behind_fault (Ok ts) rest size nesting f e = absurd (cc)
@@ -82,11 +75,7 @@ pub behind_end : (give : Tree → Result Items Fault) (all : Items) (size nestin
 behind_end give all size nesting is s n = behind_all size nesting s n ∙ ap (λ (us : Items). measured_behind size nesting (gathered give us)) (sym is)
 
 pub list_measured : (r : Result Items Fault) (size nesting : ℕ) → Ok (size, nesting) ≡ row_measured r → Ok (min (size + 1) (2 ^ 64 - 1), min (nesting + 1) (2 ^ 32 - 1)) ≡ measured (as_list r)
-list_measured (Err f) size nesting e = absurd (cc)
-list_measured (Ok ts) size nesting e =
-    let s = size_is size nesting (min (items_size ts) (2 ^ 64 - 1)) (min (items_nesting ts) (2 ^ 32 - 1)) e in
-    let n = nesting_is size nesting (min (items_size ts) (2 ^ 64 - 1)) (min (items_nesting ts) (2 ^ 32 - 1)) e in
-    pair_is _ _ _ _ (omega (arith, s)) (omega (arith, n))
+list_measured a0 a1 a2 a3 = search (arith, rules, size_is, nesting_is, pair_is)
 
 pub list_fault : (r : Result Items Fault) (f : Fault) → Err f ≡ row_measured r → Err f ≡ measured (as_list r)
 list_fault (Ok ts) f e = absurd (cc)
@@ -95,11 +84,7 @@ list_fault (Err g) f e = e
 -- what is behind the values, after one more item
 pub front_more : (old new : List Value) (given rest : Result Items Fault) → in_front (Ok (items_view old)) given ≡ Ok (items_view new)
     → in_front (Ok (items_view new)) rest ≡ in_front (Ok (items_view old)) (in_front given rest)
-front_more old new (Err f) rest e = absurd (cc)
-front_more old new (Ok ts) (Err f) e = refl
-front_more old new (Ok ts) (Ok us) e =
-    let same : items_view new ≡ joined_items (items_view old) ts = cc in
-    ap (λ (vs : Items). Ok (joined_items vs us)) same ∙ ap (λ (vs : Items). Ok vs) (joined_joined (items_view old) ts us)
+front_more a0 a1 a2 a3 a4 = search (arith, rules, joined_joined)
 
 pub front_fault : (ts : Items) (given rest : Result Items Fault) (f : Fault) → given ≡ Err f → in_front (Ok ts) (in_front given rest) ≡ Err f
 front_fault ts given rest f e = ap (λ (r : Result Items Fault). in_front (Ok ts) (in_front r rest)) e

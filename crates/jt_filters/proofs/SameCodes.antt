@@ -1,5 +1,5 @@
 -- Items that are alike have the same code.
-use Rattle.std.proofs.Common.{◌≡◌, ℕ, ℤ, Bool, true, false, cond, ◌&&◌, List, ◌∷◌, ◌++◌, Some, None, refl, sym, ap, ◌∙◌, true≢false}
+use Rattle.std.proofs.Common.{◌≡◌, ℕ, ℤ, Bool, true, false, cond, ◌&&◌, List, ◌∷◌, ◌++◌, Some, None, refl, sym, ap, ◌∙◌, true≢false, arith, rules}
 use Rattle.std.proofs.lemmas.Map.Text.{is_eq-slice_cmp}
 use Rattle.std.proofs.lemmas.Slice.Eq.{bytes_eq-Decides}
 use Rattle.std.specs.BTreeMap.{is_at}
@@ -22,24 +22,10 @@ use Rattle.jt_filters.proofs.Inserted.{cmp, lookup-inserted, sorted-inserted, sa
 use Rattle.jt_value.proofs.Equalities.{holds_of}
 
 pub folded_text : (t : Tree) (s : List ℕ) → Some s ≡ text_of t → item_code t ≡ text_code (fold s)
-folded_text (tree.text r) s e = let f : s ≡ r = cc in ap (λ (x : List ℕ). text_code (fold x)) (sym f)
-folded_text (tree.markup r) s e = let f : s ≡ r = cc in ap (λ (x : List ℕ). text_code (fold x)) (sym f)
-folded_text tree.undefined s e = cc
-folded_text tree.nothing s e = cc
-folded_text (tree.truth_value b) s e = cc
-folded_text (tree.number z) s e = cc
-folded_text (tree.list us) s e = cc
-folded_text (tree.map es) s e = cc
+folded_text a0 a1 a2 = search (arith, rules)
 
 pub no_text : (t : Tree) → None ≡ text_of t → item_code t ≡ code t
-no_text (tree.text r) e = cc
-no_text (tree.markup r) e = cc
-no_text tree.undefined e = refl
-no_text tree.nothing e = refl
-no_text (tree.truth_value b) e = refl
-no_text (tree.number z) e = refl
-no_text (tree.list us) e = refl
-no_text (tree.map es) e = refl
+no_text a0 a1 = search (arith, rules)
 
 -- the rows of a map: at each key the code of its first value, in the order of the keys
 sorted_rows : (es : Entries) → IsStrictlySortedBy cmp (keys_of (rows es))
@@ -104,9 +90,7 @@ same_maps es fs at e = same_rows (rows es) (rows fs) (sorted_rows es) (sorted_ro
 at_first : (b : Bool) (t : Tree) (rest : Option Tree) (more : Bool) (o : Option Tree) → cond b (option_map_or (equal t) o false) more ≡ true
     → ((u : Tree) → equal t u ≡ true → code t ≡ code u) → (more ≡ true → option_map code rest ≡ option_map code o)
     → option_map code (cond b (Some t) rest) ≡ option_map code o
-at_first true t rest more None e one others = absurd (true≢false (sym e))
-at_first true t rest more (Some u) e one others = ap (λ (c : List ℕ). Some c) (one u e)
-at_first false t rest more o e one others = others e
+at_first a0 a1 a2 a3 a4 a5 a6 a7 = search (arith, rules)
 
 mutual
   -- equal values have the same code

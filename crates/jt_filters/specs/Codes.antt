@@ -1,4 +1,5 @@
--- What the private functions say of the bytes by which items are told apart: items that are alike have the same.
+-- What the private functions say of the bytes by which items are told apart: items that are alike
+-- have the same.
 use Rattle.std.specs.Prelude.{ℕ, ℤ, List, [], ◌∷◌, ◌++◌, map, Vec}
 use Rattle.std.specs.declared.alloc.Global.{Global}
 use Rattle.std.specs.BTreeMap.{insert_entry}

@@ -78,7 +78,9 @@ on_length f (Err e) = Err e
 abbrev pub led_length : Bool → ℕ → ℕ → Items → Result ℕ Fault
 led_length escaping total between no_items = Ok total
 led_length escaping total between (item t ts) =
-    on_length (λ n. led_length escaping (min (min (total + between) (2 ^ 64 - 1) + n) (2 ^ 64 - 1)) between ts) (text_length (piece escaping t))
+    on_length (λ n.
+    led_length escaping (min (min (total + between) (2 ^ 64 - 1) + n) (2 ^ 64 - 1)) between ts)
+    (text_length (piece escaping t))
 
 -- so many items from the front
 abbrev pub front : ℕ → Items → Items

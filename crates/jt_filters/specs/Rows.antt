@@ -58,7 +58,8 @@ row_measured (Err fault) = Err fault
 
 -- the same behind items of a size and a nesting
 abbrev pub measured_behind : ℕ → ℕ → Result Items Fault → Result (ℕ × ℕ) Fault
-measured_behind size nesting (Ok ts) = Ok (min (size + items_size ts) (2 ^ 64 - 1), min (max nesting (items_nesting ts)) (2 ^ 32 - 1))
+measured_behind size nesting (Ok ts) =
+    Ok (min (size + items_size ts) (2 ^ 64 - 1), min (max nesting (items_nesting ts)) (2 ^ 32 - 1))
 measured_behind size nesting (Err fault) = Err fault
 
 -- why there are no items: the fault, or memory was refused

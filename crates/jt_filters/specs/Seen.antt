@@ -20,8 +20,9 @@ operand_items (o ∷ os) = item (tree_of o) (operand_items os)
 abbrev pub found : BTreeMap (Vec ℕ Global) Operand → List ℕ → Option Operand
 found m c = get_by (λ k. slice_cmp nat_cmp c k.items) m
 
--- A map of codes knows some items: an item that is like one of them has a code there, and what is like the item that is kept for a
--- code is like one of them.
+-- A map of codes knows some items: an item that is like one of them has a code there, and what is
+-- like the item that is kept for a code is like one of them.
 pub record Knows (m : BTreeMap (Vec ℕ Global) Operand) (ts : Items) : Type 0 where
   pub coded : (t : Tree) → has_alike t ts ≡ true → IsSome (found m (item_code t))
-  pub seen : (c : List ℕ) (t : Tree) → IfSome (found m c) (λ o. alike t (tree_of o) ≡ true → has_alike t ts ≡ true)
+  pub seen : (c : List ℕ) (t : Tree)
+      → IfSome (found m c) (λ o. alike t (tree_of o) ≡ true → has_alike t ts ≡ true)

@@ -18,7 +18,8 @@ use jt_ids::FilterId;
 use jt_value::{Fault, Value, ValueError};
 use std::alloc::Global;
 
-/// What a filter gives, or its fault. Want of memory is an answer only where there is a value with a payload.
+/// What a filter gives, or its fault. Want of memory is an answer only where there is a value with
+/// a payload.
 pub(crate) fn build(
     alloc: Global,
     filter: FilterId,

@@ -1,4 +1,5 @@
-//! Codes of items: bytes by which they are told apart. Items that are alike have the same code, and others another one.
+//! Codes of items: bytes by which they are told apart. Items that are alike have the same code, and
+//! others another one.
 ghost use Rattle.std.specs.Prelude.{◌≡◌, ◌++◌, ◌∷◌, [], IfOk, OnOk};
 ghost use Rattle.jt_value.specs.Tree as tree;
 ghost use Rattle.jt_value.specs.View.{view, items_view, entries_view};

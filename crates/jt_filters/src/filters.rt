@@ -16,13 +16,13 @@ use jt_ops::{Limits, OpError, allow};
 use jt_value::{Fault, Value, ValueError};
 use std::alloc::Global;
 
-/// What a filter gives of its values, the input first, under limits. `autoescape` says whether `join` keeps markup. The result's
-/// size and nesting are tested before it is built.
+/// What a filter gives of its values, the input first, under limits. `autoescape` says whether
+/// `join` keeps markup. The result's size and nesting are tested before it is built.
 ///
 /// # Errors
 ///
-/// The filter's fault; `TooLarge` where the result's size passes its limit, else `TooDeep` where its nesting does; `NoMemory`
-/// where a growth was refused.
+/// The filter's fault; `TooLarge` where the result's size passes its limit, else `TooDeep` where
+/// its nesting does; `NoMemory` where a growth was refused.
 pub fn apply(
     alloc: Global,
     filter: FilterId,
@@ -50,7 +50,8 @@ pub fn apply(
     }
 }
 
-/// The same of an operand and the filter's arguments. `unique` finds its items once for its measure and its value.
+/// The same of an operand and the filter's arguments. `unique` finds its items once for its measure
+/// and its value.
 fn applied(
     alloc: Global,
     filter: FilterId,

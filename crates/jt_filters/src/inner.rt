@@ -1,4 +1,5 @@
-//! What is made of each item: it is kept or not, or replaced by its attribute or by what a filter gives of it.
+//! What is made of each item: it is kept or not, or replaced by its attribute or by what a filter
+//! gives of it.
 ghost use Rattle.std.specs.Prelude.{◌≡◌, ◌+◌, [], ◌∷◌, ◌++◌, map, length, Ok, IfErr, OnOk, option_map};
 ghost use Rattle.jt_value.specs.View.{view, items_view};
 ghost use Rattle.jt_ids.specs.TestTable.{test_values};

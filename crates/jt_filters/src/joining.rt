@@ -39,7 +39,8 @@ fn text_measure(len: Result<u64, Fault>) -> Result<(u64, u32), Fault>
     Ok((len?.saturating_add(1), 0))
 }
 
-/// Whether a join escapes what isn't markup: under autoescaping, where an item or the separator is markup.
+/// Whether a join escapes what isn't markup: under autoescaping, where an item or the separator is
+/// markup.
 fn escapes(items: ItemList<'_>, separator: Operand<'_>, autoescape: bool) -> bool
     ensures { result
         ≡ (autoescape
@@ -62,7 +63,8 @@ fn has_markup(items: ItemList<'_>) -> bool
     false
 }
 
-/// How many bytes the joined text has, or the greatest number where they are more. The separator's fault counts first.
+/// How many bytes the joined text has, or the greatest number where they are more. The separator's
+/// fault counts first.
 #[tactic(auto, using(crate::proofs::Joins::joined_length, crate::proofs::Joins::none_joined, crate::proofs::Joins::unprintable_first, crate::proofs::Joins::unprintable_separator))]
 fn joined_len(items: ItemList<'_>, separator: Operand<'_>, escaping: bool) -> Result<u64, Fault>
     ensures { result

@@ -176,7 +176,8 @@ pub(crate) fn dictsort(alloc: Global, operand: Operand<'_>) -> Result<Value, Val
     }
 }
 
-/// The measure of the list of a map's entries, each a list of its key and its value, in whichever order.
+/// The measure of the list of a map's entries, each a list of its key and its value, in whichever
+/// order.
 #[tactic(auto, using(crate::proofs::Orders::sorted_size, crate::proofs::Orders::sorted_nesting))]
 fn pair_list_measure(entries: &[(String, Value)]) -> (u64, u32)
     ensures listed { Ok result ≡ measured (Ok (tree.list (pair_items (entries_view entries.now)))) }
@@ -189,7 +190,8 @@ fn pair_list_measure(entries: &[(String, Value)]) -> (u64, u32)
     (size.saturating_add(1), nesting.saturating_add(1))
 }
 
-/// The size and the nesting of a map's entries as lists, each the greatest number where it is greater.
+/// The size and the nesting of a map's entries as lists, each the greatest number where it is
+/// greater.
 fn pairs_measure(entries: &[(String, Value)]) -> (u64, u32)
     ensures size { result.0
         ≡ min (items_size (pair_items (entries_view entries.now))) (2 ^ 64 - 1) }

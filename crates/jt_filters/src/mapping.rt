@@ -140,7 +140,8 @@ pub(crate) fn change_of(
     }
 }
 
-/// Items that pass or fail the judgement by a test's name and its arguments, or by truth where there is no name.
+/// Items that pass or fail the judgement by a test's name and its arguments, or by truth where
+/// there is no name.
 fn keeping<'a>(
     passes: bool,
     key: Option<&'a str>,

@@ -1,5 +1,5 @@
-//! The size and the nesting of what a filter gives, each the greatest number where it is greater. They need no memory: `unique` is
-//! slower where it is refused.
+//! The size and the nesting of what a filter gives, each the greatest number where it is greater.
+//! They need no memory: `unique` is slower where it is refused.
 ghost use Rattle.std.specs.Prelude.{◌≡◌, ◌∷◌, [], map};
 ghost use Rattle.jt_value.specs.View.{view};
 ghost use Rattle.jt_filter_meaning.specs.Single.{single};
@@ -19,8 +19,8 @@ use jt_ids::FilterId;
 use jt_value::{Fault, Value};
 use std::alloc::Global;
 
-/// The measure of what a filter gives, or its fault. A call with another number of values than the filter takes, which no caller
-/// makes, has the fault of the definition.
+/// The measure of what a filter gives, or its fault. A call with another number of values than the
+/// filter takes, which no caller makes, has the fault of the definition.
 pub(crate) fn measure(
     alloc: Global,
     filter: FilterId,

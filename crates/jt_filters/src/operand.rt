@@ -12,7 +12,8 @@ use itoa::Buffer;
 use jt_value::{Fault, NoMemory, Value};
 use std::alloc::Global;
 
-/// A value that is lent, or undefined, a number or a plain text, as a character or a key, that would be one.
+/// A value that is lent, or undefined, a number or a plain text, as a character or a key, that
+/// would be one.
 #[derive(Clone, Copy)]
 pub(crate) enum Operand<'a> {
     Undefined,

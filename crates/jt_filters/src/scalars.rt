@@ -39,7 +39,8 @@ fn absolute(number: i64) -> Result<i64, Fault>
     }
 }
 
-/// Filter `default`: the other operand where the first is undefined, or false while `boolean` is true.
+/// Filter `default`: the other operand where the first is undefined, or false while `boolean` is
+/// true.
 pub(crate) fn or_default<'a>(
     operand: Operand<'a>,
     default: Operand<'a>,
@@ -158,7 +159,8 @@ pub(crate) fn best_item(operand: Operand<'_>, reverse: bool) -> Result<Operand<'
     }
 }
 
-/// The first of the items that none comes before; in reverse, that none comes behind. Undefined where there is none.
+/// The first of the items that none comes before; in reverse, that none comes behind. Undefined
+/// where there is none.
 fn best(items: ItemList<'_>, reverse: bool) -> Operand<'_>
     ensures { tree_of result ≡ ordering.best (ordering.comes_first reverse) (items_in items.entry) }
 {
@@ -185,7 +187,8 @@ fn best_of<'a>(first: Operand<'a>, behind: ItemList<'a>, reverse: bool) -> Opera
     best
 }
 
-/// Whether an item comes before another, or in reverse behind it: numbers by value, plain texts by fold.
+/// Whether an item comes before another, or in reverse behind it: numbers by value, plain texts by
+/// fold.
 fn comes_first(item: Operand<'_>, other: Operand<'_>, reverse: bool) -> bool
     ensures { result ≡ ordering.comes_first reverse (tree_of item.entry) (tree_of other.entry) }
 {

@@ -1,4 +1,5 @@
-//! Filter `unique`. An item is looked for by its code among those in front of it, so a list takes time in proportion to n log n.
+//! Filter `unique`. An item is looked for by its code among those in front of it, so a list takes
+//! time in proportion to n log n.
 ghost use Rattle.std.specs.Prelude.{◌≡◌, ◌+◌, ◌-◌, ◌^◌, ◌||◌, min, max, IfOk, OnOk, Ok, Err};
 ghost use Rattle.jt_value.specs.Tree as tree;
 ghost use Rattle.jt_value.specs.Tree.{Items, items_size, items_nesting};
@@ -21,7 +22,8 @@ use jt_value::{Fault, NoMemory, Value, ValueError};
 use std::alloc::Global;
 use std::collections::BTreeMap;
 
-/// Filter `unique` under limits. The first items are found once, then measured, and then the list is built of them.
+/// Filter `unique` under limits. The first items are found once, then measured, and then the list
+/// is built of them.
 pub(crate) fn unique_under(
     alloc: Global,
     operand: Operand<'_>,
@@ -53,7 +55,8 @@ fn list_under(alloc: Global, operands: &[Operand<'_>], limits: Limits) -> Result
     }
 }
 
-/// Why there is no list of the first items where memory is refused: the limit that the list passes, else the refusal.
+/// Why there is no list of the first items where memory is refused: the limit that the list passes,
+/// else the refusal.
 fn refused(items: ItemList<'_>, limits: Limits) -> OpError
     ensures { Answers (Err result)
         (limited_by limits (Ok (tree.list (unseen tree.no_items (items_in items.entry))))) }
@@ -65,7 +68,8 @@ fn refused(items: ItemList<'_>, limits: Limits) -> OpError
     }
 }
 
-/// The measure of filter `unique`. Where memory is refused each item is compared to all in front of it, which takes none.
+/// The measure of filter `unique`. Where memory is refused each item is compared to all in front of
+/// it, which takes none.
 pub(crate) fn unique_measure(alloc: Global, operand: Operand<'_>) -> Result<(u64, u32), Fault>
     ensures { result ≡ measured (on_items distinct (tree_of operand.entry)) }
 {
@@ -106,7 +110,8 @@ fn operands_measure(operands: &[Operand<'_>]) -> (u64, u32)
     (size, nesting)
 }
 
-/// The size and the nesting of the items that are like none in front of them, each the greatest number where it is greater.
+/// The size and the nesting of the items that are like none in front of them, each the greatest
+/// number where it is greater.
 fn unseen_measure(all: ItemList<'_>) -> (u64, u32)
     ensures size { result.0
         ≡ min (items_size (unseen tree.no_items (items_in all.entry))) (2 ^ 64 - 1) }
@@ -128,7 +133,8 @@ fn unseen_measure(all: ItemList<'_>) -> (u64, u32)
     (size, nesting)
 }
 
-/// The size and the nesting of an item that has so many others in front, nothing where it is like one of them.
+/// The size and the nesting of an item that has so many others in front, nothing where it is like
+/// one of them.
 #[tactic(auto, using(crate::proofs::Alike::left_size, crate::proofs::Alike::kept_size, crate::proofs::Alike::left_nesting, crate::proofs::Alike::kept_nesting))]
 fn item_measure(item: Operand<'_>, all: ItemList<'_>, count: usize) -> (u64, u32)
     ensures size { (rest : Items)
@@ -198,7 +204,8 @@ fn first_items(alloc: Global, all: ItemList<'_>) -> Result<Vec<Operand<'_>>, NoM
     Ok(firsts)
 }
 
-/// Puts an item that has so many others in front, which are known, behind the first ones, unless it is like one of those.
+/// Puts an item that has so many others in front, which are known, behind the first ones, unless it
+/// is like one of those.
 #[tactic(auto, using(crate::proofs::Alike::values_left, crate::proofs::Known::firsts_kept))]
 fn push_new<'a>(
     alloc: Global,
@@ -251,8 +258,8 @@ fn was_seen<'a>(
     Ok(false)
 }
 
-/// Whether an item is like another one, or like one of so many items from the front. Two that have the same code are alike, so that
-/// no more than one comparison is made.
+/// Whether an item is like another one, or like one of so many items from the front. Two that have
+/// the same code are alike, so that no more than one comparison is made.
 fn is_like(item: Operand<'_>, other: Operand<'_>, all: ItemList<'_>, count: usize) -> bool
     ensures { result
         ≡ (ordering.alike (tree_of item.entry) (tree_of other.entry)

@@ -1,5 +1,6 @@
 pub mod Rendering
--- what clauses of the calls cite that this crate hands on, and what an embedder's own clauses may want
+-- what clauses of the calls cite that this crate hands on, and what an embedder's own clauses may
+-- want
 pub use Rattle.jt_codegen.specs.Compiled
 pub use Rattle.jt_codegen.specs.Refusals
 pub use Rattle.jt_contexts.specs.Json

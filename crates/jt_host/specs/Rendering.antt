@@ -18,14 +18,15 @@ use Rattle.jt_host.specs.declared.error.RenderError.{RenderError}
 use Rattle.jt_host.specs.declared.error.RenderError.TheVariants as error
 
 module _ (sources : Given) (entry : Text) (options : Options) where
-  -- The run of some code that the entry compiles to ends so. What such a code gives as a text or a fault is the
-  -- meaning of the entry's template, whichever of them it is.
+  -- The run of some code that the entry compiles to ends so. What such a code gives as a text or a
+  -- fault is the meaning of the entry's template, whichever of them it is.
   pub record IsRendered (x : Pairs) (b : Budget) (o : Outcome) : Type 0 where
     pub code : Code
     pub compiled : IsCompiled sources entry options code
     pub runs : Run code x (budget_view b) (outcome_view o)
 
-  -- a refusal that the compiler may answer: it holds, and it names a limit only where the chain isn't small
+  -- a refusal that the compiler may answer: it holds, and it names a limit only where the chain
+  -- isn't small
   pub record IsRefused (e : CompileError) : Type 0 where
     pub fault : e ≢ compile_error.NoMemory
     pub holds : Breaks sources entry options e

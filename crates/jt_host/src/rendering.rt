@@ -13,7 +13,8 @@ use jt_value::Context;
 use jt_verify::verify;
 use std::alloc::Global;
 
-/// How the template of the entry ends for a context under a budget: it is compiled, verified and run.
+/// How the template of the entry ends for a context under a budget: it is compiled, verified and
+/// run.
 ///
 /// # Errors
 ///

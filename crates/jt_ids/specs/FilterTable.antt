@@ -1,6 +1,7 @@
--- The filters: the id by which an image names each, the least and the most values that it takes with its input, its names, and its
--- arguments that may be given by name, the first at place 1. `map` by an attribute has no name of its own: it is `map` whose only
--- argument is given by the name `attribute`.
+-- The filters: the id by which an image names each, the least and the most values that it takes
+-- with its input, its names, and its arguments that may be given by name, the first at place 1.
+-- `map` by an attribute has no name of its own: it is `map` whose only argument is given by the
+-- name `attribute`.
 use Rattle.std.specs.Prelude.{ℕ, ◌==◌, ◌+◌, Bool, true, false, List, [], ◌∷◌, Option, Some, None, option_map, position, codes, if◌then◌else◌, find}
 use Rattle.std.specs.List.{list_any}
 use Rattle.std.specs.Str.{bytes_eq}
@@ -68,16 +69,19 @@ argument_names f = []
 
 -- the place among the values of an argument that is given by its name
 abbrev pub place_of : FilterId → List ℕ → Option ℕ
-place_of f name = option_map (λ i. i + 1) (position (λ other. bytes_eq other name) (argument_names f))
+place_of f name =
+    option_map (λ i. i + 1) (position (λ other. bytes_eq other name) (argument_names f))
 
--- what the value at a place names: the filter or the test that is called on each item, with the values behind it as arguments, or
--- the key of an attribute; in a template these are text literals
+-- what the value at a place names: the filter or the test that is called on each item, with the
+-- values behind it as arguments, or the key of an attribute; in a template these are text literals
 abbrev pub named_at : FilterId → ℕ → Option Naming
 named_at filter.Map place = if place == 1 then Some naming.Filter else None
 named_at filter.Select place = if place == 1 then Some naming.Test else None
 named_at filter.Reject place = if place == 1 then Some naming.Test else None
-named_at filter.SelectAttr place = if place == 1 then Some naming.Key else if place == 2 then Some naming.Test else None
-named_at filter.RejectAttr place = if place == 1 then Some naming.Key else if place == 2 then Some naming.Test else None
+named_at filter.SelectAttr place =
+    if place == 1 then Some naming.Key else if place == 2 then Some naming.Test else None
+named_at filter.RejectAttr place =
+    if place == 1 then Some naming.Key else if place == 2 then Some naming.Test else None
 named_at filter.MapAttribute place = if place == 1 then Some naming.Key else None
 named_at f place = None
 
@@ -94,15 +98,23 @@ may_be_inner f = true
 -- all filters, in the order of their ids
 abbrev pub filters : List FilterId
 filters =
-    filter.Abs ∷ filter.Attr ∷ filter.Capitalize ∷ filter.Default ∷ filter.DictSort ∷ filter.Escape ∷ filter.First ∷ filter.ForceEscape ∷ filter.Int ∷ filter.Items ∷ filter.Join ∷ filter.Last ∷ filter.Length ∷ filter.List ∷ filter.Lower ∷ filter.Map ∷ filter.Max ∷ filter.Min ∷ filter.Reject ∷ filter.RejectAttr ∷ filter.Replace ∷ filter.Reverse ∷ filter.Safe ∷ filter.Select ∷ filter.SelectAttr ∷ filter.Sort ∷ filter.String ∷ filter.Sum ∷ filter.Trim ∷ filter.Unique ∷ filter.Upper ∷ filter.MapAttribute ∷ []
+    filter.Abs
+    ∷ filter.Attr ∷ filter.Capitalize ∷ filter.Default ∷ filter.DictSort ∷ filter.Escape
+    ∷ filter.First ∷ filter.ForceEscape ∷ filter.Int ∷ filter.Items ∷ filter.Join ∷ filter.Last
+    ∷ filter.Length ∷ filter.List ∷ filter.Lower ∷ filter.Map ∷ filter.Max ∷ filter.Min
+    ∷ filter.Reject ∷ filter.RejectAttr ∷ filter.Replace ∷ filter.Reverse ∷ filter.Safe
+    ∷ filter.Select ∷ filter.SelectAttr ∷ filter.Sort ∷ filter.String ∷ filter.Sum ∷ filter.Trim
+    ∷ filter.Unique ∷ filter.Upper ∷ filter.MapAttribute ∷ []
 
 -- the filter of a name
 abbrev pub filter_of_name : List ℕ → Option FilterId
 filter_of_name name = find (λ f. list_any (bytes_eq name) (filter_names f)) filters
 
--- what a name means as it is written: `map` whose only argument is given by the name `attribute` is `map` by an attribute
+-- what a name means as it is written: `map` whose only argument is given by the name `attribute` is
+-- `map` by an attribute
 abbrev pub with_only : Option FilterId → Option (List ℕ) → Option FilterId
-with_only (Some filter.Map) (Some argument) = if bytes_eq argument (codes "attribute") then Some filter.MapAttribute else Some filter.Map
+with_only (Some filter.Map) (Some argument) =
+    if bytes_eq argument (codes "attribute") then Some filter.MapAttribute else Some filter.Map
 with_only found only = found
 
 abbrev pub filter_meant : List ℕ → Option (List ℕ) → Option FilterId

@@ -36,4 +36,8 @@ op_operands o = (op_row o).1
 -- all operators, in the order of their ids
 abbrev pub operators : List OpId
 operators =
-    op.Add ∷ op.Subtract ∷ op.Multiply ∷ op.FloorDivide ∷ op.Remainder ∷ op.Power ∷ op.Negate ∷ op.Plus ∷ op.Not ∷ op.Join ∷ op.JoinEscaping ∷ op.Equal ∷ op.NotEqual ∷ op.Less ∷ op.LessOrEqual ∷ op.Greater ∷ op.GreaterOrEqual ∷ op.In ∷ op.Item ∷ op.RangeToStop ∷ op.RangeFromStart ∷ op.RangeByStep ∷ []
+    op.Add
+    ∷ op.Subtract ∷ op.Multiply ∷ op.FloorDivide ∷ op.Remainder ∷ op.Power ∷ op.Negate ∷ op.Plus
+    ∷ op.Not ∷ op.Join ∷ op.JoinEscaping ∷ op.Equal ∷ op.NotEqual ∷ op.Less ∷ op.LessOrEqual
+    ∷ op.Greater ∷ op.GreaterOrEqual ∷ op.In ∷ op.Item ∷ op.RangeToStop ∷ op.RangeFromStart
+    ∷ op.RangeByStep ∷ []

@@ -1,4 +1,5 @@
--- The tests: the id by which an image names each, how many values it takes with the tested one, and its names.
+-- The tests: the id by which an image names each, how many values it takes with the tested one, and
+-- its names.
 use Rattle.std.specs.Prelude.{ℕ, List, [], ◌∷◌, Option, codes, find}
 use Rattle.std.specs.List.{list_any}
 use Rattle.std.specs.Str.{bytes_eq}
@@ -39,7 +40,11 @@ test_names t = (test_row t).2
 -- all tests, in the order of their ids
 abbrev pub tests : List TestId
 tests =
-    test.Boolean ∷ test.Defined ∷ test.DivisibleBy ∷ test.Equal ∷ test.NotEqual ∷ test.Escaped ∷ test.Even ∷ test.Odd ∷ test.False ∷ test.True ∷ test.GreaterOrEqual ∷ test.Greater ∷ test.LessOrEqual ∷ test.Less ∷ test.In ∷ test.Integer ∷ test.Mapping ∷ test.None ∷ test.String ∷ test.Undefined ∷ []
+    test.Boolean
+    ∷ test.Defined ∷ test.DivisibleBy ∷ test.Equal ∷ test.NotEqual ∷ test.Escaped ∷ test.Even
+    ∷ test.Odd ∷ test.False ∷ test.True ∷ test.GreaterOrEqual ∷ test.Greater ∷ test.LessOrEqual
+    ∷ test.Less ∷ test.In ∷ test.Integer ∷ test.Mapping ∷ test.None ∷ test.String ∷ test.Undefined
+    ∷ []
 
 -- the test of a name
 abbrev pub test_of_name : List ℕ → Option TestId

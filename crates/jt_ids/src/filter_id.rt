@@ -103,7 +103,8 @@ impl FilterId {
         }
     }
 
-    /// The filter of a name; none where no filter has it. `map` by an attribute has no name of its own.
+    /// The filter of a name; none where no filter has it. `map` by an attribute has no name of its
+    /// own.
     #[tactic(auto, using(crate::proofs::Rows::filter_named))]
     pub fn by_name(name: &str) -> Option<FilterId>
         ensures found { IfSome result (λ filter. Contains (filter_names filter) name.now) }
@@ -148,8 +149,8 @@ impl FilterId {
         }
     }
 
-    /// The filter that a name means, where `only` is the name of its only argument, if it has just one and that is given by its
-    /// name: `map(attribute=key)` is another filter than `map`.
+    /// The filter that a name means, where `only` is the name of its only argument, if it has just
+    /// one and that is given by its name: `map(attribute=key)` is another filter than `map`.
     pub fn named(name: &str, only: Option<&str>) -> Option<FilterId>
         ensures { result ≡ filter_meant name.now (option_map (λ s. s.now) only.entry) }
     {
@@ -185,8 +186,8 @@ impl FilterId {
         least <= values && values <= most
     }
 
-    /// The place among the values of an argument that is given by its name, where the input has place 0; none where the filter
-    /// has no such argument.
+    /// The place among the values of an argument that is given by its name, where the input has
+    /// place 0; none where the filter has no such argument.
     pub fn place(self, argument: &str) -> Option<usize>
         ensures { result ≡ place_of self argument.now }
     {
@@ -202,8 +203,9 @@ impl FilterId {
         }
     }
 
-    /// What the value at a place names, where the input has place 0: the filter or the test that is called on each item, with the
-    /// values behind it as arguments, or an attribute's key. In a template these are text literals.
+    /// What the value at a place names, where the input has place 0: the filter or the test that is
+    /// called on each item, with the values behind it as arguments, or an attribute's key. In a
+    /// template these are text literals.
     pub fn named_at(self, place: usize) -> Option<Naming>
         ensures { result ≡ table.named_at self place }
     {
@@ -220,7 +222,8 @@ impl FilterId {
         }
     }
 
-    /// Whether `map` may call the filter: one that names a filter, a test or an attribute it may not.
+    /// Whether `map` may call the filter: one that names a filter, a test or an attribute it may
+    /// not.
     pub fn may_be_inner(self) -> bool
         ensures { result ≡ table.may_be_inner self }
     {

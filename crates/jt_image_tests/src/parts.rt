@@ -1,7 +1,7 @@
 //! Parts that are put together, and what an image and a view tell of theirs.
 
-use crate::rows::{numbers, rows_hold};
 use jt_image::*;
+use jt_rows::{numbers, rows_hold};
 use std::alloc::Global;
 use std::process::Abort;
 use std::test::Fail;
@@ -55,7 +55,8 @@ fn entry(alloc: Global, spelling: &str) -> Result<(u16, String), Fail> {
     Ok((slot.parse::<u16>()?, String::from_str(alloc, name)?))
 }
 
-// A unit of these parameters, this kind and these locals, and of one instruction with this opcode and this field c.
+// A unit of these parameters, this kind and these locals, and of one instruction with this opcode
+// and this field c.
 fn unit_of(alloc: Global, asked: &str) -> Result<Unit, Fail> {
     let [parameters, kind, locals, op, c] = numbers::<5>(asked)?;
     let instruction = Instr {

@@ -1,40 +1,16 @@
 //! Runs whose text is written in pieces.
 
-use crate::rows::rows_hold;
 use jt_budget::Budget;
 use jt_image::decode;
 use jt_machine::{IoSink, Sink, run_to};
+use jt_rows::{Slow, rows_hold};
 use jt_value::Context;
 use jt_verify::{Verified, verify};
 use std::alloc::Global;
-use std::io;
 use std::test::Fail;
 
-/// A writer that takes one byte a call, and fails once it took `left` of them.
-#[derive(Drop)]
-struct Slow {
-    taken: String,
-    left: usize,
-}
-
-impl io::Write for Slow {
-    fn write(&mut self, buf: &[u8]) -> io::Result<usize> {
-        let Some(byte) = buf.first() else {
-            return Ok(0);
-        };
-        if self.left == 0 || self.taken.push(char::from(*byte)).is_err() {
-            return Err(io::Error::from(io::ErrorKind::BrokenPipe));
-        }
-        self.left -= 1;
-        Ok(1)
-    }
-
-    fn flush(&mut self) -> io::Result<()> {
-        Ok(())
-    }
-}
-
-// The beginning of an image: the constants `a`, `zz`, `Hello` and 7, and one unit, up to how many instructions it has.
+// The beginning of an image: the constants `a`, `zz`, `Hello` and 7, and one unit, up to how many
+// instructions it has.
 const HEAD: [u8; 50] = [
     0x4a, 0x54, 0x42, 0x43, 1, 0, 0, 0, 0, 0, 4, 0, 5, 1, 0, 0, 0, 0x61, 5, 2, 0, 0, 0, 0x7a, 0x7a,
     5, 5, 0, 0, 0, 0x48, 0x65, 0x6c, 0x6c, 0x6f, 4, 7, 0, 0, 0, 0, 0, 0, 0, 1, 0, 0, 0, 0, 0,
@@ -55,8 +31,8 @@ fn image_of(alloc: Global, words: &str) -> Result<Verified, Fail> {
     }
 }
 
-// What is written of a run, how it is answered, and whether the sink has failed. A row is the number of bytes that the writer takes, the
-// fuel, and the instructions.
+// What is written of a run, how it is answered, and whether the sink has failed. A row is the
+// number of bytes that the writer takes, the fuel, and the instructions.
 fn written(alloc: Global, asked: &str) -> Result<String, Fail> {
     let (left, rest) = asked.split_once(" ").ok_or("a row has no fuel")?;
     let (fuel, words) = rest.split_once(" ").ok_or("a row has no instructions")?;
@@ -79,7 +55,8 @@ fn written(alloc: Global, asked: &str) -> Result<String, Fail> {
     Ok(format!(in alloc; "{answer:?} {has_failed} [{written}]")?)
 }
 
-// 9 puts a text, 1 and 6 put and drop a value, 24 and 25 are a capture, 18 begins a loop and 28 returns.
+// 9 puts a text, 1 and 6 put and drop a value, 24 and 25 are a capture, 18 begins a loop and 28
+// returns.
 #[test]
 fn what_is_emitted_is_written(rt: HostRuntime) -> Result<(), Fail> {
     rows_hold(

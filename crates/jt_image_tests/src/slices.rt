@@ -1,9 +1,9 @@
 //! Runs that stop and go on.
 
-use crate::rows::{numbers, rows_hold};
 use jt_budget::Budget;
 use jt_image::decode;
 use jt_machine::Machine;
+use jt_rows::{numbers, rows_hold};
 use jt_value::{Context, Value};
 use jt_verify::verify;
 use std::alloc::Global;
@@ -41,8 +41,8 @@ fn machine(alloc: Global, budget: Budget) -> Result<Machine, Fail> {
     }
 }
 
-// What two advances answer, whether an outcome is lent then, and the outcome. A row is the fuel, the limit of size, and the
-// instructions of the two.
+// What two advances answer, whether an outcome is lent then, and the outcome. A row is the fuel,
+// the limit of size, and the instructions of the two.
 fn advanced(alloc: Global, asked: &str) -> Result<String, Fail> {
     let [fuel, size, first, second] = numbers::<4>(asked)?;
     let budget = Budget {

@@ -48,19 +48,22 @@ module _ (files : Known) where
   -- the context that a file spells, or the empty one where there is no file
   abbrev pub IsContextAt : Option (String Global) → Pairs → Type 0
   IsContextAt None x = x ≡ []
-  IsContextAt (Some path) x = (bytes : List ℕ) × files.holds (string_bytes path) bytes × IsContext bytes x
+  IsContextAt (Some path) x =
+      (bytes : List ℕ) × files.holds (string_bytes path) bytes × IsContext bytes x
 
   -- the file of a context spells none, and the refusal says what is so
   abbrev pub HasNoContext : Option (String Global) → Failure → Type 0
   HasNoContext None e = ⊥
-  HasNoContext (Some path) e = (bytes : List ℕ) × files.holds (string_bytes path) bytes × IsNoContext bytes e
+  HasNoContext (Some path) e =
+      (bytes : List ℕ) × files.holds (string_bytes path) bytes × IsNoContext bytes e
 
-  -- What a command needs isn't there: a file fails that it asks for, or that of the context, the file of the context
-  -- spells none, or memory ran out.
+  -- What a command needs isn't there: a file fails that it asks for, or that of the context, the
+  -- file of the context spells none, or memory ran out.
   abbrev pub IsUnread : (Text → Type 0) → Option (String Global) → Ending → Type 0
   IsUnread asks context (Ok text) = ⊥
   IsUnread asks context (Err (failure.File path)) =
-      files.fails (string_bytes path) × (asks (string_bytes path) ⊎ IsOfContext context (string_bytes path))
+      files.fails (string_bytes path)
+      × (asks (string_bytes path) ⊎ IsOfContext context (string_bytes path))
   IsUnread asks context (Err (failure.Context e)) = HasNoContext context (failure.Context e)
   IsUnread asks context (Err failure.NoMemory) = Unit {0}
   IsUnread asks context (Err e) = ⊥
@@ -69,26 +72,33 @@ module _ (files : Known) where
 
 -- the line of `check`
 abbrev pub counts_line : ℕ × ℕ → Text
-counts_line n = codes "ok units=" ++ (decimal n.0 ++ (codes " instructions=" ++ (decimal n.1 ++ codes "\n")))
+counts_line n =
+    codes "ok units=" ++ (decimal n.0 ++ (codes " instructions=" ++ (decimal n.1 ++ codes "\n")))
 
 -- the line, where the bytes are an image of so many units and instructions, or why they are none
 abbrev pub IsChecked : List ℕ → Ending → Type 0
 IsChecked bytes (Ok text) = (n : ℕ × ℕ) × IsCounted bytes n × (string_bytes text ≡ counts_line n)
 IsChecked bytes (Err e) = IsNoImage bytes e
 
--- the file at a path holds an image of the entry's template, and nothing is printed; or why not: that file fails, or there is no image
+-- the file at a path holds an image of the entry's template, and nothing is printed; or why not:
+-- that file fails, or there is no image
 abbrev pub IsWritten : Known → Known → Text → Given → Text → Options → Ending → Type 0
 IsWritten files after out sources entry options (Ok text) =
-    (string_bytes text ≡ []) × ((bytes : List ℕ) × after.holds out bytes × IsImage sources entry options bytes)
-IsWritten files after out sources entry options (Err (failure.File path)) = IsPath out (string_bytes path) × files.fails out
-IsWritten files after out sources entry options (Err (failure.Template e)) = IsUncompiled sources entry options e
+    (string_bytes text ≡ [])
+    × ((bytes : List ℕ) × after.holds out bytes × IsImage sources entry options bytes)
+IsWritten files after out sources entry options (Err (failure.File path)) =
+    IsPath out (string_bytes path) × files.fails out
+IsWritten files after out sources entry options (Err (failure.Template e)) =
+    IsUncompiled sources entry options e
 IsWritten files after out sources entry options (Err e) = ⊥
 
--- the file at a path holds the image in version 2, and nothing is printed; or why not: that file fails, or there is no such image
+-- the file at a path holds the image in version 2, and nothing is printed; or why not: that file
+-- fails, or there is no such image
 abbrev pub IsRewritten : Known → Known → Text → List ℕ → Ending → Type 0
 IsRewritten files after out bytes (Ok text) =
     (string_bytes text ≡ []) × ((new : List ℕ) × after.holds out new × IsUpgraded bytes new)
-IsRewritten files after out bytes (Err (failure.File path)) = IsPath out (string_bytes path) × files.fails out
+IsRewritten files after out bytes (Err (failure.File path)) =
+    IsPath out (string_bytes path) × files.fails out
 IsRewritten files after out bytes (Err (failure.Image e)) = IsNoUpgrade bytes e
 IsRewritten files after out bytes (Err e) = ⊥
 
@@ -100,7 +110,8 @@ module _ (files : Known) where
     pub checked : IsChecked bytes e
 
   -- the image at a path is run for a context
-  pub record Runs (image : Text) (context : Option (String Global)) (b : Budget) (e : Ending) : Type 0 where
+  pub record Runs (image : Text) (context : Option (String Global)) (b : Budget) (e : Ending) :
+      Type 0 where
     pub bytes : List ℕ
     pub held : files.holds image bytes
     pub pairs : Pairs
@@ -129,15 +140,18 @@ module _ (files : Known) where
   AreStarts (p ∷ ps) [] = ⊥
   AreStarts (p ∷ ps) (s ∷ ss) = IsStart p s × AreStarts ps ss
 
-  -- a pair gives no session: one of its files fails, that of the context spells none, or that of the image is none that is accepted
+  -- a pair gives no session: one of its files fails, that of the context spells none, or that of
+  -- the image is none that is accepted
   abbrev pub IsNoStart : Pair → Failure → Type 0
   IsNoStart p e = IsUnread files (IsPath (string_bytes p.image)) (Some p.context) (Err e)
       ⊎ ((bytes : List ℕ) × files.holds (string_bytes p.image) bytes × IsNoImage bytes e)
 
-  -- a pair behind others is not opened: as many are open as a host has place for, though the pair is good, or it gives no session
+  -- a pair behind others is not opened: as many are open as a host has place for, though the pair
+  -- is good, or it gives no session
   abbrev pub IsNotOpened : List Pair → Pair → Failure → Type 0
   IsNotOpened before p failure.NoMemory = Unit {0}
-  IsNotOpened before p (failure.Host e) = (e ≡ host_error.Full) × (length before ≡ max_sessions) × ((s : Start) × IsStart p s)
+  IsNotOpened before p (failure.Host e) =
+      (e ≡ host_error.Full) × (length before ≡ max_sessions) × ((s : Start) × IsStart p s)
   IsNotOpened before p e = IsNoStart p e
 
   -- the sessions of the pairs are open, and the host has place for them
@@ -155,11 +169,15 @@ module _ (files : Known) where
     pub few : length before ≤ max_sessions
     pub why : IsNotOpened before pair e
 
-  -- The images of pairs run for their contexts in turns, each as if alone: the line of each, whatever the turns are, of at most 64;
-  -- or the first pair is named that is not opened.
+  -- The images of pairs run for their contexts in turns, each as if alone: the line of each,
+  -- whatever the turns are, of at most 64; or the first pair is named that is not opened.
   abbrev pub TakesTurns : List Pair → Budget → Ending → Type 0
   TakesTurns ps b (Ok text) = (length ps ≤ max_sessions)
-      × ((ss : List Start) × AreStarts ps ss × ((os : List Outcome) × AreOutcomes (budget_view b) ss os × (string_bytes text ≡ session_lines 1 os)))
+      × ((ss : List Start)
+      × AreStarts ps ss
+      × ((os : List Outcome)
+      × AreOutcomes (budget_view b) ss os
+      × (string_bytes text ≡ session_lines 1 os)))
   TakesTurns ps b (Err failure.NoMemory) = Unit {0}
   TakesTurns ps b (Err e) = StopsAt ps e
 
@@ -178,7 +196,8 @@ module _ (files after : Known) where
 
   -- at every path but this one there are the bytes that were there, and none where there were none
   abbrev pub ChangesOnly : Text → Type 0
-  ChangesOnly path = (other bytes : List ℕ) → other ≢ path → (after.holds other bytes) ↔ (files.holds other bytes)
+  ChangesOnly path =
+      (other bytes : List ℕ) → other ≢ path → (after.holds other bytes) ↔ (files.holds other bytes)
 
   -- What a command comes to, by what is known of the files before it and after it.
   abbrev pub CommandEnds : Command → Options → Budget → Ending → Type 0
@@ -188,13 +207,15 @@ module _ (files after : Known) where
   CommandEnds (command.Check image) o b e =
       IsUnread files (IsPath (string_bytes image)) None e ⊎ Checks files (string_bytes image) e
   CommandEnds (command.Run image context) o b e =
-      IsUnread files (IsPath (string_bytes image)) context e ⊎ Runs files (string_bytes image) context b e
+      IsUnread files (IsPath (string_bytes image)) context e
+      ⊎ Runs files (string_bytes image) context b e
   CommandEnds (command.Render dir name context) o b e =
       IsUnread files (IsOfDirectory files (string_bytes dir)) context e
       ⊎ Renders files (string_bytes dir) (string_bytes name) o context b e
   CommandEnds (command.Turns sessions) o b e = TakesTurns files sessions.items b e
   CommandEnds (command.Upgrade image out) o b e = ChangesOnly (string_bytes out)
-      × (IsUnread files (IsPath (string_bytes image)) None e ⊎ Upgrades (string_bytes image) (string_bytes out) e)
+      × (IsUnread files (IsPath (string_bytes image)) None e
+      ⊎ Upgrades (string_bytes image) (string_bytes out) e)
 
   abbrev pub JobEnds : Job → Ending → Type 0
   JobEnds j = CommandEnds j.command j.options j.budget

@@ -15,7 +15,9 @@ pub record Known : Type 1 where
 
 -- every answer is possible: what is known of the files of a machine
 abbrev pub anything : Known
-anything = record { holds = λ path bytes. Unit {0}; lists = λ dir names. Unit {0}; fails = λ path. Unit {0} }
+anything =
+    record
+    { holds = λ path bytes. Unit {0}; lists = λ dir names. Unit {0}; fails = λ path. Unit {0} }
 
 -- the path of a file directly in a directory
 abbrev pub path_in : Text → Text → Text
@@ -24,14 +26,20 @@ path_in dir name = dir ++ (codes "/" ++ name)
 -- the directory, or one of the files that are listed in it
 abbrev pub IsOfDirectory : Known → Text → Text → Type 0
 IsOfDirectory files dir path = (path ≡ dir)
-    ⊎ ((names : List Text) × (name : Text) × files.lists dir names × Contains names name × (path ≡ path_in dir name))
+    ⊎ ((names : List Text)
+    × (name : Text)
+    × files.lists dir names
+    × Contains names name
+    × (path ≡ path_in dir name))
 
--- what a directory of these names gives for a name: the bytes of its file where they are a text, and nothing otherwise
+-- what a directory of these names gives for a name: the bytes of its file where they are a text,
+-- and nothing otherwise
 abbrev pub IsSource : Known → Text → List Text → Text → Option Text → Type 0
 IsSource files dir names name (Some source) =
     Contains names name × files.holds (path_in dir name) source × IsUtf8 source
 IsSource files dir names name None =
-    Contains names name → (bytes : List ℕ) × files.holds (path_in dir name) bytes × (IsUtf8 bytes → ⊥)
+    Contains names name
+    → (bytes : List ℕ) × files.holds (path_in dir name) bytes × (IsUtf8 bytes → ⊥)
 
 abbrev pub AreSources : Known → Text → List Text → Given → Type 0
 AreSources files dir names sources = (name : Text) → IsSource files dir names name (sources name)

@@ -33,8 +33,10 @@ use Rattle.jt_program.specs.declared.messages.Failure.TheVariants as failure
 
 -- the bytes are no image, or that of a code that isn't typed, and the refusal says what is so
 abbrev pub IsNoImage : List ℕ → Failure → Type 0
-IsNoImage bytes (failure.Image e) = (e ≢ image_error.NoMemory) × Gives (λ (k : Code). k) (Err e) (code_of bytes)
-IsNoImage bytes (failure.Code r) = (k : Code) × (code_of bytes ≡ Ok k) × (IsTyped k → ⊥) × RefusalHolds k r
+IsNoImage bytes (failure.Image e) =
+    (e ≢ image_error.NoMemory) × Gives (λ (k : Code). k) (Err e) (code_of bytes)
+IsNoImage bytes (failure.Code r) =
+    (k : Code) × (code_of bytes ≡ Ok k) × (IsTyped k → ⊥) × RefusalHolds k r
 IsNoImage bytes failure.NoMemory = Unit {0}
 IsNoImage bytes e = ⊥
 
@@ -49,7 +51,8 @@ VerifiesTo bytes (Err e) = IsNoImage bytes e
 
 -- the bytes are an image of so many units and instructions
 abbrev pub IsCounted : List ℕ → ℕ × ℕ → Type 0
-IsCounted bytes n = (k : Code) × IsImageOf bytes k × (n.0 ≡ length k.units) × (n.1 ≡ total_len k.units)
+IsCounted bytes n =
+    (k : Code) × IsImageOf bytes k × (n.0 ≡ length k.units) × (n.1 ≡ total_len k.units)
 
 -- what is answered is so: how many units and instructions there are, or why there is no image
 abbrev pub ChecksTo : List ℕ → Result (ℕ × ℕ) Failure → Type 0
@@ -91,7 +94,8 @@ UpgradesTo bytes (Err other) = ⊥
 -- the bytes spell no context, and the refusal says what is so
 abbrev pub IsNoContext : List ℕ → Failure → Type 0
 IsNoContext bytes (failure.Context e) =
-    (e ≢ context_error.NoMemory) × (((IsUtf8 bytes → ⊥) × (e ≡ context_error.NotJson)) ⊎ Holds bytes e)
+    (e ≢ context_error.NoMemory)
+    × (((IsUtf8 bytes → ⊥) × (e ≡ context_error.NotJson)) ⊎ Holds bytes e)
 IsNoContext bytes failure.NoMemory = Unit {0}
 IsNoContext bytes e = ⊥
 
@@ -103,7 +107,8 @@ GivesContext bytes (Err e) = IsNoContext bytes e
 -- ---- templates
 
 -- the bytes spell a code that the entry compiles to
-pub record IsImage (sources : Given) (entry : Text) (options : Options) (bytes : List ℕ) : Type 0 where
+pub record IsImage (sources : Given) (entry : Text) (options : Options) (bytes : List ℕ) :
+    Type 0 where
   pub code : Code
   pub spelled : bytes ≡ spelling code
   pub compiled : IsCompiled sources entry options code
@@ -116,10 +121,15 @@ GivesImage sources entry options (Err failure.NoMemory) = Unit {0}
 GivesImage sources entry options (Err other) = ⊥
 
 -- what is answered is so: the text of the entry's template, or why there is none
-abbrev pub RendersTo : Given → Text → Options → Pairs → Budget → Result (String Global) Failure → Type 0
-RendersTo sources entry options x b (Ok text) = IsRendered sources entry options x b (outcome.Text text)
-RendersTo sources entry options x b (Err (failure.Fault f q)) = IsRendered sources entry options x b (outcome.Fault f q)
-RendersTo sources entry options x b (Err (failure.Spent s)) = IsRendered sources entry options x b (outcome.Spent s)
-RendersTo sources entry options x b (Err (failure.Template e)) = IsUncompiled sources entry options e
+abbrev pub RendersTo : Given → Text → Options → Pairs → Budget → Result (String Global) Failure
+    → Type 0
+RendersTo sources entry options x b (Ok text) =
+    IsRendered sources entry options x b (outcome.Text text)
+RendersTo sources entry options x b (Err (failure.Fault f q)) =
+    IsRendered sources entry options x b (outcome.Fault f q)
+RendersTo sources entry options x b (Err (failure.Spent s)) =
+    IsRendered sources entry options x b (outcome.Spent s)
+RendersTo sources entry options x b (Err (failure.Template e)) =
+    IsUncompiled sources entry options e
 RendersTo sources entry options x b (Err failure.NoMemory) = Unit {0}
 RendersTo sources entry options x b (Err other) = ⊥

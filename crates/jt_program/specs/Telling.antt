@@ -15,9 +15,9 @@ use Rattle.jt_program.specs.declared.messages.Failure.TheVariants as failure
 use Rattle.jt_program.specs.Commands.{Ending}
 use Rattle.jt_program.specs.Ending.{code_of, status_of}
 
--- The status, and what stands on standard output behind what stood there: the whole text of a command that is
--- done, and status 0; or, with status 5, a beginning of it, and only where the sink has failed; and nothing of one
--- that failed.
+-- The status, and what stands on standard output behind what stood there: the whole text of a
+-- command that is done, and status 0; or, with status 5, a beginning of it, and only where the sink
+-- has failed; and nothing of one that failed.
 abbrev pub Tells : Option (List ℕ) → Option (List ℕ) → Bool → Ending → ℕ → Type 0
 Tells old new sink_failed (Ok text) status =
     ((status ≡ 0) × (sink_failed ≡ false) × Appends old new (string_bytes text))
@@ -32,7 +32,8 @@ TookUnlessFailed all old new sink_failed =
     ((sink_failed ≡ false) × Appends old new all) ⊎ ((sink_failed ≡ true) × TookFront all old new)
 
 -- which of the two, by the answer of what put the bytes
-abbrev pub Puts : {E : Type 0} → List ℕ → Option (List ℕ) → Option (List ℕ) → Bool → Result (Unit {0}) E → Type 0
+abbrev pub Puts : {E : Type 0} → List ℕ → Option (List ℕ) → Option (List ℕ) → Bool
+    → Result (Unit {0}) E → Type 0
 Puts all old new sink_failed (Ok u) = (sink_failed ≡ false) × Appends old new all
 Puts all old new sink_failed (Err e) = (sink_failed ≡ true) × TookFront all old new
 
@@ -58,15 +59,22 @@ file_line path = one_line (codes "jt: file " ++ path)
 abbrev pub memory_line : Text
 memory_line = one_line (codes "jt: no memory")
 
--- What stands on standard error behind what stood there: the text of the usage, or the line of a fault, a spent number, a file or want
--- of memory; a beginning of it only where the sink has failed. Of the lines of refusals nothing is said.
+-- What stands on standard error behind what stood there: the text of the usage, or the line of a
+-- fault, a spent number, a file or want of memory; a beginning of it only where the sink has
+-- failed. Of the lines of refusals nothing is said.
 abbrev pub Says : Option (List ℕ) → Option (List ℕ) → Bool → Failure → Type 0
-Says old new sink_failed (failure.Usage text) = TookUnlessFailed (string_bytes text) old new sink_failed
-Says old new sink_failed failure.Words = TookUnlessFailed (one_line (codes "jt: usage")) old new sink_failed
-Says old new sink_failed (failure.Fault f q) = TookUnlessFailed (fault_line f (option_map place_view q)) old new sink_failed
-Says old new sink_failed (failure.Spent s) = TookUnlessFailed (spent_line (limit_view s)) old new sink_failed
-Says old new sink_failed (failure.File path) = TookUnlessFailed (file_line (string_bytes path)) old new sink_failed
-Says old new sink_failed failure.Output = TookUnlessFailed (file_line (codes "-")) old new sink_failed
+Says old new sink_failed (failure.Usage text) =
+    TookUnlessFailed (string_bytes text) old new sink_failed
+Says old new sink_failed failure.Words =
+    TookUnlessFailed (one_line (codes "jt: usage")) old new sink_failed
+Says old new sink_failed (failure.Fault f q) =
+    TookUnlessFailed (fault_line f (option_map place_view q)) old new sink_failed
+Says old new sink_failed (failure.Spent s) =
+    TookUnlessFailed (spent_line (limit_view s)) old new sink_failed
+Says old new sink_failed (failure.File path) =
+    TookUnlessFailed (file_line (string_bytes path)) old new sink_failed
+Says old new sink_failed failure.Output =
+    TookUnlessFailed (file_line (codes "-")) old new sink_failed
 Says old new sink_failed failure.NoMemory = TookUnlessFailed memory_line old new sink_failed
 Says old new sink_failed e = Unit {0}
 

@@ -29,8 +29,8 @@ pub trait Files {
         ensures bytes { IfOk result (λ bytes. (known self.now).holds path.now bytes.items) }
         ensures failed { IsErrOf result FileError.Failed → (known self.now).fails path.now };
 
-    /// Makes `bytes` the contents of the file at `path`. Where that fails the file may hold anything.
-    /// At every other path there are the same bytes as before, or none as before.
+    /// Makes `bytes` the contents of the file at `path`. Where that fails the file may hold
+    /// anything. At every other path there are the same bytes as before, or none as before.
     fn write(&mut self, path: &str, bytes: &[u8]) -> Result<(), FileError>
         ensures written { OnOk result ((known self.new).holds path.now bytes.now) }
         ensures others { (other bytes : List ℕ)

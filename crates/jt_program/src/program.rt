@@ -29,8 +29,8 @@ use std::alloc::Global;
 /// 0 done, 1 fault, 2 usage, 3 refused, 4 spent, 5 file, 6 no memory.
 ///
 /// The text goes to `out`, with nothing added. Where the status is not 0 nothing stands there,
-/// or a beginning of the text where `out` failed, and `errors` says why: by the usage, or by one line, or by a beginning of that where
-/// it failed.
+/// or a beginning of the text where `out` failed, and `errors` says why: by the usage, or by one
+/// line, or by a beginning of that where it failed.
 pub fn perform<F: Files, W: Sink, E: Sink>(
     alloc: Global,
     words: &[&str],
@@ -43,7 +43,8 @@ pub fn perform<F: Files, W: Sink, E: Sink>(
     // it is 2 where the program does not take the line, unless memory ran out, and only there
     ensures usage { ¬ Takes (texts words.now) → (result ≡ 2) ⊎ (result ≡ 6) }
     ensures taken { Takes (texts words.now) → result ≢ 2 }
-    // it tells how the command of the line ended, over the files as they were; and a fault, a spent number and a file by their lines
+    // it tells how the command of the line ended, over the files as they were; and a fault, a spent
+    // number and a file by their lines
     ensures ends { result ≢ 2
         → result ≢ 6
         → (e : Ending)
@@ -61,10 +62,12 @@ pub fn perform<F: Files, W: Sink, E: Sink>(
     ensures untouched { result ≢ 0 → result ≢ 5 → out.new ≡ out.old }
     // so it is where it had failed before
     ensures failed_before { W.failed out.old ≡ true → out.new ≡ out.old }
-    // whatever the status is, there is no change to the files but at OUT of a line of `compile` or `upgrade`
+    // whatever the status is, there is no change to the files but at OUT of a line of `compile` or
+    // `upgrade`
     ensures only { ChangesOnly (F.known files.old) (F.known files.new)
         (out_of (subcommand_of program_app (texts words.now))) }
-    // they are as they were, but where a template was to be compiled or an image upgraded, nothing refused it, and there is such an image
+    // they are as they were, but where a template was to be compiled or an image upgraded, nothing
+    // refused it, and there is such an image
     ensures touched { files.new ≡ files.old
         ⊎ LineWrites (F.known files.old) (subcommand_of program_app (texts words.now)) }
     ensures untaken { ¬ Takes (texts words.now) → files.new ≡ files.old }

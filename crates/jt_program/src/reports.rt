@@ -14,10 +14,12 @@ use jt_value::Fault;
 use std::fmt;
 use std::fmt::{Display, Write};
 
-/// Says on `errors` what went wrong, and answers the status. Where they take no more of it, the status alone says how the run ended.
+/// Says on `errors` what went wrong, and answers the status. Where they take no more of it, the
+/// status alone says how the run ended.
 pub fn report<E: Sink>(errors: &mut E, failure: &Failure) -> u8
     ensures status { result ≡ code_of (status_of failure.now) }
-    // a fault, a spent number, a file and want of memory are named by a line, and nothing else is said
+    // a fault, a spent number, a file and want of memory are named by a line, and nothing else is
+    // said
     ensures said { Says (E.taken errors.old) (E.taken errors.new) (E.failed errors.new)
         failure.now }
 {

@@ -65,8 +65,8 @@ impl<T: Drop> From<AllocFailed<T>> for FileError {
     }
 }
 
-/// Room for the bytes that the system says a file has, and for one more: the end is then met without growing. None
-/// where it says nothing.
+/// Room for the bytes that the system says a file has, and for one more: the end is then met
+/// without growing. None where it says nothing.
 fn room_for<F: OpenFile>(file: &F) -> usize {
     match file.metadata() {
         Ok(known) => usize::try_from(known.len()).unwrap_or(0).saturating_add(1),
@@ -74,8 +74,8 @@ fn room_for<F: OpenFile>(file: &F) -> usize {
     }
 }
 
-/// Whether a new file may take the place of what stands at `path`: nothing, or a regular file that may be written.
-/// A link, a device and a pipe are written where they are.
+/// Whether a new file may take the place of what stands at `path`: nothing, or a regular file that
+/// may be written. A link, a device and a pipe are written where they are.
 fn may_replace<R: Runtime>(rt: &R, path: &str) -> bool {
     match fs::symlink_metadata(rt, path) {
         Ok(known) => known.is_file() && OpenOptions::new().write(true).open(rt, path).is_ok(),
@@ -83,7 +83,8 @@ fn may_replace<R: Runtime>(rt: &R, path: &str) -> bool {
     }
 }
 
-/// Fills a new file with `bytes`, lets those use it who may use the one at `path`, and gives it that name.
+/// Fills a new file with `bytes`, lets those use it who may use the one at `path`, and gives it
+/// that name.
 fn fill<R: Runtime, F: Write + OpenFile>(
     rt: &R,
     file: &mut F,
@@ -117,8 +118,8 @@ impl<R: Runtime + AllocGlobal> Files for SystemFiles<'_, R> {
         Ok(bytes)
     }
 
-    // What was there is kept until the new bytes are whole: they are written beside it, into `path` with `.part`
-    // behind it. Where no such file can be made they are written in place.
+    // What was there is kept until the new bytes are whole: they are written beside it, into `path`
+    // with `.part` behind it. Where no such file can be made they are written in place.
     fn write(&mut self, path: &str, bytes: &[u8]) -> Result<(), FileError> {
         let part = format!(in self.rt.alloc(); "{path}.part")?;
         let made = if may_replace(self.rt, path) {

@@ -13,8 +13,9 @@ use jt_budget::Budget;
 use jt_turns::{Sessions, Start};
 use std::alloc::Global;
 
-/// The lines of the images at paths, which run for the contexts of files in turns of so many instructions. Pair by pair the files are
-/// read and the session is opened, so what the first pair lacks that gives no session is answered.
+/// The lines of the images at paths, which run for the contexts of files in turns of so many
+/// instructions. Pair by pair the files are read and the session is opened, so what the first pair
+/// lacks that gives no session is answered.
 pub(crate) fn run_turns<F: Files>(
     alloc: Global,
     files: &F,

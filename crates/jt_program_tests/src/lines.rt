@@ -46,8 +46,8 @@ fn status(
     Ok(performed(alloc, &words, disk, out, errors))
 }
 
-/// The statuses of two lines over a disk of three templates and a context, what a sink took of both that fails behind `left` bytes,
-/// and what was said.
+/// The statuses of two lines over a disk of three templates and a context, what a sink took of both
+/// that fails behind `left` bytes, and what was said.
 fn ended(alloc: Global, left: usize, lines: &str) -> Result<String, Fail> {
     let mut disk = Disk::new(alloc);
     disk.put("d/a", b"x{{ 1 }}")?;

@@ -5,7 +5,8 @@ use jt_filters::OpError;
 use jt_value::{Fault, NoMemory, ValueError};
 use std::alloc::{AllocError, AllocFailed};
 
-/// The end of a run without a text: a fault, a number that did not suffice, a state that has no next one, or a growth that was refused.
+/// The end of a run without a text: a fault, a number that did not suffice, a state that has no
+/// next one, or a growth that was refused.
 #[derive(Clone, Copy)]
 pub enum End {
     Fault(Fault),

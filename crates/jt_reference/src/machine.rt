@@ -1,8 +1,9 @@
-//! A plain machine: a list of activations, the running one last, each with its own point, locals and entries. It follows the table
-//! of instructions word by word and shares with the machine only values, and what operators, filters and tests give.
+//! A plain machine: a list of activations, the running one last, each with its own point, locals
+//! and entries. It follows the table of instructions word by word and shares with the machine only
+//! values, and what operators, filters and tests give.
 //!
-//! It keeps every value that was made, and is told of one by its place among them: what holds no value is let go for nothing, so the
-//! prover has little to do.
+//! It keeps every value that was made, and is told of one by its place among them: what holds no
+//! value is let go for nothing, so the prover has little to do.
 
 ghost use Rattle.std.specs.Prelude.{◌≤◌, IfOk, OnOk};
 ghost use Rattle.std.specs.String.{string_len};
@@ -37,8 +38,8 @@ pub(crate) struct Activation {
     entries: Vec<Entry>,
 }
 
-/// What an instruction leaves to do, beyond what it did to the values: nothing, a text to put, a capture to open or to close, or
-/// nothing more in the whole run.
+/// What an instruction leaves to do, beyond what it did to the values: nothing, a text to put, a
+/// capture to open or to close, or nothing more in the whole run.
 #[derive(Drop)]
 enum Next {
     GoOn,
@@ -60,8 +61,8 @@ pub(crate) struct Plain<'a> {
     pub(crate) left: Budget,
 }
 
-/// The text of a run of an image, or how it ends without one. The text has at most as many bytes as the budget allows to put; that it
-/// is the machine's is for the tests to show.
+/// The text of a run of an image, or how it ends without one. The text has at most as many bytes as
+/// the budget allows to put; that it is the machine's is for the tests to show.
 pub fn plain_end(
     alloc: Global,
     image: &Image,
@@ -95,7 +96,8 @@ fn begun(alloc: Global, image: &Image, budget: Budget) -> Result<Plain<'_>, End>
     })
 }
 
-// The end of a run: an instruction costs at least 1, so there is one after as many steps as there is fuel and one more.
+// The end of a run: an instruction costs at least 1, so there is one after as many steps as there
+// is fuel and one more.
 fn carried_on(plain: Plain<'_>, buffers: Buffers, fuel: u64) -> Result<String, End>
     ensures { IfOk result (λ text. string_len text ≤ most buffers) }
 {

@@ -43,7 +43,9 @@ module _ {K : Type 0} where
     stmt_locals (print p escaping e) = expr_locals e
     stmt_locals (assign p xs e) = max (targets_locals xs) (expr_locals e)
     stmt_locals (if_else p c a b) = max (expr_locals c) (max (body_locals a) (body_locals b))
-    stmt_locals (for_each p xs e c body other) = max (targets_locals xs) (max (max (expr_locals e) (condition_locals c)) (max (body_locals body) (body_locals other)))
+    stmt_locals (for_each p xs e c body other) =
+        max (targets_locals xs) (max (max (expr_locals e) (condition_locals c))
+        (max (body_locals body) (body_locals other)))
     stmt_locals (capture escaping s body) = max (slot_locals s) (body_locals body)
     stmt_locals (run u es) = row_locals es
 

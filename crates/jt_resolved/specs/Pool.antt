@@ -1,4 +1,5 @@
--- Constants get their places in the pool: those in front, and then each value of the source where it stands.
+-- Constants get their places in the pool: those in front, and then each value of the source where
+-- it stands.
 use Rattle.std.specs.Prelude.{ℕ, ◌+◌, List, [], ◌∷◌, ◌++◌, length, Option, Some, None}
 use Rattle.jt_value.specs.Tree.{Tree}
 use Rattle.jt_evaluation.specs.Loops.{tree_at}
@@ -46,7 +47,8 @@ abbrev mutual
   stmt_values (print p escaping e) = expr_values e
   stmt_values (assign p xs e) = expr_values e
   stmt_values (if_else p c a b) = expr_values c ++ (body_values a ++ body_values b)
-  stmt_values (for_each p xs e c body other) = expr_values e ++ (condition_values c ++ (body_values body ++ body_values other))
+  stmt_values (for_each p xs e c body other) =
+      expr_values e ++ (condition_values c ++ (body_values body ++ body_values other))
   stmt_values (capture escaping s body) = body_values body
   stmt_values (run u es) = row_values es
 
@@ -71,15 +73,20 @@ abbrev mutual
   placed_expr (field f) n = field f
   placed_expr absent n = absent
   placed_expr (made k es) n = made k (placed_row es n)
-  placed_expr (conjunction a b) n = conjunction (placed_expr a n) (placed_expr b (n + length (expr_values a)))
-  placed_expr (disjunction a b) n = disjunction (placed_expr a n) (placed_expr b (n + length (expr_values a)))
-  placed_expr (choice c a b) n = choice (placed_expr c n) (placed_expr a (n + length (expr_values c))) (placed_expr b (n + length (expr_values c) + length (expr_values a)))
+  placed_expr (conjunction a b) n =
+      conjunction (placed_expr a n) (placed_expr b (n + length (expr_values a)))
+  placed_expr (disjunction a b) n =
+      disjunction (placed_expr a n) (placed_expr b (n + length (expr_values a)))
+  placed_expr (choice c a b) n =
+      choice (placed_expr c n) (placed_expr a (n + length (expr_values c)))
+      (placed_expr b (n + length (expr_values c) + length (expr_values a)))
   placed_expr (invoke u escaping es) n = invoke u escaping (placed_row es n)
 
   pub placed_row : SRow Constant → ℕ → SRow ℕ
   placed_row none n = none
   placed_row (item e es) n = item (placed_expr e n) (placed_row es (n + length (expr_values e)))
-  placed_row (aside i e es) n = aside i (placed_expr e n) (placed_row es (n + length (expr_values e)))
+  placed_row (aside i e es) n =
+      aside i (placed_expr e n) (placed_row es (n + length (expr_values e)))
 
 abbrev pub placed_condition : Option (SlotExpr Constant) → ℕ → Option (SlotExpr ℕ)
 placed_condition None n = None
@@ -90,20 +97,27 @@ abbrev mutual
   placed_stmt (put_pooled k) n = put_pooled (placed k n)
   placed_stmt (print p escaping e) n = print p escaping (placed_expr e n)
   placed_stmt (assign p xs e) n = assign p xs (placed_expr e n)
-  placed_stmt (if_else p c a b) n = if_else p (placed_expr c n) (placed_body a (n + length (expr_values c))) (placed_body b (n + length (expr_values c) + length (body_values a)))
+  placed_stmt (if_else p c a b) n =
+      if_else p (placed_expr c n) (placed_body a (n + length (expr_values c)))
+      (placed_body b (n + length (expr_values c) + length (body_values a)))
   placed_stmt (for_each p xs e c body other) n =
-      for_each p xs (placed_expr e n) (placed_condition c (n + length (expr_values e))) (placed_body body (n + length (expr_values e) + length (condition_values c)))
-      (placed_body other (n + length (expr_values e) + length (condition_values c) + length (body_values body)))
+      for_each p xs (placed_expr e n) (placed_condition c (n + length (expr_values e)))
+      (placed_body body (n + length (expr_values e) + length (condition_values c)))
+      (placed_body other
+      (n + length (expr_values e) + length (condition_values c) + length (body_values body)))
   placed_stmt (capture escaping s body) n = capture escaping s (placed_body body n)
   placed_stmt (run u es) n = run u (placed_row es n)
 
   pub placed_body : SBody Constant → ℕ → SBody ℕ
   placed_body end n = end
-  placed_body (stmt s rest) n = stmt (placed_stmt s n) (placed_body rest (n + length (stmt_values s)))
+  placed_body (stmt s rest) n =
+      stmt (placed_stmt s n) (placed_body rest (n + length (stmt_values s)))
 
 abbrev pub placed_routine : Routine Constant → ℕ → Routine ℕ
-placed_routine r n = record { parameters = r.parameters; locals = r.locals; body = placed_body r.body n }
+placed_routine r n =
+    record { parameters = r.parameters; locals = r.locals; body = placed_body r.body n }
 
 abbrev pub placed_routines : List (Routine Constant) → ℕ → List (Routine ℕ)
 placed_routines [] n = []
-placed_routines (r ∷ rs) n = placed_routine r n ∷ placed_routines rs (n + length (body_values r.body))
+placed_routines (r ∷ rs) n =
+    placed_routine r n ∷ placed_routines rs (n + length (body_values r.body))

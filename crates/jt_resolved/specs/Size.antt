@@ -1,4 +1,5 @@
--- How large resolved trees are, in instructions and entries: what each form stands for, before any code exists.
+-- How large resolved trees are, in instructions and entries: what each form stands for, before any
+-- code exists.
 use Rattle.std.specs.Prelude.{ℕ, suc, ◌+◌, max, List, [], ◌∷◌, length, Option, Some, None}
 use Rattle.jt_resolved.specs.Slots.{SlotExpr, pooled, variable, field, absent, made, conjunction, disjunction, choice, invoke, SRow, none, item, aside, Targets, one, several, SlotStmt, put_pooled, print, assign, if_else, for_each, capture, run, SBody, end, stmt, Routine}
 
@@ -52,7 +53,8 @@ module _ {K : Type 0} where
     -- the test, and the way past the other part
     stmt_size (if_else p c a b) = expr_size c + 2 + body_size a + body_size b
     -- start, next, item, targets, body, back, end, and the way past the else part
-    stmt_size (for_each p xs e c body other) = expr_size e + condition_size xs c + 6 + targets_size xs + body_size body + body_size other
+    stmt_size (for_each p xs e c body other) =
+        expr_size e + condition_size xs c + 6 + targets_size xs + body_size body + body_size other
     stmt_size (capture escaping s body) = body_size body + 3
     stmt_size (run u es) = row_size es + 1
 
@@ -65,7 +67,8 @@ module _ {K : Type 0} where
   routines_size [] = 0
   routines_size (r ∷ rs) = body_size r.body + 1 + routines_size rs
 
-  -- ---- height: the entries that a form needs, above those that are there; the value of an expression is one
+  -- ---- height: the entries that a form needs, above those that are there; the value of an
+  -- expression is one
 
   abbrev mutual
     pub expr_height : SlotExpr K → ℕ
@@ -97,7 +100,10 @@ module _ {K : Type 0} where
     stmt_height (assign p xs e) = max (expr_height e) (targets_height xs)
     stmt_height (if_else p c a b) = max (expr_height c) (max (body_height a) (body_height b))
     -- targets, condition and body stand above the loop's frame
-    stmt_height (for_each p xs e c body other) = max (expr_height e) (max (1 + max (targets_height xs) (max (condition_height c) (body_height body))) (body_height other))
+    stmt_height (for_each p xs e c body other) =
+        max (expr_height e)
+        (max (1 + max (targets_height xs) (max (condition_height c) (body_height body)))
+        (body_height other))
     stmt_height (capture escaping s body) = 1 + body_height body
     stmt_height (run u es) = row_height es
 

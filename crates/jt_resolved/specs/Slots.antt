@@ -1,5 +1,5 @@
--- Resolved templates: each name is a slot of the locals or of the globals, each macro, block and chain a routine. `K` is what stands for a
--- constant: its value, or its place in a pool of values.
+-- Resolved templates: each name is a slot of the locals or of the globals, each macro, block and
+-- chain a routine. `K` is what stands for a constant: its value, or its place in a pool of values.
 use Rattle.std.specs.Prelude.{ℕ, zero, suc, Bool, List, [], ◌∷◌, ◌++◌, map, Option, Some, None, Result, slice_get, if◌then◌else◌}
 use Rattle.jt_value.specs.Tree as tree
 use Rattle.jt_value.specs.Tree.{Tree}
@@ -85,7 +85,8 @@ pub record Routine (K : Type 0) : Type 0 where
   pub locals : ℕ
   pub body : SBody K
 
--- the names of the first globals by their slots, how many globals there are, the pool, and the routines; routine 0 is the entry's
+-- the names of the first globals by their slots, how many globals there are, the pool, and the
+-- routines; routine 0 is the entry's
 pub record Program : Type 0 where
   pub names : List Text
   pub globals : ℕ
@@ -100,7 +101,8 @@ pub record Memory : Type 0 where
   pub globals : List Tree
   pub out : Text
 
--- a value, and the variables behind it: an argument may be kept aside, and a call fills the globals of included chains
+-- a value, and the variables behind it: an argument may be kept aside, and a call fills the globals
+-- of included chains
 pub record Valued : Type 0 where
   pub value : Tree
   pub memory : Memory
@@ -158,12 +160,17 @@ abbrev pub valued : Memory → Tree → Got Valued
 valued m v = gives (record { value = v; memory = m })
 
 -- the turns from one on
-abbrev pub sturns : (Option Loop → Memory → Got Memory) → Targets → Place → List Tree → ℕ → List Tree → Memory → Got Memory
+abbrev pub sturns : (Option Loop → Memory → Got Memory) → Targets → Place → List Tree → ℕ
+    → List Tree → Memory → Got Memory
 sturns body xs p all i [] m = gives m
-sturns body xs p all i (v ∷ vs) m = bind (at p (take xs v m)) (λ n. bind (body (Some (record { items = all; before = i })) n) (sturns body xs p all (suc i) vs))
+sturns body xs p all i (v ∷ vs) m =
+    bind (at p (take xs v m)) (λ n.
+    bind (body (Some (record { items = all; before = i })) n)
+    (sturns body xs p all (suc i) vs))
 
 -- the turns, or the else part where there is none
-abbrev pub sgone_over : (Option Loop → Memory → Got Memory) → (Memory → Got Memory) → Targets → Place → List Tree → Memory → Got Memory
+abbrev pub sgone_over : (Option Loop → Memory → Got Memory) → (Memory → Got Memory) → Targets
+    → Place → List Tree → Memory → Got Memory
 sgone_over body other xs p [] m = other m
 sgone_over body other xs p (v ∷ vs) m = sturns body xs p (v ∷ vs) 0 (v ∷ vs) m
 
@@ -184,18 +191,25 @@ module _ {K : Type 0} (filters : Filters) (constant : K → Tree) (call : SCalls
     svalue (variable s) l m = valued m (load s m)
     svalue (field f) l m = bind (loop_field f l) (valued m)
     svalue absent l m = deeper
-    svalue (made k es) l m = bind (svalues es l m) (λ r. bind (checked (make filters k r.values)) (valued r.memory))
-    svalue (conjunction a b) l m = bind (svalue a l m) (λ r. if tree.truth r.value then svalue b l r.memory else gives r)
-    svalue (disjunction a b) l m = bind (svalue a l m) (λ r. if tree.truth r.value then gives r else svalue b l r.memory)
-    svalue (choice c a b) l m = bind (svalue c l m) (λ r. if tree.truth r.value then svalue a l r.memory else svalue b l r.memory)
+    svalue (made k es) l m =
+        bind (svalues es l m) (λ r. bind (checked (make filters k r.values)) (valued r.memory))
+    svalue (conjunction a b) l m =
+        bind (svalue a l m) (λ r. if tree.truth r.value then svalue b l r.memory else gives r)
+    svalue (disjunction a b) l m =
+        bind (svalue a l m) (λ r. if tree.truth r.value then gives r else svalue b l r.memory)
+    svalue (choice c a b) l m =
+        bind (svalue c l m)
+        (λ r. if tree.truth r.value then svalue a l r.memory else svalue b l r.memory)
     svalue (invoke u escaping es) l m =
         bind (svalues es l m) (λ r. bind (call u r.values r.memory.globals) (λ w.
         valued (record r.memory { globals = w.globals }) (as_value escaping w.text)))
 
     pub svalues : SRow K → Option Loop → Memory → Got Listed
     svalues none l m = gives (record { values = []; memory = m })
-    svalues (item e es) l m = bind (svalue e l m) (λ r. bind (svalues es l r.memory) (λ rs. gives (in_front r.value rs)))
-    svalues (aside i e es) l m = bind (svalue e l m) (λ r. svalues es l (store (local i) r.value r.memory))
+    svalues (item e es) l m =
+        bind (svalue e l m) (λ r. bind (svalues es l r.memory) (λ rs. gives (in_front r.value rs)))
+    svalues (aside i e es) l m =
+        bind (svalue e l m) (λ r. svalues es l (store (local i) r.value r.memory))
 
   -- the items for which the condition holds, each taken by the targets first; it sees no loop
   abbrev pub skept : Option (SlotExpr K) → Targets → List Tree → Memory → Got Listed
@@ -209,16 +223,23 @@ module _ {K : Type 0} (filters : Filters) (constant : K → Tree) (call : SCalls
     pub smeaning : SlotStmt K → Option Loop → Memory → Got Memory
     smeaning (put_pooled k) l m = gives (record m { out = m.out ++ bytes_of (constant k) })
     smeaning (print p escaping e) l m =
-        at p (bind (svalue e l m) (λ r. bind (shown escaping r.value) (λ s. gives (record r.memory { out = r.memory.out ++ s }))))
+        at p (bind (svalue e l m) (λ r.
+        bind (shown escaping r.value)
+        (λ s. gives (record r.memory { out = r.memory.out ++ s }))))
     smeaning (assign p xs e) l m = at p (bind (svalue e l m) (λ r. take xs r.value r.memory))
-    smeaning (if_else p c a b) l m = bind (at p (svalue c l m)) (λ r. if tree.truth r.value then smeanings a l r.memory else smeanings b l r.memory)
+    smeaning (if_else p c a b) l m =
+        bind (at p (svalue c l m))
+        (λ r. if tree.truth r.value then smeanings a l r.memory else smeanings b l r.memory)
     smeaning (for_each p xs e c body other) l m =
         bind (at p (bind (svalue e l m) (λ r. bind (checked (items_of_value r.value)) (λ vs. skept c xs vs r.memory)))) (λ r.
         sgone_over (smeanings body) (smeanings other l) xs p r.values r.memory)
     smeaning (capture escaping s body) l m =
-        bind (smeanings body l (record m { out = [] })) (λ n. gives (store s (as_value escaping n.out) (record n { out = m.out })))
+        bind (smeanings body l (record m { out = [] }))
+        (λ n. gives (store s (as_value escaping n.out) (record n { out = m.out })))
     smeaning (run u es) l m =
-        bind (svalues es l m) (λ r. bind (call u r.values r.memory.globals) (λ w. gives (record r.memory { globals = w.globals; out = r.memory.out ++ w.text })))
+        bind (svalues es l m) (λ r.
+        bind (call u r.values r.memory.globals)
+        (λ w. gives (record r.memory { globals = w.globals; out = r.memory.out ++ w.text })))
 
     pub smeanings : SBody K → Option Loop → Memory → Got Memory
     smeanings end l m = gives m
@@ -228,21 +249,30 @@ module _ {K : Type 0} (filters : Filters) (constant : K → Tree) (call : SCalls
   abbrev pub sperformed : Option (Routine K) → List Tree → List Tree → Got Written
   sperformed None ts gs = deeper
   sperformed (Some r) ts gs =
-      bind (smeanings r.body None (record { locals = with_locals r.locals ts; globals = gs; out = [] })) (λ m. gives (record { text = m.out; globals = m.globals }))
+      bind (smeanings r.body None
+      (record { locals = with_locals r.locals ts; globals = gs; out = [] }))
+      (λ m. gives (record { text = m.out; globals = m.globals }))
 
 -- calls at most n deep, of these routines
 abbrev pub scalls : {K : Type 0} → Filters → (K → Tree) → List (Routine K) → ℕ → SCalls
 scalls filters constant rs zero u ts gs = deeper
-scalls filters constant rs (suc n) u ts gs = sperformed filters constant (scalls filters constant rs n) (slice_get rs u) ts gs
+scalls filters constant rs (suc n) u ts gs =
+    sperformed filters constant (scalls filters constant rs n) (slice_get rs u) ts gs
 
--- the globals of a run: each of the first slots has the context's value of its name, and all others are undefined
+-- the globals of a run: each of the first slots has the context's value of its name, and all others
+-- are undefined
 abbrev pub globals_of : Pairs → List Text → List Tree
 globals_of context ns = map (value_in context) ns
 
 -- routine 0 from these globals, where calls go at most n deep
-abbrev pub smean_of : {K : Type 0} → Filters → (K → Tree) → List (Routine K) → List Tree → ℕ → Got Text
-smean_of filters constant rs gs n = bind (sperformed filters constant (scalls filters constant rs n) (slice_get rs 0) [] gs) (λ w. gives w.text)
+abbrev pub smean_of : {K : Type 0} → Filters → (K → Tree) → List (Routine K) → List Tree → ℕ
+    → Got Text
+smean_of filters constant rs gs n =
+    bind (sperformed filters constant (scalls filters constant rs n) (slice_get rs 0) [] gs)
+    (λ w. gives w.text)
 
 -- a program for a context
 abbrev pub smean : Filters → Program → Pairs → ℕ → Got Text
-smean filters p context n = smean_of filters (tree_at p.pool) p.routines (with_locals p.globals (globals_of context p.names)) n
+smean filters p context n =
+    smean_of filters (tree_at p.pool) p.routines
+    (with_locals p.globals (globals_of context p.names)) n

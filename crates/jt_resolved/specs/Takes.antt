@@ -1,5 +1,5 @@
--- Each operation of a resolved tree gets as many values as it takes, and each routine as many as it has parameters; a field of a loop stands in a
--- loop of its routine.
+-- Each operation of a resolved tree gets as many values as it takes, and each routine as many as it
+-- has parameters; a field of a loop stands in a loop of its routine.
 use Rattle.std.specs.Prelude.{◌≡◌, ℕ, zero, suc, Bool, true, false, IsTrue, List, Option, Some, None, slice_get}
 use Rattle.jt_ids.specs.OpTable.{op_operands}
 use Rattle.jt_ids.specs.TestTable.{test_values}
@@ -38,7 +38,8 @@ module _ {K : Type 0} (fs : Filters) (rs : List (Routine K)) where
     ExprTakes l (conjunction a b) = ExprTakes l a × ExprTakes l b
     ExprTakes l (disjunction a b) = ExprTakes l a × ExprTakes l b
     ExprTakes l (choice c a b) = ExprTakes l c × ExprTakes l a × ExprTakes l b
-    ExprTakes l (invoke u escaping es) = HasParameters (slice_get rs u) (row_count es) × RowTakes l es
+    ExprTakes l (invoke u escaping es) =
+        HasParameters (slice_get rs u) (row_count es) × RowTakes l es
 
     pub RowTakes : Bool → SRow K → Type 0
     RowTakes l none = Unit {0}
@@ -55,7 +56,8 @@ module _ {K : Type 0} (fs : Filters) (rs : List (Routine K)) where
     StmtTakes l (print p escaping e) = ExprTakes l e
     StmtTakes l (assign p xs e) = ExprTakes l e
     StmtTakes l (if_else p c a b) = ExprTakes l c × BodyTakes l a × BodyTakes l b
-    StmtTakes l (for_each p xs e c body other) = ExprTakes l e × ConditionTakes c × BodyTakes true body × BodyTakes l other
+    StmtTakes l (for_each p xs e c body other) =
+        ExprTakes l e × ConditionTakes c × BodyTakes true body × BodyTakes l other
     StmtTakes l (capture escaping s body) = BodyTakes l body
     StmtTakes l (run u es) = HasParameters (slice_get rs u) (row_count es) × RowTakes l es
 

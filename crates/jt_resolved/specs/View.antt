@@ -69,7 +69,8 @@ expr_step (SlotExpr-F.Made k es) = slots.made (maker_view k) (row_front es.items
 expr_step (SlotExpr-F.Conjunction a b) = slots.conjunction a.value b.value
 expr_step (SlotExpr-F.Disjunction a b) = slots.disjunction a.value b.value
 expr_step (SlotExpr-F.Choice c a b) = slots.choice c.value a.value b.value
-expr_step (SlotExpr-F.Invoke u escaping es) = slots.invoke u escaping (row_front es.items slots.none)
+expr_step (SlotExpr-F.Invoke u escaping es) =
+    slots.invoke u escaping (row_front es.items slots.none)
 
 abbrev pub expr_view : SlotExpr → slots.SlotExpr ℕ
 expr_view = fold-SlotExpr (slots.SlotExpr ℕ) expr_step
@@ -94,18 +95,26 @@ module _ (templates : List Text) where
   -- each branch has the later ones in its other part, and the last one the else part
   abbrev pub choice_front : List (Place × SlotExpr × Vec Front Global) → Front → Front
   choice_front [] other behind = other behind
-  choice_front (b ∷ bs) other behind = slots.stmt (slots.if_else (place_view b.0) (expr_view b.1) (body_front b.2.items slots.end) (choice_front bs other slots.end)) behind
+  choice_front (b ∷ bs) other behind =
+      slots.stmt (slots.if_else (place_view b.0) (expr_view b.1) (body_front b.2.items slots.end)
+      (choice_front bs other slots.end)) behind
 
   -- one statement, with each statement inside already seen as what it puts in front
   abbrev pub stmt_step : SlotStmt-F Front → Front
   stmt_step (SlotStmt-F.PutPooled i) behind = slots.stmt (slots.put_pooled i) behind
-  stmt_step (SlotStmt-F.Print p escaping e) behind = slots.stmt (slots.print (place_view p) escaping (expr_view e)) behind
-  stmt_step (SlotStmt-F.Assign p xs e) behind = slots.stmt (slots.assign (place_view p) (targets_view xs) (expr_view e)) behind
+  stmt_step (SlotStmt-F.Print p escaping e) behind =
+      slots.stmt (slots.print (place_view p) escaping (expr_view e)) behind
+  stmt_step (SlotStmt-F.Assign p xs e) behind =
+      slots.stmt (slots.assign (place_view p) (targets_view xs) (expr_view e)) behind
   stmt_step (SlotStmt-F.If bs other) behind = choice_front bs.items (body_front other.items) behind
   stmt_step (SlotStmt-F.For p xs e c body other) behind =
-      slots.stmt (slots.for_each (place_view p) (targets_view xs) (expr_view e) (option_map expr_view c) (body_front body.items slots.end) (body_front other.items slots.end)) behind
-  stmt_step (SlotStmt-F.Capture escaping s body) behind = slots.stmt (slots.capture escaping (slot_view s) (body_front body.items slots.end)) behind
-  stmt_step (SlotStmt-F.Run u es) behind = slots.stmt (slots.run u (row_view es.items slots.none)) behind
+      slots.stmt
+      (slots.for_each (place_view p) (targets_view xs) (expr_view e) (option_map expr_view c)
+      (body_front body.items slots.end) (body_front other.items slots.end)) behind
+  stmt_step (SlotStmt-F.Capture escaping s body) behind =
+      slots.stmt (slots.capture escaping (slot_view s) (body_front body.items slots.end)) behind
+  stmt_step (SlotStmt-F.Run u es) behind =
+      slots.stmt (slots.run u (row_view es.items slots.none)) behind
 
   -- a statement in front of others
   abbrev pub stmt_view : SlotStmt → Front
@@ -117,10 +126,14 @@ module _ (templates : List Text) where
 
   abbrev pub choice_view : List (Place × SlotExpr × Vec SlotStmt Global) → Front → Front
   choice_view [] other behind = other behind
-  choice_view (b ∷ bs) other behind = slots.stmt (slots.if_else (place_view b.0) (expr_view b.1) (body_view b.2.items slots.end) (choice_view bs other slots.end)) behind
+  choice_view (b ∷ bs) other behind =
+      slots.stmt (slots.if_else (place_view b.0) (expr_view b.1) (body_view b.2.items slots.end)
+      (choice_view bs other slots.end)) behind
 
   abbrev pub routine_view : Routine → slots.Routine ℕ
-  routine_view r = record { parameters = r.parameters; locals = r.locals; body = body_view r.body.items slots.end }
+  routine_view r =
+      record
+      { parameters = r.parameters; locals = r.locals; body = body_view r.body.items slots.end }
 
 abbrev pub templates_of : Program → List Text
 templates_of p = map string_bytes p.templates.items

@@ -1,5 +1,5 @@
-//! Resolved templates: each name is a slot of the locals or of the globals, each literal and each piece of data a place in a pool of
-//! values, each macro, block and chain a routine.
+//! Resolved templates: each name is a slot of the locals or of the globals, each literal and each
+//! piece of data a place in a pool of values, each macro, block and chain a routine.
 
 use jt_ids::{FilterId, OpId, TestId};
 use jt_value::Value;
@@ -116,7 +116,8 @@ pub enum SlotStmt {
         targets: Targets,
         value: SlotExpr,
     },
-    /// The branches, each with the place of its tag, its condition and statements, and the else part.
+    /// The branches, each with the place of its tag, its condition and statements, and the else
+    /// part.
     If(Vec<(Place, SlotExpr, Vec<SlotStmt>)>, Vec<SlotStmt>),
     /// What takes the items, what is gone over, the condition, the statements of a turn, and the
     /// else part.

@@ -1,38 +1,13 @@
 //! Rows of sources whose text is written in pieces.
 
-use crate::rows::rows_hold;
-use crate::shelf::{image_of, verified_of};
+use crate::image_of::{image_of, verified_of};
 use jt_args::DEFAULT;
 use jt_machine::{IoSink, Sink, run_to};
+use jt_rows::{Slow, rows_hold};
 use jt_scan::Options;
 use jt_value::Context;
 use std::alloc::Global;
-use std::io;
 use std::test::Fail;
-
-/// A writer that takes one byte a call, and fails once it took `left` of them.
-#[derive(Drop)]
-struct Slow {
-    taken: String,
-    left: usize,
-}
-
-impl io::Write for Slow {
-    fn write(&mut self, buf: &[u8]) -> io::Result<usize> {
-        let Some(byte) = buf.first() else {
-            return Ok(0);
-        };
-        if self.left == 0 || self.taken.push(char::from(*byte)).is_err() {
-            return Err(io::Error::from(io::ErrorKind::BrokenPipe));
-        }
-        self.left -= 1;
-        Ok(1)
-    }
-
-    fn flush(&mut self) -> io::Result<()> {
-        Ok(())
-    }
-}
 
 // What is written of a source, how its run is answered, and whether the sink has failed. A row is
 // the number of bytes that the writer takes, and the source.

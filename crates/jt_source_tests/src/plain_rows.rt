@@ -1,50 +1,20 @@
-//! The machine comes to the same end as the plain machine, with every fuel from 0 to 200: on images written by hand, and on those of
-//! rows of sources.
+//! The machine comes to the same end as the plain machine, with every fuel from 0 to 200: on images
+//! written by hand, and on those of rows of sources.
 
-use crate::rows::unfolded;
-use crate::shelf::{context_of, image_of, verified_of};
+use crate::image_of::{image_of, verified_of};
 use crate::sources::{CHAINS, FILTERS, MACROS, OVER_ITEMS, STATEMENTS, WHITESPACE, WORKED};
 use jt_budget::Budget;
 use jt_host::context_from_json;
 use jt_image::{Image, decode, encode, view};
 use jt_machine::{Outcome, run, run_view};
-use jt_reference::{End, plain_end};
+use jt_reference::{AMPLE, End, MOST_FUEL, NARROW, TINY, plain_end};
+use jt_rows::{context_of, unfolded};
 use jt_scan::Options;
 use jt_value::Context;
 use jt_verify::{Verified, VerifiedView, verify_view};
 use std::alloc::Global;
 use std::process::Abort;
 use std::test::Fail;
-
-/// The fuel up to which the ends are compared.
-const MOST_FUEL: u64 = 200;
-
-/// Limits that no row reaches.
-const AMPLE: Budget = Budget {
-    fuel: MOST_FUEL,
-    depth: 64,
-    output: 1_000,
-    size: 1_000,
-    nesting: 32,
-};
-
-/// Limits that one value of 80 bytes passes.
-const NARROW: Budget = Budget {
-    fuel: MOST_FUEL,
-    depth: 10,
-    output: 79,
-    size: 81,
-    nesting: 1,
-};
-
-/// Limits that most rows reach.
-const TINY: Budget = Budget {
-    fuel: MOST_FUEL,
-    depth: 1,
-    output: 3,
-    size: 4,
-    nesting: 0,
-};
 
 /// Images that the verifier accepts, each with what it does: all instructions are among them.
 const IMAGES: &str = r"
@@ -112,7 +82,8 @@ struct Case<'a, 'b> {
     in_place: VerifiedView<'b>,
 }
 
-// Whether a run of the machine ends as one of the plain machine, which neither is stuck nor lacks memory.
+// Whether a run of the machine ends as one of the plain machine, which neither is stuck nor lacks
+// memory.
 fn ends_so(outcome: &Outcome, plain: &Result<String, End>) -> bool {
     match (outcome, plain) {
         (Outcome::Text(text), Ok(plain)) => text.as_str() == plain.as_str(),

@@ -1,9 +1,9 @@
 //! Hosts, call by call.
 
-use crate::rows::rows_hold;
-use crate::shelf::{image_of, verified_of};
+use crate::image_of::{image_of, verified_of};
 use jt_args::DEFAULT;
 use jt_host::Host;
+use jt_rows::rows_hold;
 use jt_scan::Options;
 use jt_value::Context;
 use std::alloc::Global;
@@ -35,8 +35,9 @@ fn turned(alloc: Global, host: &mut Host, count: u32, id: u64) -> Result<String,
     Ok(format!(in alloc; "{answer:?}")?)
 }
 
-// What a host answers: `open 3 x` opens three sessions of the source `x`, `turn 3 1` gives the session 1 three turns of an
-// instruction, `slice 3 1` one turn of three; and `outcome 1` and `close 1` are of the session 1.
+// What a host answers: `open 3 x` opens three sessions of the source `x`, `turn 3 1` gives the
+// session 1 three turns of an instruction, `slice 3 1` one turn of three; and `outcome 1` and
+// `close 1` are of the session 1.
 fn answered(alloc: Global, host: &mut Host, call: &str) -> Result<String, Fail> {
     let (name, of) = call.split_once(" ").ok_or("a call has no session")?;
     let (count, behind) = of.split_once(" ").unwrap_or(("1", of));

@@ -1,16 +1,17 @@
 //! A run that stops and goes on.
 
-use crate::rows::rows_hold;
-use crate::shelf::{image_of, verified_of};
+use crate::image_of::{image_of, verified_of};
 use jt_args::DEFAULT;
 use jt_budget::Budget;
 use jt_machine::Machine;
+use jt_rows::rows_hold;
 use jt_scan::Options;
 use jt_value::Context;
 use std::alloc::Global;
 use std::test::Fail;
 
-// What two advances of a run answer, and how it ended. A row is the fuel, the instructions of each of the two, and the source.
+// What two advances of a run answer, and how it ended. A row is the fuel, the instructions of each
+// of the two, and the source.
 fn advanced(alloc: Global, asked: &str) -> Result<String, Fail> {
     let (fuel, asked) = asked.split_once(" ").ok_or("a row has no first advance")?;
     let (first, asked) = asked.split_once(" ").ok_or("a row has no second one")?;

@@ -1,5 +1,6 @@
-//! Sources, one row a line: `name: source` for each template but the entry's, perhaps the context before them, and the
-//! entry's source last, with `¦` between them. `␤` is an LF, as `rows` says. Each of them compiles.
+//! Sources, one row a line: `name: source` for each template but the entry's, perhaps the context
+//! before them, and the entry's source last, with `¦` between them. `␤` is an LF, as `rows` says.
+//! Each of them compiles.
 
 /// An example of each form.
 pub(crate) const WORKED: &str = r##"{"name": "World"}¦Hello {{ name }}!␤

@@ -38,8 +38,10 @@ expr_step (Expr-F.Map ps) = trees.map_of (pairs_of ps.items)
 expr_step (Expr-F.Attribute a k) = trees.attribute a.value (string_bytes k)
 expr_step (Expr-F.Item a b) = trees.item a.value b.value
 expr_step (Expr-F.Call a ts ps) = trees.call a.value (exprs_of ts.items) (pairs_of ps.items)
-expr_step (Expr-F.Filter a x ts ps) = trees.filter a.value (string_bytes x) (exprs_of ts.items) (pairs_of ps.items)
-expr_step (Expr-F.Test a p x ts ps) = trees.test a.value (is_negated p) (string_bytes x) (exprs_of ts.items) (pairs_of ps.items)
+expr_step (Expr-F.Filter a x ts ps) =
+    trees.filter a.value (string_bytes x) (exprs_of ts.items) (pairs_of ps.items)
+expr_step (Expr-F.Test a p x ts ps) =
+    trees.test a.value (is_negated p) (string_bytes x) (exprs_of ts.items) (pairs_of ps.items)
 expr_step (Expr-F.Unary op a) = trees.unary op a.value
 expr_step (Expr-F.Binary op a b) = trees.binary op a.value b.value
 expr_step (Expr-F.When c a) = trees.when c.value a.value

@@ -44,7 +44,8 @@ condition_bytes (Some c) = expr_bytes c
 
 abbrev pub filtering_bytes : List Filtering → ℕ
 filtering_bytes [] = 0
-filtering_bytes (f ∷ fs) = length f.name + exprs_bytes f.arguments + pairs_bytes f.keywords + filtering_bytes fs
+filtering_bytes (f ∷ fs) =
+    length f.name + exprs_bytes f.arguments + pairs_bytes f.keywords + filtering_bytes fs
 
 abbrev pub default_bytes : Option Literal → ℕ
 default_bytes None = 0
@@ -64,7 +65,8 @@ abbrev mutual
   stmt_bytes (data_of t) = length t
   stmt_bytes (print line e) = expr_bytes e
   stmt_bytes (choose bs other) = branch_bytes bs + body_bytes other
-  stmt_bytes (for_each line xs e c body other) = texts_bytes xs + expr_bytes e + condition_bytes c + body_bytes body + body_bytes other
+  stmt_bytes (for_each line xs e c body other) =
+      texts_bytes xs + expr_bytes e + condition_bytes c + body_bytes body + body_bytes other
   stmt_bytes (set line xs e) = texts_bytes xs + expr_bytes e
   stmt_bytes (set_block line x body) = length x + body_bytes body
   stmt_bytes (with_values line ps body) = pairs_bytes ps + body_bytes body

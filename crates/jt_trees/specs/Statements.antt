@@ -50,8 +50,8 @@ mutual
     no_branches : Branches
     branch : ℕ → Expr → Body → Branches → Branches
 
--- ---- levels: each statement and each expression is one, around what it holds; data, elif, else, defaults and the filters of a
--- filter tag add none
+-- ---- levels: each statement and each expression is one, around what it holds; data, elif, else,
+-- defaults and the filters of a filter tag add none
 
 abbrev pub condition_levels : Option Expr → ℕ
 condition_levels None = 0
@@ -59,14 +59,16 @@ condition_levels (Some c) = levels c
 
 abbrev pub filtering_levels : List Filtering → ℕ
 filtering_levels [] = 0
-filtering_levels (f ∷ fs) = max (max (exprs_levels f.arguments) (pairs_levels f.keywords)) (filtering_levels fs)
+filtering_levels (f ∷ fs) =
+    max (max (exprs_levels f.arguments) (pairs_levels f.keywords)) (filtering_levels fs)
 
 abbrev mutual
   pub stmt_levels : Stmt → ℕ
   stmt_levels (data_of t) = 0
   stmt_levels (print line e) = suc (levels e)
   stmt_levels (choose bs other) = suc (max (branch_levels bs) (body_levels other))
-  stmt_levels (for_each line xs e c body other) = suc (max (max (levels e) (condition_levels c)) (max (body_levels body) (body_levels other)))
+  stmt_levels (for_each line xs e c body other) =
+      suc (max (max (levels e) (condition_levels c)) (max (body_levels body) (body_levels other)))
   stmt_levels (set line xs e) = suc (levels e)
   stmt_levels (set_block line x body) = suc (body_levels body)
   stmt_levels (with_values line ps body) = suc (max (pairs_levels ps) (body_levels body))
@@ -85,7 +87,8 @@ abbrev mutual
 
   pub branch_levels : Branches → ℕ
   branch_levels no_branches = 0
-  branch_levels (branch line c body rest) = max (max (levels c) (body_levels body)) (branch_levels rest)
+  branch_levels (branch line c body rest) =
+      max (max (levels c) (body_levels body)) (branch_levels rest)
 
 -- ---- weight: the tokens that a tree's source has at least; a tag's delimiters count 4 and data 1
 
@@ -96,7 +99,9 @@ condition_weight (Some c) = 1 + weight c
 -- each filter with its name and the sign in front, but for the first one's
 abbrev pub filtering_weight : List Filtering → ℕ
 filtering_weight [] = 0
-filtering_weight (f ∷ fs) = 2 + perhaps_enclosed (exprs_weight f.arguments + pairs_weight 2 f.keywords) + filtering_weight fs
+filtering_weight (f ∷ fs) =
+    2
+    + perhaps_enclosed (exprs_weight f.arguments + pairs_weight 2 f.keywords) + filtering_weight fs
 
 abbrev pub default_weight : Option Literal → ℕ
 default_weight None = 0
@@ -114,7 +119,8 @@ abbrev mutual
   -- endif, the branches, and what is behind else
   stmt_weight (choose bs other) = 5 + branch_weight bs + body_weight other
   -- for and in, the targets with their commas, and endfor
-  stmt_weight (for_each line xs e c body other) = 10 + 2 * length xs + weight e + condition_weight c + body_weight body + body_weight other
+  stmt_weight (for_each line xs e c body other) =
+      10 + 2 * length xs + weight e + condition_weight c + body_weight body + body_weight other
   stmt_weight (set line xs e) = 5 + 2 * length xs + weight e
   stmt_weight (set_block line x body) = 11 + body_weight body
   stmt_weight (with_values line ps body) = 9 + pairs_weight 2 ps + body_weight body

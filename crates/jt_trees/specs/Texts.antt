@@ -18,7 +18,10 @@ repeated (x ∷ xs) = among x xs || repeated xs
 -- a text at its place among ascending ones; one that is there isn't put again
 abbrev pub inserted : Text → List Text → List Text
 inserted x [] = x ∷ []
-inserted x (y ∷ ys) = if bytes_eq y x then y ∷ ys else if is_lt (slice_cmp nat_cmp x y) then x ∷ y ∷ ys else y ∷ inserted x ys
+inserted x (y ∷ ys) =
+    if bytes_eq y x
+    then y ∷ ys
+    else if is_lt (slice_cmp nat_cmp x y) then x ∷ y ∷ ys else y ∷ inserted x ys
 
 -- ascending texts, with each of these at its place
 abbrev pub all_inserted : List Text → List Text → List Text

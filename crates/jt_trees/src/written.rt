@@ -41,7 +41,8 @@ fn single_name(pairs: &[(String, Expr)]) -> Option<&str>
 }
 
 /// The filter that a name means, with its arguments as they are written; none where no filter has
-/// the name. `map` whose only argument is given by the name `attribute` is another filter than `map`.
+/// the name. `map` whose only argument is given by the name `attribute` is another filter than
+/// `map`.
 pub fn filter_of(name: &str, items: &[Expr], pairs: &[(String, Expr)]) -> Option<FilterId>
     ensures { result ≡ spec.filter_written name.now (exprs_view items.now) (pairs_view pairs.now) }
 {

@@ -1,18 +1,18 @@
 //! The calls on one row: a template with its library and its context.
 
 use crate::runs::{in_pieces, in_place, in_slices, whole};
-use crate::shelf::{Shelf, context_of, templates_of};
 use crate::stop::Stop;
 use jt_args::DEFAULT;
 use jt_codegen::{CompileError, compile};
 use jt_host::{ContextError, RenderError, context_from_json, render};
-use jt_image::{Image, ImageError, decode, encode};
+use jt_image::{Code, Image, ImageError, decode, encode};
+use jt_rows::{Shelf, context_of, templates_of};
 use jt_scan::Options;
 use jt_value::Context;
 use jt_verify::{Refusal, Verified, verify};
 
-/// The answers of all calls on a row. What they made is handed on, for a session; there is none where the row's context or templates
-/// are refused.
+/// The answers of all calls on a row. What they made is handed on, for a session; there is none
+/// where the row's context or templates are refused.
 pub(crate) fn row_answers(
     rt: &HostRuntime,
     row: &str,

@@ -3,7 +3,8 @@
 //!     1 to 9     bytes that are no image, by the refusal's number
 //!     A to J     an image that is refused, by the refusal's number
 //!     t f s      an accepted one, whose run ends with a text, a fault or a spent number
-//!     ~ = ^      what must not be: `view` says otherwise than `decode`, `encode` gives other bytes, `verify_view` says otherwise
+//! ~ = ^ what must not be: `view` says otherwise than `decode`, `encode` gives other bytes,
+//! `verify_view` says otherwise
 //!     | < >      the same of runs: in place they end otherwise, more fuel changes an end, a plain machine ends otherwise
 
 use crate::places::{Places, bytes_of};
@@ -21,8 +22,8 @@ use std::alloc::Global;
 /// The fuel up to which accepted images are run.
 const MOST_FUEL: u64 = 20;
 
-/// Prints the letters of an image at some places: that of the beginning in front of it, and those of the byte's other values in
-/// ascending order.
+/// Prints the letters of an image at some places: that of the beginning in front of it, and those
+/// of the byte's other values in ascending order.
 pub(crate) fn image_answers(rt: &HostRuntime, of: &str) -> Result<(), Stop> {
     let (places, of) = Places::read(of)?;
     let (json, digits) = of.split_once('¦').ok_or(Stop::Other)?;
@@ -63,7 +64,8 @@ fn letter(alloc: Global, bytes: &[u8], context: &Context) -> Result<char, Stop> 
     }
 }
 
-/// The letter of bytes that `decode` reads: `view` has to read them too, and `encode` to give them back.
+/// The letter of bytes that `decode` reads: `view` has to read them too, and `encode` to give them
+/// back.
 fn letter_of_image(
     alloc: Global,
     image: Image,

@@ -4,7 +4,7 @@ use crate::calls::again;
 use crate::stop::Stop;
 use crate::writes::Taken;
 use jt_args::DEFAULT;
-use jt_image::{ImageError, View, view};
+use jt_image::{Code, ImageError, View, view};
 use jt_machine::{IoSink, Machine, Progress, RunToError, run, run_to, run_view};
 use jt_value::{Context, NoMemory};
 use jt_verify::{Refusal, Verified, VerifiedView, verify_view};
@@ -90,7 +90,8 @@ pub(crate) fn whole(rt: &HostRuntime, verified: &Verified, context: &Context) ->
     Ok(())
 }
 
-/// A run whose text is written, a byte a call. Where a growth is refused a beginning of the text was written.
+/// A run whose text is written, a byte a call. Where a growth is refused a beginning of the text
+/// was written.
 pub(crate) fn in_pieces(
     rt: &HostRuntime,
     verified: &Verified,

@@ -1,4 +1,5 @@
-//! Sources that strangers change. Each beginning and each change of one byte of a template gives a letter:
+//! Sources that strangers change. Each beginning and each change of one byte of a template gives a
+//! letter:
 //!
 //!     S P C V G  the compiler refuses it
 //!     t f s      it is compiled, accepted, and its run ends with a text, a fault or a spent number
@@ -6,13 +7,13 @@
 //!     9 !        what must not be: want of memory, an image that is not accepted
 
 use crate::places::Places;
-use crate::shelf::{Shelf, context_of, options_of, templates_of, unfolded};
 use crate::stop::Stop;
 use jt_budget::Budget;
 use jt_codegen::{CompileError, compile};
 use jt_host::context_from_json;
 use jt_image::Image;
 use jt_machine::{Outcome, run};
+use jt_rows::{Shelf, context_of, options_of, templates_of};
 use jt_scan::Options;
 use jt_value::Context;
 use jt_verify::verify;
@@ -35,11 +36,11 @@ struct Trial<'a, 'b> {
     context: &'a Context,
 }
 
-/// Prints the letters of each template of a row at some places: that of the beginning in front of it, and those of the byte's other
-/// values in ascending order.
+/// Prints the letters of each template of a row at some places: that of the beginning in front of
+/// it, and those of the byte's other values in ascending order.
 pub(crate) fn source_answers(rt: &HostRuntime, of: &str) -> Result<(), Stop> {
     let (places, row) = Places::read(of)?;
-    let text = unfolded(rt.alloc(), row)?;
+    let text = row.replace(rt.alloc(), "␤", "\n")?;
     row_answers(rt, text.as_str(), places)
 }
 

@@ -12,8 +12,8 @@ const TURNS: u64 = 12;
 
 const SLICE: u32 = 7;
 
-/// Opens a session of each start, gives each its turns, one after the other, and asks for each outcome; then closes all. An image that
-/// is handed back is opened again.
+/// Opens a session of each start, gives each its turns, one after the other, and asks for each
+/// outcome; then closes all. An image that is handed back is opened again.
 pub(crate) fn turn_answers(rt: &HostRuntime, starts: Vec<(Verified, Context)>) -> Result<(), Stop> {
     let mut host = Host::new(rt.alloc());
     let mut last = 0u64;

@@ -3,7 +3,9 @@
 use crate::calls::again;
 use crate::stop::Stop;
 use jt_escape::escape_into;
-use jt_image::{Constant, Image, ImageError, Instruction, Parts, Unit, Version, assemble, upgrade};
+use jt_image::{
+    Code, Constant, Image, ImageError, Instruction, Parts, Unit, Version, assemble, upgrade,
+};
 use jt_value::{Context, Value};
 use std::alloc::Global;
 

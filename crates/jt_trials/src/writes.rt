@@ -1,11 +1,11 @@
 //! Writers that take what they are given in pieces.
 
-use crate::shelf::{context_of, templates_of};
 use crate::stop::Stop;
 use jt_args::DEFAULT;
 use jt_codegen::compile;
 use jt_host::context_from_json;
 use jt_machine::{IoSink, RunToError, Sink, run_to};
+use jt_rows::{context_of, templates_of};
 use jt_scan::Options;
 use jt_value::Context;
 use jt_verify::{Verified, verify};
@@ -63,7 +63,8 @@ impl io::Write for Taken {
     }
 }
 
-/// A writer that takes pieces of some length, fails at one of its calls, and would take more behind it.
+/// A writer that takes pieces of some length, fails at one of its calls, and would take more behind
+/// it.
 #[derive(Drop)]
 struct Flaky {
     taken: Vec<u8>,
@@ -98,7 +99,8 @@ impl io::Write for Flaky {
     }
 }
 
-/// Runs a row into writers that fail at their first call, at their second one and so on, until the run ends before.
+/// Runs a row into writers that fail at their first call, at their second one and so on, until the
+/// run ends before.
 pub(crate) fn write_answers(rt: &HostRuntime, row: &str) -> Result<(), Stop> {
     let alloc = rt.alloc();
     let shelf = templates_of(alloc, row)?;

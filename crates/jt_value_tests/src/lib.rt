@@ -1,4 +1,5 @@
-//! Calls of values and operators that the program does not make, each with ample memory. All that it shows stands in rows/values.txt.
+//! Calls of values and operators that the program does not make, each with ample memory. All that
+//! it shows stands in rows/values.txt.
 #![tactic(auto)]
 
 #[cfg(test)]

@@ -1,4 +1,4 @@
-use Rattle.std.proofs.Common.{◌≡◌, ◌∙◌, ◌++◌, [], ◌∷◌, Some, ap, append_assoc, map, string_bytes, sym, refl, append-nil}
+use Rattle.std.proofs.Common.{◌≡◌, ◌∙◌, ◌++◌, [], ◌∷◌, Some, ap, append_assoc, map, string_bytes, sym, refl, append-nil, arith, rules}
 use Rattle.std.proofs.lemmas.List.{map-append}
 use Rattle.std.proofs.lemmas.Result.{err_from_is_err_and}
 use Rattle.jt_value.specs.Pairs.{pairs}
@@ -33,21 +33,13 @@ entries_of-loop-key-preserved t c =
     (all ∙ sym (append_assoc done (m ∷ []) left), rw now (one_more shown done old m (string_bytes x.0, view x.1) c.loop-key.invariant.1 given))
 
 pub entries_of-returns-clause-ok : goal.entries_of-returns-clause-ok
-entries_of-returns-clause-ok t c =
-    let done = c.loop-key.yielded in
-    let all : c.args.members.entries ≡ done = c.loop-key.invariant.0 ∙ (ap (λ es. done ++ es) c.in-None.ensures.steps.0 ∙ append-nil done) in
-    rw all (entries_from done c.loop-key.entries.items c.loop-key.invariant.1)
+entries_of-returns-clause-ok t c = search (arith, rules, entries_from)
 
 pub items_of-loop-item-init : goal.items_of-loop-item-init
 items_of-loop-item-init t c = (sym c.into_iter-item-iterator.ensures.into_iter_gives.0, ap (λ vs. map Some (map view vs)) (sym c.in_ok-values.ensures.items))
 
 pub items_of-returns-in_err-value_of-clause-err : goal.items_of-returns-in_err-value_of-clause-err
-items_of-returns-in_err-value_of-clause-err t c =
-    let done = c.loop-item.yielded in
-    let left = c.next.new.self.rest.items in
-    let all : c.args.items.items ≡ done ++ c.in-Some.item ∷ left = c.loop-item.invariant.0 ∙ ap (λ js. done ++ js) c.in-Some.ensures.steps.0 in
-    let p = err_from_is_err_and c.from_residual-in_err-value_of.result c.from_residual-in_err-value_of.ensures.1 in
-    rw (p.1, p.2, all) (item_flaw done c.in-Some.item left c.in_err-value_of.field-0.0 c.in_err-value_of.ensures.err)
+items_of-returns-in_err-value_of-clause-err t c = search (arith, rules, err_from_is_err_and, item_flaw)
 
 pub items_of-loop-item-preserved : goal.items_of-loop-item-preserved
 items_of-loop-item-preserved t c =
@@ -60,8 +52,4 @@ items_of-loop-item-preserved t c =
     (all ∙ sym (append_assoc done (c.in-Some.item ∷ []) left), rw now (one_more value_in done (map view c.loop-item.values.items) c.in-Some.item (view v) c.loop-item.invariant.1 c.in_ok-value_of.ensures.ok))
 
 pub items_of-returns-clause-ok : goal.items_of-returns-clause-ok
-items_of-returns-clause-ok t c =
-    let done = c.loop-item.yielded in
-    let none : c.loop-item.item-iterator.rest.items ≡ [] = nil_of c.loop-item.item-iterator.rest.items c.loop-item.item-iterator.rest.len (sym c.loop-item.item-iterator.rest.ok.0) c.in-None.ensures.steps.0 in
-    let all : c.args.items.items ≡ done = c.loop-item.invariant.0 ∙ (ap (λ js. done ++ js) none ∙ append-nil done) in
-    rw all (items_from done c.loop-item.values.items c.loop-item.invariant.1)
+items_of-returns-clause-ok t c = search (arith, rules, nil_of, items_from)

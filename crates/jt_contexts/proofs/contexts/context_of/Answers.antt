@@ -1,4 +1,4 @@
-use Rattle.std.proofs.Common.{◌≡◌, ◌∙◌, ◌++◌, [], ◌∷◌, Some, ap, append_assoc, map, string_bytes, string_cmp, subst, sym, refl, append-nil}
+use Rattle.std.proofs.Common.{◌≡◌, ◌∙◌, ◌++◌, [], ◌∷◌, Some, ap, append_assoc, map, string_bytes, string_cmp, subst, sym, refl, append-nil, arith, rules}
 use Rattle.std.specs.List.Sorted.{IsStrictlySortedBy}
 use Rattle.std.specs.Map.{keys_of}
 use Rattle.std.proofs.lemmas.Result.{err_from_is_err_and}
@@ -33,7 +33,4 @@ loop-name-preserved c =
     (all ∙ sym (append_assoc done (m ∷ []) left), rw (new ∙ last) (one_more shown done old m (string_bytes c.in-Some.name, view c.in_ok-value.value) c.loop-name.invariant.1 given))
 
 pub returns-clause-ok : goal.returns-clause-ok
-returns-clause-ok c =
-    let done = c.loop-name.yielded in
-    let all : c.args.members.entries ≡ done = c.loop-name.invariant.0 ∙ (ap (λ es. done ++ es) c.in-None.ensures.steps.0 ∙ append-nil done) in
-    rw all (pairs_from done (pairs_of c.loop-name.context) c.loop-name.invariant.1)
+returns-clause-ok c = search (arith, rules, pairs_from)

@@ -117,14 +117,7 @@ read_items-items-preserved t c =
     }
 
 pub read_items-returns-clause-ok : goal.read_items-returns-clause-ok
-read_items-returns-clause-ok t c =
-    let l = c.items in
-    let r = c.take_end_array.new.self in
-    record {
-      spelt = before l.invariant.so_far no_items;
-      read = l.invariant.read ∙ ap (parse_map (before l.invariant.so_far)) (items_over (value c.args.depth) l.invariant.turns l.reader r l.invariant.enough (grind arith));
-      is = all_items l.invariant.so_far l.found.items l.invariant.are;
-    }
+read_items-returns-clause-ok t c = search (arith, rules, before, items_over, all_items)
 
 pub read_members-members-init : goal.read_members-members-init
 read_members-members-init t c = record {
@@ -163,13 +156,7 @@ read_members-members-preserved t c =
     }
 
 pub read_members-returns-clause-ok : goal.read_members-returns-clause-ok
-read_members-returns-clause-ok t c =
-    let l = c.members in
-    record {
-      spelt = l.invariant.so_far;
-      read = l.invariant.read ∙ members_over (value c.args.depth) l.invariant.so_far l.invariant.turns l.reader c.next_key.new.self l.invariant.enough (grind arith);
-      is = l.invariant.are ∙ ap (λ es. Some (pairs es)) (sym c.in_ok-members.ensures);
-    }
+read_members-returns-clause-ok t c = search (arith, rules, members_over)
 
 pub read_members-returns-clause-ordered : goal.read_members-returns-clause-ordered
 read_members-returns-clause-ordered t c = subst (λ es. IsStrictlySortedBy string_cmp (keys_of es)) (sym c.in_ok-members.ensures) (is_in_order c.members.found.items)

@@ -1,4 +1,4 @@
-use Rattle.std.proofs.Common.{◌≡◌, ◌∙◌, ◌++◌, [], ◌∷◌, ap, append_assoc, append-nil, string_bytes, string_cmp, subst, sym}
+use Rattle.std.proofs.Common.{◌≡◌, ◌∙◌, ◌++◌, [], ◌∷◌, ap, append_assoc, append-nil, string_bytes, string_cmp, subst, sym, arith, rules}
 use Rattle.std.specs.List.Sorted.{IsStrictlySortedBy}
 use Rattle.std.specs.Map.{keys_of}
 use Rattle.jt_value.specs.Pairs.{Pairs, pairs, put}
@@ -21,9 +21,4 @@ loop-name-preserved c =
     (all ∙ sym (append_assoc done (m ∷ []) left), new ∙ ap (λ (ps : Pairs). put (string_bytes c.in-Some.name) (view c.in-Some.value) ps) c.loop-name.invariant.1 ∙ put_last done m left ordered)
 
 pub returns : goal.returns
-returns c =
-    let done = c.loop-name.yielded in
-    let left = c.loop-name.name-iterator.rest in
-    let none : left.items ≡ [] = nil_of left.items left.len (sym left.ok.0) c.in-None.ensures.steps.0 in
-    let all : c.args.members.items ≡ done = c.loop-name.invariant.0 ∙ (ap (λ es. done ++ es) none ∙ append-nil done) in
-    c.loop-name.invariant.1 ∙ ap pairs (sym all)
+returns c = search (arith, rules, nil_of)

@@ -1,8 +1,6 @@
-use Rattle.std.proofs.Common.{List, ℕ, length, ap, ◌∙◌, sym}
+use Rattle.std.proofs.Common.{◌∙◌, sym, arith, rules}
 use Rattle.std.proofs.lemmas.Str.{chars-nil}
 use Rattle.std.proofs.lemmas.List.{nil_from_length}
-use Rattle.std.specs.Str.{chars}
-use Rattle.jt_value.specs.Iteration.{character_items}
 use Rattle.jt_filters.proofs.Characters.{cut_behind, first_behind}
 use Rattle.jt_filters.proofs.item_list.split_character.Goals as goal
 
@@ -15,6 +13,4 @@ returns-in-Some-clause-some c =
     first_behind c.args.text.now _ _ _ c.in-Some.first c.len_utf8.result c.utf8.text (sym c.chars.ensures.rest ∙ c.in-Some.ensures.steps.0) c.len_utf8.ensures.len c.split_at.ensures.front c.split_at.ensures.back
 
 pub returns-in-None-clause-none : goal.returns-in-None-clause-none
-returns-in-None-clause-none c =
-    let none = nil_from_length c.args.text.now (ap length (sym c.chars.ensures.rest) ∙ c.in-None.ensures.steps.0.0) in
-    ap (λ (s : List ℕ). character_items (chars s)) none ∙ ap character_items chars-nil
+returns-in-None-clause-none c = search (arith, rules, nil_from_length, chars-nil)

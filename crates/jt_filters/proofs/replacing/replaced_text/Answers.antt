@@ -1,4 +1,4 @@
-use Rattle.std.proofs.Common.{◌++◌, List, ℕ, ap, sym, ◌∙◌, string_bytes, append_assoc}
+use Rattle.std.proofs.Common.{◌++◌, List, ℕ, ap, sym, ◌∙◌, string_bytes, append_assoc, arith, rules}
 use Rattle.jt_filter_meaning.specs.Texts.{replaced_behind}
 use Rattle.jt_filters.proofs.Replacements.{replaced_step, behind_utf8, replaced_nowhere}
 use Rattle.jt_filters.proofs.replacing.replaced_text.Goals as goal
@@ -30,6 +30,4 @@ loop-front-preserved c =
     }
 
 pub returns : goal.returns
-returns c =
-    let e = replaced_nowhere c.args.old.now c.args.new.now c.loop-front.rest.now c.in_default.ensures.cases in
-    c.in_ok-push_str-3.ensures.bytes ∙ ap (λ (t : List ℕ). string_bytes c.loop-front.replaced ++ t) (sym e) ∙ c.loop-front.invariant.same
+returns c = search (arith, rules, replaced_nowhere)

@@ -1,11 +1,26 @@
 //! Rows as the lines of a text: the prover reads one text, so a row costs it nothing.
 
-use std::alloc::Global;
+use std::alloc::{AllocError, Global};
 use std::process::Abort;
 use std::test::Fail;
 
+/// A row's text with what its signs stand for: `∅` stands for no character.
+pub fn unfolded(alloc: Global, row: &str) -> Result<String, AllocError> {
+    let mut text = String::with_capacity(alloc, row.len())?;
+    for sign in row.chars() {
+        match sign {
+            '∅' => {}
+            '␤' => text.push('\n')?,
+            '␍' => text.push('\r')?,
+            '␠' => text.push(' ')?,
+            _ => text.push(sign)?,
+        }
+    }
+    Ok(text)
+}
+
 /// Checks rows `asked => wanted`, one a line, against what `answer` gives of each.
-pub(crate) fn rows_hold<F: Fn(Global, &str) -> Result<String, Fail>>(
+pub fn rows_hold<F: Fn(Global, &str) -> Result<String, Fail>>(
     rt: &(impl Abort + AllocGlobal),
     answer: F,
     rows: &str,
@@ -13,9 +28,7 @@ pub(crate) fn rows_hold<F: Fn(Global, &str) -> Result<String, Fail>>(
     requires { F.IsAlwaysCallable answer }
 {
     for row in rows.lines() {
-        let Some((asked, wanted)) = row.trim().split_once(" => ") else {
-            return Err(Fail::from("a row has no =>"));
-        };
+        let (asked, wanted) = row.trim().split_once(" => ").ok_or("a row has no =>")?;
         let found = answer(rt.alloc(), asked)?;
         assert_eq!(rt; found.as_str(), wanted, "{row}");
     }
@@ -23,7 +36,7 @@ pub(crate) fn rows_hold<F: Fn(Global, &str) -> Result<String, Fail>>(
 }
 
 /// The numbers of a row, with blanks between.
-pub(crate) fn numbers<const N: usize>(asked: &str) -> Result<[u32; N], Fail> {
+pub fn numbers<const N: usize>(asked: &str) -> Result<[u32; N], Fail> {
     let mut found = [0; N];
     let mut words = asked.split(' ');
     for place in found.iter_mut() {
