@@ -10,7 +10,8 @@ use crate::value::Value;
 use std::alloc::{AllocError, Global};
 use std::collections::BTreeMap;
 
-/// So many entries are gone through one by one: for so few nothing is kept.
+/// A map of at most so many entries is gone through one by one: for so few that takes no longer
+/// than a search of another kind, and nothing has to be kept.
 const FEW: usize = 8;
 
 /// How a key is found among the entries of a map.
