@@ -12,6 +12,10 @@ use crate::operands::{misfit, misfit_of_one};
 use jt_value::{Fault, Value};
 
 /// The sum of two numbers.
+///
+/// # Errors
+///
+/// `Overflow` where it has no 64 bits with a sign.
 #[tactic(auto, using(crate::proofs::Numbers::in_range_is))]
 pub fn sum(x: i64, y: i64) -> Result<i64, Fault>
     ensures { result ≡ arithmetic.sum x y }
@@ -20,16 +24,24 @@ pub fn sum(x: i64, y: i64) -> Result<i64, Fault>
 }
 
 /// What is left of the first number without the second.
+///
+/// # Errors
+///
+/// `Overflow` where it has no 64 bits with a sign.
 #[tactic(auto, using(crate::proofs::Numbers::in_range_is))]
-fn difference(x: i64, y: i64) -> Result<i64, Fault>
+pub fn difference(x: i64, y: i64) -> Result<i64, Fault>
     ensures { result ≡ arithmetic.difference x y }
 {
     x.checked_sub(y).ok_or(Fault::Overflow)
 }
 
 /// The product of two numbers.
+///
+/// # Errors
+///
+/// `Overflow` where it has no 64 bits with a sign.
 #[tactic(auto, using(crate::proofs::Numbers::in_range_is))]
-pub(crate) fn product(x: i64, y: i64) -> Result<i64, Fault>
+pub fn product(x: i64, y: i64) -> Result<i64, Fault>
     ensures { result ≡ arithmetic.product x y }
 {
     x.checked_mul(y).ok_or(Fault::Overflow)
@@ -83,8 +95,12 @@ fn rest_size(x: i64, y: i64) -> u64
     divisor - rest
 }
 
-/// What the rounded quotient leaves: 0, or of the divisor's sign.
-pub(crate) fn remainder(x: i64, y: i64) -> Result<i64, Fault>
+/// What the quotient, rounded down, leaves: 0, or of the divisor's sign.
+///
+/// # Errors
+///
+/// `ZeroDivide` where the divisor is 0.
+pub fn remainder(x: i64, y: i64) -> Result<i64, Fault>
     ensures { result ≡ arithmetic.remainder x y }
 {
     if y == 0 {

@@ -10,7 +10,7 @@ ghost use Rattle.jt_ops.specs.ItemOf as items;
 ghost use Rattle.jt_ops.specs.Limited.{limited_by, Answers};
 
 use crate::limits::{Limits, OpError, allow, copy_within, made, within};
-use jt_value::{Fault, NoMemory, Value};
+use jt_value::{Fault, NoMemory, Value, ValueMap};
 use std::alloc::Global;
 
 /// The item of a value.
@@ -24,8 +24,8 @@ pub(crate) fn item(
 {
     match (value, key) {
         (Value::Undefined, _) => Err(Fault::Undefined.into()),
-        (Value::Map(map), Value::Text(name)) => keyed(alloc, map.entries(), name, limits),
-        (Value::Map(map), Value::Markup(name)) => keyed(alloc, map.entries(), name, limits),
+        (Value::Map(map), Value::Text(name)) => keyed(alloc, map, name, limits),
+        (Value::Map(map), Value::Markup(name)) => keyed(alloc, map, name, limits),
         (Value::List(list), Value::Int(index)) => {
             found(alloc, indexed(list.items(), *index), limits)
         },
@@ -47,19 +47,15 @@ fn found(alloc: Global, found: Option<&Value>, limits: Limits) -> Result<Value, 
 }
 
 /// A copy of the first value of a key, undefined where there is none.
-fn keyed(
-    alloc: Global,
-    entries: &[(String, Value)],
-    name: &str,
-    limits: Limits,
-) -> Result<Value, OpError>
+fn keyed(alloc: Global, map: &ValueMap, name: &str, limits: Limits) -> Result<Value, OpError>
     ensures { Answers result
-        (limited_by limits (Ok (or_undefined (entry_of name.now (entries_view entries.now))))) }
+        (limited_by limits (Ok (or_undefined (entry_of name.now map.now)))) }
 {
-    found(alloc, entry(entries, name), limits)
+    found(alloc, map.get(name), limits)
 }
 
-/// The first value of a key.
+/// The first value of a key among entries, which are gone through one by one. Where the map is at
+/// hand, `ValueMap::get` takes less time.
 pub fn entry<'a>(entries: &'a [(String, Value)], key: &str) -> Option<&'a Value>
     ensures { option_map view (option_copied result) ≡ entry_of key.now (entries_view entries.now) }
 {

@@ -18,7 +18,7 @@ mod ranges;
 mod testing;
 mod text;
 
-pub use arithmetic::sum;
+pub use arithmetic::{difference, product, remainder, sum};
 pub use item::{character_count, entry};
 pub use jt_ids::{OpId, TestId};
 pub use limits::{Limits, OpError, allow, copy_within, within};

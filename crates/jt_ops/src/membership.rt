@@ -1,8 +1,7 @@
 //! Whether a value is in another.
 ghost use Rattle.std.specs.Prelude.{◌≡◌};
-ghost use Rattle.jt_value.specs.Entries as keys;
 ghost use Rattle.jt_value.specs.Tree as tree;
-ghost use Rattle.jt_value.specs.View.{view, items_view, entries_view};
+ghost use Rattle.jt_value.specs.View.{view, items_view};
 ghost use Rattle.jt_ops.specs.Membership as membership;
 
 use crate::comparing::equals_text;
@@ -24,8 +23,8 @@ pub(crate) fn is_in(value: &Value, container: &Value) -> Result<bool, Fault>
         (Value::Markup(part), Value::Text(whole)) => Ok(occurs_in(part, whole)),
         (Value::Markup(part), Value::Markup(whole)) => Ok(occurs_in(part, whole)),
         (_, Value::List(list)) => Ok(has_item(value, list.items())),
-        (Value::Text(key), Value::Map(map)) => Ok(has_key(key, map.entries())),
-        (Value::Markup(key), Value::Map(map)) => Ok(has_key(key, map.entries())),
+        (Value::Text(key), Value::Map(map)) => Ok(map.contains_key(key)),
+        (Value::Markup(key), Value::Map(map)) => Ok(map.contains_key(key)),
         (_, Value::Map(_)) => Ok(false),
         _ => Err(misfit(value, container)),
     }
@@ -40,7 +39,7 @@ pub(crate) fn text_is_in(text: &str, container: &Value) -> Result<bool, Fault>
         Value::Text(whole) => Ok(occurs_in(text, whole)),
         Value::Markup(whole) => Ok(occurs_in(text, whole)),
         Value::List(list) => Ok(has_text(text, list.items())),
-        Value::Map(map) => Ok(has_key(text, map.entries())),
+        Value::Map(map) => Ok(map.contains_key(text)),
         _ => Err(Fault::NotIterable),
     }
 }
@@ -71,18 +70,6 @@ fn has_item(value: &Value, items: &[Value]) -> bool
 {
     for item in items {
         if value.equals(item) {
-            return true;
-        }
-    }
-    false
-}
-
-/// Whether a map has a key.
-fn has_key(key: &str, entries: &[(String, Value)]) -> bool
-    ensures { result ≡ keys.has_key key.now (entries_view entries.now) }
-{
-    for entry in entries {
-        if entry.0.as_str() == key {
             return true;
         }
     }

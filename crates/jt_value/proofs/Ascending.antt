@@ -35,7 +35,7 @@ later true b p = refl
 later false b p = p
 
 -- what stands before the first key stands before all
-before_all : (k : List ℕ) (es : Entries) → stands_before k es ≡ true → ascends es ≡ true → (x : List ℕ) → has_key x es ≡ true → slice_cmp nat_cmp k x ≡ Less
+pub before_all : (k : List ℕ) (es : Entries) → stands_before k es ≡ true → ascends es ≡ true → (x : List ℕ) → has_key x es ≡ true → slice_cmp nat_cmp k x ≡ Less
 before_all k no_entries b a x there = absurd (true≢false (sym there))
 before_all k (entry l t es) b a x there =
     by (bytes_eq l x) refl there (before_all l es (left_true (stands_before l es) (ascends es) a) (right_true (stands_before l es) (ascends es) a) x)

@@ -45,11 +45,11 @@ entry_of-more k l u (entry m t es) = by (bytes_eq m k) (entry_of-more k l u es)
     by true rest = refl
     by false rest = rest
 
--- Equality of maps and agreement at each key.
-missing : (o : Option Tree) → is_some o ≡ false → o ≡ None
+pub missing : (o : Option Tree) → is_some o ≡ false → o ≡ None
 missing None h = refl
 missing (Some t) h = absurd (true≢false h)
 
+-- Equality of maps and agreement at each key.
 agree-there : (o p : Option Tree) → option_map_or (λ t. option_map_or (equal t) p false) o false ≡ true → agree o p ≡ true
 agree-there None p h = absurd (true≢false (sym h))
 agree-there (Some t) None h = absurd (true≢false (sym h))

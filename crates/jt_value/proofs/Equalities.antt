@@ -98,10 +98,12 @@ entry_of-first (x ∷ xs) (suc i) e lt is p = by (bytes_eq (string_bytes x.0) (s
     by false q rest = rest q
 
 -- at a key's first entry, equality looks at its value
-pub equal_at-first : (xs : List Pair) (i : ℕ) (e : Pair) → i < length xs → e ≡ get_or xs i e → has_key (string_bytes e.0) (entries_view (take i xs)) ≡ false
-    → (other : Option Tree) → equal_at (entries_view xs) (string_bytes e.0) other ≡ option_map_or (equal (view e.1)) other false
-equal_at-first xs i e lt is p other =
-    equal_at-entry_of (entries_view xs) (string_bytes e.0) other ∙ ap (λ o. option_map_or (λ t. option_map_or (equal t) other false) o false) (entry_of-first xs i e lt is p)
+pub equal_at-first : (xs : List Pair) (es : Entries) → entries_view xs ≡ es → (i : ℕ) (e : Pair) → i < length xs → e ≡ get_or xs i e → has_key (string_bytes e.0) (entries_view (take i xs)) ≡ false
+    → (other : Option Tree) → equal_at es (string_bytes e.0) other ≡ option_map_or (equal (view e.1)) other false
+equal_at-first xs es same i e lt is p other =
+    ap (λ fs. equal_at fs (string_bytes e.0) other) (sym same)
+    ∙ equal_at-entry_of (entries_view xs) (string_bytes e.0) other
+    ∙ ap (λ o. option_map_or (λ t. option_map_or (equal t) other false) o false) (entry_of-first xs i e lt is p)
 
 -- Two maps with the same keys at the same places.
 pub same_length : (xs ys : List Pair) → same_keys (entries_view xs) (entries_view ys) ≡ true → length xs ≡ length ys
@@ -150,16 +152,13 @@ same_first (x ∷ xs) (y ∷ ys) (suc i) e f h lt is at p =
     by false q rest = rest q
 
 -- so equality there compares the two values
-pub equal_at-same : (xs ys : List Pair) (i : ℕ) (e f : Pair) → same_keys (entries_view xs) (entries_view ys) ≡ true → i < length xs → e ≡ get_or xs i e → f ≡ get_or ys i f
-    → has_key (string_bytes e.0) (entries_view (take i xs)) ≡ false → equal_at (entries_view xs) (string_bytes e.0) (entry_of (string_bytes e.0) (entries_view ys)) ≡ equal (view e.1) (view f.1)
-equal_at-same xs ys i e f h lt is at p =
-    equal_at-first xs i e lt is p (entry_of (string_bytes e.0) (entries_view ys)) ∙ ap (λ o. option_map_or (equal (view e.1)) o false) (same_first xs ys i e f h lt is at p)
+pub equal_at-same : (xs ys : List Pair) (es : Entries) → entries_view xs ≡ es → (i : ℕ) (e f : Pair) → same_keys es (entries_view ys) ≡ true → i < length xs → e ≡ get_or xs i e → f ≡ get_or ys i f
+    → has_key (string_bytes e.0) (entries_view (take i xs)) ≡ false → equal_at es (string_bytes e.0) (entry_of (string_bytes e.0) (entries_view ys)) ≡ equal (view e.1) (view f.1)
+equal_at-same xs ys es same i e f h lt is at p =
+    equal_at-first xs es same i e lt is p (entry_of (string_bytes e.0) (entries_view ys))
+    ∙ ap (λ o. option_map_or (equal (view e.1)) o false) (same_first xs ys i e f (ap (λ gs. same_keys gs (entries_view ys)) same ∙ h) lt is at p)
 
--- what a look behind the entries below an index says, for the names that a proof has for them
-pub seen : (k m : List ℕ) (xs : List Pair) (i j : ℕ) (b : Bool) → b ≡ has_key k (entries_view (take j xs)) → k ≡ m → j ≡ i → has_key m (entries_view (take i xs)) ≡ b
-seen k m xs i j b h p q = ap (λ n. has_key n (entries_view (take i xs))) (sym p) ∙ ap (λ n. has_key k (entries_view (take n xs))) (sym q) ∙ sym h
-
--- the same of a look for the first value of a key
+-- what a look for the first value of a key says, for the names that a proof has for them
 pub found : (t : Tree) (k m : List ℕ) (fs : Entries) (b : Bool) → b ≡ option_map_or (equal t) (entry_of k fs) false → k ≡ m → option_map_or (equal t) (entry_of m fs) false ≡ b
 found t k m fs b h p = ap (λ n. option_map_or (equal t) (entry_of n fs) false) (sym p) ∙ sym h
 

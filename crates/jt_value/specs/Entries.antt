@@ -1,5 +1,5 @@
 -- The entries of a map by their keys. A map that a caller gave may have one key twice: its first value counts.
-use Rattle.std.specs.Prelude.{ℕ, List, [], ◌∷◌, Bool, true, false, ◌&&◌, Option, Some, None, if◌then◌else◌}
+use Rattle.std.specs.Prelude.{ℕ, List, [], ◌∷◌, Bool, true, false, ◌&&◌, Option, Some, None, option_map, suc, if◌then◌else◌}
 use Rattle.std.specs.Str.{bytes_eq}
 use Rattle.std.specs.Ordering.{nat_cmp, is_lt}
 use Rattle.std.specs.Cmp.Lexicographic.{slice_cmp}
@@ -9,6 +9,11 @@ use Rattle.jt_value.specs.Tree.{Tree, Entries, no_entries, entry}
 abbrev pub entry_of : List ℕ → Entries → Option Tree
 entry_of k no_entries = None
 entry_of k (entry l t es) = if bytes_eq l k then Some t else entry_of k es
+
+-- the place of a key's first value
+abbrev pub place_of : List ℕ → Entries → Option ℕ
+place_of k no_entries = None
+place_of k (entry l t es) = if bytes_eq l k then Some 0 else option_map suc (place_of k es)
 
 -- whether a key is there
 abbrev pub has_key : List ℕ → Entries → Bool

@@ -1,47 +1,24 @@
 //! The entries of a map by their keys. A key that stands twice has its first value.
-ghost use Rattle.std.specs.Prelude.{◌≡◌, option_map, option_copied};
+ghost use Rattle.std.specs.Prelude.{◌≡◌};
 ghost use Rattle.std.specs.Cmp.Lexicographic.{slice_cmp};
 ghost use Rattle.std.specs.Ordering.{nat_cmp, is_lt};
-ghost use Rattle.jt_value.specs.Entries.{entry_of, has_key, all_keys, same_keys, ascends};
-ghost use Rattle.jt_value.specs.View.{view, entries_view};
+ghost use Rattle.jt_value.specs.Entries.{place_of, same_keys, ascends};
+ghost use Rattle.jt_value.specs.View.{entries_view};
 
 use crate::value::Value;
 
-/// The first value of a key.
-pub(crate) fn first_value<'a>(entries: &'a [(String, Value)], key: &str) -> Option<&'a Value>
-    ensures { option_map view (option_copied result) ≡ entry_of key.now (entries_view entries.now) }
+/// The place of a key's first value: the entries are gone through one by one.
+pub(crate) fn first_place(entries: &[(String, Value)], key: &str) -> Option<usize>
+    ensures { result ≡ place_of key.now (entries_view entries.now) }
 {
+    let mut place = 0;
     for entry in entries {
         if entry.0.as_str() == key {
-            return Some(&entry.1);
+            return Some(place);
         }
+        place += 1;
     }
     None
-}
-
-/// Whether a key is there.
-pub(crate) fn has(entries: &[(String, Value)], key: &str) -> bool
-    ensures { result ≡ has_key key.now (entries_view entries.now) }
-{
-    for entry in entries {
-        if entry.0.as_str() == key {
-            return true;
-        }
-    }
-    false
-}
-
-/// Whether the entries have each key of the others.
-pub(crate) fn has_all_keys(entries: &[(String, Value)], others: &[(String, Value)]) -> bool
-    ensures { result
-        ≡ all_keys (λ k. has_key k (entries_view entries.now)) (entries_view others.now) }
-{
-    for other in others {
-        if !has(entries, other.0.as_str()) {
-            return false;
-        }
-    }
-    true
 }
 
 /// Whether both have the same keys at the same places.

@@ -3,11 +3,12 @@ ghost use Rattle.std.specs.Prelude.{◌≡◌, ◌↔◌, true, false, IsTrue};
 ghost use Rattle.std.specs.Option.{option_map_or};
 ghost use Rattle.jt_value.specs.Tree as tree;
 ghost use Rattle.jt_value.specs.Tree.{Entries};
-ghost use Rattle.jt_value.specs.Entries.{entry_of, all_keys, same_keys};
+ghost use Rattle.jt_value.specs.Entries.{entry_of, has_key, all_keys, same_keys};
 ghost use Rattle.jt_value.specs.Equality.{equal, equal_items, equal_at, truth_number, AgreeAtEachKey};
 ghost use Rattle.jt_value.specs.View.{view, items_view, entries_view};
 
-use crate::entries::{ascend, first_value, has, has_all_keys, have_same_keys};
+use crate::entries::{ascend, have_same_keys};
+use crate::payload::ValueMap;
 use crate::value::Value;
 
 impl Value {
@@ -69,7 +70,7 @@ fn are_equal(left: &Value, right: &Value) -> bool
             _ => false,
         },
         Value::Map(map) => match right {
-            Value::Map(other) => are_maps_equal(map.entries(), other.entries()),
+            Value::Map(other) => are_maps_equal(map, other),
             _ => false,
         },
     }
@@ -93,12 +94,13 @@ fn are_items_equal(items: &[Value], others: &[Value]) -> bool
 }
 
 #[cycle(equality)]
-fn are_maps_equal(entries: &[(String, Value)], others: &[(String, Value)]) -> bool
-    ensures { result
-        ≡ equal (tree.map (entries_view entries.now)) (tree.map (entries_view others.now)) }
+fn are_maps_equal(map: &ValueMap, other: &ValueMap) -> bool
+    ensures { result ≡ equal (tree.map map.now) (tree.map other.now) }
 {
+    let entries = map.entries();
+    let others = other.entries();
     if have_same_keys(entries, others) {
-        return are_values_equal_in_place(entries, others);
+        return are_values_equal_in_place(map, others);
     }
     // In byte order, the same keys would stand at the same places.
     if ascend(entries) && ascend(others) {
@@ -107,7 +109,7 @@ fn are_maps_equal(entries: &[(String, Value)], others: &[(String, Value)]) -> bo
     if differ_in_number(entries, others) {
         return false;
     }
-    has_all_keys(entries, others) && are_first_values_equal(entries, others)
+    has_all_keys(map, others) && are_first_values_equal(map, other)
 }
 
 /// Whether one map has more keys than the other has entries, which is told where its keys ascend:
@@ -124,18 +126,29 @@ fn differ_in_number(entries: &[(String, Value)], others: &[(String, Value)]) -> 
     }
 }
 
+/// Whether a map has each key of some entries.
+fn has_all_keys(map: &ValueMap, others: &[(String, Value)]) -> bool
+    ensures { result ≡ all_keys (λ k. has_key k map.now) (entries_view others.now) }
+{
+    for other in others {
+        if !map.contains_key(other.0.as_str()) {
+            return false;
+        }
+    }
+    true
+}
+
 /// The same as `are_first_values_equal`, in one pass, for maps that have the same keys at the same places.
 #[cycle(equality)]
-fn are_values_equal_in_place(entries: &[(String, Value)], others: &[(String, Value)]) -> bool
-    requires { same_keys (entries_view entries.now) (entries_view others.now) ≡ true }
+fn are_values_equal_in_place(map: &ValueMap, others: &[(String, Value)]) -> bool
+    requires { same_keys map.now (entries_view others.now) ≡ true }
     ensures { result
-        ≡ all_keys
-        (λ k. equal_at (entries_view entries.now) k (entry_of k (entries_view others.now)))
-        (entries_view entries.now) }
+        ≡ all_keys (λ k. equal_at map.now k (entry_of k (entries_view others.now))) map.now }
 {
+    let entries = map.entries();
     let mut index = 0;
     for (key, value) in entries {
-        if !are_equal(value, &others[index].1) && !has(&entries[..index], key) {
+        if !are_equal(value, &others[index].1) && !map.has_before(key, index) {
             return false;
         }
         index += 1;
@@ -143,18 +156,16 @@ fn are_values_equal_in_place(entries: &[(String, Value)], others: &[(String, Val
     true
 }
 
-/// Whether the first value of each key of the entries equals that key's first value in the others.
+/// Whether the first value of each key of the map equals that key's first value in the other.
 #[cycle(equality)]
-fn are_first_values_equal(entries: &[(String, Value)], others: &[(String, Value)]) -> bool
-    ensures { result
-        ≡ all_keys
-        (λ k. equal_at (entries_view entries.now) k (entry_of k (entries_view others.now)))
-        (entries_view entries.now) }
+fn are_first_values_equal(map: &ValueMap, other: &ValueMap) -> bool
+    ensures { result ≡ all_keys (λ k. equal_at map.now k (entry_of k other.now)) map.now }
 {
+    let entries = map.entries();
     let mut index = 0;
     for (key, value) in entries {
-        let counts = !has(&entries[..index], key);
-        if counts && !is_first_value(value, key, others) {
+        let counts = !map.has_before(key, index);
+        if counts && !is_first_value(value, key, other) {
             return false;
         }
         index += 1;
@@ -164,12 +175,10 @@ fn are_first_values_equal(entries: &[(String, Value)], others: &[(String, Value)
 
 /// Whether the value equals the first value of the key.
 #[cycle(equality)]
-fn is_first_value(value: &Value, key: &str, entries: &[(String, Value)]) -> bool
-    ensures { result
-        ≡ option_map_or (equal (view value.now)) (entry_of key.now (entries_view entries.now))
-        false }
+fn is_first_value(value: &Value, key: &str, map: &ValueMap) -> bool
+    ensures { result ≡ option_map_or (equal (view value.now)) (entry_of key.now map.now) false }
 {
-    match first_value(entries, key) {
+    match map.get(key) {
         Some(first) => are_equal(value, first),
         None => false,
     }

@@ -75,7 +75,7 @@ impl Value {
     pub fn from_entries(alloc: Global, entries: Vec<(String, Value)>) -> Result<Value, NoMemory>
         ensures { IfOk result (λ v. view v ≡ tree.map (entries_view entries.items)) }
     {
-        Ok(Value::Map(Rc::new(alloc, ValueMap::new(entries))?))
+        Ok(Value::Map(Rc::new(alloc, ValueMap::new(alloc, entries)?)?))
     }
 
     /// The characters of a text, markup or not.

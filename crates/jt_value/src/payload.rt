@@ -1,11 +1,14 @@
 //! What lists and maps are made of: their items and entries, with the size and the nesting that these give them.
-ghost use Rattle.std.specs.Prelude.{◌≡◌, ◌+◌, ◌-◌, ◌^◌, min, OnOk, OnErr};
+ghost use Rattle.std.specs.Prelude.{◌≡◌, ◌+◌, ◌-◌, ◌^◌, min, false, IfOk, OnOk, OnErr, nat_lt, option_map, option_copied};
+ghost use Rattle.std.specs.Option.{option_map_or};
+ghost use Rattle.jt_value.specs.Entries.{entry_of, has_key, place_of};
 ghost use Rattle.jt_value.specs.Tree.{items_size, items_nesting, entries_size, entries_nesting};
 ghost use Rattle.jt_value.specs.Payload.{more_items, joined_items};
 ghost use Rattle.jt_value.specs.View.{view, items_view, entries_view};
 
+use crate::key_search::KeySearch;
 use crate::value::Value;
-use std::alloc::AllocError;
+use std::alloc::{AllocError, Global};
 use std::marker::Model;
 
 /// The items of a list, and what the list's size and nesting are by them.
@@ -17,11 +20,12 @@ pub struct ValueList {
     nesting: u32,
 }
 
-/// The entries of a map, and what the map's size and nesting are by them.
+/// The entries of a map, how its keys are found, and what the map's size and nesting are by them.
 #[cycle(value)]
 #[derive(Drop)]
 pub struct ValueMap {
     entries: Vec<(String, Value)>,
+    search: KeySearch,
     size: u64,
     nesting: u32,
 }
@@ -155,9 +159,10 @@ impl Clone for ValueList {
 
 impl ValueMap {
     /// A map of entries.
-    pub(crate) fn new(entries: Vec<(String, Value)>) -> ValueMap
-        ensures { result ≡ entries_view entries.items }
+    pub(crate) fn new(alloc: Global, entries: Vec<(String, Value)>) -> Result<ValueMap, AllocError>
+        ensures { IfOk result (λ map. map ≡ entries_view entries.items) }
     {
+        let search = KeySearch::new(alloc, &entries)?;
         let mut size = 1u64;
         let mut nesting = 0u32;
         for (key, value) in &entries {
@@ -167,11 +172,12 @@ impl ValueMap {
                 .saturating_add(value.size());
             nesting = nesting.max(value.nesting());
         }
-        ValueMap {
+        Ok(ValueMap {
             entries,
+            search,
             size,
             nesting: nesting.saturating_add(1),
-        }
+        })
     }
 
     /// The entries.
@@ -179,6 +185,41 @@ impl ValueMap {
         ensures { entries_view result.now ≡ self.now }
     {
         self.entries.as_slice()
+    }
+
+    /// The first value of a key.
+    pub fn get(&self, key: &str) -> Option<&Value>
+        ensures { option_map view (option_copied result) ≡ entry_of key.now self.now }
+    {
+        match self.place(key) {
+            Some(place) => Some(&self.entries()[place].1),
+            None => None,
+        }
+    }
+
+    /// Whether a key is there.
+    pub fn contains_key(&self, key: &str) -> bool
+        ensures { result ≡ has_key key.now self.now }
+    {
+        self.place(key).is_some()
+    }
+
+    /// Whether a key stands before an index.
+    pub(crate) fn has_before(&self, key: &str, index: usize) -> bool
+        ensures { result
+            ≡ option_map_or (λ place. nat_lt place index) (place_of key.now self.now) false }
+    {
+        match self.place(key) {
+            Some(place) => place < index,
+            None => false,
+        }
+    }
+
+    /// The place of a key's first value.
+    fn place(&self, key: &str) -> Option<usize>
+        ensures { result ≡ place_of key.now self.now }
+    {
+        self.search.place(&self.entries, key)
     }
 
     /// The map's size, or the greatest number where it is greater.

@@ -4,3 +4,5 @@
 
 #[cfg(test)]
 mod calls;
+#[cfg(test)]
+mod maps;

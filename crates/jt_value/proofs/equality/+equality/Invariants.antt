@@ -7,7 +7,8 @@ use Rattle.jt_value.proofs.equality.+equality.Given as goal
 abbrev pub invariant-are_first_values_equal-loop-key : goal.invariant-are_first_values_equal-loop-key
 invariant-are_first_values_equal-loop-key l = record {
   index : l.index ≡ l.key-index;
-  so_far : all_keys (λ k. equal_at (entries_view l.entries) k (entry_of k (entries_view l.others))) (entries_view (take l.key-index l.entries)) ≡ true;
+  entries : entries_view l.entries ≡ l.map;
+  so_far : all_keys (λ k. equal_at l.map k (entry_of k l.other)) (entries_view (take l.key-index l.entries)) ≡ true;
 }
 
 abbrev pub invariant-are_items_equal-loop-item : goal.invariant-are_items_equal-loop-item
@@ -20,6 +21,7 @@ invariant-are_items_equal-loop-item l = record {
 abbrev pub invariant-are_values_equal_in_place-loop-key : goal.invariant-are_values_equal_in_place-loop-key
 invariant-are_values_equal_in_place-loop-key l = record {
   index : l.index ≡ l.key-index;
-  same_keys : same_keys (entries_view l.entries) (entries_view l.others) ≡ true;
-  so_far : all_keys (λ k. equal_at (entries_view l.entries) k (entry_of k (entries_view l.others))) (entries_view (take l.key-index l.entries)) ≡ true;
+  entries : entries_view l.entries ≡ l.map;
+  same_keys : same_keys l.map (entries_view l.others) ≡ true;
+  so_far : all_keys (λ k. equal_at l.map k (entry_of k (entries_view l.others))) (entries_view (take l.key-index l.entries)) ≡ true;
 }
