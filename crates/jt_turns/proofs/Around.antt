@@ -51,12 +51,6 @@ on_done laws old w v at n g numbered r t =
       ended = λ e. subst (λ (m : ℕ). have_ended (take m v.sessions) ≡ true) (sym (add-one at)) (turn_ends w v (at + 1) at n (omega arith) ids took (r.ended e));
     }
 
--- after a turn, which goes on still or not
-pub on_turn : SessionLaws → (old : List (ℕ × Session)) (w v : World) (at n : ℕ) (g h : Bool) → 1 ≤ n → AreNumbered 1 old → Round old w at g → HadTurn w v (at + 1) n (progress_of h)
-    → Round old v (at + 1) (if h then true else g)
-on_turn laws old w v at n g true some numbered r t = on_going laws old w v at n g some r t
-on_turn laws old w v at n g false some numbered r t = on_done laws old w v at n g numbered r t
-
 -- a turn that is refused is so for want of memory
 pub no_memory : (old : List (ℕ × Session)) (w v : World) (count at n : ℕ) (e : HostError) → IsNumbered count old → at < count → HaveMoved old w.sessions
     → TurnRefused (at + 1) n w v e → e ≡ host_error.NoMemory
