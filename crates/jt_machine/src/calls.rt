@@ -45,8 +45,8 @@ pub(crate) fn call<C: Code>(
     requires whole { IsCode (C.code code.now) }
     requires not_wrong { call_next (C.code code.now) unit (config_view state.old) ≢ Wrong }
     requires room { state.old.point + 1 < 2 ^ 64 }
-    ensures { IsNext result state.new (call_next (C.code code.now) unit (config_view state.old)) }
     // Only a call that begins takes memory.
+    ensures { IsNext result state.new (call_next (C.code code.now) unit (config_view state.old)) }
 {
     let Some(header) = code.unit(unit as usize) else {
         unreachable!()
@@ -93,8 +93,10 @@ fn resume(
     given: Option<Value>,
 ) -> Result<Option<Outcome>, NoMemory>
     requires { state.old.left.depth + 1 < 2 ^ 32 }
-    ensures { IsNext result state.new (back_with (caller_view caller state.old.stack.running) state.old.stack.callers (given_view given) (config_view state.old)) }
     // Only a value within the limits takes memory.
+    ensures { IsNext result state.new
+        (back_with (caller_view caller state.old.stack.running) state.old.stack.callers
+        (given_view given) (config_view state.old)) }
 {
     let Some(value) = given else {
         go_on(state, caller);
@@ -111,7 +113,9 @@ fn resume(
 /// Goes back to the caller with what the unit gives, or ends with the text of the buffer.
 pub(crate) fn finish(alloc: Global, state: &mut State) -> Result<Option<Outcome>, NoMemory>
     requires depth { state.old.left.depth + length state.old.stack.callers < 2 ^ 32 }
-    ensures { (u : Option Section) → return_from u (config_view state.old) ≢ Wrong → IsNext result state.new (return_from u (config_view state.old)) }
+    ensures { (u : Option Section)
+        → return_from u (config_view state.old) ≢ Wrong
+        → IsNext result state.new (return_from u (config_view state.old)) }
 {
     if let Some(outcome) = pay(state, 1) {
         return Ok(Some(outcome));

@@ -65,8 +65,8 @@ fn captured(text: String, marked: bool) -> Result<Value, NoMemory>
 pub(crate) fn close_capture(state: &mut State, marked: bool) -> Result<Option<Outcome>, NoMemory>
     requires not_wrong { close_next marked (config_view state.old) ≢ Wrong }
     requires room { state.old.point + 1 < 2 ^ 64 }
-    ensures { IsNext result state.new (close_next marked (config_view state.old)) }
     // Only a text within the limits takes memory.
+    ensures { IsNext result state.new (close_next marked (config_view state.old)) }
 {
     state.stack.pop_capture();
     let around = pop_outer(&mut state.outer);

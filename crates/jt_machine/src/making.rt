@@ -52,7 +52,8 @@ pub(crate) fn take_values(
     Ok(values)
 }
 
-// Takes the cost of an instruction that reads that many values at the top whole, or says that it does not suffice. The values stay.
+// Takes the cost of an instruction that reads that many values at the top whole, or says that it
+// does not suffice. The values stay.
 fn pay_values(state: &mut State, count: usize) -> Option<Outcome>
     requires has { HasValues count state.old.stack.running }
     requires sized { AreSized state.old }
@@ -61,7 +62,8 @@ fn pay_values(state: &mut State, count: usize) -> Option<Outcome>
         → make count f (config_view state.old) ≡ continues result state.new (made count f) }
     ensures same { state.new ≡ record state.old { left = state.new.left } }
 {
-    // Only read, so that the limit is known to have 32 bits: the sum of the sizes is then what it is.
+    // Only read, so that the limit is known to have 32 bits: the sum of the sizes is then what it
+    // is.
     let _size = state.left.size;
     let total = sizes(state.stack.top_entries(count));
     pay(state, 1 + total / 64)
@@ -74,7 +76,9 @@ pub(crate) fn push_answer(
 ) -> Result<Option<Outcome>, NoMemory>
     requires room { state.old.point + 1 < 2 ^ 64 }
     requires fits { IfOk answer (λ v. limit_of (budget_view state.old.left) (view v) ≡ None) }
-    ensures { (r : Result Tree Fault) → Answers answer (limited state.old.left.size state.old.left.nesting r) → IsNext result state.new (answering r (λ t. pushes t (config_view state.old) steps_on)) }
+    ensures { (r : Result Tree Fault)
+        → Answers answer (limited state.old.left.size state.old.left.nesting r)
+        → IsNext result state.new (answering r (λ t. pushes t (config_view state.old) steps_on)) }
 {
     match answer {
         Ok(value) => push_fitting(state, value),
@@ -165,8 +169,8 @@ pub(crate) fn operate(
     requires sized { AreSized state.old }
     requires few { AreFew state.old }
     requires room { state.old.point + 1 < 2 ^ 64 }
-    ensures { IsNext result state.new (operate_next operator (config_view state.old)) }
     // Only a value within the limits takes memory.
+    ensures { IsNext result state.new (operate_next operator (config_view state.old)) }
 {
     let Some(operator) = operator_by(operator) else {
         unreachable!()
@@ -203,10 +207,15 @@ fn filtered(
         let (value, argument) = pop_two(stack);
         return apply(alloc, filter, &[value, argument], escaping, limits);
     }
+    if count == 3 {
+        let (value, first, second) = pop_three(stack);
+        return apply(alloc, filter, &[value, first, second], escaping, limits);
+    }
     filtered_many(alloc, filter, stack, count, escaping, limits)
 }
 
-// The same of any number of values. They stand in a row of as many as a filter can take, so that no memory is taken for them.
+// The same of any number of values. They stand in a row of as many as a filter can take, so that no
+// memory is taken for them.
 #[inline(never)]
 fn filtered_many(
     alloc: Global,
@@ -241,8 +250,8 @@ fn fill_row(stack: &mut Stack, row: &mut [Value], count: usize)
     }
 }
 
-/// Takes that many values, the input deepest, and puts what a filter gives on them in their place. Flag 1 says that it
-/// escapes.
+/// Takes that many values, the input deepest, and puts what a filter gives on them in their place.
+/// Flag 1 says that it escapes.
 pub(crate) fn apply_filter(
     alloc: Global,
     state: &mut State,
@@ -254,8 +263,8 @@ pub(crate) fn apply_filter(
     requires sized { AreSized state.old }
     requires few { AreFew state.old }
     requires room { state.old.point + 1 < 2 ^ 64 }
-    ensures { IsNext result state.new (filter_next id count flag (config_view state.old)) }
     // Only a value within the limits takes memory.
+    ensures { IsNext result state.new (filter_next id count flag (config_view state.old)) }
 {
     let Some(filter) = filter_by(id) else {
         unreachable!()
@@ -317,8 +326,8 @@ pub(crate) fn make_list(
     requires sized { AreSized state.old }
     requires few { AreFew state.old }
     requires room { state.old.point + 1 < 2 ^ 64 }
-    ensures { IsNext result state.new (make count listed (config_view state.old)) }
     // Only a list within the limits takes memory.
+    ensures { IsNext result state.new (make count listed (config_view state.old)) }
 {
     if let Some(outcome) = pay_values(state, count) {
         return Ok(Some(outcome));
@@ -341,8 +350,8 @@ pub(crate) fn make_map(
     requires sized { AreSized state.old }
     requires few { AreFew state.old }
     requires room { state.old.point + 1 < 2 ^ 64 }
-    ensures { IsNext result state.new (make count mapped (config_view state.old)) }
     // Only a map within the limits takes memory.
+    ensures { IsNext result state.new (make count mapped (config_view state.old)) }
 {
     if let Some(outcome) = pay_values(state, count) {
         return Ok(Some(outcome));

@@ -52,8 +52,8 @@ pub(crate) fn pay_for(state: &mut State, value: &Value) -> Option<Outcome>
 /// Puts a value on top and goes on, or says which limit it passes.
 pub(crate) fn push(state: &mut State, value: Value) -> Result<Option<Outcome>, NoMemory>
     requires { state.old.point + 1 < 2 ^ 64 }
-    ensures { IsNext result state.new (pushes (view value) (config_view state.old) steps_on) }
     // Only a value within the limits takes memory.
+    ensures { IsNext result state.new (pushes (view value) (config_view state.old) steps_on) }
 {
     if let Some(spent) = passed_limit(&value, &state.left) {
         return Ok(Some(Outcome::Spent(spent)));
@@ -74,8 +74,8 @@ pub(crate) fn push_fitting(state: &mut State, value: Value) -> Result<Option<Out
 /// Puts a text into the buffer and goes on, or says that it does not fit.
 pub(crate) fn put(state: &mut State, text: &str) -> Result<Option<Outcome>, NoMemory>
     requires { state.old.point + 1 < 2 ^ 64 }
-    ensures { IsNext result state.new (puts text.now (config_view state.old) steps_on) }
     // Only a text that fits takes memory.
+    ensures { IsNext result state.new (puts text.now (config_view state.old) steps_on) }
 {
     if let Err(spent) = state.left.emit(text.len() as u64) {
         return Ok(Some(Outcome::Spent(spent)));

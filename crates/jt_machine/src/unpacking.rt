@@ -133,7 +133,8 @@ fn refusal(value: &Value, count: u32, budget: &Budget) -> Option<Outcome>
 // Puts all of the values on top and goes on.
 fn push_values(state: &mut State, values: Vec<Value>) -> Result<Option<Outcome>, NoMemory>
     requires { state.old.point + 1 < 2 ^ 64 }
-    ensures { IsNext result state.new (piled_on (values_view values.items) (config_view state.old)) }
+    ensures { IsNext result state.new
+        (piled_on (values_view values.items) (config_view state.old)) }
 {
     push_all(&mut state.stack, values)?;
     step_on(state)
@@ -147,7 +148,8 @@ fn spread_items(
     value: Value,
 ) -> Result<Option<Outcome>, NoMemory>
     requires { state.old.point + 1 < 2 ^ 64 }
-    ensures { IsNext result state.new (iterating (items_of_tree (view value)) (λ ts. spread_next count ts (config_view state.old))) }
+    ensures { IsNext result state.new (iterating (items_of_tree (view value))
+        (λ ts. spread_next count ts (config_view state.old))) }
 {
     if let Some(outcome) = refusal(&value, count, &state.left) {
         return Ok(Some(outcome));
@@ -168,8 +170,8 @@ pub(crate) fn unpack(
     requires not_wrong { unpack_next count (config_view state.old) ≢ Wrong }
     requires sized { AreSized state.old }
     requires room { state.old.point + 1 < 2 ^ 64 }
-    ensures { IsNext result state.new (unpack_next count (config_view state.old)) }
     // Only items that are put take memory.
+    ensures { IsNext result state.new (unpack_next count (config_view state.old)) }
 {
     let value = state.stack.pop();
     if let Some(outcome) = pay_for(state, &value) {
