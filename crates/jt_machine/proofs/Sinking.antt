@@ -1,5 +1,5 @@
 -- Pieces that a sink takes one after another.
-use Rattle.std.proofs.Common.{◌≡◌, ℕ, List, [], ◌∷◌, ◌++◌, ◌-◌, length, take, drop, length-drop, Option, refl, sym, ap, subst, ◌∙◌, append_assoc, arith}
+use Rattle.std.proofs.Common.{◌≡◌, ℕ, List, [], ◌∷◌, ◌++◌, ◌-◌, length, take, drop, length-drop, Option, refl, sym, ap, ◌∙◌, append_assoc, arith, rules}
 use Rattle.std.proofs.lemmas.List.{append-nil, take-append-drop}
 use Rattle.std.proofs.Math.Seq.{take-length}
 use Rattle.std.proofs.KnownBytes.{Appends-nil, Appends-trans}
@@ -17,28 +17,17 @@ more_taken n rest all old mid new t a = record {
 }
 
 rest_whole : (n : ℕ) (rest : List ℕ) → take (length rest - n) (drop n rest) ≡ drop n rest
-rest_whole n rest =
-    let e : length rest - n ≡ length (drop n rest) = omega (arith, length-drop n rest) in
-    ap (λ (m : ℕ). take m (drop n rest)) e ∙ take-length (drop n rest)
+rest_whole n rest = search (arith, rules, length-drop n rest, take-length (drop n rest))
 
 pub goes_on : (n : ℕ) (rest all : List ℕ) (old mid new : Option (List ℕ)) → TookTo rest all old mid → Appends mid new (take n rest) → TookTo (take (length rest - n) (drop n rest)) all old new
 goes_on n rest all old mid new t a = rw (rest_whole n rest) (more_taken n rest all old mid new t a)
 
 pub front_taken : (rest all : List ℕ) (old mid new : Option (List ℕ)) → TookTo rest all old mid → Appends mid new [] → TookFront all old new
-front_taken rest all old mid new t a = (
-  rest,
-  record {
-    front = t.front;
-    parts = t.parts;
-    taken = subst (Appends old new) (append-nil t.front) (Appends-trans old mid new t.front [] t.taken a);
-  },
-)
+front_taken rest all old mid new t a = search (arith, rules, append-nil)
 
 nothing_left : (rest : List ℕ) → length rest ≡ 0 → rest ≡ []
 nothing_left [] e = refl
 nothing_left (x ∷ rest) e = absurd (omega (arith, e))
 
 pub all_taken : (rest all : List ℕ) (old new : Option (List ℕ)) → TookTo rest all old new → length rest ≡ 0 → Appends old new all
-all_taken rest all old new t e =
-    let same : all ≡ t.front = t.parts ∙ ap (λ (l : List ℕ). t.front ++ l) (nothing_left rest e) ∙ append-nil t.front in
-    subst (Appends old new) (sym same) t.taken
+all_taken rest all old new t e = search (arith, rules, nothing_left, append-nil)

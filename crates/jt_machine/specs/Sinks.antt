@@ -14,7 +14,8 @@ pub record TookTo (rest all : List ℕ) (old new : Option (List ℕ)) : Type 0 w
 abbrev pub TookFront : List ℕ → Option (List ℕ) → Option (List ℕ) → Type 0
 TookFront all old new = (rest : List ℕ) × TookTo rest all old new
 
--- what a writer answers to a piece is a failure: an error, or that it took nothing though there is something
+-- what a writer answers to a piece is a failure: an error, or that it took nothing though there is
+-- something
 abbrev pub IsFailure : List ℕ → Result ℕ Error → Type 0
 IsFailure piece (Ok n) = (n ≡ 0) × (piece ≢ [])
 IsFailure piece (Err e) = Unit {0}

@@ -1,13 +1,13 @@
 //! Calls, and how they come back.
-ghost use Rattle.std.specs.Prelude.{◌≡◌, ◌≢◌, ◌+◌, ◌<◌, ◌≤◌, ◌^◌, Option, IfOk, OnErr, length};
+ghost use Rattle.std.specs.Prelude.{◌≡◌, ◌≢◌, ◌+◌, ◌<◌, ◌≤◌, ◌^◌, Option, IfOk, length};
 ghost use Rattle.jt_image.specs.Code.{Section};
 ghost use Rattle.jt_image.specs.IsCode.{IsCode};
 ghost use Rattle.jt_image.specs.Step.{locals_of};
 ghost use Rattle.jt_image.specs.Run.{Wrong};
 ghost use Rattle.jt_machine.specs.Entries.{values_view};
-ghost use Rattle.jt_machine.specs.Parts.{call as call_next, return_from, went_back, back_with, GoesOn};
+ghost use Rattle.jt_machine.specs.Parts.{call as call_next, return_from, went_back, back_with};
 ghost use Rattle.jt_machine.specs.StackView.{caller_view};
-ghost use Rattle.jt_machine.specs.View.{config_view, next_view, given_view};
+ghost use Rattle.jt_machine.specs.View.{config_view, IsNext, given_view};
 
 use crate::entries::Entry;
 use crate::limits::passed_limit;
@@ -45,11 +45,8 @@ pub(crate) fn call<C: Code>(
     requires whole { IsCode (C.code code.now) }
     requires not_wrong { call_next (C.code code.now) unit (config_view state.old) ≢ Wrong }
     requires room { state.old.point + 1 < 2 ^ 64 }
-    ensures next { IfOk result
-        (λ r. call_next (C.code code.now) unit (config_view state.old) ≡ next_view r state.new) }
     // Only a call that begins takes memory.
-    ensures memory { OnErr result
-        (GoesOn (call_next (C.code code.now) unit (config_view state.old))) }
+    ensures { IsNext result state.new (call_next (C.code code.now) unit (config_view state.old)) }
 {
     let Some(header) = code.unit(unit as usize) else {
         unreachable!()
@@ -89,19 +86,17 @@ fn go_on(state: &mut State, caller: Caller)
 }
 
 // Lets a caller go on with what the unit gives, or says which limit it passes.
-#[tactic(auto, using(crate::proofs::Returning::back_goes_on, crate::proofs::Pieces::on_err))]
+#[tactic(auto, using(crate::proofs::Returning::back_goes_on, crate::proofs::Growing::lost))]
 fn resume(
     state: &mut State,
     caller: Caller,
     given: Option<Value>,
 ) -> Result<Option<Outcome>, NoMemory>
     requires { state.old.left.depth + 1 < 2 ^ 32 }
-    ensures next { IfOk result (λ r. back_with (caller_view caller state.old.stack.running)
-        state.old.stack.callers (given_view given) (config_view state.old)
-        ≡ next_view r state.new) }
     // Only a value within the limits takes memory.
-    ensures memory { OnErr result (GoesOn (back_with (caller_view caller state.old.stack.running)
-        state.old.stack.callers (given_view given) (config_view state.old))) }
+    ensures { IsNext result state.new
+        (back_with (caller_view caller state.old.stack.running) state.old.stack.callers
+        (given_view given) (config_view state.old)) }
 {
     let Some(value) = given else {
         go_on(state, caller);
@@ -118,12 +113,9 @@ fn resume(
 /// Goes back to the caller with what the unit gives, or ends with the text of the buffer.
 pub(crate) fn finish(alloc: Global, state: &mut State) -> Result<Option<Outcome>, NoMemory>
     requires depth { state.old.left.depth + length state.old.stack.callers < 2 ^ 32 }
-    ensures next { IfOk result (λ r. (u : Option Section)
+    ensures { (u : Option Section)
         → return_from u (config_view state.old) ≢ Wrong
-        → return_from u (config_view state.old) ≡ next_view r state.new) }
-    ensures memory { OnErr result ((u : Option Section)
-        → return_from u (config_view state.old) ≢ Wrong
-        → GoesOn (return_from u (config_view state.old))) }
+        → IsNext result state.new (return_from u (config_view state.old)) }
 {
     if let Some(outcome) = pay(state, 1) {
         return Ok(Some(outcome));

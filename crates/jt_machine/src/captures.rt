@@ -1,10 +1,10 @@
 //! Captures: buffers that are opened and closed.
-ghost use Rattle.std.specs.Prelude.{◌≡◌, ◌≢◌, ◌∷◌, [], ◌+◌, ◌<◌, ◌^◌, if◌then◌else◌, IfOk, OnOk, OnErr, string_bytes};
+ghost use Rattle.std.specs.Prelude.{◌≡◌, ◌≢◌, ◌∷◌, [], ◌+◌, ◌<◌, ◌^◌, if◌then◌else◌, IfOk, OnOk, string_bytes};
 ghost use Rattle.jt_value.specs.Tree as tree;
 ghost use Rattle.jt_value.specs.View.{view};
 ghost use Rattle.jt_image.specs.Run.{Wrong};
-ghost use Rattle.jt_machine.specs.Parts.{open_capture as open_next, close_capture as close_next, GoesOn};
-ghost use Rattle.jt_machine.specs.View.{config_view, next_view, outer_view};
+ghost use Rattle.jt_machine.specs.Parts.{open_capture as open_next, close_capture as close_next};
+ghost use Rattle.jt_machine.specs.View.{config_view, IsNext, outer_view};
 
 use crate::entries::Entry;
 use crate::limits::flat_limit;
@@ -27,8 +27,7 @@ fn push_outer(outer: &mut Vec<String>, buffer: String) -> Result<(), NoMemory>
 /// Opens a buffer.
 pub(crate) fn open_capture(alloc: Global, state: &mut State) -> Result<Option<Outcome>, NoMemory>
     requires { state.old.point + 1 < 2 ^ 64 }
-    ensures next { IfOk result (λ r. open_next (config_view state.old) ≡ next_view r state.new) }
-    ensures memory { OnErr result (GoesOn (open_next (config_view state.old))) }
+    ensures { IsNext result state.new (open_next (config_view state.old)) }
 {
     if let Some(outcome) = pay(state, 1) {
         return Ok(Some(outcome));
@@ -66,10 +65,8 @@ fn captured(text: String, marked: bool) -> Result<Value, NoMemory>
 pub(crate) fn close_capture(state: &mut State, marked: bool) -> Result<Option<Outcome>, NoMemory>
     requires not_wrong { close_next marked (config_view state.old) ≢ Wrong }
     requires room { state.old.point + 1 < 2 ^ 64 }
-    ensures next { IfOk result
-        (λ r. close_next marked (config_view state.old) ≡ next_view r state.new) }
     // Only a text within the limits takes memory.
-    ensures memory { OnErr result (GoesOn (close_next marked (config_view state.old))) }
+    ensures { IsNext result state.new (close_next marked (config_view state.old)) }
 {
     state.stack.pop_capture();
     let around = pop_outer(&mut state.outer);

@@ -4,7 +4,8 @@ ghost use Rattle.jt_escape.specs.Escaping.{escaped, escaped_byte};
 
 use jt_budget::{Budget, Spent};
 
-// Whether a byte is written as it is. Those above the last one that is not, as letters, are found by one comparison.
+// Whether a byte is written as it is. Those above the last one that is not, as letters, are found
+// by one comparison.
 #[tactic(auto, using(crate::proofs::Computed::kept_above))]
 fn is_kept(byte: u8) -> bool
     ensures { result ≡ true → escaped_byte byte ≡ byte ∷ [] }
@@ -15,7 +16,8 @@ fn is_kept(byte: u8) -> bool
     !matches!(byte, b'&' | b'<' | b'>' | b'\'' | b'"')
 }
 
-/// Whether a text is written as it is. All of it is read, which takes less for each byte than to look whether to stop.
+/// Whether a text is written as it is. All of it is read, which takes less for each byte than to
+/// look whether to stop.
 pub(crate) fn is_plain(text: &str) -> bool
     ensures { result ≡ true → escaped text.now ≡ text.now }
 {

@@ -11,7 +11,8 @@ use jt_value::{Fault, NoMemory, Value, ValueError, ValueList};
 use std::alloc::Global;
 use std::rc::Rc;
 
-/// A list gives its items, a map its keys, a text its characters, undefined none; all else is a fault.
+/// A list gives its items, a map its keys, a text its characters, undefined none; all else is a
+/// fault.
 pub(crate) fn items_of(alloc: Global, value: Value) -> Result<Vec<Value>, ValueError>
     ensures { AreItems (items_of_tree (view value)) result }
 {

@@ -2,8 +2,8 @@
 //!
 //! `run` (runs) and `run_to` into a sink (writing, sink), a `Machine` that stops and goes on
 //! (machine), one step (step) with a module for each kind of instruction, those that do least many
-//! at a time (at_once, numbers), text constants made once in a run (constants), and how runs end (outcome).
-//! Read first: runs.rt; what a step is, is said in jt_image's specs/Step.antt.
+//! at a time (at_once, numbers), text constants made once in a run (constants), and how runs end
+//! (outcome). Read first: runs.rt; what a step is, is said in jt_image's specs/Step.antt.
 #![tactic(auto)]
 
 mod at_once;

@@ -39,7 +39,8 @@ pub(crate) fn flat_limit(size: u64, budget: &Budget) -> Option<Spent>
     }
 }
 
-// The limit that a value of this size and nesting passes. The greatest numbers stand for all that are greater.
+// The limit that a value of this size and nesting passes. The greatest numbers stand for all that
+// are greater.
 fn limit_by(size: u64, nesting: u32, budget: &Budget) -> Option<Spent>
     ensures { (t : Tree)
         → size ≡ min (tree.size t) (2 ^ 64 - 1)
@@ -65,8 +66,8 @@ pub(crate) fn list_limit(entries: &[Entry], budget: &Budget) -> Option<Spent>
     limit_by(size, nesting, budget)
 }
 
-/// The limit that the map of keys and values in turn passes. It isn't built. Where all of the values fit together it fits too;
-/// only else is looked for keys that are given twice.
+/// The limit that the map of keys and values in turn passes. It isn't built. Where all of the
+/// values fit together it fits too; only else is looked for keys that are given twice.
 pub(crate) fn map_limit(pairs: &[Entry], budget: &Budget) -> Option<Spent>
     ensures { option_map limit_view result ≡ limit_of (budget_view budget.now)
         (tree.map (put_entries no_entries (all_held pairs.now))) }

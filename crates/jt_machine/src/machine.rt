@@ -61,8 +61,8 @@ impl Machine {
     ghost use Rattle.jt_machine.specs.Session.{started, advanced, lost_session, is_lost, outcome_of, told_of, RunsInSlices};
     ghost use Rattle.jt_machine.specs.View.{budget_view, outcome_view};
 
-    /// The run of an image for a context under a budget, before its first instruction. Where a value of the context passes a limit it
-    /// has ended.
+    /// The run of an image for a context under a budget, before its first instruction. Where a
+    /// value of the context passes a limit it has ended.
     ///
     /// # Errors
     ///
@@ -101,16 +101,19 @@ impl Machine {
         }
     }
 
-    /// Carries out so many instructions, or fewer where the run ends, and says whether it goes on still.
+    /// Carries out so many instructions, or fewer where the run ends, and says whether it goes on
+    /// still.
     ///
     /// # Errors
     ///
-    /// `NoMemory` where a growth was refused. The run is lost then: it has no outcome, and each later call answers the same.
+    /// `NoMemory` where a growth was refused. The run is lost then: it has no outcome, and each
+    /// later call answers the same.
     pub fn advance(&mut self, k: u32) -> Result<Progress, NoMemory>
         ensures steps { OnOk result (self.new ≡ advanced k self.old) }
         ensures progress { IfOk result (λ p. told_of self.new.status ≡ Some p) }
         ensures lost { OnErr result (self.new ≡ lost_session self.old) }
-        // Memory is wanted only where one of these steps goes on and puts something, or ends with a fault that has a place.
+        // Memory is wanted only where one of these steps goes on and puts something, or ends with a
+        // fault that has a place.
         ensures memory { OnErr result (MayLose k self.old) }
         // A run that has ended wants no memory.
         ensures unended { IfErr result (λ e. outcome_of self.old ≡ None) }

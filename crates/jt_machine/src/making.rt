@@ -1,5 +1,5 @@
 //! Instructions that make one value of several.
-ghost use Rattle.std.specs.Prelude.{◌≡◌, ◌≢◌, ◌≤◌, ◌+◌, ◌*◌, ◌-◌, ◌/◌, ◌<◌, ◌^◌, ◌∷◌, [], true, length, map, nat_le, take, List, Result, Some, None, IfOk, OnErr};
+ghost use Rattle.std.specs.Prelude.{◌≡◌, ◌≢◌, ◌≤◌, ◌+◌, ◌*◌, ◌-◌, ◌/◌, ◌<◌, ◌^◌, ◌∷◌, [], true, length, map, nat_le, take, List, Result, Some, None, IfOk};
 ghost use Rattle.jt_value.specs.Tree as tree;
 ghost use Rattle.jt_value.specs.Tree.{Tree};
 ghost use Rattle.jt_value.specs.View.{view};
@@ -15,8 +15,8 @@ ghost use Rattle.jt_image.specs.Ids.{operator_of, filter_of, test_of};
 ghost use Rattle.jt_image.specs.Step.{listed, mapped};
 ghost use Rattle.jt_image.specs.Run.{Wrong, limit_of};
 ghost use Rattle.jt_machine.specs.Activations.{with_running};
-ghost use Rattle.jt_machine.specs.Parts.{make, made, operate as operate_next, apply_filter as filter_next, apply_test as test_next, answering, push as pushes, step_on as steps_on, values_at, below, GoesOn};
-ghost use Rattle.jt_machine.specs.View.{budget_view, config_view, next_view, continues, values_on, HasValues, AreSized, AreFew};
+ghost use Rattle.jt_machine.specs.Parts.{make, made, operate as operate_next, apply_filter as filter_next, apply_test as test_next, answering, push as pushes, step_on as steps_on, values_at, below};
+ghost use Rattle.jt_machine.specs.View.{budget_view, config_view, IsNext, continues, values_on, HasValues, AreSized, AreFew};
 
 use crate::limits::list_limit;
 use crate::maps::{map_of, map_refusal};
@@ -52,7 +52,8 @@ pub(crate) fn take_values(
     Ok(values)
 }
 
-// Takes the cost of an instruction that reads that many values at the top whole, or says that it does not suffice. The values stay.
+// Takes the cost of an instruction that reads that many values at the top whole, or says that it
+// does not suffice. The values stay.
 fn pay_values(state: &mut State, count: usize) -> Option<Outcome>
     requires has { HasValues count state.old.stack.running }
     requires sized { AreSized state.old }
@@ -61,7 +62,8 @@ fn pay_values(state: &mut State, count: usize) -> Option<Outcome>
         → make count f (config_view state.old) ≡ continues result state.new (made count f) }
     ensures same { state.new ≡ record state.old { left = state.new.left } }
 {
-    // Only read, so that the limit is known to have 32 bits: the sum of the sizes is then what it is.
+    // Only read, so that the limit is known to have 32 bits: the sum of the sizes is then what it
+    // is.
     let _size = state.left.size;
     let total = sizes(state.stack.top_entries(count));
     pay(state, 1 + total / 64)
@@ -74,13 +76,9 @@ pub(crate) fn push_answer(
 ) -> Result<Option<Outcome>, NoMemory>
     requires room { state.old.point + 1 < 2 ^ 64 }
     requires fits { IfOk answer (λ v. limit_of (budget_view state.old.left) (view v) ≡ None) }
-    ensures next { (r : Result Tree Fault)
+    ensures { (r : Result Tree Fault)
         → Answers answer (limited state.old.left.size state.old.left.nesting r)
-        → IfOk result (λ o.
-        answering r (λ t. pushes t (config_view state.old) steps_on) ≡ next_view o state.new) }
-    ensures memory { (r : Result Tree Fault)
-        → Answers answer (limited state.old.left.size state.old.left.nesting r)
-        → OnErr result (GoesOn (answering r (λ t. pushes t (config_view state.old) steps_on))) }
+        → IsNext result state.new (answering r (λ t. pushes t (config_view state.old) steps_on)) }
 {
     match answer {
         Ok(value) => push_fitting(state, value),
@@ -171,10 +169,8 @@ pub(crate) fn operate(
     requires sized { AreSized state.old }
     requires few { AreFew state.old }
     requires room { state.old.point + 1 < 2 ^ 64 }
-    ensures next { IfOk result
-        (λ r. operate_next operator (config_view state.old) ≡ next_view r state.new) }
     // Only a value within the limits takes memory.
-    ensures memory { OnErr result (GoesOn (operate_next operator (config_view state.old))) }
+    ensures { IsNext result state.new (operate_next operator (config_view state.old)) }
 {
     let Some(operator) = operator_by(operator) else {
         unreachable!()
@@ -211,10 +207,15 @@ fn filtered(
         let (value, argument) = pop_two(stack);
         return apply(alloc, filter, &[value, argument], escaping, limits);
     }
+    if count == 3 {
+        let (value, first, second) = pop_three(stack);
+        return apply(alloc, filter, &[value, first, second], escaping, limits);
+    }
     filtered_many(alloc, filter, stack, count, escaping, limits)
 }
 
-// The same of any number of values. They stand in a row of as many as a filter can take, so that no memory is taken for them.
+// The same of any number of values. They stand in a row of as many as a filter can take, so that no
+// memory is taken for them.
 #[inline(never)]
 fn filtered_many(
     alloc: Global,
@@ -249,8 +250,8 @@ fn fill_row(stack: &mut Stack, row: &mut [Value], count: usize)
     }
 }
 
-/// Takes that many values, the input deepest, and puts what a filter gives on them in their place. Flag 1 says that it
-/// escapes.
+/// Takes that many values, the input deepest, and puts what a filter gives on them in their place.
+/// Flag 1 says that it escapes.
 pub(crate) fn apply_filter(
     alloc: Global,
     state: &mut State,
@@ -262,10 +263,8 @@ pub(crate) fn apply_filter(
     requires sized { AreSized state.old }
     requires few { AreFew state.old }
     requires room { state.old.point + 1 < 2 ^ 64 }
-    ensures next { IfOk result
-        (λ r. filter_next id count flag (config_view state.old) ≡ next_view r state.new) }
     // Only a value within the limits takes memory.
-    ensures memory { OnErr result (GoesOn (filter_next id count flag (config_view state.old))) }
+    ensures { IsNext result state.new (filter_next id count flag (config_view state.old)) }
 {
     let Some(filter) = filter_by(id) else {
         unreachable!()
@@ -303,9 +302,7 @@ pub(crate) fn apply_test(
     requires sized { AreSized state.old }
     requires few { AreFew state.old }
     requires room { state.old.point + 1 < 2 ^ 64 }
-    ensures next { IfOk result
-        (λ r. test_next id count (config_view state.old) ≡ next_view r state.new) }
-    ensures memory { OnErr result (GoesOn (test_next id count (config_view state.old))) }
+    ensures { IsNext result state.new (test_next id count (config_view state.old)) }
 {
     let Some(id) = test_by(id) else {
         unreachable!()
@@ -329,10 +326,8 @@ pub(crate) fn make_list(
     requires sized { AreSized state.old }
     requires few { AreFew state.old }
     requires room { state.old.point + 1 < 2 ^ 64 }
-    ensures next { IfOk result
-        (λ r. make count listed (config_view state.old) ≡ next_view r state.new) }
     // Only a list within the limits takes memory.
-    ensures memory { OnErr result (GoesOn (make count listed (config_view state.old))) }
+    ensures { IsNext result state.new (make count listed (config_view state.old)) }
 {
     if let Some(outcome) = pay_values(state, count) {
         return Ok(Some(outcome));
@@ -355,10 +350,8 @@ pub(crate) fn make_map(
     requires sized { AreSized state.old }
     requires few { AreFew state.old }
     requires room { state.old.point + 1 < 2 ^ 64 }
-    ensures next { IfOk result
-        (λ r. make count mapped (config_view state.old) ≡ next_view r state.new) }
     // Only a map within the limits takes memory.
-    ensures memory { OnErr result (GoesOn (make count mapped (config_view state.old))) }
+    ensures { IsNext result state.new (make count mapped (config_view state.old)) }
 {
     if let Some(outcome) = pay_values(state, count) {
         return Ok(Some(outcome));

@@ -21,7 +21,8 @@ use jt_budget::Budget;
 use jt_value::{Fault, NoMemory, Value};
 use std::alloc::Global;
 
-/// The map of keys and values in turn, where each key is a text. A key that is there keeps its place and takes the later value.
+/// The map of keys and values in turn, where each key is a text. A key that is there keeps its
+/// place and takes the later value.
 pub(crate) fn map_of(alloc: Global, values: Vec<Value>) -> Result<Value, NoMemory>
     requires { list_all is_text (keys_of (map view values.items)) ≡ true }
     ensures { IfOk result (λ v. mapped (map view values.items) ≡ Ok (view v)) }

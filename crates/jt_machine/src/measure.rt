@@ -31,7 +31,8 @@ fn held_nesting(entry: &Entry) -> u32
     }
 }
 
-/// The sizes of the values that entries hold added up, or the greatest number where the sum is greater.
+/// The sizes of the values that entries hold added up, or the greatest number where the sum is
+/// greater.
 pub(crate) fn sizes(entries: &[Entry]) -> u64
     ensures { result ≡ min (items_size (items_of (all_held entries.now))) (2 ^ 64 - 1) }
 {
@@ -85,7 +86,8 @@ fn is_named(key: &str, pairs: &[Entry]) -> bool
     }
 }
 
-// What keys and values in turn weigh, with one key and its value more; nothing more where the key is named again.
+// What keys and values in turn weigh, with one key and its value more; nothing more where the key
+// is named again.
 fn weighed(key: &Entry, value: &Entry, named: bool, rest: (u64, u32)) -> (u64, u32)
     ensures size { (n : ℕ)
         → rest.0 ≡ min n (2 ^ 64 - 1)
@@ -107,8 +109,8 @@ fn weighed(key: &Entry, value: &Entry, named: bool, rest: (u64, u32)) -> (u64, u
     )
 }
 
-/// The size and the nesting that keys and values in turn have as entries of a map, where of a key that is given twice the last value
-/// counts.
+/// The size and the nesting that keys and values in turn have as entries of a map, where of a key
+/// that is given twice the last value counts.
 pub(crate) fn lasting(pairs: &[Entry]) -> (u64, u32)
     ensures size { result.0 ≡ min (lasting_size (all_held pairs.now)) (2 ^ 64 - 1) }
     ensures nesting { result.1 ≡ min (lasting_nesting (all_held pairs.now)) (2 ^ 32 - 1) }

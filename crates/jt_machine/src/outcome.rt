@@ -10,7 +10,8 @@ pub struct Place {
     pub line: u32,
 }
 
-/// How a run ends: with a text, with a fault of the template and its place if it has one, or with a number of the budget that did not suffice.
+/// How a run ends: with a text, with a fault of the template and its place if it has one, or with a
+/// number of the budget that did not suffice.
 #[derive(Debug, Drop)]
 pub enum Outcome {
     Text(String),
@@ -18,8 +19,8 @@ pub enum Outcome {
     Spent(Spent),
 }
 
-/// How a run ends whose text is written as it is made: whole, with a fault of the template and its place if it has one, or with a
-/// number of the budget that did not suffice.
+/// How a run ends whose text is written as it is made: whole, with a fault of the template and its
+/// place if it has one, or with a number of the budget that did not suffice.
 #[derive(Debug, PartialEq, Eq, Drop)]
 pub enum Ended {
     Whole,

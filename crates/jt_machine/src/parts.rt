@@ -1,11 +1,11 @@
 //! The parts of a step.
-ghost use Rattle.std.specs.Prelude.{◌≡◌, ◌+◌, ◌/◌, ◌<◌, ◌≤◌, ◌^◌, IfOk, IsOk, OnErr, None};
+ghost use Rattle.std.specs.Prelude.{◌≡◌, ◌+◌, ◌/◌, ◌<◌, ◌≤◌, ◌^◌, IsOk, None};
 ghost use Rattle.jt_value.specs.Tree.{size};
 ghost use Rattle.jt_value.specs.View.{view};
 ghost use Rattle.jt_image.specs.Config.{Config};
 ghost use Rattle.jt_image.specs.Run.{Next, limit_of};
-ghost use Rattle.jt_machine.specs.Parts.{step_on as steps_on, pay as pays, push as pushes, put as puts, GoesOn};
-ghost use Rattle.jt_machine.specs.View.{budget_view, config_view, next_view, continues};
+ghost use Rattle.jt_machine.specs.Parts.{step_on as steps_on, pay as pays, push as pushes, put as puts};
+ghost use Rattle.jt_machine.specs.View.{budget_view, config_view, IsNext, continues};
 
 use crate::entries::Entry;
 use crate::limits::passed_limit;
@@ -16,7 +16,7 @@ use jt_value::{NoMemory, Value};
 /// Goes to the instruction behind. It takes no memory.
 pub(crate) fn step_on(state: &mut State) -> Result<Option<Outcome>, NoMemory>
     requires { state.old.point + 1 < 2 ^ 64 }
-    ensures next { IfOk result (λ r. steps_on (config_view state.old) ≡ next_view r state.new) }
+    ensures next { IsNext result state.new (steps_on (config_view state.old)) }
     ensures memory { IsOk result }
 {
     state.point += 1;
@@ -52,10 +52,8 @@ pub(crate) fn pay_for(state: &mut State, value: &Value) -> Option<Outcome>
 /// Puts a value on top and goes on, or says which limit it passes.
 pub(crate) fn push(state: &mut State, value: Value) -> Result<Option<Outcome>, NoMemory>
     requires { state.old.point + 1 < 2 ^ 64 }
-    ensures next { IfOk result
-        (λ r. pushes (view value) (config_view state.old) steps_on ≡ next_view r state.new) }
     // Only a value within the limits takes memory.
-    ensures memory { OnErr result (GoesOn (pushes (view value) (config_view state.old) steps_on)) }
+    ensures { IsNext result state.new (pushes (view value) (config_view state.old) steps_on) }
 {
     if let Some(spent) = passed_limit(&value, &state.left) {
         return Ok(Some(Outcome::Spent(spent)));
@@ -67,9 +65,7 @@ pub(crate) fn push(state: &mut State, value: Value) -> Result<Option<Outcome>, N
 pub(crate) fn push_fitting(state: &mut State, value: Value) -> Result<Option<Outcome>, NoMemory>
     requires room { state.old.point + 1 < 2 ^ 64 }
     requires fits { limit_of (budget_view state.old.left) (view value) ≡ None }
-    ensures next { IfOk result
-        (λ r. pushes (view value) (config_view state.old) steps_on ≡ next_view r state.new) }
-    ensures memory { OnErr result (GoesOn (pushes (view value) (config_view state.old) steps_on)) }
+    ensures { IsNext result state.new (pushes (view value) (config_view state.old) steps_on) }
 {
     state.stack.push(Entry::Value(value))?;
     step_on(state)
@@ -78,10 +74,8 @@ pub(crate) fn push_fitting(state: &mut State, value: Value) -> Result<Option<Out
 /// Puts a text into the buffer and goes on, or says that it does not fit.
 pub(crate) fn put(state: &mut State, text: &str) -> Result<Option<Outcome>, NoMemory>
     requires { state.old.point + 1 < 2 ^ 64 }
-    ensures next { IfOk result
-        (λ r. puts text.now (config_view state.old) steps_on ≡ next_view r state.new) }
     // Only a text that fits takes memory.
-    ensures memory { OnErr result (GoesOn (puts text.now (config_view state.old) steps_on)) }
+    ensures { IsNext result state.new (puts text.now (config_view state.old) steps_on) }
 {
     if let Err(spent) = state.left.emit(text.len() as u64) {
         return Ok(Some(Outcome::Spent(spent)));

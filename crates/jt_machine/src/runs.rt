@@ -20,7 +20,8 @@ use jt_value::{Context, NoMemory};
 use jt_verify::{Verified, VerifiedView};
 use std::alloc::Global;
 
-/// Runs an image for a context under a budget. `NoMemory` is answered only where a growth was refused.
+/// Runs an image for a context under a budget. `NoMemory` is answered only where a growth was
+/// refused.
 pub fn run(
     alloc: Global,
     verified: &Verified,
@@ -30,7 +31,8 @@ pub fn run(
     // The outcome is that of the run.
     ensures outcome { IfOk result
         (λ o. Run verified.now (pairs_of context.now) (budget_view budget) (outcome_view o)) }
-    // Memory is wanted only for the tables at the start, and at a step that goes on and puts something, or ends with a fault that has a place.
+    // Memory is wanted only for the tables at the start, and at a step that goes on and puts
+    // something, or ends with a fault that has a place.
     ensures memory { OnErr result
         (MayWant verified.now (pairs_of context.now) (budget_view budget)) }
     // Every run of the image has one outcome, stays within its fuel and is never wrong.
@@ -40,7 +42,8 @@ pub fn run(
     run_code(alloc, verified.image(), context, budget)
 }
 
-/// Runs a code in place, as `run` does an image. `NoMemory` is answered only where a growth was refused.
+/// Runs a code in place, as `run` does an image. `NoMemory` is answered only where a growth was
+/// refused.
 pub fn run_view(
     alloc: Global,
     verified: &VerifiedView<'_>,
@@ -50,7 +53,8 @@ pub fn run_view(
     // The outcome is that of the run.
     ensures outcome { IfOk result
         (λ o. Run verified.now (pairs_of context.now) (budget_view budget) (outcome_view o)) }
-    // Memory is wanted only for the tables at the start, and at a step that goes on and puts something, or ends with a fault that has a place.
+    // Memory is wanted only for the tables at the start, and at a step that goes on and puts
+    // something, or ends with a fault that has a place.
     ensures memory { OnErr result
         (MayWant verified.now (pairs_of context.now) (budget_view budget)) }
     // Every run of the code has one outcome, stays within its fuel and is never wrong.

@@ -19,8 +19,8 @@ pub trait Sink {
     /// Whether it has refused a piece.
     ghost failed: { Self → Bool };
 
-    /// Takes a beginning of the piece and answers its length, which is 0 only for an empty piece; or refuses, and takes nothing.
-    /// A sink that has failed refuses every piece.
+    /// Takes a beginning of the piece and answers its length, which is 0 only for an empty piece;
+    /// or refuses, and takes nothing. A sink that has failed refuses every piece.
     fn put(&mut self, piece: &[u8]) -> Result<usize, SinkFailed>
         ensures idle { failed self.old ≡ true → self.new ≡ self.old }
         ensures refuses { failed self.old ≡ true → IsErr result }
@@ -37,7 +37,8 @@ pub trait Sink {
         ensures { result ≡ failed self.now };
 }
 
-/// A sink over a writer of std. An error of the writer is a failure, and so is that it takes no byte of a piece that is not empty.
+/// A sink over a writer of std. An error of the writer is a failure, and so is that it takes no
+/// byte of a piece that is not empty.
 #[derive(Drop)]
 pub struct IoSink<W: Write> {
     writer: W,
@@ -105,7 +106,8 @@ impl<W: Write> Sink for IoSink<W> {
 ///
 /// # Errors
 ///
-/// Where the sink had failed, and then nothing is put, or refuses a piece, and so has failed. What it took is then a beginning of the bytes.
+/// Where the sink had failed, and then nothing is put, or refuses a piece, and so has failed. What
+/// it took is then a beginning of the bytes.
 pub fn put_all<W: Sink>(sink: &mut W, bytes: &[u8]) -> Result<(), SinkFailed>
     ensures idle { W.failed sink.old ≡ true → sink.new ≡ sink.old }
     ensures all { OnOk result (Appends (W.taken sink.old) (W.taken sink.new) bytes.now) }

@@ -4,7 +4,8 @@ use crate::stack::Stack;
 use jt_budget::Budget;
 use jt_value::Value;
 
-/// A run between two instructions. The innermost of the buffers around the open one is the last one.
+/// A run between two instructions. The innermost of the buffers around the open one is the last
+/// one.
 #[derive(Drop)]
 pub(crate) struct State {
     pub(crate) unit: usize,

@@ -1,5 +1,5 @@
 //! Values unpacked.
-ghost use Rattle.std.specs.Prelude.{◌≡◌, ◌≢◌, ◌+◌, ◌-◌, ◌<◌, ◌^◌, min, map, IfOk, IfSome, IfNone, OnOk, OnErr};
+ghost use Rattle.std.specs.Prelude.{◌≡◌, ◌≢◌, ◌+◌, ◌-◌, ◌<◌, ◌^◌, min, map, IfOk, IfSome, IfNone, OnOk};
 ghost use Rattle.std.specs.Str.{chars};
 ghost use Rattle.jt_value.specs.Tree as tree;
 ghost use Rattle.jt_value.specs.Iteration.{character_items, key_items, items_of_tree};
@@ -11,8 +11,8 @@ ghost use Rattle.jt_image.specs.Run.{Ends, Wrong};
 ghost use Rattle.jt_machine.specs.Activations.{with_running};
 ghost use Rattle.jt_machine.specs.Entries.{values_view};
 ghost use Rattle.jt_machine.specs.Iterating.{AreFitting};
-ghost use Rattle.jt_machine.specs.Parts.{iterating, piled_on, spread as spread_next, unpack as unpack_next, GoesOn};
-ghost use Rattle.jt_machine.specs.View.{budget_view, config_view, next_view, outcome_view, AreSized};
+ghost use Rattle.jt_machine.specs.Parts.{iterating, piled_on, spread as spread_next, unpack as unpack_next};
+ghost use Rattle.jt_machine.specs.View.{budget_view, config_view, IsNext, outcome_view, AreSized};
 
 use crate::entries::Entry;
 use crate::items::{count_of, items_of};
@@ -133,9 +133,8 @@ fn refusal(value: &Value, count: u32, budget: &Budget) -> Option<Outcome>
 // Puts all of the values on top and goes on.
 fn push_values(state: &mut State, values: Vec<Value>) -> Result<Option<Outcome>, NoMemory>
     requires { state.old.point + 1 < 2 ^ 64 }
-    ensures { IfOk result
-        (λ r. piled_on (values_view values.items) (config_view state.old)
-        ≡ next_view r state.new) }
+    ensures { IsNext result state.new
+        (piled_on (values_view values.items) (config_view state.old)) }
 {
     push_all(&mut state.stack, values)?;
     step_on(state)
@@ -149,11 +148,8 @@ fn spread_items(
     value: Value,
 ) -> Result<Option<Outcome>, NoMemory>
     requires { state.old.point + 1 < 2 ^ 64 }
-    ensures next { IfOk result (λ r. iterating (items_of_tree (view value))
-        (λ ts. spread_next count ts (config_view state.old))
-        ≡ next_view r state.new) }
-    ensures memory { OnErr result (GoesOn (iterating (items_of_tree (view value))
-        (λ ts. spread_next count ts (config_view state.old)))) }
+    ensures { IsNext result state.new (iterating (items_of_tree (view value))
+        (λ ts. spread_next count ts (config_view state.old))) }
 {
     if let Some(outcome) = refusal(&value, count, &state.left) {
         return Ok(Some(outcome));
@@ -174,10 +170,8 @@ pub(crate) fn unpack(
     requires not_wrong { unpack_next count (config_view state.old) ≢ Wrong }
     requires sized { AreSized state.old }
     requires room { state.old.point + 1 < 2 ^ 64 }
-    ensures next { IfOk result
-        (λ r. unpack_next count (config_view state.old) ≡ next_view r state.new) }
     // Only items that are put take memory.
-    ensures memory { OnErr result (GoesOn (unpack_next count (config_view state.old))) }
+    ensures { IsNext result state.new (unpack_next count (config_view state.old)) }
 {
     let value = state.stack.pop();
     if let Some(outcome) = pay_for(state, &value) {

@@ -59,12 +59,13 @@ impl From<SinkFailed> for RunToError {
     }
 }
 
-/// Runs an image for a context under a budget, and puts its text into a sink as it is emitted to the outermost buffer.
+/// Runs an image for a context under a budget, and puts its text into a sink as it is emitted to
+/// the outermost buffer.
 ///
 /// # Errors
 ///
-/// `NoMemory` only where a growth was refused, and `Write` only where the sink failed. What was written is then a beginning of what
-/// the run emits.
+/// `NoMemory` only where a growth was refused, and `Write` only where the sink failed. What was
+/// written is then a beginning of what the run emits.
 pub fn run_to<W: Sink>(
     alloc: Global,
     verified: &Verified,
@@ -73,7 +74,8 @@ pub fn run_to<W: Sink>(
     sink: &mut W,
 ) -> Result<Ended, RunToError>
     requires works { W.failed sink.old ≡ false }
-    // The run ends so, and just what it emitted to the outermost buffer is written: its text, where it is whole.
+    // The run ends so, and just what it emitted to the outermost buffer is written: its text, where
+    // it is whole.
     ensures ended { IfOk result (λ e. HasWritten verified.now (pairs_of context.now)
         (budget_view budget) e (W.taken sink.old) (W.taken sink.new)) }
     // On an error a beginning of that is written.
@@ -83,7 +85,8 @@ pub fn run_to<W: Sink>(
     ensures write { IfErr result (λ e. e ≡ RunToError.Write → W.failed sink.new ≡ true) }
     ensures memory { IfErr result (λ e. e ≡ RunToError.NoMemory → W.failed sink.new ≡ false) }
     ensures still { OnOk result (W.failed sink.new ≡ false) }
-    // Memory is wanted only for the tables at the start, and at a step that goes on and puts something, or ends with a fault that has a place.
+    // Memory is wanted only for the tables at the start, and at a step that goes on and puts
+    // something, or ends with a fault that has a place.
     ensures wanted { IfErr result (λ e. e ≡ RunToError.NoMemory
         → MayWant verified.now (pairs_of context.now) (budget_view budget)) }
     // Every run of the image has one outcome, stays within its fuel and is never wrong.

@@ -1,6 +1,6 @@
 -- Sessions by their places.
-use Rattle.std.proofs.Common.{◌≡◌, ◌≢◌, ℕ, zero, suc, ◌+◌, ◌<◌, ◌≤◌, Bool, true, false, cond, List, [], ◌∷◌, ◌++◌, length, take, drop, get_or, set, remove, Option, Some, None, refl, sym, ap, subst, ◌∙◌, arith, drop-cons}
-use Rattle.std.specs.Prelude.{◌==◌, option_map, slice_set, nat_le}
+use Rattle.std.proofs.Common.{◌≡◌, ◌≢◌, ℕ, zero, suc, ◌+◌, ◌<◌, ◌≤◌, Bool, false, List, [], ◌∷◌, ◌++◌, length, take, get_or, set, remove, Option, Some, None, refl, sym, ap, subst, ◌∙◌, arith, drop-cons, rules}
+use Rattle.std.specs.Prelude.{◌==◌, option_map, slice_set}
 use Rattle.std.proofs.lemmas.Bool.Decides.{nat_tests}
 use Rattle.std.proofs.lemmas.List.{take-append-drop, take_more, length-take}
 use Rattle.std.proofs.Math.Seq.{set-append_seam, get_or-append_seam}
@@ -17,11 +17,7 @@ is_other a b h = apart a b h
 
 find_snoc : (i : ℕ) (e : ℕ × Session) (es : List (ℕ × Session)) → find i es ≡ None → (e.0 == i) ≡ false → find i (es ++ e ∷ []) ≡ None
 find_snoc i e [] h n = rw n refl
-find_snoc i e (f ∷ es) h n = step (λ r. find_snoc i e es r n) (f.0 == i) h
-  where
-    step : (find i es ≡ None → find i (es ++ e ∷ []) ≡ None) → (x : Bool) → cond x (Some f.1) (find i es) ≡ None → cond x (Some f.1) (find i (es ++ e ∷ [])) ≡ None
-    step more true r = absurd cc
-    step more false r = more r
+find_snoc i e (f ∷ es) h n = search (arith, rules, find_snoc i e es)
 
 -- an entry of another id is passed
 pub not_yet : (i p : ℕ) (xs : List (ℕ × Session)) (e : ℕ × Session) → p < length xs → e ≡ get_or xs p e → find i (take p xs) ≡ None → (e.0 == i) ≡ false → find i (take (p + 1) xs) ≡ None
@@ -29,14 +25,7 @@ not_yet i p xs e h s n d = ap (find i) (take_more xs p e h ∙ ap (λ (f : ℕ �
 
 -- the first entry of an id
 pub at_place : (i p : ℕ) (xs : List (ℕ × Session)) (e : ℕ × Session) → p < length xs → e ≡ get_or xs p e → find i (take p xs) ≡ None → e.0 ≡ i → IsAt i p xs
-at_place i p xs e h s n d = record {
-  before = take p xs;
-  session = e.1;
-  behind = drop (suc p) xs;
-  parts = sym (take-append-drop p xs) ∙ ap (λ (ys : List (ℕ × Session)). take p xs ++ ys) (drop-cons xs p e h ∙ ap (λ (f : ℕ × Session). f ∷ drop (suc p) xs) (sym s ∙ ap (λ (j : ℕ). (j, e.1)) d));
-  place = omega (arith, h, length-take p xs);
-  first = n;
-}
+at_place i p xs e h s n d = search (arith, rules, take-append-drop p xs, drop-cons xs p e h, length-take p xs)
 
 whole : (p : ℕ) (ys : List (ℕ × Session)) → length ys ≤ p → take p ys ≡ ys
 whole zero [] h = refl
@@ -52,31 +41,18 @@ pub found : (i p : ℕ) (xs : List (ℕ × Session)) (a : IsAt i p xs) → find 
 found i p xs a = ap (find i) a.parts ∙ find_at i a.session a.before a.behind a.first
 
 pub replaced : (i p : ℕ) (t : Session) (xs : List (ℕ × Session)) (a : IsAt i p xs) → set xs p (i, t) ≡ replace i t xs
-replaced i p t xs a =
-    ap (λ (ys : List (ℕ × Session)). set ys p (i, t)) a.parts
-    ∙ ap (λ (q : ℕ). set (a.before ++ (i, a.session) ∷ a.behind) q (i, t)) a.place
-    ∙ set-append_seam a.before (i, a.session) a.behind (i, t)
-    ∙ sym (replace_at i a.session t a.before a.behind a.first)
-    ∙ ap (replace i t) (sym a.parts)
+replaced i p t xs a = search (arith, rules, set-append_seam, replace_at)
 
 remove_seam : (xs : List (ℕ × Session)) (y : ℕ × Session) (ys : List (ℕ × Session)) → remove (xs ++ y ∷ ys) (length xs) ≡ xs ++ ys
 remove_seam [] y ys = refl
 remove_seam (x ∷ xs) y ys = ap (λ (zs : List (ℕ × Session)). x ∷ zs) (remove_seam xs y ys)
 
 pub removed : (i p : ℕ) (xs : List (ℕ × Session)) (a : IsAt i p xs) → remove xs p ≡ turns.remove i xs
-removed i p xs a =
-    ap (λ (ys : List (ℕ × Session)). remove ys p) a.parts
-    ∙ ap (λ (q : ℕ). remove (a.before ++ (i, a.session) ∷ a.behind) q) a.place
-    ∙ remove_seam a.before (i, a.session) a.behind
-    ∙ sym (remove_at i a.session a.before a.behind a.first)
-    ∙ ap (turns.remove i) (sym a.parts)
+removed i p xs a = search (arith, rules, remove_seam, remove_at)
 
 -- the entry at the place of an id
 pub there : (i p : ℕ) (xs : List (ℕ × Session)) (d : ℕ × Session) (a : IsAt i p xs) → get_or xs p d ≡ (i, a.session)
-there i p xs d a =
-    ap (λ (ys : List (ℕ × Session)). get_or ys p d) a.parts
-    ∙ ap (λ (q : ℕ). get_or (a.before ++ (i, a.session) ∷ a.behind) q d) a.place
-    ∙ get_or-append_seam a.before (i, a.session) a.behind d
+there i p xs d a = search (arith, rules, get_or, get_or-append_seam)
 
 long : (ys : List (ℕ × Session)) (e : ℕ × Session) (zs : List (ℕ × Session)) → length ys < length (ys ++ e ∷ zs)
 long [] e zs = omega arith
@@ -91,23 +67,13 @@ set_at : (i p : ℕ) (xs : List (ℕ × Session)) (e : ℕ × Session) (t : Sess
 set_at i p xs e t a h = ap (λ (j : ℕ). slice_set xs p (j, t)) (ap (λ (f : ℕ × Session). f.0) h) ∙ replaced i p t xs a
 
 pub turned_at : (w : World) (i p n : ℕ) (e : ℕ × Session) (t : Session) (a : IsAt i p w.sessions) → e ≡ (i, a.session) → t ≡ advanced n e.1 → with_sessions w (slice_set w.sessions p (e.0, t)) ≡ turning (find i w.sessions) i n w
-turned_at w i p n e t a h g =
-    let s : t ≡ advanced n a.session = g ∙ ap (λ (f : ℕ × Session). advanced n f.1) h in
-    ap (with_sessions w) (set_at i p w.sessions e t a h ∙ ap (λ (u : Session). replace i u w.sessions) s)
-    ∙ ap (λ (o : Option Session). turning o i n w) (sym (found i p w.sessions a))
+turned_at w i p n e t a h g = search (arith, rules, set_at i p w.sessions e t a h, found i p w.sessions a)
 
 pub replied_at : (w : World) (i p n : ℕ) (e : ℕ × Session) (t : Session) (r : Progress) (a : IsAt i p w.sessions) → e ≡ (i, a.session) → t ≡ advanced n e.1 → told_of t.status ≡ Some r → turning_reply (find i w.sessions) n ≡ turned r
-replied_at w i p n e t r a h g m =
-    let s : advanced n a.session ≡ t = sym (g ∙ ap (λ (f : ℕ × Session). advanced n f.1) h) in
-    ap (λ (o : Option Session). turning_reply o n) (found i p w.sessions a) ∙ ap (λ (u : Session). turns.told (told_of u.status)) s ∙ ap turns.told m
+replied_at w i p n e t r a h g m = search (arith, rules, found i p w.sessions a)
 
 pub lost_at : (w : World) (i p : ℕ) (e : ℕ × Session) (t : Session) (a : IsAt i p w.sessions) → e ≡ (i, a.session) → t ≡ lost_session e.1 → outcome_of e.1 ≡ None → IsLost i w (with_sessions w (slice_set w.sessions p (e.0, t)))
-lost_at w i p e t a h g u = record {
-  session = a.session;
-  found = found i p w.sessions a;
-  unended = ap (λ (f : ℕ × Session). outcome_of f.1) (sym h) ∙ u;
-  lost = ap (with_sessions w) (set_at i p w.sessions e t a h ∙ ap (λ (u : Session). replace i u w.sessions) (g ∙ ap (λ (f : ℕ × Session). lost_session f.1) h));
-}
+lost_at w i p e t a h g u = search (arith, rules, found, found i p w.sessions a, set_at i p w.sessions e t a h)
 
 pub closed_at : (w : World) (i p : ℕ) (xs : List (ℕ × Session)) (a : IsAt i p w.sessions) → xs ≡ remove w.sessions p → with_sessions w xs ≡ with_sessions w (turns.remove i w.sessions)
 closed_at w i p xs a h = ap (with_sessions w) (h ∙ removed i p w.sessions a)
@@ -125,7 +91,4 @@ pub outcome_there : (w : World) (i p : ℕ) (e : ℕ × Session) (o : Option Out
 outcome_there w i p e o a h g = ap Some (g ∙ ap (λ (f : ℕ × Session). outcome_of f.1) h) ∙ sym (ap (option_map outcome_of) (found i p w.sessions a))
 
 pub no_bar : (w : World) → length w.sessions < max_sessions → w.last < max_id → bar w ≡ None
-no_bar w h g =
-    let z : nat_le max_sessions (length w.sessions) ≡ false = grind (arith, nat_tests) in
-    let y : nat_le max_id w.last ≡ false = grind (arith, nat_tests) in
-    rw (z, y) refl
+no_bar w h g = search (arith, rules, nat_tests)

@@ -1,4 +1,5 @@
--- Sessions that take turns: what each event does to all of them, and what one of them would be alone.
+-- Sessions that take turns: what each event does to all of them, and what one of them would be
+-- alone.
 use Rattle.std.specs.Prelude.{◌≡◌, ℕ, ◌+◌, ◌-◌, ◌^◌, ◌≤◌, Bool, true, false, List, [], ◌∷◌, ◌++◌, length, Option, Some, None, option_map, ◌==◌, nat_le, if◌then◌else◌}
 use Rattle.jt_value.specs.Pairs.{Pairs}
 use Rattle.jt_image.specs.Code.{Code}
@@ -26,13 +27,15 @@ max_sessions = 64
 abbrev pub max_id : ℕ
 max_id = 2 ^ 64 - 1
 
--- what a caller asks of a host: a session of a code for a context under a budget, so many instructions of one, or its end
+-- what a caller asks of a host: a session of a code for a context under a budget, so many
+-- instructions of one, or its end
 pub data Event : Type 0 where
   opens : Code → Pairs → Budget → Event
   turns : ℕ → ℕ → Event
   closes : ℕ → Event
 
--- what it is answered: the id of a new session; whether a session goes on still; its outcome, if it has ended; or a refusal
+-- what it is answered: the id of a new session; whether a session goes on still; its outcome, if it
+-- has ended; or a refusal
 pub data Reply : Type 0 where
   opened : ℕ → Reply
   turned : Progress → Reply
@@ -59,7 +62,10 @@ with_sessions w es = record w { sessions = es }
 
 -- why no session can be opened: 64 are open, or each id was given
 abbrev pub bar : World → Option HostError
-bar w = if nat_le max_sessions (length w.sessions) then Some error.Full else if nat_le max_id w.last then Some error.NoId else None
+bar w =
+    if nat_le max_sessions (length w.sessions)
+    then Some error.Full
+    else if nat_le max_id w.last then Some error.NoId else None
 
 -- ---- an event
 
@@ -114,7 +120,8 @@ own i (opens k x b) s = s
 own i (turns j n) s = if j == i then option_map (advanced n) s else s
 own i (closes j) s = if j == i then None else s
 
--- a session of this id alone, through the events: its own turns one after another, until it is closed
+-- a session of this id alone, through the events: its own turns one after another, until it is
+-- closed
 abbrev pub alone : ℕ → List Event → Option Session → Option Session
 alone i [] s = s
 alone i (e ∷ es) s = alone i es (own i e s)
@@ -130,22 +137,32 @@ abbrev pub count_opened : List Event → World → ℕ
 count_opened [] w = 0
 count_opened (e ∷ es) w = (if is_opened (reply e w) then 1 else 0) + count_opened es (after e w)
 
--- A session that was opened after some events. Whatever events come later, it is what it would be alone, and each reply to a turn or a
--- close of it is that of the session alone. Its id is one more than the number of those that were opened before it.
-pub record RunsAlone (before : List Event) (k : Code) (x : Pairs) (b : Budget) (i : ℕ) : Type 0 where
-  pub session : (later : List Event) → find i (come (before ++ opens k x b ∷ later) empty).sessions ≡ alone i later (Some (started k x b))
-  pub turn : (later : List Event) (n : ℕ) → reply (turns i n) (come (before ++ opens k x b ∷ later) empty) ≡ turning_reply (alone i later (Some (started k x b))) n
-  pub end : (later : List Event) → reply (closes i) (come (before ++ opens k x b ∷ later) empty) ≡ closing_reply (alone i later (Some (started k x b)))
+-- A session that was opened after some events. Whatever events come later, it is what it would be
+-- alone, and each reply to a turn or a close of it is that of the session alone. Its id is one more
+-- than the number of those that were opened before it.
+pub record RunsAlone (before : List Event) (k : Code) (x : Pairs) (b : Budget) (i : ℕ) :
+    Type 0 where
+  pub session : (later : List Event)
+      → find i (come (before ++ opens k x b ∷ later) empty).sessions
+      ≡ alone i later (Some (started k x b))
+  pub turn : (later : List Event) (n : ℕ)
+      → reply (turns i n) (come (before ++ opens k x b ∷ later) empty)
+      ≡ turning_reply (alone i later (Some (started k x b))) n
+  pub end : (later : List Event)
+      → reply (closes i) (come (before ++ opens k x b ∷ later) empty)
+      ≡ closing_reply (alone i later (Some (started k x b)))
   pub id : i ≡ count_opened before empty + 1
 
 -- Through every list of events each session runs as if alone, and no more than 64 are open.
 pub record SessionsRunAlone : Type 0 where
-  pub alone : (before : List Event) (k : Code) (x : Pairs) (b : Budget) (i : ℕ) → reply (opens k x b) (come before empty) ≡ opened i → RunsAlone before k x b i
+  pub alone : (before : List Event) (k : Code) (x : Pairs) (b : Budget) (i : ℕ)
+      → reply (opens k x b) (come before empty) ≡ opened i → RunsAlone before k x b i
   pub few : (es : List Event) → length (come es empty).sessions ≤ max_sessions
 
 -- ---- refusals
 
--- what a turn that a refused growth ends leaves: the session, which had no outcome yet, is lost, and others are as they were
+-- what a turn that a refused growth ends leaves: the session, which had no outcome yet, is lost,
+-- and others are as they were
 pub record IsLost (i : ℕ) (old new : World) : Type 0 where
   pub session : Session
   pub found : find i old.sessions ≡ Some session
@@ -153,7 +170,8 @@ pub record IsLost (i : ℕ) (old new : World) : Type 0 where
   pub lost : new ≡ with_sessions old (replace i (lost_session session) old.sessions)
 
 abbrev pub TurnRefused : ℕ → ℕ → World → World → HostError → Type 0
-TurnRefused i n old new error.NoSession = (reply (turns i n) old ≡ refused error.NoSession) × (new ≡ old)
+TurnRefused i n old new error.NoSession =
+    (reply (turns i n) old ≡ refused error.NoSession) × (new ≡ old)
 TurnRefused i n old new error.NoMemory = IsLost i old new
 TurnRefused i n old new error.Full = ⊥
 TurnRefused i n old new error.NoId = ⊥

@@ -14,7 +14,8 @@ use std::marker::Model;
 // Sessions that may be open at a time.
 const MAX_SESSIONS: usize = 64;
 
-/// Runs of verified images that take turns, each under its own budget. Ids are 1, 2, 3 and so on, and none is given twice.
+/// Runs of verified images that take turns, each under its own budget. Ids are 1, 2, 3 and so on,
+/// and none is given twice.
 #[derive(Drop)]
 pub struct Host {
     alloc: Global,
@@ -43,7 +44,8 @@ impl Host {
     /// A host with no sessions.
     pub fn new(alloc: Global) -> Host
         ensures empty { result ≡ empty }
-        // Whatever sessions are opened, take turns and are closed, in whatever order, each is what it would be alone.
+        // Whatever sessions are opened, take turns and are closed, in whatever order, each is what
+        // it would be alone.
         ensures alone { SessionsRunAlone }
     {
         Host {
@@ -57,8 +59,9 @@ impl Host {
     ///
     /// # Errors
     ///
-    /// `Full` where 64 sessions are open, and only then; `NoId` where each id was given, and fewer are open; `NoMemory` where a growth
-    /// was refused. The image is handed back, and the host is unchanged.
+    /// `Full` where 64 sessions are open, and only then; `NoId` where each id was given, and fewer
+    /// are open; `NoMemory` where a growth was refused. The image is handed back, and the host is
+    /// unchanged.
     pub fn open(
         &mut self,
         verified: Verified,
@@ -94,12 +97,14 @@ impl Host {
         }
     }
 
-    /// Carries out so many instructions of a session, or fewer where its run ends, and says whether it goes on still.
+    /// Carries out so many instructions of a session, or fewer where its run ends, and says whether
+    /// it goes on still.
     ///
     /// # Errors
     ///
-    /// `NoSession` where no session has the id, and then nothing is changed; `NoMemory` where a growth was refused: this session alone is
-    /// lost then, and answers the same until it is closed.
+    /// `NoSession` where no session has the id, and then nothing is changed; `NoMemory` where a
+    /// growth was refused: this session alone is lost then, and answers the same until it is
+    /// closed.
     pub fn turn(&mut self, id: u64, k: u32) -> Result<Progress, HostError>
         ensures turns { OnOk result (self.new ≡ after (turns id k) self.old) }
         ensures reply { IfOk result (λ p. reply (turns id k) self.old ≡ turned p) }

@@ -1,5 +1,5 @@
 -- A round of turns, one turn further.
-use Rattle.std.proofs.Common.{◌≡◌, ℕ, ◌+◌, ◌<◌, ◌≤◌, Bool, true, false, if◌then◌else◌, List, arith, sym, take, subst}
+use Rattle.std.proofs.Common.{◌≡◌, ℕ, ◌+◌, ◌<◌, ◌≤◌, Bool, true, false, List, arith, take, rules}
 use Rattle.std.proofs.Math.Numerals.{add-one}
 use Rattle.jt_machine.specs.Session.{Session, SessionLaws}
 use Rattle.jt_machine.specs.declared.outcome.Progress.TheVariants as progress
@@ -18,50 +18,19 @@ pub record Round (old : List (ℕ × Session)) (w : World) (at : ℕ) (goes : Bo
   pub ended : goes ≡ false → have_ended (take at w.sessions) ≡ true
 
 moved_on : SessionLaws → (old : List (ℕ × Session)) (w v : World) (at n : ℕ) (g h : Bool) → Round old w at g → HadTurn w v (at + 1) n (progress_of h) → HaveMoved old v.sessions
-moved_on laws old w v at n g h r t =
-    let took = had_turn w v (at + 1) n (progress_of h) t in
-    subst (HaveMoved old) (sym took.new) (moved_turn laws (at + 1) n took.session old w.sessions r.moved took.found)
+moved_on laws old w v at n g h r t = search (arith, rules, had_turn, moved_turn)
 
 -- after a turn that goes on
 pub on_going : SessionLaws → (old : List (ℕ × Session)) (w v : World) (at n : ℕ) (g : Bool) → 1 ≤ n → Round old w at g → HadTurn w v (at + 1) n progress.Going
     → Round old v (at + 1) true
-on_going laws old w v at n g some r t =
-    let took = had_turn w v (at + 1) n progress.Going t in
-    let takes = turn_takes_some w v (at + 1) n some took in
-    let left = r.left in
-    record {
-      moved = moved_on laws old w v at n g true r t;
-      left = omega (arith, takes, left);
-      less = λ e. omega (arith, takes, left);
-      ended = λ e. absurd (false_true (sym e));
-    }
+on_going laws old w v at n g some r t = search (arith, rules, had_turn w v (at + 1) n, turn_takes_some w v (at + 1) n some, moved_on laws old w v at n g true r t, false_true)
 
 -- after a turn that ends
 pub on_done : SessionLaws → (old : List (ℕ × Session)) (w v : World) (at n : ℕ) (g : Bool) → AreNumbered 1 old → Round old w at g → HadTurn w v (at + 1) n progress.Done
     → Round old v (at + 1) g
-on_done laws old w v at n g numbered r t =
-    let took = had_turn w v (at + 1) n progress.Done t in
-    let takes = turn_takes w v (at + 1) n progress.Done took in
-    let left = r.left in
-    let ids = moved_numbered 1 old w.sessions r.moved numbered in
-    record {
-      moved = moved_on laws old w v at n g false r t;
-      left = omega (arith, takes, left);
-      less = λ e. let less = r.less e in omega (arith, takes, less);
-      ended = λ e. subst (λ (m : ℕ). have_ended (take m v.sessions) ≡ true) (sym (add-one at)) (turn_ends w v (at + 1) at n (omega arith) ids took (r.ended e));
-    }
-
--- after a turn, which goes on still or not
-pub on_turn : SessionLaws → (old : List (ℕ × Session)) (w v : World) (at n : ℕ) (g h : Bool) → 1 ≤ n → AreNumbered 1 old → Round old w at g → HadTurn w v (at + 1) n (progress_of h)
-    → Round old v (at + 1) (if h then true else g)
-on_turn laws old w v at n g true some numbered r t = on_going laws old w v at n g some r t
-on_turn laws old w v at n g false some numbered r t = on_done laws old w v at n g numbered r t
+on_done laws old w v at n g numbered r t = search (arith, rules, had_turn w v (at + 1) n, turn_takes w v (at + 1) n, moved_numbered 1 old w.sessions r.moved numbered, moved_on laws old w v at n g false r t, add-one at, turn_ends w v (at + 1) at n (omega arith))
 
 -- a turn that is refused is so for want of memory
 pub no_memory : (old : List (ℕ × Session)) (w v : World) (count at n : ℕ) (e : HostError) → IsNumbered count old → at < count → HaveMoved old w.sessions
     → TurnRefused (at + 1) n w v e → e ≡ host_error.NoMemory
-no_memory old w v count at n e numbered below moved t =
-    let many = moved_length old w.sessions moved in
-    let all = numbered.0 in
-    let found = numbered_found 1 (at + 1) at w.sessions (omega arith) (moved_numbered 1 old w.sessions moved numbered.1) (omega (arith, many, all, below)) in
-    turn_refused w v (at + 1) n e found t
+no_memory old w v count at n e numbered below moved t = search (arith, rules, moved_length old w.sessions moved, numbered_found 1 (at + 1) at w.sessions (omega arith) (moved_numbered 1 old w.sessions moved numbered.1), moved_numbered 1 old w.sessions moved numbered.1, turn_refused w v (at + 1) n e)

@@ -1,5 +1,5 @@
 -- What is still to be shown of a text: the bytes from `plain` to `at` as they are, and the others behind them as they are shown.
-use Rattle.std.proofs.Common.{◌≡◌, ◌∙◌, ◌+◌, ◌-◌, ◌<◌, ◌≤◌, ℕ, Bool, true, false, List, [], ◌∷◌, ◌++◌, add-one, ap, append_assoc, arith, drop, get_or, if◌then◌else◌, length, length-drop, refl, sym, take}
+use Rattle.std.proofs.Common.{◌≡◌, ◌+◌, ◌-◌, ◌<◌, ◌≤◌, ℕ, true, false, List, [], ◌∷◌, ◌++◌, add-one, ap, append_assoc, arith, drop, get_or, length, length-drop, take, rules}
 use Rattle.std.specs.Char.{is_ascii_control}
 use Rattle.std.proofs.lemmas.Bool.Decides.{nat_tests}
 use Rattle.std.proofs.Math.Seq.{drop-cons}
@@ -17,48 +17,24 @@ one_behind text at inside =
 
 run_more : (text : List ℕ) (plain at : ℕ) → plain ≤ at → at < length text
     → take ((at + 1) - plain) (drop plain text) ≡ take (at - plain) (drop plain text) ++ (get_or text at 0 ∷ [])
-run_more text plain at order inside =
-    let n : (at + 1) - plain ≡ (at - plain) + 1 = omega arith in
-    let far : at - plain < length (drop plain text) = omega (arith, length-drop plain text) in
-    let place : plain + (at - plain) ≡ at = omega arith in
-    rw n (
-    take_more (drop plain text) (at - plain) 0 far
-    ∙ ap (λ (b : ℕ). take (at - plain) (drop plain text) ++ (b ∷ [])) (get_or-drop plain text (at - plain) 0 ∙ ap (λ (i : ℕ). get_or text i 0) place)
-    )
+run_more text plain at order inside = search (arith, rules, length-drop plain text, take_more (drop plain text) (at - plain) 0, get_or-drop plain text (at - plain) 0, get_or text)
 
 -- a byte that is shown as it is
 pub plain_more : (text : List ℕ) (plain at : ℕ) → plain ≤ at → at < length text → is_ascii_control (get_or text at 0) ≡ false
     → still_shown text plain at ≡ still_shown text plain (at + 1)
-plain_more text plain at order inside is =
-    let byte = get_or text at 0 in
-    let same : shown_byte byte ≡ byte ∷ [] = ap (λ (b : Bool). if b then escape byte else byte ∷ []) is in
-    let pending = take (at - plain) (drop plain text) in
-    let behind = shown (drop (at + 1) text) in
-    ap (λ (l : List ℕ). pending ++ l) (one_behind text at inside ∙ ap (λ (l : List ℕ). l ++ behind) same)
-    ∙ (sym (append_assoc pending (byte ∷ []) behind) ∙ ap (λ (l : List ℕ). l ++ behind) (sym (run_more text plain at order inside)))
+plain_more text plain at order inside is = search (arith, rules, get_or, one_behind, append_assoc, run_more)
 
 none_between : (text : List ℕ) (at : ℕ) → still_shown text at at ≡ shown (drop at text)
-none_between text at =
-    let none : at - at ≡ 0 = omega arith in
-    ap (λ (n : ℕ). take n (drop at text) ++ shown (drop at text)) none
+none_between text at = search (arith, rules)
 
 -- a control character
 pub control_more : (text : List ℕ) (plain at : ℕ) → at < length text → is_ascii_control (get_or text at 0) ≡ true
     → still_shown text plain at ≡ take (at - plain) (drop plain text) ++ (escape (get_or text at 0) ++ still_shown text (at + 1) (at + 1))
-control_more text plain at inside is =
-    let byte = get_or text at 0 in
-    let other : shown_byte byte ≡ escape byte = ap (λ (b : Bool). if b then escape byte else byte ∷ []) is in
-    let pending = take (at - plain) (drop plain text) in
-    let behind = shown (drop (at + 1) text) in
-    ap (λ (l : List ℕ). pending ++ l) (one_behind text at inside ∙ (ap (λ (l : List ℕ). l ++ behind) other
-    ∙ ap (λ (l : List ℕ). escape byte ++ l) (sym (none_between text (at + 1)))))
+control_more text plain at inside is = search (arith, rules, get_or, one_behind, none_between)
 
 -- no byte is left but those that are shown as they are
 pub none_more : (text : List ℕ) (plain at : ℕ) → length text ≤ at → still_shown text plain at ≡ drop plain text
-none_more text plain at far =
-    let enough : length (drop plain text) ≤ at - plain = omega (arith, far, length-drop plain text) in
-    ap (λ (l : List ℕ). take (at - plain) (drop plain text) ++ shown l) (drop_all at text far)
-    ∙ (append-nil (take (at - plain) (drop plain text)) ∙ take_all (at - plain) (drop plain text) enough)
+none_more text plain at far = search (arith, rules, length-drop, drop_all, append-nil, take_all)
 
 pub control_is_ascii : (byte : ℕ) → is_ascii_control byte ≡ true → byte < 128
 control_is_ascii byte is = grind (arith, nat_tests)
@@ -67,10 +43,4 @@ control_is_ascii byte is = grind (arith, nat_tests)
 pub pushed : (text made mid after run all : List ℕ) (byte plain at : ℕ) → at < length text → is_ascii_control (get_or text at 0) ≡ true → byte ≡ get_or text at 0
     → run ≡ take (at - plain) (drop plain text) → mid ≡ made ++ run → after ≡ mid ++ escape byte → made ++ still_shown text plain at ≡ all
     → after ++ still_shown text (at + 1) (at + 1) ≡ all
-pushed text made mid after run all byte plain at inside is this taken first second same =
-    let behind = still_shown text (at + 1) (at + 1) in
-    let rest : still_shown text plain at ≡ run ++ (escape byte ++ behind) =
-    control_more text plain at inside is ∙ (ap (λ (l : List ℕ). l ++ (escape (get_or text at 0) ++ behind)) (sym taken) ∙ ap (λ (b : ℕ). run ++ (escape b ++ behind)) (sym this)) in
-    let parts : after ≡ (made ++ run) ++ escape byte = second ∙ ap (λ (l : List ℕ). l ++ escape byte) first in
-    ap (λ (l : List ℕ). l ++ behind) parts
-    ∙ (append_assoc (made ++ run) (escape byte) behind ∙ (append_assoc made run (escape byte ++ behind) ∙ (ap (λ (l : List ℕ). made ++ l) (sym rest) ∙ same)))
+pushed text made mid after run all byte plain at inside is this taken first second same = search (arith, rules, control_more, get_or, append_assoc)

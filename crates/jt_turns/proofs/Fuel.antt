@@ -1,9 +1,8 @@
 -- A step takes fuel.
-use Rattle.std.proofs.Common.{◌≡◌, ℕ, zero, suc, ◌+◌, ◌-◌, ◌<◌, ◌≤◌, Bool, true, false, Option, Some, None, ap, arith, refl}
+use Rattle.std.proofs.Common.{◌≡◌, ℕ, zero, suc, ◌+◌, ◌-◌, ◌<◌, ◌≤◌, Bool, false, Option, Some, None, ap, arith, refl, rules}
 use Rattle.std.specs.Prelude.{nat_lt}
 use Rattle.std.proofs.lemmas.Bool.Decides.{nat_tests}
 use Rattle.jt_image.specs.declared.instruction.Instruction.{Instruction}
-use Rattle.jt_image.specs.declared.instruction.Instruction.TheVariants as op
 use Rattle.jt_image.specs.Code.{Code, Section}
 use Rattle.jt_image.specs.Config as config
 use Rattle.jt_image.specs.Config.{Budget, Config, State}
@@ -11,26 +10,17 @@ use Rattle.jt_image.specs.Step.{Action, goes_on, ends, faulty, wrong, cost, fetc
 use Rattle.jt_image.specs.Run.{Next, Goes, Ends, Wrong, after, next, next_at, spends, placed, then_goes, unless}
 use Rattle.jt_value.specs.Place.{Place}
 use Rattle.jt_image.specs.Places.{place_at}
-use Rattle.jt_machine.specs.Session.{Status, going, done, lost, led, moved, told_of}
+use Rattle.jt_machine.specs.Session.{Status, going, led, moved, told_of}
 use Rattle.jt_machine.specs.declared.outcome.Progress.TheVariants as progress
 use Rattle.jt_turns.specs.Standing.{fuel_of}
 
 -- each instruction costs something
 positive : (i : Instruction) (m : State) → 1 ≤ cost i m
-positive (op.Emit a) m = omega arith
-positive (op.Op a) m = omega arith
-positive (op.Filter a b c) m = omega arith
-positive (op.Test a b) m = omega arith
-positive (op.MakeList c) m = omega arith
-positive (op.MakeMap c) m = omega arith
-positive op.LoopStart m = omega arith
-positive (op.Unpack c) m = omega arith
-positive i m = omega arith
+positive a0 m = search (arith, rules)
 
 -- what comes to another configuration passed its test
 passed_test : (b : Bool) (l : config.Limit) (n : Next) (c : Config) → unless b l n ≡ Goes c → (b ≡ false) × (n ≡ Goes c)
-passed_test true l n c e = absurd (cc)
-passed_test false l n c e = (refl, e)
+passed_test a0 l n c e = search (arith, rules)
 
 fuel_of_next : Next → ℕ
 fuel_of_next (Goes c) = c.left.fuel
@@ -57,11 +47,7 @@ spent_fuel n wrong b c some e = absurd (cc)
 
 -- a fault's place is no matter of steps that go on
 goes_too : (q : Option Place) (n : Next) (d : Config) → placed q n ≡ Goes d → n ≡ Goes d
-goes_too q (Goes c) d e = e
-goes_too q (Ends (config.text t)) d e = absurd (cc)
-goes_too q (Ends (config.fault f p)) d e = absurd (cc)
-goes_too q (Ends (config.spent l)) d e = absurd (cc)
-goes_too q Wrong d e = absurd (cc)
+goes_too q a1 d e = search (arith, rules)
 
 one_step : (k : Code) (o : Option (Section × Instruction)) (c d : Config) → next_at k o c ≡ Goes d → d.left.fuel + 1 ≤ c.left.fuel
 one_step k None c d e = absurd (cc)
@@ -92,8 +78,7 @@ no_more k n (going c) = go (after k n c) refl
     go (Goes d) e = let less = steps_take k n c d e in omega (arith, less)
     go (Ends o) e = omega arith
     go Wrong e = omega arith
-no_more k n (done o) = omega arith
-no_more k n lost = omega arith
+no_more k n a2 = omega arith
 
 pub less : (k : Code) (n : ℕ) (s : Status) → 1 ≤ n → told_of (moved k n s) ≡ Some progress.Going → fuel_of (moved k n s) < fuel_of s
 less k n (going c) some e = go (after k n c) refl e
@@ -102,5 +87,4 @@ less k n (going c) some e = go (after k n c) refl e
     go (Goes d) is h = let taken = steps_take k n c d is in omega (arith, taken, some)
     go (Ends o) is h = absurd (cc)
     go Wrong is h = absurd (cc)
-less k n (done o) some e = absurd (cc)
-less k n lost some e = absurd (cc)
+less k n a2 some e = absurd (cc)

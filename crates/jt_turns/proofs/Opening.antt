@@ -1,5 +1,5 @@
 -- A session more, or why there is none.
-use Rattle.std.proofs.Common.{◌≡◌, ◌∙◌, ℕ, zero, suc, ◌+◌, ◌<◌, ◌≤◌, Bool, true, false, cond, List, [], ◌∷◌, ◌++◌, length, length-append, Option, Some, None, ap, arith, refl, sym, subst}
+use Rattle.std.proofs.Common.{◌≡◌, ◌∙◌, ℕ, zero, suc, ◌+◌, ◌<◌, ◌≤◌, cond, List, [], ◌∷◌, ◌++◌, length, length-append, Option, Some, None, ap, arith, refl, sym, subst, rules}
 use Rattle.std.specs.Prelude.{nat_le}
 use Rattle.std.proofs.lemmas.Bool.Decides.{nat_tests}
 use Rattle.jt_value.specs.Pairs.{Pairs}
@@ -23,12 +23,7 @@ one_more w s = record { last = w.last + 1; sessions = w.sessions ++ (w.last + 1,
 
 -- the host that opened it had place for one more
 had_place : (w : World) (i : ℕ) → opening_reply (bar w) w ≡ opened i → length w.sessions < max_sessions
-had_place w i told = go (nat_le max_sessions (length w.sessions)) refl told
-  where
-    go : (a : Bool) → nat_le max_sessions (length w.sessions) ≡ a
-        → opening_reply (cond a (Some host_error.Full) (cond (nat_le max_id w.last) (Some host_error.NoId) None)) w ≡ opened i → length w.sessions < max_sessions
-    go true f r = absurd (cc)
-    go false f r = grind (arith, nat_tests)
+had_place w i told = search (arith, rules, nat_tests)
 
 opened_world : (w v : World) (k : Code) (x : Pairs) (b : Budget) (i : ℕ) → v ≡ after (opens k x b) w → reply (opens k x b) w ≡ opened i → v ≡ one_more w (started k x b)
 unfolding one_more
@@ -40,21 +35,11 @@ opened_world w v k x b i is told = go (bar w) is told
 
 -- the id that was answered
 opened_id : (w : World) (k : Code) (x : Pairs) (b : Budget) (i : ℕ) → reply (opens k x b) w ≡ opened i → w.last + 1 ≡ i
-opened_id w k x b i told = go (bar w) told
-  where
-    go : (o : Option HostError) → opening_reply o w ≡ opened i → w.last + 1 ≡ i
-    go None r = cc
-    go (Some h) r = absurd (cc)
+opened_id w k x b i told = search (arith, rules)
 
 full_at : (n m : ℕ) (e : HostError) → cond (nat_le max_sessions n) (Some host_error.Full) (cond (nat_le max_id m) (Some host_error.NoId) None) ≡ Some e → m ≡ n
     → (e ≡ host_error.Full) × (max_sessions < n + 1)
-full_at n m e is same = go (nat_le max_sessions n) refl (nat_le max_id m) refl is
-  where
-    go : (a : Bool) → nat_le max_sessions n ≡ a → (c : Bool) → nat_le max_id m ≡ c → cond a (Some host_error.Full) (cond c (Some host_error.NoId) None) ≡ Some e
-        → (e ≡ host_error.Full) × (max_sessions < n + 1)
-    go true f c g h = let this : host_error.Full ≡ e = cc in (sym this, grind (arith, nat_tests))
-    go false f true g h = absurd (grind (arith, nat_tests))
-    go false f false g h = absurd (cc)
+full_at n m e is same = search (arith, rules, nat_tests)
 
 -- a list of no length
 pub nil_of : {A : Type 0} → (xs : List A) (n : ℕ) → length xs ≡ n → n ≡ 0 → xs ≡ []
@@ -82,18 +67,7 @@ module _ (b : Budget) where
 
   -- an image that the host has no place for
   pub refused_start : (ss : List Start) (w : World) (e : HostError) → Stands b ss w → OpenRefused w e → IsNotOpened ss e
-  refused_start ss w host_error.NoMemory h why = tt
-  refused_start ss w host_error.Full h why =
-      let many = as_many b 1 ss w.sessions h.1 in
-      let full = full_at (length w.sessions) w.last host_error.Full why (h.0 ∙ sym many) in
-      let most = h.2 in
-      omega (arith, full.1, many, most)
-  refused_start ss w host_error.NoId h why =
-      let full = full_at (length w.sessions) w.last host_error.NoId why (h.0 ∙ sym (as_many b 1 ss w.sessions h.1)) in
-      let no = full.0 in absurd (cc)
-  refused_start ss w host_error.NoSession h why =
-      let full = full_at (length w.sessions) w.last host_error.NoSession why (h.0 ∙ sym (as_many b 1 ss w.sessions h.1)) in
-      let no = full.0 in absurd (cc)
+  refused_start ss w a2 h why = search (arith, rules, as_many, full_at)
 
 -- ---- ids, one after another
 
@@ -102,20 +76,14 @@ ids_are_numbered : (i n : ℕ) (es : List (ℕ × Session)) → ids_of es ≡ id
 ids_are_numbered i zero [] e = (refl, tt)
 ids_are_numbered i zero (x ∷ es) e = absurd (cc)
 ids_are_numbered i (suc n) [] e = absurd (cc)
-ids_are_numbered i (suc n) (x ∷ es) e =
-    let first : x.0 ≡ i = cc in
-    let others : ids_of es ≡ ids_from (i + 1) n = cc in
-    let rest = ids_are_numbered (i + 1) n es others in
-    (ap suc rest.0, (first, rest.1))
+ids_are_numbered i (suc n) (x ∷ es) e = search (arith, rules, ids_are_numbered (i + 1) n es)
 
 pub are_numbered : (n : ℕ) (es : List (ℕ × Session)) → ids_of es ≡ ids_from 1 n → IsNumbered n es
 are_numbered n es e = ids_are_numbered 1 n es e
 
 one_from_more : (i n : ℕ) → ids_from i n ++ (i + n) ∷ [] ≡ ids_from i (suc n)
 one_from_more i zero = let same : i + 0 ≡ i = omega arith in ap (λ (j : ℕ). j ∷ []) same
-one_from_more i (suc n) =
-    let next : i + suc n ≡ (i + 1) + n = omega arith in
-    ap (λ (js : List ℕ). i ∷ js) (ap (λ (j : ℕ). ids_from (i + 1) n ++ j ∷ []) next ∙ one_from_more (i + 1) n)
+one_from_more i (suc n) = search (arith, rules, one_from_more (i + 1) n)
 
 ids_behind : (es : List (ℕ × Session)) (j : ℕ) (s : Session) → ids_of (es ++ (j, s) ∷ []) ≡ ids_of es ++ j ∷ []
 ids_behind [] j s = refl

@@ -21,10 +21,12 @@ fault_told f None = fault_text f
 fault_told f (Some q) =
     fault_text f ++ (codes " in " ++ (q.template ++ (codes " line " ++ decimal q.line)))
 
--- The line of a session, by its id: a text as it is, with the number of its bytes, a fault, or the limit that was spent. Whoever made
--- the image chose the name of the template that a fault names, so that line is shown as one.
+-- The line of a session, by its id: a text as it is, with the number of its bytes, a fault, or the
+-- limit that was spent. Whoever made the image chose the name of the template that a fault names,
+-- so that line is shown as one.
 abbrev pub session_line : ℕ → Outcome → List ℕ
-session_line i (config.text t) = decimal i ++ (codes " text " ++ (decimal (length t) ++ (codes ":" ++ (t ++ codes "\n"))))
+session_line i (config.text t) =
+    decimal i ++ (codes " text " ++ (decimal (length t) ++ (codes ":" ++ (t ++ codes "\n"))))
 session_line i (config.fault f q) = one_line (decimal i ++ (codes " fault " ++ fault_told f q))
 session_line i (config.spent l) = decimal i ++ (codes " spent " ++ (limit_name l ++ codes "\n"))
 

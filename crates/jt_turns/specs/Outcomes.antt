@@ -19,7 +19,8 @@ AreOutcomes b (s ∷ ss) (o ∷ os) = Run s.code (pairs_of s.context) b o × Are
 
 -- the line of each, whatever the turns are; or a growth was refused
 abbrev pub TakesTurns : Budget → List Start → Result (String Global) HostError → Type 0
-TakesTurns b ss (Ok text) = (os : List Outcome) × AreOutcomes b ss os × (string_bytes text ≡ session_lines 1 os)
+TakesTurns b ss (Ok text) =
+    (os : List Outcome) × AreOutcomes b ss os × (string_bytes text ≡ session_lines 1 os)
 TakesTurns b ss (Err e) = e ≡ host_error.NoMemory
 
 -- why no session more is opened: as many as a host has place for are, or a growth was refused

@@ -21,7 +21,8 @@ module _ (b : Budget) where
   AreSessions i (s ∷ ss) [] = ⊥
   AreSessions i (s ∷ ss) (e ∷ es) = (e.0 ≡ i) × IsSession s e.1 × AreSessions (i + 1) ss es
 
-  -- the host has the sessions of the images, and no other, and they are no more than it has place for
+  -- the host has the sessions of the images, and no other, and they are no more than it has place
+  -- for
   abbrev pub Stands : List Start → World → Type 0
   Stands ss w = (w.last ≡ length ss) × AreSessions 1 ss w.sessions × (length ss ≤ max_sessions)
 

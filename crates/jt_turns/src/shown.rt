@@ -4,7 +4,8 @@ ghost use Rattle.jt_turns.specs.Shown.{escape, hex_digit, one_line, shown};
 
 use std::alloc::{AllocError, Global};
 
-/// The line of a text: each control character of it is shown as `\x` and two digits, so that it is one line.
+/// The line of a text: each control character of it is shown as `\x` and two digits, so that it is
+/// one line.
 pub(crate) fn line_of(alloc: Global, text: &str) -> Result<String, AllocError>
     ensures { IfOk result (λ line. string_bytes line ≡ one_line text.now) }
 {

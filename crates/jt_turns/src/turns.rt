@@ -69,8 +69,9 @@ impl Sessions {
         }
     }
 
-    /// Runs the sessions side by side, in turns of `slice` instructions, or of one where that is 0; and answers the line of each, in
-    /// their order: `1 text 5:Hello`, with the number of the text's bytes, `2 fault F2 Undefined` or `3 spent Fuel`.
+    /// Runs the sessions side by side, in turns of `slice` instructions, or of one where that is 0;
+    /// and answers the line of each, in their order: `1 text 5:Hello`, with the number of the
+    /// text's bytes, `2 fault F2 Undefined` or `3 spent Fuel`.
     ///
     /// # Errors
     ///

@@ -11,20 +11,20 @@ use Rattle.jt_machine.specs.declared.state.State.{State}
 use Rattle.jt_machine.specs.Parts.{enter, call_section}
 use Rattle.jt_machine.specs.Entries.{values_view}
 use Rattle.jt_machine.specs.View.{config_view, limit_view}
-use Rattle.jt_machine.proofs.Pieces.{on_err}
+use Rattle.jt_machine.proofs.Growing.{lost}
 use Rattle.jt_machine.proofs.Taking.{called, called_is, call_values, call_pays, not_entered, has_entered, section_at, taken_count, values_are, has_same}
 use Rattle.jt_machine.proofs.calls.call.Goals as goal
 
-pub returns-in-Some-pay-clause-next : goal.returns-in-Some-pay-clause-next
-returns-in-Some-pay-clause-next g c =
+pub returns-in-Some-pay : goal.returns-in-Some-pay
+returns-in-Some-pay g c =
     let k = g.C.Code.code c.args.code.now in
     let x = called_is (slice_get k.units c.args.unit) c.in-Some.header c.in-Some.ensures in
     let there = call_values c.args.unit x.0 (config_view c.args.state.now) (rw x.1 at c.requires.not_wrong) in
     ap (λ (o : Option Section). call_section c.args.unit o (config_view c.args.state.now)) x.1
     ∙ call_pays c.args.unit x.0 (config_view c.args.state.now) there ∙ c.in-Some-pay.ensures.rest (λ e. enter e (called c.args.unit x.0))
 
-pub returns-in-Err-clause-next : goal.returns-in-Err-clause-next
-returns-in-Err-clause-next g c =
+pub returns-in-Err : goal.returns-in-Err
+returns-in-Err g c =
     let k = g.C.Code.code c.args.code.now in
     let x = called_is (slice_get k.units c.args.unit) c.in-Some.header c.in-Some.ensures in
     let there = call_values c.args.unit x.0 (config_view c.args.state.now) (rw x.1 at c.requires.not_wrong) in
@@ -42,8 +42,8 @@ take_values-requires g c =
     let there = call_values c.args.unit x.0 (config_view c.args.state.now) (rw x.1 at c.requires.not_wrong) in
     rw n (has_same x.0.parameters c.pay.new.state.stack.running c.args.state.now.stack.running (ap (λ (s : State). s.stack.running) c.in_default-pay.ensures.same) there)
 
-pub returns-in_err-arguments-clause-memory : goal.returns-in_err-arguments-clause-memory
-returns-in_err-arguments-clause-memory g c =
+pub returns-in_err-arguments : goal.returns-in_err-arguments
+returns-in_err-arguments g c =
     let k = g.C.Code.code c.args.code.now in
     let x = called_is (slice_get k.units c.args.unit) c.in-Some.header c.in-Some.ensures in
     let there = call_values c.args.unit x.0 (config_view c.args.state.now) (rw x.1 at c.requires.not_wrong) in
@@ -51,10 +51,10 @@ returns-in_err-arguments-clause-memory g c =
     ∙ call_pays c.args.unit x.0 (config_view c.args.state.now) there
     ∙ c.in_default-pay.ensures.rest (λ e. enter e (called c.args.unit x.0))
     ∙ has_entered (config_view c.pay.new.state) (called c.args.unit x.0) c.in_default-enter.ensures.ok.0 in
-    on_err c.from_residual.result (rw e tt)
+    lost _ _ _ c.from_residual.result c.from_residual.ensures.1 (rw e tt)
 
-pub returns-in_err-locals-clause-memory : goal.returns-in_err-locals-clause-memory
-returns-in_err-locals-clause-memory g c =
+pub returns-in_err-locals : goal.returns-in_err-locals
+returns-in_err-locals g c =
     let k = g.C.Code.code c.args.code.now in
     let x = called_is (slice_get k.units c.args.unit) c.in-Some.header c.in-Some.ensures in
     let there = call_values c.args.unit x.0 (config_view c.args.state.now) (rw x.1 at c.requires.not_wrong) in
@@ -62,10 +62,10 @@ returns-in_err-locals-clause-memory g c =
     ∙ call_pays c.args.unit x.0 (config_view c.args.state.now) there
     ∙ c.in_default-pay.ensures.rest (λ e. enter e (called c.args.unit x.0))
     ∙ has_entered (config_view c.pay.new.state) (called c.args.unit x.0) c.in_default-enter.ensures.ok.0 in
-    on_err c.from_residual-in_err-locals.result (rw e tt)
+    lost _ _ _ c.from_residual-in_err-locals.result c.from_residual-in_err-locals.ensures.1 (rw e tt)
 
-pub returns-in_err-enter-clause-memory : goal.returns-in_err-enter-clause-memory
-returns-in_err-enter-clause-memory g c =
+pub returns-in_err-enter : goal.returns-in_err-enter
+returns-in_err-enter g c =
     let k = g.C.Code.code c.args.code.now in
     let x = called_is (slice_get k.units c.args.unit) c.in-Some.header c.in-Some.ensures in
     let there = call_values c.args.unit x.0 (config_view c.args.state.now) (rw x.1 at c.requires.not_wrong) in
@@ -73,7 +73,7 @@ returns-in_err-enter-clause-memory g c =
     ∙ call_pays c.args.unit x.0 (config_view c.args.state.now) there
     ∙ c.in_default-pay.ensures.rest (λ e. enter e (called c.args.unit x.0))
     ∙ has_entered (config_view c.pay.new.state) (called c.args.unit x.0) c.in_default-enter.ensures.ok.0 in
-    on_err c.from_residual-in_err-enter.result (rw e tt)
+    lost _ _ _ c.from_residual-in_err-enter.result c.from_residual-in_err-enter.ensures.1 (rw e tt)
 
 pub locals_with-requires : goal.locals_with-requires
 locals_with-requires g c =
@@ -85,8 +85,8 @@ locals_with-requires g c =
     let section = section_at k.units c.args.unit x.0 c.requires.whole.units x.1 in
     omega (arith, many, section.within, length-map c.in_ok-arguments.arguments.items view, ap (λ (h : UnitHeader). h.locals) x.2)
 
-pub returns-clause-next : goal.returns-clause-next
-returns-clause-next g c =
+pub returns : goal.returns
+returns g c =
     let k = g.C.Code.code c.args.code.now in
     let x = called_is (slice_get k.units c.args.unit) c.in-Some.header c.in-Some.ensures in
     let there = call_values c.args.unit x.0 (config_view c.args.state.now) (rw x.1 at c.requires.not_wrong) in

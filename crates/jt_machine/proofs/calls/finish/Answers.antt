@@ -6,17 +6,16 @@ use Rattle.jt_machine.specs.declared.state.State.{State}
 use Rattle.jt_machine.specs.Parts.{return_from, back_with}
 use Rattle.jt_machine.specs.StackView.{caller_view}
 use Rattle.jt_machine.specs.View.{config_view, outer_view, given_view}
-use Rattle.jt_machine.proofs.Growing.{on_err_map}
-use Rattle.jt_machine.proofs.Returning.{return_back, return_ends, return_pays, back_same, if_ok_map}
+use Rattle.jt_machine.proofs.Returning.{return_back, return_ends, return_pays, back_same}
 use Rattle.jt_machine.proofs.calls.finish.Goals as goal
 
-pub returns-in-Some-clause-next : goal.returns-in-Some-clause-next
-returns-in-Some-clause-next c u h =
+pub returns-in-Some : goal.returns-in-Some
+returns-in-Some c u h =
     let x = return_pays u (config_view c.args.state.now) (string_bytes c.args.state.now.buffer) (outer_view c.args.state.now.outer.items) refl h in
     x.1 ∙ c.in-Some.ensures.rest x.0
 
-pub returns-in_default-leave-clause-next : goal.returns-in_default-leave-clause-next
-returns-in_default-leave-clause-next c u h =
+pub returns-in_default-leave : goal.returns-in_default-leave
+returns-in_default-leave c u h =
     let b = string_bytes c.args.state.now.buffer in
     let callers : c.take_given-given.new.self.callers ≡ c.args.state.now.stack.callers = c.take_given-given.ensures.callers ∙ ap (λ (s : State). s.stack.callers) c.in_default.ensures.same in
     let none : c.args.state.now.stack.callers ≡ [] = sym callers ∙ c.in_default-leave.ensures.none in
@@ -29,8 +28,8 @@ resume-requires c =
     let callers : c.take_given-given.new.self.callers ≡ c.args.state.now.stack.callers = c.take_given-given.ensures.callers ∙ ap (λ (s : State). s.stack.callers) c.in_default.ensures.same in
     omega (arith, c.requires.depth, c.in_default.ensures.depth, c.in-Some-leave.ensures.fewer, ap (λ (cs : List Caller). length cs) callers)
 
-pub returns-clause-next : goal.returns-clause-next
-returns-clause-next c =
+pub returns : goal.returns
+returns c u h =
     let es = c.leave.new.self.running in
     let a = caller_view c.in-Some-leave.caller es in
     let above = c.leave.new.self.callers in
@@ -38,15 +37,4 @@ returns-clause-next c =
     let callers : c.take_given-given.new.self.callers ≡ c.args.state.now.stack.callers = c.take_given-given.ensures.callers ∙ ap (λ (s : State). s.stack.callers) c.in_default.ensures.same in
     let is : c.args.state.now.stack.callers ≡ a ∷ above = sym callers ∙ c.in-Some-leave.ensures.some in
     let given = rw (ap (λ (s : State). s.stack.running) c.in_default.ensures.same) at c.take_given-given.ensures.given in
-    if_ok_map c.resume.result _ _ c.resume.ensures.next (λ r e u h. return_back u (config_view c.args.state.now) a above o is given h ∙ c.in_default.ensures.rest (λ d. back_with a above o d) ∙ back_same a above o (config_view c.pay.new.state) es above ∙ e)
-
-pub returns-clause-memory : goal.returns-clause-memory
-returns-clause-memory c =
-    let es = c.leave.new.self.running in
-    let a = caller_view c.in-Some-leave.caller es in
-    let above = c.leave.new.self.callers in
-    let o = given_view c.take_given-given.result in
-    let callers : c.take_given-given.new.self.callers ≡ c.args.state.now.stack.callers = c.take_given-given.ensures.callers ∙ ap (λ (s : State). s.stack.callers) c.in_default.ensures.same in
-    let is : c.args.state.now.stack.callers ≡ a ∷ above = sym callers ∙ c.in-Some-leave.ensures.some in
-    let given = rw (ap (λ (s : State). s.stack.running) c.in_default.ensures.same) at c.take_given-given.ensures.given in
-    on_err_map c.resume.result _ _ c.resume.ensures.memory (λ x u h. rw (return_back u (config_view c.args.state.now) a above o is given h ∙ c.in_default.ensures.rest (λ d. back_with a above o d) ∙ back_same a above o (config_view c.pay.new.state) es above) x)
+    rw (return_back u (config_view c.args.state.now) a above o is given h ∙ c.in_default.ensures.rest (λ d. back_with a above o d) ∙ back_same a above o (config_view c.pay.new.state) es above) c.resume.ensures

@@ -4,17 +4,17 @@ use Rattle.jt_value.specs.Tree.{text, markup}
 use Rattle.jt_machine.specs.declared.state.State.{State}
 use Rattle.jt_machine.specs.Parts.{step_on, push, with_buffers, close_capture}
 use Rattle.jt_machine.specs.View.{limit_view, config_view, outer_view}
-use Rattle.jt_machine.proofs.Pieces.{on_err}
+use Rattle.jt_machine.proofs.Growing.{lost}
 use Rattle.jt_machine.proofs.Steps.{push_spent, push_goes_on, captured_size, captured_flat}
 use Rattle.jt_machine.proofs.captures.close_capture.Goals as goal
 
-pub returns-in-Some-clause-next : goal.returns-in-Some-clause-next
-returns-in-Some-clause-next c =
+pub returns-in-Some : goal.returns-in-Some
+returns-in-Some c =
     let b = string_bytes c.args.state.now.buffer in
     rw (c.pop_capture.ensures, c.pop_outer-around.ensures) (c.in-Some.ensures.rest (λ e. push (cond c.args.marked (markup b) (text b)) (with_buffers e (string_bytes c.pop_outer-around.result ∷ outer_view c.pop_outer-around.new.outer.items)) step_on))
 
-pub returns-in-Some-flat_limit-clause-next : goal.returns-in-Some-flat_limit-clause-next
-returns-in-Some-flat_limit-clause-next c =
+pub returns-in-Some-flat_limit : goal.returns-in-Some-flat_limit
+returns-in-Some-flat_limit c =
     let b = string_bytes c.args.state.now.buffer in
     let t = cond c.args.marked (markup b) (text b) in
     let bs = outer_view c.pop_outer-around.new.outer.items in
@@ -33,8 +33,8 @@ push_fitting-requires-clause-fits c =
     let fits = c.in_default-flat_limit.ensures t (captured_size c.args.marked b ∙ omega (arith, ap length same, c.len.ensures)) (captured_flat c.args.marked b) in
     rw (c.in_ok-captured.ensures, c.replace-text.ensures.value, same) (sym fits)
 
-pub returns-in_err-captured-clause-memory : goal.returns-in_err-captured-clause-memory
-returns-in_err-captured-clause-memory c =
+pub returns-in_err-captured : goal.returns-in_err-captured
+returns-in_err-captured c =
     let b = string_bytes c.args.state.now.buffer in
     let t = cond c.args.marked (markup b) (text b) in
     let bs = outer_view c.pop_outer-around.new.outer.items in
@@ -43,10 +43,10 @@ returns-in_err-captured-clause-memory c =
     let e : close_capture c.args.marked (config_view c.args.state.now) ≡ push t d step_on =
     rw (c.pop_capture.ensures, c.pop_outer-around.ensures) (c.in_default.ensures.rest (λ e. push t (with_buffers e (string_bytes c.pop_outer-around.result ∷ bs)) step_on)) in
     let fits = c.in_default-flat_limit.ensures t (captured_size c.args.marked b ∙ omega (arith, ap length same, c.len.ensures)) (captured_flat c.args.marked b) in
-    on_err c.from_residual.result (rw e (push_goes_on t d fits))
+    lost _ _ _ c.from_residual.result c.from_residual.ensures.1 (rw e (push_goes_on t d fits))
 
-pub returns-clause-next : goal.returns-clause-next
-returns-clause-next c =
+pub returns : goal.returns
+returns c =
     let b = string_bytes c.args.state.now.buffer in
     let t = cond c.args.marked (markup b) (text b) in
     let bs = outer_view c.pop_outer-around.new.outer.items in
@@ -54,17 +54,5 @@ returns-clause-next c =
     let outer : outer_view c.pay.new.state.outer.items ≡ bs = ap (λ (s : State). outer_view s.outer.items) c.in_default.ensures.same in
     let e : close_capture c.args.marked (config_view c.args.state.now) ≡ push t (with_buffers (config_view c.pay.new.state) (string_bytes c.pop_outer-around.result ∷ bs)) step_on =
     rw (c.pop_capture.ensures, c.pop_outer-around.ensures) (c.in_default.ensures.rest (λ e. push t (with_buffers e (string_bytes c.pop_outer-around.result ∷ bs)) step_on)) in
-    let h = rw (c.in_ok-captured.ensures, c.replace-text.ensures.value, c.replace-text.ensures.after, same, outer) at c.push_fitting.ensures.next in
-    rw e h
-
-pub returns-clause-memory : goal.returns-clause-memory
-returns-clause-memory c =
-    let b = string_bytes c.args.state.now.buffer in
-    let t = cond c.args.marked (markup b) (text b) in
-    let bs = outer_view c.pop_outer-around.new.outer.items in
-    let same : string_bytes c.pay.new.state.buffer ≡ b = ap (λ (s : State). string_bytes s.buffer) c.in_default.ensures.same in
-    let outer : outer_view c.pay.new.state.outer.items ≡ bs = ap (λ (s : State). outer_view s.outer.items) c.in_default.ensures.same in
-    let e : close_capture c.args.marked (config_view c.args.state.now) ≡ push t (with_buffers (config_view c.pay.new.state) (string_bytes c.pop_outer-around.result ∷ bs)) step_on =
-    rw (c.pop_capture.ensures, c.pop_outer-around.ensures) (c.in_default.ensures.rest (λ e. push t (with_buffers e (string_bytes c.pop_outer-around.result ∷ bs)) step_on)) in
-    let h = rw (c.in_ok-captured.ensures, c.replace-text.ensures.value, c.replace-text.ensures.after, same, outer) at c.push_fitting.ensures.memory in
+    let h = rw (c.in_ok-captured.ensures, c.replace-text.ensures.value, c.replace-text.ensures.after, same, outer) at c.push_fitting.ensures in
     rw e h

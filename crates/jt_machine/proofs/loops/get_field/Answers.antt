@@ -11,8 +11,8 @@ use Rattle.jt_machine.proofs.Steps.{framed_is}
 use Rattle.jt_machine.proofs.Taking.{answers_fit}
 use Rattle.jt_machine.proofs.loops.get_field.Goals as goal
 
-pub returns-in-Some-pay-clause-next : goal.returns-in-Some-pay-clause-next
-returns-in-Some-pay-clause-next c =
+pub returns-in-Some-pay : goal.returns-in-Some-pay
+returns-in-Some-pay c =
     let here = rw (← c.in-Some.ensures) at c.requires.not_wrong in
     let x = framed_is (slice_get c.args.state.now.stack.running c.args.above) _ here in
     rw (← c.in-Some.ensures, x.1) (c.in-Some-pay.ensures.rest (λ d. answering (told c.in-Some.field x.0) (λ t. push t d step_on)))
@@ -24,8 +24,8 @@ frame_at-requires c =
     let same : c.pay.new.state.stack.running ≡ c.args.state.now.stack.running = ap (λ (s : State). s.stack.running) c.in_default-pay.ensures.same in
     record { found = x.0; is = ap (λ (es : List Entry). slice_get es c.args.above) same ∙ x.1 }
 
-pub returns-clause-next : goal.returns-clause-next
-returns-clause-next c =
+pub returns : goal.returns
+returns c =
     let same : c.pay.new.state.stack.running ≡ c.args.state.now.stack.running = ap (λ (s : State). s.stack.running) c.in_default-pay.ensures.same in
     let there : slice_get (c.pay.new.state.stack.running) c.args.above ≡ Some (frame (frame_view c.frame_at.result.now)) = c.frame_at.ensures in
     let found : slice_get c.args.state.now.stack.running c.args.above ≡ Some (frame (frame_view c.frame_at.result.now)) = ap (λ (es : List Entry). slice_get es c.args.above) (sym same) ∙ there in
@@ -34,19 +34,7 @@ returns-clause-next c =
     let left = c.pay.new.state.left in
     let given = told c.in-Some.field (frame_view c.frame_at.result.now) in
     let a : Answers c.told-answer.result (limited left.size left.nesting given) = rw (c.limits_of-limits.ensures.size, c.limits_of-limits.ensures.nesting) at c.told-answer.ensures in
-    rw e (c.push_answer.ensures.next given a)
-
-pub returns-clause-memory : goal.returns-clause-memory
-returns-clause-memory c =
-    let same : c.pay.new.state.stack.running ≡ c.args.state.now.stack.running = ap (λ (s : State). s.stack.running) c.in_default-pay.ensures.same in
-    let there : slice_get (c.pay.new.state.stack.running) c.args.above ≡ Some (frame (frame_view c.frame_at.result.now)) = c.frame_at.ensures in
-    let found : slice_get c.args.state.now.stack.running c.args.above ≡ Some (frame (frame_view c.frame_at.result.now)) = ap (λ (es : List Entry). slice_get es c.args.above) (sym same) ∙ there in
-    let e : get_field c.args.field c.args.above (config_view c.args.state.now) ≡ answering (told c.in-Some.field (frame_view c.frame_at.result.now)) (λ t. push t (config_view c.pay.new.state) step_on) =
-    rw (← c.in-Some.ensures, found) (c.in_default-pay.ensures.rest (λ d. answering (told c.in-Some.field (frame_view c.frame_at.result.now)) (λ t. push t d step_on))) in
-    let left = c.pay.new.state.left in
-    let given = told c.in-Some.field (frame_view c.frame_at.result.now) in
-    let a : Answers c.told-answer.result (limited left.size left.nesting given) = rw (c.limits_of-limits.ensures.size, c.limits_of-limits.ensures.nesting) at c.told-answer.ensures in
-    rw e (c.push_answer.ensures.memory given a)
+    rw e (c.push_answer.ensures given a)
 
 pub push_answer-requires-clause-fits : goal.push_answer-requires-clause-fits
 push_answer-requires-clause-fits c =

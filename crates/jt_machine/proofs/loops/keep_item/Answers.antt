@@ -7,12 +7,12 @@ use Rattle.jt_machine.specs.declared.state.State.{State}
 use Rattle.jt_machine.specs.Activations.{Activations}
 use Rattle.jt_machine.specs.Parts.{step_on, with_kept, keep_item}
 use Rattle.jt_machine.specs.View.{config_view}
-use Rattle.jt_machine.proofs.Pieces.{on_err}
+use Rattle.jt_machine.proofs.Growing.{lost}
 use Rattle.jt_machine.proofs.Steps.{framed_is, kept_next}
 use Rattle.jt_machine.proofs.loops.keep_item.Goals as goal
 
-pub returns-in-Some-clause-next : goal.returns-in-Some-clause-next
-returns-in-Some-clause-next c =
+pub returns-in-Some : goal.returns-in-Some
+returns-in-Some c =
     let here = rw c.pop.ensures at c.requires.not_wrong in
     let x = framed_is (slice_get c.pop.new.self.running c.args.above) _ here in
     rw (c.pop.ensures, x.1) (c.in-Some.ensures.rest (λ e. step_on (with_kept (truth (view c.pop.result)) c.args.above x.0 e)))
@@ -24,8 +24,8 @@ keep_if-requires c =
     let same : c.pay.new.state.stack.running ≡ c.pop.new.self.running = ap (λ (s : State). s.stack.running) c.in_default.ensures.same in
     record { found = x.0; is = rw same x.1 }
 
-pub returns-clause-next : goal.returns-clause-next
-returns-clause-next c =
+pub returns : goal.returns
+returns c =
     let here = rw c.pop.ensures at c.requires.not_wrong in
     let x = framed_is (slice_get c.pop.new.self.running c.args.above) _ here in
     let same : c.pay.new.state.stack.running ≡ c.pop.new.self.running = ap (λ (s : State). s.stack.running) c.in_default.ensures.same in
@@ -39,8 +39,8 @@ returns-clause-next c =
     let h = rw kept at c.step_on.ensures.next in
     rw e h
 
-pub returns-in_err-keep_if-clause-memory : goal.returns-in_err-keep_if-clause-memory
-returns-in_err-keep_if-clause-memory c =
+pub returns-in_err-keep_if : goal.returns-in_err-keep_if
+returns-in_err-keep_if c =
     let here = rw c.pop.ensures at c.requires.not_wrong in
     let x = framed_is (slice_get c.pop.new.self.running c.args.above) _ here in
     let same : c.pay.new.state.stack.running ≡ c.pop.new.self.running = ap (λ (s : State). s.stack.running) c.in_default.ensures.same in
@@ -50,4 +50,4 @@ returns-in_err-keep_if-clause-memory c =
     → keep_item c.args.above (config_view c.args.state.now) ≡ step_on (with_kept (truth (view c.pop.result)) c.args.above f (config_view c.pay.new.state)) =
     λ f is. kept_next c.args.above (config_view c.args.state.now) (view c.pop.result) c.pop.new.self.running f top is ∙ (rw callers at (c.in_default.ensures.rest (λ e. step_on (with_kept (truth (view c.pop.result)) c.args.above f e)))) in
     let e = below x.0 x.1 in
-    on_err c.from_residual.result (rw e tt)
+    lost _ _ _ c.from_residual.result c.from_residual.ensures.1 (rw e tt)

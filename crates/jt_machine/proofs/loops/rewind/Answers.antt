@@ -4,20 +4,13 @@ use Rattle.jt_image.specs.Loops.{loop_over}
 use Rattle.jt_machine.specs.Parts.{step_on, with_entry, rewind}
 use Rattle.jt_machine.specs.Entries.{values_view}
 use Rattle.jt_machine.specs.View.{config_view}
-use Rattle.jt_machine.proofs.Pieces.{on_err}
 use Rattle.jt_machine.proofs.loops.rewind.Goals as goal
 
-pub returns-in-Some-clause-next : goal.returns-in-Some-clause-next
-returns-in-Some-clause-next c = rw c.pop_frame-frame.ensures (c.in-Some.ensures.rest (λ e. step_on (with_entry (frame (loop_over (values_view c.pop_frame-frame.result.kept.items))) e)))
+pub returns-in-Some : goal.returns-in-Some
+returns-in-Some c = rw c.pop_frame-frame.ensures (c.in-Some.ensures.rest (λ e. step_on (with_entry (frame (loop_over (values_view c.pop_frame-frame.result.kept.items))) e)))
 
-pub returns-clause-next : goal.returns-clause-next
-returns-clause-next c =
+pub returns : goal.returns
+returns c =
     let e : rewind (config_view c.args.state.now) ≡ step_on (with_entry (frame (loop_over (values_view c.pop_frame-frame.result.kept.items))) (config_view c.pay.new.state)) =
     rw c.pop_frame-frame.ensures (c.in_default.ensures.rest (λ e. step_on (with_entry (frame (loop_over (values_view c.pop_frame-frame.result.kept.items))) e))) in
     rw e c.begin_over.ensures
-
-pub returns-clause-memory : goal.returns-clause-memory
-returns-clause-memory c =
-    let e : rewind (config_view c.args.state.now) ≡ step_on (with_entry (frame (loop_over (values_view c.pop_frame-frame.result.kept.items))) (config_view c.pay.new.state)) =
-    rw c.pop_frame-frame.ensures (c.in_default.ensures.rest (λ e. step_on (with_entry (frame (loop_over (values_view c.pop_frame-frame.result.kept.items))) e))) in
-    on_err c.begin_over.result (rw e tt)

@@ -10,17 +10,11 @@ use Rattle.jt_machine.proofs.loops.start_loop.Goals as goal
 pub pay_for-requires : goal.pay_for-requires
 pay_for-requires c = (rw c.pop-value.ensures at c.requires.sized).0
 
-pub returns-in-Some-clause-next : goal.returns-in-Some-clause-next
-returns-in-Some-clause-next c = rw c.pop-value.ensures (c.in-Some.ensures.rest (λ e. iterating (items_of_tree (view c.pop-value.result)) (λ ts. step_on (with_entry (frame (loop_over ts)) e))))
+pub returns-in-Some : goal.returns-in-Some
+returns-in-Some c = rw c.pop-value.ensures (c.in-Some.ensures.rest (λ e. iterating (items_of_tree (view c.pop-value.result)) (λ ts. step_on (with_entry (frame (loop_over ts)) e))))
 
-pub returns-clause-next : goal.returns-clause-next
-returns-clause-next c =
+pub returns : goal.returns
+returns c =
     let e : start_loop (config_view c.args.state.now) ≡ iterating (items_of_tree (view c.pop-value.result)) (λ ts. step_on (with_entry (frame (loop_over ts)) (config_view c.pay_for.new.state))) =
     rw c.pop-value.ensures (c.in_default.ensures.rest (λ e. iterating (items_of_tree (view c.pop-value.result)) (λ ts. step_on (with_entry (frame (loop_over ts)) e)))) in
-    rw e c.begin_loop.ensures.next
-
-pub returns-clause-memory : goal.returns-clause-memory
-returns-clause-memory c =
-    let e : start_loop (config_view c.args.state.now) ≡ iterating (items_of_tree (view c.pop-value.result)) (λ ts. step_on (with_entry (frame (loop_over ts)) (config_view c.pay_for.new.state))) =
-    rw c.pop-value.ensures (c.in_default.ensures.rest (λ e. iterating (items_of_tree (view c.pop-value.result)) (λ ts. step_on (with_entry (frame (loop_over ts)) e)))) in
-    rw e c.begin_loop.ensures.memory
+    rw e c.begin_loop.ensures

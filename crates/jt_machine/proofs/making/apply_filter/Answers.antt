@@ -14,8 +14,8 @@ pay_values-requires-clause-has c =
     let is = filter_is c.args.id c.args.count c.args.flag c.in-Some.filter (config_view c.args.state.now) c.in-Some.ensures c.requires.not_wrong in
     makes_of c.args.count (filtered_by (Some c.in-Some.filter) (c.args.flag == 1)) (config_view c.args.state.now) (λ w. c.requires.not_wrong (is.makes ∙ w))
 
-pub returns-in-Some-pay_values-clause-next : goal.returns-in-Some-pay_values-clause-next
-returns-in-Some-pay_values-clause-next c =
+pub returns-in-Some-pay_values : goal.returns-in-Some-pay_values
+returns-in-Some-pay_values c =
     let is = filter_is c.args.id c.args.count c.args.flag c.in-Some.filter (config_view c.args.state.now) c.in-Some.ensures c.requires.not_wrong in
     is.makes ∙ c.in-Some-pay_values.ensures.rest (filtered_by (Some c.in-Some.filter) (c.args.flag == 1))
 
@@ -40,24 +40,13 @@ push_answer-requires-clause-fits c =
     let a : Answers c.filtered-answer.result (limited left.size left.nesting given) = rw (c.limits_of-limits.ensures.size, c.limits_of-limits.ensures.nesting) at c.filtered-answer.ensures.answers in
     answers_fit (budget_view left) given c.filtered-answer.result a
 
-pub returns-clause-next : goal.returns-clause-next
-returns-clause-next c =
+pub returns : goal.returns
+returns c =
     let left = c.pay_values.new.state.left in
     let given = filtered c.in-Some.filter (c.args.flag == 1) (values_at c.args.count c.pay_values.new.state.stack.running) in
     let is = filter_is c.args.id c.args.count c.args.flag c.in-Some.filter (config_view c.args.state.now) c.in-Some.ensures c.requires.not_wrong in
     let a : Answers c.filtered-answer.result (limited left.size left.nesting given) = rw (c.limits_of-limits.ensures.size, c.limits_of-limits.ensures.nesting) at c.filtered-answer.ensures.answers in
     let e : apply_filter c.args.id c.args.count c.args.flag (config_view c.args.state.now) ≡ made c.args.count (filtered_by (Some c.in-Some.filter) (c.args.flag == 1)) (config_view c.pay_values.new.state) =
     is.makes ∙ c.in_default-pay_values.ensures.rest (filtered_by (Some c.in-Some.filter) (c.args.flag == 1)) in
-    let h = rw c.filtered-answer.ensures.taken at (c.push_answer.ensures.next given a) in
-    rw e h
-
-pub returns-clause-memory : goal.returns-clause-memory
-returns-clause-memory c =
-    let left = c.pay_values.new.state.left in
-    let given = filtered c.in-Some.filter (c.args.flag == 1) (values_at c.args.count c.pay_values.new.state.stack.running) in
-    let is = filter_is c.args.id c.args.count c.args.flag c.in-Some.filter (config_view c.args.state.now) c.in-Some.ensures c.requires.not_wrong in
-    let a : Answers c.filtered-answer.result (limited left.size left.nesting given) = rw (c.limits_of-limits.ensures.size, c.limits_of-limits.ensures.nesting) at c.filtered-answer.ensures.answers in
-    let e : apply_filter c.args.id c.args.count c.args.flag (config_view c.args.state.now) ≡ made c.args.count (filtered_by (Some c.in-Some.filter) (c.args.flag == 1)) (config_view c.pay_values.new.state) =
-    is.makes ∙ c.in_default-pay_values.ensures.rest (filtered_by (Some c.in-Some.filter) (c.args.flag == 1)) in
-    let h = rw c.filtered-answer.ensures.taken at (c.push_answer.ensures.memory given a) in
+    let h = rw c.filtered-answer.ensures.taken at (c.push_answer.ensures given a) in
     rw e h

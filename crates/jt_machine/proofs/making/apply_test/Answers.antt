@@ -14,8 +14,8 @@ pay_values-requires-clause-has c =
     let is = test_is c.args.id c.args.count c.in-Some.id (config_view c.args.state.now) c.in-Some.ensures c.requires.not_wrong in
     makes_of c.args.count (tested_by (Some c.in-Some.id)) (config_view c.args.state.now) (λ w. c.requires.not_wrong (is.1 ∙ w))
 
-pub returns-in-Some-pay_values-clause-next : goal.returns-in-Some-pay_values-clause-next
-returns-in-Some-pay_values-clause-next c =
+pub returns-in-Some-pay_values : goal.returns-in-Some-pay_values
+returns-in-Some-pay_values c =
     let is = test_is c.args.id c.args.count c.in-Some.id (config_view c.args.state.now) c.in-Some.ensures c.requires.not_wrong in
     is.1 ∙ c.in-Some-pay_values.ensures.rest (tested_by (Some c.in-Some.id))
 
@@ -28,31 +28,21 @@ tested-requires-clause-has c =
 pub tested-requires-clause-many : goal.tested-requires-clause-many
 tested-requires-clause-many c = (test_is c.args.id c.args.count c.in-Some.id (config_view c.args.state.now) c.in-Some.ensures c.requires.not_wrong).0
 
-pub returns-in-Ok-clause-next : goal.returns-in-Ok-clause-next
-returns-in-Ok-clause-next c =
+pub returns-in-Ok : goal.returns-in-Ok
+returns-in-Ok c =
     let truth = tested c.in-Some.id (values_at c.args.count c.pay_values.new.state.stack.running) in
     let is = test_is c.args.id c.args.count c.in-Some.id (config_view c.args.state.now) c.in-Some.ensures c.requires.not_wrong in
     let e : apply_test c.args.id c.args.count (config_view c.args.state.now) ≡ made c.args.count (tested_by (Some c.in-Some.id)) (config_view c.pay_values.new.state) = is.1 ∙ c.in_default-pay_values.ensures.rest (tested_by (Some c.in-Some.id)) in
     let given = truth_given c.in-Ok.truth truth c.in-Ok.ensures.answer in
-    let h = rw c.in-Ok.ensures.taken at c.push.ensures.next in
+    let h = rw c.in-Ok.ensures.taken at c.push.ensures in
     rw (e, given) h
 
-pub returns-in-Err-clause-next : goal.returns-in-Err-clause-next
-returns-in-Err-clause-next c =
+pub returns-in-Err : goal.returns-in-Err
+returns-in-Err c =
     let left = c.pay_values.new.state.left in
     let truth = tested c.in-Some.id (values_at c.args.count c.pay_values.new.state.stack.running) in
     let is = test_is c.args.id c.args.count c.in-Some.id (config_view c.args.state.now) c.in-Some.ensures c.requires.not_wrong in
     let a : Answers (Err c.in-Err.error) (limited left.size left.nesting (as_truth truth)) = test_answers left.size left.nesting truth c.in-Err.error c.in-Err.ensures.answer in
     let e : apply_test c.args.id c.args.count (config_view c.args.state.now) ≡ made c.args.count (tested_by (Some c.in-Some.id)) (config_view c.pay_values.new.state) = is.1 ∙ c.in_default-pay_values.ensures.rest (tested_by (Some c.in-Some.id)) in
-    let h = rw c.in-Err.ensures.taken at (c.push_answer.ensures.next (as_truth truth) a) in
-    rw e h
-
-pub returns-in-Err-clause-memory : goal.returns-in-Err-clause-memory
-returns-in-Err-clause-memory c =
-    let left = c.pay_values.new.state.left in
-    let truth = tested c.in-Some.id (values_at c.args.count c.pay_values.new.state.stack.running) in
-    let is = test_is c.args.id c.args.count c.in-Some.id (config_view c.args.state.now) c.in-Some.ensures c.requires.not_wrong in
-    let a : Answers (Err c.in-Err.error) (limited left.size left.nesting (as_truth truth)) = test_answers left.size left.nesting truth c.in-Err.error c.in-Err.ensures.answer in
-    let e : apply_test c.args.id c.args.count (config_view c.args.state.now) ≡ made c.args.count (tested_by (Some c.in-Some.id)) (config_view c.pay_values.new.state) = is.1 ∙ c.in_default-pay_values.ensures.rest (tested_by (Some c.in-Some.id)) in
-    let h = rw c.in-Err.ensures.taken at (c.push_answer.ensures.memory (as_truth truth) a) in
+    let h = rw c.in-Err.ensures.taken at (c.push_answer.ensures (as_truth truth) a) in
     rw e h

@@ -6,7 +6,7 @@ use Rattle.jt_image.specs.Run.{limit_of}
 use Rattle.jt_machine.specs.declared.state.State.{State}
 use Rattle.jt_machine.specs.Parts.{make, made, push, step_on, with_state, values_at, below}
 use Rattle.jt_machine.specs.View.{config_view, limit_view, budget_view}
-use Rattle.jt_machine.proofs.Pieces.{on_err}
+use Rattle.jt_machine.proofs.Growing.{lost}
 use Rattle.jt_machine.proofs.Steps.{push_spent, push_goes_on}
 use Rattle.jt_machine.proofs.Taking.{makes_of, has_same, values_are}
 use Rattle.jt_machine.proofs.making.make_list.Goals as goal
@@ -14,15 +14,15 @@ use Rattle.jt_machine.proofs.making.make_list.Goals as goal
 pub pay_values-requires-clause-has : goal.pay_values-requires-clause-has
 pay_values-requires-clause-has c = makes_of c.args.count listed (config_view c.args.state.now) c.requires.not_wrong
 
-pub returns-in-Some-clause-next : goal.returns-in-Some-clause-next
-returns-in-Some-clause-next c = c.in-Some.ensures.rest listed
+pub returns-in-Some : goal.returns-in-Some
+returns-in-Some c = c.in-Some.ensures.rest listed
 
 pub top_entries-requires : goal.top_entries-requires
 top_entries-requires c =
     has_same c.args.count c.pay_values.new.state.stack.running c.args.state.now.stack.running (ap (λ (s : State). s.stack.running) c.in_default.ensures.same) (makes_of c.args.count listed (config_view c.args.state.now) c.requires.not_wrong)
 
-pub returns-in-Some-list_limit-clause-next : goal.returns-in-Some-list_limit-clause-next
-returns-in-Some-list_limit-clause-next c =
+pub returns-in-Some-list_limit : goal.returns-in-Some-list_limit
+returns-in-Some-list_limit c =
     let n = c.args.count in
     let d = config_view c.pay_values.new.state in
     let t = tree.list (items_of (values_at n d.machine.state.entries)) in
@@ -33,23 +33,23 @@ pub take_values-requires : goal.take_values-requires
 take_values-requires c =
     has_same c.args.count c.pay_values.new.state.stack.running c.args.state.now.stack.running (ap (λ (s : State). s.stack.running) c.in_default.ensures.same) (makes_of c.args.count listed (config_view c.args.state.now) c.requires.not_wrong)
 
-pub returns-in_err-values-clause-memory : goal.returns-in_err-values-clause-memory
-returns-in_err-values-clause-memory c =
+pub returns-in_err-values : goal.returns-in_err-values
+returns-in_err-values c =
     let n = c.args.count in
     let d = config_view c.pay_values.new.state in
     let t = tree.list (items_of (values_at n d.machine.state.entries)) in
     let e = with_state d (with_entries d.machine.state (below n d.machine.state.entries)) in
     let is : make n listed (config_view c.args.state.now) ≡ push t e step_on = c.in_default.ensures.rest listed in
-    on_err c.from_residual.result (rw is (push_goes_on t e (rw c.top_entries.ensures at c.in_default-list_limit.ensures)))
+    lost _ _ _ c.from_residual.result c.from_residual.ensures.1 (rw is (push_goes_on t e (rw c.top_entries.ensures at c.in_default-list_limit.ensures)))
 
-pub returns-in_err-list-clause-memory : goal.returns-in_err-list-clause-memory
-returns-in_err-list-clause-memory c =
+pub returns-in_err-list : goal.returns-in_err-list
+returns-in_err-list c =
     let n = c.args.count in
     let d = config_view c.pay_values.new.state in
     let t = tree.list (items_of (values_at n d.machine.state.entries)) in
     let e = with_state d (with_entries d.machine.state (below n d.machine.state.entries)) in
     let is : make n listed (config_view c.args.state.now) ≡ push t e step_on = c.in_default.ensures.rest listed in
-    on_err c.from_residual-in_err-list.result (rw is (push_goes_on t e (rw c.top_entries.ensures at c.in_default-list_limit.ensures)))
+    lost _ _ _ c.from_residual-in_err-list.result c.from_residual-in_err-list.ensures.1 (rw is (push_goes_on t e (rw c.top_entries.ensures at c.in_default-list_limit.ensures)))
 
 pub push_fitting-requires-clause-fits : goal.push_fitting-requires-clause-fits
 push_fitting-requires-clause-fits c =
@@ -59,20 +59,11 @@ push_fitting-requires-clause-fits c =
     let fits : None ≡ limit_of (budget_view c.pay_values.new.state.left) (tree.list (items_of (values_at n d.machine.state.entries))) = rw c.top_entries.ensures at c.in_default-list_limit.ensures in
     rw c.in_ok-list.ensures (sym (rw are.0 at fits))
 
-pub returns-clause-next : goal.returns-clause-next
-returns-clause-next c =
+pub returns : goal.returns
+returns c =
     let n = c.args.count in
     let d = config_view c.pay_values.new.state in
     let are = values_are n d.machine.state.entries (map view c.in_ok-values.values.items) c.take_values.new.stack.running c.in_ok-values.ensures.taken in
     let is : make n listed (config_view c.args.state.now) ≡ made n listed d = c.in_default.ensures.rest listed in
-    let h = rw (c.in_ok-list.ensures, c.in_ok-values.ensures.callers) at c.push_fitting.ensures.next in
-    rw (is, are.0, are.1) h
-
-pub returns-clause-memory : goal.returns-clause-memory
-returns-clause-memory c =
-    let n = c.args.count in
-    let d = config_view c.pay_values.new.state in
-    let are = values_are n d.machine.state.entries (map view c.in_ok-values.values.items) c.take_values.new.stack.running c.in_ok-values.ensures.taken in
-    let is : make n listed (config_view c.args.state.now) ≡ made n listed d = c.in_default.ensures.rest listed in
-    let h = rw (c.in_ok-list.ensures, c.in_ok-values.ensures.callers) at c.push_fitting.ensures.memory in
+    let h = rw (c.in_ok-list.ensures, c.in_ok-values.ensures.callers) at c.push_fitting.ensures in
     rw (is, are.0, are.1) h

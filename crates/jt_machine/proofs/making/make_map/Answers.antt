@@ -5,7 +5,7 @@ use Rattle.jt_machine.specs.declared.state.State.{State}
 use Rattle.jt_machine.specs.Making.{IsWithin}
 use Rattle.jt_machine.specs.Parts.{make, made, with_state, values_at, below}
 use Rattle.jt_machine.specs.View.{budget_view, config_view}
-use Rattle.jt_machine.proofs.Pieces.{on_err}
+use Rattle.jt_machine.proofs.Growing.{lost}
 use Rattle.jt_machine.proofs.Taking.{makes_of, has_same, values_are}
 use Rattle.jt_machine.proofs.Weighing.{within_texts, within_goes_on}
 use Rattle.jt_machine.proofs.making.make_map.Goals as goal
@@ -13,15 +13,15 @@ use Rattle.jt_machine.proofs.making.make_map.Goals as goal
 pub pay_values-requires-clause-has : goal.pay_values-requires-clause-has
 pay_values-requires-clause-has c = makes_of c.args.count mapped (config_view c.args.state.now) c.requires.not_wrong
 
-pub returns-in-Some-clause-next : goal.returns-in-Some-clause-next
-returns-in-Some-clause-next c = c.in-Some.ensures.rest mapped
+pub returns-in-Some : goal.returns-in-Some
+returns-in-Some c = c.in-Some.ensures.rest mapped
 
 pub top_entries-requires : goal.top_entries-requires
 top_entries-requires c =
     has_same c.args.count c.pay_values.new.state.stack.running c.args.state.now.stack.running (ap (λ (s : State). s.stack.running) c.in_default.ensures.same) (makes_of c.args.count mapped (config_view c.args.state.now) c.requires.not_wrong)
 
-pub returns-in-Some-map_refusal-clause-next : goal.returns-in-Some-map_refusal-clause-next
-returns-in-Some-map_refusal-clause-next c =
+pub returns-in-Some-map_refusal : goal.returns-in-Some-map_refusal
+returns-in-Some-map_refusal c =
     let d = config_view c.pay_values.new.state in
     let e = with_state d (with_entries d.machine.state (below c.args.count d.machine.state.entries)) in
     c.in_default.ensures.rest mapped ∙ (rw c.top_entries.ensures at (c.in-Some-map_refusal.ensures.ends e refl))
@@ -30,14 +30,14 @@ pub take_values-requires : goal.take_values-requires
 take_values-requires c =
     has_same c.args.count c.pay_values.new.state.stack.running c.args.state.now.stack.running (ap (λ (s : State). s.stack.running) c.in_default.ensures.same) (makes_of c.args.count mapped (config_view c.args.state.now) c.requires.not_wrong)
 
-pub returns-in_err-values-clause-memory : goal.returns-in_err-values-clause-memory
-returns-in_err-values-clause-memory c =
+pub returns-in_err-values : goal.returns-in_err-values
+returns-in_err-values c =
     let n = c.args.count in
     let d = config_view c.pay_values.new.state in
     let e = with_state d (with_entries d.machine.state (below n d.machine.state.entries)) in
     let fits : IsWithin (budget_view c.pay_values.new.state.left) (mapped (values_at n d.machine.state.entries)) = rw c.top_entries.ensures at c.in_default-map_refusal.ensures.fits in
     let is : make n mapped (config_view c.args.state.now) ≡ made n mapped d = c.in_default.ensures.rest mapped in
-    on_err c.from_residual.result (rw is (within_goes_on (mapped (values_at n d.machine.state.entries)) e fits))
+    lost _ _ _ c.from_residual.result c.from_residual.ensures.1 (rw is (within_goes_on (mapped (values_at n d.machine.state.entries)) e fits))
 
 pub map_of-requires : goal.map_of-requires
 map_of-requires c =
@@ -47,14 +47,14 @@ map_of-requires c =
     let fits : IsWithin (budget_view c.pay_values.new.state.left) (mapped (values_at n d.machine.state.entries)) = rw c.top_entries.ensures at c.in_default-map_refusal.ensures.fits in
     within_texts (budget_view c.pay_values.new.state.left) (map view c.in_ok-values.values.items) (rw are.0 at fits)
 
-pub returns-in_err-map-clause-memory : goal.returns-in_err-map-clause-memory
-returns-in_err-map-clause-memory c =
+pub returns-in_err-map : goal.returns-in_err-map
+returns-in_err-map c =
     let n = c.args.count in
     let d = config_view c.pay_values.new.state in
     let e = with_state d (with_entries d.machine.state (below n d.machine.state.entries)) in
     let fits : IsWithin (budget_view c.pay_values.new.state.left) (mapped (values_at n d.machine.state.entries)) = rw c.top_entries.ensures at c.in_default-map_refusal.ensures.fits in
     let is : make n mapped (config_view c.args.state.now) ≡ made n mapped d = c.in_default.ensures.rest mapped in
-    on_err c.from_residual-in_err-map.result (rw is (within_goes_on (mapped (values_at n d.machine.state.entries)) e fits))
+    lost _ _ _ c.from_residual-in_err-map.result c.from_residual-in_err-map.ensures.1 (rw is (within_goes_on (mapped (values_at n d.machine.state.entries)) e fits))
 
 pub push_fitting-requires-clause-fits : goal.push_fitting-requires-clause-fits
 push_fitting-requires-clause-fits c =
@@ -64,20 +64,11 @@ push_fitting-requires-clause-fits c =
     let fits : IsWithin (budget_view c.pay_values.new.state.left) (mapped (values_at n d.machine.state.entries)) = rw c.top_entries.ensures at c.in_default-map_refusal.ensures.fits in
     rw (are.0, c.in_ok-map.ensures) at fits
 
-pub returns-clause-next : goal.returns-clause-next
-returns-clause-next c =
+pub returns : goal.returns
+returns c =
     let n = c.args.count in
     let d = config_view c.pay_values.new.state in
     let are = values_are n d.machine.state.entries (map view c.in_ok-values.values.items) c.take_values.new.stack.running c.in_ok-values.ensures.taken in
     let is : make n mapped (config_view c.args.state.now) ≡ made n mapped d = c.in_default.ensures.rest mapped in
-    let h = rw c.in_ok-values.ensures.callers at c.push_fitting.ensures.next in
-    rw (is, are.0, are.1, c.in_ok-map.ensures) h
-
-pub returns-clause-memory : goal.returns-clause-memory
-returns-clause-memory c =
-    let n = c.args.count in
-    let d = config_view c.pay_values.new.state in
-    let are = values_are n d.machine.state.entries (map view c.in_ok-values.values.items) c.take_values.new.stack.running c.in_ok-values.ensures.taken in
-    let is : make n mapped (config_view c.args.state.now) ≡ made n mapped d = c.in_default.ensures.rest mapped in
-    let h = rw c.in_ok-values.ensures.callers at c.push_fitting.ensures.memory in
+    let h = rw c.in_ok-values.ensures.callers at c.push_fitting.ensures in
     rw (is, are.0, are.1, c.in_ok-map.ensures) h

@@ -13,8 +13,8 @@ pub pay_values-requires-clause-has : goal.pay_values-requires-clause-has
 pay_values-requires-clause-has c =
     rw c.operands.ensures (makes_of (op_operands c.in-Some.operator) (operated (Some c.in-Some.operator)) (config_view c.args.state.now) (λ w. c.requires.not_wrong (operate_is c.args.operator c.in-Some.operator (config_view c.args.state.now) c.in-Some.ensures ∙ w)))
 
-pub returns-in-Some-pay_values-clause-next : goal.returns-in-Some-pay_values-clause-next
-returns-in-Some-pay_values-clause-next c =
+pub returns-in-Some-pay_values : goal.returns-in-Some-pay_values
+returns-in-Some-pay_values c =
     operate_is c.args.operator c.in-Some.operator (config_view c.args.state.now) c.in-Some.ensures ∙ (rw c.operands.ensures at (c.in-Some-pay_values.ensures.rest (operated (Some c.in-Some.operator))))
 
 pub operated-answer-requires : goal.operated-answer-requires
@@ -29,24 +29,13 @@ push_answer-requires-clause-fits c =
     let a : Answers c.operated-answer.result (limited left.size left.nesting given) = rw (c.limits_of-limits.ensures.size, c.limits_of-limits.ensures.nesting) at c.operated-answer.ensures.answers in
     answers_fit (budget_view left) given c.operated-answer.result a
 
-pub returns-clause-next : goal.returns-clause-next
-returns-clause-next c =
+pub returns : goal.returns
+returns c =
     let left = c.pay_values.new.state.left in
     let given = operation c.in-Some.operator (values_at (op_operands c.in-Some.operator) c.pay_values.new.state.stack.running) in
     let a : Answers c.operated-answer.result (limited left.size left.nesting given) = rw (c.limits_of-limits.ensures.size, c.limits_of-limits.ensures.nesting) at c.operated-answer.ensures.answers in
     let next = rw c.operands.ensures at (c.in_default-pay_values.ensures.rest (operated (Some c.in-Some.operator))) in
     let e : operate c.args.operator (config_view c.args.state.now) ≡ made (op_operands c.in-Some.operator) (operated (Some c.in-Some.operator)) (config_view c.pay_values.new.state) =
     operate_is c.args.operator c.in-Some.operator (config_view c.args.state.now) c.in-Some.ensures ∙ next in
-    let h = rw c.operated-answer.ensures.taken at (c.push_answer.ensures.next given a) in
-    rw e h
-
-pub returns-clause-memory : goal.returns-clause-memory
-returns-clause-memory c =
-    let left = c.pay_values.new.state.left in
-    let given = operation c.in-Some.operator (values_at (op_operands c.in-Some.operator) c.pay_values.new.state.stack.running) in
-    let a : Answers c.operated-answer.result (limited left.size left.nesting given) = rw (c.limits_of-limits.ensures.size, c.limits_of-limits.ensures.nesting) at c.operated-answer.ensures.answers in
-    let next = rw c.operands.ensures at (c.in_default-pay_values.ensures.rest (operated (Some c.in-Some.operator))) in
-    let e : operate c.args.operator (config_view c.args.state.now) ≡ made (op_operands c.in-Some.operator) (operated (Some c.in-Some.operator)) (config_view c.pay_values.new.state) =
-    operate_is c.args.operator c.in-Some.operator (config_view c.args.state.now) c.in-Some.ensures ∙ next in
-    let h = rw c.operated-answer.ensures.taken at (c.push_answer.ensures.memory given a) in
+    let h = rw c.operated-answer.ensures.taken at (c.push_answer.ensures given a) in
     rw e h

@@ -8,17 +8,11 @@ use Rattle.jt_machine.proofs.unpacking.unpack.Goals as goal
 pub pay_for-requires : goal.pay_for-requires
 pay_for-requires c = (rw c.pop-value.ensures at c.requires.sized).0
 
-pub returns-in-Some-clause-next : goal.returns-in-Some-clause-next
-returns-in-Some-clause-next c = rw c.pop-value.ensures (c.in-Some.ensures.rest (λ e. iterating (items_of_tree (view c.pop-value.result)) (λ ts. spread c.args.count ts e)))
+pub returns-in-Some : goal.returns-in-Some
+returns-in-Some c = rw c.pop-value.ensures (c.in-Some.ensures.rest (λ e. iterating (items_of_tree (view c.pop-value.result)) (λ ts. spread c.args.count ts e)))
 
-pub returns-clause-next : goal.returns-clause-next
-returns-clause-next c =
+pub returns : goal.returns
+returns c =
     let e : unpack c.args.count (config_view c.args.state.now) ≡ iterating (items_of_tree (view c.pop-value.result)) (λ ts. spread c.args.count ts (config_view c.pay_for.new.state)) =
     rw c.pop-value.ensures (c.in_default.ensures.rest (λ e. iterating (items_of_tree (view c.pop-value.result)) (λ ts. spread c.args.count ts e))) in
-    rw e c.spread_items.ensures.next
-
-pub returns-clause-memory : goal.returns-clause-memory
-returns-clause-memory c =
-    let e : unpack c.args.count (config_view c.args.state.now) ≡ iterating (items_of_tree (view c.pop-value.result)) (λ ts. spread c.args.count ts (config_view c.pay_for.new.state)) =
-    rw c.pop-value.ensures (c.in_default.ensures.rest (λ e. iterating (items_of_tree (view c.pop-value.result)) (λ ts. spread c.args.count ts e))) in
-    rw e c.spread_items.ensures.memory
+    rw e c.spread_items.ensures

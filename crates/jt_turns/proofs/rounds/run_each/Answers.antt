@@ -1,4 +1,4 @@
-use Rattle.std.proofs.Common.{◌≡◌, ◌∙◌, ap, arith, length, refl, sym, take, true, false}
+use Rattle.std.proofs.Common.{◌≡◌, ◌∙◌, ap, arith, length, refl, sym, take, true, false, rules}
 use Rattle.std.proofs.Math.Seq.{take-length}
 use Rattle.std.proofs.lemmas.Result.{err_from_is_err_and}
 use Rattle.jt_turns.specs.Standing.{have_ended}
@@ -22,11 +22,7 @@ returns-clause-ended c none =
     ap have_ended (sym (take-length es)) ∙ so
 
 pub returns-in_err-goes_on-clause-err : goal.returns-in_err-goes_on-clause-err
-returns-in_err-goes_on-clause-err c =
-    let p = err_from_is_err_and c.from_residual.result c.from_residual.ensures.1 in
-    let within = c.ids-test.true in
-    rw (p.1, p.2) (no_memory c.args.host.now.sessions c.ids.host c.turn.new.host c.args.count c.ids.before c.args.slice c.in_err-goes_on.field-0.0
-    c.requires.numbered (omega (arith, within)) c.ids.invariant.moved c.in_err-goes_on.ensures.refused)
+returns-in_err-goes_on-clause-err c = search (arith, rules, err_from_is_err_and, no_memory)
 
 pub ids-preserved : goal.ids-preserved
 ids-preserved c =

@@ -1,4 +1,4 @@
-use Rattle.std.proofs.Common.{◌≡◌, ◌∙◌, ◌++◌, ◌<◌, ◌≤◌, List, ap, arith, get_or, length, refl, string_bytes, sym, true, false, ℕ}
+use Rattle.std.proofs.Common.{◌≡◌, ◌∙◌, ◌++◌, ◌<◌, List, ap, arith, get_or, length, refl, string_bytes, sym, true, false, ℕ, rules}
 use Rattle.std.specs.Char.{is_ascii_control}
 use Rattle.std.proofs.lemmas.Str.{IsCharBoundary-after_ascii, IsCharBoundary-start}
 use Rattle.jt_turns.proofs.Escapes.{control_is_ascii, none_more, plain_more, pushed}
@@ -34,8 +34,4 @@ loop-at-preserved c =
     ]
 
 pub returns : goal.returns
-returns c =
-    let text = c.args.text.now in
-    let all : length text ≤ c.loop-at.at = rw c.as_bytes-byte-items.ensures.value at c.loop-at-test.false in
-    c.in_ok-push_str-2.ensures.bytes
-    ∙ (ap (λ (l : List ℕ). string_bytes c.loop-at.made ++ l) (c.range_from.ensures.value ∙ sym (none_more text c.loop-at.plain c.loop-at.at all)) ∙ c.loop-at.invariant.same)
+returns c = search (arith, rules, string_bytes, none_more)

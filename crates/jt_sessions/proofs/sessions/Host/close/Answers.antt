@@ -1,4 +1,4 @@
-use Rattle.std.proofs.Common.{◌≡◌, ◌∙◌, ℕ, List, None, subst}
+use Rattle.std.proofs.Common.{◌≡◌, ◌∙◌, ℕ, List, subst, arith, rules}
 use Rattle.std.specs.Prelude.{option_map}
 use Rattle.jt_machine.specs.Session.{Session}
 use Rattle.jt_machine.specs.View.{outcome_view}
@@ -8,10 +8,7 @@ use Rattle.jt_sessions.proofs.Standing.{there, closed_at, closed_reply, none_clo
 use Rattle.jt_sessions.proofs.sessions.Host.close.Goals as goal
 
 pub returns-in_default-clause-closes : goal.returns-in_default-clause-closes
-returns-in_default-clause-closes c =
-    let w : World = record { last = c.self.inside.last; sessions = c.self.inside.sessions.items } in
-    let n : find c.args.id w.sessions ≡ None = subst (λ (xs : List (ℕ × Session)). find c.args.id xs ≡ None) c.deref.ensures.value c.in_default.ensures.none in
-    subst (λ (v : World). v ≡ with_sessions v (remove c.args.id v.sessions)) c.self.view_is (none_closed w c.args.id n)
+returns-in_default-clause-closes c = search (arith, rules, none_closed)
 
 pub returns-clause-closes : goal.returns-clause-closes
 returns-clause-closes c =

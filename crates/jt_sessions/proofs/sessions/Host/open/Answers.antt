@@ -2,7 +2,7 @@ use Rattle.std.proofs.Common.{◌≡◌, ◌∙◌, ◌+◌, ◌<◌, ◌++◌, 
 use Rattle.jt_value.specs.ContextView.{pairs_of}
 use Rattle.jt_machine.specs.Session.{Session, started}
 use Rattle.jt_machine.specs.View.{budget_view}
-use Rattle.jt_sessions.specs.Turns.{World, Reply, opened, opening, opening_reply, bar, max_sessions, max_id}
+use Rattle.jt_sessions.specs.Turns.{World, opened, opening, opening_reply, bar, max_sessions, max_id}
 use Rattle.jt_sessions.proofs.Standing.{no_bar}
 use Rattle.jt_sessions.proofs.sessions.Host.open.Goals as goal
 

@@ -1,4 +1,4 @@
-use Rattle.jt_value.specs.ContextView.{pairs_of}
+use Rattle.std.proofs.Common.{arith, rules}
 use Rattle.jt_machine.specs.View.{budget_view}
 use Rattle.jt_turns.proofs.Opening.{next_id, refused_start, stands_more}
 use Rattle.jt_turns.proofs.turns.Sessions.open.Goals as goal
@@ -11,8 +11,4 @@ pub returns-clause-refused : goal.returns-clause-refused
 returns-clause-refused c = λ ss h. refused_start (budget_view c.args.budget) ss c.args.self.now.host c.in-Err.error h c.in-Err.ensures.refused
 
 pub invariant_of-self : goal.invariant_of-self
-invariant_of-self c =
-    let old = c.args.self.now in
-    let next = next_id old.host c.open.new.self c.args.start.code (pairs_of c.args.start.context) (budget_view c.args.budget) c.in-Ok.id old.count old.numbered old.last c.in-Ok.ensures.opens
-    c.in-Ok.ensures.reply in
-    record { numbered = next.numbered; last = next.last }
+invariant_of-self c = search (arith, rules, next_id)
