@@ -10,7 +10,7 @@ use Rattle.jt_image.specs.declared.places.Places.{Places}
 use Rattle.jt_image.specs.declared.version.Version.{Version}
 use Rattle.jt_image.specs.declared.version.Version.TheVariants as version
 use Rattle.jt_image.specs.Code.{Constant, undefined, Name, Section, Spot, Code}
-use Rattle.jt_image.specs.IsCode.{IsCode, total_len}
+use Rattle.jt_image.specs.IsCode.{IsCode, total_len, max_bytes}
 use Rattle.jt_image.specs.Spelling.{spelling}
 use Rattle.jt_image.specs.Reading.{number_at, text_at, constant_at, instructions_at, spots_at, ◌>>=◌}
 
@@ -134,7 +134,8 @@ pub record Spells (bytes : List ℕ) (p : Places) : Type 0 where
   pub spelled : bytes ≡ spelling (code_in bytes p)
   pub there : AreThere bytes p
 
--- these are the last of the bytes
+-- these are the last of the bytes, which are not too many
 pub record AreLast (bytes rest : List ℕ) : Type 0 where
+  pub small : length bytes ≤ max_bytes
   pub within : length rest ≤ length bytes
   pub are : drop (length bytes - length rest) bytes ≡ rest

@@ -2,7 +2,7 @@
 ghost use Rattle.std.specs.Prelude.{◌≡◌, ◌≤◌, ◌==◌, ◌&&◌, nat_le, nat_lt, List, [], length, drop, IfOk, Ok, Err, true};
 ghost use Rattle.std.specs.Int.{w16, w32};
 ghost use Rattle.std.specs.List.{AllByRecursion};
-ghost use Rattle.jt_image.specs.IsCode.{max_bytes, max_line};
+ghost use Rattle.jt_image.specs.IsCode.{max_line};
 ghost use Rattle.jt_image.specs.InPlace.{templates_in, HasTemplate, spots_in, AreSpots, AreLast};
 ghost use Rattle.jt_image.specs.declared.version.Version.TheVariants as variant;
 ghost use Rattle.jt_image.specs.BackView.{back_in};
@@ -58,7 +58,6 @@ fn templates_at<'a>(
     bytes: &[u8],
     front: &'a [u8],
 ) -> Result<(Vec<u32>, &'a [u8]), ImageError>
-    requires small { length bytes.now ≤ max_bytes }
     requires last { AreLast bytes.now front.now }
     ensures gives { Gives (λ x. (templates_in bytes.now x.0.items, x.1.now)) result
         (templates_at count front.now) }
@@ -81,7 +80,6 @@ fn all_templates_at<'a>(
     bytes: &[u8],
     front: &'a [u8],
 ) -> Result<(Vec<u32>, &'a [u8]), ImageError>
-    requires small { length bytes.now ≤ max_bytes }
     requires last { AreLast bytes.now front.now }
     ensures gives { Gives (λ x. (templates_in bytes.now x.0.items, x.1.now)) result
         (all_templates_at front.now) }
@@ -153,7 +151,6 @@ fn places_at<'a>(
     bytes: &[u8],
     front: &'a [u8],
 ) -> Result<(Back, &'a [u8]), ImageError>
-    requires small { length bytes.now ≤ max_bytes }
     requires last { AreLast bytes.now front.now }
     ensures gives { Gives (λ x. (back_in variant.Two count bytes.now x.0, x.1.now)) result
         (back_at variant.Two count front.now) }
@@ -176,7 +173,6 @@ pub(crate) fn back_at<'a>(
     bytes: &[u8],
     front: &'a [u8],
 ) -> Result<(Back, &'a [u8]), ImageError>
-    requires small { length bytes.now ≤ max_bytes }
     requires last { AreLast bytes.now front.now }
     ensures gives { Gives (λ x. (back_in version count bytes.now x.0, x.1.now)) result
         (back_at version count front.now) }
