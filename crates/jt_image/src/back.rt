@@ -7,7 +7,7 @@ ghost use Rattle.jt_image.specs.InPlace.{templates_in, HasTemplate, spots_in, Ar
 ghost use Rattle.jt_image.specs.declared.version.Version.TheVariants as variant;
 ghost use Rattle.jt_image.specs.BackView.{back_in};
 ghost use Rattle.jt_image.specs.View.{spot_view};
-ghost use Rattle.jt_image.specs.Reading.{Gives, may_follow_texts, template_at, templates_at, all_templates_at, template_number_at, is_line, line_at, spot_at, spots_at, back_at};
+ghost use Rattle.jt_image.specs.Reading.{Gives, may_follow_texts, template_at, all_templates_at, template_number_at, is_line, line_at, spot_at, spots_at, back_at};
 
 use crate::error::ImageError;
 use crate::fields::{text_at, u16_at, u32_at};
@@ -52,28 +52,6 @@ fn template_at<'a>(
     Ok((text, rest))
 }
 
-fn templates_at<'a>(
-    alloc: Global,
-    count: u16,
-    bytes: &[u8],
-    front: &'a [u8],
-) -> Result<(Vec<u32>, &'a [u8]), ImageError>
-    requires last { AreLast bytes.now front.now }
-    ensures gives { Gives (λ x. (templates_in bytes.now x.0.items, x.1.now)) result
-        (templates_at count front.now) }
-    ensures there { IfOk result (λ x. AllByRecursion (HasTemplate bytes.now) x.0.items) }
-    ensures last { IfOk result (λ x. AreLast bytes.now x.1.now) }
-{
-    let mut templates: Vec<u32> = Vec::new(alloc);
-    let mut rest = front;
-    'templates: for _ in 0..count {
-        let (_, after) = template_at(bytes, &templates, rest)?;
-        templates.push((bytes.len() - rest.len()) as u32)?;
-        rest = after;
-    }
-    Ok((templates, rest))
-}
-
 #[tactic(auto, unfolding(crate::specs::Reading::all_templates_at))]
 fn all_templates_at<'a>(
     alloc: Global,
@@ -86,8 +64,15 @@ fn all_templates_at<'a>(
     ensures there { IfOk result (λ x. AllByRecursion (HasTemplate bytes.now) x.0.items) }
     ensures last { IfOk result (λ x. AreLast bytes.now x.1.now) }
 {
-    let (count, rest) = u16_at(front)?;
-    templates_at(alloc, count, bytes, rest)
+    let (count, start) = u16_at(front)?;
+    let mut templates: Vec<u32> = Vec::new(alloc);
+    let mut rest = start;
+    'templates: for _ in 0..count {
+        let (_, after) = template_at(bytes, &templates, rest)?;
+        templates.push((bytes.len() - rest.len()) as u32)?;
+        rest = after;
+    }
+    Ok((templates, rest))
 }
 
 #[tactic(auto, unfolding(crate::specs::Reading::template_number_at))]

@@ -7,7 +7,7 @@ use Rattle.jt_image.proofs.sections.place_at.Goals as goal
 pub returns-clause-there : goal.returns-clause-there
 returns-clause-there c =
     let n = c.args.header.now.len in
-    (omega arith, ap (λ (b : List ℕ). length (instructions_in n b)) c.requires.are ∙ place_whole n c.args.front.now c.in_ok-rest.rest.now c.in_ok-rest.ensures)
+    (omega arith, ap (λ (b : List ℕ). length (instructions_in n b)) c.requires.last.are ∙ place_whole n c.args.front.now c.in_ok-rest.rest.now c.in_ok-rest.ensures)
 
 pub returns-clause-last : goal.returns-clause-last
-returns-clause-last c = instructions_last c.args.header.now.len c.args.bytes.now c.args.front.now (instructions_in c.args.header.now.len c.args.front.now) c.in_ok-rest.rest.now (λ i. omega (arith, c.type_inv.bytes i)) c.requires c.in_ok-rest.ensures
+returns-clause-last c = instructions_last c.args.header.now.len c.args.bytes.now c.args.front.now (instructions_in c.args.header.now.len c.args.front.now) c.in_ok-rest.rest.now (λ i. omega (arith, c.type_inv.bytes i)) c.requires.last c.in_ok-rest.ensures
