@@ -4,7 +4,7 @@ use Rattle.std.specs.Prelude.{option_map}
 use Rattle.std.specs.Ordering.{is_eq, bool_cmp}
 use Rattle.std.specs.List.{list_any}
 use Rattle.std.specs.Bool.{beq}
-use Rattle.std.specs.BTreeMap.{get}
+use Rattle.std.specs.BTreeMap.{BTreeMap, get}
 use Rattle.std.proofs.lemmas.List.{drop_more, at_drop_all}
 use Rattle.std.proofs.lemmas.List.Folds.{list_any-append}
 use Rattle.std.proofs.lemmas.Map.Text.{is_eq-slice_cmp}
@@ -18,8 +18,6 @@ use Rattle.jt_constants.specs.Merged.{constant_of, same, with_new, each_once, pl
 use Rattle.jt_constants.specs.Keys.{key_view, place_of, key_cmp, Knows, KnowsMore}
 use Rattle.jt_constants.specs.declared.table.Key.{Key}
 use Rattle.jt_constants.specs.declared.table.Key.TheVariants as key
-use Rattle.jt_constants.specs.declared.table.Known.{Known}
-use Rattle.jt_constants.specs.declared.table.Known.TheVariants as known
 use Rattle.jt_constants.proofs.Same.{Has, same_is, same_self, place_kept}
 
 -- ---- keys are equal where their constants are the same
@@ -98,48 +96,6 @@ place_last (d ∷ ds) c h = by (same c d) refl (place_last ds c)
     by true e rest = absurd (let no : true ≡ false = sym (ap (λ (b : Bool). b || list_any (same c) ds) e) ∙ h in cc)
     by false e rest = ap (λ (b : Bool). if b then 0 else suc (place_in (ds ++ c ∷ []) c)) e ∙ ap suc (rest (sym (ap (λ (b : Bool). b || list_any (same c) ds) e) ∙ h))
 
--- none of those before a point is the constant
-abbrev pub Passed : List image.Constant → Constant → ℕ → Type 0
-Passed cs c n = place_of (constants_view cs) c ≡ option_map (λ p. n + p) (place_of (constants_view (drop n cs)) c)
-
-pub passed_none : (cs : List image.Constant) (c : Constant) → Passed cs c 0
-passed_none cs c = by (place_of (constants_view cs) c)
-  where
-    by : (o : Option ℕ) → o ≡ option_map (λ p. 0 + p) o
-    by None = refl
-    by (Some p) = let same : p ≡ 0 + p = omega arith in ap Some same
-
-place_behind : (c d : Constant) (ds : List Constant) → same c d ≡ false → place_of (d ∷ ds) c ≡ option_map suc (place_of ds c)
-place_behind c d ds e = by (list_any (same c) ds) refl
-  where
-    by : (b : Bool) → list_any (same c) ds ≡ b → place_of (d ∷ ds) c ≡ option_map suc (place_of ds c)
-    by true f = rw (e, f) refl
-    by false f = rw (e, f) refl
-
-place_front : (c d : Constant) (ds : List Constant) → same c d ≡ true → place_of (d ∷ ds) c ≡ Some 0
-place_front c d ds e = rw e refl
-
-further : (n : ℕ) (o : Option ℕ) → option_map (λ p. n + p) (option_map suc o) ≡ option_map (λ p. n + 1 + p) o
-further n None = refl
-further n (Some p) = let same : n + suc p ≡ n + 1 + p = omega arith in ap Some same
-
-module _ (cs : List image.Constant) (c : Constant) (n : ℕ) (d : image.Constant) (lt : n < length cs) (is : d ≡ get_or cs n d) where
-  left_of : constants_view (drop n cs) ≡ constant_view d ∷ constants_view (drop (n + 1) cs)
-  left_of = ap constants_view (drop_more cs n d lt) ∙ ap (λ (x : image.Constant). constant_view x ∷ constants_view (drop (n + 1) cs)) (sym is)
-
-  pub passed_more : same c (constant_view d) ≡ false → Passed cs c n → Passed cs c (n + 1)
-  passed_more other h =
-      h ∙ ap (λ (l : List Constant). option_map (λ p. n + p) (place_of l c)) left_of
-      ∙ ap (option_map (λ p. n + p)) (place_behind c (constant_view d) (constants_view (drop (n + 1) cs)) other) ∙ further n (place_of (constants_view (drop (n + 1) cs)) c)
-
-  pub passed_there : same c (constant_view d) ≡ true → Passed cs c n → Some n ≡ place_of (constants_view cs) c
-  passed_there same_one h =
-      let here : n + 0 ≡ n = omega arith in
-      sym (h ∙ ap (λ (l : List Constant). option_map (λ p. n + p) (place_of l c)) left_of ∙ ap (option_map (λ p. n + p)) (place_front c (constant_view d) (constants_view (drop (n + 1) cs)) same_one) ∙ ap Some here)
-
-pub passed_all : (cs : List image.Constant) (c : Constant) (n : ℕ) → length cs ≤ n → Passed cs c n → None ≡ place_of (constants_view cs) c
-passed_all cs c n le h = sym (h ∙ at_drop_all (λ (l : List image.Constant). option_map (λ p. n + p) (place_of (constants_view l) c)) cs n le)
-
 -- one more that was not there
 of_more : (now : List Constant) (c d : Constant) → list_any (same c) now ≡ false → cond (same c d) (Some (length now)) (place_of now d) ≡ place_of (now ++ c ∷ []) d
 of_more now c d absent = by (same c d) refl
@@ -175,10 +131,8 @@ of_more now c d absent = by (same c d) refl
     by false e = ap (λ (x : Bool). cond x (Some (length now)) (place_of now d)) e ∙ there (list_any (same d) now) refl (turned e)
 
 -- what is known of more constants
-pub knows_more : (old new : Known) (now : List Constant) (k : Key) → Knows old now → list_any (same (key_view k)) now ≡ false → KnowsMore old k (length now) new → Knows new (now ++ key_view k ∷ [])
-knows_more known.Few new now k knows absent more = subst (λ (n : Known). Knows n (now ++ key_view k ∷ [])) (sym more) tt
-knows_more (known.Many old) known.Few now k knows absent more = absurd more
-knows_more (known.Many old) (known.Many new) now k knows absent more = λ q.
+pub knows_more : (old new : BTreeMap Key ℕ) (now : List Constant) (k : Key) → Knows old now → list_any (same (key_view k)) now ≡ false → KnowsMore old k (length now) new → Knows new (now ++ key_view k ∷ [])
+knows_more old new now k knows absent more q =
     more q ∙ ap (λ (b : Bool). cond b (Some (length now)) (get key_cmp old q)) (same_key k q) ∙ ap (cond (same (key_view k) (key_view q)) (Some (length now))) (knows q) ∙ of_more now (key_view k) (key_view q) absent
 
 -- ---- a table, and what is left
@@ -254,8 +208,8 @@ module _ (pool : List Value) (i : ℕ) (value : Value) (k : Key) (seen_as : key_
       holds_more pool i value now (now ++ key_view k ∷ []) places place inside is holds added has (e ∙ sym last) (omega (arith, length-append now (key_view k ∷ [])))
 
 -- the same of what a turn leaves
-pub left_so : (pool : List Value) (i : ℕ) (m n : Known) (now more : List Constant) (ps qs : List ℕ) → m ≡ n → now ≡ more → ps ≡ qs → Knows n more → Holds pool i more qs → Knows m now × Holds pool i now ps
+pub left_so : (pool : List Value) (i : ℕ) (m n : BTreeMap Key ℕ) (now more : List Constant) (ps qs : List ℕ) → m ≡ n → now ≡ more → ps ≡ qs → Knows n more → Holds pool i more qs → Knows m now × Holds pool i now ps
 left_so pool i m n now more ps qs em en ep knows holds = (
-  subst (λ (x : Known). Knows x now) (sym em) (subst (λ (l : List Constant). Knows n l) (sym en) knows),
+  subst (λ (x : BTreeMap Key ℕ). Knows x now) (sym em) (subst (λ (l : List Constant). Knows n l) (sym en) knows),
   subst (λ (l : List ℕ). Holds pool i now l) (sym ep) (subst (λ (l : List Constant). Holds pool i l qs) (sym en) holds),
 )
