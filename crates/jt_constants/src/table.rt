@@ -40,11 +40,7 @@ fn known_place<'a>(known: &BTreeMap<Key<'a>, u32>, key: Key<'a>) -> Option<u32>
 }
 
 /// The key has the place from now on.
-fn add<'a>(
-    known: &mut BTreeMap<Key<'a>, u32>,
-    key: Key<'a>,
-    place: u32,
-) -> Result<(), AllocError>
+fn add<'a>(known: &mut BTreeMap<Key<'a>, u32>, key: Key<'a>, place: u32) -> Result<(), AllocError>
     ensures { OnOk result (KnowsMore known.old key.entry place known.new) }
 {
     known.insert(key, place)?;
