@@ -1,5 +1,5 @@
 -- The spelling of a code is read as that code.
-use Rattle.std.proofs.Common.{◌≡◌, ℕ, ◌+◌, ◌<◌, ◌≤◌, ◌^◌, Bool, true, false, cond, ltb, leb, eqb, List, [], ◌∷◌, ◌++◌, length, map, take, drop, Option, Some, None, Result, Ok, Err, refl, sym, ap, subst, ◌∙◌, arith, append_assoc}
+use Rattle.std.proofs.Common.{◌≡◌, ℕ, ◌+◌, ◌<◌, ◌≤◌, ◌^◌, Bool, true, false, cond, ltb, leb, eqb, List, [], ◌∷◌, ◌++◌, length, map, take, drop, Option, Some, None, Result, Ok, Err, refl, sym, ap, subst, ◌∙◌, arith, append_assoc, rules}
 use Rattle.std.specs.Prelude.{ℤ, ◌==◌, ◌&&◌, ◌||◌, ◌≢◌, not, nat_lt, nat_le, IsUtf8, MatchResult, MatchOption}
 use Rattle.std.specs.Int.{w16, w32, w64, to_le_bytes, cast_signed, cast_unsigned}
 use Rattle.std.specs.List.{flat_map, AllByRecursion}
@@ -238,34 +238,7 @@ abbrev pub HasSmallWire : Instruction → Type 0
 HasSmallWire i = ((wire_of i).b < 2 ^ 16) × ((wire_of i).c < 2 ^ 32)
 
 pub small_wire : (i : Instruction) → IsInstruction i → HasSmallWire i
-small_wire (op.Const c) h = (omega arith, h)
-small_wire (op.Load c) h = (omega arith, h)
-small_wire (op.Store c) h = (omega arith, h)
-small_wire (op.GLoad c) h = (omega arith, h)
-small_wire (op.GStore c) h = (omega arith, h)
-small_wire op.Drop h = (omega arith, omega arith)
-small_wire op.Dup h = (omega arith, omega arith)
-small_wire (op.Emit a) h = (omega arith, omega arith)
-small_wire (op.Data c) h = (omega arith, h)
-small_wire (op.Jump c) h = (omega arith, h)
-small_wire (op.JumpIfFalse c) h = (omega arith, h)
-small_wire (op.JumpIfTrue c) h = (omega arith, h)
-small_wire (op.Op a) h = (omega arith, omega arith)
-small_wire (op.Filter a b c) h = (h.1, h.2)
-small_wire (op.Test a b) h = (h.1, omega arith)
-small_wire (op.MakeList c) h = (omega arith, h)
-small_wire (op.MakeMap c) h = (omega arith, h)
-small_wire op.LoopStart h = (omega arith, omega arith)
-small_wire (op.LoopNext c) h = (omega arith, h)
-small_wire (op.LoopGet a c) h = (omega arith, h.1)
-small_wire (op.LoopKeep c) h = (omega arith, h)
-small_wire op.LoopRewind h = (omega arith, omega arith)
-small_wire op.LoopEnd h = (omega arith, omega arith)
-small_wire op.CaptureBegin h = (omega arith, omega arith)
-small_wire (op.CaptureEnd a) h = (omega arith, omega arith)
-small_wire (op.Unpack c) h = (omega arith, h)
-small_wire (op.Call c) h = (omega arith, h)
-small_wire op.Return h = (omega arith, omega arith)
+small_wire a0 h = search (arith, rules)
 
 -- the fields of an instruction are read as it
 pub by_wire : (w : Instr) (i : Instruction) (rest : List ℕ) → wire_of i ≡ w → w.b < 2 ^ 16 → w.c < 2 ^ 32 → instruction_at (wire_bytes w ++ rest) ≡ Ok (i, rest)

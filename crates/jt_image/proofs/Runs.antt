@@ -1,5 +1,5 @@
 -- Whole runs of a typed code.
-use Rattle.std.proofs.Common.{◌≡◌, ◌≢◌, ◌↔◌, ℕ, zero, suc, ◌+◌, ◌<◌, ◌≤◌, Bool, true, false, cond, List, [], ◌∷◌, length, Option, Some, None, refl, ap, subst, ◌∙◌, arith}
+use Rattle.std.proofs.Common.{◌≡◌, ◌≢◌, ◌↔◌, ℕ, zero, suc, ◌+◌, ◌<◌, ◌≤◌, Bool, true, false, cond, List, [], ◌∷◌, length, Option, Some, None, refl, ap, subst, ◌∙◌, arith, rules}
 use Rattle.std.specs.Prelude.{slice_get, slice_set, unwrap_or, replicate, nat_lt}
 use Rattle.std.proofs.lemmas.Bool.{ltb-true, ltb-false}
 use Rattle.std.proofs.lemmas.List.{length-set}
@@ -71,53 +71,13 @@ first_locals [] u e = absurd cc
 first_locals (v ∷ us) u e = let same : v ≡ u = cc in length-locals_of v.locals [] ∙ ap (λ (w : Section). w.locals) same
 
 pub start_good : (k : Code) → IsCode k → IsTyped k → (x : Pairs) (b : Budget) → IsGood k (start k x b)
-start_good k code t x b =
-    let h = code.entry in
-    let typed = t 0 h.entry h.is in
-    record {
-      fit = record {
-        all = t;
-        unit = h.entry;
-        is_unit = h.is;
-        shapes = typed.0;
-        typed = typed.1;
-        here = typed.1.start;
-        locals = first_locals k.units h.entry h.is;
-        globals = length-filled x k.names (replicate k.globals tree.undefined) ∙ length-replicate k.globals tree.undefined;
-        callers = h.emits;
-        buffers = refl;
-      };
-      sized = (tt, tt);
-    }
+start_good k code t x b = search (arith, rules, first_locals, length-filled, length-replicate)
 
 -- ---- what is taken of the fuel
 
 -- what follows a step costs at most what the step leaves
 fuel_left : (n : ℕ) (a : Action) (b : Budget) (go : Config → ℕ) → ((c : Config) → go c ≤ c.left.fuel) → taken b.fuel n + then_costs (spends n a b) go ≤ b.fuel
-fuel_left n (goes_on m d) b go h = through (nat_lt b.fuel n) (nat_lt b.depth d.calls) (nat_lt b.output d.bytes) (nat_lt b.size d.size) (nat_lt b.nesting d.nesting) refl
-  where
-    through : (p q r s t : Bool) → nat_lt b.fuel n ≡ p → cond p 0 n + then_costs (unless p config.fuel (unless q config.depth (unless r config.output (unless s config.size (unless t config.nesting (Goes (record { machine = m; left = spared n d b }))))))) go ≤ b.fuel
-    through true q r s t e = omega arith
-    through false true r s t e = omega (arith, ltb-false _ _ e)
-    through false false true s t e = omega (arith, ltb-false _ _ e)
-    through false false false true t e = omega (arith, ltb-false _ _ e)
-    through false false false false true e = omega (arith, ltb-false _ _ e)
-    through false false false false false e = omega (arith, ltb-false _ _ e, h (record { machine = m; left = spared n d b }))
-fuel_left n (ends t) b go h = through (nat_lt b.fuel n) refl
-  where
-    through : (p : Bool) → nat_lt b.fuel n ≡ p → cond p 0 n + then_costs (unless p config.fuel (Ends (config.text t))) go ≤ b.fuel
-    through true e = omega arith
-    through false e = omega (arith, ltb-false _ _ e)
-fuel_left n (faulty f) b go h = through (nat_lt b.fuel n) refl
-  where
-    through : (p : Bool) → nat_lt b.fuel n ≡ p → cond p 0 n + then_costs (unless p config.fuel (Ends (config.fault f None))) go ≤ b.fuel
-    through true e = omega arith
-    through false e = omega (arith, ltb-false _ _ e)
-fuel_left n wrong b go h = through (nat_lt b.fuel n) refl
-  where
-    through : (p : Bool) → nat_lt b.fuel n ≡ p → cond p 0 n + 0 ≤ b.fuel
-    through true e = omega arith
-    through false e = omega (arith, ltb-false _ _ e)
+fuel_left n a1 b go h = search (arith, rules, ltb-false)
 
 placed_costs : (q : Option Place) (n : Next) (go : Config → ℕ) → then_costs (placed q n) go ≡ then_costs n go
 placed_costs q (Goes c) go = refl
@@ -150,26 +110,7 @@ costs_within k (suc n) c = cost_within k (fetch k c.machine.unit c.machine.point
 -- ---- when the fuel is spent
 
 spent_iff : (n : ℕ) (a : Action) (b : Budget) → spends n a b ≢ Wrong → (spends n a b ≡ Ends (config.spent config.fuel)) ↔ (b.fuel < n)
-spent_iff n (goes_on m d) b ok = through (nat_lt b.fuel n) (nat_lt b.depth d.calls) (nat_lt b.output d.bytes) (nat_lt b.size d.size) (nat_lt b.nesting d.nesting) refl
-  where
-    through : (p q r s t : Bool) → nat_lt b.fuel n ≡ p → (unless p config.fuel (unless q config.depth (unless r config.output (unless s config.size (unless t config.nesting (Goes (record { machine = m; left = spared n d b })))))) ≡ Ends (config.spent config.fuel)) ↔ (b.fuel < n)
-    through true q r s t e = (λ _. ltb-true _ _ e, λ _. refl)
-    through false true r s t e = (λ f. absurd cc, λ lt. absurd (omega (arith, ltb-false _ _ e)))
-    through false false true s t e = (λ f. absurd cc, λ lt. absurd (omega (arith, ltb-false _ _ e)))
-    through false false false true t e = (λ f. absurd cc, λ lt. absurd (omega (arith, ltb-false _ _ e)))
-    through false false false false true e = (λ f. absurd cc, λ lt. absurd (omega (arith, ltb-false _ _ e)))
-    through false false false false false e = (λ f. absurd cc, λ lt. absurd (omega (arith, ltb-false _ _ e)))
-spent_iff n (ends t) b ok = through (nat_lt b.fuel n) refl
-  where
-    through : (p : Bool) → nat_lt b.fuel n ≡ p → (unless p config.fuel (Ends (config.text t)) ≡ Ends (config.spent config.fuel)) ↔ (b.fuel < n)
-    through true e = (λ _. ltb-true _ _ e, λ _. refl)
-    through false e = (λ f. absurd cc, λ lt. absurd (omega (arith, ltb-false _ _ e)))
-spent_iff n (faulty x) b ok = through (nat_lt b.fuel n) refl
-  where
-    through : (p : Bool) → nat_lt b.fuel n ≡ p → (unless p config.fuel (Ends (config.fault x None)) ≡ Ends (config.spent config.fuel)) ↔ (b.fuel < n)
-    through true e = (λ _. ltb-true _ _ e, λ _. refl)
-    through false e = (λ f. absurd cc, λ lt. absurd (omega (arith, ltb-false _ _ e)))
-spent_iff n wrong b ok = absurd (ok refl)
+spent_iff n a1 b ok = search (arith, rules, ltb-true, ltb-false)
 
 spent_at : (k : Code) (o : Option (Section × Instruction)) (c : Config) → next_at k o c ≢ Wrong → (next_at k o c ≡ Ends (config.spent config.fuel)) ↔ (c.left.fuel < cost_at o c)
 spent_at k None c ok = absurd (ok refl)

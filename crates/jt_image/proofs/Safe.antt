@@ -1,5 +1,5 @@
 -- A machine of a typed code goes on or ends, and is never wrong.
-use Rattle.std.proofs.Common.{◌≡◌, ℕ, zero, suc, ◌+◌, ◌*◌, ◌<◌, ◌≤◌, Bool, true, false, cond, ltb, eqb, List, [], ◌∷◌, ◌++◌, length, map, Option, Some, None, Result, Ok, Err, refl, sym, ap, subst, ◌∙◌, arith}
+use Rattle.std.proofs.Common.{◌≡◌, ℕ, zero, suc, ◌+◌, ◌*◌, ◌<◌, ◌≤◌, Bool, true, false, cond, ltb, eqb, List, [], ◌∷◌, ◌++◌, length, map, Option, Some, None, Result, Ok, Err, refl, sym, ap, subst, ◌∙◌, arith, rules}
 use Rattle.std.specs.Prelude.{◌==◌, slice_get, slice_set, nat_lt}
 use Rattle.std.specs.Option.{is_some}
 use Rattle.std.specs.List.{AllByRecursion}
@@ -258,22 +258,7 @@ module _ (k : Code) (m : Machine) (g : IsFit k m) (l : Leads) (agree : Agrees k 
 
   -- at a point of the unit, above the same callers
   lands : (p : ℕ) (fs : List Entry) (ls gs : List Tree) (bs : List (List ℕ)) (d : Demand) → g.shapes p ≡ Some (kinds_of fs) → length ls ≡ length m.state.locals → length gs ≡ length m.state.globals → length bs ≡ suc (captures fs + above) → ((n : ℕ) → AreSized n es → d.size ≤ n → AreSized n fs) → d.returns ≡ d.calls → Fine (step.goes_on (moved p fs ls gs bs m) d)
-  lands p fs ls gs bs d here locals globals buffers sized same = (
-    record {
-      all = g.all;
-      unit = g.unit;
-      is_unit = g.is_unit;
-      shapes = g.shapes;
-      typed = g.typed;
-      here = here;
-      locals = locals ∙ g.locals;
-      globals = globals ∙ g.globals;
-      callers = g.callers;
-      buffers = buffers;
-    },
-    λ n all fits. (sized n all.0 fits, all.1),
-    ap (λ (n : ℕ). length m.callers + n) same,
-  )
+  lands p fs ls gs bs d here locals globals buffers sized same = search (arith, rules)
 
   -- the same with other entries alone
   lands_on : (p : ℕ) (fs : List Entry) (d : Demand) → g.shapes p ≡ Some (kinds_of fs) → captures fs ≡ captures es → ((n : ℕ) → AreSized n es → d.size ≤ n → AreSized n fs) → d.returns ≡ d.calls → Fine (step.goes_on (moved p fs m.state.locals m.state.globals m.state.buffers m) d)
@@ -521,22 +506,7 @@ module _ (k : Code) (m : Machine) (g : IsFit k m) (l : Leads) (agree : Agrees k 
 
   -- a caller goes on, with what the unit gives on top of its entries
   resumed_fine : (n : ℕ) (a : Caller) (rest : List Caller) (fs gs : List Entry) (d : Demand) → AreWaiting k n (a ∷ rest) → gives n (kinds_of a.entries) ≡ kinds_of gs → captures gs ≡ captures a.entries → length m.state.buffers ≡ suc (captures_above (a ∷ rest)) → ((z : ℕ) → AreSized z a.entries → d.size ≤ z → AreSized z gs) → d.returns ≡ suc d.calls → IsFineAction k fs (a ∷ rest) (step.goes_on (resumed a rest gs m) d)
-  resumed_fine n a rest fs gs d w kinds count buffers sized back = (
-    record {
-      all = g.all;
-      unit = w.0.unit;
-      is_unit = w.0.is_unit;
-      shapes = w.0.shapes;
-      typed = w.0.typed;
-      here = w.0.behind ∙ ap Some kinds;
-      locals = w.0.locals;
-      globals = g.globals;
-      callers = w.1;
-      buffers = omega (arith, buffers, count);
-    },
-    λ z all fits. (sized z all.1.0 fits, all.1.1),
-    omega (arith, back),
-  )
+  resumed_fine n a rest fs gs d w kinds count buffers sized back = search (arith, rules)
 
   -- the first activation returns with no entries, so one buffer is left
   ends_fine : (fs : List Entry) (bs : List (List ℕ)) → length bs ≡ 1 → IsFineAction k fs [] (back_to [] nothing bs m)
@@ -587,34 +557,7 @@ module _ (k : Code) (m : Machine) (g : IsFit k m) (l : Leads) (agree : Agrees k 
 -- ---- a step under a budget
 
 pub cost_positive : (i : Instruction) (m : State) → 1 ≤ cost i m
-cost_positive (op.Const c) m = omega arith
-cost_positive (op.Load c) m = omega arith
-cost_positive (op.Store c) m = omega arith
-cost_positive (op.GLoad c) m = omega arith
-cost_positive (op.GStore c) m = omega arith
-cost_positive op.Drop m = omega arith
-cost_positive op.Dup m = omega arith
-cost_positive (op.Emit a) m = omega arith
-cost_positive (op.Data c) m = omega arith
-cost_positive (op.Jump p) m = omega arith
-cost_positive (op.JumpIfFalse p) m = omega arith
-cost_positive (op.JumpIfTrue p) m = omega arith
-cost_positive (op.Op a) m = omega arith
-cost_positive (op.Filter a n f) m = omega arith
-cost_positive (op.Test a n) m = omega arith
-cost_positive (op.MakeList c) m = omega arith
-cost_positive (op.MakeMap c) m = omega arith
-cost_positive op.LoopStart m = omega arith
-cost_positive (op.LoopNext p) m = omega arith
-cost_positive (op.LoopGet a c) m = omega arith
-cost_positive (op.LoopKeep c) m = omega arith
-cost_positive op.LoopRewind m = omega arith
-cost_positive op.LoopEnd m = omega arith
-cost_positive op.CaptureBegin m = omega arith
-cost_positive (op.CaptureEnd a) m = omega arith
-cost_positive (op.Unpack c) m = omega arith
-cost_positive (op.Call n) m = omega arith
-cost_positive op.Return m = omega arith
+cost_positive a0 m = search (arith, rules)
 
 unless_fine : (k : Code) (fuel depth : ℕ) (b : Bool) (l : config.Limit) (n : Next) → (b ≡ false → IsFineStep k fuel depth n) → IsFineStep k fuel depth (unless b l n)
 unless_fine k fuel depth true l n h = tt

@@ -1,5 +1,5 @@
 -- What is read from bytes is spelled so, and is a code.
-use Rattle.std.proofs.Common.{◌≡◌, ℕ, zero, suc, ◌+◌, ◌<◌, ◌≤◌, ◌^◌, Bool, true, false, cond, eqb, List, [], ◌∷◌, ◌++◌, length, Option, Some, None, Result, Ok, Err, refl, sym, ap, subst, ◌∙◌, arith}
+use Rattle.std.proofs.Common.{◌≡◌, ℕ, zero, suc, ◌+◌, ◌<◌, ◌≤◌, ◌^◌, Bool, true, false, cond, eqb, List, [], ◌∷◌, ◌++◌, length, Option, Some, None, Result, Ok, Err, refl, sym, ap, subst, ◌∙◌, arith, rules}
 use Rattle.std.specs.Prelude.{◌==◌, ◌&&◌, ◌||◌, not, nat_lt, nat_le, IsUtf8}
 use Rattle.std.specs.Int.{w16, w32, w64, to_le_bytes, cast_signed, cast_unsigned}
 use Rattle.std.specs.List.{flat_map, AllByRecursion}
@@ -299,38 +299,7 @@ wire_from w i e = subst (HasWire w) e (instruction_wire w)
 
 -- the fields of an instruction fit
 small_instruction : (i : Instruction) (w : Instr) → wire_of i ≡ w → w.a < 2 ^ 8 → w.b < 2 ^ 16 → w.c < 2 ^ 32 → IsInstruction i
-small_instruction (op.Const c) w e a m l = subst (λ (n : ℕ). n < 2 ^ 32) (ap (λ (v : Instr). v.c) (sym e)) l
-small_instruction (op.Load c) w e a m l = subst (λ (n : ℕ). n < 2 ^ 32) (ap (λ (v : Instr). v.c) (sym e)) l
-small_instruction (op.Store c) w e a m l = subst (λ (n : ℕ). n < 2 ^ 32) (ap (λ (v : Instr). v.c) (sym e)) l
-small_instruction (op.GLoad c) w e a m l = subst (λ (n : ℕ). n < 2 ^ 32) (ap (λ (v : Instr). v.c) (sym e)) l
-small_instruction (op.GStore c) w e a m l = subst (λ (n : ℕ). n < 2 ^ 32) (ap (λ (v : Instr). v.c) (sym e)) l
-small_instruction op.Drop w e a m l = tt
-small_instruction op.Dup w e a m l = tt
-small_instruction (op.Emit c) w e a m l = subst (λ (n : ℕ). n < 2 ^ 8) (ap (λ (v : Instr). v.a) (sym e)) a
-small_instruction (op.Data c) w e a m l = subst (λ (n : ℕ). n < 2 ^ 32) (ap (λ (v : Instr). v.c) (sym e)) l
-small_instruction (op.Jump c) w e a m l = subst (λ (n : ℕ). n < 2 ^ 32) (ap (λ (v : Instr). v.c) (sym e)) l
-small_instruction (op.JumpIfFalse c) w e a m l = subst (λ (n : ℕ). n < 2 ^ 32) (ap (λ (v : Instr). v.c) (sym e)) l
-small_instruction (op.JumpIfTrue c) w e a m l = subst (λ (n : ℕ). n < 2 ^ 32) (ap (λ (v : Instr). v.c) (sym e)) l
-small_instruction (op.Op c) w e a m l = subst (λ (n : ℕ). n < 2 ^ 8) (ap (λ (v : Instr). v.a) (sym e)) a
-small_instruction (op.Filter c d f) w e a m l = (
-  subst (λ (n : ℕ). n < 2 ^ 8) (ap (λ (v : Instr). v.a) (sym e)) a,
-  subst (λ (n : ℕ). n < 2 ^ 16) (ap (λ (v : Instr). v.b) (sym e)) m,
-  subst (λ (n : ℕ). n < 2 ^ 32) (ap (λ (v : Instr). v.c) (sym e)) l,
-)
-small_instruction (op.Test c d) w e a m l = (subst (λ (n : ℕ). n < 2 ^ 8) (ap (λ (v : Instr). v.a) (sym e)) a, subst (λ (n : ℕ). n < 2 ^ 16) (ap (λ (v : Instr). v.b) (sym e)) m)
-small_instruction (op.MakeList c) w e a m l = subst (λ (n : ℕ). n < 2 ^ 32) (ap (λ (v : Instr). v.c) (sym e)) l
-small_instruction (op.MakeMap c) w e a m l = subst (λ (n : ℕ). n < 2 ^ 32) (ap (λ (v : Instr). v.c) (sym e)) l
-small_instruction op.LoopStart w e a m l = tt
-small_instruction (op.LoopNext c) w e a m l = subst (λ (n : ℕ). n < 2 ^ 32) (ap (λ (v : Instr). v.c) (sym e)) l
-small_instruction (op.LoopGet c d) w e a m l = (subst (λ (n : ℕ). n < 2 ^ 8) (ap (λ (v : Instr). v.a) (sym e)) a, subst (λ (n : ℕ). n < 2 ^ 32) (ap (λ (v : Instr). v.c) (sym e)) l)
-small_instruction (op.LoopKeep c) w e a m l = subst (λ (n : ℕ). n < 2 ^ 32) (ap (λ (v : Instr). v.c) (sym e)) l
-small_instruction op.LoopRewind w e a m l = tt
-small_instruction op.LoopEnd w e a m l = tt
-small_instruction op.CaptureBegin w e a m l = tt
-small_instruction (op.CaptureEnd c) w e a m l = subst (λ (n : ℕ). n < 2 ^ 8) (ap (λ (v : Instr). v.a) (sym e)) a
-small_instruction (op.Unpack c) w e a m l = subst (λ (n : ℕ). n < 2 ^ 32) (ap (λ (v : Instr). v.c) (sym e)) l
-small_instruction (op.Call c) w e a m l = subst (λ (n : ℕ). n < 2 ^ 32) (ap (λ (v : Instr). v.c) (sym e)) l
-small_instruction op.Return w e a m l = tt
+small_instruction a0 w e a m l = search (arith, rules)
 
 -- whatever the test says
 bind_any : {A B : Type 0} (r : Result A ImageError) (f : A → Result B ImageError) (Q : B → Type 0) → ((x : A) → AllOk (f x) Q) → AllOk (r >>= f) Q
