@@ -296,13 +296,7 @@ headers_good before (u ∷ us) all small plain = (
 )
 
 plain_first : (us : List Section) → HasFirst us → IsPlainFirst true us
-plain_first [] h = tt
-plain_first (u ∷ us) h =
-    let same : u ≡ h.entry = some_is u h.entry h.is in
-    ((λ _. ap (λ (v : Section). v.parameters) same ∙ h.plain), (λ _. ap (λ (v : Section). v.kind) same ∙ h.emits))
-  where
-    some_is : (x y : Section) → (let o : Option Section = Some x in o ≡ Some y) → x ≡ y
-    some_is x y e = cc
+plain_first a0 h = search (arith, rules)
 
 some_units : (us : List Section) → HasFirst us → 0 < length us
 some_units [] h = absurd (none h.entry h.is)
@@ -376,16 +370,4 @@ no_fault : (k : Code) (d : ImageError) (read : Result Code ImageError) → read 
 no_fault k d read e f = cc
 
 pub is_only : {X : Type 0} (view : X → Code) (k : Code) (r : Result X ImageError) (read : Result Code ImageError) → read ≡ Ok k → Gives view r read → MatchResult r (λ x. view x ≡ k) (λ e. e ≡ NoMemory)
-is_only view k (Ok x) read e g = same (sym g ∙ e)
-  where
-    same : {x y : Code} → (let a : Result Code ImageError = Ok x in a ≡ Ok y) → x ≡ y
-    same e = cc
-is_only view k (Err NoMemory) read e g = refl
-is_only view k (Err BadMagic) read e g = absurd (no_fault k BadMagic read e g)
-is_only view k (Err BadVersion) read e g = absurd (no_fault k BadVersion read e g)
-is_only view k (Err Truncated) read e g = absurd (no_fault k Truncated read e g)
-is_only view k (Err Trailing) read e g = absurd (no_fault k Trailing read e g)
-is_only view k (Err BadText) read e g = absurd (no_fault k BadText read e g)
-is_only view k (Err BadOpcode) read e g = absurd (no_fault k BadOpcode read e g)
-is_only view k (Err BadTable) read e g = absurd (no_fault k BadTable read e g)
-is_only view k (Err LimitPassed) read e g = absurd (no_fault k LimitPassed read e g)
+is_only view k a2 read e g = search (arith, rules, no_fault)

@@ -80,28 +80,13 @@ fuel_left : (n : ℕ) (a : Action) (b : Budget) (go : Config → ℕ) → ((c : 
 fuel_left n a1 b go h = search (arith, rules, ltb-false)
 
 placed_costs : (q : Option Place) (n : Next) (go : Config → ℕ) → then_costs (placed q n) go ≡ then_costs n go
-placed_costs q (Goes c) go = refl
-placed_costs q (Ends (config.text t)) go = refl
-placed_costs q (Ends (config.fault f p)) go = refl
-placed_costs q (Ends (config.spent l)) go = refl
-placed_costs q Wrong go = refl
+placed_costs q a1 go = search (arith, rules)
 
 placed_back : (q : Option Place) (n : Next) (l : config.Limit) → placed q n ≡ Ends (config.spent l) → n ≡ Ends (config.spent l)
-placed_back q (Goes c) l e = absurd cc
-placed_back q (Ends (config.text t)) l e = absurd cc
-placed_back q (Ends (config.fault f p)) l e = absurd cc
-placed_back q (Ends (config.spent m)) l e = e
-placed_back q Wrong l e = absurd cc
+placed_back q a1 l e = search (arith, rules)
 
 cost_within : (k : Code) (o : Option (Section × Instruction)) (c : Config) (go : Config → ℕ) → ((d : Config) → go d ≤ d.left.fuel) → taken c.left.fuel (cost_at o c) + then_costs (next_at k o c) go ≤ c.left.fuel
-cost_within k None c go h = through (nat_lt c.left.fuel 0)
-  where
-    through : (p : Bool) → cond p 0 0 + 0 ≤ c.left.fuel
-    through true = omega arith
-    through false = omega arith
-cost_within k (Some (u, i)) c go h =
-    let n = spends (cost i c.machine.state) (strict k u i c.machine) c.left in
-    omega (arith, fuel_left (cost i c.machine.state) (strict k u i c.machine) c.left go h, placed_costs (place_at k c.machine.unit c.machine.point) n go)
+cost_within k a1 c go h = search (arith, rules, fuel_left, placed_costs)
 
 pub costs_within : (k : Code) (n : ℕ) (c : Config) → costs k n c ≤ c.left.fuel
 costs_within k zero c = omega arith

@@ -301,18 +301,10 @@ module _ (k : Code) (m : Machine) (g : IsFit k m) (l : Leads) (agree : Agrees k 
       (λ t fs e' count sized. lands_on (m.point + 1) fs no_demand (behind (kinds_of fs) e') count (λ n z _. (sized n z).1) refl)
 
   store_fine : (c : ℕ) → effect k g.unit m.point (op.Store c) s ≡ Ok l → Fine (strict k g.unit (op.Store c) m)
-  store_fine c e =
-      let b = require_ok _ _ _ l e in
-      let there : ltb c (length m.state.locals) ≡ true = rw g.locals b.0 in
-      in_place _ _ there (taken l broken FinePlain es (λ r. goes_on g.unit m.point r) (λ t fs. goes (record m.state { entries = fs; locals = slice_set m.state.locals c t }) no_demand) b.1
-      (λ t fs e' count sized. lands (m.point + 1) fs (slice_set m.state.locals c t) m.state.globals m.state.buffers no_demand (behind (kinds_of fs) e') (length-set m.state.locals c t) refl (rw count g.buffers) (λ n z _. (sized n z).1) refl))
+  store_fine c e = search (arith, rules, require_ok, in_place, taken, lands, behind, length-set)
 
   store_global_fine : (c : ℕ) → effect k g.unit m.point (op.GStore c) s ≡ Ok l → Fine (strict k g.unit (op.GStore c) m)
-  store_global_fine c e =
-      let b = require_ok _ _ _ l e in
-      let there : ltb c (length m.state.globals) ≡ true = rw g.globals b.0 in
-      in_place _ _ there (taken l broken FinePlain es (λ r. goes_on g.unit m.point r) (λ t fs. goes (record m.state { entries = fs; globals = slice_set m.state.globals c t }) no_demand) b.1
-      (λ t fs e' count sized. lands (m.point + 1) fs m.state.locals (slice_set m.state.globals c t) m.state.buffers no_demand (behind (kinds_of fs) e') refl (length-set m.state.globals c t) (rw count g.buffers) (λ n z _. (sized n z).1) refl))
+  store_global_fine c e = search (arith, rules, require_ok, in_place, taken, lands, behind, length-set)
 
   dup_fine : effect k g.unit m.point op.Dup s ≡ Ok l → Fine (strict k g.unit op.Dup m)
   dup_fine e =
@@ -346,18 +338,10 @@ module _ (k : Code) (m : Machine) (g : IsFit k m) (l : Leads) (agree : Agrees k 
   either_place false p q r h i = i
 
   if_false_fine : (p : ℕ) → effect k g.unit m.point (op.JumpIfFalse p) s ≡ Ok l → Fine (strict k g.unit (op.JumpIfFalse p) m)
-  if_false_fine p e =
-      taken l wrong Fine es (λ r. branches g.unit m.point p r) (λ t fs. step.goes_on (record m { point = cond (truth t) (m.point + 1) p; state = with_entries m.state fs }) no_demand) e
-      (λ t fs e' count sized.
-      let b = branches_ok k g.unit g.shapes m.point p (kinds_of fs) l e' agree in
-      lands_on (cond (truth t) (m.point + 1) p) fs no_demand (either_place (truth t) (m.point + 1) p (kinds_of fs) b.0 b.1) count (λ n z _. (sized n z).1) refl)
+  if_false_fine p e = search (arith, rules, taken, branches_ok, lands_on, either_place)
 
   if_true_fine : (p : ℕ) → effect k g.unit m.point (op.JumpIfTrue p) s ≡ Ok l → Fine (strict k g.unit (op.JumpIfTrue p) m)
-  if_true_fine p e =
-      taken l wrong Fine es (λ r. branches g.unit m.point p r) (λ t fs. step.goes_on (record m { point = cond (truth t) p (m.point + 1); state = with_entries m.state fs }) no_demand) e
-      (λ t fs e' count sized.
-      let b = branches_ok k g.unit g.shapes m.point p (kinds_of fs) l e' agree in
-      lands_on (cond (truth t) p (m.point + 1)) fs no_demand (either_place (truth t) p (m.point + 1) (kinds_of fs) b.1 b.0) count (λ n z _. (sized n z).1) refl)
+  if_true_fine p e = search (arith, rules, taken, branches_ok, lands_on, either_place)
 
   -- what an operation gives, in place of the values that it took
   given_fine : (r : Result Tree Fault) (fs : List Entry) → captures fs ≡ captures es → goes_on g.unit m.point (kind.Value ∷ kinds_of fs) ≡ Ok l → ((n : ℕ) → AreSized n es → AreSized n fs) → FinePlain (push_given r fs m.state)
@@ -400,14 +384,7 @@ module _ (k : Code) (m : Machine) (g : IsFit k m) (l : Leads) (agree : Agrees k 
   either_fine false x y h i = i
 
   next_fine : (p : ℕ) → effect k g.unit m.point (op.LoopNext p) s ≡ Ok l → Fine (strict k g.unit (op.LoopNext p) m)
-  next_fine p e =
-      taken_frame l wrong Fine es (λ r. branches g.unit m.point p (kind.Frame ∷ r)) (λ f fs. cond (nat_lt f.position (length f.items)) (step.goes_on (record m { point = m.point + 1; state = with_entries m.state (frame (advanced f) ∷ fs) }) no_demand) (step.goes_on (at_point p m) no_demand)) e
-      (λ f fs is e' count sized.
-      let b = branches_ok k g.unit g.shapes m.point p (kind.Frame ∷ kinds_of fs) l e' agree in
-      let same : g.shapes p ≡ Some s = b.1 ∙ ap (λ (xs : List Entry). Some (kinds_of xs)) (sym is) in
-      either_fine (nat_lt f.position (length f.items)) _ _
-      (lands_on (m.point + 1) (frame (advanced f) ∷ fs) no_demand b.0 count (λ n z _. sized n z) refl)
-      (lands_on p es no_demand same refl (λ n z _. z) refl))
+  next_fine p e = search (arith, rules, taken_frame, branches_ok, either_fine, lands_on)
 
   get_fine : (a c : ℕ) → effect k g.unit m.point (op.LoopGet a c) s ≡ Ok l → Fine (strict k g.unit (op.LoopGet a c) m)
   get_fine a c e =
@@ -444,11 +421,7 @@ module _ (k : Code) (m : Machine) (g : IsFit k m) (l : Leads) (agree : Agrees k 
   open_fine e = lands (m.point + 1) (capture ∷ es) m.state.locals m.state.globals ([] ∷ m.state.buffers) no_demand (behind (kind.Capture ∷ s) e) refl refl (omega (arith, g.buffers)) (λ n z _. z) refl
 
   closes_fine : (b : Bool) (bs : List (List ℕ)) (fs : List Entry) → length bs ≡ suc (captures es + above) → captures es ≡ suc (captures fs) → goes_on g.unit m.point (kind.Value ∷ kinds_of fs) ≡ Ok l → ((n : ℕ) → AreSized n es → AreSized n fs) → FinePlain (closes b bs fs m.state)
-  closes_fine b [] fs count one e sized = absurd (omega arith)
-  closes_fine b (bytes ∷ []) fs count one e sized = absurd (omega (arith, one))
-  closes_fine b (bytes ∷ d ∷ bs) fs count one e sized =
-      let t : Tree = cond b (tree.markup bytes) (tree.text bytes) in
-      lands (m.point + 1) (value t ∷ fs) m.state.locals m.state.globals (d ∷ bs) (pushing t) (behind (kind.Value ∷ kinds_of fs) e) refl refl (omega (arith, count, one)) (λ n z fits. (fits, sized n z)) refl
+  closes_fine b a1 fs count one e sized = search (arith, rules, lands, behind)
 
   close_fine : (a : ℕ) → effect k g.unit m.point (op.CaptureEnd a) s ≡ Ok l → Fine (strict k g.unit (op.CaptureEnd a) m)
   close_fine a e =
@@ -515,11 +488,7 @@ module _ (k : Code) (m : Machine) (g : IsFit k m) (l : Leads) (agree : Agrees k 
   ends_fine fs (b ∷ d ∷ bs) count = absurd (omega arith)
 
   returned_fine : (rest : List Caller) (n : ℕ) (fs : List Entry) → AreWaiting k n rest → may_return n (kinds_of fs) ≡ true → length m.state.buffers ≡ suc (captures fs + captures_above rest) → IsFineAction k fs rest (back_to rest (given_by n fs) m.state.buffers m)
-  returned_fine [] zero [] w ok count = ends_fine [] m.state.buffers count
-  returned_fine (a ∷ rest) zero [] w ok count = resumed_fine 0 a rest [] a.entries step.returning w refl refl (omega (arith, count)) (λ z all _. all) refl
-  returned_fine [] (suc n) (value t ∷ []) w ok count = absurd (omega (arith, w))
-  returned_fine (a ∷ rest) (suc n) (value t ∷ []) w ok count = resumed_fine (suc n) a rest (value t ∷ []) (value t ∷ a.entries) (record (pushing t) { returns = 1 }) w refl refl (omega (arith, count)) (λ z all fits. (fits, all)) refl
-  returned_fine rest n fs w ok count = absurd cc
+  returned_fine a0 a1 a2 w ok count = search (arith, rules, ends_fine, resumed_fine)
 
   return_fine : effect k g.unit m.point op.Return s ≡ Ok l → Fine (strict k g.unit op.Return m)
   return_fine e = returned_fine m.callers g.unit.kind es g.callers (require_ok _ _ _ l e).0 g.buffers
@@ -564,25 +533,10 @@ unless_fine k fuel depth true l n h = tt
 unless_fine k fuel depth false l n h = h refl
 
 placed_fine : (k : Code) (fuel depth : ℕ) (q : Option Place) (n : Next) → IsFineStep k fuel depth n → IsFineStep k fuel depth (placed q n)
-placed_fine k fuel depth q (Goes d) h = h
-placed_fine k fuel depth q (Ends (config.text t)) h = tt
-placed_fine k fuel depth q (Ends (config.fault f p)) h = tt
-placed_fine k fuel depth q (Ends (config.spent l)) h = tt
-placed_fine k fuel depth q Wrong h = h
+placed_fine k fuel depth q a4 h = search (arith, rules)
 
 spends_fine : (k : Code) (es : List Entry) (above : List Caller) (n : ℕ) (a : Action) (b : Budget) → 1 ≤ n → AreAllSized b.size es above → IsFineAction k es above a → IsFineStep k b.fuel (b.depth + length above) (spends n a b)
-spends_fine k es above n (step.goes_on m d) b positive sized fine =
-    unless_fine k b.fuel (b.depth + length above) (nat_lt b.fuel n) config.fuel _ (λ enough.
-    unless_fine k b.fuel (b.depth + length above) (nat_lt b.depth d.calls) config.depth _ (λ deep.
-    unless_fine k b.fuel (b.depth + length above) (nat_lt b.output d.bytes) config.output _ (λ _.
-    unless_fine k b.fuel (b.depth + length above) (nat_lt b.size d.size) config.size _ (λ small.
-    unless_fine k b.fuel (b.depth + length above) (nat_lt b.nesting d.nesting) config.nesting (Goes (record { machine = m; left = spared n d b })) (λ _.
-    let fuel : n ≤ b.fuel = ltb-false _ _ enough in
-    let depth : d.calls ≤ b.depth = ltb-false _ _ deep in
-    (record { fit = fine.0; sized = fine.1 b.size sized (ltb-false _ _ small) }, omega arith, omega (arith, fine.2)))))))
-spends_fine k es above n (ends t) b positive sized fine = unless_fine k b.fuel (b.depth + length above) (nat_lt b.fuel n) config.fuel (Ends (config.text t)) (λ _. tt)
-spends_fine k es above n (faulty f) b positive sized fine = unless_fine k b.fuel (b.depth + length above) (nat_lt b.fuel n) config.fuel (Ends (config.fault f None)) (λ _. tt)
-spends_fine k es above n wrong b positive sized fine = absurd fine
+spends_fine k es above n a4 b positive sized fine = search (arith, rules, unless_fine, ltb-false)
 
 at_instruction : (k : Code) (c : Config) (g : IsGood k c) (l : Leads) (o : Option Instruction) → slice_get g.fit.unit.code c.machine.point ≡ o → Agrees k g.fit.unit g.fit.shapes l
     → effect_of k g.fit.unit c.machine.point o (kinds_of c.machine.state.entries) ≡ Ok l → IsFineStep k c.left.fuel (depth_of c) (next k c)

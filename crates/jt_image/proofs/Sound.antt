@@ -219,43 +219,19 @@ same_wire w opcode a b c e x y z =
     ap (λ (n : ℕ). wire_at n a b c) o ∙ ap (λ (n : ℕ). wire_at w.op n b c) x ∙ ap (λ (n : ℕ). wire_at w.op w.a n c) y ∙ ap (λ (n : ℕ). wire_at w.op w.a w.b n) z
 
 none_wire : (w : Instr) (opcode : ℕ) (i : Instruction) → eqb w.op opcode ≡ true → wire_of i ≡ wire_at opcode 0 0 0 → HasWire w (uses_none w i)
-none_wire w opcode i e is = by_tests (eqb w.a 0) (eqb w.b 0) (eqb w.c 0) refl refl refl
-  where
-    by_tests : (x y z : Bool) → eqb w.a 0 ≡ x → eqb w.b 0 ≡ y → eqb w.c 0 ≡ z → HasWire w (cond (x && (y && z)) (Some i) None)
-    by_tests true true true x y z = is ∙ same_wire w opcode 0 0 0 e (sym (eqb-true w.a 0 x)) (sym (eqb-true w.b 0 y)) (sym (eqb-true w.c 0 z))
-    by_tests true true false x y z = tt
-    by_tests true false d x y z = tt
-    by_tests false b d x y z = tt
+none_wire w opcode i e is = search (arith, rules, same_wire, eqb-true)
 
 c_wire : (w : Instr) (opcode : ℕ) (i : Instruction) → eqb w.op opcode ≡ true → wire_of i ≡ wire_at opcode 0 0 w.c → HasWire w (uses_c w i)
-c_wire w opcode i e is = by_tests (eqb w.a 0) (eqb w.b 0) refl refl
-  where
-    by_tests : (x y : Bool) → eqb w.a 0 ≡ x → eqb w.b 0 ≡ y → HasWire w (cond (x && y) (Some i) None)
-    by_tests true true x y = is ∙ same_wire w opcode 0 0 w.c e (sym (eqb-true w.a 0 x)) (sym (eqb-true w.b 0 y)) refl
-    by_tests true false x y = tt
-    by_tests false d x y = tt
+c_wire w opcode i e is = search (arith, rules, same_wire, eqb-true)
 
 a_wire : (w : Instr) (opcode : ℕ) (i : Instruction) → eqb w.op opcode ≡ true → wire_of i ≡ wire_at opcode w.a 0 0 → HasWire w (uses_a w i)
-a_wire w opcode i e is = by_tests (eqb w.b 0) (eqb w.c 0) refl refl
-  where
-    by_tests : (x y : Bool) → eqb w.b 0 ≡ x → eqb w.c 0 ≡ y → HasWire w (cond (x && y) (Some i) None)
-    by_tests true true x y = is ∙ same_wire w opcode w.a 0 0 e refl (sym (eqb-true w.b 0 x)) (sym (eqb-true w.c 0 y))
-    by_tests true false x y = tt
-    by_tests false d x y = tt
+a_wire w opcode i e is = search (arith, rules, same_wire, eqb-true)
 
 ab_wire : (w : Instr) (opcode : ℕ) (i : Instruction) → eqb w.op opcode ≡ true → wire_of i ≡ wire_at opcode w.a w.b 0 → HasWire w (uses_ab w i)
-ab_wire w opcode i e is = by_test (eqb w.c 0) refl
-  where
-    by_test : (x : Bool) → eqb w.c 0 ≡ x → HasWire w (cond x (Some i) None)
-    by_test true x = is ∙ same_wire w opcode w.a w.b 0 e refl refl (sym (eqb-true w.c 0 x))
-    by_test false x = tt
+ab_wire w opcode i e is = search (arith, rules, same_wire, eqb-true)
 
 ac_wire : (w : Instr) (opcode : ℕ) (i : Instruction) → eqb w.op opcode ≡ true → wire_of i ≡ wire_at opcode w.a 0 w.c → HasWire w (uses_ac w i)
-ac_wire w opcode i e is = by_test (eqb w.b 0) refl
-  where
-    by_test : (x : Bool) → eqb w.b 0 ≡ x → HasWire w (cond x (Some i) None)
-    by_test true x = is ∙ same_wire w opcode w.a 0 w.c e refl (sym (eqb-true w.b 0 x)) refl
-    by_test false x = tt
+ac_wire w opcode i e is = search (arith, rules, same_wire, eqb-true)
 
 choose : (w : Instr) (b : Bool) (x y : Option Instruction) → (b ≡ true → HasWire w x) → HasWire w y → HasWire w (cond b x y)
 choose w true x y h k = h refl

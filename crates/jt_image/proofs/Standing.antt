@@ -1,5 +1,5 @@
 -- What stands at places of an image's bytes: why it is there once it was read, and what it says of the bytes.
-use Rattle.std.proofs.Common.{◌≡◌, ℕ, ◌+◌, ◌-◌, ◌<◌, ◌≤◌, ◌^◌, Bool, true, false, cond, ltb, List, [], ◌∷◌, ◌++◌, length, take, drop, get_or, Result, Ok, Err, refl, sym, ap, subst, ◌∙◌, arith, append_assoc}
+use Rattle.std.proofs.Common.{◌≡◌, ℕ, ◌+◌, ◌-◌, ◌<◌, ◌≤◌, ◌^◌, Bool, true, false, cond, ltb, List, [], ◌∷◌, ◌++◌, length, take, drop, get_or, Result, Ok, Err, refl, sym, ap, subst, ◌∙◌, arith, append_assoc, rules}
 use Rattle.std.specs.Prelude.{IsUtf8}
 use Rattle.std.specs.Int.{Width, w16, w32, byte_len, from_le_bytes, to_le_bytes}
 use Rattle.std.specs.Str.{is_utf8}
@@ -137,14 +137,7 @@ instructions_last n bytes rest is after fits h e =
 
 number_read : {B : Type 0} (w : Width) (bytes : List ℕ) (f : ℕ × List ℕ → Read B) → IsRead (number_at w bytes >>= f)
     → (byte_len w ≤ length bytes) × ((number_at w bytes >>= f) ≡ f (from_le_bytes w (take (byte_len w) bytes), drop (byte_len w) bytes))
-number_read {B} w bytes f h = by (ltb (length bytes) (byte_len w)) refl h
-  where
-    x : ℕ × List ℕ
-    x = (from_le_bytes w (take (byte_len w) bytes), drop (byte_len w) bytes)
-
-    by : (b : Bool) → ltb (length bytes) (byte_len w) ≡ b → IsRead (cond b (Err Truncated) (Ok x) >>= f) → (byte_len w ≤ length bytes) × ((number_at w bytes >>= f) ≡ f x)
-    by true e g = absurd g
-    by false e g = (ltb-false _ _ e, rw e refl)
+number_read {B} w bytes f h = search (arith, rules, ltb-false)
 
 pub text_read : (n : ℕ) (bytes : List ℕ) → IsRead (text_at n bytes) → (n ≤ length bytes) × IsUtf8 (take n bytes)
 unfolding text_at

@@ -57,12 +57,7 @@ pub behind_start : (k : Code) → k.version ≡ version.One → drop 6 (spelling
 behind_start k e = sym (grouped k (place_bytes k.version k.templates k.spots)) ∙ ap (λ (z : List ℕ). behind k ++ z) (none_behind k e) ∙ append-nil (behind k)
 
 pub unplaced_spelled : (k : Code) → k.version ≡ version.One → magic ++ (to_le_bytes w16 2 ++ (drop 6 (spelling k) ++ replicate (2 + 6 * total_len k.units) 0)) ≡ spelling (unplaced k)
-unplaced_spelled k e =
-    let n = total_len k.units in
-    let two : replicate (2 + 6 * n) 0 ≡ to_le_bytes w16 0 ++ ([] ++ replicate (6 * n) 0) = ap (λ (m : ℕ). replicate m 0) (let s : 2 + 6 * n ≡ suc (suc (6 * n)) = omega arith in s) in
-    ap (λ (b : List ℕ). magic ++ (to_le_bytes w16 2 ++ (b ++ replicate (2 + 6 * n) 0))) (behind_start k e)
-    ∙ ap (λ (z : List ℕ). magic ++ (to_le_bytes w16 2 ++ (behind k ++ z))) (two ∙ ap (λ (z : List ℕ). to_le_bytes w16 0 ++ ([] ++ z)) (zeros n))
-    ∙ ap (λ (b : List ℕ). magic ++ (to_le_bytes w16 2 ++ b)) (grouped k (place_bytes version.Two [] (replicate n no_spot)))
+unplaced_spelled k e = search (arith, rules, behind_start, zeros, grouped)
 
 length_zeros : (n : ℕ) → length (flat_map spot_bytes (replicate n no_spot)) ≡ 6 * n
 length_zeros zero = omega arith
