@@ -1,4 +1,4 @@
-use Rattle.std.proofs.Common.{◌≡◌, ℕ, ◌+◌, List, [], ◌∷◌, ◌++◌, length, Vec, Global, refl, sym, ap, ◌∙◌, subst, arith}
+use Rattle.std.proofs.Common.{◌≡◌, ℕ, ◌+◌, List, [], ◌∷◌, ◌++◌, length, Vec, Global, refl, sym, ap, ◌∙◌, subst, arith, rules}
 use Rattle.std.proofs.lemmas.List.{length-map, map-append}
 use Rattle.jt_image.specs.Code.{Constant}
 use Rattle.jt_image.specs.View.{constant_view, constants_view}
@@ -18,11 +18,7 @@ pub overflow_cast-place : goal.overflow_cast-place
 overflow_cast-place c = let l = c.loop-value in omega (arith, c.len-place.ensures, l.invariant.1.few, length-map l.constants.items constant_view, l.constants.ok.0, c.loop-value-test.true, c.requires.few)
 
 pub loop-value-init : goal.loop-value-init
-loop-value-init c = (
-  subst (λ (cs : List image.Constant). Knows c.new-known.result (constants_view cs)) (sym c.in_ok-constants.ensures.items) (λ q. rw c.new-known.ensures.empty refl),
-  subst (λ (ps : List ℕ). Holds c.args.pool.now 0 (constants_view c.in_ok-constants.constants.items) ps) (sym c.in_ok-places.ensures.items)
-      (subst (λ (cs : List image.Constant). Holds c.args.pool.now 0 (constants_view cs) []) (sym c.in_ok-constants.ensures.items) (holds_none c.args.pool.now)),
-)
+loop-value-init c = search (arith, rules, holds_none)
 
 pub loop-value-preserved : goal.loop-value-preserved
 loop-value-preserved c =
