@@ -1,5 +1,5 @@
 -- What a unit's table and paths say stays true while paths are followed.
-use Rattle.std.proofs.Common.{◌≡◌, ℕ, ◌<◌, ◌≤◌, List, [], ◌∷◌, ◌++◌, length, Option, Some, None, Ok, refl, sym, subst, ◌∙◌, arith, inl, inr}
+use Rattle.std.proofs.Common.{◌≡◌, ℕ, ◌<◌, ◌≤◌, List, [], ◌∷◌, ◌++◌, length, Option, Some, None, Ok, refl, sym, subst, ◌∙◌, arith, inl, inr, rules}
 use Rattle.std.specs.Prelude.{slice_set, replicate}
 use Rattle.std.proofs.lemmas.List.{length-set, length-append, length-replicate}
 use Rattle.jt_image.proofs.Passed.{all_weaker}
@@ -16,14 +16,7 @@ use Rattle.jt_verify.proofs.Tables.{set_here, set_there, set_keeps, set_gives, u
 
 module _ (k : Code) (u : Section) (t : Table) (w : List Path) (x : Path) (is : shape_at t x.point ≡ Some x.shape) where
   due_met : (s : Shape) (q : ℕ) → IsDue t (w ++ x ∷ []) s q → IsDue t w s q
-  due_met s q (inl e) = inl e
-  due_met s q (inr h) = elim (waits_either w (x ∷ []) s q h) [
-    | inl a ↦ inr a
-    | inr b ↦ elim b [
-      | inl e ↦ inl (subst (λ (n : ℕ). shape_at t n ≡ Some s) e.0 (subst (λ (r : Shape). shape_at t x.point ≡ Some r) e.1 is))
-      | inr c ↦ absurd c
-    ]
-  ]
+  due_met s q a2 = search (arith, rules, waits_either)
 
   pub met : IsWorking k u t (w ++ x ∷ []) → IsWorking k u t w
   met i = record {
@@ -87,22 +80,12 @@ module _ (k : Code) (u : Section) (t : Table) (w : List Path) (x : Path) (l : Le
       }
     where
       new : IsFollowed k u after_set (w ++ sent l r) x.point x.shape
-      new = record {
-        leads = record { shape = r; points = points_of l };
-        effect = effect;
-        due = all_of (IsDue after_set (w ++ sent l r) r) (points_of l) due_next;
-      }
+      new = search (arith, rules, all_of, due_next)
 
 -- ---- less work is left
 
 length-sent : (l : Leads) (s : Shape) → length (sent l s) ≤ 2
-length-sent l s = at_most l.target l.next
-  where
-    at_most : (a b : Option ℕ) → length (all_to s (as_list a ++ as_list b)) ≤ 2
-    at_most None None = omega arith
-    at_most None (Some b) = omega arith
-    at_most (Some a) None = omega arith
-    at_most (Some a) (Some b) = omega arith
+length-sent l s = search (arith, rules, all_to)
 
 pub less_if_met : (t : Table) (w : List Path) (x : Path) → work_left t w < work_left t (w ++ x ∷ [])
 less_if_met t w x = omega (arith, length-append w (x ∷ []))

@@ -1,5 +1,5 @@
 -- What is known of an arena: no two handles stand for one shape.
-use Rattle.std.proofs.Common.{◌≡◌, ◌≢◌, ℕ, zero, suc, ◌+◌, ◌-◌, ◌*◌, ◌/◌, ◌%◌, ◌<◌, ◌≤◌, Bool, true, false, List, [], ◌∷◌, ◌++◌, length, get_or, Some, None, Result, Err, MatchBool, refl, sym, ap, subst, ◌∙◌, arith}
+use Rattle.std.proofs.Common.{◌≡◌, ◌≢◌, ℕ, zero, suc, ◌+◌, ◌-◌, ◌*◌, ◌/◌, ◌%◌, ◌<◌, ◌≤◌, Bool, true, false, List, [], ◌∷◌, ◌++◌, length, get_or, Some, None, Result, Err, MatchBool, refl, sym, ap, subst, ◌∙◌, arith, rules}
 use Rattle.std.specs.Prelude.{slice_get}
 use Rattle.std.proofs.lemmas.Option.{slice_get_within}
 use Rattle.std.proofs.lemmas.List.{length-append, get_or_append_left}
@@ -80,10 +80,7 @@ marked mark.Frame s = tt
 marked mark.Capture s = tt
 
 kind_same : (m n : Mark) → kind_of m ≡ kind_of n → m ≡ n
-kind_same mark.Frame mark.Frame e = refl
-kind_same mark.Capture mark.Capture e = refl
-kind_same mark.Frame mark.Capture e = absurd cc
-kind_same mark.Capture mark.Frame e = absurd cc
+kind_same a0 a1 e = search (arith, rules)
 
 handle_same : (h g : Handle) → h.values ≡ g.values → h.node ≡ g.node → h ≡ g
 handle_same h g e f = subst (λ (n : ℕ). h ≡ record { values = g.values; node = n }) f (subst (λ (v : ℕ). h ≡ record { values = v; node = h.node }) e refl)
@@ -155,10 +152,7 @@ module _ {ns : List Node} {ls : List ℕ} (a : IsArena ns ls) where
   kind_at_bottom h i z l = below_values h.values (get_or (lists_of ns) h.node []) i l ∙ ap (λ (s : Shape). slice_get s (i - h.values)) (at_bottom h z)
 
   pub kind_at_mark : (h : Handle) (n : Node) (i : ℕ) → 0 < h.node → slice_get ns (h.node - 1) ≡ Some n → i ≡ h.values → slice_get (shape_in (lists_of ns) h) i ≡ Some (kind_of n.mark)
-  kind_at_mark h n i l is e =
-      let k = node_is h.node n l is in
-      let zero_left : i - h.values ≡ 0 = omega (arith, e) in
-      below_values h.values (get_or (lists_of ns) h.node []) i (omega (arith, e)) ∙ ap (λ (s : Shape). slice_get s (i - h.values)) k.0 ∙ ap (λ (j : ℕ). slice_get (entered (lists_of ns) n) j) zero_left
+  kind_at_mark h n i l is e = search (arith, rules, node_is, below_values, get_or)
 
   pub kind_under_mark : (h : Handle) (n : Node) (i j : ℕ) → 0 < h.node → slice_get ns (h.node - 1) ≡ Some n → i ≡ h.values + suc j → slice_get (shape_in (lists_of ns) h) i ≡ slice_get (shape_in (lists_of ns) n.below) j
   kind_under_mark h n i j l is e =
@@ -189,10 +183,7 @@ module _ {ns : List Node} {ls : List ℕ} (a : IsArena ns ls) where
       )
 
   pub kind_far_under : (h : Handle) (n m : Node) (i j : ℕ) → 0 < h.node → slice_get ns (h.node - 1) ≡ Some n → IsAt ns n.jump.to m → i ≡ h.values + (n.height - m.height) + j → slice_get (shape_in (lists_of ns) h) i ≡ slice_get (get_or (lists_of ns) n.jump.to []) j
-  kind_far_under h n m i j l is e f =
-      let w = way_is h.node n m l is e in
-      let left : i - h.values - (n.height - m.height) ≡ j = omega (arith, f) in
-      below_values h.values (get_or (lists_of ns) h.node []) i (omega (arith, f)) ∙ w.2 (i - h.values) (omega (arith, f)) ∙ ap (λ (x : ℕ). slice_get (get_or (lists_of ns) n.jump.to []) x) left
+  kind_far_under h n m i j l is e f = search (arith, rules, way_is, below_values, get_or)
 
   -- a node that is found is that mark on that handle
   pub found_is : (m : Mark) (b : Handle) (p d k : ℕ) → Finding ns ls m b p d (link.To k) → (get_or (lists_of ns) k [] ≡ kind_of m ∷ shape_in (lists_of ns) b) × (k < length (lists_of ns))

@@ -1,5 +1,5 @@
 -- A refusal that holds refuses no typed code.
-use Rattle.std.proofs.Common.{◌≡◌, ℕ, List, [], ◌∷◌, ◌++◌, length, Option, Some, Result, Ok, Err, refl, sym, ap, subst, ◌∙◌, arith, inl, inr}
+use Rattle.std.proofs.Common.{◌≡◌, ℕ, List, [], ◌∷◌, ◌++◌, length, Option, Some, Result, Ok, Err, refl, sym, ap, subst, ◌∙◌, arith, inl, inr, rules}
 use Rattle.std.specs.Prelude.{slice_get}
 use Rattle.std.specs.List.{AllByRecursion}
 use Rattle.jt_image.specs.declared.kind.Flaw.{Flaw}
@@ -58,15 +58,7 @@ unit_refused k n (refusal.Flaw f m p) is h = subst (λ (i : ℕ). RefusalHolds k
 
 -- equal shapes do not differ
 same_differ : (s t : Shape) (f : Flaw) → s ≡ t → DifferBy s t f → ⊥
-same_differ s t flaw.DepthDiffers e d = d (ap (λ (x : Shape). length x) e)
-same_differ s t flaw.KindDiffers e d = d.1 e
-same_differ s t flaw.MissingOperand e d = d
-same_differ s t flaw.WrongKind e d = d
-same_differ s t flaw.JumpOut e d = d
-same_differ s t flaw.BadIndex e d = d
-same_differ s t flaw.BadReturn e d = d
-same_differ s t flaw.FallsOff e d = d
-same_differ s t flaw.TooDeep e d = d
+same_differ s t a2 e d = search (arith, rules)
 
 module _ (k : Code) (u : Section) (shapes : Shapes) (h : IsTypedBy Equal k u shapes) where
   agrees : (p : ℕ) (s : Shape) → Reaches k u p s → shapes p ≡ Some s

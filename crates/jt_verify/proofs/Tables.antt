@@ -1,5 +1,5 @@
 -- Tables of shapes, and paths that wait.
-use Rattle.std.proofs.Common.{◌≡◌, ◌≢◌, ℕ, zero, suc, ◌+◌, ◌<◌, ◌⊎◌, List, [], ◌∷◌, ◌++◌, length, map, Option, Some, None, refl, sym, ap, subst, ◌∙◌, arith, inl, inr}
+use Rattle.std.proofs.Common.{◌≡◌, ◌≢◌, ℕ, zero, suc, ◌+◌, ◌<◌, ◌⊎◌, List, [], ◌∷◌, ◌++◌, length, map, Option, Some, None, refl, sym, ap, subst, ◌∙◌, arith, inl, inr, rules}
 use Rattle.std.specs.Prelude.{slice_set, replicate, option_map, unwrap_or}
 use Rattle.std.specs.List.{AllByRecursion}
 use Rattle.jt_image.specs.declared.code.UnitHeader.{UnitHeader}
@@ -18,11 +18,8 @@ set_here (x ∷ t) zero s lt = refl
 set_here (x ∷ t) (suc p) s lt = set_here t p s (omega arith)
 
 pub set_there : (t : Table) (p q : ℕ) (s : Shape) → q ≢ p → shape_at (slice_set t p (Some s)) q ≡ shape_at t q
-set_there [] p q s ne = refl
-set_there (x ∷ t) zero zero s ne = absurd (ne refl)
-set_there (x ∷ t) zero (suc q) s ne = refl
-set_there (x ∷ t) (suc p) zero s ne = refl
 set_there (x ∷ t) (suc p) (suc q) s ne = set_there t p q s (λ e. ne (ap suc e))
+set_there a0 a1 a2 s ne = search (arith, rules)
 
 pub unknown-set : (t : Table) (p : ℕ) (s : Shape) → p < length t → shape_at t p ≡ None → unknown (slice_set t p (Some s)) + 1 ≡ unknown t
 unknown-set [] p s lt e = absurd (omega arith)
