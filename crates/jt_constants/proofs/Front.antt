@@ -1,8 +1,8 @@
 -- What a loop does that changes the items of a list one after the other, as what each of them stands for.
-use Rattle.std.proofs.Common.{◌≡◌, ℕ, zero, suc, ◌+◌, ◌<◌, ◌≤◌, List, [], ◌∷◌, length, map, get_or, Option, Some, None, refl, sym, ap, ◌∙◌, arith, rules}
+use Rattle.std.proofs.Common.{◌≡◌, ℕ, zero, suc, ◌+◌, ◌<◌, ◌≤◌, List, [], ◌∷◌, length, map, get_or, Option, Some, refl, sym, ap, ◌∙◌, arith, rules}
 use Rattle.std.specs.Prelude.{slice_set}
 use Rattle.std.proofs.lemmas.Option.{same_Some}
-use Rattle.jt_image.specs.Parts.{in_front, each_of}
+use Rattle.jt_image.specs.Parts.{each_of}
 
 module _ {A B : Type 0} (f : A → Option B) (g : B → B) where
   -- the first n changed

@@ -1,6 +1,5 @@
 -- A table of constants that grows, and what is known of the places of its keys.
-use Rattle.std.proofs.Common.{◌≡◌, ℕ, suc, ◌+◌, ◌<◌, ◌≤◌, Bool, true, false, cond, ◌||◌, List, [], ◌∷◌, ◌++◌, length, map, fold, drop, get_or, Option, Some, None, refl, sym, ap, ◌∙◌, subst, arith, append_assoc, append-nil, length-append, if◌then◌else◌, rules}
-use Rattle.std.specs.Prelude.{option_map}
+use Rattle.std.proofs.Common.{◌≡◌, ℕ, ◌+◌, ◌<◌, ◌≤◌, Bool, true, false, cond, ◌||◌, List, [], ◌∷◌, ◌++◌, length, map, fold, drop, get_or, Some, None, refl, sym, ap, ◌∙◌, arith, append_assoc, append-nil, length-append, if◌then◌else◌, rules}
 use Rattle.std.specs.Ordering.{is_eq, bool_cmp}
 use Rattle.std.specs.List.{list_any}
 use Rattle.std.specs.Bool.{beq}
@@ -12,12 +11,9 @@ use Rattle.std.proofs.lemmas.Option.{same_Some}
 use Rattle.jt_value.specs.View.{view}
 use Rattle.jt_value.specs.declared.value.Value.{Value}
 use Rattle.jt_image.specs.Code.{Constant}
-use Rattle.jt_image.specs.View.{constant_view, constants_view}
-use Rattle.jt_image.specs.declared.image.Constant as image
 use Rattle.jt_constants.specs.Merged.{constant_of, same, with_new, each_once, place_in, new_places}
 use Rattle.jt_constants.specs.Keys.{key_view, place_of, key_cmp, Knows, KnowsMore}
 use Rattle.jt_constants.specs.declared.table.Key.{Key}
-use Rattle.jt_constants.specs.declared.table.Key.TheVariants as key
 use Rattle.jt_constants.proofs.Same.{Has, same_is, same_self, place_kept}
 
 -- ---- keys are equal where their constants are the same

@@ -1,10 +1,9 @@
 -- The runs of a code in which equal constants have been made one.
-use Rattle.std.proofs.Common.{◌≡◌, ℕ, zero, suc, ◌+◌, List, [], ◌∷◌, map, take, replicate, Option, Some, None, refl, sym, ap, ◌∙◌, arith, rules}
+use Rattle.std.proofs.Common.{◌≡◌, ℕ, zero, suc, ◌+◌, List, [], ◌∷◌, map, take, Option, Some, None, refl, sym, ap, ◌∙◌, arith, rules}
 use Rattle.std.specs.Prelude.{slice_get, option_map}
 use Rattle.std.specs.Option.{option_and_then}
 use Rattle.std.proofs.lemmas.List.{length-map}
 use Rattle.std.proofs.lemmas.Option.{slice_get-map}
-use Rattle.jt_value.specs.Tree as tree
 use Rattle.jt_value.specs.Pairs.{Pairs}
 use Rattle.jt_value.specs.Place.{Place}
 use Rattle.jt_image.specs.declared.instruction.Instruction.{Instruction}
@@ -13,8 +12,8 @@ use Rattle.jt_image.specs.Code.{Constant, Section, Code}
 use Rattle.jt_image.specs.IsCode.{total_len}
 use Rattle.jt_image.specs.Places.{place_of, place_at}
 use Rattle.jt_image.specs.Config.{Machine}
-use Rattle.jt_image.specs.Step.{Action, goes_on, ends, faulty, wrong, straight, push, put, constant_value, text_of, calls_unit, action, fetch}
-use Rattle.jt_image.specs.Run.{locals_of, filled, entry_locals}
+use Rattle.jt_image.specs.Step.{Action, straight, push, put, constant_value, text_of, calls_unit, action, fetch}
+use Rattle.jt_image.specs.Run.{entry_locals}
 use Rattle.jt_image.specs.FreeRun.{Free, on_action, exec_at, exec, start_machine, ComesTo}
 use Rattle.jt_constants.specs.Merged.{new_places, with_places, moved_unit, merged}
 use Rattle.jt_constants.proofs.Same.{reads}

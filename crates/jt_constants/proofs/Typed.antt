@@ -1,17 +1,13 @@
 -- A typed code is typed when equal constants have been made one.
-use Rattle.std.proofs.Common.{◌≡◌, ℕ, ◌+◌, ◌*◌, List, [], ◌∷◌, length, Option, Some, None, Ok, refl, sym, ap, ◌∙◌, subst, arith, rules}
-use Rattle.std.specs.Prelude.{slice_get, nat_lt, option_map, ◌&&◌}
-use Rattle.std.specs.Option.{is_some}
+use Rattle.std.proofs.Common.{◌≡◌, ℕ, ◌+◌, List, [], ◌∷◌, length, Option, Some, None, Ok, refl, sym, ap, ◌∙◌, subst, arith, rules}
+use Rattle.std.specs.Prelude.{slice_get, nat_lt, option_map}
 use Rattle.std.proofs.lemmas.List.{length-map}
 use Rattle.std.proofs.lemmas.Option.{slice_get-map, same_Some}
 use Rattle.jt_image.specs.declared.instruction.Instruction.{Instruction}
-use Rattle.jt_image.specs.declared.instruction.Instruction.TheVariants as op
 use Rattle.jt_image.specs.declared.kind.Kind.TheVariants as kind
 use Rattle.jt_image.specs.declared.kind.Flaw.TheVariants as flaw
-use Rattle.jt_image.specs.Code.{is_text, Section, Code}
-use Rattle.jt_image.specs.Effect.{Shape, require, pops, pops_many, pops_frame, pops_capture, on_frame, pushes, goes_on, makes, jumps, branches, gives, calls, effect, effect_of, effect_at}
-use Rattle.jt_image.specs.Ids.{operator_of, operands_of, filter_of, accepts, test_of, takes}
-use Rattle.jt_image.specs.Loops.{field_of}
+use Rattle.jt_image.specs.Code.{Section, Code}
+use Rattle.jt_image.specs.Effect.{Shape, require, pops_many, goes_on, makes, jumps, branches, gives, calls, effect, effect_of, effect_at}
 use Rattle.jt_image.specs.Typed.{Equal, IsTypedUnit, IsTyped}
 use Rattle.jt_constants.specs.Merged.{new_places, with_places, moved_unit, merged}
 use Rattle.jt_constants.proofs.Same.{reads, inside}

@@ -1,4 +1,4 @@
-use Rattle.std.proofs.Common.{◌∙◌, sym, ap, arith, rules}
+use Rattle.std.proofs.Common.{arith, rules}
 use Rattle.jt_image.specs.Parts.{section_of_unit}
 use Rattle.jt_constants.specs.Merged.{moved_unit}
 use Rattle.jt_constants.proofs.Front.{changed_more, whole}

@@ -1,9 +1,9 @@
-use Rattle.std.proofs.Common.{◌≡◌, ℕ, ◌+◌, List, [], ◌∷◌, ◌++◌, length, Vec, Global, refl, sym, ap, ◌∙◌, subst, arith, rules}
+use Rattle.std.proofs.Common.{◌≡◌, ℕ, ◌+◌, [], ◌∷◌, ◌++◌, length, Vec, Global, sym, ap, ◌∙◌, subst, arith, rules}
 use Rattle.std.proofs.lemmas.List.{length-map, map-append}
 use Rattle.jt_image.specs.Code.{Constant}
 use Rattle.jt_image.specs.View.{constant_view, constants_view}
-use Rattle.jt_constants.specs.Keys.{key_view, place_of, Knows, KnowsMore}
-use Rattle.jt_constants.proofs.Growing.{Holds, holds_none, holds_all, known_absent, knows_more, turn_there, turn_absent, left_so}
+use Rattle.jt_constants.specs.Keys.{key_view, place_of, KnowsMore}
+use Rattle.jt_constants.proofs.Growing.{holds_none, holds_all, known_absent, knows_more, turn_there, turn_absent, left_so}
 use Rattle.jt_constants.proofs.table.constant_table.Goals.{in-Some, in-None+in_ok-add-in-None+in_ok-constant_of-in-None+in_ok-push-in-None}
 use Rattle.jt_constants.proofs.table.constant_table.Goals as goal
 use Rattle.jt_image.specs.declared.image.Constant as image
