@@ -29,7 +29,8 @@ points_of l = as_list l.next ++ as_list l.target
 
 -- that shape, with no mark on top, at these points
 abbrev pub unmarked : Handle → Option ℕ → Option ℕ → Effect
-unmarked h next target = record { shape = h; mark = None; leads = record { next = next; target = target } }
+unmarked h next target =
+    record { shape = h; mark = None; leads = record { next = next; target = target } }
 
 -- an effect that leads to the point with a shape that is too long
 abbrev pub IsTall : ℕ → Result effects.Leads Flaw → Type 0

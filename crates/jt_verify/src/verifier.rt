@@ -24,8 +24,8 @@ pub(crate) struct Path {
     pub(crate) shape: Handle,
 }
 
-/// What is known of a unit while it is verified: its shapes, the one of each point that has one, and
-/// the paths that are still to be followed.
+/// What is known of a unit while it is verified: its shapes, the one of each point that has one,
+/// and the paths that are still to be followed.
 #[derive(Drop)]
 pub(crate) struct Work {
     pub(crate) arena: Arena,
@@ -157,7 +157,8 @@ fn follow<C: Code>(
     requires works { WorksOn (C.code code.now) unit work.old (work.old.paths.items ++ path ∷ []) }
     ensures ok { OnOk result (WorksOn (C.code code.now) unit work.new work.new.paths.items) }
     ensures less { OnOk result
-        (left_of work.new work.new.paths.items < left_of work.old (work.old.paths.items ++ path ∷ [])) }
+        (left_of work.new work.new.paths.items
+        < left_of work.old (work.old.paths.items ++ path ∷ [])) }
     ensures err { IfErr result (Refuses (C.code code.now) unit) }
 {
     let is_known = arrive(&work.arena, &work.shapes, unit, path)?;
@@ -203,8 +204,8 @@ fn verify_unit<C: Code>(
     Ok(())
 }
 
-/// Accepts a code exactly where it is in order. Every unit is verified, from the first on, called or
-/// not.
+/// Accepts a code exactly where it is in order. Every unit is verified, from the first on, called
+/// or not.
 pub(crate) fn verify_code<C: Code>(alloc: Global, code: &C) -> Result<(), Refusal>
     // A code that is accepted is typed.
     ensures ok { OnOk result (IsTyped (C.code code.now)) }

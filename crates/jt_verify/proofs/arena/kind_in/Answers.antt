@@ -1,4 +1,4 @@
-use Rattle.std.proofs.Common.{◌≡◌, ◌-◌, ◌<◌, get_or, [], sym, ◌∙◌, arith, rules}
+use Rattle.std.proofs.Common.{◌-◌, ◌<◌, get_or, [], sym, ◌∙◌, arith, rules}
 use Rattle.jt_verify.specs.Arena.{lists_of}
 use Rattle.jt_verify.proofs.Values.{value_at}
 use Rattle.jt_verify.proofs.Nodes.{node_is, kind_at_mark, kind_under_mark, kind_at_bottom, way_is, kind_far_under}

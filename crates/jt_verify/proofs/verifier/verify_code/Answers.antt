@@ -1,4 +1,4 @@
-use Rattle.std.proofs.Common.{arith, rules, sym, ◌∙◌}
+use Rattle.std.proofs.Common.{arith, rules}
 use Rattle.std.proofs.lemmas.Option.{slice_get_within}
 use Rattle.jt_verify.proofs.Tables.{some_section}
 use Rattle.jt_verify.proofs.Refused.{unit_refused, exact}

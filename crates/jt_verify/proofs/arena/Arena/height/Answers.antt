@@ -1,6 +1,4 @@
-use Rattle.std.proofs.Common.{◌≡◌, ◌+◌, List, length, subst, arith, rules}
-use Rattle.jt_verify.specs.declared.links.Node.{Node}
-use Rattle.jt_verify.specs.Arena.{Lists, shape_in, IsAt}
+use Rattle.std.proofs.Common.{arith, rules}
 use Rattle.jt_verify.proofs.Nodes.{height_in}
 use Rattle.jt_verify.proofs.arena.Arena.height.Goals as goal
 

@@ -1,5 +1,4 @@
-use Rattle.std.proofs.Common.{◌≡◌, ◌≢◌, MatchBool, subst, arith, rules}
-use Rattle.jt_verify.specs.Arena.{Lists, shape_in, IsIn}
+use Rattle.std.proofs.Common.{arith, rules}
 use Rattle.jt_verify.proofs.Nodes.{equal_is}
 use Rattle.jt_verify.proofs.arena.Arena.is_equal.Goals as goal
 

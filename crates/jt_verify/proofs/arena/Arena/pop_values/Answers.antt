@@ -1,8 +1,8 @@
-use Rattle.std.proofs.Common.{◌≡◌, ◌-◌, [], get_or, Result, Err, sym, subst, arith, rules}
+use Rattle.std.proofs.Common.{◌≡◌, get_or, Result, Err, subst, arith, rules}
 use Rattle.jt_image.specs.declared.kind.Flaw.{Flaw}
 use Rattle.jt_image.specs.declared.kind.Flaw.TheVariants as flaw
 use Rattle.jt_image.specs.Effect.{Shape, Leads, pops_many}
-use Rattle.jt_verify.specs.Arena.{Lists, shape_in, IsIn}
+use Rattle.jt_verify.specs.Arena.{Lists, shape_in}
 use Rattle.jt_verify.proofs.Values.{length-pushes, pops_values}
 use Rattle.jt_verify.proofs.Nodes.{pops_nothing, pops_a_mark}
 use Rattle.jt_verify.proofs.arena.Arena.pop_values.Goals as goal
