@@ -1,4 +1,5 @@
--- What only private clauses cite: the constant that a key stands for, and what is known of the places of keys.
+-- What only private clauses cite: the constant that a key stands for, and what is known of the
+-- places of keys.
 use Rattle.std.specs.Prelude.{◌≡◌, ℕ, List, cond, Option, Some, None, if◌then◌else◌}
 use Rattle.std.specs.BTreeMap.{BTreeMap, get}
 use Rattle.std.specs.List.{list_any}
@@ -31,4 +32,5 @@ Knows places cs = (q : Key) → get key_cmp places q ≡ place_of cs (key_view q
 
 -- one key more has a place in a map
 abbrev pub KnowsMore : BTreeMap Key ℕ → Key → ℕ → BTreeMap Key ℕ → Type 0
-KnowsMore old k p new = (q : Key) → get key_cmp new q ≡ cond (is_eq (key_cmp k q)) (Some p) (get key_cmp old q)
+KnowsMore old k p new =
+    (q : Key) → get key_cmp new q ≡ cond (is_eq (key_cmp k q)) (Some p) (get key_cmp old q)
