@@ -7,10 +7,10 @@ use Rattle.std.proofs.lemmas.List.{length-append}
 use Rattle.std.proofs.lemmas.List.Concat.{flat_map-cons}
 use Rattle.std.proofs.lemmas.Bool.{lt-ltb, ltb-true}
 use Rattle.jt_image.specs.declared.error.ImageError.{ImageError}
-use Rattle.jt_image.specs.declared.error.ImageError.TheVariants.{BadMagic, BadVersion, Truncated, Trailing, BadText, BadOpcode, BadTable, LimitPassed, NoMemory}
+use Rattle.jt_image.specs.declared.error.ImageError.TheVariants.{NoMemory}
 use Rattle.jt_image.specs.declared.instruction.Instruction.{Instruction}
 use Rattle.jt_image.specs.declared.version.Version.TheVariants as version
-use Rattle.jt_image.specs.Code.{Constant, undefined, nothing, truth_value, number, text, markup, Name, Section, Spot, Code}
+use Rattle.jt_image.specs.Code.{Constant, Name, Section, Spot, Code}
 use Rattle.jt_image.specs.Spelling.{magic, version_number, name_bytes, constant_bytes, header_bytes, wire_of, instruction_bytes, template_bytes, spot_bytes, place_bytes, spelling}
 use Rattle.jt_image.specs.IsCode.{IsName, IsTemplate, IsConstant, IsSection, total_len, HasEntry, IsCode, max_count, max_locals, max_instructions, max_bytes}
 use Rattle.jt_image.specs.Reading.{is_used, may_follow}

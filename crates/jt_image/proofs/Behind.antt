@@ -1,6 +1,6 @@
 -- What is read behind the instructions is spelled so, and what is spelled there is read.
-use Rattle.std.proofs.Common.{◌≡◌, ℕ, zero, suc, ◌<◌, ◌≤◌, ◌^◌, Bool, true, false, cond, eqb, List, [], ◌∷◌, ◌++◌, length, Ok, Err, refl, sym, ap, subst, ◌∙◌, arith, append_assoc, nat_cmp, if◌then◌else◌, rules}
-use Rattle.std.specs.Prelude.{◌==◌, ◌&&◌, nat_lt, nat_le, IsUtf8}
+use Rattle.std.proofs.Common.{◌≡◌, ℕ, zero, suc, ◌<◌, ◌≤◌, ◌^◌, Bool, true, false, eqb, List, [], ◌∷◌, ◌++◌, length, Ok, Err, refl, sym, ap, subst, ◌∙◌, arith, append_assoc, nat_cmp, if◌then◌else◌, rules}
+use Rattle.std.specs.Prelude.{◌==◌, ◌&&◌, nat_le, IsUtf8}
 use Rattle.std.specs.Int.{w16, w32, to_le_bytes}
 use Rattle.std.specs.List.{flat_map, AllByRecursion}
 use Rattle.std.specs.Ordering.{is_lt}
@@ -12,7 +12,7 @@ use Rattle.jt_image.specs.declared.version.Version.{Version}
 use Rattle.jt_image.specs.declared.version.Version.TheVariants as version
 use Rattle.jt_image.specs.Code.{Spot}
 use Rattle.jt_image.specs.Spelling.{version_number, template_bytes, spot_bytes, place_bytes}
-use Rattle.jt_image.specs.IsCode.{IsTemplate, AscendTexts, IsLine, IsSpot, IsPlaced, max_line}
+use Rattle.jt_image.specs.IsCode.{IsTemplate, AscendTexts, IsLine, IsSpot, IsPlaced}
 use Rattle.jt_image.specs.Reading.{◌>>=◌, check, number_at, text_at, version_at, may_follow_texts, template_at, templates_at, all_templates_at, template_number_at, is_line, line_at, spot_at, spots_at, Back, back_at}
 use Rattle.jt_image.proofs.Found.{AllOk, all_map, bind_from, check_all, cond_all, IsBytes, Takes, Takes-then, Takes-as, Found, IsText, text_found, wide16, wide32, number_found, AllGood, Many, many_found}
 use Rattle.jt_image.proofs.Whole.{above_some}

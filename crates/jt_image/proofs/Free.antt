@@ -1,5 +1,5 @@
 -- Runs without a budget: a budget changes nothing of a run that it does not cut off, and each run that ends has a budget.
-use Rattle.std.proofs.Common.{◌≡◌, ℕ, zero, suc, ◌+◌, ◌≤◌, Bool, true, false, cond, List, [], ◌∷◌, Option, Some, None, refl, sym, ap, subst, ◌∙◌, arith, if◌then◌else◌, rules}
+use Rattle.std.proofs.Common.{◌≡◌, ℕ, zero, suc, ◌+◌, ◌≤◌, Bool, true, false, List, [], ◌∷◌, Option, Some, None, refl, sym, ap, subst, ◌∙◌, arith, if◌then◌else◌, rules}
 use Rattle.std.specs.Prelude.{nat_lt}
 use Rattle.std.proofs.lemmas.Bool.Decides.{nat_tests}
 use Rattle.jt_value.specs.Tree as tree
@@ -12,7 +12,7 @@ use Rattle.jt_value.specs.Place.{Place}
 use Rattle.jt_image.specs.Places.{place_at}
 use Rattle.jt_image.specs.Config as config
 use Rattle.jt_image.specs.Config.{Budget, Outcome, Caller, Machine, Config}
-use Rattle.jt_image.specs.Step.{Demand, Action, goes_on, ends, faulty, wrong, action, in_tables, strict, cost, fetch}
+use Rattle.jt_image.specs.Step.{Demand, Action, goes_on, ends, faulty, wrong, action, strict, cost, fetch}
 use Rattle.jt_image.specs.Run.{Next, Goes, Ends, spared, unless, spends, placed, next_at, limit_of, first_of, limit_of_named, passed, start, then_goes, after, Ending, RunFrom, Run}
 use Rattle.jt_image.specs.Enough.{AtLeast, Enough}
 use Rattle.jt_image.specs.FreeRun.{Free, Finished, Failed, Stuck, Going, on_action, exec_at, exec, start_machine}

@@ -1,17 +1,17 @@
 -- The laws of codes and their runs.
-use Rattle.std.proofs.Common.{ℕ, ◌≤◌, List, [], ◌∷◌, sym, subst, ◌∙◌, arith, rules}
+use Rattle.std.proofs.Common.{ℕ, ◌≤◌, List, [], ◌∷◌, sym, ◌∙◌, arith, rules}
 use Rattle.std.specs.List.{AllByRecursion}
 use Rattle.std.proofs.lemmas.List.{length-map}
 use Rattle.jt_value.specs.Pairs.{Pairs}
 use Rattle.jt_image.specs.Code.{Code}
 use Rattle.jt_image.specs.IsCode.{IsCode}
 use Rattle.jt_image.specs.Typed.{IsTyped}
-use Rattle.jt_image.specs.Config.{Budget, Entry, value, frame, capture, kind_of, Config}
+use Rattle.jt_image.specs.Config.{Budget, Entry, value, frame, capture, Config}
 use Rattle.jt_image.specs.Run.{start, Run}
 use Rattle.jt_image.specs.Enough.{Enough}
 use Rattle.jt_image.specs.FreeRun.{Free, Finished, Failed, start_machine, ComesTo}
 use Rattle.jt_image.specs.Laws.{entry_size, IsSound, HasRuns, CodeLaws}
-use Rattle.jt_image.proofs.Safe.{kinds_of, AreSized, IsFit, IsGood, depth_of, IsFineStep, step_fine}
+use Rattle.jt_image.proofs.Safe.{kinds_of, AreSized, IsFit, IsGood, depth_of, step_fine}
 use Rattle.jt_image.proofs.Runs.{start_good, good_after, safe}
 use Rattle.jt_image.proofs.Free.{IsMeant, outcome_of, only_fuel, enough_run, run_erased, same_exec}
 use Rattle.jt_image.proofs.Assembled.{spelled_len}

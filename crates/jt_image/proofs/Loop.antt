@@ -2,7 +2,6 @@
 use Rattle.std.proofs.Common.{◌≡◌, ℕ, suc, ◌-◌, ◌+◌, ◌≤◌, ◌<◌, List, [], ◌∷◌, ◌++◌, length, get_or, drop, map, Result, Ok, Err, refl, sym, ap, ◌∙◌, arith, drop-cons, add-one, rules}
 use Rattle.std.proofs.lemmas.List.{drop_all}
 use Rattle.jt_image.specs.declared.error.ImageError.{ImageError}
-use Rattle.jt_image.specs.declared.error.ImageError.TheVariants.{BadMagic, BadVersion, Truncated, Trailing, BadText, BadOpcode, BadTable, LimitPassed, NoMemory}
 use Rattle.jt_image.specs.Reading.{Fails, many_at, each_at}
 
 -- a reader that stops at a fault of an earlier one

@@ -1,5 +1,5 @@
 -- Names, texts and headers in the reader, as the definitions see them.
-use Rattle.std.proofs.Common.{◌≡◌, ℕ, suc, ◌+◌, ◌-◌, ◌++◌, false, true, ◌<◌, ◌≤◌, Bool, take, drop, ltb, inl, inr, ◌⊎◌, ◌≢◌, Ok, Err, List, [], ◌∷◌, length, get_or, set, refl, map, sym, ap, ◌∙◌, arith, nat_cmp, rules}
+use Rattle.std.proofs.Common.{◌≡◌, ℕ, suc, ◌+◌, ◌-◌, ◌++◌, false, true, ◌<◌, ◌≤◌, Bool, take, drop, ltb, ◌≢◌, Ok, Err, List, [], ◌∷◌, length, get_or, set, refl, map, sym, ap, ◌∙◌, arith, nat_cmp, rules}
 use Rattle.std.specs.Prelude.{◌==◌, ◌||◌}
 use Rattle.std.specs.Str.{IsUtf8, is_utf8}
 use Rattle.std.proofs.lemmas.Str.{is_utf8-from_IsUtf8, IsUtf8-from_is_utf8}

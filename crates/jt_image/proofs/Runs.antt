@@ -1,6 +1,6 @@
 -- Whole runs of a typed code.
-use Rattle.std.proofs.Common.{◌≡◌, ◌≢◌, ◌↔◌, ℕ, zero, suc, ◌+◌, ◌<◌, ◌≤◌, Bool, true, false, cond, List, [], ◌∷◌, length, Option, Some, None, refl, ap, subst, ◌∙◌, arith, rules}
-use Rattle.std.specs.Prelude.{slice_get, slice_set, unwrap_or, replicate, nat_lt}
+use Rattle.std.proofs.Common.{◌≡◌, ◌≢◌, ◌↔◌, ℕ, zero, suc, ◌+◌, ◌<◌, ◌≤◌, List, [], ◌∷◌, length, Option, Some, None, refl, ap, subst, ◌∙◌, arith, rules}
+use Rattle.std.specs.Prelude.{slice_get, slice_set, unwrap_or, replicate}
 use Rattle.std.proofs.lemmas.Bool.{ltb-true, ltb-false}
 use Rattle.std.proofs.lemmas.List.{length-set}
 use Rattle.jt_value.specs.Tree as tree
@@ -14,8 +14,8 @@ use Rattle.jt_image.specs.Places.{place_at}
 use Rattle.jt_image.specs.Typed.{IsTyped}
 use Rattle.jt_image.specs.Config as config
 use Rattle.jt_image.specs.Config.{Budget, Outcome, Config}
-use Rattle.jt_image.specs.Step.{Action, goes_on, ends, faulty, wrong, locals_of, strict, cost, fetch}
-use Rattle.jt_image.specs.Run.{Next, Goes, Ends, Wrong, spared, unless, spends, placed, next_at, next, passed, filled, entry_locals, start, then_goes, after, RunFrom, cost_at, taken, then_costs, costs, IsSafe}
+use Rattle.jt_image.specs.Step.{Action, locals_of, strict, cost, fetch}
+use Rattle.jt_image.specs.Run.{Next, Goes, Ends, Wrong, spends, placed, next_at, next, passed, filled, entry_locals, start, then_goes, after, RunFrom, cost_at, taken, then_costs, costs, IsSafe}
 use Rattle.jt_image.proofs.Safe.{IsGood, depth_of, IsFineStep, length-locals_of, step_fine}
 
 -- an end within so many steps

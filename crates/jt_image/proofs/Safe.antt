@@ -1,6 +1,6 @@
 -- A machine of a typed code goes on or ends, and is never wrong.
 use Rattle.std.proofs.Common.{◌≡◌, ℕ, zero, suc, ◌+◌, ◌*◌, ◌<◌, ◌≤◌, Bool, true, false, cond, ltb, eqb, List, [], ◌∷◌, ◌++◌, length, map, Option, Some, None, Result, Ok, Err, refl, sym, ap, subst, ◌∙◌, arith, rules}
-use Rattle.std.specs.Prelude.{◌==◌, slice_get, slice_set, nat_lt}
+use Rattle.std.specs.Prelude.{◌==◌, slice_get, slice_set}
 use Rattle.std.specs.Option.{is_some}
 use Rattle.std.specs.List.{AllByRecursion}
 use Rattle.std.proofs.lemmas.Bool.{ltb-false, eqb-true}
@@ -22,12 +22,12 @@ use Rattle.jt_image.specs.Effect as effect
 use Rattle.jt_image.specs.Effect.{Shape, Leads, require, pops, pops_many, pops_frame, pops_capture, pushes, gives, calls, goes_on, jumps, branches, may_return, effect, effect_of}
 use Rattle.jt_image.specs.Typed.{Shapes, Equal, HasSame, IsTypedBy, IsTyped}
 use Rattle.jt_image.specs.Ids.{operator_of, operands_of, filter_of, test_of}
-use Rattle.jt_image.specs.Loops.{trees_of, loop_over, advanced, keeping, field_of}
+use Rattle.jt_image.specs.Loops.{trees_of, loop_over, keeping, field_of}
 use Rattle.jt_image.specs.Config as config
 use Rattle.jt_image.specs.Config.{Budget, Outcome, Frame, Entry, value, frame, capture, kind_of, State, Caller, Machine, Config}
 use Rattle.jt_image.specs.Step as step
 use Rattle.jt_image.specs.Step.{Demand, no_demand, pushing, pushing_all, greatest, emitting, calling, Plain, goes, faults_by, broken, with_entries, push, on_value, on_values, on_frame, on_capture, as_frame, push_given, makes, put, put_printed, shown, slot, constant_value, text_of, operated, filtered_by, tested_by, begins, told_by, piled, spreads, unpacks, closes, listed, mapped, plain, Action, ends, faulty, wrong, at_point, straight, jump_on, turns, locals_of, entered, calls_unit, Given, nothing, result, disorder, given_by, resumed, back_to, action, in_tables, strict, cost, fetch}
-use Rattle.jt_image.specs.Run.{Next, Goes, Ends, Wrong, spared, unless, spends, placed, next}
+use Rattle.jt_image.specs.Run.{Next, Goes, Ends, Wrong, unless, spends, placed, next}
 
 -- the kinds of the entries
 abbrev pub kinds_of : List Entry → Shape

@@ -55,14 +55,21 @@ instructions_in n bytes = read_or [] (instructions_at n bytes)
 
 -- a unit, whose instructions begin at its place
 abbrev pub section_in : List ℕ → UnitPlace → Section
-section_in bytes p = record { parameters = p.parameters; kind = p.kind; locals = p.locals; code = instructions_in p.len (drop p.start bytes) }
+section_in bytes p =
+    record {
+      parameters = p.parameters;
+      kind = p.kind;
+      locals = p.locals;
+      code = instructions_in p.len (drop p.start bytes);
+    }
 
 abbrev pub sections_in : List ℕ → List UnitPlace → List Section
 sections_in bytes ps = map (section_in bytes) ps
 
 -- its place is within the bytes, and as many instructions as the unit says begin there
 abbrev pub HasUnit : List ℕ → UnitPlace → Type 0
-HasUnit bytes p = (p.start ≤ length bytes) × (length (instructions_in p.len (drop p.start bytes)) ≡ p.len)
+HasUnit bytes p =
+    (p.start ≤ length bytes) × (length (instructions_in p.len (drop p.start bytes)) ≡ p.len)
 
 -- each unit says how many instructions stand before it
 abbrev pub AreCounted : ℕ → List UnitPlace → Type 0

@@ -25,17 +25,30 @@ each_of f (x ∷ xs) = in_front (f x) (each_of f xs)
 
 -- the unit, if each of its instructions is one
 abbrev pub section_of_unit : given.Unit → Option Section
-section_of_unit u = option_map (λ code. record { parameters = u.parameters; kind = u.kind; locals = u.locals; code = code }) (each_of instruction_of u.code.items)
+section_of_unit u =
+    option_map
+    (λ code. record { parameters = u.parameters; kind = u.kind; locals = u.locals; code = code })
+    (each_of instruction_of u.code.items)
 
 -- these tables, with these units
 abbrev pub code_with : Parts → List Section → Code
-code_with p us = record { version = p.version; globals = p.globals; names = names_view p.names.items; constants = constants_view p.constants.items; units = us; templates = texts_view p.templates.items; spots = spots_view p.spots.items }
+code_with p us =
+    record {
+      version = p.version;
+      globals = p.globals;
+      names = names_view p.names.items;
+      constants = constants_view p.constants.items;
+      units = us;
+      templates = texts_view p.templates.items;
+      spots = spots_view p.spots.items;
+    }
 
 -- the code that the parts are: none where an instruction is none
 abbrev pub code_of_parts : Parts → Option Code
 code_of_parts p = option_map (code_with p) (each_of section_of_unit p.units.items)
 
--- the names of globals: each slot is there, no name is empty, they strictly ascend, and no slot has two
+-- the names of globals: each slot is there, no name is empty, they strictly ascend, and no slot has
+-- two
 pub record AreInOrder (globals : ℕ) (ns : List Name) : Type 0 where
   pub slots : AllByRecursion (λ n. n.slot < globals) ns
   pub some : AllByRecursion (λ n. 0 < length n.text) ns
@@ -51,8 +64,8 @@ pub record AreTemplates (ts : List (List ℕ)) : Type 0 where
   pub some : AllByRecursion (λ t. 0 < length t) ts
   pub ascend : AscendTexts ts
 
--- The tables are in order, and there is a first unit that emits and has no parameters. Each instruction has its spot in version 2; in
--- version 1 there are no templates and spots.
+-- The tables are in order, and there is a first unit that emits and has no parameters. Each
+-- instruction has its spot in version 2; in version 1 there are no templates and spots.
 pub record HasTables (k : Code) : Type 0 where
   pub names : AreInOrder k.globals k.names
   pub units : AllByRecursion IsUnitInOrder k.units
@@ -61,7 +74,8 @@ pub record HasTables (k : Code) : Type 0 where
   pub spots : AllByRecursion (IsSpot (length k.templates)) k.spots
   pub placed : IsPlaced k.version (total_len k.units) k.templates k.spots
 
--- tables and names are not too long for their fields, and the limits are kept; so a constant's text fits its field too
+-- tables and names are not too long for their fields, and the limits are kept; so a constant's text
+-- fits its field too
 pub record KeepsLimits (k : Code) : Type 0 where
   pub names : length k.names ≤ max_count
   pub texts : AllByRecursion (λ n. length n.text ≤ max_count) k.names
@@ -136,7 +150,10 @@ HasPlaces instructions k = IsPlaced k.version instructions k.templates k.spots
 
 -- its templates and its spots are in order, and it has the places that its version may have
 abbrev pub HasBack : ℕ → Code → Type 0
-HasBack instructions k = AreTemplates k.templates × AllByRecursion (IsSpot (length k.templates)) k.spots × HasPlaces instructions k
+HasBack instructions k =
+    AreTemplates k.templates
+    × AllByRecursion (IsSpot (length k.templates)) k.spots
+    × HasPlaces instructions k
 
 -- no name, template and number of locals is too large for its field
 abbrev pub FitNames : List Name → Type 0

@@ -42,8 +42,7 @@ fn is_known(unit: &Unit) -> bool
 fn are_known(units: &[Unit]) -> bool
     ensures known { IsTrue result → AreKnown units.now }
     ensures fits { IsTrue result → AllByRecursion IsWritable (units_view units.now) }
-    ensures seen { IsTrue result
-        → each_of section_of_unit units.now ≡ Some (units_view units.now) }
+    ensures seen { IsTrue result → each_of section_of_unit units.now ≡ Some (units_view units.now) }
     ensures unknown { result ≡ false → each_of section_of_unit units.now ≡ None }
 {
     'units: for unit in units {
@@ -166,7 +165,8 @@ fn locals_fit(units: &[Unit]) -> bool
     true
 }
 
-// whether the image is small enough: the numbers of a unit take eight bytes, and so does an instruction
+// whether the image is small enough: the numbers of a unit take eight bytes, and so does an
+// instruction
 fn is_small(tables: usize, units: usize, instructions: u32) -> bool
     requires units { units ≤ max_count }
     requires instructions { instructions ≤ max_instructions }
@@ -291,7 +291,8 @@ fn may_follow(names: &[(u16, String)], text: &str) -> bool
     }
 }
 
-// whether a name may stand behind these: its slot is there and has no name yet, and its text is above the last
+// whether a name may stand behind these: its slot is there and has no name yet, and its text is
+// above the last
 fn is_next(globals: u16, used: &[bool], before: &[(u16, String)], name: &(u16, String)) -> bool
     requires { IsTable used.now globals (names_view before.now) }
     ensures { result
@@ -356,9 +357,9 @@ fn image_of(alloc: Global, parts: &Parts) -> Result<Image, ImageError>
     Ok(Image { bytes, places })
 }
 
-/// The image with these parts. Else they are handed back with what is wrong with them: an instruction
-/// that is none (`BadOpcode`), a table that is not in order (`BadTable`), a table, a text or an image that
-/// is too long (`LimitPassed`), or a growth that was refused (`NoMemory`).
+/// The image with these parts. Else they are handed back with what is wrong with them: an
+/// instruction that is none (`BadOpcode`), a table that is not in order (`BadTable`), a table, a
+/// text or an image that is too long (`LimitPassed`), or a growth that was refused (`NoMemory`).
 pub fn assemble(alloc: Global, parts: Parts) -> Result<Image, (Parts, ImageError)>
     // the image is the code that the parts are
     ensures ok { IfOk result (λ i. IsCode i × (code_of_parts parts ≡ Some i)) }

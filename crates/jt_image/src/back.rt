@@ -141,7 +141,8 @@ fn places_at<'a>(
         (back_at variant.Two count front.now) }
     ensures templates { IfOk result
         (λ x. AllByRecursion (HasTemplate bytes.now) x.0.templates.items) }
-    ensures spots { IfOk result (λ x. AreSpots variant.Two (length x.0.templates.items) count (drop x.0.spots bytes.now)) }
+    ensures spots { IfOk result (λ x.
+        AreSpots variant.Two (length x.0.templates.items) count (drop x.0.spots bytes.now)) }
 {
     let (templates, rest) = all_templates_at(alloc, bytes, front)?;
     let spots = (bytes.len() - rest.len()) as u32;

@@ -30,7 +30,8 @@ fn put_zeros(out: &mut Vec<u8>, count: usize) -> Result<(), NoMemory>
     Ok(())
 }
 
-// how many bytes the places take: a count of no templates, and a spot without a place for each instruction
+// how many bytes the places take: a count of no templates, and a spot without a place for each
+// instruction
 fn places_len(image: &Image) -> usize
     ensures len { result ≡ 2 + 6 * total_len image.now.units }
     ensures within { result ≤ 2 + 6 * max_instructions }
@@ -63,8 +64,9 @@ fn unplaced(alloc: Global, image: &Image) -> Result<Image, ImageError>
     Ok(Image { bytes, places })
 }
 
-/// The image in version 2: one of version 1 gets no places, and one of version 2 comes back as it is. Else it is handed back, since it
-/// would be too long (`LimitPassed`), or a growth was refused (`NoMemory`).
+/// The image in version 2: one of version 1 gets no places, and one of version 2 comes back as it
+/// is. Else it is handed back, since it would be too long (`LimitPassed`), or a growth was refused
+/// (`NoMemory`).
 pub fn upgrade(alloc: Global, image: Image) -> Result<Image, (Image, ImageError)>
     // the same code, without places
     ensures ok { IfOk result (λ i. i ≡ upgraded image) }

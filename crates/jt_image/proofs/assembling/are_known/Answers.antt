@@ -1,7 +1,6 @@
-use Rattle.std.proofs.Common.{List, subst, ◌≡◌, true, arith, rules}
+use Rattle.std.proofs.Common.{List, subst, arith, rules}
 use Rattle.std.proofs.lemmas.List.{take_all}
 use Rattle.jt_image.specs.declared.parts.Unit as given
-use Rattle.jt_image.specs.View.{IsKnownUnit}
 use Rattle.jt_image.specs.Parts.{AreKnown}
 use Rattle.jt_image.proofs.Written.{each_holds, known_units, unknown_units}
 use Rattle.jt_image.proofs.assembling.are_known.Goals as goal

@@ -1,6 +1,4 @@
-use Rattle.std.proofs.Common.{length, ap, arith, rules}
-use Rattle.jt_image.specs.View.{texts_view, spot_view, spots_view}
-use Rattle.jt_image.specs.Spelling.{place_bytes}
+use Rattle.std.proofs.Common.{arith, rules}
 use Rattle.jt_image.proofs.Passed.{length-seen}
 use Rattle.jt_image.proofs.Assembled.{places_len}
 use Rattle.jt_image.proofs.assembling.places_len.Goals as goal

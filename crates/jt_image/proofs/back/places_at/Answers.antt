@@ -1,7 +1,5 @@
-use Rattle.std.proofs.Common.{◌≡◌, ℕ, List, [], length, ap, ◌∙◌, arith, rules}
+use Rattle.std.proofs.Common.{◌≡◌, length, arith, rules}
 use Rattle.std.proofs.lemmas.Result.{err_from_is_err_and}
-use Rattle.jt_image.specs.InPlace.{read_or}
-use Rattle.jt_image.specs.Reading.{spots_at}
 use Rattle.jt_image.proofs.Placed.{spots_whole}
 use Rattle.jt_image.proofs.Standing.{back_gives, back_fails, templates_fail}
 use Rattle.jt_image.proofs.back.places_at.Goals as goal

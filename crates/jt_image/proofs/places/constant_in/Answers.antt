@@ -1,9 +1,5 @@
-use Rattle.std.proofs.Common.{◌∙◌, List, ℕ, get_or, sym, ap, drop, arith, rules}
+use Rattle.std.proofs.Common.{get_or, drop, arith, rules}
 use Rattle.std.proofs.lemmas.List.{length-drop}
-use Rattle.jt_image.specs.Code.{Constant, undefined}
-use Rattle.jt_image.specs.Reading.{constant_of}
-use Rattle.jt_image.specs.InPlace.{read_or}
-use Rattle.jt_image.proofs.Found.{Read}
 use Rattle.jt_image.proofs.Standing.{constant_read}
 use Rattle.jt_image.proofs.places.constant_in.Goals as goal
 

@@ -1,4 +1,4 @@
-use Rattle.std.proofs.Common.{◌≡◌, ◌-◌, []}
+use Rattle.std.proofs.Common.{◌≡◌, ◌-◌}
 use Rattle.std.specs.List.{AllByRecursion}
 use Rattle.jt_image.specs.InPlace.{constants_in, HasConstant, AreLast}
 use Rattle.jt_image.specs.Reading.{many_at, all_constants_at, constant_at}

@@ -1,7 +1,7 @@
-use Rattle.std.proofs.Common.{◌≡◌, ◌+◌, ◌++◌, ◌∷◌, [], ap, arith, refl, ℕ, rules}
+use Rattle.std.proofs.Common.{[], arith, rules}
 use Rattle.std.proofs.lemmas.Result.{err_from_is_err_and}
 use Rattle.std.proofs.lemmas.List.{map_push}
-use Rattle.jt_image.specs.HeaderView.{header_view, headers_view}
+use Rattle.jt_image.specs.HeaderView.{headers_view}
 use Rattle.jt_image.specs.Reading.{many_at, header_at}
 use Rattle.jt_image.proofs.Loop.{goes_on, ends, is_done}
 use Rattle.jt_image.proofs.ReaderParts.{header_total-push, is_first-push}

@@ -1,8 +1,5 @@
-use Rattle.std.proofs.Common.{ℕ, get_or, ◌≡◌, ◌++◌, ◌∙◌, length, Some, sym, ap, arith, rules}
-use Rattle.std.specs.Int.{w32, from_le_bytes}
+use Rattle.std.proofs.Common.{get_or, arith, rules}
 use Rattle.std.proofs.lemmas.List.{take-append-drop, length-take}
-use Rattle.jt_image.specs.Reading.{instruction_of, instruction_at}
-use Rattle.jt_image.proofs.Found.{IsBytes, IsBytes-take}
 use Rattle.jt_image.proofs.Fast.{c_of, eight_of, read_at_once}
 use Rattle.jt_image.proofs.Sound.{wire_at}
 use Rattle.jt_image.proofs.units.instruction_at.Goals as goal

@@ -1,9 +1,6 @@
-use Rattle.std.proofs.Common.{◌≡◌, ◌+◌, ◌*◌, ◌++◌, ◌∙◌, List, ℕ, drop, replicate, ap, rules, arith}
-use Rattle.std.specs.Int.{w16, to_le_bytes}
+use Rattle.std.proofs.Common.{rules, arith}
 use Rattle.std.proofs.lemmas.Grind.{common_steps}
 use Rattle.std.proofs.lemmas.List.{take_rest}
-use Rattle.jt_image.specs.Spelling.{magic, spelling}
-use Rattle.jt_image.specs.IsCode.{total_len}
 use Rattle.jt_image.proofs.Upgraded.{unplaced_spelled, put_together}
 use Rattle.jt_image.proofs.upgrading.put_unplaced.Goals as goal
 

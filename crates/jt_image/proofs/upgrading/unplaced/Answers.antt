@@ -1,11 +1,5 @@
-use Rattle.std.proofs.Common.{◌≡◌, ◌<◌, ◌∙◌, List, ℕ, length, ap, sym, subst, arith, rules}
+use Rattle.std.proofs.Common.{arith, rules}
 use Rattle.std.proofs.lemmas.Result.{err_from_is_err_and}
-use Rattle.jt_image.specs.declared.error.ImageError.{ImageError}
-use Rattle.jt_image.specs.Code.{Code}
-use Rattle.jt_image.specs.Spelling.{spelling}
-use Rattle.jt_image.specs.IsCode.{IsCode, max_bytes}
-use Rattle.jt_image.specs.InPlace.{code_in}
-use Rattle.jt_image.specs.Upgrading.{unplaced, upgraded, upgraded_from, IsNotUpgraded}
 use Rattle.jt_image.proofs.Upgraded.{unplaced_len, is_unplaced}
 use Rattle.jt_image.proofs.upgrading.unplaced.Goals as goal
 
