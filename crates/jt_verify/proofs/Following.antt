@@ -40,13 +40,7 @@ module _ (k : Code) (u : Section) (t : Table) (w : List Path) (x : Path) (l : Le
 
   due_set : (s : Shape) (q : ℕ) → IsDue t (w ++ x ∷ []) s q → IsDue after_set (w ++ sent l r) s q
   due_set s q (inl e) = inl (set_keeps t x.point x.shape none q s e)
-  due_set s q (inr h) = elim (waits_either w (x ∷ []) s q h) [
-    | inl a ↦ inr (waits_left w (sent l r) s q a)
-    | inr b ↦ elim b [
-      | inl e ↦ inl (subst (λ (n : ℕ). shape_at after_set n ≡ Some s) e.0 (subst (λ (y : Shape). shape_at after_set x.point ≡ Some y) e.1 (set_here t x.point x.shape lt)))
-      | inr c ↦ absurd c
-    ]
-  ]
+  due_set s q (inr h) = search (arith, rules, waits_either, waits_left, set_here)
 
   due_next : (q : ℕ) → Among q (points_of l) → IsDue after_set (w ++ sent l r) r q
   due_next q a = inr (waits_right w (sent l r) r q (waits_sent r (as_list l.target ++ as_list l.next) q (among_swapped q (as_list l.next) (as_list l.target) a)))
@@ -115,8 +109,7 @@ starts k u n is some = record {
 
 -- nothing waits
 known_if_due : (t : Table) (s : Shape) (q : ℕ) → IsDue t [] s q → shape_at t q ≡ Some s
-known_if_due t s q (inl e) = e
-known_if_due t s q (inr h) = absurd h
+known_if_due t s q a3 = search (arith, rules)
 
 -- where no path waits, the unit is typed
 pub is_typed : (k : Code) (u : Section) (t : Table) → IsWorking k u t [] → IsTypedUnit Equal k u

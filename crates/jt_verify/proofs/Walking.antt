@@ -50,9 +50,8 @@ module _ (t r : Lists) (k : IsKept t r) where
 -- ---- tables and paths by handles
 
 all_set : (t : Lists) (hs : List (Option Handle)) (p : ℕ) (h : Handle) → AllByRecursion (IsInIf t) hs → IsIn t h → AllByRecursion (IsInIf t) (slice_set hs p (Some h))
-all_set t [] p h a l = tt
-all_set t (x ∷ hs) zero h a l = (l, a.1)
 all_set t (x ∷ hs) (suc p) h a l = (a.0, all_set t hs p h a.1 l)
+all_set t a1 a2 h a l = search (arith, rules)
 
 abbrev to_each : Handle → List ℕ → List Waiting
 to_each h ps = map (λ p. record { point = p; shape = h }) ps
