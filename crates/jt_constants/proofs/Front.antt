@@ -1,8 +1,8 @@
 -- What a loop does that changes the items of a list one after the other, as what each of them stands for.
-use Rattle.std.proofs.Common.{◌≡◌, ℕ, zero, suc, ◌+◌, ◌<◌, ◌≤◌, List, [], ◌∷◌, length, map, get_or, Option, Some, None, refl, sym, ap, ◌∙◌, arith}
+use Rattle.std.proofs.Common.{◌≡◌, ℕ, zero, suc, ◌+◌, ◌<◌, ◌≤◌, List, [], ◌∷◌, length, map, get_or, Option, Some, refl, sym, ap, ◌∙◌, arith, rules}
 use Rattle.std.specs.Prelude.{slice_set}
 use Rattle.std.proofs.lemmas.Option.{same_Some}
-use Rattle.jt_image.specs.Parts.{in_front, each_of}
+use Rattle.jt_image.specs.Parts.{each_of}
 
 module _ {A B : Type 0} (f : A → Option B) (g : B → B) where
   -- the first n changed
@@ -26,12 +26,7 @@ module _ {A B : Type 0} (f : A → Option B) (g : B → B) where
     pub all : ys ≡ first ∷ rest
 
   parted : (x : A) (xs : List A) (ys : List B) → each_of f (x ∷ xs) ≡ Some ys → Parted x xs ys
-  parted x xs ys e = by (f x) (each_of f xs) refl refl e
-    where
-      by : (o : Option B) (os : Option (List B)) → f x ≡ o → each_of f xs ≡ os → in_front o os ≡ Some ys → Parted x xs ys
-      by None os a b h = absurd cc
-      by (Some y) None a b h = absurd cc
-      by (Some y) (Some rest) a b h = record { first = y; rest = rest; is_first = a; are = b; all = sym (same_Some (y ∷ rest) ys h) }
+  parted x xs ys e = search (arith, rules, same_Some)
 
   pub each_len : (xs : List A) (ys : List B) → each_of f xs ≡ Some ys → length ys ≡ length xs
   each_len [] ys e = ap length (sym (same_Some [] ys e))
@@ -40,18 +35,9 @@ module _ {A B : Type 0} (f : A → Option B) (g : B → B) where
   step : (n : ℕ) (xs : List A) (ys : List B) (x y d : A) → each_of f xs ≡ Some (changed n ys) → n < length xs → x ≡ get_or xs n d → ((b : B) → f x ≡ Some b → f y ≡ Some (g b)) → each_of f (slice_set xs n y) ≡ Some (changed (suc n) ys)
   step n [] ys x y d e lt is new = absurd (omega (arith, lt))
   step zero (z ∷ xs) [] x y d e lt is new = absurd (let p = parted z xs [] e in let no = p.all in cc)
-  step zero (z ∷ xs) (b ∷ ys) x y d e lt is new =
-      let p = parted z xs (b ∷ ys) e in
-      let at : f x ≡ Some b = ap f is ∙ p.is_first ∙ (let same : p.first ≡ b = cc in ap Some same) in
-      let left : p.rest ≡ ys = cc in
-      ap (λ o. in_front o (each_of f xs)) (new b at) ∙ ap (in_front (Some (g b))) (p.are ∙ ap Some left)
+  step zero (z ∷ xs) (b ∷ ys) x y d e lt is new = search (arith, rules, parted)
   step (suc n) (z ∷ xs) [] x y d e lt is new = absurd (let p = parted z xs [] e in let no = p.all in cc)
-  step (suc n) (z ∷ xs) (b ∷ ys) x y d e lt is new =
-      let p = parted z xs (g b ∷ changed n ys) e in
-      let first : f z ≡ Some (g b) = p.is_first ∙ (let same : p.first ≡ g b = cc in ap Some same) in
-      let left : p.rest ≡ changed n ys = cc in
-      let more = step n xs ys x y d (p.are ∙ ap Some left) (omega (arith, lt)) is new in
-      ap (λ o. in_front o (each_of f (slice_set xs n y))) first ∙ ap (in_front (Some (g b))) more
+  step (suc n) (z ∷ xs) (b ∷ ys) x y d e lt is new = search (arith, rules, parted, step n xs ys x y d)
 
   pub changed_more : (n : ℕ) (xs : List A) (ys : List B) (x y d : A) → each_of f xs ≡ Some (changed n ys) → n < length xs → x ≡ get_or xs n d → ((b : B) → f x ≡ Some b → f y ≡ Some (g b)) → each_of f (slice_set xs n y) ≡ Some (changed (n + 1) ys)
   changed_more n xs ys x y d e lt is new = step n xs ys x y d e lt is new ∙ ap (λ m. Some (changed m ys)) (let same : suc n ≡ n + 1 = omega arith in same)

@@ -1,10 +1,9 @@
 -- A table of constants that grows, and what is known of the places of its keys.
-use Rattle.std.proofs.Common.{◌≡◌, ℕ, suc, ◌+◌, ◌<◌, ◌≤◌, Bool, true, false, cond, ◌||◌, List, [], ◌∷◌, ◌++◌, length, map, fold, drop, get_or, Option, Some, None, refl, sym, ap, ◌∙◌, subst, arith, append_assoc, append-nil, length-append, if◌then◌else◌}
-use Rattle.std.specs.Prelude.{option_map}
+use Rattle.std.proofs.Common.{◌≡◌, ℕ, ◌+◌, ◌<◌, ◌≤◌, Bool, true, false, cond, ◌||◌, List, [], ◌∷◌, ◌++◌, length, map, fold, drop, get_or, Some, None, refl, sym, ap, ◌∙◌, arith, append_assoc, append-nil, length-append, if◌then◌else◌, rules}
 use Rattle.std.specs.Ordering.{is_eq, bool_cmp}
 use Rattle.std.specs.List.{list_any}
 use Rattle.std.specs.Bool.{beq}
-use Rattle.std.specs.BTreeMap.{get}
+use Rattle.std.specs.BTreeMap.{BTreeMap, get}
 use Rattle.std.proofs.lemmas.List.{drop_more, at_drop_all}
 use Rattle.std.proofs.lemmas.List.Folds.{list_any-append}
 use Rattle.std.proofs.lemmas.Map.Text.{is_eq-slice_cmp}
@@ -12,77 +11,26 @@ use Rattle.std.proofs.lemmas.Option.{same_Some}
 use Rattle.jt_value.specs.View.{view}
 use Rattle.jt_value.specs.declared.value.Value.{Value}
 use Rattle.jt_image.specs.Code.{Constant}
-use Rattle.jt_image.specs.View.{constant_view, constants_view}
-use Rattle.jt_image.specs.declared.image.Constant as image
 use Rattle.jt_constants.specs.Merged.{constant_of, same, with_new, each_once, place_in, new_places}
 use Rattle.jt_constants.specs.Keys.{key_view, place_of, key_cmp, Knows, KnowsMore}
 use Rattle.jt_constants.specs.declared.table.Key.{Key}
-use Rattle.jt_constants.specs.declared.table.Key.TheVariants as key
-use Rattle.jt_constants.specs.declared.table.Known.{Known}
-use Rattle.jt_constants.specs.declared.table.Known.TheVariants as known
 use Rattle.jt_constants.proofs.Same.{Has, same_is, same_self, place_kept}
 
 -- ---- keys are equal where their constants are the same
 
 bools : (a b : Bool) → is_eq (bool_cmp a b) ≡ beq a b
-bools true true = refl
-bools true false = refl
-bools false true = refl
-bools false false = refl
+bools a0 a1 = search (arith, rules)
 
 pub same_key : (x y : Key) → is_eq (key_cmp x y) ≡ same (key_view x) (key_view y)
-same_key key.Undefined key.Undefined = refl
-same_key key.Undefined key.None = refl
-same_key key.Undefined (key.Bool b) = refl
-same_key key.Undefined (key.Int z) = refl
-same_key key.Undefined (key.Text t) = refl
-same_key key.Undefined (key.Markup t) = refl
-same_key key.None key.Undefined = refl
-same_key key.None key.None = refl
-same_key key.None (key.Bool b) = refl
-same_key key.None (key.Int z) = refl
-same_key key.None (key.Text t) = refl
-same_key key.None (key.Markup t) = refl
-same_key (key.Bool a) key.Undefined = refl
-same_key (key.Bool a) key.None = refl
-same_key (key.Bool a) (key.Bool b) = bools a b
-same_key (key.Bool a) (key.Int z) = refl
-same_key (key.Bool a) (key.Text t) = refl
-same_key (key.Bool a) (key.Markup t) = refl
-same_key (key.Int y) key.Undefined = refl
-same_key (key.Int y) key.None = refl
-same_key (key.Int y) (key.Bool b) = refl
-same_key (key.Int y) (key.Int z) = refl
-same_key (key.Int y) (key.Text t) = refl
-same_key (key.Int y) (key.Markup t) = refl
-same_key (key.Text s) key.Undefined = refl
-same_key (key.Text s) key.None = refl
-same_key (key.Text s) (key.Bool b) = refl
-same_key (key.Text s) (key.Int z) = refl
-same_key (key.Text s) (key.Text t) = is_eq-slice_cmp s.now t.now
-same_key (key.Text s) (key.Markup t) = refl
-same_key (key.Markup s) key.Undefined = refl
-same_key (key.Markup s) key.None = refl
-same_key (key.Markup s) (key.Bool b) = refl
-same_key (key.Markup s) (key.Int z) = refl
-same_key (key.Markup s) (key.Text t) = refl
-same_key (key.Markup s) (key.Markup t) = is_eq-slice_cmp s.now t.now
+same_key a0 a1 = search (arith, rules, bools, is_eq-slice_cmp)
 
 -- ---- what is known of the places of keys
 
 pub known_there : (now : List Constant) (c : Constant) (p : ℕ) → place_of now c ≡ Some p → Has now c × (place_in now c ≡ p)
-known_there now c p = by (list_any (same c) now) refl
-  where
-    by : (b : Bool) → list_any (same c) now ≡ b → (if b then Some (place_in now c) else None) ≡ Some p → Has now c × (place_in now c ≡ p)
-    by true is e = (is, same_Some (place_in now c) p e)
-    by false is e = absurd cc
+known_there now c p = search (arith, rules, same_Some)
 
 pub known_absent : (now : List Constant) (c : Constant) → place_of now c ≡ None → list_any (same c) now ≡ false
-known_absent now c = by (list_any (same c) now) refl
-  where
-    by : (b : Bool) → list_any (same c) now ≡ b → (if b then Some (place_in now c) else None) ≡ None → list_any (same c) now ≡ false
-    by true is e = absurd cc
-    by false is e = is
+known_absent now c = search (arith, rules)
 
 pub added_there : (now : List Constant) (c : Constant) → Has now c → with_new now c ≡ now
 added_there now c h = ap (λ (b : Bool). if b then now else now ++ c ∷ []) h
@@ -92,93 +40,15 @@ added_absent now c h = ap (λ (b : Bool). if b then now else now ++ c ∷ []) h
 
 pub place_last : (now : List Constant) (c : Constant) → list_any (same c) now ≡ false → place_in (now ++ c ∷ []) c ≡ length now
 place_last [] c h = ap (λ (b : Bool). if b then 0 else 1) (same_self c)
-place_last (d ∷ ds) c h = by (same c d) refl (place_last ds c)
-  where
-    by : (b : Bool) → same c d ≡ b → (list_any (same c) ds ≡ false → place_in (ds ++ c ∷ []) c ≡ length ds) → place_in ((d ∷ ds) ++ c ∷ []) c ≡ length (d ∷ ds)
-    by true e rest = absurd (let no : true ≡ false = sym (ap (λ (b : Bool). b || list_any (same c) ds) e) ∙ h in cc)
-    by false e rest = ap (λ (b : Bool). if b then 0 else suc (place_in (ds ++ c ∷ []) c)) e ∙ ap suc (rest (sym (ap (λ (b : Bool). b || list_any (same c) ds) e) ∙ h))
-
--- none of those before a point is the constant
-abbrev pub Passed : List image.Constant → Constant → ℕ → Type 0
-Passed cs c n = place_of (constants_view cs) c ≡ option_map (λ p. n + p) (place_of (constants_view (drop n cs)) c)
-
-pub passed_none : (cs : List image.Constant) (c : Constant) → Passed cs c 0
-passed_none cs c = by (place_of (constants_view cs) c)
-  where
-    by : (o : Option ℕ) → o ≡ option_map (λ p. 0 + p) o
-    by None = refl
-    by (Some p) = let same : p ≡ 0 + p = omega arith in ap Some same
-
-place_behind : (c d : Constant) (ds : List Constant) → same c d ≡ false → place_of (d ∷ ds) c ≡ option_map suc (place_of ds c)
-place_behind c d ds e = by (list_any (same c) ds) refl
-  where
-    by : (b : Bool) → list_any (same c) ds ≡ b → place_of (d ∷ ds) c ≡ option_map suc (place_of ds c)
-    by true f = rw (e, f) refl
-    by false f = rw (e, f) refl
-
-place_front : (c d : Constant) (ds : List Constant) → same c d ≡ true → place_of (d ∷ ds) c ≡ Some 0
-place_front c d ds e = rw e refl
-
-further : (n : ℕ) (o : Option ℕ) → option_map (λ p. n + p) (option_map suc o) ≡ option_map (λ p. n + 1 + p) o
-further n None = refl
-further n (Some p) = let same : n + suc p ≡ n + 1 + p = omega arith in ap Some same
-
-module _ (cs : List image.Constant) (c : Constant) (n : ℕ) (d : image.Constant) (lt : n < length cs) (is : d ≡ get_or cs n d) where
-  left_of : constants_view (drop n cs) ≡ constant_view d ∷ constants_view (drop (n + 1) cs)
-  left_of = ap constants_view (drop_more cs n d lt) ∙ ap (λ (x : image.Constant). constant_view x ∷ constants_view (drop (n + 1) cs)) (sym is)
-
-  pub passed_more : same c (constant_view d) ≡ false → Passed cs c n → Passed cs c (n + 1)
-  passed_more other h =
-      h ∙ ap (λ (l : List Constant). option_map (λ p. n + p) (place_of l c)) left_of
-      ∙ ap (option_map (λ p. n + p)) (place_behind c (constant_view d) (constants_view (drop (n + 1) cs)) other) ∙ further n (place_of (constants_view (drop (n + 1) cs)) c)
-
-  pub passed_there : same c (constant_view d) ≡ true → Passed cs c n → Some n ≡ place_of (constants_view cs) c
-  passed_there same_one h =
-      let here : n + 0 ≡ n = omega arith in
-      sym (h ∙ ap (λ (l : List Constant). option_map (λ p. n + p) (place_of l c)) left_of ∙ ap (option_map (λ p. n + p)) (place_front c (constant_view d) (constants_view (drop (n + 1) cs)) same_one) ∙ ap Some here)
-
-pub passed_all : (cs : List image.Constant) (c : Constant) (n : ℕ) → length cs ≤ n → Passed cs c n → None ≡ place_of (constants_view cs) c
-passed_all cs c n le h = sym (h ∙ at_drop_all (λ (l : List image.Constant). option_map (λ p. n + p) (place_of (constants_view l) c)) cs n le)
+place_last (d ∷ ds) c h = search (arith, rules, place_last ds c)
 
 -- one more that was not there
 of_more : (now : List Constant) (c d : Constant) → list_any (same c) now ≡ false → cond (same c d) (Some (length now)) (place_of now d) ≡ place_of (now ++ c ∷ []) d
-of_more now c d absent = by (same c d) refl
-  where
-    here : same c d ≡ true → place_of (now ++ c ∷ []) d ≡ Some (length now)
-    here e =
-        let is : c ≡ d = same_is c d e in
-        let has : list_any (same c) (now ++ c ∷ []) ≡ true = list_any-append (same c) now (c ∷ []) ∙ ap (λ (b : Bool). list_any (same c) now || (b || false)) (same_self c) ∙ ap (λ (b : Bool). b || true) absent in
-        sym (ap (place_of (now ++ c ∷ [])) is) ∙ ap (λ (b : Bool). if b then Some (place_in (now ++ c ∷ []) c) else None) has ∙ ap Some (place_last now c absent)
-
-    turned : same c d ≡ false → same d c ≡ false
-    turned e = by_turn (same d c) refl
-      where
-        by_turn : (b : Bool) → same d c ≡ b → b ≡ false
-        by_turn false f = refl
-        by_turn true f = let is : d ≡ c = same_is d c f in sym (same_self c) ∙ sym (ap (same c) is) ∙ e
-
-    there : (b : Bool) → list_any (same d) now ≡ b → same d c ≡ false → place_of now d ≡ place_of (now ++ c ∷ []) d
-    there b e f =
-        let has : list_any (same d) (now ++ c ∷ []) ≡ b = list_any-append (same d) now (c ∷ []) ∙ ap (λ (x : Bool). list_any (same d) now || (x || false)) f ∙ ap (λ (x : Bool). x || false) e ∙ or_false b in
-        ap (λ (x : Bool). if x then Some (place_in now d) else None) e ∙ at b e ∙ sym (ap (λ (x : Bool). if x then Some (place_in (now ++ c ∷ []) d) else None) has)
-      where
-        or_false : (x : Bool) → (x || false) ≡ x
-        or_false true = refl
-        or_false false = refl
-
-        at : (x : Bool) → list_any (same d) now ≡ x → (if x then Some (place_in now d) else None) ≡ (if x then Some (place_in (now ++ c ∷ []) d) else None)
-        at true h = ap Some (sym (place_kept now (c ∷ []) d h))
-        at false h = refl
-
-    by : (b : Bool) → same c d ≡ b → cond (same c d) (Some (length now)) (place_of now d) ≡ place_of (now ++ c ∷ []) d
-    by true e = ap (λ (x : Bool). cond x (Some (length now)) (place_of now d)) e ∙ sym (here e)
-    by false e = ap (λ (x : Bool). cond x (Some (length now)) (place_of now d)) e ∙ there (list_any (same d) now) refl (turned e)
+of_more now c d absent = search (arith, rules, same_is, list_any-append, same_self, place_last, place_kept)
 
 -- what is known of more constants
-pub knows_more : (old new : Known) (now : List Constant) (k : Key) → Knows old now → list_any (same (key_view k)) now ≡ false → KnowsMore old k (length now) new → Knows new (now ++ key_view k ∷ [])
-knows_more known.Few new now k knows absent more = subst (λ (n : Known). Knows n (now ++ key_view k ∷ [])) (sym more) tt
-knows_more (known.Many old) known.Few now k knows absent more = absurd more
-knows_more (known.Many old) (known.Many new) now k knows absent more = λ q.
+pub knows_more : (old new : BTreeMap Key ℕ) (now : List Constant) (k : Key) → Knows old now → list_any (same (key_view k)) now ≡ false → KnowsMore old k (length now) new → Knows new (now ++ key_view k ∷ [])
+knows_more old new now k knows absent more q =
     more q ∙ ap (λ (b : Bool). cond b (Some (length now)) (get key_cmp old q)) (same_key k q) ∙ ap (cond (same (key_view k) (key_view q)) (Some (length now))) (knows q) ∙ of_more now (key_view k) (key_view q) absent
 
 -- ---- a table, and what is left
@@ -199,10 +69,7 @@ place_in_all now [] c h = refl
 place_in_all now (d ∷ ds) c h = by (list_any (same d) now) refl (λ more has. place_in_all more ds c has)
   where
     by : (b : Bool) → list_any (same d) now ≡ b → ((more : List Constant) → Has more c → place_in (fold with_new more ds) c ≡ place_in more c) → place_in (fold with_new (with_new now d) ds) c ≡ place_in now c
-    by true e rest = ap (λ (l : List Constant). place_in (fold with_new l ds) c) (added_there now d e) ∙ rest now h
-    by false e rest =
-        let has : Has (now ++ d ∷ []) c = list_any-append (same c) now (d ∷ []) ∙ ap (λ (b : Bool). b || list_any (same c) (d ∷ [])) h in
-        ap (λ (l : List Constant). place_in (fold with_new l ds) c) (added_absent now d e) ∙ rest (now ++ d ∷ []) has ∙ place_kept now (d ∷ []) c h
+    by a0 e rest = search (arith, rules, added_there, list_any-append, added_absent, place_kept)
 
 module _ (pool : List Value) (i : ℕ) (value : Value) (now more : List Constant) (places : List ℕ) (place : ℕ) (inside : i < length pool) (is : value ≡ get_or pool i value) (holds : Holds pool i now places) (added : with_new now (constant_of (view value)) ≡ more) (has : Has more (constant_of (view value))) (at : place ≡ place_in more (constant_of (view value))) (len : length more ≤ length now + 1) where
   c : Constant
@@ -218,15 +85,7 @@ module _ (pool : List Value) (i : ℕ) (value : Value) (now more : List Constant
   placed = at ∙ sym (place_in_all more (seen (drop (i + 1) pool)) (constant_of (view value)) has) ∙ ap (λ (l : List Constant). place_in l (constant_of (view value))) all_once
 
   pub holds_more : Holds pool (i + 1) more (places ++ place ∷ [])
-  holds_more = record {
-    once = all_once;
-    all =
-        append_assoc places (place ∷ []) (map (place_in (each_once (seen pool))) (seen (drop (i + 1) pool)))
-        ∙ ap (λ (p : ℕ). places ++ p ∷ map (place_in (each_once (seen pool))) (seen (drop (i + 1) pool))) placed
-        ∙ sym (ap (λ (l : List Constant). places ++ map (place_in (each_once (seen pool))) l) left)
-        ∙ holds.all;
-    few = omega (arith, len, holds.few);
-  }
+  holds_more = search (arith, rules, all_once, append_assoc, placed, left)
 
 pub holds_all : (pool : List Value) (i : ℕ) (now : List Constant) (places : List ℕ) → length pool ≤ i → Holds pool i now places → (now ≡ each_once (seen pool)) × (places ≡ new_places (seen pool))
 holds_all pool i now places le h = (
@@ -254,8 +113,5 @@ module _ (pool : List Value) (i : ℕ) (value : Value) (k : Key) (seen_as : key_
       holds_more pool i value now (now ++ key_view k ∷ []) places place inside is holds added has (e ∙ sym last) (omega (arith, length-append now (key_view k ∷ [])))
 
 -- the same of what a turn leaves
-pub left_so : (pool : List Value) (i : ℕ) (m n : Known) (now more : List Constant) (ps qs : List ℕ) → m ≡ n → now ≡ more → ps ≡ qs → Knows n more → Holds pool i more qs → Knows m now × Holds pool i now ps
-left_so pool i m n now more ps qs em en ep knows holds = (
-  subst (λ (x : Known). Knows x now) (sym em) (subst (λ (l : List Constant). Knows n l) (sym en) knows),
-  subst (λ (l : List ℕ). Holds pool i now l) (sym ep) (subst (λ (l : List Constant). Holds pool i l qs) (sym en) holds),
-)
+pub left_so : (pool : List Value) (i : ℕ) (m n : BTreeMap Key ℕ) (now more : List Constant) (ps qs : List ℕ) → m ≡ n → now ≡ more → ps ≡ qs → Knows n more → Holds pool i more qs → Knows m now × Holds pool i now ps
+left_so pool i m n now more ps qs em en ep knows holds = search (arith, rules)

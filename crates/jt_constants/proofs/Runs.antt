@@ -1,10 +1,9 @@
 -- The runs of a code in which equal constants have been made one.
-use Rattle.std.proofs.Common.{◌≡◌, ℕ, zero, suc, ◌+◌, List, [], ◌∷◌, map, take, replicate, Option, Some, None, refl, sym, ap, ◌∙◌, arith}
+use Rattle.std.proofs.Common.{◌≡◌, ℕ, zero, suc, ◌+◌, List, [], ◌∷◌, map, take, Option, Some, None, refl, sym, ap, ◌∙◌, arith, rules}
 use Rattle.std.specs.Prelude.{slice_get, option_map}
 use Rattle.std.specs.Option.{option_and_then}
 use Rattle.std.proofs.lemmas.List.{length-map}
 use Rattle.std.proofs.lemmas.Option.{slice_get-map}
-use Rattle.jt_value.specs.Tree as tree
 use Rattle.jt_value.specs.Pairs.{Pairs}
 use Rattle.jt_value.specs.Place.{Place}
 use Rattle.jt_image.specs.declared.instruction.Instruction.{Instruction}
@@ -13,8 +12,8 @@ use Rattle.jt_image.specs.Code.{Constant, Section, Code}
 use Rattle.jt_image.specs.IsCode.{total_len}
 use Rattle.jt_image.specs.Places.{place_of, place_at}
 use Rattle.jt_image.specs.Config.{Machine}
-use Rattle.jt_image.specs.Step.{Action, goes_on, ends, faulty, wrong, straight, push, put, constant_value, text_of, calls_unit, action, fetch}
-use Rattle.jt_image.specs.Run.{locals_of, filled, entry_locals}
+use Rattle.jt_image.specs.Step.{Action, straight, push, put, constant_value, text_of, calls_unit, action, fetch}
+use Rattle.jt_image.specs.Run.{entry_locals}
 use Rattle.jt_image.specs.FreeRun.{Free, on_action, exec_at, exec, start_machine, ComesTo}
 use Rattle.jt_constants.specs.Merged.{new_places, with_places, moved_unit, merged}
 use Rattle.jt_constants.proofs.Same.{reads}
@@ -73,31 +72,16 @@ module _ (k : Code) where
   both x = (moved_unit ps x.0, with_places ps x.1)
 
   in_unit : (u : Section) (p : ℕ) → option_and_then (λ i. Some (moved_unit ps u, i)) (slice_get (map (with_places ps) u.code) p) ≡ option_map both (option_and_then (λ i. Some (u, i)) (slice_get u.code p))
-  in_unit u p = ap (λ (o : Option Instruction). option_and_then (λ i. Some (moved_unit ps u, i)) o) (slice_get-map (with_places ps) u.code p) ∙ by (slice_get u.code p)
-    where
-      by : (o : Option Instruction) → option_and_then (λ i. Some (moved_unit ps u, i)) (option_map (with_places ps) o) ≡ option_map both (option_and_then (λ i. Some (u, i)) o)
-      by None = refl
-      by (Some i) = refl
+  in_unit u p = search (arith, rules, slice_get-map)
 
   fetch_same : (n p : ℕ) → fetch (merged k) n p ≡ option_map both (fetch k n p)
-  fetch_same n p = ap (λ (o : Option Section). option_and_then (λ u. option_and_then (λ i. Some (u, i)) (slice_get u.code p)) o) (slice_get-map (moved_unit ps) k.units n) ∙ by (slice_get k.units n)
-    where
-      by : (o : Option Section) → option_and_then (λ u. option_and_then (λ i. Some (u, i)) (slice_get u.code p)) (option_map (moved_unit ps) o) ≡ option_map both (option_and_then (λ u. option_and_then (λ i. Some (u, i)) (slice_get u.code p)) o)
-      by None = refl
-      by (Some u) = in_unit u p
+  fetch_same n p = search (arith, rules, slice_get-map, in_unit)
 
   then_same : (n : ℕ) (q : Option Place) (a : Action) → ((m : Machine) → exec (merged k) n m ≡ exec k n m) → on_action q a (exec (merged k) n) ≡ on_action q a (exec k n)
-  then_same n q (goes_on m d) h = h m
-  then_same n q (ends t) h = refl
-  then_same n q (faulty f) h = refl
-  then_same n q wrong h = refl
+  then_same n q a2 h = search (arith, rules)
 
   at_same : (n : ℕ) (x : Option (Section × Instruction)) (m : Machine) → ((d : Machine) → exec (merged k) n d ≡ exec k n d) → exec_at (merged k) (option_map both x) m (exec (merged k) n) ≡ exec_at k x m (exec k n)
-  at_same n None m h = refl
-  at_same n (Some (u, i)) m h =
-      ap (λ (q : Option Place). on_action q (action (merged k) (moved_unit ps u) (with_places ps i) m) (exec (merged k) n)) (place_same m.unit m.point)
-      ∙ ap (λ (a : Action). on_action (place_at k m.unit m.point) a (exec (merged k) n)) (action_same u i m)
-      ∙ then_same n (place_at k m.unit m.point) (action k u i m) h
+  at_same n a1 m h = search (arith, rules, place_same, action_same, then_same)
 
   exec_same : (n : ℕ) (m : Machine) → exec (merged k) n m ≡ exec k n m
   exec_same zero m = refl
@@ -105,14 +89,7 @@ module _ (k : Code) where
       ap (λ (x : Option (Section × Instruction)). exec_at (merged k) x m (exec (merged k) n)) (fetch_same m.unit m.point) ∙ at_same n (fetch k m.unit m.point) m (λ d. exec_same n d)
 
   start_same : (x : Pairs) → start_machine (merged k) x ≡ start_machine k x
-  start_same x =
-      let machine : ℕ → Machine = λ n. record {
-        unit = 0;
-        point = 0;
-        state = record { entries = []; locals = locals_of n []; globals = filled x k.names (replicate k.globals tree.undefined); buffers = [] ∷ [] };
-        callers = [];
-      } in
-      ap machine (entry_same ps k.units)
+  start_same x = search (arith, rules, entry_same)
 
   runs_same : (x : Pairs) (n : ℕ) → exec (merged k) n (start_machine (merged k) x) ≡ exec k n (start_machine k x)
   runs_same x n = ap (exec (merged k) n) (start_same x) ∙ exec_same n (start_machine k x)

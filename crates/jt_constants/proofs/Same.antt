@@ -1,60 +1,19 @@
 -- Equal constants, and where they stand once each stands once.
-use Rattle.std.proofs.Common.{◌≡◌, ℕ, zero, suc, ◌+◌, ◌<◌, ◌≤◌, ◌^◌, Bool, true, false, ◌||◌, List, [], ◌∷◌, ◌++◌, length, fold, Option, Some, None, refl, sym, ap, ◌∙◌, subst, arith, length-append, if◌then◌else◌}
+use Rattle.std.proofs.Common.{◌≡◌, ℕ, zero, suc, ◌+◌, ◌<◌, ◌≤◌, ◌^◌, Bool, true, false, ◌||◌, List, [], ◌∷◌, ◌++◌, length, fold, Option, Some, None, refl, sym, ap, ◌∙◌, subst, arith, length-append, rules}
 use Rattle.std.specs.Prelude.{slice_get, nat_lt, unwrap_or, option_map}
-use Rattle.std.specs.Cmp.{booleans_Decides}
 use Rattle.std.specs.List.{list_any}
-use Rattle.std.proofs.lemmas.Bool.Decides.{nat_tests, Decides-int_eq}
+use Rattle.std.proofs.lemmas.Bool.Decides.{nat_tests}
 use Rattle.std.proofs.lemmas.List.Folds.{list_any-append}
 use Rattle.std.proofs.lemmas.Option.{slice_get-map, slice_get_past, slice_get_within}
 use Rattle.std.proofs.lemmas.Slice.Eq.{bytes_eq-Decides}
-use Rattle.jt_image.specs.Code.{Constant, undefined, nothing, truth_value, number, text, markup}
+use Rattle.jt_image.specs.Code.{Constant}
 use Rattle.jt_constants.specs.Merged.{same, with_new, each_once, place_in, new_places, moved}
 
 pub same_is : (c d : Constant) → same c d ≡ true → c ≡ d
-same_is undefined undefined e = refl
-same_is nothing nothing e = refl
-same_is (truth_value a) (truth_value b) e = ap truth_value ((booleans_Decides a b).0 e)
-same_is (number y) (number z) e = ap number ((Decides-int_eq y z).0 e)
-same_is (text s) (text t) e = ap text ((bytes_eq-Decides s t).0 e)
-same_is (markup s) (markup t) e = ap markup ((bytes_eq-Decides s t).0 e)
-same_is undefined nothing e = absurd cc
-same_is undefined (truth_value b) e = absurd cc
-same_is undefined (number z) e = absurd cc
-same_is undefined (text t) e = absurd cc
-same_is undefined (markup t) e = absurd cc
-same_is nothing undefined e = absurd cc
-same_is nothing (truth_value b) e = absurd cc
-same_is nothing (number z) e = absurd cc
-same_is nothing (text t) e = absurd cc
-same_is nothing (markup t) e = absurd cc
-same_is (truth_value a) undefined e = absurd cc
-same_is (truth_value a) nothing e = absurd cc
-same_is (truth_value a) (number z) e = absurd cc
-same_is (truth_value a) (text t) e = absurd cc
-same_is (truth_value a) (markup t) e = absurd cc
-same_is (number y) undefined e = absurd cc
-same_is (number y) nothing e = absurd cc
-same_is (number y) (truth_value b) e = absurd cc
-same_is (number y) (text t) e = absurd cc
-same_is (number y) (markup t) e = absurd cc
-same_is (text s) undefined e = absurd cc
-same_is (text s) nothing e = absurd cc
-same_is (text s) (truth_value b) e = absurd cc
-same_is (text s) (number z) e = absurd cc
-same_is (text s) (markup t) e = absurd cc
-same_is (markup s) undefined e = absurd cc
-same_is (markup s) nothing e = absurd cc
-same_is (markup s) (truth_value b) e = absurd cc
-same_is (markup s) (number z) e = absurd cc
-same_is (markup s) (text t) e = absurd cc
+same_is a0 a1 e = search (arith, rules, bytes_eq-Decides)
 
 pub same_self : (c : Constant) → same c c ≡ true
-same_self undefined = refl
-same_self nothing = refl
-same_self (truth_value b) = (booleans_Decides b b).1 refl
-same_self (number z) = (Decides-int_eq z z).1 refl
-same_self (text t) = (bytes_eq-Decides t t).1 refl
-same_self (markup t) = (bytes_eq-Decides t t).1 refl
+same_self a0 = search (arith, rules, bytes_eq-Decides)
 
 -- ---- among those that stand once
 
@@ -70,20 +29,10 @@ or_right true b e = refl
 or_right false b e = e
 
 kept : (cs : List Constant) (c d : Constant) → Has cs c → Has (with_new cs d) c
-kept cs c d h = by (list_any (same d) cs) refl
-  where
-    by : (b : Bool) → list_any (same d) cs ≡ b → Has (with_new cs d) c
-    by true e = subst (λ (t : Bool). Has (if t then cs else cs ++ d ∷ []) c) (sym e) h
-    by false e = subst (λ (t : Bool). Has (if t then cs else cs ++ d ∷ []) c) (sym e) (list_any-append (same c) cs (d ∷ []) ∙ or_left (list_any (same c) cs) (list_any (same c) (d ∷ [])) h)
+kept cs c d h = search (arith, rules, list_any-append, or_left)
 
 added : (cs : List Constant) (c : Constant) → Has (with_new cs c) c
-added cs c = by (list_any (same c) cs) refl
-  where
-    by : (b : Bool) → list_any (same c) cs ≡ b → Has (with_new cs c) c
-    by true e = subst (λ (t : Bool). Has (if t then cs else cs ++ c ∷ []) c) (sym e) e
-    by false e =
-        let here : list_any (same c) (c ∷ []) ≡ true = or_left (same c c) false (same_self c) in
-        subst (λ (t : Bool). Has (if t then cs else cs ++ c ∷ []) c) (sym e) (list_any-append (same c) cs (c ∷ []) ∙ or_right (list_any (same c) cs) (list_any (same c) (c ∷ [])) here)
+added cs c = search (arith, rules, or_left, same_self, list_any-append, or_right)
 
 pub all_kept : (acc cs : List Constant) (c : Constant) → Has acc c → Has (fold with_new acc cs) c
 all_kept acc [] c h = h
@@ -96,30 +45,16 @@ has_each acc (d ∷ ds) (suc n) c e = has_each (with_new acc d) ds n c e
 
 pub at_place : (cs : List Constant) (c : Constant) → Has cs c → slice_get cs (place_in cs c) ≡ Some c
 at_place [] c h = absurd cc
-at_place (d ∷ ds) c h = by (same c d) refl (at_place ds c)
-  where
-    by : (b : Bool) → same c d ≡ b → (Has ds c → slice_get ds (place_in ds c) ≡ Some c) → slice_get (d ∷ ds) (place_in (d ∷ ds) c) ≡ Some c
-    by true e rest = ap (λ (t : Bool). slice_get (d ∷ ds) (if t then 0 else suc (place_in ds c))) e ∙ ap Some (sym (same_is c d e))
-    by false e rest = ap (λ (t : Bool). slice_get (d ∷ ds) (if t then 0 else suc (place_in ds c))) e ∙ rest (sym (ap (λ (t : Bool). t || list_any (same c) ds) e) ∙ h)
+at_place (d ∷ ds) c h = search (arith, rules, at_place ds c, same_is)
 
 -- a place stays where others come behind
 pub place_kept : (cs ds : List Constant) (c : Constant) → Has cs c → place_in (cs ++ ds) c ≡ place_in cs c
 place_kept [] ds c h = absurd cc
-place_kept (d ∷ cs) ds c h = by (same c d) refl (place_kept cs ds c)
-  where
-    by : (b : Bool) → same c d ≡ b → (Has cs c → place_in (cs ++ ds) c ≡ place_in cs c) → place_in ((d ∷ cs) ++ ds) c ≡ place_in (d ∷ cs) c
-    by true e rest = ap (λ (t : Bool). if t then 0 else suc (place_in (cs ++ ds) c)) e ∙ sym (ap (λ (t : Bool). if t then 0 else suc (place_in cs c)) e)
-    by false e rest =
-        ap (λ (t : Bool). if t then 0 else suc (place_in (cs ++ ds) c)) e ∙ ap suc (rest (sym (ap (λ (t : Bool). t || list_any (same c) cs) e) ∙ h))
-        ∙ sym (ap (λ (t : Bool). if t then 0 else suc (place_in cs c)) e)
+place_kept (d ∷ cs) ds c h = search (arith, rules, place_kept cs ds c)
 
 pub once_len : (acc cs : List Constant) → length (fold with_new acc cs) ≤ length acc + length cs
 once_len acc [] = omega arith
-once_len acc (c ∷ cs) = omega (arith, once_len (with_new acc c) cs, more (list_any (same c) acc))
-  where
-    more : (b : Bool) → length (if b then acc else acc ++ c ∷ []) ≤ length acc + 1
-    more true = omega arith
-    more false = omega (arith, length-append acc (c ∷ []))
+once_len acc (c ∷ cs) = search (arith, rules, once_len (with_new acc c) cs, length-append)
 
 pub fewer : (cs : List Constant) → length (each_once cs) ≤ length cs
 fewer cs = omega (arith, once_len [] cs)

@@ -1,5 +1,5 @@
 -- How large a code is in which equal constants have been made one.
-use Rattle.std.proofs.Common.{◌≡◌, ℕ, ◌+◌, ◌≤◌, ◌^◌, Bool, true, false, List, [], ◌∷◌, ◌++◌, length, map, fold, refl, ap, arith, length-append, if◌then◌else◌}
+use Rattle.std.proofs.Common.{◌≡◌, ℕ, ◌+◌, ◌≤◌, ◌^◌, Bool, List, [], ◌∷◌, ◌++◌, length, map, fold, refl, ap, arith, length-append, if◌then◌else◌, rules}
 use Rattle.std.specs.List.{list_any, flat_map, AllByRecursion}
 use Rattle.std.proofs.lemmas.List.{length-map}
 use Rattle.std.proofs.lemmas.List.Concat.{flat_map-cons, flat_map-append}
@@ -15,9 +15,7 @@ abbrev bytes : List Constant → ℕ
 bytes cs = length (flat_map constant_bytes cs)
 
 bytes_added : (acc : List Constant) (c : Constant) (b : Bool) → bytes (if b then acc else acc ++ c ∷ []) ≤ bytes acc + length (constant_bytes c)
-bytes_added acc c true = omega arith
-bytes_added acc c false =
-    omega (arith, ap length (flat_map-append constant_bytes acc (c ∷ [])), length-append (flat_map constant_bytes acc) (flat_map constant_bytes (c ∷ [])), ap length (flat_map-cons constant_bytes c []), length-append (constant_bytes c) (flat_map constant_bytes []))
+bytes_added acc c a2 = search (arith, rules, flat_map-append, length-append, flat_map-cons)
 
 bytes_once : (acc cs : List Constant) → bytes (fold with_new acc cs) ≤ bytes acc + bytes cs
 bytes_once acc [] = omega arith

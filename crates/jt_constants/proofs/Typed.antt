@@ -1,17 +1,13 @@
 -- A typed code is typed when equal constants have been made one.
-use Rattle.std.proofs.Common.{◌≡◌, ℕ, ◌+◌, ◌*◌, List, [], ◌∷◌, length, Option, Some, None, Ok, refl, sym, ap, ◌∙◌, subst}
-use Rattle.std.specs.Prelude.{slice_get, nat_lt, option_map, ◌&&◌}
-use Rattle.std.specs.Option.{is_some}
+use Rattle.std.proofs.Common.{◌≡◌, ℕ, ◌+◌, List, [], ◌∷◌, length, Option, Some, None, Ok, refl, sym, ap, ◌∙◌, subst, arith, rules}
+use Rattle.std.specs.Prelude.{slice_get, nat_lt, option_map}
 use Rattle.std.proofs.lemmas.List.{length-map}
 use Rattle.std.proofs.lemmas.Option.{slice_get-map, same_Some}
 use Rattle.jt_image.specs.declared.instruction.Instruction.{Instruction}
-use Rattle.jt_image.specs.declared.instruction.Instruction.TheVariants as op
 use Rattle.jt_image.specs.declared.kind.Kind.TheVariants as kind
 use Rattle.jt_image.specs.declared.kind.Flaw.TheVariants as flaw
-use Rattle.jt_image.specs.Code.{is_text, Section, Code}
-use Rattle.jt_image.specs.Effect.{Shape, require, pops, pops_many, pops_frame, pops_capture, on_frame, pushes, goes_on, makes, jumps, branches, gives, calls, effect, effect_of, effect_at}
-use Rattle.jt_image.specs.Ids.{operator_of, operands_of, filter_of, accepts, test_of, takes}
-use Rattle.jt_image.specs.Loops.{field_of}
+use Rattle.jt_image.specs.Code.{Section, Code}
+use Rattle.jt_image.specs.Effect.{Shape, require, pops_many, goes_on, makes, jumps, branches, gives, calls, effect, effect_of, effect_at}
 use Rattle.jt_image.specs.Typed.{Equal, IsTypedUnit, IsTyped}
 use Rattle.jt_constants.specs.Merged.{new_places, with_places, moved_unit, merged}
 use Rattle.jt_constants.proofs.Same.{reads, inside}
@@ -43,34 +39,7 @@ module _ (k : Code) (u : Section) where
   called_same p (Some w) s = λ j. pops_many w.parameters s (λ r. goes_same p (gives w.kind r) j)
 
   effect_same : (p : ℕ) (i : Instruction) (s : Shape) → effect (merged k) v p (with_places ps i) s ≡ effect k u p i s
-  effect_same p (op.Const c) s = λ j. require (inside k.constants c j) flaw.BadIndex (goes_same p (kind.Value ∷ s) j)
-  effect_same p (op.Load c) s = λ j. require (nat_lt c u.locals) flaw.BadIndex (goes_same p (kind.Value ∷ s) j)
-  effect_same p (op.Store c) s = λ j. require (nat_lt c u.locals) flaw.BadIndex (pops s (λ r. goes_same p r j))
-  effect_same p (op.GLoad c) s = λ j. require (nat_lt c k.globals) flaw.BadIndex (goes_same p (kind.Value ∷ s) j)
-  effect_same p (op.GStore c) s = λ j. require (nat_lt c k.globals) flaw.BadIndex (pops s (λ r. goes_same p r j))
-  effect_same p op.Drop s = λ j. pops s (λ r. goes_same p r j)
-  effect_same p op.Dup s = λ j. pops s (λ r. goes_same p (kind.Value ∷ kind.Value ∷ r) j)
-  effect_same p (op.Emit a) s = λ j. require (nat_lt a 2) flaw.BadIndex (pops s (λ r. goes_same p r j))
-  effect_same p (op.Data c) s = λ j. require (is_text (reads k.constants c j)) flaw.BadIndex (goes_same p s j)
-  effect_same p (op.Jump c) s = jumps_same c s
-  effect_same p (op.JumpIfFalse c) s = λ j. pops s (λ r. branches_same p c r j)
-  effect_same p (op.JumpIfTrue c) s = λ j. pops s (λ r. branches_same p c r j)
-  effect_same p (op.Op a) s = λ j. require (is_some (operator_of a)) flaw.BadIndex (makes_same p (operands_of (operator_of a)) s j)
-  effect_same p (op.Filter a b c) s = λ j. require (accepts (filter_of a) b && nat_lt c 2) flaw.BadIndex (makes_same p b s j)
-  effect_same p (op.Test a b) s = λ j. require (takes (test_of a) b) flaw.BadIndex (makes_same p b s j)
-  effect_same p (op.MakeList c) s = makes_same p c s
-  effect_same p (op.MakeMap c) s = makes_same p (2 * c) s
-  effect_same p op.LoopStart s = λ j. pops s (λ r. goes_same p (kind.Frame ∷ r) j)
-  effect_same p (op.LoopNext c) s = λ j. pops_frame s (λ r. branches_same p c (kind.Frame ∷ r) j)
-  effect_same p (op.LoopGet a c) s = λ j. require (is_some (field_of a)) flaw.BadIndex (on_frame (slice_get s c) (goes_same p (kind.Value ∷ s) j))
-  effect_same p (op.LoopKeep c) s = λ j. pops s (λ r. on_frame (slice_get r c) (goes_same p r j))
-  effect_same p op.LoopRewind s = λ j. pops_frame s (λ r. goes_same p (kind.Frame ∷ r) j)
-  effect_same p op.LoopEnd s = λ j. pops_frame s (λ r. goes_same p (kind.Value ∷ r) j)
-  effect_same p op.CaptureBegin s = goes_same p (kind.Capture ∷ s)
-  effect_same p (op.CaptureEnd a) s = λ j. require (nat_lt a 2) flaw.BadIndex (pops_capture s (λ r. goes_same p (kind.Value ∷ r) j))
-  effect_same p (op.Unpack c) s = λ j. pops s (λ r. goes_same p (pushes c r) j)
-  effect_same p (op.Call c) s = ap (λ (o : Option Section). calls v p o s) (slice_get-map (moved_unit ps) k.units c) ∙ called_same p (slice_get k.units c) s
-  effect_same p op.Return s = refl
+  effect_same p a1 s = search (arith, rules, inside, goes_same, reads, jumps_same, branches_same, makes_same, slice_get-map, called_same)
 
   of_same : (p : ℕ) (o : Option Instruction) (s : Shape) → effect_of (merged k) v p (option_map (with_places ps) o) s ≡ effect_of k u p o s
   of_same p None s = refl

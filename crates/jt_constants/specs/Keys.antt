@@ -1,6 +1,7 @@
--- What only private clauses cite: the constant that a key stands for, and what is known of the places of keys.
+-- What only private clauses cite: the constant that a key stands for, and what is known of the
+-- places of keys.
 use Rattle.std.specs.Prelude.{◌≡◌, ℕ, List, cond, Option, Some, None, if◌then◌else◌}
-use Rattle.std.specs.BTreeMap.{get}
+use Rattle.std.specs.BTreeMap.{BTreeMap, get}
 use Rattle.std.specs.List.{list_any}
 use Rattle.std.specs.Ordering.{is_eq}
 use Rattle.std.specs.declared.cmp.Ordering.{Ordering}
@@ -9,8 +10,6 @@ use Rattle.jt_constants.specs.Merged.{same, place_in}
 use Rattle.jt_constants.specs.contracts.table.KeyOrd.TheImpl as order
 use Rattle.jt_constants.specs.declared.table.Key.{Key}
 use Rattle.jt_constants.specs.declared.table.Key.TheVariants as key
-use Rattle.jt_constants.specs.declared.table.Known.{Known}
-use Rattle.jt_constants.specs.declared.table.Known.TheVariants as known
 
 abbrev pub key_view : Key → Constant
 key_view key.Undefined = undefined
@@ -28,13 +27,10 @@ abbrev pub key_cmp : Key → Key → Ordering
 key_cmp = (order.cmp-value).it
 
 -- a map of places tells where each of these constants stands
-abbrev pub Knows : Known → List Constant → Type 0
-Knows known.Few cs = Unit {0}
-Knows (known.Many places) cs = (q : Key) → get key_cmp places q ≡ place_of cs (key_view q)
+abbrev pub Knows : BTreeMap Key ℕ → List Constant → Type 0
+Knows places cs = (q : Key) → get key_cmp places q ≡ place_of cs (key_view q)
 
 -- one key more has a place in a map
-abbrev pub KnowsMore : Known → Key → ℕ → Known → Type 0
-KnowsMore known.Few k p new = new ≡ known.Few
-KnowsMore (known.Many old) k p known.Few = ⊥
-KnowsMore (known.Many old) k p (known.Many new) =
+abbrev pub KnowsMore : BTreeMap Key ℕ → Key → ℕ → BTreeMap Key ℕ → Type 0
+KnowsMore old k p new =
     (q : Key) → get key_cmp new q ≡ cond (is_eq (key_cmp k q)) (Some p) (get key_cmp old q)

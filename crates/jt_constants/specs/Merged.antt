@@ -1,4 +1,5 @@
--- A code in which equal constants stand once: each at its first place, and each instruction names the place where its constant stands.
+-- A code in which equal constants stand once: each at its first place, and each instruction names
+-- the place where its constant stands.
 use Rattle.std.specs.Prelude.{ℕ, suc, Bool, true, false, List, [], ◌∷◌, ◌++◌, map, fold, slice_get, unwrap_or, if◌then◌else◌}
 use Rattle.std.specs.Bool.{beq}
 use Rattle.std.specs.List.{list_any}
@@ -58,7 +59,13 @@ with_places places (op.Data c) = op.Data (moved places c)
 with_places places i = i
 
 abbrev pub moved_unit : List ℕ → Section → Section
-moved_unit places u = record { parameters = u.parameters; kind = u.kind; locals = u.locals; code = map (with_places places) u.code }
+moved_unit places u =
+    record {
+      parameters = u.parameters;
+      kind = u.kind;
+      locals = u.locals;
+      code = map (with_places places) u.code;
+    }
 
 abbrev pub merged : Code → Code
 merged k =

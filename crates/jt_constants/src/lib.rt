@@ -1,7 +1,7 @@
 //! Constants: equal ones stand once in a code.
 //!
-//! The constants of a pool, each once (table), and instructions that name their new places (moving);
-//! what that means for a code is a law (laws). Read first: specs/Merged.antt.
+//! The constants of a pool, each once (table), and instructions that name their new places
+//! (moving); what that means for a code is a law (laws). Read first: specs/Merged.antt.
 #![tactic(auto)]
 
 mod laws;

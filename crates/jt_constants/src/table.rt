@@ -1,18 +1,16 @@
 //! The table of constants of a pool of values.
 
-ghost use Rattle.std.specs.Prelude.{◌≡◌, ◌<◌, ◌^◌, [], length, map, IfOk};
+ghost use Rattle.std.specs.Prelude.{◌≡◌, ◌<◌, ◌^◌, length, map, IfOk, OnOk};
+ghost use Rattle.std.specs.BTreeMap.{get};
 ghost use Rattle.jt_value.specs.View.{view};
 ghost use Rattle.jt_image.specs.View.{constant_view, constants_view};
-ghost use Rattle.jt_constants.specs.Merged.{constant_of, same, each_once, new_places};
-ghost use Rattle.jt_constants.specs.Keys.{key_view, place_of};
+ghost use Rattle.jt_constants.specs.Merged.{constant_of, each_once, new_places};
+ghost use Rattle.jt_constants.specs.Keys.{key_view, key_cmp, KnowsMore};
 
 use jt_image::Constant;
 use jt_value::Value;
 use std::alloc::{AllocError, Global};
 use std::collections::BTreeMap;
-
-/// So many constants are looked through sooner than a map of them is made.
-const FEW: usize = 32;
 
 /// The constants of a pool, each once.
 #[derive(Drop)]
@@ -34,78 +32,19 @@ enum Key<'a> {
     Markup(&'a str),
 }
 
-/// Where the constants of keys stand in a table.
-#[derive(Drop)]
-enum Known<'a> {
-    /// They are few, and looked for one by one.
-    Few,
-    /// They are told by their keys.
-    Many(BTreeMap<Key<'a>, u32>),
-}
-
-impl<'a> Known<'a> {
-    ghost use Rattle.std.specs.Prelude.{OnOk};
-    ghost use Rattle.jt_constants.specs.Keys.{Knows, KnowsMore};
-
-    /// Nothing is known yet of a table of so many constants.
-    fn of(alloc: Global, count: usize) -> Known<'a>
-        ensures { Knows result [] }
-    {
-        if count <= FEW {
-            return Known::Few;
-        }
-        Known::Many(BTreeMap::new(alloc))
-    }
-
-    /// Where the constant of a key stands among these, if it does.
-    fn place(&self, constants: &[Constant], key: Key<'a>) -> Option<u32>
-        requires few { length constants.now < 2 ^ 32 }
-        requires known { Knows self.now (constants_view constants.now) }
-        ensures { result ≡ place_of (constants_view constants.now) (key_view key.entry) }
-    {
-        match self {
-            Known::Few => place_among(constants, key),
-            Known::Many(places) => places.get(&key).copied(),
-        }
-    }
-
-    /// The constant of a key comes to a place behind the others.
-    fn add(&mut self, key: Key<'a>, place: u32) -> Result<(), AllocError>
-        ensures { OnOk result (KnowsMore self.old key.entry place self.new) }
-    {
-        if let Known::Many(places) = self {
-            places.insert(key, place)?;
-        }
-        Ok(())
-    }
-}
-
-/// Where the constant of a key stands among these, if it does.
-fn place_among(constants: &[Constant], key: Key<'_>) -> Option<u32>
-    requires { length constants.now < 2 ^ 32 }
-    ensures { result ≡ place_of (constants_view constants.now) (key_view key.entry) }
+/// The place of a key, if it has one.
+fn known_place<'a>(known: &BTreeMap<Key<'a>, u32>, key: Key<'a>) -> Option<u32>
+    ensures { result ≡ get key_cmp known.now key.entry }
 {
-    for at in 0..constants.len() {
-        if is_of(&constants[at], key) {
-            return Some(at as u32);
-        }
-    }
-    None
+    known.get(&key).copied()
 }
 
-/// Whether the constant is that of the key.
-fn is_of(constant: &Constant, key: Key<'_>) -> bool
-    ensures { result ≡ same (key_view key.entry) (constant_view constant.now) }
+/// The key has the place from now on.
+fn add<'a>(known: &mut BTreeMap<Key<'a>, u32>, key: Key<'a>, place: u32) -> Result<(), AllocError>
+    ensures { OnOk result (KnowsMore known.old key.entry place known.new) }
 {
-    match (key, constant) {
-        (Key::Undefined, Constant::Undefined) => true,
-        (Key::None, Constant::None) => true,
-        (Key::Bool(left), Constant::Bool(right)) => left == *right,
-        (Key::Int(left), Constant::Int(right)) => left == *right,
-        (Key::Text(left), Constant::Text(right)) => left == right.as_str(),
-        (Key::Markup(left), Constant::Markup(right)) => left == right.as_str(),
-        _ => false,
-    }
+    known.insert(key, place)?;
+    Ok(())
 }
 
 /// The table of the constants of a pool.
@@ -118,14 +57,14 @@ pub fn constant_table(alloc: Global, pool: &[Value]) -> Result<ConstantTable, Al
 {
     let mut constants = Vec::with_capacity(alloc, pool.len())?;
     let mut places = Vec::with_capacity(alloc, pool.len())?;
-    let mut known = Known::of(alloc, pool.len());
+    let mut known: BTreeMap<Key<'_>, u32> = BTreeMap::new(alloc);
     for value in pool {
         let key = key_of(value);
-        let place = match known.place(&constants, key) {
+        let place = match known_place(&known, key) {
             Some(place) => place,
             None => {
                 let place = constants.len() as u32;
-                known.add(key, place)?;
+                add(&mut known, key, place)?;
                 constants.push(constant_of(alloc, key)?)?;
                 place
             }

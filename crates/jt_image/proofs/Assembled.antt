@@ -1,5 +1,5 @@
 -- When parts are a code that has a spelling.
-use Rattle.std.proofs.Common.{◌≡◌, ℕ, ◌+◌, ◌-◌, ◌*◌, min, ◌<◌, ◌≤◌, ◌^◌, Bool, true, false, List, [], ◌∷◌, ◌++◌, length, Option, Some, refl, ap, subst, ◌∙◌, arith}
+use Rattle.std.proofs.Common.{◌≡◌, ℕ, ◌+◌, ◌-◌, ◌*◌, min, ◌<◌, ◌≤◌, ◌^◌, Bool, true, false, List, [], ◌∷◌, ◌++◌, length, Option, Some, refl, ap, subst, ◌∙◌, arith, rules}
 use Rattle.std.specs.Prelude.{◌&&◌, ◌↔◌, not, nat_lt, IsUtf8}
 use Rattle.std.specs.Int.{w16, w32, w64, to_le_bytes}
 use Rattle.std.specs.List.{flat_map, AllByRecursion}
@@ -7,10 +7,10 @@ use Rattle.std.proofs.lemmas.List.{length-append}
 use Rattle.std.proofs.lemmas.List.Concat.{flat_map-cons}
 use Rattle.std.proofs.lemmas.Bool.{lt-ltb, ltb-true}
 use Rattle.jt_image.specs.declared.error.ImageError.{ImageError}
-use Rattle.jt_image.specs.declared.error.ImageError.TheVariants.{BadMagic, BadVersion, Truncated, Trailing, BadText, BadOpcode, BadTable, LimitPassed, NoMemory}
+use Rattle.jt_image.specs.declared.error.ImageError.TheVariants.{NoMemory}
 use Rattle.jt_image.specs.declared.instruction.Instruction.{Instruction}
 use Rattle.jt_image.specs.declared.version.Version.TheVariants as version
-use Rattle.jt_image.specs.Code.{Constant, undefined, nothing, truth_value, number, text, markup, Name, Section, Spot, Code}
+use Rattle.jt_image.specs.Code.{Constant, Name, Section, Spot, Code}
 use Rattle.jt_image.specs.Spelling.{magic, version_number, name_bytes, constant_bytes, header_bytes, wire_of, instruction_bytes, template_bytes, spot_bytes, place_bytes, spelling}
 use Rattle.jt_image.specs.IsCode.{IsName, IsTemplate, IsConstant, IsSection, total_len, HasEntry, IsCode, max_count, max_locals, max_instructions, max_bytes}
 use Rattle.jt_image.specs.Reading.{is_used, may_follow}
@@ -69,14 +69,7 @@ places_len ts ss = omega (arith, length-append (to_le_bytes w16 (length ts)) (fl
 -- ---- names
 
 pub in_order : (globals : ℕ) (ns : List Name) → AllGood (IsNamed globals) [] ns → AreInOrder globals ns
-in_order globals ns h =
-    let all = are_names globals [] ns h in
-    record {
-      slots = all_weaker (IsName globals) (λ n. n.slot < globals) ns (λ n is. is.slot) all;
-      some = all_weaker (IsName globals) (λ n. 0 < length n.text) ns (λ n is. is.some) all;
-      ascend = ascend globals ns h;
-      distinct = distinct globals [] ns h;
-    }
+in_order globals ns h = search (arith, rules, are_names, all_weaker, ascend, distinct)
 
 are_named : (globals : ℕ) (ns : List Name) → AllByRecursion IsShort ns → AllByRecursion (λ n. n.slot < globals) ns → AllByRecursion (λ n. 0 < length n.text) ns → AllByRecursion (IsName globals) ns
 are_named globals [] short slots some = tt
@@ -100,13 +93,7 @@ not_true true e = absurd cc
 not_true false e = refl
 
 pub next_named : (globals : ℕ) (before : List Name) (n : Name) → IsShort n → is_next globals before n ≡ true → IsNamed globals before n
-next_named globals before n short e =
-    let one = and_true (nat_lt n.slot globals) (not (is_used n.slot before) && may_follow before n.text) e in
-    let two = and_true (not (is_used n.slot before)) (may_follow before n.text) one.1 in
-    record {
-      slot = record { below = ltb-true n.slot globals one.0; free = not_true (is_used n.slot before) two.0 };
-      next = record { fits = short.fits; utf8 = short.utf8; follows = two.1 };
-    }
+next_named globals before n short e = search (arith, rules, and_true, ltb-true, not_true)
 
 pub named_next : (globals : ℕ) (before : List Name) (n : Name) → IsNamed globals before n → is_next globals before n ≡ true
 named_next globals before n h =
@@ -144,12 +131,7 @@ limits_from k names constants places both tables a b p u t count_names count_con
 
 -- a constant of an image that is not too long fits its field
 constant_fits : (c : Constant) → length (constant_bytes c) ≤ max_bytes → IsHeld c → IsConstant c
-constant_fits undefined le h = tt
-constant_fits nothing le h = tt
-constant_fits (truth_value b) le h = tt
-constant_fits (number z) le h = h
-constant_fits (text t) le h = (omega (arith, le, text_len t 5), h)
-constant_fits (markup t) le h = (omega (arith, le, text_len t 6), h)
+constant_fits a0 le h = search (arith, rules, text_len)
 
 constants_fit : (cs : List Constant) → length (flat_map constant_bytes cs) ≤ max_bytes → AllByRecursion IsHeld cs → AllByRecursion IsConstant cs
 constants_fit [] le h = tt
@@ -179,67 +161,17 @@ pub record AreHeld (k : Code) : Type 0 where
   pub templates : AllByRecursion IsUtf8 k.templates
 
 pub is_code : (k : Code) → AreHeld k → HasTables k → KeepsLimits k → IsCode k
-is_code k held tables limits =
-    let short = short_names k.names limits.texts held.names in
-    record {
-      globals = held.globals;
-      count_names = omega (arith, limits.names);
-      names = are_named k.globals k.names short tables.names.slots tables.names.some;
-      ascend = tables.names.ascend;
-      distinct = tables.names.distinct;
-      count_constants = omega (arith, limits.constants);
-      constants = constants_fit k.constants (omega (arith, spelled_len k, limits.bytes)) held.constants;
-      count_units = omega (arith, limits.units);
-      units = sections_fit k.units held.units tables.units limits.locals;
-      entry = tables.entry;
-      instructions = limits.instructions;
-      count_templates = omega (arith, limits.templates);
-      templates = are_templates k.templates (short_texts k.templates limits.template_texts held.templates) tables.templates.some;
-      ascend_templates = tables.templates.ascend;
-      spots = tables.spots;
-      placed = tables.placed;
-      bytes = limits.bytes;
-    }
+is_code k held tables limits = search (arith, rules, short_names, are_named, ascend, distinct, constants_fit, spelled_len, sections_fit, are_templates, short_texts)
 
 code_tables : (k : Code) → IsCode k → HasTables k
-code_tables k is = record {
-  names = record {
-    slots = all_weaker (IsName k.globals) (λ n. n.slot < k.globals) k.names (λ n h. h.slot) is.names;
-    some = all_weaker (IsName k.globals) (λ n. 0 < length n.text) k.names (λ n h. h.some) is.names;
-    ascend = is.ascend;
-    distinct = is.distinct;
-  };
-  units = all_weaker IsSection IsUnitInOrder k.units (λ u h. (h.kind, h.within)) is.units;
-  entry = is.entry;
-  templates = record { some = all_weaker IsTemplate (λ t. 0 < length t) k.templates (λ t h. h.some) is.templates; ascend = is.ascend_templates };
-  spots = is.spots;
-  placed = is.placed;
-}
+code_tables k is = search (arith, rules, all_weaker, ascend, distinct)
 
 code_limits : (k : Code) → IsCode k → KeepsLimits k
-code_limits k is = record {
-  names = omega (arith, is.count_names);
-  texts = all_weaker (IsName k.globals) (λ n. length n.text ≤ max_count) k.names (λ n h. omega (arith, h.fits)) is.names;
-  constants = omega (arith, is.count_constants);
-  units = omega (arith, is.count_units);
-  locals = all_weaker IsSection (λ u. u.locals ≤ max_locals) k.units (λ u h. h.locals) is.units;
-  instructions = is.instructions;
-  templates = omega (arith, is.count_templates);
-  template_texts = all_weaker IsTemplate (λ t. length t ≤ max_count) k.templates (λ t h. omega (arith, h.fits)) is.templates;
-  bytes = is.bytes;
-}
+code_limits k is = search (arith, rules, all_weaker)
 
 -- a code with a spelling is refused for memory alone
 refused_for : (k : Code) (e : ImageError) → IsCode k → IsRefusal e (Some k) → e ≡ NoMemory
-refused_for k BadOpcode is r = absurd cc
-refused_for k BadTable is r = absurd (r (code_tables k is))
-refused_for k LimitPassed is r = absurd (r (code_limits k is))
-refused_for k NoMemory is r = refl
-refused_for k BadMagic is r = absurd r
-refused_for k BadVersion is r = absurd r
-refused_for k Truncated is r = absurd r
-refused_for k Trailing is r = absurd r
-refused_for k BadText is r = absurd r
+refused_for k a1 is r = search (arith, rules, code_tables, code_limits)
 
 pub only_memory : (o : Option Code) (k : Code) (e : ImageError) → o ≡ Some k → IsCode k → IsRefusal e o → e ≡ NoMemory
 only_memory o k e is code r = refused_for k e code (subst (λ (p : Option Code). IsRefusal e p) is r)

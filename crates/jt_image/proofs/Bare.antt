@@ -1,5 +1,5 @@
 -- No run of an image of version 1 has a fault with a place.
-use Rattle.std.proofs.Common.{◌≡◌, ℕ, zero, suc, ◌+◌, List, [], take, Option, Some, None, refl, ap, subst, ◌∙◌}
+use Rattle.std.proofs.Common.{◌≡◌, ℕ, zero, suc, ◌+◌, List, [], take, Option, Some, None, refl, ap, subst, ◌∙◌, arith, rules}
 use Rattle.std.specs.Prelude.{slice_get}
 use Rattle.std.specs.Option.{option_and_then}
 use Rattle.jt_value.specs.Pairs.{Pairs}
@@ -20,11 +20,7 @@ no_place : (k : Code) → k.spots ≡ [] → (u p : ℕ) → place_at k u p ≡ 
 no_place k e u p = ap (λ (ss : List Spot). option_and_then (place_of k.templates) (slice_get ss (total_len (take u k.units) + p))) e
 
 placed_by : (z : Option Place) (n : Next) (f : Fault) (q : Option Place) → placed z n ≡ Ends (config.fault f q) → q ≡ z
-placed_by z (Goes c) f q e = absurd cc
-placed_by z (Ends (config.text t)) f q e = absurd cc
-placed_by z (Ends (config.fault g p)) f q e = cc
-placed_by z (Ends (config.spent l)) f q e = absurd cc
-placed_by z Wrong f q e = absurd cc
+placed_by z a1 f q e = search (arith, rules)
 
 module _ (k : Code) (bare : k.spots ≡ []) (f : Fault) (q : Option Place) where
   bare_at : (o : Option (Section × Instruction)) (c : Config) → next_at k o c ≡ Ends (config.fault f q) → q ≡ None

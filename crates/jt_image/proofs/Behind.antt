@@ -1,6 +1,6 @@
 -- What is read behind the instructions is spelled so, and what is spelled there is read.
-use Rattle.std.proofs.Common.{◌≡◌, ℕ, zero, suc, ◌<◌, ◌≤◌, ◌^◌, Bool, true, false, cond, eqb, List, [], ◌∷◌, ◌++◌, length, Ok, Err, refl, sym, ap, subst, ◌∙◌, arith, append_assoc, nat_cmp, if◌then◌else◌}
-use Rattle.std.specs.Prelude.{◌==◌, ◌&&◌, nat_lt, nat_le, IsUtf8}
+use Rattle.std.proofs.Common.{◌≡◌, ℕ, zero, suc, ◌<◌, ◌≤◌, ◌^◌, Bool, true, false, eqb, List, [], ◌∷◌, ◌++◌, length, Ok, Err, refl, sym, ap, subst, ◌∙◌, arith, append_assoc, nat_cmp, if◌then◌else◌, rules}
+use Rattle.std.specs.Prelude.{◌==◌, ◌&&◌, nat_le, IsUtf8}
 use Rattle.std.specs.Int.{w16, w32, to_le_bytes}
 use Rattle.std.specs.List.{flat_map, AllByRecursion}
 use Rattle.std.specs.Ordering.{is_lt}
@@ -12,7 +12,7 @@ use Rattle.jt_image.specs.declared.version.Version.{Version}
 use Rattle.jt_image.specs.declared.version.Version.TheVariants as version
 use Rattle.jt_image.specs.Code.{Spot}
 use Rattle.jt_image.specs.Spelling.{version_number, template_bytes, spot_bytes, place_bytes}
-use Rattle.jt_image.specs.IsCode.{IsTemplate, AscendTexts, IsLine, IsSpot, IsPlaced, max_line}
+use Rattle.jt_image.specs.IsCode.{IsTemplate, AscendTexts, IsLine, IsSpot, IsPlaced}
 use Rattle.jt_image.specs.Reading.{◌>>=◌, check, number_at, text_at, version_at, may_follow_texts, template_at, templates_at, all_templates_at, template_number_at, is_line, line_at, spot_at, spots_at, Back, back_at}
 use Rattle.jt_image.proofs.Found.{AllOk, all_map, bind_from, check_all, cond_all, IsBytes, Takes, Takes-then, Takes-as, Found, IsText, text_found, wide16, wide32, number_found, AllGood, Many, many_found}
 use Rattle.jt_image.proofs.Whole.{above_some}
@@ -154,19 +154,10 @@ not_zero : (n : ℕ) → eqb (suc n) 0 ≡ false
 not_zero n = grind (arith, nat_tests)
 
 pub line_holds : (template line : ℕ) → is_line template line ≡ true → IsLine template line
-line_holds zero line e = eqb-true line 0 e
-line_holds (suc template) line e =
-    let some : (nat_lt 0 line && nat_le line max_line) ≡ true = sym (ap (λ b. cond b (eqb line 0) (nat_lt 0 line && nat_le line max_line)) (not_zero template)) ∙ e in
-    let both = and_true (nat_lt 0 line) (nat_le line max_line) some in
-    (ltb-true _ _ both.0, leb-true _ _ both.1)
+line_holds a0 line e = search (arith, rules, eqb-true, not_zero, and_true, ltb-true, leb-true)
 
 pub holds_line : (template line : ℕ) → IsLine template line → is_line template line ≡ true
-holds_line zero line h = rw h refl
-holds_line (suc template) line h =
-    let some : nat_lt 0 line ≡ true = lt-ltb _ _ h.0 in
-    let most : nat_le line max_line ≡ true = le-leb _ _ h.1 in
-    let both : (nat_lt 0 line && nat_le line max_line) ≡ true = rw (some, most) refl in
-    ap (λ b. cond b (eqb line 0) (nat_lt 0 line && nat_le line max_line)) (not_zero template) ∙ both
+holds_line a0 line h = search (arith, rules, lt-ltb, le-leb, not_zero)
 
 line_found : (template : ℕ) (bytes : List ℕ) → IsBytes bytes → Found (to_le_bytes w32) (IsLine template) bytes (line_at template bytes)
 unfolding line_at

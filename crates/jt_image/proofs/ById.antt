@@ -1,5 +1,5 @@
 -- The operator, the filter and the test of an id, as `by_id` answers them.
-use Rattle.std.proofs.Common.{◌≡◌, ℕ, Bool, true, false, cond, eqb, List, [], ◌∷◌, Option, Some, None, refl, sym, ap, ◌∙◌}
+use Rattle.std.proofs.Common.{◌≡◌, ℕ, Bool, true, eqb, List, [], ◌∷◌, Option, Some, None, refl, sym, ap, ◌∙◌, arith, rules}
 use Rattle.std.specs.Prelude.{IfSome}
 use Rattle.std.specs.List.{find}
 use Rattle.std.proofs.lemmas.Bool.{eqb-true}
@@ -17,14 +17,7 @@ use Rattle.jt_image.specs.Ids.{operator_of, filter_of, test_of}
 -- what is found passes the test
 find_holds : {X : Type 0} (f : X → Bool) (xs : List X) (x : X) → find f xs ≡ Some x → f x ≡ true
 find_holds f [] x e = absurd cc
-find_holds {X} f (y ∷ ys) x e = by_test (f y) refl e (λ e'. find_holds f ys x e')
-  where
-    same : (a b : X) → (let o : Option X = Some a in o ≡ Some b) → a ≡ b
-    same a b e' = cc
-
-    by_test : (t : Bool) → f y ≡ t → cond t (Some y) (find f ys) ≡ Some x → (find f ys ≡ Some x → f x ≡ true) → f x ≡ true
-    by_test true t e' rest = ap f (sym (same y x e')) ∙ t
-    by_test false t e' rest = rest e'
+find_holds {X} f (y ∷ ys) x e = search (arith, rules, find_holds f ys x)
 
 -- ---- operators
 

@@ -1,5 +1,5 @@
 -- The spelling of a code is read as that code.
-use Rattle.std.proofs.Common.{◌≡◌, ℕ, ◌+◌, ◌<◌, ◌≤◌, ◌^◌, Bool, true, false, cond, ltb, leb, eqb, List, [], ◌∷◌, ◌++◌, length, map, take, drop, Option, Some, None, Result, Ok, Err, refl, sym, ap, subst, ◌∙◌, arith, append_assoc}
+use Rattle.std.proofs.Common.{◌≡◌, ℕ, ◌+◌, ◌<◌, ◌≤◌, ◌^◌, Bool, true, false, cond, ltb, leb, eqb, List, [], ◌∷◌, ◌++◌, length, map, take, drop, Option, Some, None, Result, Ok, Err, refl, sym, ap, subst, ◌∙◌, arith, append_assoc, rules}
 use Rattle.std.specs.Prelude.{ℤ, ◌==◌, ◌&&◌, ◌||◌, ◌≢◌, not, nat_lt, nat_le, IsUtf8, MatchResult, MatchOption}
 use Rattle.std.specs.Int.{w16, w32, w64, to_le_bytes, cast_signed, cast_unsigned}
 use Rattle.std.specs.List.{flat_map, AllByRecursion}
@@ -11,7 +11,7 @@ use Rattle.std.proofs.lemmas.Bool.{lt-ltb, le-leb, le-ltb}
 use Rattle.std.proofs.lemmas.Bool.Decides.{nat_tests}
 use Rattle.std.proofs.lemmas.List.{append-nil, take_at, drop_at}
 use Rattle.jt_image.specs.declared.error.ImageError.{ImageError}
-use Rattle.jt_image.specs.declared.error.ImageError.TheVariants.{BadMagic, BadVersion, Truncated, Trailing, BadText, BadOpcode, BadTable, LimitPassed, NoMemory}
+use Rattle.jt_image.specs.declared.error.ImageError.TheVariants.{BadMagic, Truncated, Trailing, BadOpcode, BadTable, LimitPassed, NoMemory}
 use Rattle.jt_image.specs.declared.instruction.Instruction.{Instruction}
 use Rattle.jt_image.specs.declared.instruction.Instruction.TheVariants as op
 use Rattle.jt_image.specs.declared.wire.Instr.{Instr}
@@ -238,34 +238,7 @@ abbrev pub HasSmallWire : Instruction → Type 0
 HasSmallWire i = ((wire_of i).b < 2 ^ 16) × ((wire_of i).c < 2 ^ 32)
 
 pub small_wire : (i : Instruction) → IsInstruction i → HasSmallWire i
-small_wire (op.Const c) h = (omega arith, h)
-small_wire (op.Load c) h = (omega arith, h)
-small_wire (op.Store c) h = (omega arith, h)
-small_wire (op.GLoad c) h = (omega arith, h)
-small_wire (op.GStore c) h = (omega arith, h)
-small_wire op.Drop h = (omega arith, omega arith)
-small_wire op.Dup h = (omega arith, omega arith)
-small_wire (op.Emit a) h = (omega arith, omega arith)
-small_wire (op.Data c) h = (omega arith, h)
-small_wire (op.Jump c) h = (omega arith, h)
-small_wire (op.JumpIfFalse c) h = (omega arith, h)
-small_wire (op.JumpIfTrue c) h = (omega arith, h)
-small_wire (op.Op a) h = (omega arith, omega arith)
-small_wire (op.Filter a b c) h = (h.1, h.2)
-small_wire (op.Test a b) h = (h.1, omega arith)
-small_wire (op.MakeList c) h = (omega arith, h)
-small_wire (op.MakeMap c) h = (omega arith, h)
-small_wire op.LoopStart h = (omega arith, omega arith)
-small_wire (op.LoopNext c) h = (omega arith, h)
-small_wire (op.LoopGet a c) h = (omega arith, h.1)
-small_wire (op.LoopKeep c) h = (omega arith, h)
-small_wire op.LoopRewind h = (omega arith, omega arith)
-small_wire op.LoopEnd h = (omega arith, omega arith)
-small_wire op.CaptureBegin h = (omega arith, omega arith)
-small_wire (op.CaptureEnd a) h = (omega arith, omega arith)
-small_wire (op.Unpack c) h = (omega arith, h)
-small_wire (op.Call c) h = (omega arith, h)
-small_wire op.Return h = (omega arith, omega arith)
+small_wire a0 h = search (arith, rules)
 
 -- the fields of an instruction are read as it
 pub by_wire : (w : Instr) (i : Instruction) (rest : List ℕ) → wire_of i ≡ w → w.b < 2 ^ 16 → w.c < 2 ^ 32 → instruction_at (wire_bytes w ++ rest) ≡ Ok (i, rest)
@@ -323,13 +296,7 @@ headers_good before (u ∷ us) all small plain = (
 )
 
 plain_first : (us : List Section) → HasFirst us → IsPlainFirst true us
-plain_first [] h = tt
-plain_first (u ∷ us) h =
-    let same : u ≡ h.entry = some_is u h.entry h.is in
-    ((λ _. ap (λ (v : Section). v.parameters) same ∙ h.plain), (λ _. ap (λ (v : Section). v.kind) same ∙ h.emits))
-  where
-    some_is : (x y : Section) → (let o : Option Section = Some x in o ≡ Some y) → x ≡ y
-    some_is x y e = cc
+plain_first a0 h = search (arith, rules)
 
 some_units : (us : List Section) → HasFirst us → 0 < length us
 some_units [] h = absurd (none h.entry h.is)
@@ -403,16 +370,4 @@ no_fault : (k : Code) (d : ImageError) (read : Result Code ImageError) → read 
 no_fault k d read e f = cc
 
 pub is_only : {X : Type 0} (view : X → Code) (k : Code) (r : Result X ImageError) (read : Result Code ImageError) → read ≡ Ok k → Gives view r read → MatchResult r (λ x. view x ≡ k) (λ e. e ≡ NoMemory)
-is_only view k (Ok x) read e g = same (sym g ∙ e)
-  where
-    same : {x y : Code} → (let a : Result Code ImageError = Ok x in a ≡ Ok y) → x ≡ y
-    same e = cc
-is_only view k (Err NoMemory) read e g = refl
-is_only view k (Err BadMagic) read e g = absurd (no_fault k BadMagic read e g)
-is_only view k (Err BadVersion) read e g = absurd (no_fault k BadVersion read e g)
-is_only view k (Err Truncated) read e g = absurd (no_fault k Truncated read e g)
-is_only view k (Err Trailing) read e g = absurd (no_fault k Trailing read e g)
-is_only view k (Err BadText) read e g = absurd (no_fault k BadText read e g)
-is_only view k (Err BadOpcode) read e g = absurd (no_fault k BadOpcode read e g)
-is_only view k (Err BadTable) read e g = absurd (no_fault k BadTable read e g)
-is_only view k (Err LimitPassed) read e g = absurd (no_fault k LimitPassed read e g)
+is_only view k a2 read e g = search (arith, rules, no_fault)

@@ -1,5 +1,5 @@
 -- How many instructions stand before a unit.
-use Rattle.std.proofs.Common.{◌≡◌, Bool, true, false, if◌then◌else◌, ℕ, zero, suc, ◌+◌, ◌<◌, ◌≤◌, List, [], ◌∷◌, ◌++◌, length, take, get_or, Ok, Err, drop, Option, Some, None, refl, sym, ap, subst, ◌∙◌, arith}
+use Rattle.std.proofs.Common.{◌≡◌, if◌then◌else◌, ℕ, zero, suc, ◌+◌, ◌<◌, ◌≤◌, List, [], ◌∷◌, ◌++◌, length, take, get_or, Ok, Err, drop, Option, Some, None, refl, sym, ap, subst, ◌∙◌, arith, rules}
 use Rattle.std.specs.Prelude.{slice_get, option_map, nat_lt}
 use Rattle.std.proofs.lemmas.Bool.{ltb-true, ltb-false}
 use Rattle.std.specs.Option.{option_and_then}
@@ -97,19 +97,11 @@ module _ (bytes : List ℕ) (p : Places) (h : AreThere bytes p) (u point : ℕ) 
       ap (option_and_then (λ _. place_at k u point)) none
 
   pub place_outside : slice_get p.units.items u ≡ None → place_there (code_in bytes p) u point ≡ None
-  place_outside e =
-      let k : Code = code_in bytes p in
-      let unit : slice_get k.units u ≡ None = units_of bytes p.units.items u ∙ ap (option_map (section_in bytes)) e in
-      let none : instruction_at k u point ≡ None = ap (option_and_then (λ (s : Section). slice_get s.code point)) unit in
-      ap (option_and_then (λ _. place_at k u point)) none
+  place_outside e = search (arith, rules, units_of)
 
   pub place_known : (q : UnitPlace) → slice_get p.units.items u ≡ Some q
       → place_there (code_in bytes p) u point ≡ (if nat_lt point q.len then option_and_then (place_of (code_in bytes p).templates) (slice_get (code_in bytes p).spots (q.first + point)) else None)
-  place_known q e = by (nat_lt point q.len) refl
-    where
-      by : (b : Bool) → nat_lt point q.len ≡ b → place_there (code_in bytes p) u point ≡ (if b then option_and_then (place_of (code_in bytes p).templates) (slice_get (code_in bytes p).spots (q.first + point)) else None)
-      by true f = place_is q e (ltb-true _ _ f)
-      by false f = place_behind q e (ltb-false _ _ f)
+  place_known q e = search (arith, rules, place_is, ltb-true, place_behind, ltb-false)
 
 -- ---- where the bytes of constants and units begin
 

@@ -1,5 +1,5 @@
 -- An instruction whose eight bytes are there, read at once.
-use Rattle.std.proofs.Common.{◌≡◌, ℕ, zero, suc, List, [], ◌∷◌, ◌++◌, length, get_or, Some, Ok, refl, sym, ap, ◌∙◌, arith}
+use Rattle.std.proofs.Common.{◌≡◌, ℕ, zero, suc, List, [], ◌∷◌, ◌++◌, length, get_or, Some, Ok, refl, sym, ap, ◌∙◌, arith, rules}
 use Rattle.std.specs.Int.{w16, w32, from_le_bytes, to_le_bytes}
 use Rattle.jt_image.specs.declared.instruction.Instruction.{Instruction}
 use Rattle.jt_image.specs.declared.wire.Instr.{Instr}
@@ -30,11 +30,7 @@ b_fits front fits (suc zero) = fits 3
 b_fits front fits (suc (suc i)) = omega arith
 
 c_fits : (front : List ℕ) → IsBytes front → IsBytes (c_of front)
-c_fits front fits zero = fits 4
-c_fits front fits (suc zero) = fits 5
-c_fits front fits (suc (suc zero)) = fits 6
-c_fits front fits (suc (suc (suc zero))) = fits 7
-c_fits front fits (suc (suc (suc (suc i)))) = omega arith
+c_fits front fits a2 = search (arith, rules)
 
 -- eight bytes that are an instruction are read as it
 pub read_at_once : (front rest : List ℕ) (i : Instruction) → length front ≡ 8 → IsBytes front → instruction_of (eight_of front) ≡ Some i → instruction_at (front ++ rest) ≡ Ok (i, rest)

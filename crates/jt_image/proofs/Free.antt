@@ -1,5 +1,5 @@
 -- Runs without a budget: a budget changes nothing of a run that it does not cut off, and each run that ends has a budget.
-use Rattle.std.proofs.Common.{◌≡◌, ℕ, zero, suc, ◌+◌, ◌≤◌, Bool, true, false, cond, List, [], ◌∷◌, Option, Some, None, refl, sym, ap, subst, ◌∙◌, arith, if◌then◌else◌}
+use Rattle.std.proofs.Common.{◌≡◌, ℕ, zero, suc, ◌+◌, ◌≤◌, Bool, true, false, List, [], ◌∷◌, Option, Some, None, refl, sym, ap, subst, ◌∙◌, arith, if◌then◌else◌, rules}
 use Rattle.std.specs.Prelude.{nat_lt}
 use Rattle.std.proofs.lemmas.Bool.Decides.{nat_tests}
 use Rattle.jt_value.specs.Tree as tree
@@ -12,7 +12,7 @@ use Rattle.jt_value.specs.Place.{Place}
 use Rattle.jt_image.specs.Places.{place_at}
 use Rattle.jt_image.specs.Config as config
 use Rattle.jt_image.specs.Config.{Budget, Outcome, Caller, Machine, Config}
-use Rattle.jt_image.specs.Step.{Demand, Action, goes_on, ends, faulty, wrong, action, in_tables, strict, cost, fetch}
+use Rattle.jt_image.specs.Step.{Demand, Action, goes_on, ends, faulty, wrong, action, strict, cost, fetch}
 use Rattle.jt_image.specs.Run.{Next, Goes, Ends, spared, unless, spends, placed, next_at, limit_of, first_of, limit_of_named, passed, start, then_goes, after, Ending, RunFrom, Run}
 use Rattle.jt_image.specs.Enough.{AtLeast, Enough}
 use Rattle.jt_image.specs.FreeRun.{Free, Finished, Failed, Stuck, Going, on_action, exec_at, exec, start_machine}
@@ -48,11 +48,7 @@ on_machine m b = record { machine = m; left = b }
 
 -- what a test let through
 passes : (b : Bool) (l : config.Limit) (n : Next) (o : Free) → IsMeant o → unless b l n ≡ Ends (outcome_of o) → n ≡ Ends (outcome_of o)
-passes true l n (Finished t) h e = absurd cc
-passes true l n (Failed f z) h e = absurd cc
-passes true l n Stuck h e = absurd h
-passes true l n Going h e = absurd h
-passes false l n o h e = e
+passes a0 l n a3 h e = search (arith, rules)
 
 text_is : (t : List ℕ) (o : Free) → IsMeant o → Ends (config.text t) ≡ Ends (outcome_of o) → Finished t ≡ o
 text_is t (Finished s) h e = cc
@@ -86,16 +82,8 @@ erased_step n z (goes_on m d) b go free o h rest e = through (nat_lt b.fuel n) (
     through false false false true t e' = spent_is config.size e'
     through false false false false true e' = spent_is config.nesting e'
     through false false false false false e' = rest m (spared n d b) e'
-erased_step n z (ends t) b go free o h rest e = text_is t o h (passes (nat_lt b.fuel n) config.fuel (Ends (config.text t)) o h (ended (nat_lt b.fuel n) e))
-  where
-    ended : (p : Bool) → then_goes (placed z (unless p config.fuel (Ends (config.text t)))) go ≡ Ends (outcome_of o) → unless p config.fuel (Ends (config.text t)) ≡ Ends (outcome_of o)
-    ended true e' = e'
-    ended false e' = e'
-erased_step n z (faulty f) b go free o h rest e = fault_is f z o h (passes (nat_lt b.fuel n) config.fuel (Ends (config.fault f z)) o h (ended (nat_lt b.fuel n) e))
-  where
-    ended : (p : Bool) → then_goes (placed z (unless p config.fuel (Ends (config.fault f None)))) go ≡ Ends (outcome_of o) → unless p config.fuel (Ends (config.fault f z)) ≡ Ends (outcome_of o)
-    ended true e' = e'
-    ended false e' = e'
+erased_step n z (ends t) b go free o h rest e = search (arith, rules, text_is, passes)
+erased_step n z (faulty f) b go free o h rest e = search (arith, rules, fault_is, passes)
 erased_step n z wrong b go free o h rest e = absurd cc
 
 erased_at : (k : Code) (q : Option (Section × Instruction)) (m : Machine) (b : Budget) (go : Config → Next) (free : Machine → Free) (o : Free) → IsMeant o → ((m : Machine) (b : Budget) → go (on_machine m b) ≡ Ends (outcome_of o) → free m ≡ o)
@@ -189,11 +177,7 @@ enough_run k x n o h e =
     )
 
 run_from_erased : (k : Code) (x : Pairs) (b : Budget) (p : Option config.Limit) (o : Free) → IsMeant o → RunFrom p k x b (outcome_of o) → (n : ℕ) × (exec_strict k n (start_machine k x) ≡ o)
-run_from_erased k x b (Some l) (Finished t) h r = absurd cc
-run_from_erased k x b (Some l) (Failed f z) h r = absurd cc
-run_from_erased k x b (Some l) Stuck h r = absurd h
-run_from_erased k x b (Some l) Going h r = absurd h
-run_from_erased k x b None o h r = (r.0, erased k r.0 (start_machine k x) b o h r.1)
+run_from_erased k x b a3 a4 h r = search (arith, rules, erased)
 
 -- a text or a fault that a run ends with is that of the run without a budget
 pub run_erased : (k : Code) (x : Pairs) (b : Budget) (o : Free) → IsMeant o → Run k x b (outcome_of o) → (n : ℕ) × (exec_strict k n (start_machine k x) ≡ o)
@@ -203,11 +187,7 @@ run_erased k x b o h r = run_from_erased k x b (passed b x k.names) o h r
 
 -- an action that is not wrong passed its test
 same_action : (k : Code) (u : Section) (i : Instruction) (m : Machine) (es : List config.Entry) (above : List Caller) → IsFineAction k es above (strict k u i m) → strict k u i m ≡ action k u i m
-same_action k u i m es above fine = through (in_tables k i m.state) fine
-  where
-    through : (b : Bool) → IsFineAction k es above (cond b (action k u i m) wrong) → cond b (action k u i m) wrong ≡ action k u i m
-    through true f = refl
-    through false f = absurd f
+same_action k u i m es above fine = search (arith, rules)
 
 same_on : (k : Code) (z : Option Place) (es : List config.Entry) (above : List Caller) (a : Action) (go go' : Machine → Free) → IsFineAction k es above a → ((m : Machine) → IsFit k m → go m ≡ go' m) → on_action z a go ≡ on_action z a go'
 same_on k z es above (goes_on m d) go go' fine h = h m fine.0

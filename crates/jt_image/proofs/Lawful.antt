@@ -1,17 +1,17 @@
 -- The laws of codes and their runs.
-use Rattle.std.proofs.Common.{ℕ, ◌≤◌, List, [], ◌∷◌, sym, subst, ◌∙◌, arith}
+use Rattle.std.proofs.Common.{ℕ, ◌≤◌, List, [], ◌∷◌, sym, ◌∙◌, arith, rules}
 use Rattle.std.specs.List.{AllByRecursion}
 use Rattle.std.proofs.lemmas.List.{length-map}
 use Rattle.jt_value.specs.Pairs.{Pairs}
 use Rattle.jt_image.specs.Code.{Code}
 use Rattle.jt_image.specs.IsCode.{IsCode}
 use Rattle.jt_image.specs.Typed.{IsTyped}
-use Rattle.jt_image.specs.Config.{Budget, Entry, value, frame, capture, kind_of, Config}
+use Rattle.jt_image.specs.Config.{Budget, Entry, value, frame, capture, Config}
 use Rattle.jt_image.specs.Run.{start, Run}
 use Rattle.jt_image.specs.Enough.{Enough}
 use Rattle.jt_image.specs.FreeRun.{Free, Finished, Failed, start_machine, ComesTo}
 use Rattle.jt_image.specs.Laws.{entry_size, IsSound, HasRuns, CodeLaws}
-use Rattle.jt_image.proofs.Safe.{kinds_of, AreSized, IsFit, IsGood, depth_of, IsFineStep, step_fine}
+use Rattle.jt_image.proofs.Safe.{kinds_of, AreSized, IsFit, IsGood, depth_of, step_fine}
 use Rattle.jt_image.proofs.Runs.{start_good, good_after, safe}
 use Rattle.jt_image.proofs.Free.{IsMeant, outcome_of, only_fuel, enough_run, run_erased, same_exec}
 use Rattle.jt_image.proofs.Assembled.{spelled_len}
@@ -25,13 +25,7 @@ sizes n (frame f ∷ es) h = (omega arith, sizes n es h)
 sizes n (capture ∷ es) h = (omega arith, sizes n es h)
 
 sound : (k : Code) (c : Config) → IsGood k c → IsSound k c
-sound k c g = record {
-  not_wrong = λ e. subst (IsFineStep k c.left.fuel (depth_of c)) e (step_fine k c g);
-  few = omega (arith, g.fit.typed.small c.machine.point (kinds_of c.machine.state.entries) g.fit.here, length-map c.machine.state.entries kind_of);
-  sized = sizes c.left.size c.machine.state.entries g.sized.0;
-  takes = λ d e. (subst (IsFineStep k c.left.fuel (depth_of c)) e (step_fine k c g)).1;
-  depth = λ d e. (subst (IsFineStep k c.left.fuel (depth_of c)) e (step_fine k c g)).2;
-}
+sound k c g = search (arith, rules, depth_of, step_fine, kinds_of, length-map, sizes)
 
 module _ (k : Code) (whole : IsCode k) (typed : IsTyped k) where
   fit : (x : Pairs) → IsFit k (start_machine k x)

@@ -1,21 +1,12 @@
 -- Reading one after the other, as a loop does.
-use Rattle.std.proofs.Common.{◌≡◌, ℕ, suc, ◌-◌, ◌+◌, ◌≤◌, ◌<◌, List, [], ◌∷◌, ◌++◌, length, get_or, drop, map, Result, Ok, Err, refl, sym, ap, ◌∙◌, arith, drop-cons, add-one}
+use Rattle.std.proofs.Common.{◌≡◌, ℕ, suc, ◌-◌, ◌+◌, ◌≤◌, ◌<◌, List, [], ◌∷◌, ◌++◌, length, get_or, drop, map, Result, Ok, Err, refl, sym, ap, ◌∙◌, arith, drop-cons, add-one, rules}
 use Rattle.std.proofs.lemmas.List.{drop_all}
 use Rattle.jt_image.specs.declared.error.ImageError.{ImageError}
-use Rattle.jt_image.specs.declared.error.ImageError.TheVariants.{BadMagic, BadVersion, Truncated, Trailing, BadText, BadOpcode, BadTable, LimitPassed, NoMemory}
 use Rattle.jt_image.specs.Reading.{Fails, many_at, each_at}
 
 -- a reader that stops at a fault of an earlier one
 pub Fails-along : {X Y : Type 0} (e : ImageError) (r : Result X ImageError) (t : Result Y ImageError) → Fails e r → (r ≡ Err e → t ≡ Err e) → Fails e t
-Fails-along NoMemory r t f h = tt
-Fails-along BadMagic r t f h = h f
-Fails-along BadVersion r t f h = h f
-Fails-along Truncated r t f h = h f
-Fails-along Trailing r t f h = h f
-Fails-along BadText r t f h = h f
-Fails-along BadOpcode r t f h = h f
-Fails-along BadTable r t f h = h f
-Fails-along LimitPassed r t f h = h f
+Fails-along a0 r t f h = search (arith, rules)
 
 module _ {A : Type 0} (step : List A → List ℕ → Result (A × List ℕ) ImageError) (count i : ℕ) (before : List A) (bytes : List ℕ) (total : Result (List A × List ℕ) ImageError) where
   pub goes_on : (x : A) (after : List ℕ) → i < count → step before bytes ≡ Ok (x, after) → many_at step (count - i) before bytes ≡ total

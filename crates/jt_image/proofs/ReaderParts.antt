@@ -1,5 +1,5 @@
 -- Names, texts and headers in the reader, as the definitions see them.
-use Rattle.std.proofs.Common.{◌≡◌, ℕ, suc, ◌+◌, ◌-◌, ◌++◌, false, true, ◌<◌, ◌≤◌, Bool, take, drop, ltb, inl, inr, ◌⊎◌, ◌≢◌, Ok, Err, List, [], ◌∷◌, length, get_or, set, refl, map, sym, ap, ◌∙◌, arith, nat_cmp}
+use Rattle.std.proofs.Common.{◌≡◌, ℕ, suc, ◌+◌, ◌-◌, ◌++◌, false, true, ◌<◌, ◌≤◌, Bool, take, drop, ltb, ◌≢◌, Ok, Err, List, [], ◌∷◌, length, get_or, set, refl, map, sym, ap, ◌∙◌, arith, nat_cmp, rules}
 use Rattle.std.specs.Prelude.{◌==◌, ◌||◌}
 use Rattle.std.specs.Str.{IsUtf8, is_utf8}
 use Rattle.std.proofs.lemmas.Str.{is_utf8-from_IsUtf8, IsUtf8-from_is_utf8}
@@ -53,11 +53,7 @@ text_bad n bytes le u =
 
 pub is_used-push : (s : ℕ) (ns : List code.Name) (n : code.Name) → is_used s (ns ++ n ∷ []) ≡ (is_used s ns || (n.slot == s))
 is_used-push s [] n = grind (arith, nat_tests)
-is_used-push s (m ∷ ns) n = or_again (m.slot == s) (is_used s ns) (n.slot == s) _ (is_used-push s ns n)
-  where
-    or_again : (a b c d : Bool) → d ≡ (b || c) → (a || d) ≡ ((a || b) || c)
-    or_again true b c d e = refl
-    or_again false b c d e = e
+is_used-push s (m ∷ ns) n = search (arith, rules, is_used-push s ns n)
 
 same_slot : (n s : ℕ) → n ≡ s → (b : Bool) → (b || (n == s)) ≡ true
 same_slot n s e true = refl
@@ -68,17 +64,7 @@ other_slot n s ne true = refl
 other_slot n s ne false = grind (arith, nat_tests)
 
 pub IsTable-push : (used : List Bool) (globals : ℕ) (ns : List code.Name) (n : code.Name) → n.slot < globals → IsTable used globals ns → IsTable (set used n.slot true) globals (ns ++ n ∷ [])
-IsTable-push used globals ns n lt t = record {
-  len = length-set used n.slot true ∙ t.len;
-  each = λ s below. at s below (cases_eq s n.slot);
-}
-  where
-    at : (s : ℕ) → s < globals → (s ≡ n.slot) ⊎ (s ≢ n.slot) → get_or (set used n.slot true) s false ≡ is_used s (ns ++ n ∷ [])
-    at s below (inl e) =
-        let same : get_or (set used n.slot true) n.slot false ≡ true = get_or-set_same used n.slot true false (omega (arith, t.len)) in
-        ap (λ (i : ℕ). get_or (set used n.slot true) i false) e ∙ same ∙ sym (is_used-push s ns n ∙ same_slot n.slot s (sym e) (is_used s ns))
-    at s below (inr ne) =
-        get_or-set_other used n.slot s true false ne ∙ t.each s below ∙ sym (is_used-push s ns n ∙ other_slot n.slot s ne (is_used s ns))
+IsTable-push used globals ns n lt t = search (arith, rules, length-set, cases_eq, get_or, get_or-set_same, is_used-push, same_slot, get_or-set_other, other_slot)
 
 -- ---- templates
 

@@ -1,6 +1,6 @@
 -- Whole runs of a typed code.
-use Rattle.std.proofs.Common.{◌≡◌, ◌≢◌, ◌↔◌, ℕ, zero, suc, ◌+◌, ◌<◌, ◌≤◌, Bool, true, false, cond, List, [], ◌∷◌, length, Option, Some, None, refl, ap, subst, ◌∙◌, arith}
-use Rattle.std.specs.Prelude.{slice_get, slice_set, unwrap_or, replicate, nat_lt}
+use Rattle.std.proofs.Common.{◌≡◌, ◌≢◌, ◌↔◌, ℕ, zero, suc, ◌+◌, ◌<◌, ◌≤◌, List, [], ◌∷◌, length, Option, Some, None, refl, ap, subst, ◌∙◌, arith, rules}
+use Rattle.std.specs.Prelude.{slice_get, slice_set, unwrap_or, replicate}
 use Rattle.std.proofs.lemmas.Bool.{ltb-true, ltb-false}
 use Rattle.std.proofs.lemmas.List.{length-set}
 use Rattle.jt_value.specs.Tree as tree
@@ -14,8 +14,8 @@ use Rattle.jt_image.specs.Places.{place_at}
 use Rattle.jt_image.specs.Typed.{IsTyped}
 use Rattle.jt_image.specs.Config as config
 use Rattle.jt_image.specs.Config.{Budget, Outcome, Config}
-use Rattle.jt_image.specs.Step.{Action, goes_on, ends, faulty, wrong, locals_of, strict, cost, fetch}
-use Rattle.jt_image.specs.Run.{Next, Goes, Ends, Wrong, spared, unless, spends, placed, next_at, next, passed, filled, entry_locals, start, then_goes, after, RunFrom, cost_at, taken, then_costs, costs, IsSafe}
+use Rattle.jt_image.specs.Step.{Action, locals_of, strict, cost, fetch}
+use Rattle.jt_image.specs.Run.{Next, Goes, Ends, Wrong, spends, placed, next_at, next, passed, filled, entry_locals, start, then_goes, after, RunFrom, cost_at, taken, then_costs, costs, IsSafe}
 use Rattle.jt_image.proofs.Safe.{IsGood, depth_of, IsFineStep, length-locals_of, step_fine}
 
 -- an end within so many steps
@@ -71,77 +71,22 @@ first_locals [] u e = absurd cc
 first_locals (v ∷ us) u e = let same : v ≡ u = cc in length-locals_of v.locals [] ∙ ap (λ (w : Section). w.locals) same
 
 pub start_good : (k : Code) → IsCode k → IsTyped k → (x : Pairs) (b : Budget) → IsGood k (start k x b)
-start_good k code t x b =
-    let h = code.entry in
-    let typed = t 0 h.entry h.is in
-    record {
-      fit = record {
-        all = t;
-        unit = h.entry;
-        is_unit = h.is;
-        shapes = typed.0;
-        typed = typed.1;
-        here = typed.1.start;
-        locals = first_locals k.units h.entry h.is;
-        globals = length-filled x k.names (replicate k.globals tree.undefined) ∙ length-replicate k.globals tree.undefined;
-        callers = h.emits;
-        buffers = refl;
-      };
-      sized = (tt, tt);
-    }
+start_good k code t x b = search (arith, rules, first_locals, length-filled, length-replicate)
 
 -- ---- what is taken of the fuel
 
 -- what follows a step costs at most what the step leaves
 fuel_left : (n : ℕ) (a : Action) (b : Budget) (go : Config → ℕ) → ((c : Config) → go c ≤ c.left.fuel) → taken b.fuel n + then_costs (spends n a b) go ≤ b.fuel
-fuel_left n (goes_on m d) b go h = through (nat_lt b.fuel n) (nat_lt b.depth d.calls) (nat_lt b.output d.bytes) (nat_lt b.size d.size) (nat_lt b.nesting d.nesting) refl
-  where
-    through : (p q r s t : Bool) → nat_lt b.fuel n ≡ p → cond p 0 n + then_costs (unless p config.fuel (unless q config.depth (unless r config.output (unless s config.size (unless t config.nesting (Goes (record { machine = m; left = spared n d b }))))))) go ≤ b.fuel
-    through true q r s t e = omega arith
-    through false true r s t e = omega (arith, ltb-false _ _ e)
-    through false false true s t e = omega (arith, ltb-false _ _ e)
-    through false false false true t e = omega (arith, ltb-false _ _ e)
-    through false false false false true e = omega (arith, ltb-false _ _ e)
-    through false false false false false e = omega (arith, ltb-false _ _ e, h (record { machine = m; left = spared n d b }))
-fuel_left n (ends t) b go h = through (nat_lt b.fuel n) refl
-  where
-    through : (p : Bool) → nat_lt b.fuel n ≡ p → cond p 0 n + then_costs (unless p config.fuel (Ends (config.text t))) go ≤ b.fuel
-    through true e = omega arith
-    through false e = omega (arith, ltb-false _ _ e)
-fuel_left n (faulty f) b go h = through (nat_lt b.fuel n) refl
-  where
-    through : (p : Bool) → nat_lt b.fuel n ≡ p → cond p 0 n + then_costs (unless p config.fuel (Ends (config.fault f None))) go ≤ b.fuel
-    through true e = omega arith
-    through false e = omega (arith, ltb-false _ _ e)
-fuel_left n wrong b go h = through (nat_lt b.fuel n) refl
-  where
-    through : (p : Bool) → nat_lt b.fuel n ≡ p → cond p 0 n + 0 ≤ b.fuel
-    through true e = omega arith
-    through false e = omega (arith, ltb-false _ _ e)
+fuel_left n a1 b go h = search (arith, rules, ltb-false)
 
 placed_costs : (q : Option Place) (n : Next) (go : Config → ℕ) → then_costs (placed q n) go ≡ then_costs n go
-placed_costs q (Goes c) go = refl
-placed_costs q (Ends (config.text t)) go = refl
-placed_costs q (Ends (config.fault f p)) go = refl
-placed_costs q (Ends (config.spent l)) go = refl
-placed_costs q Wrong go = refl
+placed_costs q a1 go = search (arith, rules)
 
 placed_back : (q : Option Place) (n : Next) (l : config.Limit) → placed q n ≡ Ends (config.spent l) → n ≡ Ends (config.spent l)
-placed_back q (Goes c) l e = absurd cc
-placed_back q (Ends (config.text t)) l e = absurd cc
-placed_back q (Ends (config.fault f p)) l e = absurd cc
-placed_back q (Ends (config.spent m)) l e = e
-placed_back q Wrong l e = absurd cc
+placed_back q a1 l e = search (arith, rules)
 
 cost_within : (k : Code) (o : Option (Section × Instruction)) (c : Config) (go : Config → ℕ) → ((d : Config) → go d ≤ d.left.fuel) → taken c.left.fuel (cost_at o c) + then_costs (next_at k o c) go ≤ c.left.fuel
-cost_within k None c go h = through (nat_lt c.left.fuel 0)
-  where
-    through : (p : Bool) → cond p 0 0 + 0 ≤ c.left.fuel
-    through true = omega arith
-    through false = omega arith
-cost_within k (Some (u, i)) c go h =
-    let n = spends (cost i c.machine.state) (strict k u i c.machine) c.left in
-    omega (arith, fuel_left (cost i c.machine.state) (strict k u i c.machine) c.left go h, placed_costs (place_at k c.machine.unit c.machine.point) n go)
+cost_within k a1 c go h = search (arith, rules, fuel_left, placed_costs)
 
 pub costs_within : (k : Code) (n : ℕ) (c : Config) → costs k n c ≤ c.left.fuel
 costs_within k zero c = omega arith
@@ -150,26 +95,7 @@ costs_within k (suc n) c = cost_within k (fetch k c.machine.unit c.machine.point
 -- ---- when the fuel is spent
 
 spent_iff : (n : ℕ) (a : Action) (b : Budget) → spends n a b ≢ Wrong → (spends n a b ≡ Ends (config.spent config.fuel)) ↔ (b.fuel < n)
-spent_iff n (goes_on m d) b ok = through (nat_lt b.fuel n) (nat_lt b.depth d.calls) (nat_lt b.output d.bytes) (nat_lt b.size d.size) (nat_lt b.nesting d.nesting) refl
-  where
-    through : (p q r s t : Bool) → nat_lt b.fuel n ≡ p → (unless p config.fuel (unless q config.depth (unless r config.output (unless s config.size (unless t config.nesting (Goes (record { machine = m; left = spared n d b })))))) ≡ Ends (config.spent config.fuel)) ↔ (b.fuel < n)
-    through true q r s t e = (λ _. ltb-true _ _ e, λ _. refl)
-    through false true r s t e = (λ f. absurd cc, λ lt. absurd (omega (arith, ltb-false _ _ e)))
-    through false false true s t e = (λ f. absurd cc, λ lt. absurd (omega (arith, ltb-false _ _ e)))
-    through false false false true t e = (λ f. absurd cc, λ lt. absurd (omega (arith, ltb-false _ _ e)))
-    through false false false false true e = (λ f. absurd cc, λ lt. absurd (omega (arith, ltb-false _ _ e)))
-    through false false false false false e = (λ f. absurd cc, λ lt. absurd (omega (arith, ltb-false _ _ e)))
-spent_iff n (ends t) b ok = through (nat_lt b.fuel n) refl
-  where
-    through : (p : Bool) → nat_lt b.fuel n ≡ p → (unless p config.fuel (Ends (config.text t)) ≡ Ends (config.spent config.fuel)) ↔ (b.fuel < n)
-    through true e = (λ _. ltb-true _ _ e, λ _. refl)
-    through false e = (λ f. absurd cc, λ lt. absurd (omega (arith, ltb-false _ _ e)))
-spent_iff n (faulty x) b ok = through (nat_lt b.fuel n) refl
-  where
-    through : (p : Bool) → nat_lt b.fuel n ≡ p → (unless p config.fuel (Ends (config.fault x None)) ≡ Ends (config.spent config.fuel)) ↔ (b.fuel < n)
-    through true e = (λ _. ltb-true _ _ e, λ _. refl)
-    through false e = (λ f. absurd cc, λ lt. absurd (omega (arith, ltb-false _ _ e)))
-spent_iff n wrong b ok = absurd (ok refl)
+spent_iff n a1 b ok = search (arith, rules, ltb-true, ltb-false)
 
 spent_at : (k : Code) (o : Option (Section × Instruction)) (c : Config) → next_at k o c ≢ Wrong → (next_at k o c ≡ Ends (config.spent config.fuel)) ↔ (c.left.fuel < cost_at o c)
 spent_at k None c ok = absurd (ok refl)

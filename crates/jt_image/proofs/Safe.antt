@@ -1,6 +1,6 @@
 -- A machine of a typed code goes on or ends, and is never wrong.
-use Rattle.std.proofs.Common.{◌≡◌, ℕ, zero, suc, ◌+◌, ◌*◌, ◌<◌, ◌≤◌, Bool, true, false, cond, ltb, eqb, List, [], ◌∷◌, ◌++◌, length, map, Option, Some, None, Result, Ok, Err, refl, sym, ap, subst, ◌∙◌, arith}
-use Rattle.std.specs.Prelude.{◌==◌, slice_get, slice_set, nat_lt}
+use Rattle.std.proofs.Common.{◌≡◌, ℕ, zero, suc, ◌+◌, ◌*◌, ◌<◌, ◌≤◌, Bool, true, false, cond, ltb, eqb, List, [], ◌∷◌, ◌++◌, length, map, Option, Some, None, Result, Ok, Err, refl, sym, ap, subst, ◌∙◌, arith, rules}
+use Rattle.std.specs.Prelude.{◌==◌, slice_get, slice_set}
 use Rattle.std.specs.Option.{is_some}
 use Rattle.std.specs.List.{AllByRecursion}
 use Rattle.std.proofs.lemmas.Bool.{ltb-false, eqb-true}
@@ -22,12 +22,12 @@ use Rattle.jt_image.specs.Effect as effect
 use Rattle.jt_image.specs.Effect.{Shape, Leads, require, pops, pops_many, pops_frame, pops_capture, pushes, gives, calls, goes_on, jumps, branches, may_return, effect, effect_of}
 use Rattle.jt_image.specs.Typed.{Shapes, Equal, HasSame, IsTypedBy, IsTyped}
 use Rattle.jt_image.specs.Ids.{operator_of, operands_of, filter_of, test_of}
-use Rattle.jt_image.specs.Loops.{trees_of, loop_over, advanced, keeping, field_of}
+use Rattle.jt_image.specs.Loops.{trees_of, loop_over, keeping, field_of}
 use Rattle.jt_image.specs.Config as config
 use Rattle.jt_image.specs.Config.{Budget, Outcome, Frame, Entry, value, frame, capture, kind_of, State, Caller, Machine, Config}
 use Rattle.jt_image.specs.Step as step
 use Rattle.jt_image.specs.Step.{Demand, no_demand, pushing, pushing_all, greatest, emitting, calling, Plain, goes, faults_by, broken, with_entries, push, on_value, on_values, on_frame, on_capture, as_frame, push_given, makes, put, put_printed, shown, slot, constant_value, text_of, operated, filtered_by, tested_by, begins, told_by, piled, spreads, unpacks, closes, listed, mapped, plain, Action, ends, faulty, wrong, at_point, straight, jump_on, turns, locals_of, entered, calls_unit, Given, nothing, result, disorder, given_by, resumed, back_to, action, in_tables, strict, cost, fetch}
-use Rattle.jt_image.specs.Run.{Next, Goes, Ends, Wrong, spared, unless, spends, placed, next}
+use Rattle.jt_image.specs.Run.{Next, Goes, Ends, Wrong, unless, spends, placed, next}
 
 -- the kinds of the entries
 abbrev pub kinds_of : List Entry → Shape
@@ -258,22 +258,7 @@ module _ (k : Code) (m : Machine) (g : IsFit k m) (l : Leads) (agree : Agrees k 
 
   -- at a point of the unit, above the same callers
   lands : (p : ℕ) (fs : List Entry) (ls gs : List Tree) (bs : List (List ℕ)) (d : Demand) → g.shapes p ≡ Some (kinds_of fs) → length ls ≡ length m.state.locals → length gs ≡ length m.state.globals → length bs ≡ suc (captures fs + above) → ((n : ℕ) → AreSized n es → d.size ≤ n → AreSized n fs) → d.returns ≡ d.calls → Fine (step.goes_on (moved p fs ls gs bs m) d)
-  lands p fs ls gs bs d here locals globals buffers sized same = (
-    record {
-      all = g.all;
-      unit = g.unit;
-      is_unit = g.is_unit;
-      shapes = g.shapes;
-      typed = g.typed;
-      here = here;
-      locals = locals ∙ g.locals;
-      globals = globals ∙ g.globals;
-      callers = g.callers;
-      buffers = buffers;
-    },
-    λ n all fits. (sized n all.0 fits, all.1),
-    ap (λ (n : ℕ). length m.callers + n) same,
-  )
+  lands p fs ls gs bs d here locals globals buffers sized same = search (arith, rules)
 
   -- the same with other entries alone
   lands_on : (p : ℕ) (fs : List Entry) (d : Demand) → g.shapes p ≡ Some (kinds_of fs) → captures fs ≡ captures es → ((n : ℕ) → AreSized n es → d.size ≤ n → AreSized n fs) → d.returns ≡ d.calls → Fine (step.goes_on (moved p fs m.state.locals m.state.globals m.state.buffers m) d)
@@ -316,18 +301,10 @@ module _ (k : Code) (m : Machine) (g : IsFit k m) (l : Leads) (agree : Agrees k 
       (λ t fs e' count sized. lands_on (m.point + 1) fs no_demand (behind (kinds_of fs) e') count (λ n z _. (sized n z).1) refl)
 
   store_fine : (c : ℕ) → effect k g.unit m.point (op.Store c) s ≡ Ok l → Fine (strict k g.unit (op.Store c) m)
-  store_fine c e =
-      let b = require_ok _ _ _ l e in
-      let there : ltb c (length m.state.locals) ≡ true = rw g.locals b.0 in
-      in_place _ _ there (taken l broken FinePlain es (λ r. goes_on g.unit m.point r) (λ t fs. goes (record m.state { entries = fs; locals = slice_set m.state.locals c t }) no_demand) b.1
-      (λ t fs e' count sized. lands (m.point + 1) fs (slice_set m.state.locals c t) m.state.globals m.state.buffers no_demand (behind (kinds_of fs) e') (length-set m.state.locals c t) refl (rw count g.buffers) (λ n z _. (sized n z).1) refl))
+  store_fine c e = search (arith, rules, require_ok, in_place, taken, lands, behind, length-set)
 
   store_global_fine : (c : ℕ) → effect k g.unit m.point (op.GStore c) s ≡ Ok l → Fine (strict k g.unit (op.GStore c) m)
-  store_global_fine c e =
-      let b = require_ok _ _ _ l e in
-      let there : ltb c (length m.state.globals) ≡ true = rw g.globals b.0 in
-      in_place _ _ there (taken l broken FinePlain es (λ r. goes_on g.unit m.point r) (λ t fs. goes (record m.state { entries = fs; globals = slice_set m.state.globals c t }) no_demand) b.1
-      (λ t fs e' count sized. lands (m.point + 1) fs m.state.locals (slice_set m.state.globals c t) m.state.buffers no_demand (behind (kinds_of fs) e') refl (length-set m.state.globals c t) (rw count g.buffers) (λ n z _. (sized n z).1) refl))
+  store_global_fine c e = search (arith, rules, require_ok, in_place, taken, lands, behind, length-set)
 
   dup_fine : effect k g.unit m.point op.Dup s ≡ Ok l → Fine (strict k g.unit op.Dup m)
   dup_fine e =
@@ -361,18 +338,10 @@ module _ (k : Code) (m : Machine) (g : IsFit k m) (l : Leads) (agree : Agrees k 
   either_place false p q r h i = i
 
   if_false_fine : (p : ℕ) → effect k g.unit m.point (op.JumpIfFalse p) s ≡ Ok l → Fine (strict k g.unit (op.JumpIfFalse p) m)
-  if_false_fine p e =
-      taken l wrong Fine es (λ r. branches g.unit m.point p r) (λ t fs. step.goes_on (record m { point = cond (truth t) (m.point + 1) p; state = with_entries m.state fs }) no_demand) e
-      (λ t fs e' count sized.
-      let b = branches_ok k g.unit g.shapes m.point p (kinds_of fs) l e' agree in
-      lands_on (cond (truth t) (m.point + 1) p) fs no_demand (either_place (truth t) (m.point + 1) p (kinds_of fs) b.0 b.1) count (λ n z _. (sized n z).1) refl)
+  if_false_fine p e = search (arith, rules, taken, branches_ok, lands_on, either_place)
 
   if_true_fine : (p : ℕ) → effect k g.unit m.point (op.JumpIfTrue p) s ≡ Ok l → Fine (strict k g.unit (op.JumpIfTrue p) m)
-  if_true_fine p e =
-      taken l wrong Fine es (λ r. branches g.unit m.point p r) (λ t fs. step.goes_on (record m { point = cond (truth t) p (m.point + 1); state = with_entries m.state fs }) no_demand) e
-      (λ t fs e' count sized.
-      let b = branches_ok k g.unit g.shapes m.point p (kinds_of fs) l e' agree in
-      lands_on (cond (truth t) p (m.point + 1)) fs no_demand (either_place (truth t) p (m.point + 1) (kinds_of fs) b.1 b.0) count (λ n z _. (sized n z).1) refl)
+  if_true_fine p e = search (arith, rules, taken, branches_ok, lands_on, either_place)
 
   -- what an operation gives, in place of the values that it took
   given_fine : (r : Result Tree Fault) (fs : List Entry) → captures fs ≡ captures es → goes_on g.unit m.point (kind.Value ∷ kinds_of fs) ≡ Ok l → ((n : ℕ) → AreSized n es → AreSized n fs) → FinePlain (push_given r fs m.state)
@@ -415,14 +384,7 @@ module _ (k : Code) (m : Machine) (g : IsFit k m) (l : Leads) (agree : Agrees k 
   either_fine false x y h i = i
 
   next_fine : (p : ℕ) → effect k g.unit m.point (op.LoopNext p) s ≡ Ok l → Fine (strict k g.unit (op.LoopNext p) m)
-  next_fine p e =
-      taken_frame l wrong Fine es (λ r. branches g.unit m.point p (kind.Frame ∷ r)) (λ f fs. cond (nat_lt f.position (length f.items)) (step.goes_on (record m { point = m.point + 1; state = with_entries m.state (frame (advanced f) ∷ fs) }) no_demand) (step.goes_on (at_point p m) no_demand)) e
-      (λ f fs is e' count sized.
-      let b = branches_ok k g.unit g.shapes m.point p (kind.Frame ∷ kinds_of fs) l e' agree in
-      let same : g.shapes p ≡ Some s = b.1 ∙ ap (λ (xs : List Entry). Some (kinds_of xs)) (sym is) in
-      either_fine (nat_lt f.position (length f.items)) _ _
-      (lands_on (m.point + 1) (frame (advanced f) ∷ fs) no_demand b.0 count (λ n z _. sized n z) refl)
-      (lands_on p es no_demand same refl (λ n z _. z) refl))
+  next_fine p e = search (arith, rules, taken_frame, branches_ok, either_fine, lands_on)
 
   get_fine : (a c : ℕ) → effect k g.unit m.point (op.LoopGet a c) s ≡ Ok l → Fine (strict k g.unit (op.LoopGet a c) m)
   get_fine a c e =
@@ -459,11 +421,7 @@ module _ (k : Code) (m : Machine) (g : IsFit k m) (l : Leads) (agree : Agrees k 
   open_fine e = lands (m.point + 1) (capture ∷ es) m.state.locals m.state.globals ([] ∷ m.state.buffers) no_demand (behind (kind.Capture ∷ s) e) refl refl (omega (arith, g.buffers)) (λ n z _. z) refl
 
   closes_fine : (b : Bool) (bs : List (List ℕ)) (fs : List Entry) → length bs ≡ suc (captures es + above) → captures es ≡ suc (captures fs) → goes_on g.unit m.point (kind.Value ∷ kinds_of fs) ≡ Ok l → ((n : ℕ) → AreSized n es → AreSized n fs) → FinePlain (closes b bs fs m.state)
-  closes_fine b [] fs count one e sized = absurd (omega arith)
-  closes_fine b (bytes ∷ []) fs count one e sized = absurd (omega (arith, one))
-  closes_fine b (bytes ∷ d ∷ bs) fs count one e sized =
-      let t : Tree = cond b (tree.markup bytes) (tree.text bytes) in
-      lands (m.point + 1) (value t ∷ fs) m.state.locals m.state.globals (d ∷ bs) (pushing t) (behind (kind.Value ∷ kinds_of fs) e) refl refl (omega (arith, count, one)) (λ n z fits. (fits, sized n z)) refl
+  closes_fine b a1 fs count one e sized = search (arith, rules, lands, behind)
 
   close_fine : (a : ℕ) → effect k g.unit m.point (op.CaptureEnd a) s ≡ Ok l → Fine (strict k g.unit (op.CaptureEnd a) m)
   close_fine a e =
@@ -521,22 +479,7 @@ module _ (k : Code) (m : Machine) (g : IsFit k m) (l : Leads) (agree : Agrees k 
 
   -- a caller goes on, with what the unit gives on top of its entries
   resumed_fine : (n : ℕ) (a : Caller) (rest : List Caller) (fs gs : List Entry) (d : Demand) → AreWaiting k n (a ∷ rest) → gives n (kinds_of a.entries) ≡ kinds_of gs → captures gs ≡ captures a.entries → length m.state.buffers ≡ suc (captures_above (a ∷ rest)) → ((z : ℕ) → AreSized z a.entries → d.size ≤ z → AreSized z gs) → d.returns ≡ suc d.calls → IsFineAction k fs (a ∷ rest) (step.goes_on (resumed a rest gs m) d)
-  resumed_fine n a rest fs gs d w kinds count buffers sized back = (
-    record {
-      all = g.all;
-      unit = w.0.unit;
-      is_unit = w.0.is_unit;
-      shapes = w.0.shapes;
-      typed = w.0.typed;
-      here = w.0.behind ∙ ap Some kinds;
-      locals = w.0.locals;
-      globals = g.globals;
-      callers = w.1;
-      buffers = omega (arith, buffers, count);
-    },
-    λ z all fits. (sized z all.1.0 fits, all.1.1),
-    omega (arith, back),
-  )
+  resumed_fine n a rest fs gs d w kinds count buffers sized back = search (arith, rules)
 
   -- the first activation returns with no entries, so one buffer is left
   ends_fine : (fs : List Entry) (bs : List (List ℕ)) → length bs ≡ 1 → IsFineAction k fs [] (back_to [] nothing bs m)
@@ -545,11 +488,7 @@ module _ (k : Code) (m : Machine) (g : IsFit k m) (l : Leads) (agree : Agrees k 
   ends_fine fs (b ∷ d ∷ bs) count = absurd (omega arith)
 
   returned_fine : (rest : List Caller) (n : ℕ) (fs : List Entry) → AreWaiting k n rest → may_return n (kinds_of fs) ≡ true → length m.state.buffers ≡ suc (captures fs + captures_above rest) → IsFineAction k fs rest (back_to rest (given_by n fs) m.state.buffers m)
-  returned_fine [] zero [] w ok count = ends_fine [] m.state.buffers count
-  returned_fine (a ∷ rest) zero [] w ok count = resumed_fine 0 a rest [] a.entries step.returning w refl refl (omega (arith, count)) (λ z all _. all) refl
-  returned_fine [] (suc n) (value t ∷ []) w ok count = absurd (omega (arith, w))
-  returned_fine (a ∷ rest) (suc n) (value t ∷ []) w ok count = resumed_fine (suc n) a rest (value t ∷ []) (value t ∷ a.entries) (record (pushing t) { returns = 1 }) w refl refl (omega (arith, count)) (λ z all fits. (fits, all)) refl
-  returned_fine rest n fs w ok count = absurd cc
+  returned_fine a0 a1 a2 w ok count = search (arith, rules, ends_fine, resumed_fine)
 
   return_fine : effect k g.unit m.point op.Return s ≡ Ok l → Fine (strict k g.unit op.Return m)
   return_fine e = returned_fine m.callers g.unit.kind es g.callers (require_ok _ _ _ l e).0 g.buffers
@@ -587,59 +526,17 @@ module _ (k : Code) (m : Machine) (g : IsFit k m) (l : Leads) (agree : Agrees k 
 -- ---- a step under a budget
 
 pub cost_positive : (i : Instruction) (m : State) → 1 ≤ cost i m
-cost_positive (op.Const c) m = omega arith
-cost_positive (op.Load c) m = omega arith
-cost_positive (op.Store c) m = omega arith
-cost_positive (op.GLoad c) m = omega arith
-cost_positive (op.GStore c) m = omega arith
-cost_positive op.Drop m = omega arith
-cost_positive op.Dup m = omega arith
-cost_positive (op.Emit a) m = omega arith
-cost_positive (op.Data c) m = omega arith
-cost_positive (op.Jump p) m = omega arith
-cost_positive (op.JumpIfFalse p) m = omega arith
-cost_positive (op.JumpIfTrue p) m = omega arith
-cost_positive (op.Op a) m = omega arith
-cost_positive (op.Filter a n f) m = omega arith
-cost_positive (op.Test a n) m = omega arith
-cost_positive (op.MakeList c) m = omega arith
-cost_positive (op.MakeMap c) m = omega arith
-cost_positive op.LoopStart m = omega arith
-cost_positive (op.LoopNext p) m = omega arith
-cost_positive (op.LoopGet a c) m = omega arith
-cost_positive (op.LoopKeep c) m = omega arith
-cost_positive op.LoopRewind m = omega arith
-cost_positive op.LoopEnd m = omega arith
-cost_positive op.CaptureBegin m = omega arith
-cost_positive (op.CaptureEnd a) m = omega arith
-cost_positive (op.Unpack c) m = omega arith
-cost_positive (op.Call n) m = omega arith
-cost_positive op.Return m = omega arith
+cost_positive a0 m = search (arith, rules)
 
 unless_fine : (k : Code) (fuel depth : ℕ) (b : Bool) (l : config.Limit) (n : Next) → (b ≡ false → IsFineStep k fuel depth n) → IsFineStep k fuel depth (unless b l n)
 unless_fine k fuel depth true l n h = tt
 unless_fine k fuel depth false l n h = h refl
 
 placed_fine : (k : Code) (fuel depth : ℕ) (q : Option Place) (n : Next) → IsFineStep k fuel depth n → IsFineStep k fuel depth (placed q n)
-placed_fine k fuel depth q (Goes d) h = h
-placed_fine k fuel depth q (Ends (config.text t)) h = tt
-placed_fine k fuel depth q (Ends (config.fault f p)) h = tt
-placed_fine k fuel depth q (Ends (config.spent l)) h = tt
-placed_fine k fuel depth q Wrong h = h
+placed_fine k fuel depth q a4 h = search (arith, rules)
 
 spends_fine : (k : Code) (es : List Entry) (above : List Caller) (n : ℕ) (a : Action) (b : Budget) → 1 ≤ n → AreAllSized b.size es above → IsFineAction k es above a → IsFineStep k b.fuel (b.depth + length above) (spends n a b)
-spends_fine k es above n (step.goes_on m d) b positive sized fine =
-    unless_fine k b.fuel (b.depth + length above) (nat_lt b.fuel n) config.fuel _ (λ enough.
-    unless_fine k b.fuel (b.depth + length above) (nat_lt b.depth d.calls) config.depth _ (λ deep.
-    unless_fine k b.fuel (b.depth + length above) (nat_lt b.output d.bytes) config.output _ (λ _.
-    unless_fine k b.fuel (b.depth + length above) (nat_lt b.size d.size) config.size _ (λ small.
-    unless_fine k b.fuel (b.depth + length above) (nat_lt b.nesting d.nesting) config.nesting (Goes (record { machine = m; left = spared n d b })) (λ _.
-    let fuel : n ≤ b.fuel = ltb-false _ _ enough in
-    let depth : d.calls ≤ b.depth = ltb-false _ _ deep in
-    (record { fit = fine.0; sized = fine.1 b.size sized (ltb-false _ _ small) }, omega arith, omega (arith, fine.2)))))))
-spends_fine k es above n (ends t) b positive sized fine = unless_fine k b.fuel (b.depth + length above) (nat_lt b.fuel n) config.fuel (Ends (config.text t)) (λ _. tt)
-spends_fine k es above n (faulty f) b positive sized fine = unless_fine k b.fuel (b.depth + length above) (nat_lt b.fuel n) config.fuel (Ends (config.fault f None)) (λ _. tt)
-spends_fine k es above n wrong b positive sized fine = absurd fine
+spends_fine k es above n a4 b positive sized fine = search (arith, rules, unless_fine, ltb-false)
 
 at_instruction : (k : Code) (c : Config) (g : IsGood k c) (l : Leads) (o : Option Instruction) → slice_get g.fit.unit.code c.machine.point ≡ o → Agrees k g.fit.unit g.fit.shapes l
     → effect_of k g.fit.unit c.machine.point o (kinds_of c.machine.state.entries) ≡ Ok l → IsFineStep k c.left.fuel (depth_of c) (next k c)

@@ -1,5 +1,5 @@
 -- What is read from bytes is spelled so, and is a code.
-use Rattle.std.proofs.Common.{◌≡◌, ℕ, zero, suc, ◌+◌, ◌<◌, ◌≤◌, ◌^◌, Bool, true, false, cond, eqb, List, [], ◌∷◌, ◌++◌, length, Option, Some, None, Result, Ok, Err, refl, sym, ap, subst, ◌∙◌, arith}
+use Rattle.std.proofs.Common.{◌≡◌, ℕ, zero, suc, ◌+◌, ◌<◌, ◌≤◌, ◌^◌, Bool, true, false, cond, eqb, List, [], ◌∷◌, ◌++◌, length, Option, Some, None, Result, Ok, Err, refl, sym, ap, subst, ◌∙◌, arith, rules}
 use Rattle.std.specs.Prelude.{◌==◌, ◌&&◌, ◌||◌, not, nat_lt, nat_le, IsUtf8}
 use Rattle.std.specs.Int.{w16, w32, w64, to_le_bytes, cast_signed, cast_unsigned}
 use Rattle.std.specs.List.{flat_map, AllByRecursion}
@@ -219,43 +219,19 @@ same_wire w opcode a b c e x y z =
     ap (λ (n : ℕ). wire_at n a b c) o ∙ ap (λ (n : ℕ). wire_at w.op n b c) x ∙ ap (λ (n : ℕ). wire_at w.op w.a n c) y ∙ ap (λ (n : ℕ). wire_at w.op w.a w.b n) z
 
 none_wire : (w : Instr) (opcode : ℕ) (i : Instruction) → eqb w.op opcode ≡ true → wire_of i ≡ wire_at opcode 0 0 0 → HasWire w (uses_none w i)
-none_wire w opcode i e is = by_tests (eqb w.a 0) (eqb w.b 0) (eqb w.c 0) refl refl refl
-  where
-    by_tests : (x y z : Bool) → eqb w.a 0 ≡ x → eqb w.b 0 ≡ y → eqb w.c 0 ≡ z → HasWire w (cond (x && (y && z)) (Some i) None)
-    by_tests true true true x y z = is ∙ same_wire w opcode 0 0 0 e (sym (eqb-true w.a 0 x)) (sym (eqb-true w.b 0 y)) (sym (eqb-true w.c 0 z))
-    by_tests true true false x y z = tt
-    by_tests true false d x y z = tt
-    by_tests false b d x y z = tt
+none_wire w opcode i e is = search (arith, rules, same_wire, eqb-true)
 
 c_wire : (w : Instr) (opcode : ℕ) (i : Instruction) → eqb w.op opcode ≡ true → wire_of i ≡ wire_at opcode 0 0 w.c → HasWire w (uses_c w i)
-c_wire w opcode i e is = by_tests (eqb w.a 0) (eqb w.b 0) refl refl
-  where
-    by_tests : (x y : Bool) → eqb w.a 0 ≡ x → eqb w.b 0 ≡ y → HasWire w (cond (x && y) (Some i) None)
-    by_tests true true x y = is ∙ same_wire w opcode 0 0 w.c e (sym (eqb-true w.a 0 x)) (sym (eqb-true w.b 0 y)) refl
-    by_tests true false x y = tt
-    by_tests false d x y = tt
+c_wire w opcode i e is = search (arith, rules, same_wire, eqb-true)
 
 a_wire : (w : Instr) (opcode : ℕ) (i : Instruction) → eqb w.op opcode ≡ true → wire_of i ≡ wire_at opcode w.a 0 0 → HasWire w (uses_a w i)
-a_wire w opcode i e is = by_tests (eqb w.b 0) (eqb w.c 0) refl refl
-  where
-    by_tests : (x y : Bool) → eqb w.b 0 ≡ x → eqb w.c 0 ≡ y → HasWire w (cond (x && y) (Some i) None)
-    by_tests true true x y = is ∙ same_wire w opcode w.a 0 0 e refl (sym (eqb-true w.b 0 x)) (sym (eqb-true w.c 0 y))
-    by_tests true false x y = tt
-    by_tests false d x y = tt
+a_wire w opcode i e is = search (arith, rules, same_wire, eqb-true)
 
 ab_wire : (w : Instr) (opcode : ℕ) (i : Instruction) → eqb w.op opcode ≡ true → wire_of i ≡ wire_at opcode w.a w.b 0 → HasWire w (uses_ab w i)
-ab_wire w opcode i e is = by_test (eqb w.c 0) refl
-  where
-    by_test : (x : Bool) → eqb w.c 0 ≡ x → HasWire w (cond x (Some i) None)
-    by_test true x = is ∙ same_wire w opcode w.a w.b 0 e refl refl (sym (eqb-true w.c 0 x))
-    by_test false x = tt
+ab_wire w opcode i e is = search (arith, rules, same_wire, eqb-true)
 
 ac_wire : (w : Instr) (opcode : ℕ) (i : Instruction) → eqb w.op opcode ≡ true → wire_of i ≡ wire_at opcode w.a 0 w.c → HasWire w (uses_ac w i)
-ac_wire w opcode i e is = by_test (eqb w.b 0) refl
-  where
-    by_test : (x : Bool) → eqb w.b 0 ≡ x → HasWire w (cond x (Some i) None)
-    by_test true x = is ∙ same_wire w opcode w.a 0 w.c e refl (sym (eqb-true w.b 0 x)) refl
-    by_test false x = tt
+ac_wire w opcode i e is = search (arith, rules, same_wire, eqb-true)
 
 choose : (w : Instr) (b : Bool) (x y : Option Instruction) → (b ≡ true → HasWire w x) → HasWire w y → HasWire w (cond b x y)
 choose w true x y h k = h refl
@@ -299,38 +275,7 @@ wire_from w i e = subst (HasWire w) e (instruction_wire w)
 
 -- the fields of an instruction fit
 small_instruction : (i : Instruction) (w : Instr) → wire_of i ≡ w → w.a < 2 ^ 8 → w.b < 2 ^ 16 → w.c < 2 ^ 32 → IsInstruction i
-small_instruction (op.Const c) w e a m l = subst (λ (n : ℕ). n < 2 ^ 32) (ap (λ (v : Instr). v.c) (sym e)) l
-small_instruction (op.Load c) w e a m l = subst (λ (n : ℕ). n < 2 ^ 32) (ap (λ (v : Instr). v.c) (sym e)) l
-small_instruction (op.Store c) w e a m l = subst (λ (n : ℕ). n < 2 ^ 32) (ap (λ (v : Instr). v.c) (sym e)) l
-small_instruction (op.GLoad c) w e a m l = subst (λ (n : ℕ). n < 2 ^ 32) (ap (λ (v : Instr). v.c) (sym e)) l
-small_instruction (op.GStore c) w e a m l = subst (λ (n : ℕ). n < 2 ^ 32) (ap (λ (v : Instr). v.c) (sym e)) l
-small_instruction op.Drop w e a m l = tt
-small_instruction op.Dup w e a m l = tt
-small_instruction (op.Emit c) w e a m l = subst (λ (n : ℕ). n < 2 ^ 8) (ap (λ (v : Instr). v.a) (sym e)) a
-small_instruction (op.Data c) w e a m l = subst (λ (n : ℕ). n < 2 ^ 32) (ap (λ (v : Instr). v.c) (sym e)) l
-small_instruction (op.Jump c) w e a m l = subst (λ (n : ℕ). n < 2 ^ 32) (ap (λ (v : Instr). v.c) (sym e)) l
-small_instruction (op.JumpIfFalse c) w e a m l = subst (λ (n : ℕ). n < 2 ^ 32) (ap (λ (v : Instr). v.c) (sym e)) l
-small_instruction (op.JumpIfTrue c) w e a m l = subst (λ (n : ℕ). n < 2 ^ 32) (ap (λ (v : Instr). v.c) (sym e)) l
-small_instruction (op.Op c) w e a m l = subst (λ (n : ℕ). n < 2 ^ 8) (ap (λ (v : Instr). v.a) (sym e)) a
-small_instruction (op.Filter c d f) w e a m l = (
-  subst (λ (n : ℕ). n < 2 ^ 8) (ap (λ (v : Instr). v.a) (sym e)) a,
-  subst (λ (n : ℕ). n < 2 ^ 16) (ap (λ (v : Instr). v.b) (sym e)) m,
-  subst (λ (n : ℕ). n < 2 ^ 32) (ap (λ (v : Instr). v.c) (sym e)) l,
-)
-small_instruction (op.Test c d) w e a m l = (subst (λ (n : ℕ). n < 2 ^ 8) (ap (λ (v : Instr). v.a) (sym e)) a, subst (λ (n : ℕ). n < 2 ^ 16) (ap (λ (v : Instr). v.b) (sym e)) m)
-small_instruction (op.MakeList c) w e a m l = subst (λ (n : ℕ). n < 2 ^ 32) (ap (λ (v : Instr). v.c) (sym e)) l
-small_instruction (op.MakeMap c) w e a m l = subst (λ (n : ℕ). n < 2 ^ 32) (ap (λ (v : Instr). v.c) (sym e)) l
-small_instruction op.LoopStart w e a m l = tt
-small_instruction (op.LoopNext c) w e a m l = subst (λ (n : ℕ). n < 2 ^ 32) (ap (λ (v : Instr). v.c) (sym e)) l
-small_instruction (op.LoopGet c d) w e a m l = (subst (λ (n : ℕ). n < 2 ^ 8) (ap (λ (v : Instr). v.a) (sym e)) a, subst (λ (n : ℕ). n < 2 ^ 32) (ap (λ (v : Instr). v.c) (sym e)) l)
-small_instruction (op.LoopKeep c) w e a m l = subst (λ (n : ℕ). n < 2 ^ 32) (ap (λ (v : Instr). v.c) (sym e)) l
-small_instruction op.LoopRewind w e a m l = tt
-small_instruction op.LoopEnd w e a m l = tt
-small_instruction op.CaptureBegin w e a m l = tt
-small_instruction (op.CaptureEnd c) w e a m l = subst (λ (n : ℕ). n < 2 ^ 8) (ap (λ (v : Instr). v.a) (sym e)) a
-small_instruction (op.Unpack c) w e a m l = subst (λ (n : ℕ). n < 2 ^ 32) (ap (λ (v : Instr). v.c) (sym e)) l
-small_instruction (op.Call c) w e a m l = subst (λ (n : ℕ). n < 2 ^ 32) (ap (λ (v : Instr). v.c) (sym e)) l
-small_instruction op.Return w e a m l = tt
+small_instruction a0 w e a m l = search (arith, rules)
 
 -- whatever the test says
 bind_any : {A B : Type 0} (r : Result A ImageError) (f : A → Result B ImageError) (Q : B → Type 0) → ((x : A) → AllOk (f x) Q) → AllOk (r >>= f) Q

@@ -1,5 +1,5 @@
 -- What stands at places of an image's bytes: why it is there once it was read, and what it says of the bytes.
-use Rattle.std.proofs.Common.{◌≡◌, ℕ, ◌+◌, ◌-◌, ◌<◌, ◌≤◌, ◌^◌, Bool, true, false, cond, ltb, List, [], ◌∷◌, ◌++◌, length, take, drop, get_or, Result, Ok, Err, refl, sym, ap, subst, ◌∙◌, arith, append_assoc}
+use Rattle.std.proofs.Common.{◌≡◌, ℕ, ◌+◌, ◌-◌, ◌<◌, ◌≤◌, ◌^◌, Bool, true, false, cond, ltb, List, [], ◌∷◌, ◌++◌, length, take, drop, get_or, Result, Ok, Err, refl, sym, ap, subst, ◌∙◌, arith, append_assoc, rules}
 use Rattle.std.specs.Prelude.{IsUtf8}
 use Rattle.std.specs.Int.{Width, w16, w32, byte_len, from_le_bytes, to_le_bytes}
 use Rattle.std.specs.Str.{is_utf8}
@@ -12,6 +12,7 @@ use Rattle.jt_image.specs.declared.instruction.Instruction.{Instruction}
 use Rattle.jt_image.specs.declared.version.Version.{Version}
 use Rattle.jt_image.specs.declared.version.Version.TheVariants as version
 use Rattle.jt_image.specs.Code.{Constant, undefined, Name, Spot}
+use Rattle.jt_image.specs.IsCode.{max_bytes}
 use Rattle.jt_image.specs.Spelling.{magic, version_number, name_bytes, instruction_bytes, template_bytes}
 use Rattle.jt_image.specs.Reading.{◌>>=◌, check, number_at, text_at, name_at, long_text_at, constant_of, constant_at, instruction_at, instructions_at, Header, header_at, headers_at, header_total, is_first, start_at, template_at, all_templates_at, spots_at, Back, back_at, Fails}
 use Rattle.jt_image.specs.InPlace.{IsRead, read_or, bare_text_at, template_in, templates_in, HasTemplate, bare_name_at, name_in, HasName, constant_in, HasConstant, AreLast}
@@ -25,14 +26,15 @@ use Rattle.jt_image.proofs.Again.{number_again, text_again, bind_again}
 
 -- ---- the last bytes
 
-pub all_last : (bytes : List ℕ) → AreLast bytes bytes
-all_last bytes = record { within = omega arith; are = ap (λ (n : ℕ). drop n bytes) (let e : length bytes - length bytes ≡ 0 = omega arith in e) }
+pub all_last : (bytes : List ℕ) → length bytes ≤ max_bytes → AreLast bytes bytes
+all_last bytes small = record { small = small; within = omega arith; are = ap (λ (n : ℕ). drop n bytes) (let e : length bytes - length bytes ≡ 0 = omega arith in e) }
 
 pub takes_last : (bytes rest taken after : List ℕ) → Takes rest taken after → AreLast bytes rest → AreLast bytes after
 takes_last bytes rest taken after t h =
     let len : length rest ≡ length taken + length after = ap length t.parts ∙ length-append taken after in
     let further : length bytes - length after ≡ (length bytes - length rest) + length taken = omega (arith, h.within, len) in
     record {
+      small = h.small;
       within = omega (arith, h.within, len);
       are = ap (λ (n : ℕ). drop n bytes) further ∙ sym (drop-drop (length taken) (length bytes - length rest) bytes) ∙ ap (drop (length taken)) (h.are ∙ t.parts) ∙ drop_at taken after (length taken) refl;
     }
@@ -135,14 +137,7 @@ instructions_last n bytes rest is after fits h e =
 
 number_read : {B : Type 0} (w : Width) (bytes : List ℕ) (f : ℕ × List ℕ → Read B) → IsRead (number_at w bytes >>= f)
     → (byte_len w ≤ length bytes) × ((number_at w bytes >>= f) ≡ f (from_le_bytes w (take (byte_len w) bytes), drop (byte_len w) bytes))
-number_read {B} w bytes f h = by (ltb (length bytes) (byte_len w)) refl h
-  where
-    x : ℕ × List ℕ
-    x = (from_le_bytes w (take (byte_len w) bytes), drop (byte_len w) bytes)
-
-    by : (b : Bool) → ltb (length bytes) (byte_len w) ≡ b → IsRead (cond b (Err Truncated) (Ok x) >>= f) → (byte_len w ≤ length bytes) × ((number_at w bytes >>= f) ≡ f x)
-    by true e g = absurd g
-    by false e g = (ltb-false _ _ e, rw e refl)
+number_read {B} w bytes f h = search (arith, rules, ltb-false)
 
 pub text_read : (n : ℕ) (bytes : List ℕ) → IsRead (text_at n bytes) → (n ≤ length bytes) × IsUtf8 (take n bytes)
 unfolding text_at
@@ -226,8 +221,8 @@ headers_last n bytes rest hs after fits h e =
     let m = all_at (headers_at n rest) (Many head_bytes good_header n [] rest) (hs, after) e (many_found header_at head_bytes good_header (λ before bytes fits. header_found (is_first before) (header_total before) bytes fits) n [] rest (last_fits bytes rest fits h)) in
     takes_last bytes rest _ after m.takes h
 
-pub start_last : (bytes : List ℕ) (v : Version) (rest : List ℕ) → IsBytes bytes → start_at bytes ≡ Ok (v, rest) → AreLast bytes rest
-start_last bytes v rest fits e = takes_last bytes bytes _ rest (all_at (start_at bytes) (λ x. Takes bytes (magic ++ to_le_bytes w16 (version_number x.0)) x.1) (v, rest) e (start_found bytes fits)) (all_last bytes)
+pub start_last : (bytes : List ℕ) (v : Version) (rest : List ℕ) → length bytes ≤ max_bytes → IsBytes bytes → start_at bytes ≡ Ok (v, rest) → AreLast bytes rest
+start_last bytes v rest small fits e = takes_last bytes bytes _ rest (all_at (start_at bytes) (λ x. Takes bytes (magic ++ to_le_bytes w16 (version_number x.0)) x.1) (v, rest) e (start_found bytes fits)) (all_last bytes small)
 
 -- a text behind a short length
 pub record TemplateParts (bytes : List ℕ) : Type 0 where

@@ -1,5 +1,5 @@
 -- What an image is without places: how it is spelled, and that its runs are the same.
-use Rattle.std.proofs.Common.{◌≡◌, ℕ, zero, suc, ◌+◌, ◌*◌, ◌≤◌, List, [], ◌++◌, length, take, drop, replicate, if◌then◌else◌, Option, Some, None, refl, sym, ap, ◌∙◌, arith, append_assoc}
+use Rattle.std.proofs.Common.{◌≡◌, ℕ, zero, suc, ◌+◌, ◌*◌, ◌≤◌, List, [], ◌++◌, length, take, drop, replicate, if◌then◌else◌, Option, Some, None, refl, sym, ap, ◌∙◌, arith, append_assoc, rules}
 use Rattle.std.specs.Prelude.{slice_get}
 use Rattle.std.specs.Option.{option_and_then}
 use Rattle.std.specs.Int.{w16, to_le_bytes}
@@ -8,7 +8,6 @@ use Rattle.std.proofs.lemmas.List.{append-nil, length-append}
 use Rattle.std.proofs.lemmas.List.Concat.{flat_map-cons}
 use Rattle.jt_value.specs.Pairs.{Pairs}
 use Rattle.jt_image.specs.declared.instruction.Instruction.{Instruction}
-use Rattle.jt_image.specs.declared.instruction.Instruction.TheVariants as op
 use Rattle.jt_image.specs.declared.version.Version.{Version}
 use Rattle.jt_image.specs.declared.version.Version.TheVariants as version
 use Rattle.jt_image.specs.Code.{Section, Spot, Code}
@@ -57,12 +56,7 @@ pub behind_start : (k : Code) → k.version ≡ version.One → drop 6 (spelling
 behind_start k e = sym (grouped k (place_bytes k.version k.templates k.spots)) ∙ ap (λ (z : List ℕ). behind k ++ z) (none_behind k e) ∙ append-nil (behind k)
 
 pub unplaced_spelled : (k : Code) → k.version ≡ version.One → magic ++ (to_le_bytes w16 2 ++ (drop 6 (spelling k) ++ replicate (2 + 6 * total_len k.units) 0)) ≡ spelling (unplaced k)
-unplaced_spelled k e =
-    let n = total_len k.units in
-    let two : replicate (2 + 6 * n) 0 ≡ to_le_bytes w16 0 ++ ([] ++ replicate (6 * n) 0) = ap (λ (m : ℕ). replicate m 0) (let s : 2 + 6 * n ≡ suc (suc (6 * n)) = omega arith in s) in
-    ap (λ (b : List ℕ). magic ++ (to_le_bytes w16 2 ++ (b ++ replicate (2 + 6 * n) 0))) (behind_start k e)
-    ∙ ap (λ (z : List ℕ). magic ++ (to_le_bytes w16 2 ++ (behind k ++ z))) (two ∙ ap (λ (z : List ℕ). to_le_bytes w16 0 ++ ([] ++ z)) (zeros n))
-    ∙ ap (λ (b : List ℕ). magic ++ (to_le_bytes w16 2 ++ b)) (grouped k (place_bytes version.Two [] (replicate n no_spot)))
+unplaced_spelled k e = search (arith, rules, behind_start, zeros, grouped)
 
 length_zeros : (n : ℕ) → length (flat_map spot_bytes (replicate n no_spot)) ≡ 6 * n
 length_zeros zero = omega arith
@@ -84,25 +78,7 @@ length_replicate zero = refl
 length_replicate (suc n) = ap suc (length_replicate n)
 
 pub is_unplaced : (k : Code) → IsCode k → length (spelling (unplaced k)) ≤ max_bytes → IsCode (unplaced k)
-is_unplaced k h le = record {
-  globals = h.globals;
-  count_names = h.count_names;
-  names = h.names;
-  ascend = h.ascend;
-  distinct = h.distinct;
-  count_constants = h.count_constants;
-  constants = h.constants;
-  count_units = h.count_units;
-  units = h.units;
-  entry = record { entry = h.entry.entry; is = h.entry.is; emits = h.entry.emits; plain = h.entry.plain };
-  instructions = h.instructions;
-  count_templates = omega arith;
-  templates = tt;
-  ascend_templates = tt;
-  spots = spots_fit (total_len k.units);
-  placed = length_replicate (total_len k.units);
-  bytes = le;
-}
+is_unplaced k h le = search (arith, rules, spots_fit, length_replicate)
 
 -- ---- its runs
 
@@ -116,64 +92,10 @@ module _ (k : Code) (bare : k.spots ≡ []) where
   same_place u p = no_place (total_len k.units) (total_len (take u k.units) + p) ∙ sym (ap (λ (ss : List Spot). option_and_then (place_of k.templates) (slice_get ss (total_len (take u k.units) + p))) bare)
 
   same_action : (u : Section) (i : Instruction) (m : Machine) → action (unplaced k) u i m ≡ action k u i m
-  same_action u (op.Const c) m = refl
-  same_action u (op.Load c) m = refl
-  same_action u (op.Store c) m = refl
-  same_action u (op.GLoad c) m = refl
-  same_action u (op.GStore c) m = refl
-  same_action u op.Drop m = refl
-  same_action u op.Dup m = refl
-  same_action u (op.Emit a) m = refl
-  same_action u (op.Data c) m = refl
-  same_action u (op.Jump c) m = refl
-  same_action u (op.JumpIfFalse c) m = refl
-  same_action u (op.JumpIfTrue c) m = refl
-  same_action u (op.Op a) m = refl
-  same_action u (op.Filter a b c) m = refl
-  same_action u (op.Test a b) m = refl
-  same_action u (op.MakeList c) m = refl
-  same_action u (op.MakeMap c) m = refl
-  same_action u op.LoopStart m = refl
-  same_action u (op.LoopNext c) m = refl
-  same_action u (op.LoopGet a c) m = refl
-  same_action u (op.LoopKeep c) m = refl
-  same_action u op.LoopRewind m = refl
-  same_action u op.LoopEnd m = refl
-  same_action u op.CaptureBegin m = refl
-  same_action u (op.CaptureEnd a) m = refl
-  same_action u (op.Unpack c) m = refl
-  same_action u (op.Call c) m = refl
-  same_action u op.Return m = refl
+  same_action u a1 m = search (arith, rules)
 
   same_tables : (i : Instruction) (s : config.State) → in_tables (unplaced k) i s ≡ in_tables k i s
-  same_tables (op.Const c) s = refl
-  same_tables (op.Load c) s = refl
-  same_tables (op.Store c) s = refl
-  same_tables (op.GLoad c) s = refl
-  same_tables (op.GStore c) s = refl
-  same_tables op.Drop s = refl
-  same_tables op.Dup s = refl
-  same_tables (op.Emit a) s = refl
-  same_tables (op.Data c) s = refl
-  same_tables (op.Jump c) s = refl
-  same_tables (op.JumpIfFalse c) s = refl
-  same_tables (op.JumpIfTrue c) s = refl
-  same_tables (op.Op a) s = refl
-  same_tables (op.Filter a b c) s = refl
-  same_tables (op.Test a b) s = refl
-  same_tables (op.MakeList c) s = refl
-  same_tables (op.MakeMap c) s = refl
-  same_tables op.LoopStart s = refl
-  same_tables (op.LoopNext c) s = refl
-  same_tables (op.LoopGet a c) s = refl
-  same_tables (op.LoopKeep c) s = refl
-  same_tables op.LoopRewind s = refl
-  same_tables op.LoopEnd s = refl
-  same_tables op.CaptureBegin s = refl
-  same_tables (op.CaptureEnd a) s = refl
-  same_tables (op.Unpack c) s = refl
-  same_tables (op.Call c) s = refl
-  same_tables op.Return s = refl
+  same_tables a0 s = search (arith, rules)
 
   same_strict : (u : Section) (i : Instruction) (m : Machine) → strict (unplaced k) u i m ≡ strict k u i m
   same_strict u i m = ap (λ t. if t then action (unplaced k) u i m else wrong) (same_tables i m.state) ∙ ap (λ a. if in_tables k i m.state then a else wrong) (same_action u i m)

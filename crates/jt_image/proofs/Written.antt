@@ -1,10 +1,9 @@
 -- What assembling needs of the parts of a code.
-use Rattle.std.proofs.Common.{◌≡◌, ℕ, zero, suc, ◌<◌, ◌^◌, List, [], ◌∷◌, length, map, get_or, Option, Some, None, refl, ap, arith}
-use Rattle.std.specs.Prelude.{option_map, unwrap_or}
+use Rattle.std.proofs.Common.{◌≡◌, ℕ, zero, suc, ◌<◌, ◌^◌, List, [], ◌∷◌, length, map, get_or, Option, Some, None, refl, arith, rules}
+use Rattle.std.specs.Prelude.{option_map}
 use Rattle.std.specs.Option.{IsSome}
 use Rattle.std.specs.List.{AllByRecursion}
 use Rattle.jt_image.specs.declared.instruction.Instruction.{Instruction}
-use Rattle.jt_image.specs.declared.instruction.Instruction.TheVariants as op
 use Rattle.jt_image.specs.declared.parts.Unit as given
 use Rattle.jt_image.specs.declared.wire.Instr.{Instr}
 use Rattle.jt_image.specs.Code.{Section}
@@ -33,22 +32,11 @@ each_holds P (x ∷ xs) (suc i) d h lt = each_holds P xs i d h.1 (omega arith)
 -- ---- units as they are given
 
 pub known_bytes : (w : Instr) → IsSome (instruction_of w) → instruction_bytes (instruction_view w) ≡ wire_bytes w
-known_bytes w h = by (instruction_of w) refl h
-  where
-    by : (o : Option Instruction) → instruction_of w ≡ o → IsSome o → instruction_bytes (unwrap_or o op.Return) ≡ wire_bytes w
-    by None e g = absurd cc
-    by (Some i) e g = ap wire_bytes (wire_from w i e)
+known_bytes w h = search (arith, rules, wire_from)
 
 known_code : (ws : List Instr) → AllByRecursion (λ w. IsSome (instruction_of w)) ws → each_of instruction_of ws ≡ Some (map instruction_view ws)
 known_code [] h = refl
-known_code (w ∷ ws) h = rw (known_one w h.0, known_code ws h.1) refl
-  where
-    known_one : (w : Instr) → IsSome (instruction_of w) → instruction_of w ≡ Some (instruction_view w)
-    known_one w h = by (instruction_of w) h
-      where
-        by : (o : Option Instruction) → IsSome o → o ≡ Some (unwrap_or o op.Return)
-        by None g = absurd cc
-        by (Some i) g = refl
+known_code (w ∷ ws) h = search (arith, rules, known_code ws h.1)
 
 pub known_units : (us : List given.Unit) → AreKnown us → each_of section_of_unit us ≡ Some (units_view us)
 known_units [] h = refl

@@ -6,4 +6,8 @@ use Rattle.jt_image.specs.InPlace.{templates_in, spots_in}
 use Rattle.jt_image.specs.declared.back.Back.{Back}
 
 abbrev pub back_in : Version → ℕ → List ℕ → Back → reading.Back
-back_in v n bytes b = record { templates = templates_in bytes b.templates.items; spots = spots_in v (length b.templates.items) n (drop b.spots bytes) }
+back_in v n bytes b =
+    record {
+      templates = templates_in bytes b.templates.items;
+      spots = spots_in v (length b.templates.items) n (drop b.spots bytes);
+    }

@@ -10,7 +10,7 @@ use Rattle.jt_image.specs.declared.places.Places.{Places}
 use Rattle.jt_image.specs.declared.version.Version.{Version}
 use Rattle.jt_image.specs.declared.version.Version.TheVariants as version
 use Rattle.jt_image.specs.Code.{Constant, undefined, Name, Section, Spot, Code}
-use Rattle.jt_image.specs.IsCode.{IsCode, total_len}
+use Rattle.jt_image.specs.IsCode.{IsCode, total_len, max_bytes}
 use Rattle.jt_image.specs.Spelling.{spelling}
 use Rattle.jt_image.specs.Reading.{number_at, text_at, constant_at, instructions_at, spots_at, ◌>>=◌}
 
@@ -55,14 +55,21 @@ instructions_in n bytes = read_or [] (instructions_at n bytes)
 
 -- a unit, whose instructions begin at its place
 abbrev pub section_in : List ℕ → UnitPlace → Section
-section_in bytes p = record { parameters = p.parameters; kind = p.kind; locals = p.locals; code = instructions_in p.len (drop p.start bytes) }
+section_in bytes p =
+    record {
+      parameters = p.parameters;
+      kind = p.kind;
+      locals = p.locals;
+      code = instructions_in p.len (drop p.start bytes);
+    }
 
 abbrev pub sections_in : List ℕ → List UnitPlace → List Section
 sections_in bytes ps = map (section_in bytes) ps
 
 -- its place is within the bytes, and as many instructions as the unit says begin there
 abbrev pub HasUnit : List ℕ → UnitPlace → Type 0
-HasUnit bytes p = (p.start ≤ length bytes) × (length (instructions_in p.len (drop p.start bytes)) ≡ p.len)
+HasUnit bytes p =
+    (p.start ≤ length bytes) × (length (instructions_in p.len (drop p.start bytes)) ≡ p.len)
 
 -- each unit says how many instructions stand before it
 abbrev pub AreCounted : ℕ → List UnitPlace → Type 0
@@ -134,7 +141,8 @@ pub record Spells (bytes : List ℕ) (p : Places) : Type 0 where
   pub spelled : bytes ≡ spelling (code_in bytes p)
   pub there : AreThere bytes p
 
--- these are the last of the bytes
+-- these are the last of the bytes, which are not too many
 pub record AreLast (bytes rest : List ℕ) : Type 0 where
+  pub small : length bytes ≤ max_bytes
   pub within : length rest ≤ length bytes
   pub are : drop (length bytes - length rest) bytes ≡ rest

@@ -1,14 +1,15 @@
 -- What code parts are, and what a refusal to assemble them says of it.
-use Rattle.std.specs.Prelude.{◌≡◌, ℕ, ◌<◌, ◌≤◌, ◌^◌, List, [], ◌∷◌, length, Option, Some, None, option_map, IsUtf8, FitsSigned}
+use Rattle.std.specs.Prelude.{◌≡◌, ℕ, ◌<◌, ◌≤◌, ◌-◌, ◌^◌, min, List, [], ◌∷◌, ◌++◌, length, Option, Some, None, option_map, Vec, Result, OnOk, IsUtf8, FitsSigned}
 use Rattle.std.specs.List.{AllByRecursion}
 use Rattle.std.specs.Int.{w64}
+use Rattle.std.specs.declared.alloc.Global.{Global}
 use Rattle.jt_image.specs.declared.error.ImageError.{ImageError}
 use Rattle.jt_image.specs.declared.error.ImageError.TheVariants.{BadMagic, BadVersion, Truncated, Trailing, BadText, BadOpcode, BadTable, LimitPassed, NoMemory}
 use Rattle.jt_image.specs.declared.parts.Unit as given
 use Rattle.jt_image.specs.declared.parts.Parts.{Parts}
 use Rattle.jt_image.specs.Code.{Constant, undefined, nothing, truth_value, number, text, markup, Name, Section, Code}
 use Rattle.jt_image.specs.View.{names_view, constants_view, units_view, texts_view, spots_view, IsKnownUnit}
-use Rattle.jt_image.specs.Spelling.{spelling}
+use Rattle.jt_image.specs.Spelling.{place_bytes, spelling}
 use Rattle.jt_image.specs.IsCode.{Ascend, AreDistinct, AscendTexts, IsSpot, IsPlaced, IsInstruction, HasEntry, total_len, max_count, max_locals, max_instructions, max_bytes}
 use Rattle.jt_image.specs.Reading.{instruction_of}
 
@@ -24,17 +25,30 @@ each_of f (x ∷ xs) = in_front (f x) (each_of f xs)
 
 -- the unit, if each of its instructions is one
 abbrev pub section_of_unit : given.Unit → Option Section
-section_of_unit u = option_map (λ code. record { parameters = u.parameters; kind = u.kind; locals = u.locals; code = code }) (each_of instruction_of u.code.items)
+section_of_unit u =
+    option_map
+    (λ code. record { parameters = u.parameters; kind = u.kind; locals = u.locals; code = code })
+    (each_of instruction_of u.code.items)
 
 -- these tables, with these units
 abbrev pub code_with : Parts → List Section → Code
-code_with p us = record { version = p.version; globals = p.globals; names = names_view p.names.items; constants = constants_view p.constants.items; units = us; templates = texts_view p.templates.items; spots = spots_view p.spots.items }
+code_with p us =
+    record {
+      version = p.version;
+      globals = p.globals;
+      names = names_view p.names.items;
+      constants = constants_view p.constants.items;
+      units = us;
+      templates = texts_view p.templates.items;
+      spots = spots_view p.spots.items;
+    }
 
 -- the code that the parts are: none where an instruction is none
 abbrev pub code_of_parts : Parts → Option Code
 code_of_parts p = option_map (code_with p) (each_of section_of_unit p.units.items)
 
--- the names of globals: each slot is there, no name is empty, they strictly ascend, and no slot has two
+-- the names of globals: each slot is there, no name is empty, they strictly ascend, and no slot has
+-- two
 pub record AreInOrder (globals : ℕ) (ns : List Name) : Type 0 where
   pub slots : AllByRecursion (λ n. n.slot < globals) ns
   pub some : AllByRecursion (λ n. 0 < length n.text) ns
@@ -50,8 +64,8 @@ pub record AreTemplates (ts : List (List ℕ)) : Type 0 where
   pub some : AllByRecursion (λ t. 0 < length t) ts
   pub ascend : AscendTexts ts
 
--- The tables are in order, and there is a first unit that emits and has no parameters. Each instruction has its spot in version 2; in
--- version 1 there are no templates and spots.
+-- The tables are in order, and there is a first unit that emits and has no parameters. Each
+-- instruction has its spot in version 2; in version 1 there are no templates and spots.
 pub record HasTables (k : Code) : Type 0 where
   pub names : AreInOrder k.globals k.names
   pub units : AllByRecursion IsUnitInOrder k.units
@@ -60,7 +74,8 @@ pub record HasTables (k : Code) : Type 0 where
   pub spots : AllByRecursion (IsSpot (length k.templates)) k.spots
   pub placed : IsPlaced k.version (total_len k.units) k.templates k.spots
 
--- tables and names are not too long for their fields, and the limits are kept; so a constant's text fits its field too
+-- tables and names are not too long for their fields, and the limits are kept; so a constant's text
+-- fits its field too
 pub record KeepsLimits (k : Code) : Type 0 where
   pub names : length k.names ≤ max_count
   pub texts : AllByRecursion (λ n. length n.text ≤ max_count) k.names
@@ -121,6 +136,38 @@ abbrev pub Starts : List Section → Type 0
 Starts [] = ⊥
 Starts (u ∷ us) = (u.kind ≡ 0) × (u.parameters ≡ 0)
 
+-- how many these bytes are, as far as a number of 64 bits can tell
+abbrev pub told_len : List ℕ → ℕ
+told_len bytes = min (length bytes) (2 ^ 64 - 1)
+
+-- what stands behind the instructions of a code
+abbrev pub back_bytes : Code → List ℕ
+back_bytes k = place_bytes k.version k.templates k.spots
+
+-- a code of so many instructions has the places that its version may have
+abbrev pub HasPlaces : ℕ → Code → Type 0
+HasPlaces instructions k = IsPlaced k.version instructions k.templates k.spots
+
+-- its templates and its spots are in order, and it has the places that its version may have
+abbrev pub HasBack : ℕ → Code → Type 0
+HasBack instructions k =
+    AreTemplates k.templates
+    × AllByRecursion (IsSpot (length k.templates)) k.spots
+    × HasPlaces instructions k
+
+-- no name, template and number of locals is too large for its field
+abbrev pub FitNames : List Name → Type 0
+FitNames ns = AllByRecursion (λ n. length n.text ≤ max_count) ns
+
+abbrev pub FitTexts : List (List ℕ) → Type 0
+FitTexts ts = AllByRecursion (λ t. length t ≤ max_count) ts
+
+abbrev pub FitLocals : List Section → Type 0
+FitLocals us = AllByRecursion (λ u. u.locals ≤ max_locals) us
+
+abbrev pub FitFields : Code → Type 0
+FitFields k = FitNames k.names × FitTexts k.templates × FitLocals k.units
+
 -- a text in UTF-8 that fits its field
 pub record IsShort (n : Name) : Type 0 where
   pub fits : length n.text < 2 ^ 16
@@ -130,3 +177,9 @@ pub record IsShort (n : Name) : Type 0 where
 pub record IsShortText (t : List ℕ) : Type 0 where
   pub fits : length t < 2 ^ 16
   pub utf8 : IsUtf8 t
+
+-- ---- what is put behind bytes
+
+-- where it goes well, these bytes come behind those before
+abbrev pub Adds : {E : Type 0} → Vec ℕ Global → Vec ℕ Global → Result (Unit {0}) E → List ℕ → Type 0
+Adds old new result bytes = OnOk result (new.items ≡ old.items ++ bytes)

@@ -10,7 +10,16 @@ use Rattle.jt_image.specs.Spelling.{spelling}
 
 -- the same code without places
 abbrev pub unplaced : Code → Code
-unplaced k = record { version = version.Two; globals = k.globals; names = k.names; constants = k.constants; units = k.units; templates = []; spots = replicate (total_len k.units) (record { template = 0; line = 0 }) }
+unplaced k =
+    record {
+      version = version.Two;
+      globals = k.globals;
+      names = k.names;
+      constants = k.constants;
+      units = k.units;
+      templates = [];
+      spots = replicate (total_len k.units) (record { template = 0; line = 0 });
+    }
 
 abbrev pub upgraded_from : Version → Code → Code
 upgraded_from version.One k = unplaced k

@@ -36,7 +36,13 @@ abbrev pub instruction_view : Instr → Instruction
 instruction_view w = unwrap_or (instruction_of w) op.Return
 
 abbrev pub unit_view : given.Unit → code.Section
-unit_view u = record { parameters = u.parameters; kind = u.kind; locals = u.locals; code = map instruction_view u.code.items }
+unit_view u =
+    record {
+      parameters = u.parameters;
+      kind = u.kind;
+      locals = u.locals;
+      code = map instruction_view u.code.items;
+    }
 
 abbrev pub units_view : List given.Unit → List code.Section
 units_view us = map unit_view us

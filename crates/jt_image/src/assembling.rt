@@ -6,7 +6,7 @@ ghost use Rattle.jt_image.specs.View.{names_view, constant_view, constants_view,
 ghost use Rattle.jt_image.specs.IsCode.{total_len, max_count, max_locals, max_instructions, max_bytes, IsSpot, IsPlaced, IsCode};
 ghost use Rattle.jt_image.specs.Spelling.{name_bytes, constant_bytes, template_bytes, place_bytes};
 ghost use Rattle.jt_image.specs.Reading.{instruction_of, is_used, may_follow, may_follow_texts, IsTable};
-ghost use Rattle.jt_image.specs.Parts.{each_of, section_of_unit, code_of_parts, code_seen, AreKnown, AreInOrder, IsUnitInOrder, AreTemplates, KeepsLimits, IsRefusal, IsWritable, IsHeld, Starts, IsShort, IsShortText};
+ghost use Rattle.jt_image.specs.Parts.{each_of, section_of_unit, code_of_parts, code_seen, AreKnown, AreInOrder, IsUnitInOrder, AreTemplates, KeepsLimits, IsRefusal, IsWritable, IsHeld, Starts, told_len, back_bytes, HasPlaces, HasBack, FitNames, FitTexts, FitLocals, FitFields, IsShort, IsShortText};
 ghost use Rattle.jt_image.specs.declared.error.ImageError.TheVariants.{LimitPassed, NoMemory};
 
 use crate::back::is_line;
@@ -42,8 +42,7 @@ fn is_known(unit: &Unit) -> bool
 fn are_known(units: &[Unit]) -> bool
     ensures known { IsTrue result → AreKnown units.now }
     ensures fits { IsTrue result → AllByRecursion IsWritable (units_view units.now) }
-    ensures seen { IsTrue result
-        → each_of section_of_unit units.now ≡ Some (units_view units.now) }
+    ensures seen { IsTrue result → each_of section_of_unit units.now ≡ Some (units_view units.now) }
     ensures unknown { result ≡ false → each_of section_of_unit units.now ≡ None }
 {
     'units: for unit in units {
@@ -73,7 +72,7 @@ fn instruction_count(units: &[Unit]) -> Result<u32, ImageError>
 
 // how many bytes the names take; no more than fit a number is all that is said beyond that
 fn names_len(names: &[(u16, String)]) -> usize
-    ensures len { result ≡ min (length (flat_map name_bytes (names_view names.now))) (2 ^ 64 - 1) }
+    ensures len { result ≡ told_len (flat_map name_bytes (names_view names.now)) }
     ensures utf8 { AllByRecursion (λ n. IsUtf8 n.text) (names_view names.now) }
 {
     let mut len: usize = 0;
@@ -85,7 +84,7 @@ fn names_len(names: &[(u16, String)]) -> usize
 }
 
 fn constant_len(constant: &Constant) -> usize
-    ensures len { result ≡ min (length (constant_bytes (constant_view constant.now))) (2 ^ 64 - 1) }
+    ensures len { result ≡ told_len (constant_bytes (constant_view constant.now)) }
     ensures held { IsHeld (constant_view constant.now) }
 {
     match constant {
@@ -96,8 +95,7 @@ fn constant_len(constant: &Constant) -> usize
 }
 
 fn constants_len(constants: &[Constant]) -> usize
-    ensures len { result
-        ≡ min (length (flat_map constant_bytes (constants_view constants.now))) (2 ^ 64 - 1) }
+    ensures len { result ≡ told_len (flat_map constant_bytes (constants_view constants.now)) }
     ensures held { AllByRecursion IsHeld (constants_view constants.now) }
 {
     let mut len: usize = 0;
@@ -109,8 +107,7 @@ fn constants_len(constants: &[Constant]) -> usize
 
 // how many bytes the templates take, as for the names
 fn templates_len(templates: &[String]) -> usize
-    ensures len { result
-        ≡ min (length (flat_map template_bytes (texts_view templates.now))) (2 ^ 64 - 1) }
+    ensures len { result ≡ told_len (flat_map template_bytes (texts_view templates.now)) }
     ensures utf8 { AllByRecursion IsUtf8 (texts_view templates.now) }
 {
     let mut len: usize = 0;
@@ -123,9 +120,7 @@ fn templates_len(templates: &[String]) -> usize
 
 // how many bytes stand behind the instructions
 fn places_len(parts: &Parts) -> usize
-    ensures len { result
-        ≡ min (length (place_bytes parts.now.version (texts_view parts.now.templates.items)
-        (spots_view parts.now.spots.items))) (2 ^ 64 - 1) }
+    ensures len { result ≡ told_len (back_bytes (code_seen parts.now)) }
     ensures utf8 { AllByRecursion IsUtf8 (texts_view parts.now.templates.items) }
 {
     let templates = templates_len(&parts.templates);
@@ -138,8 +133,7 @@ fn places_len(parts: &Parts) -> usize
 }
 
 fn texts_fit(names: &[(u16, String)]) -> bool
-    ensures { IsTrue result
-        ↔ AllByRecursion (λ n. length n.text ≤ max_count) (names_view names.now) }
+    ensures { IsTrue result ↔ FitNames (names_view names.now) }
 {
     'names: for name in names {
         if name.1.len() > MAX_COUNT {
@@ -150,8 +144,7 @@ fn texts_fit(names: &[(u16, String)]) -> bool
 }
 
 fn templates_fit(templates: &[String]) -> bool
-    ensures { IsTrue result
-        ↔ AllByRecursion (λ t. length t ≤ max_count) (texts_view templates.now) }
+    ensures { IsTrue result ↔ FitTexts (texts_view templates.now) }
 {
     'templates: for template in templates {
         if template.len() > MAX_COUNT {
@@ -162,8 +155,7 @@ fn templates_fit(templates: &[String]) -> bool
 }
 
 fn locals_fit(units: &[Unit]) -> bool
-    ensures { IsTrue result
-        ↔ AllByRecursion (λ u. u.locals ≤ max_locals) (units_view units.now) }
+    ensures { IsTrue result ↔ FitLocals (units_view units.now) }
 {
     'units: for unit in units {
         if unit.locals > MAX_LOCALS {
@@ -173,7 +165,8 @@ fn locals_fit(units: &[Unit]) -> bool
     true
 }
 
-// whether the image is small enough: the numbers of a unit take eight bytes, and so does an instruction
+// whether the image is small enough: the numbers of a unit take eight bytes, and so does an
+// instruction
 fn is_small(tables: usize, units: usize, instructions: u32) -> bool
     requires units { units ≤ max_count }
     requires instructions { instructions ≤ max_instructions }
@@ -184,10 +177,7 @@ fn is_small(tables: usize, units: usize, instructions: u32) -> bool
 }
 
 fn fields_fit(parts: &Parts) -> bool
-    ensures { IsTrue result
-        ↔ (AllByRecursion (λ n. length n.text ≤ max_count) (names_view parts.now.names.items)
-        × AllByRecursion (λ t. length t ≤ max_count) (texts_view parts.now.templates.items)
-        × AllByRecursion (λ u. u.locals ≤ max_locals) (units_view parts.now.units.items)) }
+    ensures { IsTrue result ↔ FitFields (code_seen parts.now) }
 {
     texts_fit(&parts.names) && templates_fit(&parts.templates) && locals_fit(&parts.units)
 }
@@ -275,9 +265,7 @@ fn spots_are_in_order(templates: usize, spots: &[Spot]) -> bool
 
 // whether the version may have these places
 fn are_placed(parts: &Parts, instructions: u32) -> bool
-    ensures { IsTrue result
-        ↔ IsPlaced parts.now.version instructions (texts_view parts.now.templates.items)
-        (spots_view parts.now.spots.items) }
+    ensures { IsTrue result ↔ HasPlaces instructions (code_seen parts.now) }
 {
     match parts.version {
         Version::One => parts.templates.is_empty() && parts.spots.is_empty(),
@@ -287,10 +275,7 @@ fn are_placed(parts: &Parts, instructions: u32) -> bool
 
 fn places_are_in_order(parts: &Parts, instructions: u32) -> bool
     requires { AllByRecursion IsShortText (texts_view parts.now.templates.items) }
-    ensures { IsTrue result
-        ↔ (AreTemplates (texts_view parts.now.templates.items)
-        × AllByRecursion (IsSpot (length (texts_view parts.now.templates.items))) (spots_view parts.now.spots.items)
-        × IsPlaced parts.now.version instructions (texts_view parts.now.templates.items) (spots_view parts.now.spots.items)) }
+    ensures { IsTrue result ↔ HasBack instructions (code_seen parts.now) }
 {
     templates_are_in_order(&parts.templates)
         && spots_are_in_order(parts.templates.len(), &parts.spots)
@@ -306,7 +291,8 @@ fn may_follow(names: &[(u16, String)], text: &str) -> bool
     }
 }
 
-// whether a name may stand behind these: its slot is there and has no name yet, and its text is above the last
+// whether a name may stand behind these: its slot is there and has no name yet, and its text is
+// above the last
 fn is_next(globals: u16, used: &[bool], before: &[(u16, String)], name: &(u16, String)) -> bool
     requires { IsTable used.now globals (names_view before.now) }
     ensures { result
@@ -371,9 +357,9 @@ fn image_of(alloc: Global, parts: &Parts) -> Result<Image, ImageError>
     Ok(Image { bytes, places })
 }
 
-/// The image with these parts. Else they are handed back with what is wrong with them: an instruction
-/// that is none (`BadOpcode`), a table that is not in order (`BadTable`), a table, a text or an image that
-/// is too long (`LimitPassed`), or a growth that was refused (`NoMemory`).
+/// The image with these parts. Else they are handed back with what is wrong with them: an
+/// instruction that is none (`BadOpcode`), a table that is not in order (`BadTable`), a table, a
+/// text or an image that is too long (`LimitPassed`), or a growth that was refused (`NoMemory`).
 pub fn assemble(alloc: Global, parts: Parts) -> Result<Image, (Parts, ImageError)>
     // the image is the code that the parts are
     ensures ok { IfOk result (λ i. IsCode i × (code_of_parts parts ≡ Some i)) }

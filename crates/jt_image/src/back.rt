@@ -2,12 +2,12 @@
 ghost use Rattle.std.specs.Prelude.{◌≡◌, ◌≤◌, ◌==◌, ◌&&◌, nat_le, nat_lt, List, [], length, drop, IfOk, Ok, Err, true};
 ghost use Rattle.std.specs.Int.{w16, w32};
 ghost use Rattle.std.specs.List.{AllByRecursion};
-ghost use Rattle.jt_image.specs.IsCode.{max_bytes, max_line};
+ghost use Rattle.jt_image.specs.IsCode.{max_line};
 ghost use Rattle.jt_image.specs.InPlace.{templates_in, HasTemplate, spots_in, AreSpots, AreLast};
 ghost use Rattle.jt_image.specs.declared.version.Version.TheVariants as variant;
 ghost use Rattle.jt_image.specs.BackView.{back_in};
 ghost use Rattle.jt_image.specs.View.{spot_view};
-ghost use Rattle.jt_image.specs.Reading.{Gives, may_follow_texts, template_at, templates_at, all_templates_at, template_number_at, is_line, line_at, spot_at, spots_at, back_at};
+ghost use Rattle.jt_image.specs.Reading.{Gives, may_follow_texts, template_at, all_templates_at, template_number_at, is_line, line_at, spot_at, spots_at, back_at};
 
 use crate::error::ImageError;
 use crate::fields::{text_at, u16_at, u32_at};
@@ -52,44 +52,27 @@ fn template_at<'a>(
     Ok((text, rest))
 }
 
-fn templates_at<'a>(
-    alloc: Global,
-    count: u16,
-    bytes: &[u8],
-    front: &'a [u8],
-) -> Result<(Vec<u32>, &'a [u8]), ImageError>
-    requires small { length bytes.now ≤ max_bytes }
-    requires last { AreLast bytes.now front.now }
-    ensures gives { Gives (λ x. (templates_in bytes.now x.0.items, x.1.now)) result
-        (templates_at count front.now) }
-    ensures there { IfOk result (λ x. AllByRecursion (HasTemplate bytes.now) x.0.items) }
-    ensures last { IfOk result (λ x. AreLast bytes.now x.1.now) }
-{
-    let mut templates: Vec<u32> = Vec::new(alloc);
-    let mut rest = front;
-    'templates: for _ in 0..count {
-        let (_, after) = template_at(bytes, &templates, rest)?;
-        templates.push((bytes.len() - rest.len()) as u32)?;
-        rest = after;
-    }
-    Ok((templates, rest))
-}
-
 #[tactic(auto, unfolding(crate::specs::Reading::all_templates_at))]
 fn all_templates_at<'a>(
     alloc: Global,
     bytes: &[u8],
     front: &'a [u8],
 ) -> Result<(Vec<u32>, &'a [u8]), ImageError>
-    requires small { length bytes.now ≤ max_bytes }
     requires last { AreLast bytes.now front.now }
     ensures gives { Gives (λ x. (templates_in bytes.now x.0.items, x.1.now)) result
         (all_templates_at front.now) }
     ensures there { IfOk result (λ x. AllByRecursion (HasTemplate bytes.now) x.0.items) }
     ensures last { IfOk result (λ x. AreLast bytes.now x.1.now) }
 {
-    let (count, rest) = u16_at(front)?;
-    templates_at(alloc, count, bytes, rest)
+    let (count, start) = u16_at(front)?;
+    let mut templates: Vec<u32> = Vec::new(alloc);
+    let mut rest = start;
+    'templates: for _ in 0..count {
+        let (_, after) = template_at(bytes, &templates, rest)?;
+        templates.push((bytes.len() - rest.len()) as u32)?;
+        rest = after;
+    }
+    Ok((templates, rest))
 }
 
 #[tactic(auto, unfolding(crate::specs::Reading::template_number_at))]
@@ -153,13 +136,13 @@ fn places_at<'a>(
     bytes: &[u8],
     front: &'a [u8],
 ) -> Result<(Back, &'a [u8]), ImageError>
-    requires small { length bytes.now ≤ max_bytes }
     requires last { AreLast bytes.now front.now }
     ensures gives { Gives (λ x. (back_in variant.Two count bytes.now x.0, x.1.now)) result
         (back_at variant.Two count front.now) }
     ensures templates { IfOk result
         (λ x. AllByRecursion (HasTemplate bytes.now) x.0.templates.items) }
-    ensures spots { IfOk result (λ x. AreSpots variant.Two (length x.0.templates.items) count (drop x.0.spots bytes.now)) }
+    ensures spots { IfOk result (λ x.
+        AreSpots variant.Two (length x.0.templates.items) count (drop x.0.spots bytes.now)) }
 {
     let (templates, rest) = all_templates_at(alloc, bytes, front)?;
     let spots = (bytes.len() - rest.len()) as u32;
@@ -176,7 +159,6 @@ pub(crate) fn back_at<'a>(
     bytes: &[u8],
     front: &'a [u8],
 ) -> Result<(Back, &'a [u8]), ImageError>
-    requires small { length bytes.now ≤ max_bytes }
     requires last { AreLast bytes.now front.now }
     ensures gives { Gives (λ x. (back_in version count bytes.now x.0, x.1.now)) result
         (back_at version count front.now) }

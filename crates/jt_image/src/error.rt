@@ -1,4 +1,6 @@
 //! Why bytes or parts are no image.
+ghost use Rattle.std.specs.Prelude.{◌≡◌};
+ghost use Rattle.jt_image.specs.declared.error.ImageError.TheVariants.{NoMemory};
 
 use jt_value::NoMemory;
 use std::alloc::{AllocError, AllocFailed};
@@ -37,9 +39,6 @@ pub enum ImageError {
 }
 
 impl From<AllocError> for ImageError {
-    ghost use Rattle.std.specs.Prelude.{◌≡◌};
-    ghost use Rattle.jt_image.specs.declared.error.ImageError.TheVariants.{NoMemory};
-
     ghost from_gives = { λ _ e. e ≡ NoMemory };
 
     fn from(_e: AllocError) -> ImageError {
@@ -48,9 +47,6 @@ impl From<AllocError> for ImageError {
 }
 
 impl<T: Drop> From<AllocFailed<T>> for ImageError {
-    ghost use Rattle.std.specs.Prelude.{◌≡◌};
-    ghost use Rattle.jt_image.specs.declared.error.ImageError.TheVariants.{NoMemory};
-
     ghost from_gives = { λ _ e. e ≡ NoMemory };
 
     fn from(_e: AllocFailed<T>) -> ImageError {
@@ -59,9 +55,6 @@ impl<T: Drop> From<AllocFailed<T>> for ImageError {
 }
 
 impl From<NoMemory> for ImageError {
-    ghost use Rattle.std.specs.Prelude.{◌≡◌};
-    ghost use Rattle.jt_image.specs.declared.error.ImageError.TheVariants.{NoMemory};
-
     ghost from_gives = { λ _ e. e ≡ NoMemory };
 
     fn from(_e: NoMemory) -> ImageError {

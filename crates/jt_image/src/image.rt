@@ -18,7 +18,8 @@ pub enum Constant {
     Markup(String),
 }
 
-/// An image: the bytes that spell its code. Texts and instructions are read from them as they are asked for.
+/// An image: the bytes that spell its code. Texts and instructions are read from them as they are
+/// asked for.
 #[derive(Drop)]
 pub struct Image {
     pub(crate) bytes: Vec<u8>,

@@ -17,8 +17,8 @@ pub enum Instruction {
     Drop,
     /// Pushes the top value once more.
     Dup,
-    /// Takes a value and puts its printed text into the buffer, escaped if the flag is 1 and the value
-    /// is no markup.
+    /// Takes a value and puts its printed text into the buffer, escaped if the flag is 1 and the
+    /// value is no markup.
     Emit { flag: u8 },
     /// Puts a text constant into the buffer.
     Data { constant: u32 },
@@ -30,8 +30,8 @@ pub enum Instruction {
     JumpIfTrue { target: u32 },
     /// Takes an operator's operands and pushes what it gives.
     Op { operator: u8 },
-    /// Takes that many values, the input deepest, and pushes what a filter gives on them, while escaping if
-    /// the flag is 1.
+    /// Takes that many values, the input deepest, and pushes what a filter gives on them, while
+    /// escaping if the flag is 1.
     Filter { filter: u8, values: u16, flag: u32 },
     /// Takes that many values, the tested one deepest, and pushes whether the test holds.
     Test { test: u8, values: u16 },
@@ -45,8 +45,8 @@ pub enum Instruction {
     LoopNext { target: u32 },
     /// Pushes a field of the loop that has so many entries above it.
     LoopGet { field: u8, above: u32 },
-    /// Takes a value, and if it is true keeps the current item of the loop that then has so many entries
-    /// above it.
+    /// Takes a value, and if it is true keeps the current item of the loop that then has so many
+    /// entries above it.
     LoopKeep { above: u32 },
     /// Lets the loop on top begin again over the items that it kept.
     LoopRewind,

@@ -33,8 +33,8 @@ pub struct Parts {
     pub version: Version,
     /// How many globals there are.
     pub globals: u16,
-    /// The globals that the context fills, each a slot and its name. No name is empty, they strictly
-    /// ascend by their bytes, and no slot has two.
+    /// The globals that the context fills, each a slot and its name. No name is empty, they
+    /// strictly ascend by their bytes, and no slot has two.
     pub names: Vec<(u16, String)>,
     /// The constants.
     pub constants: Vec<Constant>,

@@ -31,7 +31,8 @@ pub(crate) struct UnitPlace {
     pub(crate) first: u32,
 }
 
-/// Where the parts of an image stand in its bytes. Names, constants and templates begin at these places, and the spots at that one.
+/// Where the parts of an image stand in its bytes. Names, constants and templates begin at these
+/// places, and the spots at that one.
 #[derive(Drop)]
 pub(crate) struct Places {
     pub(crate) version: Version,

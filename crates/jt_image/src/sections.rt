@@ -3,7 +3,7 @@ ghost use Rattle.std.specs.Prelude.{◌≡◌, ◌≤◌, length, IfOk};
 ghost use Rattle.std.specs.List.{AllByRecursion};
 ghost use Rattle.jt_image.specs.HeaderView.{header_view, headers_view};
 ghost use Rattle.jt_image.specs.InPlace.{instructions_in, section_in, sections_in, HasUnit, AreCounted, AreLast};
-ghost use Rattle.jt_image.specs.IsCode.{total_len, max_bytes, max_instructions};
+ghost use Rattle.jt_image.specs.IsCode.{total_len, max_instructions};
 ghost use Rattle.jt_image.specs.Reading.{Gives, header_total, instructions_at, section_at, sections_at, units_at};
 
 use crate::error::ImageError;
@@ -39,7 +39,6 @@ fn place_at<'a>(
     bytes: &[u8],
     front: &'a [u8],
 ) -> Result<(UnitPlace, &'a [u8]), ImageError>
-    requires small { length bytes.now ≤ max_bytes }
     requires last { AreLast bytes.now front.now }
     ensures gives { Gives (λ x. (section_in bytes.now x.0, x.1.now)) result
         (section_at (header_view header.now) front.now) }
@@ -65,7 +64,6 @@ fn places_at<'a>(
     bytes: &[u8],
     front: &'a [u8],
 ) -> Result<(Vec<UnitPlace>, &'a [u8]), ImageError>
-    requires small { length bytes.now ≤ max_bytes }
     requires last { AreLast bytes.now front.now }
     requires within { header_total (headers_view headers.now) ≤ max_instructions }
     ensures gives { Gives (λ x. (sections_in bytes.now x.0.items, x.1.now)) result
@@ -93,7 +91,6 @@ pub(crate) fn units_at<'a>(
     bytes: &[u8],
     front: &'a [u8],
 ) -> Result<(Units, &'a [u8]), ImageError>
-    requires small { length bytes.now ≤ max_bytes }
     requires last { AreLast bytes.now front.now }
     ensures gives { Gives (λ x. (sections_in bytes.now x.0.items.items, x.1.now)) result
         (units_at front.now) }

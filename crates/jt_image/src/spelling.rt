@@ -1,13 +1,13 @@
 //! Parts to bytes.
-ghost use Rattle.std.specs.Prelude.{◌≡◌, ◌<◌, ◌^◌, ◌++◌, ◌∷◌, [], length, map, IfOk, OnOk};
+ghost use Rattle.std.specs.Prelude.{◌≡◌, ◌<◌, ◌^◌, ◌++◌, ◌∷◌, [], length, map, IfOk};
 ghost use Rattle.std.specs.Int.{w16, w32, w64, to_le_bytes, cast_unsigned};
 ghost use Rattle.std.specs.List.{flat_map, AllByRecursion};
 ghost use Rattle.jt_image.specs.View.{name_view, names_view, constant_view, constants_view, unit_view, units_view, instruction_view, texts_view, spot_view, spots_view};
 ghost use Rattle.jt_image.specs.IsCode.{IsConstant, IsCode};
 ghost use Rattle.std.specs.Option.{IsSome};
 ghost use Rattle.jt_image.specs.Reading.{instruction_of};
-ghost use Rattle.jt_image.specs.Parts.{AreKnown, code_seen};
-ghost use Rattle.jt_image.specs.Spelling.{name_bytes, constant_bytes, header_bytes, instruction_bytes, template_bytes, spot_bytes, place_bytes, spelling};
+ghost use Rattle.jt_image.specs.Parts.{AreKnown, Adds, back_bytes, code_seen};
+ghost use Rattle.jt_image.specs.Spelling.{name_bytes, constant_bytes, header_bytes, instruction_bytes, template_bytes, spot_bytes, spelling};
 
 use crate::image::Constant;
 use crate::parts::{Parts, Spot, Unit};
@@ -18,7 +18,7 @@ use std::alloc::Global;
 
 fn put_count(out: &mut Vec<u8>, count: usize) -> Result<(), NoMemory>
     requires { count < 2 ^ 16 }
-    ensures { OnOk result (out.new.items ≡ out.old.items ++ to_le_bytes w16 count) }
+    ensures { Adds out.old out.new result (to_le_bytes w16 count) }
 {
     out.extend_from_slice(&(count as u16).to_le_bytes())?;
     Ok(())
@@ -26,7 +26,7 @@ fn put_count(out: &mut Vec<u8>, count: usize) -> Result<(), NoMemory>
 
 fn put_short_text(out: &mut Vec<u8>, text: &str) -> Result<(), NoMemory>
     requires { length text.now < 2 ^ 16 }
-    ensures { OnOk result (out.new.items ≡ out.old.items ++ template_bytes text.now) }
+    ensures { Adds out.old out.new result (template_bytes text.now) }
 {
     put_count(out, text.len())?;
     out.extend_from_slice(text.as_bytes())?;
@@ -35,7 +35,7 @@ fn put_short_text(out: &mut Vec<u8>, text: &str) -> Result<(), NoMemory>
 
 fn put_name(out: &mut Vec<u8>, name: &(u16, String)) -> Result<(), NoMemory>
     requires { length (name_view name.now).text < 2 ^ 16 }
-    ensures { OnOk result (out.new.items ≡ out.old.items ++ name_bytes (name_view name.now)) }
+    ensures { Adds out.old out.new result (name_bytes (name_view name.now)) }
 {
     out.extend_from_slice(&name.0.to_le_bytes())?;
     put_short_text(out, name.1.as_str())
@@ -43,8 +43,7 @@ fn put_name(out: &mut Vec<u8>, name: &(u16, String)) -> Result<(), NoMemory>
 
 fn put_names(out: &mut Vec<u8>, names: &[(u16, String)]) -> Result<(), NoMemory>
     requires { AllByRecursion (λ n. length n.text < 2 ^ 16) (names_view names.now) }
-    ensures { OnOk result
-        (out.new.items ≡ out.old.items ++ flat_map name_bytes (names_view names.now)) }
+    ensures { Adds out.old out.new result (flat_map name_bytes (names_view names.now)) }
 {
     'names: for name in names {
         put_name(out, name)?;
@@ -53,15 +52,14 @@ fn put_names(out: &mut Vec<u8>, names: &[(u16, String)]) -> Result<(), NoMemory>
 }
 
 fn put_tag(out: &mut Vec<u8>, tag: u8) -> Result<(), NoMemory>
-    ensures { OnOk result (out.new.items ≡ out.old.items ++ tag ∷ []) }
+    ensures { Adds out.old out.new result (tag ∷ []) }
 {
     out.push(tag)?;
     Ok(())
 }
 
 fn put_number(out: &mut Vec<u8>, tag: u8, number: i64) -> Result<(), NoMemory>
-    ensures { OnOk result
-        (out.new.items ≡ out.old.items ++ tag ∷ to_le_bytes w64 (cast_unsigned w64 number)) }
+    ensures { Adds out.old out.new result (tag ∷ to_le_bytes w64 (cast_unsigned w64 number)) }
 {
     out.push(tag)?;
     out.extend_from_slice(&number.to_le_bytes())?;
@@ -70,8 +68,7 @@ fn put_number(out: &mut Vec<u8>, tag: u8, number: i64) -> Result<(), NoMemory>
 
 fn put_text(out: &mut Vec<u8>, tag: u8, text: &str) -> Result<(), NoMemory>
     requires { length text.now < 2 ^ 32 }
-    ensures { OnOk result
-        (out.new.items ≡ out.old.items ++ tag ∷ (to_le_bytes w32 (length text.now) ++ text.now)) }
+    ensures { Adds out.old out.new result (tag ∷ (to_le_bytes w32 (length text.now) ++ text.now)) }
 {
     out.push(tag)?;
     out.extend_from_slice(&(text.len() as u32).to_le_bytes())?;
@@ -81,8 +78,7 @@ fn put_text(out: &mut Vec<u8>, tag: u8, text: &str) -> Result<(), NoMemory>
 
 fn put_constant(out: &mut Vec<u8>, constant: &Constant) -> Result<(), NoMemory>
     requires { IsConstant (constant_view constant.now) }
-    ensures { OnOk result
-        (out.new.items ≡ out.old.items ++ constant_bytes (constant_view constant.now)) }
+    ensures { Adds out.old out.new result (constant_bytes (constant_view constant.now)) }
 {
     match constant {
         Constant::Undefined => put_tag(out, 0),
@@ -97,8 +93,7 @@ fn put_constant(out: &mut Vec<u8>, constant: &Constant) -> Result<(), NoMemory>
 
 fn put_constants(out: &mut Vec<u8>, constants: &[Constant]) -> Result<(), NoMemory>
     requires { AllByRecursion IsConstant (constants_view constants.now) }
-    ensures { OnOk result
-        (out.new.items ≡ out.old.items ++ flat_map constant_bytes (constants_view constants.now)) }
+    ensures { Adds out.old out.new result (flat_map constant_bytes (constants_view constants.now)) }
 {
     'constants: for constant in constants {
         put_constant(out, constant)?;
@@ -108,8 +103,7 @@ fn put_constants(out: &mut Vec<u8>, constants: &[Constant]) -> Result<(), NoMemo
 
 fn put_header(out: &mut Vec<u8>, unit: &Unit) -> Result<(), NoMemory>
     requires { length unit.now.code.items < 2 ^ 32 }
-    ensures { OnOk result
-        (out.new.items ≡ out.old.items ++ header_bytes (unit_view unit.now)) }
+    ensures { Adds out.old out.new result (header_bytes (unit_view unit.now)) }
 {
     out.push(unit.parameters)?;
     out.push(unit.kind)?;
@@ -120,8 +114,7 @@ fn put_header(out: &mut Vec<u8>, unit: &Unit) -> Result<(), NoMemory>
 
 fn put_headers(out: &mut Vec<u8>, units: &[Unit]) -> Result<(), NoMemory>
     requires { AllByRecursion (λ u. length u.code < 2 ^ 32) (units_view units.now) }
-    ensures { OnOk result
-        (out.new.items ≡ out.old.items ++ flat_map header_bytes (units_view units.now)) }
+    ensures { Adds out.old out.new result (flat_map header_bytes (units_view units.now)) }
 {
     'units: for unit in units {
         put_header(out, unit)?;
@@ -131,8 +124,7 @@ fn put_headers(out: &mut Vec<u8>, units: &[Unit]) -> Result<(), NoMemory>
 
 fn put_instr(out: &mut Vec<u8>, instr: Instr) -> Result<(), NoMemory>
     requires { IsSome (instruction_of instr) }
-    ensures { OnOk result
-        (out.new.items ≡ out.old.items ++ instruction_bytes (instruction_view instr)) }
+    ensures { Adds out.old out.new result (instruction_bytes (instruction_view instr)) }
 {
     out.push(instr.op)?;
     out.push(instr.a)?;
@@ -143,8 +135,8 @@ fn put_instr(out: &mut Vec<u8>, instr: Instr) -> Result<(), NoMemory>
 
 fn put_code(out: &mut Vec<u8>, code: &[Instr]) -> Result<(), NoMemory>
     requires { AllByRecursion (λ w. IsSome (instruction_of w)) code.now }
-    ensures { OnOk result
-        (out.new.items ≡ out.old.items ++ flat_map instruction_bytes (map instruction_view code.now)) }
+    ensures { Adds out.old out.new result
+        (flat_map instruction_bytes (map instruction_view code.now)) }
 {
     'code: for instr in code {
         put_instr(out, *instr)?;
@@ -154,9 +146,8 @@ fn put_code(out: &mut Vec<u8>, code: &[Instr]) -> Result<(), NoMemory>
 
 fn put_codes(out: &mut Vec<u8>, units: &[Unit]) -> Result<(), NoMemory>
     requires { AreKnown units.now }
-    ensures { OnOk result (out.new.items
-        ≡ out.old.items
-        ++ flat_map (λ u. flat_map instruction_bytes u.code) (units_view units.now)) }
+    ensures { Adds out.old out.new result
+        (flat_map (λ u. flat_map instruction_bytes u.code) (units_view units.now)) }
 {
     'units: for unit in units {
         put_code(out, &unit.code)?;
@@ -166,8 +157,7 @@ fn put_codes(out: &mut Vec<u8>, units: &[Unit]) -> Result<(), NoMemory>
 
 fn put_templates(out: &mut Vec<u8>, templates: &[String]) -> Result<(), NoMemory>
     requires { AllByRecursion (λ t. length t < 2 ^ 16) (texts_view templates.now) }
-    ensures { OnOk result
-        (out.new.items ≡ out.old.items ++ flat_map template_bytes (texts_view templates.now)) }
+    ensures { Adds out.old out.new result (flat_map template_bytes (texts_view templates.now)) }
 {
     'templates: for template in templates {
         put_short_text(out, template.as_str())?;
@@ -176,7 +166,7 @@ fn put_templates(out: &mut Vec<u8>, templates: &[String]) -> Result<(), NoMemory
 }
 
 fn put_spot(out: &mut Vec<u8>, spot: Spot) -> Result<(), NoMemory>
-    ensures { OnOk result (out.new.items ≡ out.old.items ++ spot_bytes (spot_view spot)) }
+    ensures { Adds out.old out.new result (spot_bytes (spot_view spot)) }
 {
     out.extend_from_slice(&spot.template.to_le_bytes())?;
     out.extend_from_slice(&spot.line.to_le_bytes())?;
@@ -184,8 +174,7 @@ fn put_spot(out: &mut Vec<u8>, spot: Spot) -> Result<(), NoMemory>
 }
 
 fn put_spots(out: &mut Vec<u8>, spots: &[Spot]) -> Result<(), NoMemory>
-    ensures { OnOk result
-        (out.new.items ≡ out.old.items ++ flat_map spot_bytes (spots_view spots.now)) }
+    ensures { Adds out.old out.new result (flat_map spot_bytes (spots_view spots.now)) }
 {
     'spots: for spot in spots {
         put_spot(out, *spot)?;
@@ -196,10 +185,7 @@ fn put_spots(out: &mut Vec<u8>, spots: &[Spot]) -> Result<(), NoMemory>
 // what stands behind the instructions
 fn put_places(out: &mut Vec<u8>, parts: &Parts) -> Result<(), NoMemory>
     requires { IsCode (code_seen parts.now) }
-    ensures { OnOk result (out.new.items
-        ≡ out.old.items
-        ++ place_bytes parts.now.version (texts_view parts.now.templates.items)
-        (spots_view parts.now.spots.items)) }
+    ensures { Adds out.old out.new result (back_bytes (code_seen parts.now)) }
 {
     match parts.version {
         Version::One => Ok(()),
@@ -214,7 +200,7 @@ fn put_places(out: &mut Vec<u8>, parts: &Parts) -> Result<(), NoMemory>
 fn put_parts(out: &mut Vec<u8>, parts: &Parts) -> Result<(), NoMemory>
     requires code { IsCode (code_seen parts.now) }
     requires known { AreKnown parts.now.units.items }
-    ensures { OnOk result (out.new.items ≡ out.old.items ++ spelling (code_seen parts.now)) }
+    ensures { Adds out.old out.new result (spelling (code_seen parts.now)) }
 {
     out.extend_from_slice(b"JTBC")?;
     put_count(out, usize::from(parts.version.number()))?;

@@ -9,7 +9,8 @@ use std::marker::Model;
 /// How many bytes an instruction takes.
 const INSTRUCTION_BYTES: usize = 8;
 
-/// The instructions of a unit, in place: it borrows the bytes that spell them. Each is read as it is asked for.
+/// The instructions of a unit, in place: it borrows the bytes that spell them. Each is read as it
+/// is asked for.
 #[derive(Drop)]
 pub struct Stretch<'a> {
     pub(crate) code: &'a [u8],

@@ -2,10 +2,9 @@
 ghost use Rattle.std.specs.Prelude.{◌≡◌, ◌<◌, ◌≤◌, ◌==◌, ◌&&◌, not, nat_lt, List, length, IfOk, Ok, Some, None, [], true, Err};
 ghost use Rattle.std.specs.Int.{w16, w64, cast_signed};
 ghost use Rattle.std.specs.List.{AllByRecursion};
-ghost use Rattle.jt_image.specs.IsCode.{max_bytes};
 ghost use Rattle.jt_image.specs.InPlace.{names_in, HasName, constants_in, HasConstant, AreLast};
 ghost use Rattle.jt_image.specs.Readers.{constant_ref_view, name_ref_view};
-ghost use Rattle.jt_image.specs.Reading.{Gives, IsTable, is_used, may_follow, slot_at, name_text_at, name_at, names_at, all_names_at, constant_of, constant_at, constants_at, all_constants_at};
+ghost use Rattle.jt_image.specs.Reading.{Gives, IsTable, is_used, may_follow, slot_at, name_text_at, name_at, names_at, all_names_at, constant_of, constant_at, all_constants_at};
 
 use crate::code::ConstantRef;
 use crate::error::ImageError;
@@ -91,7 +90,6 @@ fn names_at<'a>(
     bytes: &[u8],
     front: &'a [u8],
 ) -> Result<(Vec<u32>, &'a [u8]), ImageError>
-    requires small { length bytes.now ≤ max_bytes }
     requires last { AreLast bytes.now front.now }
     ensures gives { Gives (λ x. (names_in bytes.now x.0.items, x.1.now)) result
         (names_at globals count front.now) }
@@ -118,7 +116,6 @@ pub(crate) fn all_names_at<'a>(
     bytes: &[u8],
     front: &'a [u8],
 ) -> Result<(Vec<u32>, &'a [u8]), ImageError>
-    requires small { length bytes.now ≤ max_bytes }
     requires last { AreLast bytes.now front.now }
     ensures gives { Gives (λ x. (names_in bytes.now x.0.items, x.1.now)) result
         (all_names_at globals front.now) }
@@ -162,29 +159,6 @@ fn constant_at(bytes: &[u8]) -> Result<(ConstantRef<'_>, &[u8]), ImageError>
     constant_of(tag, rest)
 }
 
-fn constants_at<'a>(
-    alloc: Global,
-    count: u16,
-    bytes: &[u8],
-    front: &'a [u8],
-) -> Result<(Vec<u32>, &'a [u8]), ImageError>
-    requires small { length bytes.now ≤ max_bytes }
-    requires last { AreLast bytes.now front.now }
-    ensures gives { Gives (λ x. (constants_in bytes.now x.0.items, x.1.now)) result
-        (constants_at count front.now) }
-    ensures there { IfOk result (λ x. AllByRecursion (HasConstant bytes.now) x.0.items) }
-    ensures last { IfOk result (λ x. AreLast bytes.now x.1.now) }
-{
-    let mut constants: Vec<u32> = Vec::new(alloc);
-    let mut rest = front;
-    'constants: for _ in 0..count {
-        let (_, after) = constant_at(rest)?;
-        constants.push((bytes.len() - rest.len()) as u32)?;
-        rest = after;
-    }
-    Ok((constants, rest))
-}
-
 /// The constants.
 #[tactic(auto, unfolding(crate::specs::Reading::all_constants_at))]
 pub(crate) fn all_constants_at<'a>(
@@ -192,13 +166,19 @@ pub(crate) fn all_constants_at<'a>(
     bytes: &[u8],
     front: &'a [u8],
 ) -> Result<(Vec<u32>, &'a [u8]), ImageError>
-    requires small { length bytes.now ≤ max_bytes }
     requires last { AreLast bytes.now front.now }
     ensures gives { Gives (λ x. (constants_in bytes.now x.0.items, x.1.now)) result
         (all_constants_at front.now) }
     ensures there { IfOk result (λ x. AllByRecursion (HasConstant bytes.now) x.0.items) }
     ensures last { IfOk result (λ x. AreLast bytes.now x.1.now) }
 {
-    let (count, rest) = u16_at(front)?;
-    constants_at(alloc, count, bytes, rest)
+    let (count, start) = u16_at(front)?;
+    let mut constants: Vec<u32> = Vec::new(alloc);
+    let mut rest = start;
+    'constants: for _ in 0..count {
+        let (_, after) = constant_at(rest)?;
+        constants.push((bytes.len() - rest.len()) as u32)?;
+        rest = after;
+    }
+    Ok((constants, rest))
 }

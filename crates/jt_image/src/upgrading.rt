@@ -1,9 +1,10 @@
 //! Images of version 1 in version 2.
-ghost use Rattle.std.specs.Prelude.{◌≡◌, ◌≤◌, ◌++◌, ◌*◌, ◌+◌, length, replicate, IfOk, IfErr, OnOk, MatchResult};
+ghost use Rattle.std.specs.Prelude.{◌≡◌, ◌≤◌, ◌*◌, ◌+◌, replicate, IfOk, IfErr};
 ghost use Rattle.jt_value.specs.Pairs.{Pairs};
 ghost use Rattle.jt_image.specs.Config.{Budget, Outcome};
 ghost use Rattle.jt_image.specs.Run.{Run};
 ghost use Rattle.jt_image.specs.IsCode.{total_len, max_instructions, max_bytes, IsCode};
+ghost use Rattle.jt_image.specs.Parts.{Adds};
 ghost use Rattle.jt_image.specs.Spelling.{spelling};
 ghost use Rattle.jt_image.specs.Upgrading.{unplaced, upgraded, IsNotUpgraded};
 ghost use Rattle.jt_image.specs.declared.error.ImageError.TheVariants.{NoMemory};
@@ -21,7 +22,7 @@ use std::alloc::Global;
 const START_BYTES: usize = 6;
 
 fn put_zeros(out: &mut Vec<u8>, count: usize) -> Result<(), NoMemory>
-    ensures { OnOk result (out.new.items ≡ out.old.items ++ replicate count 0) }
+    ensures { Adds out.old out.new result (replicate count 0) }
 {
     'zeros: for _ in 0..count {
         out.push(0)?;
@@ -29,7 +30,8 @@ fn put_zeros(out: &mut Vec<u8>, count: usize) -> Result<(), NoMemory>
     Ok(())
 }
 
-// how many bytes the places take: a count of no templates, and a spot without a place for each instruction
+// how many bytes the places take: a count of no templates, and a spot without a place for each
+// instruction
 fn places_len(image: &Image) -> usize
     ensures len { result ≡ 2 + 6 * total_len image.now.units }
     ensures within { result ≤ 2 + 6 * max_instructions }
@@ -39,7 +41,7 @@ fn places_len(image: &Image) -> usize
 
 fn put_unplaced(out: &mut Vec<u8>, image: &Image) -> Result<(), NoMemory>
     requires { image.now.version ≡ variant.One }
-    ensures { OnOk result (out.new.items ≡ out.old.items ++ spelling (unplaced image.now)) }
+    ensures { Adds out.old out.new result (spelling (unplaced image.now)) }
 {
     out.extend_from_slice(b"JTBC")?;
     out.extend_from_slice(&Version::Two.number().to_le_bytes())?;
@@ -62,8 +64,9 @@ fn unplaced(alloc: Global, image: &Image) -> Result<Image, ImageError>
     Ok(Image { bytes, places })
 }
 
-/// The image in version 2: one of version 1 gets no places, and one of version 2 comes back as it is. Else it is handed back, since it
-/// would be too long (`LimitPassed`), or a growth was refused (`NoMemory`).
+/// The image in version 2: one of version 1 gets no places, and one of version 2 comes back as it
+/// is. Else it is handed back, since it would be too long (`LimitPassed`), or a growth was refused
+/// (`NoMemory`).
 pub fn upgrade(alloc: Global, image: Image) -> Result<Image, (Image, ImageError)>
     // the same code, without places
     ensures ok { IfOk result (λ i. i ≡ upgraded image) }

@@ -11,7 +11,8 @@ use crate::in_place::View;
 use crate::reading::read;
 use std::alloc::Global;
 
-/// The code that the bytes spell, in place, or the first fault of them. It keeps where the parts begin, and builds no instructions.
+/// The code that the bytes spell, in place, or the first fault of them. It keeps where the parts
+/// begin, and builds no instructions.
 pub fn view(alloc: Global, bytes: &[u8]) -> Result<View<'_>, ImageError>
     // the code, or the first fault
     ensures reads { Gives (λ v. v) result (code_of bytes.now) }

@@ -1,5 +1,5 @@
 -- What a unit's table and paths say stays true while paths are followed.
-use Rattle.std.proofs.Common.{◌≡◌, ℕ, ◌<◌, ◌≤◌, List, [], ◌∷◌, ◌++◌, length, Option, Some, None, Ok, refl, sym, subst, ◌∙◌, arith, inl, inr}
+use Rattle.std.proofs.Common.{◌≡◌, ℕ, ◌<◌, ◌≤◌, List, [], ◌∷◌, ◌++◌, length, Option, Some, None, Ok, refl, sym, subst, ◌∙◌, arith, inl, inr, rules}
 use Rattle.std.specs.Prelude.{slice_set, replicate}
 use Rattle.std.proofs.lemmas.List.{length-set, length-append, length-replicate}
 use Rattle.jt_image.proofs.Passed.{all_weaker}
@@ -16,14 +16,7 @@ use Rattle.jt_verify.proofs.Tables.{set_here, set_there, set_keeps, set_gives, u
 
 module _ (k : Code) (u : Section) (t : Table) (w : List Path) (x : Path) (is : shape_at t x.point ≡ Some x.shape) where
   due_met : (s : Shape) (q : ℕ) → IsDue t (w ++ x ∷ []) s q → IsDue t w s q
-  due_met s q (inl e) = inl e
-  due_met s q (inr h) = elim (waits_either w (x ∷ []) s q h) [
-    | inl a ↦ inr a
-    | inr b ↦ elim b [
-      | inl e ↦ inl (subst (λ (n : ℕ). shape_at t n ≡ Some s) e.0 (subst (λ (r : Shape). shape_at t x.point ≡ Some r) e.1 is))
-      | inr c ↦ absurd c
-    ]
-  ]
+  due_met s q a2 = search (arith, rules, waits_either)
 
   pub met : IsWorking k u t (w ++ x ∷ []) → IsWorking k u t w
   met i = record {
@@ -47,13 +40,7 @@ module _ (k : Code) (u : Section) (t : Table) (w : List Path) (x : Path) (l : Le
 
   due_set : (s : Shape) (q : ℕ) → IsDue t (w ++ x ∷ []) s q → IsDue after_set (w ++ sent l r) s q
   due_set s q (inl e) = inl (set_keeps t x.point x.shape none q s e)
-  due_set s q (inr h) = elim (waits_either w (x ∷ []) s q h) [
-    | inl a ↦ inr (waits_left w (sent l r) s q a)
-    | inr b ↦ elim b [
-      | inl e ↦ inl (subst (λ (n : ℕ). shape_at after_set n ≡ Some s) e.0 (subst (λ (y : Shape). shape_at after_set x.point ≡ Some y) e.1 (set_here t x.point x.shape lt)))
-      | inr c ↦ absurd c
-    ]
-  ]
+  due_set s q (inr h) = search (arith, rules, waits_either, waits_left, set_here)
 
   due_next : (q : ℕ) → Among q (points_of l) → IsDue after_set (w ++ sent l r) r q
   due_next q a = inr (waits_right w (sent l r) r q (waits_sent r (as_list l.target ++ as_list l.next) q (among_swapped q (as_list l.next) (as_list l.target) a)))
@@ -87,22 +74,12 @@ module _ (k : Code) (u : Section) (t : Table) (w : List Path) (x : Path) (l : Le
       }
     where
       new : IsFollowed k u after_set (w ++ sent l r) x.point x.shape
-      new = record {
-        leads = record { shape = r; points = points_of l };
-        effect = effect;
-        due = all_of (IsDue after_set (w ++ sent l r) r) (points_of l) due_next;
-      }
+      new = search (arith, rules, all_of, due_next)
 
 -- ---- less work is left
 
 length-sent : (l : Leads) (s : Shape) → length (sent l s) ≤ 2
-length-sent l s = at_most l.target l.next
-  where
-    at_most : (a b : Option ℕ) → length (all_to s (as_list a ++ as_list b)) ≤ 2
-    at_most None None = omega arith
-    at_most None (Some b) = omega arith
-    at_most (Some a) None = omega arith
-    at_most (Some a) (Some b) = omega arith
+length-sent l s = search (arith, rules, all_to)
 
 pub less_if_met : (t : Table) (w : List Path) (x : Path) → work_left t w < work_left t (w ++ x ∷ [])
 less_if_met t w x = omega (arith, length-append w (x ∷ []))
@@ -132,8 +109,7 @@ starts k u n is some = record {
 
 -- nothing waits
 known_if_due : (t : Table) (s : Shape) (q : ℕ) → IsDue t [] s q → shape_at t q ≡ Some s
-known_if_due t s q (inl e) = e
-known_if_due t s q (inr h) = absurd h
+known_if_due t s q a3 = search (arith, rules)
 
 -- where no path waits, the unit is typed
 pub is_typed : (k : Code) (u : Section) (t : Table) → IsWorking k u t [] → IsTypedUnit Equal k u

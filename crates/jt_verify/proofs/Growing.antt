@@ -1,5 +1,5 @@
 -- An arena with one node more.
-use Rattle.std.proofs.Common.{◌≡◌, ◌≢◌, ℕ, suc, ◌+◌, ◌*◌, ◌<◌, ◌≤◌, List, [], ◌∷◌, ◌++◌, length, get_or, Some, refl, sym, ap, subst, ◌∙◌, append_assoc, arith, inl, inr}
+use Rattle.std.proofs.Common.{◌≡◌, ◌≢◌, ℕ, suc, ◌+◌, ◌*◌, ◌<◌, ◌≤◌, List, [], ◌∷◌, ◌++◌, length, get_or, Some, refl, sym, ap, subst, ◌∙◌, append_assoc, arith, inl, inr, rules}
 use Rattle.std.specs.Prelude.{slice_get, slice_set}
 use Rattle.std.proofs.lemmas.Option.{slice_get_within}
 use Rattle.std.proofs.lemmas.List.{length-append, length-set, get_or_append_left, get_or_push, get_or-set_same, get_or-set_other}
@@ -58,12 +58,7 @@ module _ (ns : List Node) (ls : List ℕ) (a : IsArena ns ls) (n : Node) (q : �
   }
 
   sound_new : IsSound more r (lists_of more) (length ns) n
-  sound_new = record {
-    older = omega (arith, lt, a.len);
-    shape = at_new ∙ sym (entered_kept n lt);
-    height = height ∙ ap (λ (s : Shape). length s) (sym (entered_kept n lt));
-    found = f.3 more r (length ns) keeps set_here (record { node = n; is = node_last ns n; mark = refl; below = refl });
-  }
+  sound_new = search (arith, rules, at_new, entered_kept, keeps, node_last)
 
   sound_old : (i : ℕ) (x : Node) → slice_get ns i ≡ Some x → IsSound more r (lists_of more) i x
   sound_old i x e =
@@ -92,31 +87,16 @@ module _ (ns : List Node) (ls : List ℕ) (a : IsArena ns ls) (n : Node) (q : �
       )
 
   jump_old : (i : ℕ) (x : Node) → slice_get ns i ≡ Some x → (x.jump.to ≤ i) × IsUnder (lists_of more) x.jump.to (get_or (lists_of more) (suc i) [])
-  jump_old i x e =
-      let j = a.jumps i x e in
-      let l = slice_get_within ns i x e in
-      (j.0, (j.1.0, at_old (suc i) (omega (arith, l, a.len)) ∙ j.1.1 ∙ ap (λ (s : Shape). j.1.0 ++ s) (sym (at_old x.jump.to (omega (arith, j.0, l, a.len))))))
+  jump_old i x e = search (arith, rules, slice_get_within, at_old)
 
   jumps_more : AreJumps more
-  jumps_more i x e = elim (node_either ns n i x e) [
-    | inl o ↦ jump_old i x o
-    | inr w ↦ subst (λ (y : Node). (y.jump.to ≤ i) × IsUnder (lists_of more) y.jump.to (get_or (lists_of more) (suc i) [])) w.1 (subst (λ (j : ℕ). (n.jump.to ≤ j) × IsUnder (lists_of more) n.jump.to (get_or (lists_of more) (suc j) [])) (sym w.0) jump_new)
-  ]
+  jumps_more i x e = search (arith, rules, node_either, jump_old, get_or, jump_new)
 
   new_differs : (j : ℕ) → j < suc (length ns) → get_or (lists_of more) j [] ≡ get_or (lists_of more) (suc (length ns)) [] → ⊥
   new_differs j l e = is_new a n.mark n.below lt f.2 j (omega (arith, l, a.len)) (sym (at_old j (omega (arith, l, a.len))) ∙ e ∙ at_new)
 
   distinct_more : (i j : ℕ) → i < length (lists_of more) → j < length (lists_of more) → get_or (lists_of more) i [] ≡ get_or (lists_of more) j [] → i ≡ j
-  distinct_more i j li lj e = elim (same_or i (suc (length ns))) [
-    | inl si ↦ elim (same_or j (suc (length ns))) [
-      | inl sj ↦ si ∙ sym sj
-      | inr dj ↦ absurd (new_differs j (omega (arith, lj, dj, length-lists)) (sym e ∙ ap (λ (x : ℕ). get_or (lists_of more) x []) si))
-    ]
-    | inr di ↦ elim (same_or j (suc (length ns))) [
-      | inl sj ↦ absurd (new_differs i (omega (arith, li, di, length-lists)) (e ∙ ap (λ (x : ℕ). get_or (lists_of more) x []) sj))
-      | inr dj ↦ a.distinct i j (omega (arith, li, di, length-lists, a.len)) (omega (arith, lj, dj, length-lists, a.len)) (sym (at_old i (omega (arith, li, di, length-lists, a.len))) ∙ e ∙ at_old j (omega (arith, lj, dj, length-lists, a.len)))
-    ]
-  ]
+  distinct_more i j li lj e = search (arith, rules, same_or, new_differs, length-lists, get_or, at_old)
 
   pub arena_more : IsArena more r
   arena_more = record {
@@ -154,16 +134,10 @@ module _ (ns : List Node) (n : Node) (len : length (lists_of ns) ≡ suc (length
   shapes_pushed = grow_push ([] ∷ []) ns n
 
   pub kept_pushed : IsKept (lists_of ns) (lists_of (ns ++ n ∷ []))
-  kept_pushed = record {
-    more = omega (arith, ap (λ (t : Lists). length t) shapes_pushed, length-append (lists_of ns) (entered (lists_of ns) n ∷ []));
-    same = λ i l. ap (λ (t : Lists). get_or t i []) shapes_pushed ∙ get_or_append_left (lists_of ns) (entered (lists_of ns) n ∷ []) [] i l;
-  }
+  kept_pushed = search (arith, rules, shapes_pushed, length-append, get_or, get_or_append_left)
 
   pub shape_pushed : (k : ℕ) → k ≡ suc (length ns) → (get_or (lists_of (ns ++ n ∷ [])) k [] ≡ entered (lists_of ns) n) × (k < length (lists_of (ns ++ n ∷ [])))
-  shape_pushed k e = (
-    ap (λ (t : Lists). get_or t k []) shapes_pushed ∙ get_or_push (lists_of ns) (entered (lists_of ns) n) [] k (len ∙ sym e),
-    omega (arith, e, len, ap (λ (t : Lists). length t) shapes_pushed, length-append (lists_of ns) (entered (lists_of ns) n ∷ [])),
-  )
+  shape_pushed k e = search (arith, rules, get_or, shapes_pushed, get_or_push, length-append)
 
 -- what was looked up, in the lists that are meant
 pub found_pushed : (ns xs : List Node) (ls ys : List ℕ) → IsArena ns ls → (m : Mark) (b : Handle) (d k : ℕ) → xs ≡ ns → Finding xs ys m b (3 * b.node) d (link.To k) → StandsFor (lists_of ns) k (kind_of m ∷ shape_in (lists_of ns) b)

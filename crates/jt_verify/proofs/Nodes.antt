@@ -1,5 +1,5 @@
 -- What is known of an arena: no two handles stand for one shape.
-use Rattle.std.proofs.Common.{◌≡◌, ◌≢◌, ℕ, zero, suc, ◌+◌, ◌-◌, ◌*◌, ◌/◌, ◌%◌, ◌<◌, ◌≤◌, Bool, true, false, List, [], ◌∷◌, ◌++◌, length, get_or, Some, None, Result, Err, MatchBool, refl, sym, ap, subst, ◌∙◌, arith}
+use Rattle.std.proofs.Common.{◌≡◌, ◌≢◌, ℕ, zero, suc, ◌+◌, ◌-◌, ◌*◌, ◌/◌, ◌%◌, ◌<◌, ◌≤◌, Bool, List, [], ◌∷◌, ◌++◌, length, get_or, Some, None, Result, Err, MatchBool, refl, sym, ap, subst, ◌∙◌, arith, rules}
 use Rattle.std.specs.Prelude.{slice_get}
 use Rattle.std.proofs.lemmas.Option.{slice_get_within}
 use Rattle.std.proofs.lemmas.List.{length-append, get_or_append_left}
@@ -7,7 +7,6 @@ use Rattle.jt_image.specs.declared.kind.Flaw.{Flaw}
 use Rattle.jt_image.specs.declared.kind.Flaw.TheVariants as flaw
 use Rattle.jt_image.specs.Effect.{Shape, Leads, pops, pops_many, pushes}
 use Rattle.jt_verify.specs.declared.links.Mark.{Mark}
-use Rattle.jt_verify.specs.declared.links.Mark.TheVariants as mark
 use Rattle.jt_verify.specs.declared.links.Handle.{Handle}
 use Rattle.jt_verify.specs.declared.links.Node.{Node}
 use Rattle.jt_verify.specs.declared.links.Link.{Link}
@@ -20,12 +19,10 @@ use Rattle.jt_verify.proofs.Values.{HasNoValue, pushes_same, length-pushes, pops
 
 module _ (ns : List Node) (ls : List ℕ) (m : Mark) (b : Handle) where
   none_there : (p d i : ℕ) → Finds ns ls m b p d i → get_or ls p 0 ≡ 0 → ⊥
-  none_there _ _ _ (here p d i e h) z = absurd (omega (arith, z, e))
-  none_there _ _ _ (along p d i k e f) z = absurd (omega (arith, z, e))
+  none_there _ _ _ a3 z = search (arith, rules)
 
   goes_along : (k p d i : ℕ) → Finds ns ls m b p d i → get_or ls p 0 ≡ suc k → (IsNode ns m b k → ⊥) → Finds ns ls m b (3 * suc k + 1 + d % 2) (d / 2) i
-  goes_along k _ _ _ (here p d i e h) link_is other = let same : i ≡ k = omega (arith, e, link_is) in absurd (other (subst (λ (j : ℕ). IsNode ns m b j) same h))
-  goes_along k _ _ _ (along p d i j e f) link_is other = let same : j ≡ k = omega (arith, e, link_is) in subst (λ (x : ℕ). Finds ns ls m b (3 * suc x + 1 + d % 2) (d / 2) i) same f
+  goes_along k _ _ _ a4 link_is other = search (arith, rules)
 
   pub vacant_here : (p d : ℕ) → get_or ls p 0 ≡ 0 → p < 3 * (length ns + 1) → Finding ns ls m b p d (link.Vacant p)
   vacant_here p d z lt = (z, lt, λ i f. none_there p d i f z, λ r s i keeps link_is node_is. here p d i link_is node_is)
@@ -49,8 +46,7 @@ module _ (ns : List Node) (ls : List ℕ) (m : Mark) (b : Handle) where
           other (ap (λ (y : Node). y.mark) nodes ∙ x.mark) (ap (λ (y : Node). y.below) nodes ∙ x.below)
 
   pub found_here : (p d k : ℕ) (n : Node) → 0 < k → slice_get ns (k - 1) ≡ Some n → n.mark ≡ m → n.below ≡ b → Finding ns ls m b p d (link.To k)
-  found_here p d zero n l is e f = absurd (omega arith)
-  found_here p d (suc k) n l is e f = let same : suc k - 1 ≡ k = omega arith in (k, refl, record { node = n; is = subst (λ (j : ℕ). slice_get ns j ≡ Some n) same is; mark = e; below = f })
+  found_here p d a2 n l is e f = search (arith, rules)
 
 -- a link leads to a node, and upward
 pub link_up : (n : ℕ) (ls : List ℕ) → AreLinks n ls → (p k : ℕ) → k ≡ get_or ls p 0 → 0 < k → (p < 3 * k) × (k ≤ n)
@@ -76,14 +72,10 @@ pub bottom : (ns : List Node) → get_or (lists_of ns) 0 [] ≡ []
 bottom ns = grow_front ([] ∷ []) ns 0 (omega arith)
 
 marked : (m : Mark) (s : Shape) → HasNoValue (kind_of m ∷ s)
-marked mark.Frame s = tt
-marked mark.Capture s = tt
+marked a0 s = search (arith, rules)
 
 kind_same : (m n : Mark) → kind_of m ≡ kind_of n → m ≡ n
-kind_same mark.Frame mark.Frame e = refl
-kind_same mark.Capture mark.Capture e = refl
-kind_same mark.Frame mark.Capture e = absurd cc
-kind_same mark.Capture mark.Frame e = absurd cc
+kind_same a0 a1 e = search (arith, rules)
 
 handle_same : (h g : Handle) → h.values ≡ g.values → h.node ≡ g.node → h ≡ g
 handle_same h g e f = subst (λ (n : ℕ). h ≡ record { values = g.values; node = n }) f (subst (λ (v : ℕ). h ≡ record { values = v; node = h.node }) e refl)
@@ -106,9 +98,7 @@ module _ {ns : List Node} {ls : List ℕ} (a : IsArena ns ls) where
 
   -- different handles stand for different shapes
   pub handles_same : (h g : Handle) → IsIn (lists_of ns) h → IsIn (lists_of ns) g → shape_in (lists_of ns) h ≡ shape_in (lists_of ns) g → h ≡ g
-  handles_same h g l m e =
-      let r = pushes_same h.values g.values (get_or (lists_of ns) h.node []) (get_or (lists_of ns) g.node []) (no_value h.node l) (no_value g.node m) e in
-      handle_same h g r.0 (a.distinct h.node g.node l m r.1)
+  handles_same h g l m e = search (arith, rules, pushes_same, get_or, no_value, handle_same)
 
   -- a mark that links don't lead to is on no node
   pub is_new : (m : Mark) (b : Handle) → IsIn (lists_of ns) b → ((i : ℕ) → Finds ns ls m b (3 * b.node) (2 * b.values + digit_of m) i → ⊥) → (j : ℕ) → j < length (lists_of ns) → get_or (lists_of ns) j [] ≡ kind_of m ∷ shape_in (lists_of ns) b → ⊥
@@ -134,8 +124,7 @@ module _ {ns : List Node} {ls : List ℕ} (a : IsArena ns ls) where
   top_is h n e l i is = let k = node_is h.node n l is in (ap (λ (v : ℕ). pushes v (get_or (lists_of ns) h.node [])) e ∙ k.0, omega (arith, k.1, i))
 
   pub equal_is : (r : Bool) (h g : Handle) → IsIn (lists_of ns) h → IsIn (lists_of ns) g → MatchBool r (h ≡ g) (h ≢ g) → MatchBool r (shape_in (lists_of ns) h ≡ shape_in (lists_of ns) g) (shape_in (lists_of ns) h ≢ shape_in (lists_of ns) g)
-  equal_is true h g l m e = ap (λ (x : Handle). shape_in (lists_of ns) x) e
-  equal_is false h g l m e = λ s. e (handles_same h g l m s)
+  equal_is a0 h g l m e = search (arith, rules, handles_same)
 
   pub pops_nothing : (h : Handle) (n : ℕ) → h.values < n → h.node ≡ 0 → (go : Shape → Result Leads Flaw) → pops_many n (shape_in (lists_of ns) h) go ≡ Err flaw.MissingOperand
   pops_nothing h n l z = pops_too_many n h.values (get_or (lists_of ns) h.node []) flaw.MissingOperand l (λ go. ap (λ (s : Shape). pops s go) (at_bottom h z))
@@ -148,17 +137,13 @@ module _ {ns : List Node} {ls : List ℕ} (a : IsArena ns ls) where
       pops_too_many n h.values (get_or (lists_of ns) h.node []) flaw.WrongKind l (λ go. ap (λ (s : Shape). pops s go) k.0 ∙ wrong x.mark (shape_in (lists_of ns) x.below) go)
     where
       wrong : (m : Mark) (s : Shape) (go : Shape → Result Leads Flaw) → pops (kind_of m ∷ s) go ≡ Err flaw.WrongKind
-      wrong mark.Frame s go = refl
-      wrong mark.Capture s go = refl
+      wrong a0 s go = search (arith, rules)
 
   pub kind_at_bottom : (h : Handle) (i : ℕ) → h.node ≡ 0 → h.values ≤ i → slice_get (shape_in (lists_of ns) h) i ≡ None
   kind_at_bottom h i z l = below_values h.values (get_or (lists_of ns) h.node []) i l ∙ ap (λ (s : Shape). slice_get s (i - h.values)) (at_bottom h z)
 
   pub kind_at_mark : (h : Handle) (n : Node) (i : ℕ) → 0 < h.node → slice_get ns (h.node - 1) ≡ Some n → i ≡ h.values → slice_get (shape_in (lists_of ns) h) i ≡ Some (kind_of n.mark)
-  kind_at_mark h n i l is e =
-      let k = node_is h.node n l is in
-      let zero_left : i - h.values ≡ 0 = omega (arith, e) in
-      below_values h.values (get_or (lists_of ns) h.node []) i (omega (arith, e)) ∙ ap (λ (s : Shape). slice_get s (i - h.values)) k.0 ∙ ap (λ (j : ℕ). slice_get (entered (lists_of ns) n) j) zero_left
+  kind_at_mark h n i l is e = search (arith, rules, node_is, below_values, get_or)
 
   pub kind_under_mark : (h : Handle) (n : Node) (i j : ℕ) → 0 < h.node → slice_get ns (h.node - 1) ≡ Some n → i ≡ h.values + suc j → slice_get (shape_in (lists_of ns) h) i ≡ slice_get (shape_in (lists_of ns) n.below) j
   kind_under_mark h n i j l is e =
@@ -189,10 +174,7 @@ module _ {ns : List Node} {ls : List ℕ} (a : IsArena ns ls) where
       )
 
   pub kind_far_under : (h : Handle) (n m : Node) (i j : ℕ) → 0 < h.node → slice_get ns (h.node - 1) ≡ Some n → IsAt ns n.jump.to m → i ≡ h.values + (n.height - m.height) + j → slice_get (shape_in (lists_of ns) h) i ≡ slice_get (get_or (lists_of ns) n.jump.to []) j
-  kind_far_under h n m i j l is e f =
-      let w = way_is h.node n m l is e in
-      let left : i - h.values - (n.height - m.height) ≡ j = omega (arith, f) in
-      below_values h.values (get_or (lists_of ns) h.node []) i (omega (arith, f)) ∙ w.2 (i - h.values) (omega (arith, f)) ∙ ap (λ (x : ℕ). slice_get (get_or (lists_of ns) n.jump.to []) x) left
+  kind_far_under h n m i j l is e f = search (arith, rules, way_is, below_values, get_or)
 
   -- a node that is found is that mark on that handle
   pub found_is : (m : Mark) (b : Handle) (p d k : ℕ) → Finding ns ls m b p d (link.To k) → (get_or (lists_of ns) k [] ≡ kind_of m ∷ shape_in (lists_of ns) b) × (k < length (lists_of ns))

@@ -1,13 +1,11 @@
 -- Numbers that are equal or not, and lists of nodes by their places.
-use Rattle.std.proofs.Common.{◌≡◌, ◌≢◌, ℕ, zero, suc, ◌<◌, ◌⊎◌, List, [], ◌∷◌, ◌++◌, length, get_or, Some, refl, ap, arith, inl, inr}
+use Rattle.std.proofs.Common.{◌≡◌, ◌≢◌, ℕ, zero, suc, ◌<◌, ◌⊎◌, List, [], ◌∷◌, ◌++◌, length, get_or, Some, refl, ap, arith, inl, inr, rules}
 use Rattle.std.specs.Prelude.{slice_get}
 use Rattle.jt_verify.specs.declared.links.Node.{Node}
 
 pub same_or : (a b : ℕ) → (a ≡ b) ⊎ (a ≢ b)
-same_or zero zero = inl refl
-same_or zero (suc b) = inr (λ e. absurd cc)
-same_or (suc a) zero = inr (λ e. absurd cc)
 same_or (suc a) (suc b) = elim (same_or a b) [ inl e ↦ inl (ap suc e) | inr n ↦ inr (λ (e : suc a ≡ suc b). n (omega arith)) ]
+same_or a0 a1 = search (arith, rules)
 
 pub some_node : (ns : List Node) (i : ℕ) → i < length ns → (n : Node) × (slice_get ns i ≡ Some n)
 some_node [] i lt = absurd (omega arith)
@@ -15,19 +13,16 @@ some_node (x ∷ ns) zero lt = (x, refl)
 some_node (x ∷ ns) (suc i) lt = some_node ns i (omega arith)
 
 pub node_left : (ns : List Node) (n : Node) (i : ℕ) (x : Node) → slice_get ns i ≡ Some x → slice_get (ns ++ n ∷ []) i ≡ Some x
-node_left [] n i x e = absurd cc
-node_left (y ∷ ns) n zero x e = e
 node_left (y ∷ ns) n (suc i) x e = node_left ns n i x e
+node_left a0 n a2 x e = search (arith, rules)
 
 pub node_last : (ns : List Node) (n : Node) → slice_get (ns ++ n ∷ []) (length ns) ≡ Some n
 node_last [] n = refl
 node_last (y ∷ ns) n = node_last ns n
 
 pub node_either : (ns : List Node) (n : Node) (i : ℕ) (x : Node) → slice_get (ns ++ n ∷ []) i ≡ Some x → (slice_get ns i ≡ Some x) ⊎ ((i ≡ length ns) × (n ≡ x))
-node_either [] n zero x e = inr (refl, cc)
-node_either [] n (suc i) x e = absurd cc
-node_either (y ∷ ns) n zero x e = inl e
 node_either (y ∷ ns) n (suc i) x e = elim (node_either ns n i x e) [ inl a ↦ inl a | inr b ↦ inr (ap suc b.0, b.1) ]
+node_either a0 n a2 x e = search (arith, rules)
 
 -- zeros behind a list are what is read behind it
 pub padded : (ls : List ℕ) (p : ℕ) → get_or (ls ++ 0 ∷ 0 ∷ 0 ∷ []) p 0 ≡ get_or ls p 0

@@ -1,5 +1,5 @@
 -- A refusal that holds refuses no typed code.
-use Rattle.std.proofs.Common.{◌≡◌, ℕ, List, [], ◌∷◌, ◌++◌, length, Option, Some, Result, Ok, Err, refl, sym, ap, subst, ◌∙◌, arith, inl, inr}
+use Rattle.std.proofs.Common.{◌≡◌, ℕ, List, [], ◌∷◌, ◌++◌, length, Option, Some, Result, Ok, Err, refl, sym, subst, ◌∙◌, arith, inl, inr, rules}
 use Rattle.std.specs.Prelude.{slice_get}
 use Rattle.std.specs.List.{AllByRecursion}
 use Rattle.jt_image.specs.declared.kind.Flaw.{Flaw}
@@ -21,8 +21,7 @@ use Rattle.jt_verify.proofs.Tables.{all_among, paths_last}
 
 module _ (k : Code) (u : Section) (q : ℕ) (s : Shape) (reached : Reaches k u q s) where
   clash_at : (o : Option Shape) (f : Flaw) → ((r : Shape) → o ≡ Some r → Reaches k u q r) → ClashesAt o s f → HasClash k u q f
-  clash_at o f known (inl c) = inl (s, reached, c)
-  clash_at o f known (inr c) = inr (c.0, s, known c.0 c.1, reached, c.2)
+  clash_at o f known a3 = search (arith, rules)
 
 pub clash_refuses : (k : Code) (u : Section) (n : ℕ) (t : Table) (w : List Path) (x : Path) (e : Refusal) → IsWorking k u t (w ++ x ∷ []) → Clashes t n x e → RefusesUnit k u n e
 clash_refuses k u n t w x e i c =
@@ -36,8 +35,7 @@ tall_clash k u x q (Ok l) reached e h = inl (l.shape, along x.point x.shape l q 
 tall_clash k u x q (Err f) reached e h = absurd h
 
 step_holds : (k : Code) (u : Section) (x : Path) (f : Flaw) (q : ℕ) → Reaches k u x.point x.shape → StepFlaw k u x.point x.shape f q → HoldsAt k u q f
-step_holds k u x f q reached (inl h) = subst (λ (p : ℕ). HoldsAt k u p f) (sym h.0) (inl (x.shape, reached, h.1))
-step_holds k u x f q reached (inr h) = subst (λ (g : Flaw). HoldsAt k u q g) (sym h.0) (inr (tall_clash k u x q (effect_at k u x.point x.shape) reached refl h.1))
+step_holds k u x f q reached a6 = search (arith, rules, tall_clash)
 
 pub step_refuses : (r : Lists) (k : Code) (u : Section) (n : ℕ) (t : Table) (w : List Path) (x : Path) (e : Refusal) → IsWorking k u t (w ++ x ∷ []) → Steps r k u n x.point x.shape (Err e) → RefusesUnit k u n e
 step_refuses r k u n t w x (refusal.Flaw f m p) i h = (h.0, step_holds k u x f p (paths_last (Comes k u) w x i.coming).0.1 h.1)
@@ -51,22 +49,13 @@ empty_refuses k u n e = (refl, inl ([], at_start, falls u.code e))
     falls (i ∷ c) e = absurd (omega arith)
 
 pub unit_refused : (k : Code) (n : ℕ) (r : Refusal) → slice_get k.units n ≡ Some (unit_of k n) → RefusesUnit k (unit_of k n) n r → RefusalHolds k r
-unit_refused k n refusal.NoMemory is h = tt
-unit_refused k n (refusal.Flaw f m p) is h = subst (λ (i : ℕ). RefusalHolds k (refusal.Flaw f i p)) (sym h.0) (unit_of k n, is, h.1)
+unit_refused k n a2 is h = search (arith, rules)
 
 -- ---- a path's shapes are those of any typing
 
 -- equal shapes do not differ
 same_differ : (s t : Shape) (f : Flaw) → s ≡ t → DifferBy s t f → ⊥
-same_differ s t flaw.DepthDiffers e d = d (ap (λ (x : Shape). length x) e)
-same_differ s t flaw.KindDiffers e d = d.1 e
-same_differ s t flaw.MissingOperand e d = d
-same_differ s t flaw.WrongKind e d = d
-same_differ s t flaw.JumpOut e d = d
-same_differ s t flaw.BadIndex e d = d
-same_differ s t flaw.BadReturn e d = d
-same_differ s t flaw.FallsOff e d = d
-same_differ s t flaw.TooDeep e d = d
+same_differ s t a2 e d = search (arith, rules)
 
 module _ (k : Code) (u : Section) (shapes : Shapes) (h : IsTypedBy Equal k u shapes) where
   agrees : (p : ℕ) (s : Shape) → Reaches k u p s → shapes p ≡ Some s
@@ -79,8 +68,7 @@ module _ (k : Code) (u : Section) (shapes : Shapes) (h : IsTypedBy Equal k u sha
       subst (λ (y : Shape). shapes q ≡ Some y) has.2 has.1
 
   clash_untyped : (p : ℕ) (f : Flaw) → HasClash k u p f → ⊥
-  clash_untyped p f (inl c) = let m = h.small p c.0 (agrees p c.0 c.1) in absurd (omega (arith, m, c.2.1))
-  clash_untyped p f (inr c) = let e : Some c.0 ≡ Some c.1 = sym (agrees p c.0 c.2) ∙ agrees p c.1 c.3 in let same : c.0 ≡ c.1 = cc in same_differ c.0 c.1 f same c.4
+  clash_untyped p f a2 = search (arith, rules, agrees, same_differ)
 
   flaw_untyped : (p : ℕ) (f : Flaw) → HasFlaw k u p f → ⊥
   flaw_untyped p f c = let g = h.fine p c.0 (agrees p c.0 c.1) in let e : ◌≡◌ {A = Result Leads Flaw} (Err f) (Ok g.leads) = sym c.2 ∙ g.effect in cc

@@ -1,5 +1,5 @@
 -- Tables of shapes, and paths that wait.
-use Rattle.std.proofs.Common.{◌≡◌, ◌≢◌, ℕ, zero, suc, ◌+◌, ◌<◌, ◌⊎◌, List, [], ◌∷◌, ◌++◌, length, map, Option, Some, None, refl, sym, ap, subst, ◌∙◌, arith, inl, inr}
+use Rattle.std.proofs.Common.{◌≡◌, ◌≢◌, ℕ, suc, ◌+◌, ◌<◌, ◌⊎◌, List, [], ◌∷◌, ◌++◌, length, map, Option, Some, None, refl, sym, ap, subst, ◌∙◌, arith, inl, inr, rules}
 use Rattle.std.specs.Prelude.{slice_set, replicate, option_map, unwrap_or}
 use Rattle.std.specs.List.{AllByRecursion}
 use Rattle.jt_image.specs.declared.code.UnitHeader.{UnitHeader}
@@ -13,28 +13,21 @@ use Rattle.jt_verify.proofs.Numbers.{same_or}
 -- ---- a shape put into a table
 
 pub set_here : (t : Table) (p : ℕ) (s : Shape) → p < length t → shape_at (slice_set t p (Some s)) p ≡ Some s
-set_here [] p s lt = absurd (omega arith)
-set_here (x ∷ t) zero s lt = refl
 set_here (x ∷ t) (suc p) s lt = set_here t p s (omega arith)
+set_here a0 a1 s lt = search (arith, rules)
 
 pub set_there : (t : Table) (p q : ℕ) (s : Shape) → q ≢ p → shape_at (slice_set t p (Some s)) q ≡ shape_at t q
-set_there [] p q s ne = refl
-set_there (x ∷ t) zero zero s ne = absurd (ne refl)
-set_there (x ∷ t) zero (suc q) s ne = refl
-set_there (x ∷ t) (suc p) zero s ne = refl
 set_there (x ∷ t) (suc p) (suc q) s ne = set_there t p q s (λ e. ne (ap suc e))
+set_there a0 a1 a2 s ne = search (arith, rules)
 
 pub unknown-set : (t : Table) (p : ℕ) (s : Shape) → p < length t → shape_at t p ≡ None → unknown (slice_set t p (Some s)) + 1 ≡ unknown t
-unknown-set [] p s lt e = absurd (omega arith)
-unknown-set (None ∷ t) zero s lt e = omega arith
-unknown-set (Some r ∷ t) zero s lt e = absurd cc
 unknown-set (None ∷ t) (suc p) s lt e = omega (arith, unknown-set t p s (omega arith) e)
 unknown-set (Some r ∷ t) (suc p) s lt e = unknown-set t p s (omega arith) e
+unknown-set a0 a1 s lt e = search (arith, rules)
 
 -- what is known stays known
 pub set_keeps : (t : Table) (p : ℕ) (s : Shape) → shape_at t p ≡ None → (q : ℕ) (r : Shape) → shape_at t q ≡ Some r → shape_at (slice_set t p (Some s)) q ≡ Some r
-set_keeps t p s none q r e =
-    elim (same_or q p) [ inl same ↦ absurd (let f : shape_at t p ≡ Some r = subst (λ (n : ℕ). shape_at t n ≡ Some r) same e in cc) | inr other ↦ set_there t p q s other ∙ e ]
+set_keeps t p s none q r e = search (arith, rules, same_or, set_there)
 
 -- what is found at the new place is the new shape
 pub set_gives : (t : Table) (p : ℕ) (s : Shape) → p < length t → (q : ℕ) (r : Shape) → q ≡ p → shape_at (slice_set t p (Some s)) q ≡ Some r → s ≡ r
@@ -42,9 +35,8 @@ set_gives t p s lt q r same e = let f : Some s ≡ Some r = sym (set_here t p s 
 
 -- a table of unknown shapes
 pub none_at : (n q : ℕ) → shape_at (replicate n None) q ≡ None
-none_at zero q = refl
-none_at (suc n) zero = refl
 none_at (suc n) (suc q) = none_at n q
+none_at a0 a1 = refl
 
 -- ---- lists of points
 
@@ -116,5 +108,4 @@ paths_sent P s (p ∷ ps) h = (h p (inl refl), paths_sent P s ps (λ q a. h q (i
 -- ---- units
 
 pub some_section : (o : Option Section) (d : Section) (h : UnitHeader) → option_map header_of o ≡ Some h → o ≡ Some (unwrap_or o d)
-some_section None d h e = absurd cc
-some_section (Some u) d h e = refl
+some_section a0 d h e = search (arith, rules)

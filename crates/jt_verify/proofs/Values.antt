@@ -1,5 +1,5 @@
 -- Values on top of a shape.
-use Rattle.std.proofs.Common.{◌≡◌, ℕ, zero, suc, ◌+◌, ◌-◌, ◌<◌, ◌≤◌, [], ◌∷◌, ◌++◌, length, Some, Result, Err, refl, sym, ap, subst, ◌∙◌, arith}
+use Rattle.std.proofs.Common.{◌≡◌, ℕ, zero, suc, ◌+◌, ◌-◌, ◌<◌, ◌≤◌, [], ◌∷◌, ◌++◌, length, Some, Result, Err, refl, sym, ap, subst, ◌∙◌, arith, rules}
 use Rattle.std.specs.Prelude.{slice_get}
 use Rattle.jt_image.specs.declared.kind.Kind.TheVariants as kind
 use Rattle.jt_image.specs.declared.kind.Flaw.{Flaw}
@@ -15,25 +15,21 @@ pushes_both n (suc m) s = let same : n + suc m ≡ suc (n + m) = omega arith in 
 
 -- as many values as there are
 pub pops_values : (n v : ℕ) (s : Shape) (go : Shape → Result Leads Flaw) → n ≤ v → pops_many n (pushes v s) go ≡ go (pushes (v - n) s)
-pops_values zero v s go l = let same : v ≡ v - 0 = omega arith in ap (λ (k : ℕ). go (pushes k s)) same
-pops_values (suc n) zero s go l = absurd (omega arith)
 pops_values (suc n) (suc v) s go l = let same : v - n ≡ suc v - suc n = omega arith in pops_values n v s go (omega arith) ∙ ap (λ (k : ℕ). go (pushes k s)) same
+pops_values a0 a1 s go l = search (arith, rules)
 
 -- more than there are: the entry below them has the flaw
 pub pops_too_many : (n v : ℕ) (s : Shape) (f : Flaw) → v < n → ((go : Shape → Result Leads Flaw) → pops s go ≡ Err f) → (go : Shape → Result Leads Flaw) → pops_many n (pushes v s) go ≡ Err f
-pops_too_many zero v s f l h go = absurd (omega arith)
-pops_too_many (suc n) zero s f l h go = h (λ r. pops_many n r go)
 pops_too_many (suc n) (suc v) s f l h go = pops_too_many n v s f (omega arith) h go
+pops_too_many a0 a1 s f l h go = search (arith, rules)
 
 pub value_at : (v : ℕ) (s : Shape) (a : ℕ) → a < v → slice_get (pushes v s) a ≡ Some kind.Value
-value_at zero s a l = absurd (omega arith)
-value_at (suc v) s zero l = refl
 value_at (suc v) s (suc a) l = value_at v s a (omega arith)
+value_at a0 s a2 l = search (arith, rules)
 
 pub below_values : (v : ℕ) (s : Shape) (a : ℕ) → v ≤ a → slice_get (pushes v s) a ≡ slice_get s (a - v)
-below_values zero s a l = let same : a ≡ a - 0 = omega arith in ap (λ (k : ℕ). slice_get s k) same
-below_values (suc v) s zero l = absurd (omega arith)
 below_values (suc v) s (suc a) l = let same : a - v ≡ suc a - suc v = omega arith in below_values v s a (omega arith) ∙ ap (λ (k : ℕ). slice_get s k) same
+below_values a0 s a2 l = search (arith, rules)
 
 -- values on top of a shape, with the shape at the end
 pub pushes_end : (v : ℕ) (s : Shape) → pushes v s ≡ pushes v [] ++ s
@@ -41,9 +37,8 @@ pushes_end zero s = refl
 pushes_end (suc v) s = ap (λ (r : Shape). kind.Value ∷ r) (pushes_end v s)
 
 pub at_end : (r s : Shape) (i : ℕ) → length r ≤ i → slice_get (r ++ s) i ≡ slice_get s (i - length r)
-at_end [] s i l = let same : i ≡ i - 0 = omega arith in ap (λ (k : ℕ). slice_get s k) same
-at_end (x ∷ r) s zero l = absurd (omega arith)
 at_end (x ∷ r) s (suc i) l = let same : i - length r ≡ suc i - suc (length r) = omega arith in at_end r s i (omega arith) ∙ ap (λ (k : ℕ). slice_get s k) same
+at_end a0 s a2 l = search (arith, rules)
 
 -- ---- a shape with no value at the top
 

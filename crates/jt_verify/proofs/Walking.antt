@@ -1,5 +1,5 @@
 -- What is known of a unit, by the handles of its shapes.
-use Rattle.std.proofs.Common.{◌≡◌, ℕ, zero, suc, ◌<◌, ◌≤◌, List, [], ◌∷◌, ◌++◌, length, map, replicate, Option, Some, None, Ok, Err, refl, sym, ap, subst, ◌∙◌, arith}
+use Rattle.std.proofs.Common.{◌≡◌, ℕ, zero, suc, ◌<◌, ◌≤◌, List, [], ◌∷◌, ◌++◌, length, map, replicate, Option, Some, None, Ok, Err, refl, sym, ap, subst, ◌∙◌, arith, rules}
 use Rattle.std.specs.Prelude.{slice_set, option_map}
 use Rattle.std.specs.List.{AllByRecursion}
 use Rattle.std.proofs.lemmas.List.{map-append, map-set, length-map}
@@ -50,9 +50,8 @@ module _ (t r : Lists) (k : IsKept t r) where
 -- ---- tables and paths by handles
 
 all_set : (t : Lists) (hs : List (Option Handle)) (p : ℕ) (h : Handle) → AllByRecursion (IsInIf t) hs → IsIn t h → AllByRecursion (IsInIf t) (slice_set hs p (Some h))
-all_set t [] p h a l = tt
-all_set t (x ∷ hs) zero h a l = (l, a.1)
 all_set t (x ∷ hs) (suc p) h a l = (a.0, all_set t hs p h a.1 l)
+all_set t a1 a2 h a l = search (arith, rules)
 
 abbrev to_each : Handle → List ℕ → List Waiting
 to_each h ps = map (λ p. record { point = p; shape = h }) ps
@@ -110,10 +109,7 @@ module _ {k : Code} {u : Section} {t : Lists} {hs : List (Option Handle)} (w : L
         ∙ ap (λ (s : Shape). slice_set (table_in t hs) x.point (Some s)) (shape_kept t r kept x.shape path_inside)
 
     paths : paths_in r (w ++ handles_sent l h) ≡ paths_in t w ++ sent l (shape_in r h)
-    paths =
-        map-append (path_in r) w (handles_sent l h)
-        ∙ ap (λ (v : List Path). v ++ paths_in r (handles_sent l h)) (paths_kept t r kept w (paths_last (IsInPath t) w x i.paths).1)
-        ∙ ap (λ (v : List Path). paths_in t w ++ v) (sent_in r h (as_list l.target ++ as_list l.next))
+    paths = search (arith, rules, map-append, paths_kept, paths_last, sent_in)
 
     pub works_stepped : length (shape_in t x.shape) ≤ max_entries → effect_at k u x.point (shape_in t x.shape) ≡ Ok (record { shape = shape_in r h; points = points_of l }) → AreWithin (length u.code) l → Works k u r (slice_set hs x.point (Some x.shape)) (w ++ handles_sent l h)
     works_stepped small effect within = record {

@@ -1,5 +1,5 @@
 -- Ways down between nodes.
-use Rattle.std.proofs.Common.{◌≡◌, ℕ, zero, suc, ◌-◌, ◌<◌, ◌≤◌, List, [], ◌++◌, get_or, Some, refl, sym, ap, subst, ◌∙◌, append_assoc, arith}
+use Rattle.std.proofs.Common.{◌≡◌, ℕ, ◌-◌, ◌<◌, ◌≤◌, List, [], ◌++◌, get_or, Some, refl, sym, ap, ◌∙◌, append_assoc, arith, rules}
 use Rattle.std.specs.Prelude.{slice_get}
 use Rattle.jt_image.specs.Effect.{Shape}
 use Rattle.jt_verify.specs.declared.links.Node.{Node}
@@ -13,8 +13,7 @@ under_both t a c s f g = (f.0 ++ g.0, f.1 ∙ ap (λ (x : Shape). f.0 ++ x) g.1 
 
 module _ (ns : List Node) (a : AreJumps ns) where
   pub jump_is : (k : ℕ) (n : Node) → IsAt ns k n → (n.jump.to ≤ k) × IsUnder (lists_of ns) n.jump.to (get_or (lists_of ns) k [])
-  jump_is zero n e = (omega (arith, e.1), ([], ap (λ (x : ℕ). get_or (lists_of ns) x []) (sym e.1)))
-  jump_is (suc i) n e = let is = a i n e in (omega (arith, is.0), is.1)
+  jump_is a0 n e = search (arith, rules, get_or)
 
   pub further : (k : ℕ) (near far : Node) → IsAt ns k near → IsAt ns near.jump.to far → (far.jump.to ≤ k) × IsUnder (lists_of ns) far.jump.to (get_or (lists_of ns) k [])
   further k near far e f =
@@ -26,5 +25,4 @@ module _ (ns : List Node) (a : AreJumps ns) where
 
 module _ (ns : List Node) where
   pub at_some : (k : ℕ) (n : Node) → 0 < k → slice_get ns (k - 1) ≡ Some n → IsAt ns k n
-  at_some zero n l e = absurd (omega arith)
-  at_some (suc i) n l e = let same : suc i - 1 ≡ i = omega arith in subst (λ (j : ℕ). slice_get ns j ≡ Some n) same e
+  at_some a0 n l e = search (arith, rules)

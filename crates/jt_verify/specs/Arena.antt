@@ -1,6 +1,6 @@
 -- What an arena of shapes holds: the lists that its nodes stand for, each once. Private clauses and
 -- proofs alone cite it.
-use Rattle.std.specs.Prelude.{◌≡◌, ℕ, zero, suc, ◌+◌, ◌*◌, ◌/◌, ◌%◌, ◌<◌, ◌≤◌, List, [], ◌∷◌, ◌++◌}
+use Rattle.std.specs.Prelude.{◌≡◌, ◌≢◌, Bool, MatchBool, ℕ, zero, suc, ◌+◌, ◌*◌, ◌/◌, ◌%◌, ◌<◌, ◌≤◌, List, [], ◌∷◌, ◌++◌}
 use Rattle.std.specs.Prelude.{length, get_or, Option, Some, None, Result, Ok, Err, slice_get}
 use Rattle.jt_image.specs.declared.kind.Kind.{Kind}
 use Rattle.jt_image.specs.declared.kind.Kind.TheVariants as kind
@@ -24,6 +24,10 @@ Lists = List Shape
 -- the shape of a handle: so many values on top of a node
 abbrev pub shape_in : Lists → Handle → Shape
 shape_in t h = pushes h.values (get_or t h.node [])
+
+-- a test says whether they are equal
+abbrev pub TellsEqual : {A : Type 0} → A → A → Bool → Type 0
+TellsEqual a b test = MatchBool test (a ≡ b) (a ≢ b)
 
 -- the handle is one of the arena's
 abbrev pub IsIn : Lists → Handle → Type 0

@@ -2,12 +2,14 @@
 use Rattle.std.specs.Prelude.{◌≡◌, ℕ, ◌<◌, ◌≤◌, List, [], ◌∷◌, ◌++◌, length}
 use Rattle.std.specs.Prelude.{Option, Some, None, Result, Ok, Err, IfOk, IsSome}
 use Rattle.std.specs.List.{AllByRecursion}
+use Rattle.jt_image.specs.declared.kind.Kind.{Kind}
 use Rattle.jt_image.specs.declared.kind.Flaw.{Flaw}
 use Rattle.jt_image.specs.Code.{Section}
 use Rattle.jt_image.specs.Effect as effects
 use Rattle.jt_image.specs.Effect.{Shape}
 use Rattle.jt_image.specs.Readers.{header_of}
 use Rattle.jt_image.specs.Typed.{Among, max_entries}
+use Rattle.jt_verify.specs.declared.links.Handle.{Handle}
 use Rattle.jt_verify.specs.declared.links.Mark.{Mark}
 use Rattle.jt_verify.specs.declared.typing.Leads.{Leads}
 use Rattle.jt_verify.specs.declared.typing.Effect.{Effect}
@@ -15,6 +17,7 @@ use Rattle.jt_verify.specs.declared.typing.EffectError.{EffectError}
 use Rattle.jt_verify.specs.declared.typing.EffectError.TheVariants as errors
 use Rattle.jt_verify.specs.declared.typing.At.{At}
 use Rattle.jt_verify.specs.Arena.{Lists, shape_in, IsIn, kind_of}
+use Rattle.jt_verify.specs.Shapes.{Takes}
 
 abbrev pub as_list : Option ℕ → List ℕ
 as_list None = []
@@ -24,10 +27,30 @@ as_list (Some p) = p ∷ []
 abbrev pub points_of : Leads → List ℕ
 points_of l = as_list l.next ++ as_list l.target
 
+-- that shape, with no mark on top, at these points
+abbrev pub unmarked : Handle → Option ℕ → Option ℕ → Effect
+unmarked h next target =
+    record { shape = h; mark = None; leads = record { next = next; target = target } }
+
 -- an effect that leads to the point with a shape that is too long
 abbrev pub IsTall : ℕ → Result effects.Leads Flaw → Type 0
 IsTall q (Ok l) = Among q l.points × (max_entries < length l.shape)
 IsTall q (Err f) = ⊥
+
+-- a handle is one of the arena's where the instruction stands, and its shape there
+abbrev pub IsHere : At → Handle → Type 0
+IsHere a h = IsIn a.arena.now h
+
+abbrev pub shape_of : At → Handle → Shape
+shape_of a h = shape_in a.arena.now h
+
+-- how many points the unit has in which it stands
+abbrev pub points_here : At → ℕ
+points_here a = a.header.now.instructions
+
+-- what is below an entry of the kind at the top of the shape in front, or the flaw is named
+abbrev pub TakesHere : At → Kind → Result Handle Flaw → Type 0
+TakesHere a k below = Takes a.arena.now k (shape_in a.arena.now a.shape) below
 
 -- a mark on top of a shape, if there is one
 abbrev pub marked : Option Mark → Shape → Shape

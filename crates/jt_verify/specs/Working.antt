@@ -10,7 +10,7 @@ use Rattle.jt_image.specs.Code.{Section, Code}
 use Rattle.jt_image.specs.Readers.{header_of}
 use Rattle.jt_image.specs.Effect as effects
 use Rattle.jt_image.specs.Effect.{Shape, effect_at}
-use Rattle.jt_image.specs.Typed.{Shapes, Reaches, max_entries}
+use Rattle.jt_image.specs.Typed.{Shapes, Reaches, IsTypedUnit, Equal, max_entries}
 use Rattle.jt_verify.specs.Typing.{as_list, points_of, IsTall}
 use Rattle.jt_verify.specs.Differing.{IsTooDeep, DifferBy}
 use Rattle.jt_verify.specs.Refusing.{HoldsAt}
@@ -20,6 +20,7 @@ use Rattle.jt_verify.specs.declared.refusal.Refusal.TheVariants as refusal
 use Rattle.jt_verify.specs.declared.links.Handle.{Handle}
 use Rattle.jt_verify.specs.declared.verifier.Path.{Path as Waiting}
 use Rattle.jt_verify.specs.declared.verifier.After.{After}
+use Rattle.jt_verify.specs.declared.verifier.Work.{Work}
 use Rattle.jt_verify.specs.Arena.{Lists, shape_in, IsIn}
 
 -- a unit of a code; one outside its table is empty, but none is asked for
@@ -149,6 +150,24 @@ pub record Works (k : Code) (u : Section) (t : Lists) (hs : List (Option Handle)
   pub table : AllByRecursion (IsInIf t) hs
   pub paths : AllByRecursion (IsInPath t) w
   pub working : IsWorking k u (table_in t hs) (paths_in t w)
+
+-- the same of a unit by its number, and of these paths in place of those of the work
+abbrev pub WorksOn : Code → ℕ → Work → List Waiting → Type 0
+WorksOn k n work w = Works k (unit_of k n) work.arena work.shapes.items w
+
+abbrev pub left_of : Work → List Waiting → ℕ
+left_of work w = work_left (table_in work.arena work.shapes.items) (paths_in work.arena w)
+
+-- the effect at the point of a path, and why a unit is refused, by the number of the unit
+abbrev pub StepsOn : Lists → Code → ℕ → Path → Result After Refusal → Type 0
+StepsOn t k n x result = Steps t k (unit_of k n) n x.point x.shape result
+
+abbrev pub Refuses : Code → ℕ → Refusal → Type 0
+Refuses k n r = RefusesUnit k (unit_of k n) n r
+
+-- the unit of the number is typed
+abbrev pub IsTypedAt : Code → ℕ → Type 0
+IsTypedAt k n = IsTypedUnit Equal k (unit_of k n)
 
 -- the paths that are sent, by their handles
 abbrev pub handles_sent : Leads → Handle → List Waiting

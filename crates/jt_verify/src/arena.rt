@@ -1,8 +1,8 @@
 //! The shapes of a unit, each kept once.
-ghost use Rattle.std.specs.Prelude.{◌≡◌, ◌≢◌, ℕ, List, ◌+◌, ◌-◌, ◌^◌, ◌<◌, ◌≤◌, [], ◌∷◌, ◌++◌, length, slice_get, slice_set, IfOk, OnOk, OnErr, MatchBool};
+ghost use Rattle.std.specs.Prelude.{◌≡◌, ℕ, List, ◌+◌, ◌-◌, ◌^◌, ◌<◌, ◌≤◌, [], ◌∷◌, ◌++◌, length, slice_get, slice_set, IfOk, OnOk, OnErr};
 ghost use Rattle.jt_image.specs.Effect.{may_return, pushes};
 ghost use Rattle.jt_image.specs.Typed.{max_entries};
-ghost use Rattle.jt_verify.specs.Arena.{shape_in, IsIn, IsKept, StandsFor, Pops, PopsMany, kind_of, lists_of, IsArena};
+ghost use Rattle.jt_verify.specs.Arena.{TellsEqual, shape_in, IsIn, IsKept, StandsFor, Pops, PopsMany, kind_of, lists_of, IsArena};
 
 use crate::links::{Handle, Link, Mark, Node, digits, find, is_same, jump_on, node_at, node_of};
 use jt_image::{Flaw, Kind};
@@ -56,8 +56,7 @@ impl Arena {
     pub(crate) fn is_equal(&self, left: Handle, right: Handle) -> bool
         requires left { IsIn self.now left }
         requires right { IsIn self.now right }
-        ensures { MatchBool result (shape_in self.now left ≡ shape_in self.now right)
-            (shape_in self.now left ≢ shape_in self.now right) }
+        ensures { TellsEqual (shape_in self.now left) (shape_in self.now right) result }
     {
         // Only read, so that the arena's law is known here.
         let _nodes = &self.nodes;

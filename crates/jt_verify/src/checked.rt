@@ -1,5 +1,6 @@
 //! Codes that are in order.
 ghost use Rattle.std.specs.Prelude.{◌≡◌, IfOk, IfErr};
+ghost use Rattle.jt_image.specs.IsCode.{IsCode};
 ghost use Rattle.jt_image.specs.Typed.{IsTyped};
 ghost use Rattle.jt_verify.specs.Refusing.{RefusalHolds};
 
@@ -29,10 +30,6 @@ impl<C: Code> Model for Checked<C> {
 }
 
 impl<C: Code> Checked<C> {
-    ghost use Rattle.std.specs.Prelude.{◌≡◌};
-    ghost use Rattle.jt_image.specs.IsCode.{IsCode};
-    ghost use Rattle.jt_image.specs.Typed.{IsTyped};
-
     /// What was verified.
     pub fn code(&self) -> &C
         ensures code { C.code result.now ≡ self.now }
@@ -47,10 +44,6 @@ impl<C: Code> Checked<C> {
 pub type Verified = Checked<Image>;
 
 impl Checked<Image> {
-    ghost use Rattle.std.specs.Prelude.{◌≡◌};
-    ghost use Rattle.jt_image.specs.IsCode.{IsCode};
-    ghost use Rattle.jt_image.specs.Typed.{IsTyped};
-
     /// The image that was verified.
     pub fn image(&self) -> &Image
         ensures image { result.now ≡ self.now }

@@ -23,8 +23,8 @@ impl Mark {
     }
 }
 
-/// A shape of an arena: so many values on top of a node. Number 0 is no node: nothing lies below the
-/// values.
+/// A shape of an arena: so many values on top of a node. Number 0 is no node: nothing lies below
+/// the values.
 #[derive(Clone, Copy)]
 pub(crate) struct Handle {
     pub(crate) values: u32,
@@ -102,8 +102,8 @@ pub(crate) fn node_of(nodes: &[Node], node: u32) -> Node
     node_at(nodes, node)
 }
 
-/// The way down for a new node on this one: two ways of one length become one, so that from any node
-/// a few steps lead to any node below.
+/// The way down for a new node on this one: two ways of one length become one, so that from any
+/// node a few steps lead to any node below.
 pub(crate) fn jump_on(nodes: &[Node], below: u32) -> Jump
     requires within { below ≤ length nodes.now }
     requires jumps { AreJumps nodes.now }
@@ -148,8 +148,8 @@ pub(crate) fn digits(mark: Mark, values: u32) -> usize
     }
 }
 
-/// Looks a mark on a shape up, from a place on: at each node that is another one, the next digit says
-/// by which link to go on.
+/// Looks a mark on a shape up, from a place on: at each node that is another one, the next digit
+/// says by which link to go on.
 pub(crate) fn find(
     nodes: &[Node],
     links: &[u32],

@@ -1,6 +1,7 @@
 //! Why a code is refused.
 ghost use Rattle.std.specs.Prelude.{◌≡◌};
 ghost use Rattle.jt_verify.specs.Names.{name_of};
+ghost use Rattle.jt_verify.specs.declared.refusal.Refusal.TheVariants as refusals;
 
 use jt_image::Flaw;
 use jt_value::NoMemory;
@@ -38,9 +39,6 @@ fn flaw_name(flaw: &Flaw) -> &'static str
 }
 
 impl From<NoMemory> for Refusal {
-    ghost use Rattle.std.specs.Prelude.{◌≡◌};
-    ghost use Rattle.jt_verify.specs.declared.refusal.Refusal.TheVariants as refusals;
-
     ghost from_gives = { λ _ e. e ≡ refusals.NoMemory };
 
     fn from(_e: NoMemory) -> Refusal {
@@ -49,9 +47,6 @@ impl From<NoMemory> for Refusal {
 }
 
 impl From<AllocError> for Refusal {
-    ghost use Rattle.std.specs.Prelude.{◌≡◌};
-    ghost use Rattle.jt_verify.specs.declared.refusal.Refusal.TheVariants as refusals;
-
     ghost from_gives = { λ _ e. e ≡ refusals.NoMemory };
 
     fn from(_e: AllocError) -> Refusal {
@@ -60,9 +55,6 @@ impl From<AllocError> for Refusal {
 }
 
 impl<T: Drop> From<AllocFailed<T>> for Refusal {
-    ghost use Rattle.std.specs.Prelude.{◌≡◌};
-    ghost use Rattle.jt_verify.specs.declared.refusal.Refusal.TheVariants as refusals;
-
     ghost from_gives = { λ _ e. e ≡ refusals.NoMemory };
 
     fn from(_e: AllocFailed<T>) -> Refusal {

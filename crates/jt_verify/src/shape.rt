@@ -62,8 +62,8 @@ impl Shape {
     }
 }
 
-/// Joins two paths that meet: their shapes have to be equal. `join` knows no place, so a refusal names
-/// unit 0 and point 0.
+/// Joins two paths that meet: their shapes have to be equal. `join` knows no place, so a refusal
+/// names unit 0 and point 0.
 pub fn join(left: &Shape, right: &Shape) -> Result<(), Refusal>
     ensures { MatchResult result (λ _. left.now ≡ right.now) (λ e. Differ left.now right.now e) }
 {

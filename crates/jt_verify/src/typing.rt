@@ -29,15 +29,11 @@ pub(crate) struct Effect {
 }
 
 impl Effect {
-    ghost use Rattle.std.specs.Prelude.{None};
+    ghost use Rattle.jt_verify.specs.Typing.{unmarked};
 
     /// That shape, with no mark on top, at these points.
     fn new(shape: Handle, next: Option<usize>, target: Option<usize>) -> Effect
-        ensures { result ≡ record {
-          shape = shape;
-          mark = None;
-          leads = record { next = next; target = target };
-        } }
+        ensures { result ≡ unmarked shape next target }
     {
         Effect {
             shape,
@@ -87,13 +83,12 @@ impl At<'_> {
     ghost use Rattle.jt_image.specs.declared.kind.Kind.TheVariants as kind;
     ghost use Rattle.jt_image.specs.declared.kind.Flaw.TheVariants as flaw;
     ghost use Rattle.jt_verify.specs.Arena.{kind_of};
-    ghost use Rattle.jt_verify.specs.Shapes.{PointIn, taking, Takes, FindsFrame};
-    ghost use Rattle.jt_verify.specs.Typing.{Does, Fits};
+    ghost use Rattle.jt_verify.specs.Shapes.{PointIn, taking, FindsFrame};
+    ghost use Rattle.jt_verify.specs.Typing.{Does, Fits, IsHere, TakesHere, points_here, shape_of};
 
     // The shape below an entry of that kind at the top.
     fn pop(&self, wanted: Kind) -> Result<Handle, Flaw>
-        ensures { Takes self.now.arena.now wanted
-            (shape_in self.now.arena.now self.now.shape) result }
+        ensures { TakesHere self.now wanted result }
     {
         match self.arena.pop(self.shape) {
             Some((top, below)) if top == wanted => Ok(below),
@@ -104,19 +99,17 @@ impl At<'_> {
 
     // A shape with a value on top.
     fn push(&self, shape: Handle) -> Handle
-        requires within { IsIn self.now.arena.now shape }
-        requires small { length (shape_in self.now.arena.now shape) ≤ max_entries }
-        ensures shape { shape_in self.now.arena.now result
-            ≡ kind.Value ∷ shape_in self.now.arena.now shape }
-        ensures within { IsIn self.now.arena.now result }
+        requires within { IsHere self.now shape }
+        requires small { length (shape_of self.now shape) ≤ max_entries }
+        ensures shape { shape_of self.now result ≡ kind.Value ∷ shape_of self.now shape }
+        ensures within { IsHere self.now result }
     {
         self.arena.push_values(shape, 1)
     }
 
     // The next point, where the unit has one.
     fn next(&self) -> Result<usize, Flaw>
-        ensures { PointIn self.now.header.now.instructions (self.now.point + 1)
-            flaw.FallsOff result }
+        ensures { PointIn (points_here self.now) (self.now.point + 1) flaw.FallsOff result }
     {
         let instructions = self.header.instructions;
         if self.point + 1 >= instructions {
@@ -127,7 +120,7 @@ impl At<'_> {
 
     // The target of a jump, where the unit has it.
     fn target(&self, target: u32) -> Result<usize, Flaw>
-        ensures { PointIn self.now.header.now.instructions target flaw.JumpOut result }
+        ensures { PointIn (points_here self.now) target flaw.JumpOut result }
     {
         if target as usize >= self.header.instructions {
             return Err(Flaw::JumpOut);
@@ -137,9 +130,9 @@ impl At<'_> {
 
     // Whether so many more entries fit; too many would come to the point.
     fn fits(&self, shape: Handle, count: usize, point: usize) -> Result<(), EffectError>
-        requires within { IsIn self.now.arena.now shape }
+        requires within { IsHere self.now shape }
         requires small { count < 2 ^ 32 }
-        ensures { Fits (length (shape_in self.now.arena.now shape) + count) point result }
+        ensures { Fits (length (shape_of self.now shape) + count) point result }
     {
         if self.arena.height(shape) + count > MAX_ENTRIES {
             return Err(EffectError::TooTall(point));
@@ -149,8 +142,8 @@ impl At<'_> {
 
     // A loop has that many entries above it.
     fn finds_frame(&self, shape: Handle, above: u32) -> Result<(), Flaw>
-        requires { IsIn self.now.arena.now shape }
-        ensures { FindsFrame (slice_get (shape_in self.now.arena.now shape) above) result }
+        requires { IsHere self.now shape }
+        ensures { FindsFrame (slice_get (shape_of self.now shape) above) result }
     {
         match self.arena.kind_below(shape, above) {
             Some(Kind::Frame) => Ok(()),
@@ -163,7 +156,7 @@ impl At<'_> {
     // Whether the unit may return here: with nothing, or with just a value.
     fn may_return(&self) -> bool
         ensures { result ≡ may_return_of self.now.header.now.kind
-            (shape_in self.now.arena.now self.now.shape) }
+            (shape_of self.now self.now.shape) }
     {
         let kind = self.header.kind;
         match self.arena.pop(self.shape) {
@@ -176,18 +169,17 @@ impl At<'_> {
 
     // To the next instruction.
     fn goes_on(&self, shape: Handle) -> Result<Effect, EffectError>
-        requires { IsIn self.now.arena.now shape }
-        ensures { Does self.now result
-            (λ u p s. goes_on_of u p (shape_in self.now.arena.now shape)) }
+        requires { IsHere self.now shape }
+        ensures { Does self.now result (λ u p s. goes_on_of u p (shape_of self.now shape)) }
     {
         Ok(Effect::new(shape, Some(self.next()?), None))
     }
 
     // To the next instruction, with a mark on top, unless the shape would be too long there.
     fn opens(&self, shape: Handle, mark: Mark) -> Result<Effect, EffectError>
-        requires { IsIn self.now.arena.now shape }
+        requires { IsHere self.now shape }
         ensures { Does self.now result
-            (λ u p s. goes_on_of u p (kind_of mark ∷ shape_in self.now.arena.now shape)) }
+            (λ u p s. goes_on_of u p (kind_of mark ∷ shape_of self.now shape)) }
     {
         let next = self.next()?;
         self.fits(shape, 1, next)?;
@@ -205,9 +197,8 @@ impl At<'_> {
 
     // To the next instruction or to the target.
     fn branches(&self, target: u32, shape: Handle) -> Result<Effect, EffectError>
-        requires { IsIn self.now.arena.now shape }
-        ensures { Does self.now result
-            (λ u p s. branches_of u p target (shape_in self.now.arena.now shape)) }
+        requires { IsHere self.now shape }
+        ensures { Does self.now result (λ u p s. branches_of u p target (shape_of self.now shape)) }
     {
         let target = self.target(target)?;
         Ok(Effect::new(shape, Some(self.next()?), Some(target)))
@@ -223,9 +214,9 @@ impl At<'_> {
 
     // That many values on top, to the next instruction, unless the shape would be too long there.
     fn spreads(&self, shape: Handle, count: u32) -> Result<Effect, EffectError>
-        requires { IsIn self.now.arena.now shape }
+        requires { IsHere self.now shape }
         ensures { Does self.now result
-            (λ u p s. goes_on_of u p (pushes count (shape_in self.now.arena.now shape))) }
+            (λ u p s. goes_on_of u p (pushes count (shape_of self.now shape))) }
     {
         let next = self.next()?;
         self.fits(shape, count as usize, next)?;
@@ -390,8 +381,7 @@ impl At<'_> {
         code: &C,
         instruction: Instruction,
     ) -> Result<Effect, EffectError>
-        ensures { Does self.now result
-            (λ u p s. effect_of (C.code code.now) u p instruction s) }
+        ensures { Does self.now result (λ u p s. effect_of (C.code code.now) u p instruction s) }
     {
         let locals = u32::from(self.header.locals);
         match instruction {

@@ -3,11 +3,11 @@
 ghost use Rattle.std.specs.Prelude.{◌≡◌, ◌<◌, ◌≤◌, [], ◌∷◌, ◌++◌, length, IfOk, IfErr, OnOk, MatchResult};
 ghost use Rattle.std.specs.List.{AllByRecursion};
 ghost use Rattle.jt_image.specs.IsCode.{IsCode};
-ghost use Rattle.jt_image.specs.Typed.{IsTyped, IsTypedUnit, Equal, max_entries};
+ghost use Rattle.jt_image.specs.Typed.{IsTyped, max_entries};
 ghost use Rattle.jt_verify.specs.Arena.{shape_in, IsIn, IsKept};
 ghost use Rattle.jt_verify.specs.Differing.{Meets};
 ghost use Rattle.jt_verify.specs.Typing.{AreWithin};
-ghost use Rattle.jt_verify.specs.Working.{unit_of, IsUnit, Works, Arrives, Clashes, Steps, path_in, paths_in, table_in, IsInIf, handles_sent, work_left, RefusesUnit};
+ghost use Rattle.jt_verify.specs.Working.{IsUnit, WorksOn, IsTypedAt, Arrives, Clashes, StepsOn, path_in, table_in, IsInIf, handles_sent, left_of, Refuses};
 ghost use Rattle.jt_verify.specs.Refusing.{RefusalHolds};
 
 use crate::arena::Arena;
@@ -24,13 +24,13 @@ pub(crate) struct Path {
     pub(crate) shape: Handle,
 }
 
-/// What is known of a unit while it is verified: its shapes, the one of each point that has one, and
-/// the paths that are still to be followed.
+/// What is known of a unit while it is verified: its shapes, the one of each point that has one,
+/// and the paths that are still to be followed.
 #[derive(Drop)]
-struct Work {
-    arena: Arena,
-    shapes: Vec<Option<Handle>>,
-    paths: Vec<Path>,
+pub(crate) struct Work {
+    pub(crate) arena: Arena,
+    pub(crate) shapes: Vec<Option<Handle>>,
+    pub(crate) paths: Vec<Path>,
 }
 
 /// What is behind an instruction: a shape, and where it comes.
@@ -98,8 +98,7 @@ fn step<C: Code>(
     requires point { path.point < header.now.instructions }
     requires shape { IsIn arena.old path.shape }
     requires small { length (shape_in arena.old path.shape) ≤ max_entries }
-    ensures steps { Steps arena.new (C.code code.now) (unit_of (C.code code.now) unit) unit
-        path.point (shape_in arena.old path.shape) result }
+    ensures steps { StepsOn arena.new (C.code code.now) unit (path_in arena.old path) result }
     ensures within { IfOk result (λ a. AreWithin header.now.instructions a.leads) }
     ensures shape { IfOk result (λ a. IsIn arena.new a.shape) }
     ensures kept { IsKept arena.old arena.new }
@@ -155,16 +154,12 @@ fn follow<C: Code>(
     path: Path,
 ) -> Result<(), Refusal>
     requires unit { IsUnit (C.code code.now) unit header.now }
-    requires works { Works (C.code code.now) (unit_of (C.code code.now) unit) work.old.arena
-        work.old.shapes.items (work.old.paths.items ++ path ∷ []) }
-    ensures ok { OnOk result (Works (C.code code.now) (unit_of (C.code code.now) unit)
-        work.new.arena work.new.shapes.items work.new.paths.items) }
-    ensures less { OnOk result (work_left (table_in work.new.arena work.new.shapes.items)
-        (paths_in work.new.arena work.new.paths.items)
-        < work_left (table_in work.old.arena work.old.shapes.items)
-        (paths_in work.old.arena (work.old.paths.items ++ path ∷ []))) }
-    ensures err { IfErr result
-        (λ e. RefusesUnit (C.code code.now) (unit_of (C.code code.now) unit) unit e) }
+    requires works { WorksOn (C.code code.now) unit work.old (work.old.paths.items ++ path ∷ []) }
+    ensures ok { OnOk result (WorksOn (C.code code.now) unit work.new work.new.paths.items) }
+    ensures less { OnOk result
+        (left_of work.new work.new.paths.items
+        < left_of work.old (work.old.paths.items ++ path ∷ [])) }
+    ensures err { IfErr result (Refuses (C.code code.now) unit) }
 {
     let is_known = arrive(&work.arena, &work.shapes, unit, path)?;
     if is_known {
@@ -184,10 +179,8 @@ fn verify_unit<C: Code>(
     header: &UnitHeader,
 ) -> Result<(), Refusal>
     requires unit { IsUnit (C.code code.now) unit header.now }
-    ensures ok { OnOk result
-        (IsTypedUnit Equal (C.code code.now) (unit_of (C.code code.now) unit)) }
-    ensures err { IfErr result
-        (λ e. RefusesUnit (C.code code.now) (unit_of (C.code code.now) unit) unit e) }
+    ensures ok { OnOk result (IsTypedAt (C.code code.now) unit) }
+    ensures err { IfErr result (Refuses (C.code code.now) unit) }
 {
     if header.instructions == 0 {
         return Err(Refusal::Flaw {
@@ -211,8 +204,8 @@ fn verify_unit<C: Code>(
     Ok(())
 }
 
-/// Accepts a code exactly where it is in order. Every unit is verified, from the first on, called or
-/// not.
+/// Accepts a code exactly where it is in order. Every unit is verified, from the first on, called
+/// or not.
 pub(crate) fn verify_code<C: Code>(alloc: Global, code: &C) -> Result<(), Refusal>
     // A code that is accepted is typed.
     ensures ok { OnOk result (IsTyped (C.code code.now)) }

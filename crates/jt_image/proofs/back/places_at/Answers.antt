@@ -1,7 +1,5 @@
-use Rattle.std.proofs.Common.{◌≡◌, ℕ, List, [], length, ap, ◌∙◌, arith}
+use Rattle.std.proofs.Common.{◌≡◌, length, arith, rules}
 use Rattle.std.proofs.lemmas.Result.{err_from_is_err_and}
-use Rattle.jt_image.specs.InPlace.{read_or}
-use Rattle.jt_image.specs.Reading.{spots_at}
 use Rattle.jt_image.proofs.Placed.{spots_whole}
 use Rattle.jt_image.proofs.Standing.{back_gives, back_fails, templates_fail}
 use Rattle.jt_image.proofs.back.places_at.Goals as goal
@@ -23,8 +21,4 @@ returns-clause-gives c =
     back_gives c.args.count c.args.bytes.now c.args.front.now c.in_ok-templates.templates.items c.in_ok-templates.rest.now c.in_ok-rest.rest.now c.in_ok-templates.ensures.gives (rw t at c.in_ok-rest.ensures) c.in_ok-templates.ensures.last
 
 pub returns-clause-spots : goal.returns-clause-spots
-returns-clause-spots c =
-    let n = length c.in_ok-templates.templates.items in
-    let t : c.len.result ≡ n = omega arith in
-    ap (λ (b : List ℕ). length (read_or [] (spots_at n c.args.count b))) c.in_ok-templates.ensures.last.are
-    ∙ spots_whole n c.args.count c.in_ok-templates.rest.now c.in_ok-rest.rest.now (rw t at c.in_ok-rest.ensures)
+returns-clause-spots c = search (arith, rules, spots_whole)

@@ -1,10 +1,5 @@
-use Rattle.std.proofs.Common.{◌∙◌, List, ℕ, ℤ, Option, get_or, sym, ap, drop, arith}
+use Rattle.std.proofs.Common.{get_or, drop, arith, rules}
 use Rattle.std.proofs.lemmas.List.{length-drop}
-use Rattle.jt_image.specs.Code.{Constant, undefined}
-use Rattle.jt_image.specs.Reading.{constant_of}
-use Rattle.jt_image.specs.Readers.{number_of}
-use Rattle.jt_image.specs.InPlace.{read_or}
-use Rattle.jt_image.proofs.Found.{Read}
 use Rattle.jt_image.proofs.Standing.{constant_read}
 use Rattle.jt_image.proofs.places.integer_in.Goals as goal
 
@@ -24,10 +19,4 @@ integer_with-requires c =
     rw (c.split_at-2.ensures.back, c.split_at.ensures.back) (rw p.is at c.requires)
 
 pub returns : goal.returns
-returns c =
-    let p = constant_read (drop c.args.at c.args.bytes.now) c.requires in
-    let seen : Read Constant → Option ℤ = λ r. number_of (read_or undefined r) in
-    c.integer_with.ensures
-    ∙ ap (λ (r : List ℕ). seen (constant_of (get_or c.split_at.result.1.now 0 0) r)) c.split_at-2.ensures.back
-    ∙ ap (λ (b : List ℕ). seen (constant_of (get_or b 0 0) (drop 1 b))) c.split_at.ensures.back
-    ∙ sym (ap seen p.is)
+returns c = search (arith, rules, constant_read, get_or)

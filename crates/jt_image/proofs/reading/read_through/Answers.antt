@@ -8,10 +8,10 @@ use Rattle.jt_image.proofs.Passed.{length-seen}
 use Rattle.jt_image.proofs.Standing.{number_last, start_last}
 use Rattle.jt_image.proofs.reading.read_through.Goals as goal
 
-pub all_names_at-requires-clause-last : goal.all_names_at-requires-clause-last
-all_names_at-requires-clause-last c =
-    let start = start_last c.args.bytes.now c.in_ok-version.version c.in_ok-version.rest.now (λ i. omega (arith, c.type_inv.bytes i)) c.in_ok-version.ensures in
-    number_last w16 (2 ^ 16) wide16 c.args.bytes.now c.in_ok-version.rest.now c.in_ok-globals.globals c.in_ok-globals.rest.now (λ i. omega (arith, c.type_inv.bytes i)) start c.in_ok-globals.ensures
+pub all_names_at-requires : goal.all_names_at-requires
+all_names_at-requires c =
+    let start = start_last c.args.bytes.now c.in_ok-version.version c.in_ok-version.rest.now (omega arith) (λ i. omega (arith, c.type_inv.bytes i)) c.in_ok-version.ensures in
+    record { last = number_last w16 (2 ^ 16) wide16 c.args.bytes.now c.in_ok-version.rest.now c.in_ok-globals.globals c.in_ok-globals.rest.now (λ i. omega (arith, c.type_inv.bytes i)) start c.in_ok-globals.ensures }
 
 pub returns-clause-spells : goal.returns-clause-spells
 unfolding code_of

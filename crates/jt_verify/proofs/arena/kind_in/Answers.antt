@@ -1,4 +1,4 @@
-use Rattle.std.proofs.Common.{◌≡◌, ◌-◌, ◌<◌, get_or, [], sym, ◌∙◌, arith}
+use Rattle.std.proofs.Common.{◌-◌, ◌<◌, get_or, [], sym, ◌∙◌, arith, rules}
 use Rattle.jt_verify.specs.Arena.{lists_of}
 use Rattle.jt_verify.proofs.Values.{value_at}
 use Rattle.jt_verify.proofs.Nodes.{node_is, kind_at_mark, kind_under_mark, kind_at_bottom, way_is, kind_far_under}
@@ -12,15 +12,7 @@ pub overflow_sub-between : goal.overflow_sub-between
 overflow_sub-between c = (way_is c.requires.arena.1 c.marks.rest.node c.node_at-node.result c.node_of.result (omega (arith, c.if-rest-ne0.true)) c.node_at-node.ensures c.node_of.ensures).1
 
 pub marks-preserved-then-under-between : goal.marks-preserved-then-under-between
-marks-preserved-then-under-between c =
-    let node = c.node_at-node.result in
-    let below = c.marks.left - c.marks.rest.values - (node.height - c.node_of.result.height) in
-    let some : 0 < c.marks.rest.node = omega (arith, c.if-rest-ne0.true) in
-    let lower = (way_is c.requires.arena.1 c.marks.rest.node node c.node_of.result some c.node_at-node.ensures c.node_of.ensures).0 in
-    record {
-      same = sym (kind_far_under c.requires.arena.1 c.marks.rest node c.node_of.result c.marks.left below some c.node_at-node.ensures c.node_of.ensures (omega (arith, c.marks-test.true, c.if-under-between.true))) ∙ c.marks.invariant.same;
-      inside = omega (arith, lower, c.marks.invariant.inside);
-    }
+marks-preserved-then-under-between c = search (arith, rules, way_is, kind_far_under)
 
 pub marks-smaller : goal.marks-smaller
 marks-smaller c = (node_is c.requires.arena.1 c.marks.rest.node c.node_at-node.result (omega (arith, c.if-rest-ne0.true)) c.node_at-node.ensures).1
@@ -40,9 +32,4 @@ pub returns-then-left-rest : goal.returns-then-left-rest
 returns-then-left-rest c = sym (value_at c.marks.rest.values (get_or (lists_of c.args.nodes.now) c.marks.rest.node []) c.marks.left c.if-left-rest.true) ∙ c.marks.invariant.same
 
 pub returns-else-left-rest : goal.returns-else-left-rest
-returns-else-left-rest c =
-    let bottom : c.marks.rest.node ≡ 0 = elim c.marks-test.branch [
-      | then-marks-test+else-rest-ne0 w ↦ omega (arith, w.if-rest-ne0)
-      | else-marks-test w ↦ absurd (omega (arith, w.marks-test, c.if-left-rest.false))
-    ] in
-    sym (kind_at_bottom c.requires.arena.1 c.marks.rest c.marks.left bottom (omega (arith, c.if-left-rest.false))) ∙ c.marks.invariant.same
+returns-else-left-rest c = search (arith, rules, kind_at_bottom)

@@ -1,4 +1,4 @@
-use Rattle.std.proofs.Common.{◌%◌, ◌<◌, sym, ◌∙◌, arith}
+use Rattle.std.proofs.Common.{◌%◌, ◌<◌, sym, ◌∙◌, arith, rules}
 use Rattle.jt_verify.proofs.Nodes.{link_up, vacant_here, found_here, goes_on_from}
 use Rattle.jt_verify.proofs.links.+find.Goals as goal
 
@@ -15,11 +15,7 @@ pub returns-then-next-eq0 : goal.returns-then-next-eq0
 returns-then-next-eq0 t c = vacant_here c.args.nodes.now c.args.links.now c.args.mark c.args.below c.args.place c.args.digits (sym c.link_at-next.ensures ∙ c.if-next-eq0.true) c.requires.place
 
 pub returns-then-is_entry : goal.returns-then-is_entry
-returns-then-is_entry t c =
-    let e = rw c.if-is_entry.true at c.is_entry.ensures in
-    found_here c.args.nodes.now c.args.links.now c.args.mark c.args.below c.args.place c.args.digits c.link_at-next.result c.node_at-node.result (omega (arith, c.if-next-eq0.false)) c.node_at-node.ensures e.0 e.1
+returns-then-is_entry t c = search (arith, rules, found_here)
 
 pub returns : goal.returns
-returns t c =
-    let e = rw c.if-is_entry.false at c.is_entry.ensures in
-    goes_on_from c.args.nodes.now c.args.links.now c.args.mark c.args.below c.args.place c.args.digits c.link_at-next.result c.node_at-node.result c.find.result (sym c.link_at-next.ensures) (omega (arith, c.if-next-eq0.false)) c.node_at-node.ensures e c.find.ensures
+returns t c = search (arith, rules, goes_on_from)

@@ -1,4 +1,4 @@
-use Rattle.std.proofs.Common.{◌≡◌, Bool, true, false, List, not, reverse, refl, sym, ap, ◌∙◌, rules, arith}
+use Rattle.std.proofs.Common.{◌≡◌, Bool, List, not, reverse, sym, ap, ◌∙◌, rules, arith}
 use Rattle.std.specs.Bool.{Decides}
 use Rattle.std.proofs.lemmas.Grind.{common_steps}
 use Rattle.std.proofs.lemmas.List.{reverse-reverse}
@@ -10,21 +10,10 @@ reverse_same : (a b : List Kind) → reverse a ≡ reverse b → a ≡ b
 reverse_same a b e = sym (reverse-reverse a) ∙ ap (λ (xs : List Kind). reverse xs) e ∙ reverse-reverse b
 
 told : (r b : Bool) (P : Type 0) → r ≡ not b → Decides b P → Decides (not r) P
-told true false P e d = d
-told false true P e d = d
-told true true P e d = absurd cc
-told false false P e d = absurd cc
+told a0 a1 a2 e d = search (arith, rules)
 
 pub returns-then-ne : goal.returns-then-ne
-returns-then-ne c =
-    let left : c.args.left.now ≡ reverse c.as_slice.result.now = first_of (cc, grind (arith, common_steps)) in
-    let right : c.args.right.now ≡ reverse c.as_slice-2.result.now = first_of (cc, grind (arith, common_steps)) in
-    let differ = told true _ _ c.if-ne.ensures (slice_eq-Decides (λ a b. search rules) c.as_slice.result.now c.as_slice-2.result.now _ refl) in
-    (refl, refl, (omega (arith, c.if-len.false, c.len.ensures, c.len-2.ensures), λ e. absurd (let f = differ.1 (reverse_same _ _ (sym left ∙ e ∙ right)) in cc)))
+returns-then-ne c = search (arith, rules, common_steps, told, slice_eq-Decides, reverse_same)
 
 pub returns : goal.returns
-returns c =
-    let left : c.args.left.now ≡ reverse c.as_slice.result.now = first_of (cc, grind (arith, common_steps)) in
-    let right : c.args.right.now ≡ reverse c.as_slice-2.result.now = first_of (cc, grind (arith, common_steps)) in
-    let same = told false _ _ c.if-ne.ensures (slice_eq-Decides (λ a b. search rules) c.as_slice.result.now c.as_slice-2.result.now _ refl) in
-    left ∙ ap (λ (xs : List Kind). reverse xs) (same.0 refl) ∙ sym right
+returns c = search (arith, rules, common_steps, told, slice_eq-Decides)

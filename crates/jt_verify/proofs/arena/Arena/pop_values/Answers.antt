@@ -1,28 +1,13 @@
-use Rattle.std.proofs.Common.{◌≡◌, ◌-◌, [], get_or, Result, Err, sym, subst, arith}
-use Rattle.jt_image.specs.declared.kind.Flaw.{Flaw}
-use Rattle.jt_image.specs.declared.kind.Flaw.TheVariants as flaw
-use Rattle.jt_image.specs.Effect.{Shape, Leads, pops_many}
-use Rattle.jt_verify.specs.Arena.{Lists, shape_in, IsIn}
+use Rattle.std.proofs.Common.{get_or, arith, rules}
 use Rattle.jt_verify.proofs.Values.{length-pushes, pops_values}
 use Rattle.jt_verify.proofs.Nodes.{pops_nothing, pops_a_mark}
 use Rattle.jt_verify.proofs.arena.Arena.pop_values.Goals as goal
 
 pub returns-then-count-shape : goal.returns-then-count-shape
-returns-then-count-shape c =
-    let values = c.args.shape.values in
-    let below = get_or c.args.self.now c.args.shape.node [] in (
-      λ go. pops_values c.args.count values below go c.if-count-shape.true,
-      c.requires,
-      omega (arith, length-pushes (values - c.args.count) below, length-pushes values below, c.if-count-shape.true),
-    )
+returns-then-count-shape c = search (arith, rules, get_or, pops_values, length-pushes)
 
 pub returns-then-shape-eq0 : goal.returns-then-shape-eq0
-returns-then-shape-eq0 c =
-    let is = pops_nothing c.self.invariant c.args.shape c.args.count (omega (arith, c.if-count-shape.false)) c.if-shape-eq0.true in
-    subst (λ (t : Lists). (go : Shape → Result Leads Flaw) → pops_many c.args.count (shape_in t c.args.shape) go ≡ Err flaw.MissingOperand) c.self.view_is is
+returns-then-shape-eq0 c = search (arith, rules, pops_nothing)
 
 pub returns : goal.returns
-returns c =
-    let within = subst (λ (t : Lists). IsIn t c.args.shape) (sym c.self.view_is) c.requires in
-    let is = pops_a_mark c.self.invariant c.args.shape c.args.count (omega (arith, c.if-count-shape.false)) (omega (arith, c.if-shape-eq0.false)) within in
-    subst (λ (t : Lists). (go : Shape → Result Leads Flaw) → pops_many c.args.count (shape_in t c.args.shape) go ≡ Err flaw.WrongKind) c.self.view_is is
+returns c = search (arith, rules, pops_a_mark)
