@@ -1,7 +1,6 @@
-use Rattle.std.proofs.Common.{◌≡◌, true, Err, ap, ◌∙◌, ◌+◌, arith, rules}
+use Rattle.std.proofs.Common.{Err, ap, arith, rules}
 use Rattle.jt_graph.specs.declared.error.OrderError.TheVariants.{Cycle}
 use Rattle.jt_graph.specs.View.{graph_of}
-use Rattle.jt_graph.specs.Walks.{is_done, visit_of}
 use Rattle.jt_graph.proofs.Walked.{none_lead, before_next, all_ordered, graph_len, passed_on}
 use Rattle.jt_graph.proofs.ordering.order.Goals as goal
 

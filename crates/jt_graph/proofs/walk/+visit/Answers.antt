@@ -2,7 +2,7 @@ use Rattle.std.proofs.Common.{◌≡◌, ◌<◌, ◌+◌, true, Err, cond, leng
 use Rattle.std.specs.Vec.{with_item}
 use Rattle.jt_graph.specs.Graph.{among, next_of}
 use Rattle.jt_graph.specs.View.{graph_of}
-use Rattle.jt_graph.specs.Walks.{is_done, is_open, visit_of}
+use Rattle.jt_graph.specs.Walks.{is_done, visit_of}
 use Rattle.jt_graph.specs.declared.error.OrderError.TheVariants.{Cycle}
 use Rattle.jt_graph.specs.declared.walk.VisitState.TheVariants.{New, Open, Done}
 use Rattle.jt_graph.specs.declared.walk.Walk.{Walk}

@@ -1,7 +1,6 @@
-use Rattle.std.proofs.Common.{◌≡◌, ap, length, sym, arith, rules}
+use Rattle.std.proofs.Common.{◌≡◌, length, sym, arith, rules}
 use Rattle.std.proofs.Math.ListN.{replicate}
 use Rattle.jt_graph.specs.View.{graph_of}
-use Rattle.jt_graph.specs.Walks.{is_open}
 use Rattle.jt_graph.specs.declared.walk.VisitState.TheVariants.{New}
 use Rattle.jt_graph.proofs.Walked.{all_new, graph_len, new_walk}
 use Rattle.jt_graph.proofs.walk.begin.Goals as goal
