@@ -4,7 +4,7 @@ ghost use Rattle.std.specs.Prelude.{◌≡◌, ◌&&◌, nat_lt, not, is_some, I
 ghost use Rattle.std.specs.Option.{option_or};
 ghost use Rattle.jt_trees.specs.Expressions as trees;
 ghost use Rattle.jt_trees.specs.ExpressionView.{expr_view, exprs_view, pairs_view};
-ghost use Rattle.jt_chains.specs.Chain.{callee, given_to, Home, named_form, named_alone, named_in, in_library, is_loop};
+ghost use Rattle.jt_chains.specs.Chain.{callee, given_to, Home, named_form, named_alone, named_in, in_library};
 ghost use Rattle.jt_chains.specs.Uses.{count};
 ghost use Rattle.jt_trees.specs.Expressions.{Text};
 ghost use Rattle.jt_evaluation.specs.Loops.{field_named};
@@ -16,6 +16,7 @@ ghost use Rattle.jt_rules.specs.declared.error.ScopeError.TheVariants as error;
 
 use crate::arguments::{filter_broken, fits, range_broken, refused, test_broken, unless};
 use crate::scope::{Known, Scope, Within};
+use jt_names::is_loop_name;
 use jt_rules::ScopeError;
 use jt_trees::Expr;
 use std::alloc::AllocError;
@@ -66,16 +67,6 @@ fn is_field(name: &str) -> bool
             | "previtem"
             | "nextitem"
     )
-}
-
-/// Whether an expression is the bare name `loop`.
-pub(crate) fn names_loop(expr: &Expr) -> bool
-    ensures { result ≡ is_loop (expr_view expr.now) }
-{
-    match expr {
-        Expr::Name(name) => name.as_str() == "loop",
-        _ => false,
-    }
 }
 
 /// What a call of `range` or `super` breaks by itself; no other name can be called.
@@ -423,7 +414,7 @@ fn attribute_broken(
     ensures { IfOk result (Finds rules.broken scope.now within (trees.attribute
         (expr_view value.now) field.now)) }
 {
-    if names_loop(value) {
+    if is_loop_name(value) {
         let right = within.in_loop && is_field(field);
         return Ok(refused(!right, ScopeError::LoopOutside));
     }
