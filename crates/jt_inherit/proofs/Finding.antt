@@ -224,19 +224,19 @@ at_front (y ∷ xs) ys zero x e = e
 at_front (y ∷ xs) ys (suc i) x e = at_front xs ys i x e
 
 -- one more was followed
-module _ (given : Given) (options : Options) (root : Text) (ts0 : List Template) (ks0 : List Text) (hs : List Home) (ws ns : List (List ℕ)) (f : AreFound given options root ts0 ks0 hs ws ns) (h : Home) (at : slice_get hs (length ws) ≡ Some h)
-    (ts1 m1 : List Template) (e1 : ts1 ≡ ts0 ++ m1) (is : List ℕ) (w : IsWay ts1 h is None) where
+module _ {given : Given} {options : Options} {root : Text} {ts0 : List Template} {ks0 : List Text} {hs : List Home} {ws ns : List (List ℕ)} (f : AreFound given options root ts0 ks0 hs ws ns) {h : Home} (at : slice_get hs (length ws) ≡ Some h)
+    {ts1 : List Template} (more : (m1 : List Template) × (ts1 ≡ ts0 ++ m1)) {is : List ℕ} (w : IsWay ts1 h is None) where
   pub reached_here : Reaches (sources_in ts1) options.autoescape (a_chain root) h
-  reached_here = reach_more ts0 ts1 m1 options.autoescape (a_chain root) h e1 (f.reached h (place_listed hs (length ws) h at))
+  reached_here = reach_more ts0 ts1 more.0 options.autoescape (a_chain root) h more.1 (f.reached h (place_listed hs (length ws) h at))
 
   -- a refusal of what it includes or imports
   pub need_breaks : AreKnown given options ts1 (names ts1) → (e : ChainError) → (e ≡ error.NoMemory) ⊎ IsNeedFault given options (needs_along ts1 is) e → Breaks e given root options
   need_breaks known e fault = ⊎_elim
       (λ m. subst (λ z. Breaks z given root options) (sym m) tt)
-      (λ n. asked_breaks given options root ts1 known h reached_here n.name e (asks_needed ts1 options.autoescape h is w true n.name n.asked) (λ q. asks_needed ts1 options.autoescape h is w false n.name (n.must q)) n.fault)
+      (λ n. asked_breaks known reached_here n.name e (asks_needed ts1 options.autoescape h is w true n.name n.asked) (λ q. asks_needed ts1 options.autoescape h is w false n.name (n.must q)) n.fault)
       fault
 
-  module _ (ts2 m2 : List Template) (e2 : ts2 ≡ ts1 ++ m2) (ks2 : List Text) (known : AreKnown given options ts2 ks2) where
+  module _ {ts2 : List Template} (m2 : List Template) (e2 : ts2 ≡ ts1 ++ m2) {ks2 : List Text} (known : AreKnown given options ts2 ks2) where
     pub way_there : IsWay ts2 h is None
     way_there = subst (λ vs. IsWay vs h is None) (sym e2) (way_grows ts1 m2 h is None w)
 
@@ -246,12 +246,12 @@ module _ (given : Given) (options : Options) (root : Text) (ts0 : List Template)
     chosen_there : included (sources_in ts2) h ≡ chosen ks2 (needs_along ts2 is)
     chosen_there = included_is ts2 h is way_there ∙ ap (λ ks. chosen ks (needs_along ts2 is)) (sym known.named)
 
-    all_more : ts2 ≡ ts0 ++ (m1 ++ m2)
-    all_more = e2 ∙ ap (λ l. l ++ m2) e1 ∙ append_assoc ts0 m1 m2
+    all_more : ts2 ≡ ts0 ++ (more.0 ++ m2)
+    all_more = e2 ∙ ap (λ l. l ++ m2) more.1 ∙ append_assoc ts0 more.0 m2
 
     reached_from : (x : Home) → (listed x hs ≡ true) ⊎ (listed x (chosen ks2 (needs_along ts2 is)) ≡ true) → Reaches (sources_in ts2) options.autoescape (a_chain root) x
     reached_from x c = ⊎_elim
-        (λ a. reach_more ts0 ts2 (m1 ++ m2) options.autoescape (a_chain root) x all_more (f.reached x a))
+        (λ a. reach_more ts0 ts2 (more.0 ++ m2) options.autoescape (a_chain root) x all_more (f.reached x a))
         (λ a. reaches_next (reach_more ts1 ts2 m2 options.autoescape (a_chain root) h e2 reached_here) (ap (listed x) chosen_there ∙ a))
         c
 
@@ -267,18 +267,18 @@ module _ (given : Given) (options : Options) (root : Text) (ts0 : List Template)
         → ((n : Text) → among n ks2 ≡ true → (among n ks1 ≡ true) ⊎ (among n (needed true (needs_along ts1 is)) ≡ true)) → (n : Text) → among n ks2 ≡ true → Asks (sources_in ts2) options.autoescape (a_chain root) n
     asks_more ks1 on_way needs n a = ⊎_elim
         (λ p. ⊎_elim
-        (λ q. ask_more ts0 ts2 (m1 ++ m2) options.autoescape (a_chain root) n all_more (f.asked n q))
+        (λ q. ask_more ts0 ts2 (more.0 ++ m2) options.autoescape (a_chain root) n all_more (f.asked n q))
         (λ q. ask_more ts1 ts2 m2 options.autoescape (a_chain root) n e2 (h, reached_here, asks_way ts1 options.autoescape h is w n q))
         (on_way n p))
         (λ p. ask_more ts1 ts2 m2 options.autoescape (a_chain root) n e2 (h, reached_here, asks_needed ts1 options.autoescape h is w true n p))
         (needs n a)
 
     pub found_more : (ks1 : List Text) → ((n : Text) → among n ks1 ≡ true → (among n ks0 ≡ true) ⊎ (among n (names (templates_at ts1 is)) ≡ true))
-        → ((n : Text) → among n ks2 ≡ true → (among n ks1 ≡ true) ⊎ (among n (needed true (needs_along ts1 is)) ≡ true)) → AllByRecursion (IsMet given ks2) (needs_along ts1 is) → (hs2 : List Home) (next : List ℕ) → AreNext hs hs2 (chosen ks2 (needs_along ts2 is)) next
+        → ((n : Text) → among n ks2 ≡ true → (among n ks1 ≡ true) ⊎ (among n (needed true (needs_along ts1 is)) ≡ true)) → AllByRecursion (IsMet given ks2) (needs_along ts1 is) → {hs2 : List Home} {next : List ℕ} → AreNext hs hs2 (chosen ks2 (needs_along ts2 is)) next
         → AreFound given options root ts2 ks2 hs2 (ws ++ is ∷ []) (ns ++ next ∷ [])
-    found_more ks1 on_way needs met hs2 next n =
+    found_more ks1 on_way needs met {hs2} {next} n =
         let read = subst (AllByRecursion (IsRead given options)) all_more known.read.each in
-        let old : AreFollowed given (ts0 ++ (m1 ++ m2)) (hs ++ n.more) hs ws ns = all_grow given options ts0 (m1 ++ m2) hs n.more read hs ws ns f.followed in
+        let old : AreFollowed given (ts0 ++ (more.0 ++ m2)) (hs ++ n.more) hs ws ns = all_grow given options ts0 (more.0 ++ m2) hs n.more read hs ws ns f.followed in
         let here_followed : IsFollowed given ts2 hs2 h is next = (record {
           led = way_there;
           met = subst (λ l. AllByRecursion (IsMet given (names ts2)) l) (sym needs_there) (subst (λ ks. AllByRecursion (IsMet given ks) (needs_along ts1 is)) known.named met);
@@ -293,13 +293,13 @@ module _ (given : Given) (options : Options) (root : Text) (ts0 : List Template)
           reached = λ x a. reached_from x (n.from x a);
           followed = followed_next given ts2 hs2 hs2 ws ns h is next
               (subst (λ vs. AreFollowed given vs hs2 hs2 ws ns) (sym all_more)
-              (subst (λ l. AreFollowed given (ts0 ++ (m1 ++ m2)) l l ws ns) (sym n.grown)
-              (followed_longer given (ts0 ++ (m1 ++ m2)) (hs ++ n.more) hs n.more ws ns old)))
+              (subst (λ l. AreFollowed given (ts0 ++ (more.0 ++ m2)) l l ws ns) (sym n.grown)
+              (followed_longer given (ts0 ++ (more.0 ++ m2)) (hs ++ n.more) hs n.more ws ns old)))
               (subst (λ l. slice_get l (length ws) ≡ Some h) (sym n.grown) (at_front hs n.more (length ws) h at)) here_followed;
         }
 
-    pub first_same : (hs2 : List Home) (next : List ℕ) → AreNext hs hs2 (chosen ks2 (needs_along ts2 is)) next → home_name (home_at hs2 0) ≡ root
-    first_same hs2 next n = ap (λ o. home_name (unwrap_or o (a_chain []))) (ap (λ l. slice_get l 0) n.grown ∙ at_front hs n.more 0 (a_chain root) f.first)
+    pub first_same : {hs2 : List Home} {next : List ℕ} → AreNext hs hs2 (chosen ks2 (needs_along ts2 is)) next → home_name (home_at hs2 0) ≡ root
+    first_same n = ap (λ o. home_name (unwrap_or o (a_chain []))) (ap (λ l. slice_get l 0) n.grown ∙ at_front hs n.more 0 (a_chain root) f.first)
 
 -- the entry alone is found
 pub found_first : (given : Given) (options : Options) (entry root : Text) (ts : List Template) (ks : List Text) (hs : List Home) (ws ns : List (List ℕ)) → hs ≡ a_chain entry ∷ [] → root ≡ entry → ts ≡ [] → ks ≡ [] → ws ≡ [] → ns ≡ []
@@ -344,3 +344,7 @@ both_pages ps qs rs e = ap pages_view e ∙ both ps
     both : (zs : List Page) → pages_view (zs ++ qs) ≡ pages_view zs ++ pages_view qs
     both [] = refl
     both (z ∷ zs) = ap (λ l. page_view z ∷ l) (both zs)
+
+-- the same needs, of the same templates at the same places
+pub same_needs : (ps qs : List Page) (is js : List ℕ) → qs ≡ ps → js ≡ is → needs_along (pages_view qs) js ≡ needs_along (pages_view ps) is
+same_needs ps qs is js e f = ap (λ (z : List Page). needs_along (pages_view z) js) e ∙ ap (needs_along (pages_view ps)) f

@@ -10,6 +10,12 @@ use Rattle.jt_trees.specs.Statements.{Body}
 use Rattle.jt_chains.specs.Chain.{Sources, Home, a_chain, a_library, listed, Template, template, templates, library_template, libraries, libraries_in, extends_of, parent_of, names_up, sources_in}
 use Rattle.jt_chains.specs.Includes.{included, needs_in, with_source}
 use Rattle.jt_chains.specs.Rules.{Asks, Reaches, here, through, asked, way}
+use Rattle.jt_chains.specs.Pages.{pages_view}
+use Rattle.jt_chains.specs.declared.pages.Page.{Page}
+use Rattle.jt_scan.specs.declared.options.Options.{Options}
+use Rattle.jt_inherit.specs.Chains.{Given}
+use Rattle.jt_inherit.specs.Ways.{BreaksAll, Grow}
+use Rattle.jt_inherit.specs.declared.error.ChainError.{ChainError}
 use Rattle.jt_inherit.proofs.Among.{same, reflexive, or_true, among_front, among_behind, among_cases}
 use Rattle.jt_inherit.proofs.Leads.{more_sources}
 
@@ -230,3 +236,7 @@ reach_more ts us more e h k grown r =
 pub ask_more : (ts us more : List Template) (e : Bool) (h : Home) (n : Text) → us ≡ ts ++ more → Asks (sources_in ts) e h n → Asks (sources_in us) e h n
 ask_more ts us more e h n grown i =
     subst (λ vs. Asks (sources_in vs) e h n) (sym grown) (asks_more (sources_in ts) (sources_in (ts ++ more)) e h (λ m b k. more_sources ts more m b) n i)
+
+-- what breaks each chain that reaches this one when more is read, breaks each that reached it before
+pub breaks_more : (given : Given) (options : Options) (ps qs : List Page) → Grow ps qs → (h : Home) (e : ChainError) → BreaksAll given options qs h e → BreaksAll given options ps h e
+breaks_more given options ps qs more h e b root r = b root (reach_more (pages_view ps) (pages_view qs) more.0 options.autoescape (a_chain root) h more.1 r)

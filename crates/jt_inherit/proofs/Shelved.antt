@@ -41,7 +41,7 @@ held_read n m b e = by (holds_macros b)
 -- the template of a name, at its place
 module _ (ps : List Page) (ks : List Text) (k : AreNamed (pages_view ps) ks) (n : Text) (i : ℕ) (at : slice_get ks i ≡ Some n) where
   named_at : slice_get (names (pages_view ps)) i ≡ Some n
-  named_at = ap (λ l. slice_get l i) (sym k.named) ∙ at
+  named_at = ap (λ l. slice_get l i) (sym k.0) ∙ at
 
   pub place_read : i < length ps
   place_read = omega (arith, slice_get_within (names (pages_view ps)) i n named_at, length_names (pages_view ps), length-map ps page_view)
@@ -58,7 +58,7 @@ module _ (ps : List Page) (ks : List Text) (k : AreNamed (pages_view ps) ks) (n 
     source_is : sources_in (pages_view ps) n ≡ Some (body_of p.template)
     source_is =
         ap (sources_in (pages_view ps)) (sym name_is)
-        ∙ only_one (pages_view ps) i (page_view p) (ap (λ l. repeated l) (sym k.named) ∙ k.once) there
+        ∙ only_one (pages_view ps) i (page_view p) (ap (λ l. repeated l) (sym k.0) ∙ k.1) there
 
     pub is_library_read : (b : Bool) → b ≡ holds_macros (body_of p.template) → is_a_library (sources_in (pages_view ps) n) ≡ b
     is_library_read b e = ap is_a_library source_is ∙ sym e

@@ -1,5 +1,5 @@
 -- The chains and libraries that an entry reaches, all of them followed and checked, in an order of what they lead to.
-use Rattle.std.proofs.Common.{◌≡◌, ◌≢◌, ◌↔◌, ℕ, zero, suc, ◌+◌, ◌*◌, ◌<◌, ◌≤◌, ◌==◌, Bool, true, false, not, ◌&&◌, ◌||◌, if◌then◌else◌, nat_lt, List, [], ◌∷◌, ◌++◌, length, map, refl, sym, ap, subst, ◌∙◌, arith, inl, inr, ◌⊎◌, ⊎_elim, Option, Some, None}
+use Rattle.std.proofs.Common.{◌≡◌, ◌≢◌, ◌↔◌, ℕ, zero, suc, ◌+◌, ◌*◌, ◌<◌, ◌≤◌, ◌==◌, Bool, true, false, not, ◌&&◌, ◌||◌, if◌then◌else◌, nat_lt, List, [], ◌∷◌, ◌++◌, length, map, refl, sym, ap, subst, ◌∙◌, arith, inl, inr, ◌⊎◌, ⊎_elim, Option, Some, None, Vec, Global}
 use Rattle.std.proofs.lemmas.List.{length-map, append-nil}
 use Rattle.std.specs.Prelude.{slice_get, unwrap_or, flat_map}
 use Rattle.std.specs.List.{AllByRecursion, list_any}
@@ -9,6 +9,7 @@ use Rattle.std.proofs.lemmas.Bool.{cases_lt}
 use Rattle.std.proofs.lemmas.Bool.Decides.{nat_tests}
 use Rattle.jt_graph.specs.Graph as graph
 use Rattle.jt_graph.specs.Graph.{Graph, next_of, IsClosed, HasCycle, IsOrder}
+use Rattle.jt_graph.specs.View.{graph_of}
 use Rattle.jt_graph.specs.declared.error.OrderError.{OrderError}
 use Rattle.jt_graph.specs.declared.error.OrderError.TheVariants as order
 use Rattle.jt_scan.specs.declared.options.Options.{Options}
@@ -21,7 +22,7 @@ use Rattle.jt_chains.specs.Chain.{Home, a_chain, a_library, same_home, listed, i
 use Rattle.jt_chains.specs.Chain.{given as given_in}
 use Rattle.jt_inherit.specs.Chains.{Given, IsChain}
 use Rattle.jt_inherit.specs.Checks.{lacks_body, lacks_next}
-use Rattle.jt_inherit.specs.Found.{chains_of, AreFound, IsFollowed, AreFollowed, IsMet, BreaksAt, HasHomes, chosen}
+use Rattle.jt_inherit.specs.Found.{chains_of, AreFound, IsFound, found_templates, found_homes, root_of, IsFollowed, AreFollowed, IsMet, BreaksAt, HasHomes, chosen}
 use Rattle.jt_chains.specs.Includes.{included, InOrder}
 use Rattle.jt_inherit.specs.Kept.{KeepAll, BreakOne, their_blocks, their_macros, their_names, any_double, any_lacks_macros, imported_names}
 use Rattle.jt_chains.specs.Names.{IsName}
@@ -36,6 +37,8 @@ use Rattle.jt_chains.specs.Weights.{templates_weight, chains_weight}
 use Rattle.jt_inherit.specs.Small.{templates_len, chains_len}
 use Rattle.jt_chains.specs.View.{Seen}
 use Rattle.jt_inherit.specs.Ways.{AreKnown, IsWay, IsWithin}
+use Rattle.jt_inherit.specs.Sets.{names_view}
+use Rattle.jt_inherit.specs.declared.discovery.Found.{Found}
 use Rattle.jt_inherit.specs.declared.error.ChainError.{ChainError}
 use Rattle.jt_inherit.specs.declared.error.ChainError.TheVariants as error
 use Rattle.jt_chains.specs.declared.linked.Home as linked
@@ -236,7 +239,7 @@ module _ (given : Given) (options : Options) (ts : List Template) {ks : List Tex
 
 -- ---- all chains and libraries
 
-module _ (given : Given) (options : Options) (entry : Text) (ts : List Template) (ks : List Text) (hs : List Home) (ws ns : Graph) (f : AreFound given options entry ts ks hs ws ns) (all : length ws ≡ length hs) where
+module _ {given : Given} {options : Options} {entry : Text} {ts : List Template} {ks : List Text} {hs : List Home} {ws ns : Graph} (f : AreFound given options entry ts ks hs ws ns) (all : length ws ≡ length hs) where
   number : (i : ℕ) → i < length hs → IsFollowed given ts hs (home_at hs i) (next_of ws i) (next_of ns i)
   number i lt = followed_number given ts hs hs ws ns i (omega (arith, all)) f.followed
 
@@ -293,7 +296,7 @@ module _ (given : Given) (options : Options) (entry : Text) (ts : List Template)
 
   -- ---- in an order of what they include
 
-  module _ (kept : AllByRecursion (λ w. KeepAll (sources_in ts) options.autoescape (templates_at ts w)) ws) (is : List ℕ) (o : IsOrder ns is) where
+  module _ (kept : AllByRecursion (λ w. KeepAll (sources_in ts) options.autoescape (templates_at ts w)) ws) {is : List ℕ} (o : IsOrder ns is) where
     within : AllByRecursion (λ i. i < length hs) is
     within = subst (λ n. AllByRecursion (λ i. i < n) is) lens o.within
 
@@ -481,3 +484,20 @@ homes_named hs ws [] [] a = refl
 homes_named hs ws [] (k ∷ homes) a = absurd a
 homes_named hs ws (i ∷ is) [] a = absurd a
 homes_named hs ws (i ∷ is) (k ∷ homes) a = ap (λ x. x ∷ map home_view homes) a.0.0 ∙ ap (λ l. home_at hs i ∷ l) (homes_named hs ws is homes a.1)
+
+-- what was found from an entry, and an order of its numbers
+module _ {given : Given} {options : Options} {entry : Text} (f : Found) (is : IsFound given options f) (root : root_of f ≡ entry) (lens : length f.ways.items ≡ length (found_homes f)) where
+  pub its_found : AreFound given options entry (found_templates f) (names_view f.names) (found_homes f) (graph_of f.ways.items) (graph_of f.next.items)
+  its_found = subst (λ z. AreFound given options z (found_templates f) (names_view f.names) (found_homes f) (graph_of f.ways.items) (graph_of f.next.items)) root is
+
+  pub its_ways : length (graph_of f.ways.items) ≡ length (found_homes f)
+  its_ways = length-map f.ways.items (λ (v : Vec ℕ Global). v.items) ∙ lens
+
+  pub its_order : (next : List (Vec ℕ Global)) (order : List ℕ) → next ≡ f.next.items → (IsClosed (graph_of next) → IsOrder (graph_of next) order) → IsOrder (graph_of f.next.items) order
+  its_order next order e h = subst (λ (z : List (Vec ℕ Global)). IsOrder (graph_of z) order) e (h (subst (λ (z : List (Vec ℕ Global)). IsClosed (graph_of z)) (sym e) (closed its_found its_ways)))
+
+pub its_homes : (f : Found) (is js : List ℕ) (homes : List linked.Home) → js ≡ is → HasHomes (found_homes f) (graph_of f.ways.items) js homes → HasHomes (found_homes f) (graph_of f.ways.items) is homes
+its_homes f is js homes e has = subst (λ z. HasHomes (found_homes f) (graph_of f.ways.items) z homes) e has
+
+pub its_names : (f : Found) (is js : List ℕ) (homes : List linked.Home) → js ≡ is → HasHomes (found_homes f) (graph_of f.ways.items) js homes → map home_view homes ≡ map (home_at (found_homes f)) is
+its_names f is js homes e has = homes_named (found_homes f) (graph_of f.ways.items) is homes (its_homes f is js homes e has)
