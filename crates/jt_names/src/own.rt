@@ -82,8 +82,8 @@ fn add_expression<'a>(names: &mut BTreeSet<&'a str>, expr: &'a Expr) -> Result<(
     }
 }
 
-// Each `then` function takes how it went before as a `Result`, so that the many arms of its callers have
-// no early exit: a match with many of them is dear to prove.
+// Each `then` function takes how it went before as a `Result`, so that the many arms of its callers
+// have no early exit: a match with many of them is dear to prove.
 
 /// Adds the names of an expression, behind others.
 #[cycle(gather)]

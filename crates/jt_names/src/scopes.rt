@@ -1,4 +1,5 @@
-//! The names that scopes bind: targets of loops, parameters, values of `with`, and what is set in a scope.
+//! The names that scopes bind: targets of loops, parameters, values of `with`, and what is set in a
+//! scope.
 
 ghost use Rattle.std.specs.Prelude.{◌++◌, map, IfOk};
 ghost use Rattle.jt_trees.specs.ExpressionView.{pairs_view};
