@@ -1,12 +1,11 @@
 -- The first rule that calls, filters and tests break.
-use Rattle.std.proofs.Common.{◌≡◌, ℕ, ◌+◌, ◌<◌, refl, sym, ap, ◌∙◌, List, [], ◌∷◌, length, drop, get_or, true, Option, Some, None, Vec, Box, String, Global, string_bytes}
+use Rattle.std.proofs.Common.{◌≡◌, ℕ, ◌+◌, ◌<◌, refl, sym, ap, ◌∙◌, List, [], ◌∷◌, length, drop, get_or, true, Option, Some, None, Vec, Box, String, Global, string_bytes, arith, rules}
 use Rattle.std.specs.Prelude.{option_map}
 use Rattle.std.proofs.lemmas.List.{drop_more}
 use Rattle.std.specs.Option.{option_or}
 use Rattle.jt_trees.specs.ExpressionView.{expr_view, exprs_view, pairs_view}
 use Rattle.jt_trees.specs.declared.expression.Expr.{Expr}
 use Rattle.jt_trees.specs.declared.expression.Expr.TheVariants as e
-use Rattle.jt_trees.specs.declared.expression.BinaryOperator.{BinaryOperator}
 use Rattle.jt_trees.specs.declared.expression.Polarity.{Polarity}
 use Rattle.jt_trees.proofs.ExpressionViews.{view_Call, view_Filter, view_Test, shown_call}
 use Rattle.jt_trees.proofs.StatementViews.{shown_if, shown_for}
@@ -18,7 +17,6 @@ use Rattle.jt_trees.specs.declared.statement.Stmt.{Stmt}
 use Rattle.jt_trees.specs.declared.statement.Stmt.TheVariants as statement
 use Rattle.jt_chains.specs.Chain.{Home, callee, given}
 use Rattle.jt_chains.specs.declared.linked.Chain.{Chain}
-use Rattle.jt_evaluation.specs.Filters.{Filters}
 use Rattle.jt_evaluation.specs.Tests.{test_named}
 use Rattle.jt_evaluation.specs.TheFilters.{the_filters}
 use Rattle.jt_rules.specs.Walk as rules
@@ -62,27 +60,19 @@ module _ (world : World) (home : Home) (w : rules.Within) where
 
   pub row_some : (ts : List Expr) (i : ℕ) (t : Expr) (r : Found) (e : ScopeError) → i < length ts → t ≡ get_or ts i t → r ≡ rules.broken world home (expr_view t) w → r ≡ Some e
       → Some e ≡ rules.row_broken world home (exprs_view (drop i ts)) w
-  row_some ts i t r e lt at h k =
-      some_first (rules.broken world home (expr_view t) w) (rules.row_broken world home (exprs_view (drop (i + 1) ts)) w) e (sym h ∙ k)
-      ∙ sym (ap (λ z. rules.row_broken world home z w) (row_left ts i t lt at))
+  row_some ts i t r e lt at h k = search (arith, rules, some_first, row_left)
 
   pub row_none : (ts : List Expr) (i : ℕ) (t : Expr) (r : Found) → i < length ts → t ≡ get_or ts i t → r ≡ rules.broken world home (expr_view t) w → r ≡ None
       → rules.row_broken world home (exprs_view (drop (i + 1) ts)) w ≡ rules.row_broken world home (exprs_view (drop i ts)) w
-  row_none ts i t r lt at h k =
-      none_first (rules.broken world home (expr_view t) w) (rules.row_broken world home (exprs_view (drop (i + 1) ts)) w) (sym h ∙ k)
-      ∙ sym (ap (λ z. rules.row_broken world home z w) (row_left ts i t lt at))
+  row_none ts i t r lt at h k = search (arith, rules, none_first, row_left)
 
   pub pairs_some : (ps : List Entry) (i : ℕ) (p : Entry) (r : Found) (e : ScopeError) → i < length ps → p ≡ get_or ps i p → r ≡ rules.broken world home (expr_view p.1) w → r ≡ Some e
       → Some e ≡ rules.pairs_broken world home (pairs_view (drop i ps)) w
-  pairs_some ps i p r e lt at h k =
-      some_first (rules.broken world home (expr_view p.1) w) (rules.pairs_broken world home (pairs_view (drop (i + 1) ps)) w) e (sym h ∙ k)
-      ∙ sym (ap (λ z. rules.pairs_broken world home z w) (pairs_left ps i p lt at))
+  pairs_some ps i p r e lt at h k = search (arith, rules, some_first, pairs_left)
 
   pub pairs_none : (ps : List Entry) (i : ℕ) (p : Entry) (r : Found) → i < length ps → p ≡ get_or ps i p → r ≡ rules.broken world home (expr_view p.1) w → r ≡ None
       → rules.pairs_broken world home (pairs_view (drop (i + 1) ps)) w ≡ rules.pairs_broken world home (pairs_view (drop i ps)) w
-  pairs_none ps i p r lt at h k =
-      none_first (rules.broken world home (expr_view p.1) w) (rules.pairs_broken world home (pairs_view (drop (i + 1) ps)) w) (sym h ∙ k)
-      ∙ sym (ap (λ z. rules.pairs_broken world home z w) (pairs_left ps i p lt at))
+  pairs_none ps i p r lt at h k = search (arith, rules, none_first, pairs_left)
 
   -- ---- a filter of a filter tag
 
@@ -97,10 +87,7 @@ module _ (world : World) (home : Home) (w : rules.Within) where
 
   pub filtering_rule : world.filters ≡ the_filters → (f : Filtering) (n : Text) (us : List Expr) (qs : List Entry) (r : Found) → n ≡ string_bytes f.name → us ≡ f.arguments.items → qs ≡ f.keywords.items
       → r ≡ rules.filter_broken the_filters (the_filters.named n (exprs_view us) (pairs_view qs)) (exprs_view us) (pairs_view qs) → r ≡ filter_part f
-  filtering_rule ours f n us qs r en eu eq h =
-      let c = λ (fs : Filters) (m : Text) (ys : List Expr) (zs : List Entry). rules.filter_broken fs (fs.named m (exprs_view ys) (pairs_view zs)) (exprs_view ys) (pairs_view zs) in
-      h ∙ ap (λ z. c the_filters z us qs) en ∙ ap (λ z. c the_filters (string_bytes f.name) z qs) eu ∙ ap (c the_filters (string_bytes f.name) f.arguments.items) eq
-      ∙ ap (λ z. c z (string_bytes f.name) f.arguments.items f.keywords.items) (sym ours)
+  filtering_rule ours f n us qs r en eu eq h = search (arith, rules, string_bytes)
 
   pub filtering_first : (f : Filtering) (r : Found) (e : ScopeError) → r ≡ filter_part f → r ≡ Some e → Some e ≡ rules.filtering_broken world home (filtering_view f ∷ []) w
   filtering_first f r e h k = some_first (filter_part f) (option_or (row_part f) (option_or (pairs_part f) None)) e (sym h ∙ k)
@@ -115,10 +102,7 @@ module _ (world : World) (home : Home) (w : rules.Within) where
 
   pub filterings_left : (fs : List Filtering) (i : ℕ) (f : Filtering) → i < length fs → f ≡ get_or fs i f
       → rules.filtering_broken world home (filterings_view (drop i fs)) w ≡ option_or (rules.filtering_broken world home (filtering_view f ∷ []) w) (rules.filtering_broken world home (filterings_view (drop (i + 1) fs)) w)
-  filterings_left fs i f lt is =
-      ap (λ (z : List Filtering). rules.filtering_broken world home (filterings_view z) w) (drop_more fs i f lt)
-      ∙ ap (λ (z : Filtering). rules.filtering_broken world home (filtering_view z ∷ filterings_view (drop (i + 1) fs)) w) (sym is)
-      ∙ filterings_turn world home (filtering_view f) (filterings_view (drop (i + 1) fs)) w
+  filterings_left fs i f lt is = search (arith, rules, drop_more, filterings_turn)
 
   -- ---- statements
 
@@ -131,10 +115,7 @@ module _ (world : World) (home : Home) (w : rules.Within) where
   -- a branch breaks a rule
   pub branch_found : (ls : List Branch) (i : ℕ) (b : Branch) (e : ScopeError) → i < length ls → b ≡ get_or ls i b
       → in_branches (drop i ls) ≡ in_branches ls → option_or (rules.broken world home (expr_view b.1) w) (in_body b.2.items) ≡ Some e → Some e ≡ in_branches ls
-  branch_found ls i b e lt at before h =
-      let here : in_branches (drop i ls) ≡ Some e =
-      ap (λ z. rules.branches_broken world home z w) (branches_left ls i b lt at) ∙ ap (λ z. option_or z (in_branches (drop (i + 1) ls))) h in
-      sym here ∙ before
+  branch_found ls i b e lt at before h = search (arith, rules, branches_left)
 
   -- a choice and a loop, by what their parts break
   pub choice_is : (s : Stmt) (bs : Vec Branch Global) (other : Vec Stmt Global) (ls : List Branch) (o : List Stmt) → s ≡ statement.If bs other → ls ≡ bs.items → o ≡ other.items
@@ -149,6 +130,4 @@ module _ (world : World) (home : Home) (w : rules.Within) where
 
   pub loop_is : (s : Stmt) (line : ℕ) (xs : Vec (String Global) Global) (e : Expr) (c : Option Expr) (body other : Vec Stmt Global) (ys : List (String Global)) (b o : List Stmt)
       → s ≡ statement.For line xs e c body other → ys ≡ xs.items → b ≡ body.items → o ≡ other.items → option_or (head_part e ys c) (turns_part b o) ≡ rules.stmt_broken world home (stmt_view s) w
-  loop_is s line xs e c body other ys b o is ex eb eo =
-      or_three (rules.broken world home (expr_view e) w) (rules.all_used world home (names_view ys)) (rules.condition_broken world home (option_map expr_view c) w) (turns_part b o)
-      ∙ ap (λ z. rules.stmt_broken world home z w) (shown_for s line xs e c body other ys b o is ex eb eo)
+  loop_is s line xs e c body other ys b o is ex eb eo = search (arith, rules, or_three, shown_for)

@@ -1,4 +1,5 @@
--- What only private clauses cite: what contracts see of a scope: its chain, and what the rules say in it.
+-- What only private clauses cite: what contracts see of a scope: its chain, and what the rules say
+-- in it.
 use Rattle.std.specs.Prelude.{◌≡◌, ◌==◌, ◌&&◌, Bool, List, Option, Some, None}
 use Rattle.jt_trees.specs.Expressions.{Expr, Exprs, Pairs, name, Text}
 use Rattle.jt_chains.specs.Chain.{Home, Sources, Given, Callee, given}
@@ -36,7 +37,8 @@ abbrev pub in_scope : {A : Type 0} → (World → Home → A) → Scope → A
 in_scope rule s = rule (its_world s) (its_home s)
 
 -- the first rule that a tree breaks there, with what stands around it
-abbrev pub found : {A : Type 0} → (World → Home → A → rules.Within → Option ScopeError) → Scope → Within → A → Option ScopeError
+abbrev pub found : {A : Type 0} → (World → Home → A → rules.Within → Option ScopeError) → Scope
+    → Within → A → Option ScopeError
 found rule s w a = in_scope rule s a (within_view w)
 
 -- a call, by what it names
@@ -44,7 +46,8 @@ abbrev pub call_found : Scope → Within → Callee → Expr → Exprs → Pairs
 call_found s w called = in_scope rules.call_broken s called (within_view w)
 
 -- this one is found
-abbrev pub Finds : {A : Type 0} → (World → Home → A → rules.Within → Option ScopeError) → Scope → Within → A → Option ScopeError → Type 0
+abbrev pub Finds : {A : Type 0} → (World → Home → A → rules.Within → Option ScopeError) → Scope
+    → Within → A → Option ScopeError → Type 0
 Finds rule s w a o = o ≡ found rule s w a
 
 -- whether there are no arguments

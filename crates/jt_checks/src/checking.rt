@@ -161,8 +161,8 @@ fn count_own(alloc: Global, chain: &Chain, home: usize) -> Result<usize, AllocEr
     Ok(own_names(alloc, chain, home)?.len())
 }
 
-/// How many different names a chain reads or binds, with those of the libraries that it imports; the
-/// greatest number where it is more. A library's own count there alone.
+/// How many different names a chain reads or binds, with those of the libraries that it imports;
+/// the greatest number where it is more. A library's own count there alone.
 fn count_names(alloc: Global, chain: &Chain, home: usize) -> Result<usize, AllocError>
     requires { home < length chain.now.homes.items }
     ensures { IfOk result (λ n.

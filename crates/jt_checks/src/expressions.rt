@@ -222,7 +222,8 @@ fn name_of(expr: &Expr) -> Option<&str>
     }
 }
 
-// The arms of the two functions below have no early exit: a match with many of them is dear to prove.
+// The arms of the two functions below have no early exit: a match with many of them is dear to
+// prove.
 
 /// The first of two rules.
 fn either(

@@ -1,4 +1,4 @@
-use Rattle.std.proofs.Common.{◌≡◌, ◌∙◌, Ok, refl, ap}
+use Rattle.std.proofs.Common.{◌≡◌, ◌∙◌, Ok, ap, arith, rules}
 use Rattle.std.specs.Option.{option_or}
 use Rattle.jt_trees.specs.ExpressionView.{exprs_view, pairs_view}
 use Rattle.jt_trees.proofs.ExpressionViews.{shown_item, shown_binary, shown_when, shown_choice, shown_filter, shown_test}
@@ -104,16 +104,10 @@ called_broken-returns-in-Choice t c =
     equal_found c.three_broken.result _ _ (ap (found rules.called_broken c.args.scope.now c.args.within) shown) c.three_broken.ensures
 
 pub row_broken-loop-expr-preserved : goal.row_broken-loop-expr-preserved
-row_broken-loop-expr-preserved t c =
-    let s = c.args.scope.now in
-    row_none (its_world s) (its_home s) (within_view c.args.within) c.args.row.now c.loop-expr.expr-index c.expr-item.result c.in_ok-rule.field-0 c.loop-expr-test.true c.expr-item.is c.in_ok-rule.ensures c.in_default.is
-    ∙ c.loop-expr.invariant
+row_broken-loop-expr-preserved t c = search (arith, rules, row_none)
 
 pub row_broken-returns-in-Some : goal.row_broken-returns-in-Some
-row_broken-returns-in-Some t c =
-    let s = c.args.scope.now in
-    row_some (its_world s) (its_home s) (within_view c.args.within) c.args.row.now c.loop-expr.expr-index c.expr-item.result c.in_ok-rule.field-0 c.in-Some.rule c.loop-expr-test.true c.expr-item.is c.in_ok-rule.ensures c.in-Some.is
-    ∙ c.loop-expr.invariant
+row_broken-returns-in-Some t c = search (arith, rules, row_some)
 
 pub pairs_broken-loop-value-preserved : goal.pairs_broken-loop-value-preserved
 pairs_broken-loop-value-preserved t c =
@@ -122,7 +116,4 @@ pairs_broken-loop-value-preserved t c =
     ∙ c.loop-value.invariant
 
 pub pairs_broken-returns-in-Some : goal.pairs_broken-returns-in-Some
-pairs_broken-returns-in-Some t c =
-    let s = c.args.scope.now in
-    pairs_some (its_world s) (its_home s) (within_view c.args.within) c.args.pairs.now c.loop-value.value-index c.loop-value-item.result c.in_ok-rule.field-0 c.in-Some.rule c.loop-value-test.true c.loop-value-item.is c.in_ok-rule.ensures c.in-Some.is
-    ∙ c.loop-value.invariant
+pairs_broken-returns-in-Some t c = search (arith, rules, pairs_some)
