@@ -1,14 +1,14 @@
 -- The template of a library, at its place.
-use Rattle.std.proofs.Common.{◌≡◌, ℕ, ◌⊎◌, ⊎_elim, inl, inr, Bool, true, false, not, ◌&&◌, ◌||◌, List, [], ◌∷◌, ◌++◌, refl, sym, ap, subst, ◌∙◌, arith, Some, None, get_or, string_bytes}
+use Rattle.std.proofs.Common.{◌≡◌, ℕ, ◌⊎◌, ⊎_elim, inl, inr, Bool, true, false, ◌||◌, List, [], ◌∷◌, ◌++◌, sym, ap, subst, ◌∙◌, arith, Some, None, get_or, string_bytes, rules}
 use Rattle.std.specs.Prelude.{slice_get, flat_map}
-use Rattle.std.specs.Option.{is_some, option_to_list}
+use Rattle.std.specs.Option.{option_to_list}
 use Rattle.std.proofs.lemmas.List.{length-map}
 use Rattle.std.proofs.lemmas.Option.{slice_get_within}
 use Rattle.jt_scan.specs.declared.options.Options.{Options}
 use Rattle.jt_trees.specs.Texts.{among, repeated}
 use Rattle.jt_trees.specs.Expressions.{Text}
 use Rattle.jt_chains.specs.Along.{templates_at}
-use Rattle.jt_chains.specs.Chain.{a_chain, a_library, Template, templates, libraries, holds_macros, is_a_library, sources_in}
+use Rattle.jt_chains.specs.Chain.{a_chain, a_library, Template, templates, libraries, holds_macros, sources_in}
 use Rattle.jt_chains.specs.Includes.{needs_in}
 use Rattle.jt_chains.specs.Rules.{Reaches}
 use Rattle.jt_inherit.specs.Chains.{Given}
@@ -45,12 +45,7 @@ module _ (ps : List Page) (once : repeated (names (pages_view ps)) ≡ false) {n
   alone_at = ap (λ o. option_to_list o ++ []) there
 
   pub alone_way : holds_macros (body_of p.template) ≡ true → (is : List ℕ) → is ≡ i ∷ [] → IsWay ts (a_library n) is None
-  alone_way h is e = subst (λ js. IsWay ts (a_library n) js None) (sym e) (record {
-    places = (slice_get_within ts i (page_view p) there, tt);
-    leads = record { template = page_view p; only = alone_at; named = named; source = source; holds = h; last = refl };
-    once = ap (λ us. repeated (names us)) alone_at;
-    few = omega arith;
-  })
+  alone_way h is e = search (arith, rules, slice_get_within, there, alone_at, named, source, names)
 
   -- what was new is the library's name
   pub alone_from : (is : List ℕ) → is ≡ i ∷ [] → (k0 k1 : Names) → AddsName k0 k1 n → (x : Text) → among x (names_view k1) ≡ true → (among x (names_view k0) ≡ true) ⊎ (among x (names (templates_at ts is)) ≡ true)
@@ -59,12 +54,7 @@ module _ (ps : List Page) (once : repeated (names (pages_view ps)) ≡ false) {n
       (from x a)
 
   pub not_alone : (given : Given) (options : Options) (ks : Names) → KnowPages given options ps ks → holds_macros (body_of p.template) ≡ false → BreaksAll given options ps (a_library n) error.NotALibrary
-  not_alone given options ks known h root r = record {
-    templates = ts;
-    read = known.read;
-    only = known.only;
-    holds = (a_library n, r, (n, refl, ap (λ o. is_some o && not (is_a_library o)) source ∙ ap not h));
-  }
+  not_alone given options ks known h root r = search (arith, rules, source)
 
 -- a refusal of its source
 pub alone_breaks : (given : Given) (options : Options) (root : Text) (ts : List Template) {ks : List Text} → AreKnown given options ts ks → (n : Text) → Reaches (sources_in ts) options.autoescape (a_chain root) (a_library n)

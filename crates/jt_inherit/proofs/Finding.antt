@@ -1,5 +1,5 @@
 -- Chains and libraries that were followed: what is known of them stays as more is found.
-use Rattle.std.proofs.Common.{◌≡◌, ℕ, zero, suc, ◌<◌, ◌≤◌, Bool, true, false, not, cond, ◌||◌, if◌then◌else◌, List, [], ◌∷◌, ◌++◌, length, map, refl, sym, ap, subst, ◌∙◌, arith, ◌⊎◌, ⊎_elim, inr, Some, None, get_or, Vec, Global}
+use Rattle.std.proofs.Common.{◌≡◌, ℕ, zero, suc, ◌<◌, ◌≤◌, Bool, true, false, not, cond, ◌||◌, if◌then◌else◌, List, [], ◌∷◌, ◌++◌, length, map, refl, sym, ap, subst, ◌∙◌, arith, ◌⊎◌, ⊎_elim, inr, Some, None, get_or, Vec, Global, rules}
 use Rattle.std.specs.Prelude.{slice_get, flat_map, filter, unwrap_or}
 use Rattle.std.specs.List.{AllByRecursion}
 use Rattle.std.specs.Option.{is_some, option_to_list}
@@ -12,9 +12,9 @@ use Rattle.jt_chains.specs.Along.{ArePlaces, templates_at}
 use Rattle.jt_inherit.specs.Along.{imports_along, needs_along}
 use Rattle.jt_chains.specs.Chain.{Home, a_chain, a_library, home_name, listed, Template, template, templates, library_template, libraries, libraries_in, sources_in}
 use Rattle.jt_inherit.specs.Chains.{Given, IsRead}
-use Rattle.jt_inherit.specs.Found.{AreNext, known_of, IsMet, IsNeedFault, IsNextFault, IsFollowed, AreFollowed, AreFound, chosen}
+use Rattle.jt_inherit.specs.Found.{AreNext, IsMet, IsNeedFault, IsNextFault, IsFollowed, AreFollowed, AreFound, chosen}
 use Rattle.jt_chains.specs.Includes.{included, needs_in}
-use Rattle.jt_inherit.specs.Needs.{Need, needed, need_home, library_need, includes_in, imports_in}
+use Rattle.jt_inherit.specs.Needs.{Need, needed, library_need, includes_in, imports_in}
 use Rattle.jt_chains.specs.Places.{home_at}
 use Rattle.jt_inherit.specs.Refusals.{Breaks}
 use Rattle.jt_chains.specs.Rules.{Asks, Reaches, here, asked, way}
@@ -118,16 +118,7 @@ module _ (ts : List Template) (e : Bool) (h : Home) (is : List ℕ) (w : IsWay t
       by (a_library n) v = ap (λ m. m ∷ []) (sym v.leads.named) ∙ sym (ap names v.leads.only)
 
   pub asked_way : (all : Bool) → asked (sources_in ts) e all h ≡ names (templates_at ts is) ++ needed all (needs_along ts is)
-  asked_way all =
-      let s = sources_in ts in
-      let us = templates_at ts is in
-      let ns = flat_map (λ (t : Template). includes_in t.body) us in
-      let ls = flat_map (λ (t : Template). libraries_in t.body) us in
-      ap (λ xs. xs ++ (flat_map (λ t. needs_in all t.body) (templates s h) ++ libraries s h)) way_names
-      ∙ ap (λ vs. names us ++ (flat_map (λ (t : Template). needs_in all t.body) vs ++ libraries s h)) (whole_way ts h is w)
-      ∙ ap (λ l. names us ++ (flat_map (λ (t : Template). needs_in all t.body) us ++ l)) (libraries_way ts h is w)
-      ∙ ap (λ xs. names us ++ xs)
-      (ap (λ l. l ++ ls) (sym (by_templates all us)) ∙ ap (λ l. needed all ns ++ l) (sym (imports_needed all ls)) ∙ sym (needed-append all ns (map library_need ls)) ∙ ap (needed all) (sym (includes_told ts is w.places)))
+  asked_way all = search (arith, rules, way_names, names, whole_way, libraries_way, by_templates, imports_needed, needed-append, includes_told)
 
   -- each template on the way, and each that is included or imported
   pub asks_way : (n : Text) → among n (names (templates_at ts is)) ≡ true → among n (asked (sources_in ts) e true h) ≡ true
@@ -138,36 +129,12 @@ module _ (ts : List Template) (e : Bool) (h : Home) (is : List ℕ) (w : IsWay t
 
 pub none_read : (given : Given) (options : Options) (ts : List Template) (n : Text) → AllByRecursion (IsRead given options) ts → given n ≡ None → among n (names ts) ≡ false
 none_read given options [] n a e = refl
-none_read given options (t ∷ ts) n a e = by (bytes_eq t.name n) refl (none_read given options ts n a.1 e)
-  where
-    by : (b : Bool) → bytes_eq t.name n ≡ b → among n (names ts) ≡ false → among n (names (t ∷ ts)) ≡ false
-    by true h r =
-        let k : given n ≡ Some a.0.source = ap given (sym (same t.name n h)) ∙ a.0.found in
-        let none : None ≡ Some a.0.source = sym e ∙ k in
-        absurd (cc)
-    by false h r = both_false (bytes_eq t.name n) (among n (names ts)) h r
+none_read given options (t ∷ ts) n a e = search (arith, rules, none_read given options ts n a.1 e, names, same, both_false)
 
 -- what may be missing, and is, stays so
 chosen_same : (given : Given) (ks ms : List Text) → ((n : Text) → given n ≡ None → among n (ks ++ ms) ≡ false) → (ns : List Need) → AllByRecursion (IsMet given ks) ns → chosen (ks ++ ms) ns ≡ chosen ks ns
 chosen_same given ks ms absent [] a = refl
-chosen_same given ks ms absent (n ∷ ns) a = ⊎_elim
-    (λ p. step true (among_front n.name ks ms p) p (chosen_same given ks ms absent ns a.1))
-    (λ q. step false (absent n.name q.2) (not_front (among n.name ks) refl (absent n.name q.2)) (chosen_same given ks ms absent ns a.1))
-    a.0
-  where
-    not_front : (b : Bool) → among n.name ks ≡ b → among n.name (ks ++ ms) ≡ false → among n.name ks ≡ false
-    not_front true e f =
-        let k : true ≡ false = sym (among_front n.name ks ms e) ∙ f in
-        absurd (cc)
-    not_front false e f = e
-
-    step : (b : Bool) → among n.name (ks ++ ms) ≡ b → among n.name ks ≡ b → chosen (ks ++ ms) ns ≡ chosen ks ns → chosen (ks ++ ms) (n ∷ ns) ≡ chosen ks (n ∷ ns)
-    step b p q r =
-        ap (λ z. map need_home (cond z (n ∷ known_of (ks ++ ms) ns) (known_of (ks ++ ms) ns))) p ∙ one b r ∙ sym (ap (λ z. map need_home (cond z (n ∷ known_of ks ns) (known_of ks ns))) q)
-      where
-        one : (z : Bool) → chosen (ks ++ ms) ns ≡ chosen ks ns → map need_home (cond z (n ∷ known_of (ks ++ ms) ns) (known_of (ks ++ ms) ns)) ≡ map need_home (cond z (n ∷ known_of ks ns) (known_of ks ns))
-        one true r = ap (λ l. need_home n ∷ l) r
-        one false r = r
+chosen_same given ks ms absent (n ∷ ns) a = search (arith, rules, among_front, chosen_same given ks ms absent ns a.1)
 
 -- ---- those that were followed
 

@@ -1,5 +1,5 @@
 -- Ways that go on, and what is known of them.
-use Rattle.std.proofs.Common.{◌≡◌, ℕ, zero, suc, ◌+◌, ◌-◌, ◌<◌, ◌≤◌, ◌==◌, Bool, true, false, not, ◌&&◌, ◌||◌, if◌then◌else◌, List, [], ◌∷◌, ◌++◌, length, map, drop, get_or, refl, sym, ap, subst, ◌∙◌, arith, inl, inr, ◌⊎◌, ⊎_elim, Option, Some, None, length-append, string_bytes}
+use Rattle.std.proofs.Common.{◌≡◌, ℕ, zero, suc, ◌+◌, ◌-◌, ◌<◌, ◌≤◌, ◌==◌, Bool, true, false, not, ◌&&◌, ◌||◌, List, [], ◌∷◌, ◌++◌, length, map, drop, get_or, refl, sym, ap, subst, ◌∙◌, arith, inl, inr, ◌⊎◌, ⊎_elim, Option, Some, None, length-append, string_bytes, rules}
 use Rattle.std.specs.Prelude.{flat_map, slice_get}
 use Rattle.std.specs.Option.{option_to_list}
 use Rattle.std.proofs.lemmas.Option.{slice_get_within, slice_get-get_or}
@@ -38,13 +38,7 @@ Grows s r = (n : Text) (b : Body) → s n ≡ Some b → r n ≡ Some b
 
 pub more_sources : (ts us : List Template) → Grows (sources_in ts) (sources_in (ts ++ us))
 more_sources [] us n b e = absurd (cc)
-more_sources (t ∷ ts) us n b e = by (bytes_eq t.name n) refl (more_sources ts us n b)
-  where
-    by : (c : Bool) → bytes_eq t.name n ≡ c → (sources_in ts n ≡ Some b → sources_in (ts ++ us) n ≡ Some b) → sources_in (t ∷ ts ++ us) n ≡ Some b
-    by true h r =
-        ap (λ c. if c then Some t.body else sources_in (ts ++ us) n) h ∙ (sym (ap (λ c. if c then Some t.body else sources_in ts n) h) ∙ e)
-    by false h r =
-        ap (λ c. if c then Some t.body else sources_in (ts ++ us) n) h ∙ r (sym (ap (λ c. if c then Some t.body else sources_in ts n) h) ∙ e)
+more_sources (t ∷ ts) us n b e = search (arith, rules, more_sources ts us n b)
 
 pub leads_grow : (s r : Sources) → Grows s r → (o : Option Text) (ts : List Template) (p : Option Text) → Leads s o ts p → Leads r o ts p
 leads_grow s r g o [] p l = l
@@ -120,13 +114,7 @@ templates_more ts (j ∷ is) i t e =
 
 pub few_templates : (ts : List Template) (is : List ℕ) → length (templates_at ts is) ≤ length is
 few_templates ts [] = omega arith
-few_templates ts (i ∷ is) =
-    let one = at_most (slice_get ts i) in
-    omega (arith, one, few_templates ts is, length-append (option_to_list (slice_get ts i)) (templates_at ts is))
-  where
-    at_most : (o : Option Template) → length (option_to_list o) ≤ 1
-    at_most None = omega arith
-    at_most (Some t) = omega arith
+few_templates ts (i ∷ is) = search (arith, rules, few_templates ts is, length-append)
 
 pub all_templates : (ts : List Template) (is : List ℕ) → ArePlaces ts is → length (templates_at ts is) ≡ length is
 all_templates ts [] a = refl
@@ -155,17 +143,7 @@ all_at_places P ts (i ∷ is) a = by (slice_get ts i) refl (all_at_places P ts i
 
 pub known_more : (given : Given) (options : Options) (ts : List Template) (ks : List Text) (t : Template) → AreKnown given options ts ks → among t.name ks ≡ false → IsRead given options t → IsOnly given options t → IsWithin given t
     → AreKnown given options (ts ++ t ∷ []) (ks ++ t.name ∷ [])
-known_more given options ts ks t k new r only i =
-    let fresh : among t.name (names ts) ≡ false = ap (among t.name) (sym k.named) ∙ new in
-    record {
-      read = record {
-        each = all_more (IsRead given options) ts t k.read.each r;
-        once = ap repeated (map_more (λ (u : Template). u.name) ts t) ∙ once_more t.name (names ts) k.read.once fresh;
-      };
-      only = all_more (IsOnly given options) ts t k.only only;
-      within = all_more (IsWithin given) ts t k.within i;
-      named = ap (λ l. l ++ t.name ∷ []) k.named ∙ sym (map_more (λ (u : Template). u.name) ts t);
-    }
+known_more given options ts ks t k new r only i = search (arith, rules, all_more, map_more, once_more)
 
 pub last_at : {X : Type 0} (xs : List X) (x : X) → slice_get (xs ++ x ∷ []) (length xs) ≡ Some x
 last_at [] x = refl
@@ -182,28 +160,11 @@ from_grows s r g (a_chain n) ts p l = leads_grow s r g (Some n) ts p l
 from_grows s r g (a_library n) ts p l = record { template = l.template; only = l.only; named = l.named; source = g n l.template.body l.source; holds = l.holds; last = l.last }
 
 pub way_grows : (ts us : List Template) (h : Home) (is : List ℕ) (p : Option Text) → IsWay ts h is p → IsWay (ts ++ us) h is p
-way_grows ts us h is p w =
-    let e = sym (templates_grow ts us is w.places) in
-    record {
-      places = places_grow ts us is w.places;
-      leads = subst (λ vs. LeadsFrom (sources_in (ts ++ us)) h vs p) e (from_grows (sources_in ts) (sources_in (ts ++ us)) (more_sources ts us) h (templates_at ts is) p w.leads);
-      once = subst (λ vs. repeated (names vs) ≡ false) e w.once;
-      few = w.few;
-    }
+way_grows ts us h is p w = search (arith, rules, templates_grow, places_grow, from_grows, more_sources)
 
 pub way_next : (ts : List Template) (h : Text) (is : List ℕ) (i : ℕ) (t : Template) (n : Text) → IsWay ts (a_chain h) is (Some n) → slice_get ts i ≡ Some t → t.name ≡ n → among n (names (templates_at ts is)) ≡ false
     → repeated (names ts) ≡ false → length is < 64 → IsWay ts (a_chain h) (is ++ i ∷ []) (extends_of t.body)
-way_next ts h is i t n w at is_named new once lt =
-    let e = sym (templates_more ts is i t at) in
-    let us = templates_at ts is in
-    record {
-      places = all_more (λ j. j < length ts) is i w.places (slice_get_within ts i t at);
-      leads = subst (λ vs. Leads (sources_in ts) (Some h) vs (extends_of t.body)) e
-          (leads_more (sources_in ts) (Some h) us t (subst (λ x. Leads (sources_in ts) (Some h) us (Some x)) (sym is_named) w.leads) (only_one ts i t once at));
-      once = subst (λ vs. repeated (names vs) ≡ false) e
-          (ap repeated (map_more (λ (u : Template). u.name) us t) ∙ once_more t.name (names us) w.once (ap (λ x. among x (names us)) is_named ∙ new));
-      few = omega (arith, length-append is (i ∷ []));
-    }
+way_next ts h is i t n w at is_named new once lt = search (arith, rules, templates_more, all_more, slice_get_within, leads_more, only_one, map_more, once_more, length-append)
 
 -- ---- a chain that is reached, and what is wrong on its way
 

@@ -1,5 +1,5 @@
 -- The library of a name among the templates that were read: its macros, and what is asked of it.
-use Rattle.std.proofs.Common.{◌≡◌, ℕ, ◌+◌, ◌<◌, length, drop, get_or, arith, string_bytes, Bool, true, false, ◌&&◌, ◌||◌, if◌then◌else◌, List, [], ◌∷◌, ◌++◌, refl, sym, ap, ◌∙◌, Option, Some, None}
+use Rattle.std.proofs.Common.{◌≡◌, ℕ, ◌+◌, ◌<◌, length, drop, get_or, arith, string_bytes, Bool, true, false, ◌&&◌, ◌||◌, if◌then◌else◌, List, [], ◌∷◌, ◌++◌, refl, sym, ap, ◌∙◌, Option, Some, None, rules}
 use Rattle.std.specs.Prelude.{slice_get, flat_map}
 use Rattle.std.specs.Option.{is_some, is_none, option_to_list}
 use Rattle.std.proofs.lemmas.List.{drop_more, length-map, append-nil}
@@ -10,7 +10,7 @@ use Rattle.jt_trees.specs.StatementView.{body_of}
 use Rattle.jt_trees.specs.Texts.{among, repeated}
 use Rattle.jt_chains.specs.Along.{ArePlaces, templates_at}
 use Rattle.jt_chains.specs.Tables.{library_macros}
-use Rattle.jt_chains.specs.Chain.{Sources, a_library, Template, template, library_template, holds_macros, is_a_library, is_private, MacroBody, macros, macros_in, public_macro, sources_in}
+use Rattle.jt_chains.specs.Chain.{Sources, a_library, Template, template, library_template, holds_macros, is_a_library, MacroBody, macros, macros_in, public_macro, sources_in}
 use Rattle.jt_chains.specs.Pages.{page_view, pages_view}
 use Rattle.jt_chains.specs.Rules.{lacks_one, lacks_macros}
 use Rattle.jt_chains.specs.declared.pages.Page.{Page}
@@ -74,14 +74,7 @@ no_macros s n e = by (s n) e
     by (Some b) h = ap (λ (c : Bool). own_macros (if c then template n (Some b) else [])) h
 
 no_macro : (x : Text) → public_macro x [] ≡ None
-no_macro x = by (is_private x)
-  where
-    nothing : Option MacroBody
-    nothing = None
-
-    by : (b : Bool) → (if b then nothing else nothing) ≡ nothing
-    by true = refl
-    by false = refl
+no_macro x = search (arith, rules)
 
 none_from : (xs : List (Text × Text)) → names_from [] xs ≡ []
 none_from [] = refl
