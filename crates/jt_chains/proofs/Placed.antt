@@ -1,5 +1,5 @@
 -- Templates by their places.
-use Rattle.std.proofs.Common.{◌≡◌, ℕ, zero, suc, ◌+◌, ◌<◌, Bool, true, false, ◌||◌, if◌then◌else◌, List, [], ◌∷◌, ◌++◌, length, map, drop, get_or, refl, sym, ap, subst, ◌∙◌, arith, Option, Some, None}
+use Rattle.std.proofs.Common.{◌≡◌, ℕ, zero, suc, ◌+◌, ◌<◌, Bool, true, false, ◌||◌, if◌then◌else◌, List, [], ◌∷◌, ◌++◌, length, map, drop, get_or, refl, sym, ap, subst, ◌∙◌, arith, Option, Some, None, rules}
 use Rattle.std.specs.Prelude.{slice_get, flat_map, unwrap_or, option_map}
 use Rattle.std.specs.List.{AllByRecursion}
 use Rattle.std.proofs.lemmas.List.{drop_more, append_assoc, length-map}
@@ -147,10 +147,7 @@ given_templates s (chain.a_library n) = alone (s n) refl
         by false = tt
 
 alike : (t u : Template) → t.name ≡ u.name → t.body ≡ u.body → t ≡ u
-alike t u p q =
-    let first : Template = record { name = u.name; body = t.body } in
-    let e : t ≡ first = ap (λ n. let r : Template = record { name = n; body = t.body } in r) p in
-    e ∙ ap (λ b. let r : Template = record { name = u.name; body = b } in r) q
+alike t u p q = search (arith, rules)
 
 -- so places are told by names
 pub placed_by_names : (ts : List Template) (is : List ℕ) (us : List Template) → repeated (map (λ u. u.name) ts) ≡ false → Given (sources_in ts) us → names_at ts is ≡ map (λ t. Some t.name) us

@@ -1,5 +1,5 @@
--- Chains: the templates from an entry to the root, the bodies of their blocks, and what can be called in them. Libraries: templates that are
--- imported for their macros.
+-- Chains: the templates from an entry to the root, the bodies of their blocks, and what can be
+-- called in them. Libraries: templates that are imported for their macros.
 use Rattle.std.specs.Prelude.{ℕ, zero, suc, ◌==◌, nat_lt, Bool, true, false, not, ◌&&◌, ◌||◌, List, [], ◌∷◌, ◌++◌, flat_map, filter, Option, Some, None, codes, if◌then◌else◌}
 use Rattle.std.specs.List.{list_any}
 use Rattle.std.specs.Str.{bytes_eq}
@@ -67,7 +67,8 @@ library_template n (Some body) = if holds_macros body then template n (Some body
 
 -- ---- homes
 
--- where names and macros are at home: a chain, by the name of its entry, or a library, by its own. One template may be both.
+-- where names and macros are at home: a chain, by the name of its entry, or a library, by its own.
+-- One template may be both.
 pub data Home : Type 0 where
   a_chain : Text → Home
   a_library : Text → Home
@@ -90,14 +91,17 @@ listed h (k ∷ ks) = same_home k h || listed h ks
 abbrev pub max_templates : ℕ
 max_templates = 64
 
--- the templates of a chain from the entry to the root, no more than the greatest number; a library's own
+-- the templates of a chain from the entry to the root, no more than the greatest number; a
+-- library's own
 abbrev pub templates : Sources → Home → List Template
-templates sources (a_chain n) = flat_map (λ m. template m (sources m)) (names_up sources max_templates (Some n))
+templates sources (a_chain n) =
+    flat_map (λ m. template m (sources m)) (names_up sources max_templates (Some n))
 templates sources (a_library n) = library_template n (sources n)
 
 -- ---- blocks
 
--- one body of a block, with the template that it stands in and the autoescape state of its place there
+-- one body of a block, with the template that it stands in and the autoescape state of its place
+-- there
 pub record BlockBody : Type 0 where
   pub template : Text
   pub name : Text
@@ -130,9 +134,11 @@ module _ (template : Text) where
     blocks_under no_branches on = []
     blocks_under (branch line c body rest) on = blocks_in body on ++ blocks_under rest on
 
--- all bodies of a chain, and those of one block, the entry's first; `escaping` is the compile option
+-- all bodies of a chain, and those of one block, the entry's first; `escaping` is the compile
+-- option
 abbrev pub all_bodies : Sources → Bool → Home → List BlockBody
-all_bodies sources escaping home = flat_map (λ t. blocks_in t.name t.body escaping) (templates sources home)
+all_bodies sources escaping home =
+    flat_map (λ t. blocks_in t.name t.body escaping) (templates sources home)
 
 abbrev pub bodies : Sources → Bool → Home → Text → List BlockBody
 bodies sources escaping home x = filter (λ b. bytes_eq b.name x) (all_bodies sources escaping home)
@@ -153,7 +159,8 @@ pub record MacroBody : Type 0 where
 -- macros stand at top level
 abbrev pub macros_in : Text → Body → List MacroBody
 macros_in t end = []
-macros_in t (stmt (macro line x ps body) rest) = record { name = x; template = t; parameters = ps; body = body } ∷ macros_in t rest
+macros_in t (stmt (macro line x ps body) rest) =
+    record { name = x; template = t; parameters = ps; body = body } ∷ macros_in t rest
 macros_in t (stmt s rest) = macros_in t rest
 
 -- all macros of a chain, or of a library
@@ -194,7 +201,8 @@ module _ (sources : Sources) where
   -- the names that `from` gives
   abbrev pub all_given_from : Text → List (Text × Text) → List (Text × Given)
   all_given_from n [] = []
-  all_given_from n (x ∷ xs) = given_from n x.1 (public_macro x.0 (macros sources (a_library n))) ++ all_given_from n xs
+  all_given_from n (x ∷ xs) =
+      given_from n x.1 (public_macro x.0 (macros sources (a_library n))) ++ all_given_from n xs
 
   -- imports stand at top level
   abbrev pub imports_in : Body → List (Text × Given)
@@ -241,7 +249,10 @@ pub data Callee : Type 0 where
   no_callee : Callee
 
 abbrev pub named_form : Text → Callee
-named_form x = if bytes_eq x (codes "range") then a_range else if bytes_eq x (codes "super") then a_super else no_callee
+named_form x =
+    if bytes_eq x (codes "range")
+    then a_range
+    else if bytes_eq x (codes "super") then a_super else no_callee
 
 module _ (sources : Sources) where
   -- a name alone: a library is never called itself
@@ -264,7 +275,9 @@ module _ (sources : Sources) where
   abbrev pub named_in : Option Given → Text → Text → Callee
   named_in o of x =
       if bytes_eq of (codes "self") then a_block x
-      else if bytes_eq of (codes "loop") then (if bytes_eq x (codes "cycle") then a_cycle else no_callee)
+      else
+      if bytes_eq of (codes "loop") then
+      (if bytes_eq x (codes "cycle") then a_cycle else no_callee)
       else in_library o x
 
   abbrev pub callee : List (Text × Given) → Expr → Callee

@@ -6,12 +6,14 @@ use Rattle.jt_trees.specs.Expressions.{Text}
 use Rattle.jt_trees.specs.Statements.{Stmt, choose, for_each, set_block, with_values, filter_block, autoescape, macro, include, block, Body, end, stmt, Branches, no_branches, branch}
 use Rattle.jt_chains.specs.Chain.{Sources, Home, a_chain, a_library, listed, templates, libraries}
 
--- ---- the templates that a template includes, as often as they stand there: all, or those alone that may not be missing
+-- ---- the templates that a template includes, as often as they stand there: all, or those alone
+-- that may not be missing
 
 module _ (all : Bool) where
   abbrev mutual
     pub needs_by : Stmt → List Text
-    needs_by (include line n ignore_missing with_context) = if all || not ignore_missing then n ∷ [] else []
+    needs_by (include line n ignore_missing with_context) =
+        if all || not ignore_missing then n ∷ [] else []
     needs_by (choose bs other) = needs_under bs ++ needs_in other
     needs_by (for_each line xs e c body other) = needs_in body ++ needs_in other
     needs_by (set_block line x body) = needs_in body
@@ -34,9 +36,12 @@ module _ (all : Bool) where
 abbrev pub with_source : Sources → List Text → List Text
 with_source sources ns = filter (λ n. is_some (sources n)) ns
 
--- what a chain or a library leads to: the chains that it includes, and the libraries that it imports
+-- what a chain or a library leads to: the chains that it includes, and the libraries that it
+-- imports
 abbrev pub included : Sources → Home → List Home
-included sources h = map a_chain (with_source sources (flat_map (λ t. needs_in true t.body) (templates sources h))) ++ map a_library (with_source sources (libraries sources h))
+included sources h =
+    map a_chain (with_source sources (flat_map (λ t. needs_in true t.body) (templates sources h)))
+    ++ map a_library (with_source sources (libraries sources h))
 
 -- ---- the order of chains and libraries: each once, and before those that it leads to
 
@@ -50,11 +55,14 @@ AllIn-prop (m ∷ ms) hs = ×_prop (Coded-set coded_bool (listed m hs) true) (Al
 
 abbrev pub InOrder : Sources → List Home → Type 0
 InOrder sources [] = Unit {0}
-InOrder sources (h ∷ hs) = IsTrue (not (listed h hs)) × (AllIn (included sources h) hs × InOrder sources hs)
+InOrder sources (h ∷ hs) =
+    IsTrue (not (listed h hs)) × (AllIn (included sources h) hs × InOrder sources hs)
 
 pub InOrder-prop : (sources : Sources) (hs : List Home) → IsProp (InOrder sources hs)
 InOrder-prop sources [] = Unit-prop
-InOrder-prop sources (h ∷ hs) = ×_prop (Coded-set coded_bool (not (listed h hs)) true) (×_prop (AllIn-prop (included sources h) hs) (InOrder-prop sources hs))
+InOrder-prop sources (h ∷ hs) =
+    ×_prop (Coded-set coded_bool (not (listed h hs)) true)
+    (×_prop (AllIn-prop (included sources h) hs) (InOrder-prop sources hs))
 
 -- whether a chain is the first
 abbrev pub begins_with_chain : List Home → Bool

@@ -1,4 +1,5 @@
--- What contracts see of the parts of a chain, and not where they lie in memory; and what each chain keeps.
+-- What contracts see of the parts of a chain, and not where they lie in memory; and what each chain
+-- keeps.
 use Rattle.std.specs.Prelude.{◌≡◌, ℕ, List, [], ◌∷◌, map, if◌then◌else◌, Option, Some, option_map, slice_get, string_bytes, ⊤}
 use Rattle.std.specs.Coded.{×_prop, Unit-prop, Coded-set, coded_ℕ, coded_list, coded_option}
 use Rattle.jt_trees.specs.Expressions.{Text}
@@ -15,7 +16,10 @@ abbrev pub pages_view : List Page → List Template
 pages_view = map page_view
 
 abbrev pub home_view : Home → chain.Home
-home_view h = if h.is_library then chain.a_library (string_bytes h.name) else chain.a_chain (string_bytes h.name)
+home_view h =
+    if h.is_library
+    then chain.a_library (string_bytes h.name)
+    else chain.a_chain (string_bytes h.name)
 
 -- the names of the templates at these places
 abbrev pub names_at : List Template → List ℕ → List (Option Text)
@@ -24,9 +28,14 @@ names_at ts is = map (λ i. option_map (λ t. t.name) (slice_get ts i)) is
 -- each chain has the templates from its entry to the root, and a library its own
 abbrev pub AreWhole : List Template → List Home → Type 0
 AreWhole ts [] = ⊤
-AreWhole ts (h ∷ hs) = (names_at ts h.templates.items ≡ map (λ t. Some t.name) (templates (sources_in ts) (home_view h))) × AreWhole ts hs
+AreWhole ts (h ∷ hs) =
+    (names_at ts h.templates.items
+    ≡ map (λ t. Some t.name) (templates (sources_in ts) (home_view h)))
+    × AreWhole ts hs
 
 pub AreWhole-prop : (ts : List Template) (hs : List Home) → IsProp (AreWhole ts hs)
 AreWhole-prop ts [] = Unit-prop
 AreWhole-prop ts (h ∷ hs) =
-    ×_prop (Coded-set (coded_list (coded_option (coded_list coded_ℕ))) (names_at ts h.templates.items) (map (λ t. Some t.name) (templates (sources_in ts) (home_view h)))) (AreWhole-prop ts hs)
+    ×_prop
+    (Coded-set (coded_list (coded_option (coded_list coded_ℕ))) (names_at ts h.templates.items)
+    (map (λ t. Some t.name) (templates (sources_in ts) (home_view h)))) (AreWhole-prop ts hs)

@@ -12,10 +12,24 @@ name_at ts i = unwrap_or (option_map (λ t. t.name) (slice_get ts i)) []
 
 module _ (ts : List Template) where
   abbrev pub macro_view : Macro → MacroBody
-  macro_view m = record { name = m.name.now; template = name_at ts m.template; parameters = parameters_view m.parameters.now; body = body_view m.body.now }
+  macro_view m =
+      record {
+        name = m.name.now;
+        template = name_at ts m.template;
+        parameters = parameters_view m.parameters.now;
+        body = body_view m.body.now;
+      }
 
   abbrev pub block_view : Block → BlockBody
-  block_view b = record { template = name_at ts b.template; name = b.name.now; scoped = b.scoped; required = b.required; escaping = b.escaping; body = body_view b.body.now }
+  block_view b =
+      record {
+        template = name_at ts b.template;
+        name = b.name.now;
+        scoped = b.scoped;
+        required = b.required;
+        escaping = b.escaping;
+        body = body_view b.body.now;
+      }
 
   abbrev pub macros_view : List Macro → List MacroBody
   macros_view = map macro_view

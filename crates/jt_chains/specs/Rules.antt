@@ -33,7 +33,9 @@ module _ (sources : Sources) where
   -- whether one of these macros is none that the library has for an importer
   abbrev pub lacks_one : Text → List (Text × Text) → Bool
   lacks_one n [] = false
-  lacks_one n (x ∷ xs) = (is_a_library (sources n) && is_none (public_macro x.0 (macros sources (a_library n)))) || lacks_one n xs
+  lacks_one n (x ∷ xs) =
+      (is_a_library (sources n) && is_none (public_macro x.0 (macros sources (a_library n))))
+      || lacks_one n xs
 
   abbrev pub lacks_macros : Body → Bool
   lacks_macros end = false
@@ -41,15 +43,17 @@ module _ (sources : Sources) where
   lacks_macros (stmt s rest) = lacks_macros rest
 
 module _ (sources : Sources) (escaping : Bool) where
-  -- the names on the way to the root, one more than a chain may have at most; a library's is its own
+  -- the names on the way to the root, one more than a chain may have at most; a library's is its
+  -- own
   abbrev pub way : Home → List Text
   way (a_chain n) = names_up sources (suc max_templates) (Some n)
   way (a_library n) = n ∷ []
 
-  -- the names that are asked for: those on the way, the included ones that may not be missing, and the libraries; with true, the other
-  -- included ones too
+  -- the names that are asked for: those on the way, the included ones that may not be missing, and
+  -- the libraries; with true, the other included ones too
   abbrev pub asked : Bool → Home → List Text
-  asked all h = way h ++ (flat_map (λ t. needs_in all t.body) (templates sources h) ++ libraries sources h)
+  asked all h =
+      way h ++ (flat_map (λ t. needs_in all t.body) (templates sources h) ++ libraries sources h)
 
   -- one chain or library is the other, or reaches it by includes and imports
   pub data Reaches : Home → Home → Type 0 where
@@ -66,7 +70,10 @@ module _ (sources : Sources) (escaping : Bool) where
 
   -- the way to the root ends within 64 templates, and each of them has a source
   abbrev pub is_whole : Home → Bool
-  is_whole h = not (repeated (way h)) && (nat_lt (length (way h)) (suc max_templates) && not (list_any (λ n. is_none (sources n)) (way h)))
+  is_whole h =
+      not (repeated (way h))
+      && (nat_lt (length (way h)) (suc max_templates)
+      && not (list_any (λ n. is_none (sources n)) (way h)))
 
   -- of some whole one that is reached
   abbrev pub InSomeChain : Home → (Home → Bool) → Type 0
@@ -74,37 +81,55 @@ module _ (sources : Sources) (escaping : Bool) where
 
   -- C1: a name that is asked for has no source
   abbrev pub Missing : Home → Type 0
-  Missing entry = Somewhere entry (λ h. IsTrue (list_any (λ n. is_none (sources n)) (asked false h)))
+  Missing entry =
+      Somewhere entry (λ h. IsTrue (list_any (λ n. is_none (sources n)) (asked false h)))
 
   -- C2: a name that is asked for is no template's name
   abbrev pub BadName : Home → Type 0
-  BadName entry = Somewhere entry (λ h. (n : Text) × IsTrue (among n (asked true h)) × (IsName n → ⊥))
+  BadName entry =
+      Somewhere entry (λ h. (n : Text) × IsTrue (among n (asked true h)) × (IsName n → ⊥))
 
   -- C3: a name comes again on the way to the root
   abbrev pub ExtendsCycle : Home → Type 0
-  ExtendsCycle entry = Somewhere entry (λ h. (n : Text) × (h ≡ a_chain n) × (k : ℕ) × IsTrue (repeated (names_up sources k (Some n))))
+  ExtendsCycle entry =
+      Somewhere entry (λ h.
+      (n : Text) × (h ≡ a_chain n) × (k : ℕ) × IsTrue (repeated (names_up sources k (Some n))))
 
   -- C4: the first 65 names differ, or more than 1,024 chains are reached
   abbrev pub ChainTooLong : Home → Type 0
   ChainTooLong entry =
-      Somewhere entry (λ h. IsTrue ((length (way h) == suc max_templates) && not (repeated (way h))))
-      ⊎ ((ns : List Text) × (max_chains < length ns) × IsTrue (not (repeated ns)) × ((n : Text) → IsTrue (among n ns) → Reaches entry (a_chain n)))
+      Somewhere entry
+      (λ h. IsTrue ((length (way h) == suc max_templates) && not (repeated (way h))))
+      ⊎ ((ns : List Text)
+      × (max_chains < length ns)
+      × IsTrue (not (repeated ns))
+      × ((n : Text) → IsTrue (among n ns) → Reaches entry (a_chain n)))
 
   -- C5: one block name twice in a template
   abbrev pub DoubleBlock : Home → Type 0
-  DoubleBlock entry = Somewhere entry (λ h. IsTrue (list_any (λ t. repeated (map (λ b. b.name) (blocks_in t.name t.body escaping))) (templates sources h)))
+  DoubleBlock entry =
+      Somewhere entry (λ h.
+      IsTrue (list_any (λ t. repeated (map (λ b. b.name) (blocks_in t.name t.body escaping)))
+      (templates sources h)))
 
   -- C6: the nearest body of a block is a required one
   abbrev pub RequiredNotGiven : Home → Type 0
-  RequiredNotGiven entry = InSomeChain entry (λ h. list_any (λ b. is_required (bodies sources escaping h b.name)) (all_bodies sources escaping h))
+  RequiredNotGiven entry =
+      InSomeChain entry (λ h.
+      list_any (λ b. is_required (bodies sources escaping h b.name))
+      (all_bodies sources escaping h))
 
   -- C7: `super()` in a body behind which there is none to go on with
   abbrev pub NoSuper : Home → Type 0
-  NoSuper entry = InSomeChain entry (λ h. list_any (λ b. lacks_super (bodies sources escaping h b.name)) (all_bodies sources escaping h))
+  NoSuper entry =
+      InSomeChain entry (λ h.
+      list_any (λ b. lacks_super (bodies sources escaping h b.name))
+      (all_bodies sources escaping h))
 
   -- C8: a chain includes one that reaches it again, by itself or in the macros of a library
   abbrev pub IncludeCycle : Home → Type 0
-  IncludeCycle entry = Somewhere entry (λ h. (m : Home) × IsTrue (listed m (included sources h)) × Reaches m h)
+  IncludeCycle entry =
+      Somewhere entry (λ h. (m : Home) × IsTrue (listed m (included sources h)) × Reaches m h)
 
   -- C9: one name twice in a chain or in a library, of its macros and of those that imports give
   abbrev pub MacroTwice : Home → Type 0
@@ -112,11 +137,19 @@ module _ (sources : Sources) (escaping : Bool) where
 
   -- C11: `from` names a macro that the library doesn't have for an importer
   abbrev pub NoMacro : Home → Type 0
-  NoMacro entry = Somewhere entry (λ h. (n : Text) × (h ≡ a_chain n) × IsTrue (list_any (λ t. lacks_macros sources t.body) (templates sources h)))
+  NoMacro entry =
+      Somewhere entry (λ h.
+      (n : Text)
+      × (h ≡ a_chain n)
+      × IsTrue (list_any (λ t. lacks_macros sources t.body) (templates sources h)))
 
   -- C12: an imported template holds something else than macros
   abbrev pub NotALibrary : Home → Type 0
-  NotALibrary entry = Somewhere entry (λ h. (n : Text) × (h ≡ a_library n) × IsTrue (is_some (sources n) && not (is_a_library (sources n))))
+  NotALibrary entry =
+      Somewhere entry (λ h.
+      (n : Text)
+      × (h ≡ a_library n)
+      × IsTrue (is_some (sources n) && not (is_a_library (sources n))))
 
 -- no rule of chains is broken
 pub record KeepsRules (sources : Sources) (escaping : Bool) (entry : Home) : Type 0 where

@@ -46,7 +46,8 @@ abbrev mutual
   pub stmt_super : Stmt → Bool
   stmt_super (print line e) = has_super e
   stmt_super (choose bs other) = branches_super bs || calls_super other
-  stmt_super (for_each line xs e c body other) = has_super e || (condition_super c || (calls_super body || calls_super other))
+  stmt_super (for_each line xs e c body other) =
+      has_super e || (condition_super c || (calls_super body || calls_super other))
   stmt_super (set line xs e) = has_super e
   stmt_super (set_block line x body) = calls_super body
   stmt_super (with_values line ps body) = pairs_super ps || calls_super body
@@ -60,4 +61,5 @@ abbrev mutual
 
   pub branches_super : Branches → Bool
   branches_super no_branches = false
-  branches_super (branch line c body rest) = has_super c || (calls_super body || branches_super rest)
+  branches_super (branch line c body rest) =
+      has_super c || (calls_super body || branches_super rest)

@@ -20,12 +20,14 @@ library_macros n b = if holds_macros b then macros_in n b else []
 -- the place of the first macro of a name among statements, where they have the places from one on
 abbrev pub macro_place : Text → ℕ → Body → Option ℕ
 macro_place x i end = None
-macro_place x i (stmt (macro line y ps body) rest) = if bytes_eq y x then Some i else macro_place x (suc i) rest
+macro_place x i (stmt (macro line y ps body) rest) =
+    if bytes_eq y x then Some i else macro_place x (suc i) rest
 macro_place x i (stmt s rest) = macro_place x (suc i) rest
 
 -- the macro that a statement of a template is
 abbrev pub as_macro : Text → Stmt → Option MacroBody
-as_macro n (macro line x ps body) = Some (record { name = x; template = n; parameters = ps; body = body })
+as_macro n (macro line x ps body) =
+    Some (record { name = x; template = n; parameters = ps; body = body })
 as_macro n s = None
 
 -- a library has a table of its macros, and no other template has one
@@ -36,11 +38,13 @@ IsTable b (Some m) = (holds_macros b ≡ true) × ((x : Text) → get_by_text m 
 pub IsTable-prop : (b : Body) (o : Option Table) → IsProp (IsTable b o)
 IsTable-prop b None = Coded-set coded_bool (holds_macros b) false
 IsTable-prop b (Some m) =
-    ×_prop (Coded-set coded_bool (holds_macros b) true) (Π_prop (λ x. Coded-set (coded_option coded_ℕ) (get_by_text m x) (macro_place x 0 b)))
+    ×_prop (Coded-set coded_bool (holds_macros b) true)
+    (Π_prop (λ x. Coded-set (coded_option coded_ℕ) (get_by_text m x) (macro_place x 0 b)))
 
 -- a table of templates by their names
 abbrev pub AreAt : List Template → Table → Type 0
 AreAt ts m = (n : Text) → unwrap_or (get_by_text m n) (length ts) ≡ place_of ts n
 
 pub AreAt-prop : (ts : List Template) (m : Table) → IsProp (AreAt ts m)
-AreAt-prop ts m = Π_prop (λ n. Coded-set coded_ℕ (unwrap_or (get_by_text m n) (length ts)) (place_of ts n))
+AreAt-prop ts m =
+    Π_prop (λ n. Coded-set coded_ℕ (unwrap_or (get_by_text m n) (length ts)) (place_of ts n))

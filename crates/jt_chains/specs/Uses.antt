@@ -53,7 +53,8 @@ abbrev mutual
   stmt_names (data_of t) = []
   stmt_names (print line e) = expr_names e
   stmt_names (choose bs other) = branch_names bs ++ body_names other
-  stmt_names (for_each line xs e c body other) = expr_names e ++ (xs ++ (condition_names c ++ (body_names body ++ body_names other)))
+  stmt_names (for_each line xs e c body other) =
+      expr_names e ++ (xs ++ (condition_names c ++ (body_names body ++ body_names other)))
   stmt_names (set line xs e) = expr_names e ++ xs
   stmt_names (set_block line x body) = x ∷ body_names body
   stmt_names (with_values line ps body) = pair_names ps ++ (keywords ps ++ body_names body)
@@ -74,7 +75,8 @@ abbrev mutual
   branch_names no_branches = []
   branch_names (branch line c body rest) = expr_names c ++ (body_names body ++ branch_names rest)
 
--- ---- the names that a body sets in its own scope: an `if` has none of its own, nor has the else part of a loop
+-- ---- the names that a body sets in its own scope: an `if` has none of its own, nor has the else
+-- part of a loop
 
 abbrev mutual
   pub set_by : Stmt → List Text
@@ -92,18 +94,21 @@ abbrev mutual
   set_under no_branches = []
   set_under (branch line c body rest) = set_in body ++ set_under rest
 
--- ---- the names that scopes bind: targets of loops, parameters, values of `with`, and what is set in a scope
+-- ---- the names that scopes bind: targets of loops, parameters, values of `with`, and what is set
+-- in a scope
 
 abbrev mutual
   pub scope_names_by : Stmt → List Text
   scope_names_by (choose bs other) = scope_names_under bs ++ scope_names_in other
-  scope_names_by (for_each line xs e c body other) = xs ++ (set_in body ++ (scope_names_in body ++ scope_names_in other))
+  scope_names_by (for_each line xs e c body other) =
+      xs ++ (set_in body ++ (scope_names_in body ++ scope_names_in other))
   scope_names_by (set_block line x body) = set_in body ++ scope_names_in body
   scope_names_by (with_values line ps body) = keywords ps ++ (set_in body ++ scope_names_in body)
   scope_names_by (filter_block line fs body) = set_in body ++ scope_names_in body
   scope_names_by (autoescape line on body) = set_in body ++ scope_names_in body
   scope_names_by (block line x scoped required body) = set_in body ++ scope_names_in body
-  scope_names_by (macro line x ps body) = map (λ p. p.name) ps ++ (set_in body ++ scope_names_in body)
+  scope_names_by (macro line x ps body) =
+      map (λ p. p.name) ps ++ (set_in body ++ scope_names_in body)
   scope_names_by s = []
 
   pub scope_names_in : Body → List Text

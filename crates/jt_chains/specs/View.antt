@@ -17,4 +17,9 @@ abbrev pub sources_of : Seen → Sources
 sources_of c = sources_in c.templates
 
 abbrev pub chain_view : Chain → Seen
-chain_view c = record { templates = pages_view c.templates.items; order = map home_view c.homes.items; escaping = c.autoescape }
+chain_view c =
+    record {
+      templates = pages_view c.templates.items;
+      order = map home_view c.homes.items;
+      escaping = c.autoescape;
+    }

@@ -20,4 +20,6 @@ chains_weight sources (h ∷ hs) = templates_weight (templates sources h) + chai
 pub record NamesFew (c : Seen) : Type 0 where
   pub names : List Text
   pub few : length names ≤ 200
-  pub all : AllByRecursion (λ h. AllByRecursion (λ x. Contains names x) (own_names (sources_of c) h)) c.order
+  pub all :
+      AllByRecursion (λ h. AllByRecursion (λ x. Contains names x) (own_names (sources_of c) h))
+      c.order

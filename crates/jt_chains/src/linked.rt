@@ -24,7 +24,8 @@ pub struct Home {
 pub struct Chain {
     /// The templates that were read, each once.
     pub templates: Vec<Page>,
-    /// The chains and libraries, each before those that it leads to: the entry's chain is the first.
+    /// The chains and libraries, each before those that it leads to: the entry's chain is the
+    /// first.
     pub homes: Vec<Home>,
     /// Whether a text begins escaped.
     pub autoescape: bool,

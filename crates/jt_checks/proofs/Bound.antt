@@ -1,10 +1,10 @@
 -- How often statements bind names, by their forms.
-use Rattle.std.proofs.Common.{◌≡◌, ℕ, suc, ◌+◌, ◌<◌, ◌≤◌, min, List, [], ◌∷◌, length, drop, refl, ap, ◌∙◌, arith, Option, Vec, String, Global}
+use Rattle.std.proofs.Common.{◌≡◌, ℕ, suc, ◌+◌, ◌<◌, ◌≤◌, min, List, [], ◌∷◌, length, drop, refl, ap, ◌∙◌, arith, Option, Vec, String, Global, rules}
 use Rattle.std.proofs.lemmas.List.{at_drop_all}
 use Rattle.jt_trees.specs.ExpressionView.{pairs_view}
 use Rattle.jt_trees.specs.declared.expression.Expr.{Expr}
 use Rattle.jt_trees.specs.Statements.{stmt_bound, body_bound, branch_bound, pairs_count}
-use Rattle.jt_trees.specs.StatementView.{stmt_view, body_view, branches_view, names_view, parameters_view}
+use Rattle.jt_trees.specs.StatementView.{stmt_view, body_view, branches_view, names_view}
 use Rattle.jt_trees.specs.declared.statement.Parameter.{Parameter}
 use Rattle.jt_trees.specs.declared.statement.Stmt.{Stmt}
 use Rattle.jt_trees.specs.declared.statement.Stmt.TheVariants as statement
@@ -24,34 +24,18 @@ pairs_length (p ∷ ps) = ap suc (pairs_length ps)
 module _ (m : ℕ) (s : Stmt) where
   pub for_bound : (line : ℕ) (xs : Vec (String Global) Global) (e : Expr) (c : Option Expr) (body other : Vec Stmt Global) (b o : List Stmt) (n p q r k : ℕ) → s ≡ statement.For line xs e c body other
       → b ≡ body.items → o ≡ other.items → n ≡ min (body_bound (body_view b)) m → p ≡ min (body_bound (body_view o)) m → q ≡ min (n + p) m → k ≡ length xs.items → r ≡ min (k + q) m → r ≡ min (stmt_bound (stmt_view s)) m
-  for_bound line xs e c body other b o n p q r k is eb eo en ep eq ek er =
-      let t : stmt_bound (stmt_view s) ≡ length (names_view xs.items) + body_bound (body_view body.items) + body_bound (body_view other.items) = ap (λ z. stmt_bound (stmt_view z)) is ∙ ap stmt_bound (view_For line xs e c body other) in
-      let l = named_length xs.items in
-      let u : body_bound (body_view b) ≡ body_bound (body_view body.items) = ap (λ z. body_bound (body_view z)) eb in
-      let v : body_bound (body_view o) ≡ body_bound (body_view other.items) = ap (λ z. body_bound (body_view z)) eo in
-      omega arith
+  for_bound line xs e c body other b o n p q r k is eb eo en ep eq ek er = search (arith, rules, view_For, named_length)
 
   pub set_bound : (line : ℕ) (xs : Vec (String Global) Global) (e : Expr) (r : ℕ) → s ≡ statement.Set line xs e → r ≡ length xs.items → r < suc m → r ≡ min (stmt_bound (stmt_view s)) m
-  set_bound line xs e r is er lt =
-      let t : stmt_bound (stmt_view s) ≡ length (names_view xs.items) = ap (λ z. stmt_bound (stmt_view z)) is ∙ ap stmt_bound (view_Set line xs e) in
-      let l = named_length xs.items in
-      omega arith
+  set_bound line xs e r is er lt = search (arith, rules, view_Set, named_length)
 
   pub with_bound : (line : ℕ) (ps : Vec Entry Global) (body : Vec Stmt Global) (b : List Stmt) (n r k : ℕ) → s ≡ statement.With line ps body → b ≡ body.items → n ≡ min (body_bound (body_view b)) m
       → k ≡ length ps.items → r ≡ min (k + n) m → r ≡ min (stmt_bound (stmt_view s)) m
-  with_bound line ps body b n r k is eb en ek er =
-      let t : stmt_bound (stmt_view s) ≡ pairs_count (pairs_view ps.items) + body_bound (body_view body.items) = ap (λ z. stmt_bound (stmt_view z)) is ∙ ap stmt_bound (view_With line ps body) in
-      let l = pairs_length ps.items in
-      let u : body_bound (body_view b) ≡ body_bound (body_view body.items) = ap (λ z. body_bound (body_view z)) eb in
-      omega arith
+  with_bound line ps body b n r k is eb en ek er = search (arith, rules, view_With, pairs_length)
 
   pub macro_bound : (line : ℕ) (x : String Global) (ps : Vec Parameter Global) (body : Vec Stmt Global) (b : List Stmt) (n r k : ℕ) → s ≡ statement.Macro line x ps body → b ≡ body.items → n ≡ min (body_bound (body_view b)) m
       → k ≡ length ps.items → r ≡ min (k + n) m → r ≡ min (stmt_bound (stmt_view s)) m
-  macro_bound line x ps body b n r k is eb en ek er =
-      let t : stmt_bound (stmt_view s) ≡ length (parameters_view ps.items) + body_bound (body_view body.items) = ap (λ z. stmt_bound (stmt_view z)) is ∙ ap stmt_bound (view_Macro line x ps body) in
-      let l = viewed_length ps.items in
-      let u : body_bound (body_view b) ≡ body_bound (body_view body.items) = ap (λ z. body_bound (body_view z)) eb in
-      omega arith
+  macro_bound line x ps body b n r k is eb en ek er = search (arith, rules, view_Macro, viewed_length)
 
   pub choice_bound : (bs : Vec Branch Global) (other : Vec Stmt Global) (ls : List Branch) (o : List Stmt) (i n r : ℕ) → s ≡ statement.If bs other → ls ≡ bs.items → o ≡ other.items → n ≡ min (body_bound (body_view o)) m
       → length ls ≤ i → r < suc m → min (r + branch_bound (branches_view (drop i ls))) m ≡ min (n + branch_bound (branches_view ls)) m → r ≡ min (stmt_bound (stmt_view s)) m

@@ -1,5 +1,5 @@
 -- How many expressions and pairs a row has.
-use Rattle.std.proofs.Common.{◌≡◌, ℕ, suc, false, List, [], ◌∷◌, length, refl, sym, ap, arith, nat_eq}
+use Rattle.std.proofs.Common.{◌≡◌, suc, List, [], ◌∷◌, length, refl, ap, arith, nat_eq, rules}
 use Rattle.std.proofs.lemmas.Bool.Decides.{nat_tests}
 use Rattle.jt_trees.specs.ExpressionView.{exprs_view, pairs_view}
 use Rattle.jt_trees.specs.declared.expression.Expr.{Expr}
@@ -13,7 +13,4 @@ counted (t ∷ ts) = ap suc (counted ts)
 
 pub keyless : (ps : List Entry) → no_keywords (pairs_view ps) ≡ nat_eq (length ps) 0
 keyless [] = refl
-keyless (p ∷ ps) = sym (some_left (length ps))
-  where
-    some_left : (n : ℕ) → nat_eq (suc n) 0 ≡ false
-    some_left n = grind (arith, nat_tests)
+keyless (p ∷ ps) = search (arith, rules, nat_eq, nat_tests)

@@ -1,9 +1,8 @@
 -- Parameters that are given by name or have a default.
-use Rattle.std.proofs.Common.{◌≡◌, ℕ, zero, suc, ◌+◌, ◌<◌, Bool, true, false, not, ◌&&◌, ◌||◌, if◌then◌else◌, List, [], ◌∷◌, length, take, drop, get_or, refl, sym, ap, ◌∙◌, arith, Option, Some, None, string_bytes}
+use Rattle.std.proofs.Common.{◌≡◌, ℕ, zero, suc, ◌<◌, Bool, true, false, ◌&&◌, ◌||◌, if◌then◌else◌, List, [], ◌∷◌, length, take, drop, get_or, refl, sym, ap, ◌∙◌, arith, Option, Some, None, string_bytes, rules}
 use Rattle.std.specs.Option.{is_some}
 use Rattle.std.specs.Prelude.{option_map}
 use Rattle.std.proofs.lemmas.List.{drop_more}
-use Rattle.jt_trees.specs.ExpressionView.{literal_view}
 use Rattle.jt_trees.specs.Texts.{among}
 use Rattle.jt_trees.specs.Statements as trees
 use Rattle.jt_trees.specs.Expressions.{Text}
@@ -56,27 +55,14 @@ module _ (ks : List Text) where
   -- each up to the last one that is given
   filled_up_to : (ps : List Parameter) → all_filled ks (take (rules.reached (parameters_view ps) ks) ps) ≡ rules.is_filled (parameters_view ps) 0 ks
   filled_up_to [] = refl
-  filled_up_to (p ∷ ps) = by (some_given (parameters_view (p ∷ ps)) ks) (filled_up_to ps)
-    where
-      rest : Bool → Bool
-      rest b = (among (string_bytes p.name) ks || b) && rules.is_filled (parameters_view ps) 0 ks
-
-      by : (b : Bool) → all_filled ks (take (rules.reached (parameters_view ps) ks) ps) ≡ rules.is_filled (parameters_view ps) 0 ks
-          → all_filled ks (take (if b then suc (rules.reached (parameters_view ps) ks) else 0) (p ∷ ps))
-          ≡ (not b || ((among (string_bytes p.name) ks || is_some (option_map literal_view p.default)) && rules.is_filled (parameters_view ps) 0 ks))
-      by true h =
-          ap (λ c. (among (string_bytes p.name) ks || is_some p.default) && c) h
-          ∙ ap (λ b. (among (string_bytes p.name) ks || b) && rules.is_filled (parameters_view ps) 0 ks) (sym (mapped literal_view p.default))
-      by false h = refl
+  filled_up_to (p ∷ ps) = search (arith, rules, filled_up_to ps, string_bytes, mapped)
 
   pub filled_among : (ps : List Parameter) (r : ℕ) → r ≡ rules.reached (parameters_view ps) ks → all_filled ks (take r ps) ≡ rules.is_filled (parameters_view ps) 0 ks
   filled_among ps r e = ap (λ n. all_filled ks (take n ps)) e ∙ filled_up_to ps
 
   -- one that is neither given nor has a default
   pub unfilled_at : (ps : List Parameter) (i : ℕ) (p : Parameter) → i < length ps → p ≡ get_or ps i p → among (string_bytes p.name) ks ≡ false → is_some p.default ≡ false → all_filled ks (drop i ps) ≡ false
-  unfilled_at ps i p lt is e d =
-      ap (all_filled ks) (drop_more ps i p lt) ∙ ap (λ (z : Parameter). (among (string_bytes z.name) ks || is_some z.default) && all_filled ks (drop (i + 1) ps)) (sym is)
-      ∙ ap (λ b. (b || is_some p.default) && all_filled ks (drop (i + 1) ps)) e ∙ ap (λ b. b && all_filled ks (drop (i + 1) ps)) d
+  unfilled_at ps i p lt is e d = search (arith, rules, drop_more, string_bytes)
 
 -- those behind the ones that are filled by place
 pub filled_behind : (ps : List trees.Parameter) (n : ℕ) (ks : List Text) → rules.is_filled ps n ks ≡ rules.is_filled (drop n ps) 0 ks

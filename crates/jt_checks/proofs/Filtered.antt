@@ -1,5 +1,5 @@
 -- Filters by their names, and the arguments that they take.
-use Rattle.std.proofs.Common.{◌≡◌, ℕ, zero, suc, ◌+◌, max, Bool, true, false, not, ◌&&◌, ◌||◌, List, [], ◌∷◌, length, drop, nat_eq, refl, sym, ap, ◌∙◌, arith, Option, Some, None}
+use Rattle.std.proofs.Common.{◌≡◌, ℕ, zero, suc, ◌+◌, max, Bool, true, false, not, ◌&&◌, ◌||◌, List, [], ◌∷◌, length, drop, nat_eq, refl, sym, ap, ◌∙◌, arith, Option, Some, None, rules}
 use Rattle.std.specs.Prelude.{option_map, map}
 use Rattle.std.specs.List.{list_any}
 use Rattle.std.specs.Option.{is_some}
@@ -68,13 +68,8 @@ with_true true c e = sym (ap (λ z. z && true) e)
 with_true false c e = refl
 
 pub takes_by_place : (f : FilterId) (ps : List Parameter) (n : ℕ) → accepts (Some f) (n + 1) ≡ filter_takes f ps n []
-takes_by_place f ps n =
-    let e : n + 1 ≡ suc (max n (rules.reached ps [])) = omega (arith, none_reached [] ps (none_given ps)) in
-    ap (accepts (Some f)) e ∙ with_true (accepts (Some f) (suc (max n (rules.reached ps [])))) (rules.is_filled ps n []) (filled_without ps n)
+takes_by_place f ps n = search (arith, rules, none_reached, none_given, with_true, filled_without)
 
 pub no_keywords : (ps : List Entry) → nat_eq (length ps) 0 ≡ true → keywords (pairs_view ps) ≡ []
 no_keywords [] e = refl
-no_keywords (p ∷ ps) e = absurd (some_left (length ps) e)
-  where
-    some_left : (n : ℕ) → nat_eq (suc n) 0 ≡ true → ⊥
-    some_left n e' = grind (arith, nat_tests)
+no_keywords (p ∷ ps) e = search (arith, rules, nat_eq, nat_tests)

@@ -1,5 +1,5 @@
 -- Arguments that fit parameters.
-use Rattle.std.proofs.Common.{◌≡◌, ℕ, zero, suc, ◌+◌, ◌<◌, ◌≤◌, ◌-◌, min, max, Some, take, length-drop, nat_lt, Bool, true, false, not, ◌&&◌, List, [], ◌∷◌, length, drop, refl, sym, ap, ◌∙◌, arith, Result, Ok, Err, IfOk}
+use Rattle.std.proofs.Common.{◌≡◌, ℕ, zero, suc, ◌+◌, ◌<◌, ◌≤◌, ◌-◌, min, max, Some, take, length-drop, nat_lt, Bool, true, false, not, ◌&&◌, List, [], ◌∷◌, length, drop, refl, sym, ap, ◌∙◌, arith, Result, Ok, Err, IfOk, rules}
 use Rattle.std.specs.List.{list_any}
 use Rattle.std.proofs.lemmas.Bool.Decides.{nat_tests}
 use Rattle.jt_trees.specs.ExpressionView.{exprs_view}
@@ -42,27 +42,18 @@ abbrev pub named_well : List Parameter → ℕ → List Text → Bool
 named_well ps n xs = not (repeated xs) && not (list_any (λ k. not (among k (rules.parameter_names (drop n (parameters_view ps))))) xs)
 
 pub fits_is : (ps : List Parameter) (row : List Expr) (ks ns : List Text) → length row ≤ length ps → ns ≡ ks → named_well ps (length row) ns ≡ rules.fits (parameters_view ps) (count (exprs_view row)) ks
-fits_is ps row ks ns le e =
-    let below : count (exprs_view row) ≤ length (parameters_view ps) = omega (arith, counted row, viewed_length ps) in
-    ap (named_well ps (length row)) e ∙ ap (λ n. named_well ps n ks) (sym (counted row))
-    ∙ ap (λ b. not b && named_well ps (count (exprs_view row)) ks) (sym (not_below (length (parameters_view ps)) (count (exprs_view row)) below))
+fits_is ps row ks ns le e = search (arith, rules, counted, viewed_length, not_below)
 
 pub too_many : (ps : List Parameter) (row : List Expr) (ks : List Text) → length ps < length row → false ≡ rules.fits (parameters_view ps) (count (exprs_view row)) ks
-too_many ps row ks lt =
-    let above : length (parameters_view ps) < count (exprs_view row) = omega (arith, counted row, viewed_length ps) in
-    ap (λ b. not b && named_well ps (count (exprs_view row)) ks) (sym (is_below (length (parameters_view ps)) (count (exprs_view row)) above))
+too_many ps row ks lt = search (arith, rules, counted, viewed_length, is_below)
 
 taken : {A : Type 0} → (xs : List A) (n : ℕ) → n ≡ length xs → take n xs ≡ xs
-taken [] zero e = refl
-taken [] (suc n) e = refl
-taken (x ∷ xs) zero e = absurd (omega arith)
 taken (x ∷ xs) (suc n) e = ap (λ l. x ∷ l) (taken xs n (omega arith))
+taken a0 a1 e = search (arith, rules)
 
 pub well_named : (ps : List Parameter) (n m : ℕ) (left ns : List Text) (b : Bool) → m ≡ min n (length ps) → left ≡ rules.parameter_names (parameters_view (take (length ps - m) (drop m ps))) → b ≡ repeated ns → b ≡ false
     → not (list_any (λ k. not (among k left)) ns) ≡ named_well ps n ns
-well_named ps n m left ns b e f g h =
-    ap (λ (z : List Text). not (list_any (λ k. not (among k z)) ns)) (f ∙ ap (λ z. rules.parameter_names (parameters_view z)) (taken (drop m ps) (length ps - m) (sym (length-drop m ps))) ∙ ap rules.parameter_names (dropped ps n m e))
-    ∙ ap (λ c. not c && not (list_any (λ k. not (among k (rules.parameter_names (drop n (parameters_view ps))))) ns)) (sym h ∙ g)
+well_named ps n m left ns b e f g h = search (arith, rules, taken, length-drop, dropped)
 
 -- ---- filters
 
@@ -75,9 +66,7 @@ module _ (f : FilterId) (ps : List Parameter) (n v : ℕ) (ks : List Text) (take
 
   module _ (m : ℕ) (left : List Parameter) (filled : Bool) (from : m ≡ min n (length ps)) (behind : left ≡ take (length ps - m) (drop m ps)) (is : filled ≡ rules.is_filled (parameters_view left) 0 ks) (h : taken_so ≡ true) where
     by_filled : filled ≡ rules.is_filled (parameters_view ps) n ks
-    by_filled =
-        is ∙ ap (λ z. rules.is_filled (parameters_view z) 0 ks) (behind ∙ taken (drop m ps) (length ps - m) (sym (length-drop m ps)))
-        ∙ ap (λ z. rules.is_filled z 0 ks) (dropped ps n m from) ∙ sym (filled_behind (parameters_view ps) n ks)
+    by_filled = search (arith, rules, taken, length-drop, dropped, filled_behind)
 
     both : (b : Bool) → filled ≡ b → (b && named_well ps n ks) ≡ filter_takes f (parameters_view ps) n ks
     both b k =

@@ -1,15 +1,14 @@
 -- The first rule that calls, filters and tests break.
-use Rattle.std.proofs.Common.{◌≡◌, ℕ, ◌+◌, ◌<◌, refl, sym, ap, ◌∙◌, List, [], ◌∷◌, length, drop, get_or, true, Option, Some, None, Vec, Box, String, Global, string_bytes}
+use Rattle.std.proofs.Common.{◌≡◌, ℕ, ◌+◌, ◌<◌, refl, sym, ap, ◌∙◌, List, [], ◌∷◌, length, drop, get_or, true, Option, Some, None, Vec, Box, String, Global, string_bytes, arith, rules}
 use Rattle.std.specs.Prelude.{option_map}
 use Rattle.std.proofs.lemmas.List.{drop_more}
 use Rattle.std.specs.Option.{option_or}
 use Rattle.jt_trees.specs.ExpressionView.{expr_view, exprs_view, pairs_view}
 use Rattle.jt_trees.specs.declared.expression.Expr.{Expr}
 use Rattle.jt_trees.specs.declared.expression.Expr.TheVariants as e
-use Rattle.jt_trees.specs.declared.expression.BinaryOperator.{BinaryOperator}
 use Rattle.jt_trees.specs.declared.expression.Polarity.{Polarity}
-use Rattle.jt_trees.proofs.ExpressionViews.{view_Call, view_Filter, view_Test, view_Item, view_Binary, view_When, view_Choice}
-use Rattle.jt_trees.proofs.StatementViews.{view_If, view_For}
+use Rattle.jt_trees.proofs.ExpressionViews.{view_Call, view_Filter, view_Test, shown_call}
+use Rattle.jt_trees.proofs.StatementViews.{shown_if, shown_for}
 use Rattle.jt_checks.proofs.Turns.{or_three, or_none, some_first, none_first, filterings_turn}
 use Rattle.jt_trees.specs.Expressions.{Text}
 use Rattle.jt_trees.specs.StatementView.{stmt_view, body_view, branches_view, names_view, filtering_view, filterings_view}
@@ -18,7 +17,6 @@ use Rattle.jt_trees.specs.declared.statement.Stmt.{Stmt}
 use Rattle.jt_trees.specs.declared.statement.Stmt.TheVariants as statement
 use Rattle.jt_chains.specs.Chain.{Home, callee, given}
 use Rattle.jt_chains.specs.declared.linked.Chain.{Chain}
-use Rattle.jt_evaluation.specs.Filters.{Filters}
 use Rattle.jt_evaluation.specs.Tests.{test_named}
 use Rattle.jt_evaluation.specs.TheFilters.{the_filters}
 use Rattle.jt_rules.specs.Walk as rules
@@ -35,140 +33,46 @@ unfolding world_in
 its_filters c = refl
 
 module _ (world : World) (home : Home) (w : rules.Within) where
-  pub found_call : (x f g : Expr) (us vs : List Expr) (qs rs : List Entry) (p : Box Expr Global) (ts : Vec Expr Global) (ps : Vec Entry Global) (r1 r2 r3 r4 o1 o2 o3 : Found)
-      → x ≡ e.Call p ts ps → f ≡ p.value → g ≡ p.value → us ≡ ts.items → qs ≡ ps.items → vs ≡ ts.items → rs ≡ ps.items
-      → r1 ≡ rules.called_broken world home (expr_view f) w
+  pub found_call : (ts : Vec Expr Global) (ps : Vec Entry Global) → {x f g : Expr} {us vs : List Expr} {qs rs : List Entry} {p : Box Expr Global} {r1 r2 : Found}
+      → x ≡ e.Call p ts ps → f ≡ p.value → g ≡ p.value → us ≡ ts.items → qs ≡ ps.items → vs ≡ ts.items → rs ≡ ps.items → r1 ≡ rules.called_broken world home (expr_view f) w
       → r2 ≡ rules.call_broken world home (callee world.sources (given world.sources home) (expr_view g)) w (expr_view g) (exprs_view us) (pairs_view qs)
-      → r3 ≡ rules.row_broken world home (exprs_view vs) w → r4 ≡ rules.pairs_broken world home (pairs_view rs) w
-      → o1 ≡ option_or r3 r4 → o2 ≡ option_or r2 o1 → o3 ≡ option_or r1 o2 → o3 ≡ rules.broken world home (expr_view x) w
-  found_call x f g us vs qs rs p ts ps r1 r2 r3 r4 o1 o2 o3 is ef eg eu eq ev er h1 h2 h3 h4 k1 k2 k3 =
-      let c = λ (z : Expr) (ys : List Expr) (zs : List Entry). rules.call_broken world home (callee world.sources (given world.sources home) (expr_view z)) w (expr_view z) (exprs_view ys) (pairs_view zs) in
-      let e1 : r1 ≡ rules.called_broken world home (expr_view p.value) w = h1 ∙ ap (λ z. rules.called_broken world home (expr_view z) w) ef in
-      let e2 : r2 ≡ c p.value ts.items ps.items = h2 ∙ ap (λ z. c z us qs) eg ∙ ap (λ z. c p.value z qs) eu ∙ ap (c p.value ts.items) eq in
-      let e3 : r3 ≡ rules.row_broken world home (exprs_view ts.items) w = h3 ∙ ap (λ z. rules.row_broken world home (exprs_view z) w) ev in
-      let e4 : r4 ≡ rules.pairs_broken world home (pairs_view ps.items) w = h4 ∙ ap (λ z. rules.pairs_broken world home (pairs_view z) w) er in
-      k3 ∙ ap (λ z. option_or z o2) e1 ∙ ap (option_or _) (k2 ∙ ap (λ z. option_or z o1) e2 ∙ ap (option_or _) (k1 ∙ ap (λ z. option_or z r4) e3 ∙ ap (option_or _) e4))
-      ∙ ap (λ z. rules.broken world home z w) (sym (ap expr_view is ∙ view_Call p ts ps))
+      → option_or r1 (option_or r2 (option_or (rules.row_broken world home (exprs_view vs) w) (rules.pairs_broken world home (pairs_view rs) w))) ≡ rules.broken world home (expr_view x) w
+  found_call ts ps is ef eg eu eq ev er h1 h2 = rw (h1, h2, ef, eg, eu, eq, ev, er) (ap (λ z. rules.broken world home z w) (sym (ap expr_view is ∙ view_Call _ ts ps)))
 
-  pub found_inner : (x f : Expr) (us : List Expr) (qs : List Entry) (p : Box Expr Global) (ts : Vec Expr Global) (ps : Vec Entry Global) (r1 r2 r3 o1 o2 : Found)
-      → x ≡ e.Call p ts ps → f ≡ p.value → us ≡ ts.items → qs ≡ ps.items
-      → r1 ≡ rules.called_broken world home (expr_view f) w → r2 ≡ rules.row_broken world home (exprs_view us) w → r3 ≡ rules.pairs_broken world home (pairs_view qs) w
-      → o1 ≡ option_or r2 r3 → o2 ≡ option_or r1 o1 → o2 ≡ rules.called_broken world home (expr_view x) w
-  found_inner x f us qs p ts ps r1 r2 r3 o1 o2 is ef eu eq h1 h2 h3 k1 k2 =
-      let e1 : r1 ≡ rules.called_broken world home (expr_view p.value) w = h1 ∙ ap (λ z. rules.called_broken world home (expr_view z) w) ef in
-      let e2 : r2 ≡ rules.row_broken world home (exprs_view ts.items) w = h2 ∙ ap (λ z. rules.row_broken world home (exprs_view z) w) eu in
-      let e3 : r3 ≡ rules.pairs_broken world home (pairs_view ps.items) w = h3 ∙ ap (λ z. rules.pairs_broken world home (pairs_view z) w) eq in
-      k2 ∙ ap (λ z. option_or z o1) e1 ∙ ap (option_or _) (k1 ∙ ap (λ z. option_or z r3) e2 ∙ ap (option_or _) e3)
-      ∙ ap (λ z. rules.called_broken world home z w) (sym (ap expr_view is ∙ view_Call p ts ps))
+  pub found_inner : (ts : Vec Expr Global) (ps : Vec Entry Global) → {x f : Expr} {us : List Expr} {qs : List Entry} {p : Box Expr Global} {r1 : Found}
+      → x ≡ e.Call p ts ps → f ≡ p.value → us ≡ ts.items → qs ≡ ps.items → r1 ≡ rules.called_broken world home (expr_view f) w
+      → option_or r1 (option_or (rules.row_broken world home (exprs_view us) w) (rules.pairs_broken world home (pairs_view qs) w)) ≡ rules.called_broken world home (expr_view x) w
+  found_inner ts ps is ef eu eq h1 = rw h1 (ap (λ z. rules.called_broken world home z w) (shown_call _ _ _ _ _ ts ps is ef eu eq))
 
-  -- a call by a name, and then the input and the arguments
-  applied : (f : Expr) (vs : List Expr) (rs : List Entry) (p : Box Expr Global) (ts : Vec Expr Global) (ps : Vec Entry Global) (r2 r3 r4 o1 o2 : Found)
-      → f ≡ p.value → vs ≡ ts.items → rs ≡ ps.items
-      → r2 ≡ rules.broken world home (expr_view f) w → r3 ≡ rules.row_broken world home (exprs_view vs) w → r4 ≡ rules.pairs_broken world home (pairs_view rs) w
-      → o1 ≡ option_or r3 r4 → o2 ≡ option_or r2 o1
-      → o2 ≡ option_or (rules.broken world home (expr_view p.value) w) (option_or (rules.row_broken world home (exprs_view ts.items) w) (rules.pairs_broken world home (pairs_view ps.items) w))
-  applied f vs rs p ts ps r2 r3 r4 o1 o2 ef ev er h2 h3 h4 k1 k2 =
-      let e2 : r2 ≡ rules.broken world home (expr_view p.value) w = h2 ∙ ap (λ z. rules.broken world home (expr_view z) w) ef in
-      let e3 : r3 ≡ rules.row_broken world home (exprs_view ts.items) w = h3 ∙ ap (λ z. rules.row_broken world home (exprs_view z) w) ev in
-      let e4 : r4 ≡ rules.pairs_broken world home (pairs_view ps.items) w = h4 ∙ ap (λ z. rules.pairs_broken world home (pairs_view z) w) er in
-      k2 ∙ ap (λ z. option_or z o1) e2 ∙ ap (option_or _) (k1 ∙ ap (λ z. option_or z r4) e3 ∙ ap (option_or _) e4)
-
-  pub found_filter : world.filters ≡ the_filters → (x f : Expr) (n : Text) (us vs : List Expr) (qs rs : List Entry) (p : Box Expr Global) (y : String Global) (ts : Vec Expr Global) (ps : Vec Entry Global) (r1 r2 r3 r4 o1 o2 o3 : Found)
+  pub found_filter : (ts : Vec Expr Global) (ps : Vec Entry Global) → world.filters ≡ the_filters → {x f : Expr} {n : Text} {us vs : List Expr} {qs rs : List Entry} {p : Box Expr Global} {y : String Global} {r1 r2 : Found}
       → x ≡ e.Filter p y ts ps → n ≡ string_bytes y → us ≡ ts.items → qs ≡ ps.items → f ≡ p.value → vs ≡ ts.items → rs ≡ ps.items
-      → r1 ≡ rules.filter_broken the_filters (the_filters.named n (exprs_view us) (pairs_view qs)) (exprs_view us) (pairs_view qs)
-      → r2 ≡ rules.broken world home (expr_view f) w → r3 ≡ rules.row_broken world home (exprs_view vs) w → r4 ≡ rules.pairs_broken world home (pairs_view rs) w
-      → o1 ≡ option_or r3 r4 → o2 ≡ option_or r2 o1 → o3 ≡ option_or r1 o2 → o3 ≡ rules.broken world home (expr_view x) w
-  found_filter ours x f n us vs qs rs p y ts ps r1 r2 r3 r4 o1 o2 o3 is en eu eq ef ev er h1 h2 h3 h4 k1 k2 k3 =
-      let c = λ (fs : Filters) (m : Text) (ys : List Expr) (zs : List Entry). rules.filter_broken fs (fs.named m (exprs_view ys) (pairs_view zs)) (exprs_view ys) (pairs_view zs) in
-      let e1 : r1 ≡ c world.filters (string_bytes y) ts.items ps.items =
-      h1 ∙ ap (λ z. c the_filters z us qs) en ∙ ap (λ z. c the_filters (string_bytes y) z qs) eu ∙ ap (c the_filters (string_bytes y) ts.items) eq ∙ ap (λ z. c z (string_bytes y) ts.items ps.items) (sym ours) in
-      k3 ∙ ap (λ z. option_or z o2) e1 ∙ ap (option_or _) (applied f vs rs p ts ps r2 r3 r4 o1 o2 ef ev er h2 h3 h4 k1 k2)
-      ∙ ap (λ z. rules.broken world home z w) (sym (ap expr_view is ∙ view_Filter p y ts ps))
+      → r1 ≡ rules.filter_broken the_filters (the_filters.named n (exprs_view us) (pairs_view qs)) (exprs_view us) (pairs_view qs) → r2 ≡ rules.broken world home (expr_view f) w
+      → option_or r1 (option_or r2 (option_or (rules.row_broken world home (exprs_view vs) w) (rules.pairs_broken world home (pairs_view rs) w))) ≡ rules.broken world home (expr_view x) w
+  found_filter ts ps ours is en eu eq ef ev er h1 h2 = rw (h1, h2, en, eu, eq, ef, ev, er, sym ours) (ap (λ z. rules.broken world home z w) (sym (ap expr_view is ∙ view_Filter _ _ ts ps)))
 
-  pub found_test : (x f : Expr) (n : Text) (us vs : List Expr) (qs rs : List Entry) (p : Box Expr Global) (b : Polarity) (y : String Global) (ts : Vec Expr Global) (ps : Vec Entry Global) (r1 r2 r3 r4 o1 o2 o3 : Found)
+  pub found_test : (ts : Vec Expr Global) (ps : Vec Entry Global) → {x f : Expr} {n : Text} {us vs : List Expr} {qs rs : List Entry} {p : Box Expr Global} {b : Polarity} {y : String Global} {r1 r2 : Found}
       → x ≡ e.Test p b y ts ps → n ≡ string_bytes y → us ≡ ts.items → qs ≡ ps.items → f ≡ p.value → vs ≡ ts.items → rs ≡ ps.items
-      → r1 ≡ rules.test_broken (test_named n) (exprs_view us) (pairs_view qs)
-      → r2 ≡ rules.broken world home (expr_view f) w → r3 ≡ rules.row_broken world home (exprs_view vs) w → r4 ≡ rules.pairs_broken world home (pairs_view rs) w
-      → o1 ≡ option_or r3 r4 → o2 ≡ option_or r2 o1 → o3 ≡ option_or r1 o2 → o3 ≡ rules.broken world home (expr_view x) w
-  found_test x f n us vs qs rs p b y ts ps r1 r2 r3 r4 o1 o2 o3 is en eu eq ef ev er h1 h2 h3 h4 k1 k2 k3 =
-      let c = λ (m : Text) (ys : List Expr) (zs : List Entry). rules.test_broken (test_named m) (exprs_view ys) (pairs_view zs) in
-      let e1 : r1 ≡ c (string_bytes y) ts.items ps.items = h1 ∙ ap (λ z. c z us qs) en ∙ ap (λ z. c (string_bytes y) z qs) eu ∙ ap (c (string_bytes y) ts.items) eq in
-      k3 ∙ ap (λ z. option_or z o2) e1 ∙ ap (option_or _) (applied f vs rs p ts ps r2 r3 r4 o1 o2 ef ev er h2 h3 h4 k1 k2)
-      ∙ ap (λ z. rules.broken world home z w) (sym (ap expr_view is ∙ view_Test p b y ts ps))
-
-  pub filter_called : (x f : Expr) (vs : List Expr) (rs : List Entry) (p : Box Expr Global) (y : String Global) (ts : Vec Expr Global) (ps : Vec Entry Global) (r2 r3 r4 o1 o2 : Found)
-      → x ≡ e.Filter p y ts ps → f ≡ p.value → vs ≡ ts.items → rs ≡ ps.items
-      → r2 ≡ rules.broken world home (expr_view f) w → r3 ≡ rules.row_broken world home (exprs_view vs) w → r4 ≡ rules.pairs_broken world home (pairs_view rs) w
-      → o1 ≡ option_or r3 r4 → o2 ≡ option_or r2 o1 → o2 ≡ rules.called_broken world home (expr_view x) w
-  filter_called x f vs rs p y ts ps r2 r3 r4 o1 o2 is ef ev er h2 h3 h4 k1 k2 =
-      applied f vs rs p ts ps r2 r3 r4 o1 o2 ef ev er h2 h3 h4 k1 k2 ∙ ap (λ z. rules.called_broken world home z w) (sym (ap expr_view is ∙ view_Filter p y ts ps))
-
-  pub test_called : (x f : Expr) (vs : List Expr) (rs : List Entry) (p : Box Expr Global) (b : Polarity) (y : String Global) (ts : Vec Expr Global) (ps : Vec Entry Global) (r2 r3 r4 o1 o2 : Found)
-      → x ≡ e.Test p b y ts ps → f ≡ p.value → vs ≡ ts.items → rs ≡ ps.items
-      → r2 ≡ rules.broken world home (expr_view f) w → r3 ≡ rules.row_broken world home (exprs_view vs) w → r4 ≡ rules.pairs_broken world home (pairs_view rs) w
-      → o1 ≡ option_or r3 r4 → o2 ≡ option_or r2 o1 → o2 ≡ rules.called_broken world home (expr_view x) w
-  test_called x f vs rs p b y ts ps r2 r3 r4 o1 o2 is ef ev er h2 h3 h4 k1 k2 =
-      applied f vs rs p ts ps r2 r3 r4 o1 o2 ef ev er h2 h3 h4 k1 k2 ∙ ap (λ z. rules.called_broken world home z w) (sym (ap expr_view is ∙ view_Test p b y ts ps))
-
-  -- ---- operators and choices, as they are read and where they are called
-
-  pub item_read : (x a b : Expr) (p q : Box Expr Global) → x ≡ e.Item p q → a ≡ p.value → b ≡ q.value
-      → option_or (rules.broken world home (expr_view a) w) (rules.broken world home (expr_view b) w) ≡ rules.broken world home (expr_view x) w
-  item_read x a b p q is f g = rw (f, g) (ap (λ z. rules.broken world home z w) (sym (ap expr_view is ∙ view_Item p q)))
-
-  pub binary_read : (x a b : Expr) (o : BinaryOperator) (p q : Box Expr Global) → x ≡ e.Binary o p q → a ≡ p.value → b ≡ q.value
-      → option_or (rules.broken world home (expr_view a) w) (rules.broken world home (expr_view b) w) ≡ rules.broken world home (expr_view x) w
-  binary_read x a b o p q is f g = rw (f, g) (ap (λ z. rules.broken world home z w) (sym (ap expr_view is ∙ view_Binary o p q)))
-
-  pub when_read : (x a b : Expr) (p q : Box Expr Global) → x ≡ e.When p q → a ≡ p.value → b ≡ q.value
-      → option_or (rules.broken world home (expr_view a) w) (rules.broken world home (expr_view b) w) ≡ rules.broken world home (expr_view x) w
-  when_read x a b p q is f g = rw (f, g) (ap (λ z. rules.broken world home z w) (sym (ap expr_view is ∙ view_When p q)))
-
-  pub choice_read : (x a b d : Expr) (p q r : Box Expr Global) → x ≡ e.Choice p q r → a ≡ p.value → b ≡ q.value → d ≡ r.value
-      → option_or (rules.broken world home (expr_view a) w) (option_or (rules.broken world home (expr_view b) w) (rules.broken world home (expr_view d) w)) ≡ rules.broken world home (expr_view x) w
-  choice_read x a b d p q r is f g h = rw (f, g, h) (ap (λ z. rules.broken world home z w) (sym (ap expr_view is ∙ view_Choice p q r)))
-
-  pub item_called : (x a b : Expr) (p q : Box Expr Global) → x ≡ e.Item p q → a ≡ p.value → b ≡ q.value
-      → option_or (rules.broken world home (expr_view a) w) (rules.broken world home (expr_view b) w) ≡ rules.called_broken world home (expr_view x) w
-  item_called x a b p q is f g = rw (f, g) (ap (λ z. rules.called_broken world home z w) (sym (ap expr_view is ∙ view_Item p q)))
-
-  pub binary_called : (x a b : Expr) (o : BinaryOperator) (p q : Box Expr Global) → x ≡ e.Binary o p q → a ≡ p.value → b ≡ q.value
-      → option_or (rules.broken world home (expr_view a) w) (rules.broken world home (expr_view b) w) ≡ rules.called_broken world home (expr_view x) w
-  binary_called x a b o p q is f g = rw (f, g) (ap (λ z. rules.called_broken world home z w) (sym (ap expr_view is ∙ view_Binary o p q)))
-
-  pub when_called : (x a b : Expr) (p q : Box Expr Global) → x ≡ e.When p q → a ≡ p.value → b ≡ q.value
-      → option_or (rules.broken world home (expr_view a) w) (rules.broken world home (expr_view b) w) ≡ rules.called_broken world home (expr_view x) w
-  when_called x a b p q is f g = rw (f, g) (ap (λ z. rules.called_broken world home z w) (sym (ap expr_view is ∙ view_When p q)))
-
-  pub choice_called : (x a b d : Expr) (p q r : Box Expr Global) → x ≡ e.Choice p q r → a ≡ p.value → b ≡ q.value → d ≡ r.value
-      → option_or (rules.broken world home (expr_view a) w) (option_or (rules.broken world home (expr_view b) w) (rules.broken world home (expr_view d) w)) ≡ rules.called_broken world home (expr_view x) w
-  choice_called x a b d p q r is f g h = rw (f, g, h) (ap (λ z. rules.called_broken world home z w) (sym (ap expr_view is ∙ view_Choice p q r)))
+      → r1 ≡ rules.test_broken (test_named n) (exprs_view us) (pairs_view qs) → r2 ≡ rules.broken world home (expr_view f) w
+      → option_or r1 (option_or r2 (option_or (rules.row_broken world home (exprs_view vs) w) (rules.pairs_broken world home (pairs_view rs) w))) ≡ rules.broken world home (expr_view x) w
+  found_test ts ps is en eu eq ef ev er h1 h2 = rw (h1, h2, en, eu, eq, ef, ev, er) (ap (λ z. rules.broken world home z w) (sym (ap expr_view is ∙ view_Test _ _ _ ts ps)))
 
   -- ---- rows and pairs
 
   pub row_some : (ts : List Expr) (i : ℕ) (t : Expr) (r : Found) (e : ScopeError) → i < length ts → t ≡ get_or ts i t → r ≡ rules.broken world home (expr_view t) w → r ≡ Some e
       → Some e ≡ rules.row_broken world home (exprs_view (drop i ts)) w
-  row_some ts i t r e lt at h k =
-      some_first (rules.broken world home (expr_view t) w) (rules.row_broken world home (exprs_view (drop (i + 1) ts)) w) e (sym h ∙ k)
-      ∙ sym (ap (λ z. rules.row_broken world home z w) (row_left ts i t lt at))
+  row_some ts i t r e lt at h k = search (arith, rules, some_first, row_left)
 
   pub row_none : (ts : List Expr) (i : ℕ) (t : Expr) (r : Found) → i < length ts → t ≡ get_or ts i t → r ≡ rules.broken world home (expr_view t) w → r ≡ None
       → rules.row_broken world home (exprs_view (drop (i + 1) ts)) w ≡ rules.row_broken world home (exprs_view (drop i ts)) w
-  row_none ts i t r lt at h k =
-      none_first (rules.broken world home (expr_view t) w) (rules.row_broken world home (exprs_view (drop (i + 1) ts)) w) (sym h ∙ k)
-      ∙ sym (ap (λ z. rules.row_broken world home z w) (row_left ts i t lt at))
+  row_none ts i t r lt at h k = search (arith, rules, none_first, row_left)
 
   pub pairs_some : (ps : List Entry) (i : ℕ) (p : Entry) (r : Found) (e : ScopeError) → i < length ps → p ≡ get_or ps i p → r ≡ rules.broken world home (expr_view p.1) w → r ≡ Some e
       → Some e ≡ rules.pairs_broken world home (pairs_view (drop i ps)) w
-  pairs_some ps i p r e lt at h k =
-      some_first (rules.broken world home (expr_view p.1) w) (rules.pairs_broken world home (pairs_view (drop (i + 1) ps)) w) e (sym h ∙ k)
-      ∙ sym (ap (λ z. rules.pairs_broken world home z w) (pairs_left ps i p lt at))
+  pairs_some ps i p r e lt at h k = search (arith, rules, some_first, pairs_left)
 
   pub pairs_none : (ps : List Entry) (i : ℕ) (p : Entry) (r : Found) → i < length ps → p ≡ get_or ps i p → r ≡ rules.broken world home (expr_view p.1) w → r ≡ None
       → rules.pairs_broken world home (pairs_view (drop (i + 1) ps)) w ≡ rules.pairs_broken world home (pairs_view (drop i ps)) w
-  pairs_none ps i p r lt at h k =
-      none_first (rules.broken world home (expr_view p.1) w) (rules.pairs_broken world home (pairs_view (drop (i + 1) ps)) w) (sym h ∙ k)
-      ∙ sym (ap (λ z. rules.pairs_broken world home z w) (pairs_left ps i p lt at))
+  pairs_none ps i p r lt at h k = search (arith, rules, none_first, pairs_left)
 
   -- ---- a filter of a filter tag
 
@@ -183,10 +87,7 @@ module _ (world : World) (home : Home) (w : rules.Within) where
 
   pub filtering_rule : world.filters ≡ the_filters → (f : Filtering) (n : Text) (us : List Expr) (qs : List Entry) (r : Found) → n ≡ string_bytes f.name → us ≡ f.arguments.items → qs ≡ f.keywords.items
       → r ≡ rules.filter_broken the_filters (the_filters.named n (exprs_view us) (pairs_view qs)) (exprs_view us) (pairs_view qs) → r ≡ filter_part f
-  filtering_rule ours f n us qs r en eu eq h =
-      let c = λ (fs : Filters) (m : Text) (ys : List Expr) (zs : List Entry). rules.filter_broken fs (fs.named m (exprs_view ys) (pairs_view zs)) (exprs_view ys) (pairs_view zs) in
-      h ∙ ap (λ z. c the_filters z us qs) en ∙ ap (λ z. c the_filters (string_bytes f.name) z qs) eu ∙ ap (c the_filters (string_bytes f.name) f.arguments.items) eq
-      ∙ ap (λ z. c z (string_bytes f.name) f.arguments.items f.keywords.items) (sym ours)
+  filtering_rule ours f n us qs r en eu eq h = search (arith, rules, string_bytes)
 
   pub filtering_first : (f : Filtering) (r : Found) (e : ScopeError) → r ≡ filter_part f → r ≡ Some e → Some e ≡ rules.filtering_broken world home (filtering_view f ∷ []) w
   filtering_first f r e h k = some_first (filter_part f) (option_or (row_part f) (option_or (pairs_part f) None)) e (sym h ∙ k)
@@ -201,10 +102,7 @@ module _ (world : World) (home : Home) (w : rules.Within) where
 
   pub filterings_left : (fs : List Filtering) (i : ℕ) (f : Filtering) → i < length fs → f ≡ get_or fs i f
       → rules.filtering_broken world home (filterings_view (drop i fs)) w ≡ option_or (rules.filtering_broken world home (filtering_view f ∷ []) w) (rules.filtering_broken world home (filterings_view (drop (i + 1) fs)) w)
-  filterings_left fs i f lt is =
-      ap (λ (z : List Filtering). rules.filtering_broken world home (filterings_view z) w) (drop_more fs i f lt)
-      ∙ ap (λ (z : Filtering). rules.filtering_broken world home (filtering_view z ∷ filterings_view (drop (i + 1) fs)) w) (sym is)
-      ∙ filterings_turn world home (filtering_view f) (filterings_view (drop (i + 1) fs)) w
+  filterings_left fs i f lt is = search (arith, rules, drop_more, filterings_turn)
 
   -- ---- statements
 
@@ -217,17 +115,12 @@ module _ (world : World) (home : Home) (w : rules.Within) where
   -- a branch breaks a rule
   pub branch_found : (ls : List Branch) (i : ℕ) (b : Branch) (e : ScopeError) → i < length ls → b ≡ get_or ls i b
       → in_branches (drop i ls) ≡ in_branches ls → option_or (rules.broken world home (expr_view b.1) w) (in_body b.2.items) ≡ Some e → Some e ≡ in_branches ls
-  branch_found ls i b e lt at before h =
-      let here : in_branches (drop i ls) ≡ Some e =
-      ap (λ z. rules.branches_broken world home z w) (branches_left ls i b lt at) ∙ ap (λ z. option_or z (in_branches (drop (i + 1) ls))) h in
-      sym here ∙ before
+  branch_found ls i b e lt at before h = search (arith, rules, branches_left)
 
   -- a choice and a loop, by what their parts break
   pub choice_is : (s : Stmt) (bs : Vec Branch Global) (other : Vec Stmt Global) (ls : List Branch) (o : List Stmt) → s ≡ statement.If bs other → ls ≡ bs.items → o ≡ other.items
       → option_or (in_branches ls) (in_body o) ≡ rules.stmt_broken world home (stmt_view s) w
-  choice_is s bs other ls o is el eo =
-      ap (λ (z : List Branch). option_or (in_branches z) (in_body o)) el ∙ ap (λ (z : List Stmt). option_or (in_branches bs.items) (in_body z)) eo
-      ∙ sym (ap (λ z. rules.stmt_broken world home z w) (ap stmt_view is ∙ view_If bs other))
+  choice_is s bs other ls o is el eo = ap (λ z. rules.stmt_broken world home z w) (shown_if s bs other ls o is el eo)
 
   abbrev pub head_part : Expr → List (String Global) → Option Expr → Found
   head_part e ys c = option_or (rules.broken world home (expr_view e) w) (option_or (rules.all_used world home (names_view ys)) (rules.condition_broken world home (option_map expr_view c) w))
@@ -237,10 +130,4 @@ module _ (world : World) (home : Home) (w : rules.Within) where
 
   pub loop_is : (s : Stmt) (line : ℕ) (xs : Vec (String Global) Global) (e : Expr) (c : Option Expr) (body other : Vec Stmt Global) (ys : List (String Global)) (b o : List Stmt)
       → s ≡ statement.For line xs e c body other → ys ≡ xs.items → b ≡ body.items → o ≡ other.items → option_or (head_part e ys c) (turns_part b o) ≡ rules.stmt_broken world home (stmt_view s) w
-  loop_is s line xs e c body other ys b o is ex eb eo =
-      let names = rules.all_used world home (names_view xs.items) in
-      let when = rules.condition_broken world home (option_map expr_view c) w in
-      ap (λ (z : List (String Global)). option_or (head_part e z c) (turns_part b o)) ex
-      ∙ ap (λ (z : List Stmt). option_or (head_part e xs.items c) (turns_part z o)) eb ∙ ap (λ (z : List Stmt). option_or (head_part e xs.items c) (turns_part body.items z)) eo
-      ∙ or_three (rules.broken world home (expr_view e) w) names when (turns_part body.items other.items)
-      ∙ sym (ap (λ z. rules.stmt_broken world home z w) (ap stmt_view is ∙ view_For line xs e c body other))
+  loop_is s line xs e c body other ys b o is ex eb eo = search (arith, rules, or_three, shown_for)

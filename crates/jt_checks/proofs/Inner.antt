@@ -1,5 +1,5 @@
 -- Names inside the arguments of a filter, one argument after the other.
-use Rattle.std.proofs.Common.{◌≡◌, ℕ, suc, ◌+◌, ◌<◌, ◌-◌, ◌==◌, Bool, true, false, ◌&&◌, List, ◌∷◌, drop, length, length-drop, get_or, refl, sym, ap, ◌∙◌, arith, Option, Some, None, string_bytes}
+use Rattle.std.proofs.Common.{◌≡◌, ℕ, suc, ◌+◌, ◌<◌, ◌-◌, ◌==◌, Bool, true, false, ◌&&◌, List, ◌∷◌, drop, length, length-drop, get_or, sym, ap, ◌∙◌, arith, Option, None, string_bytes, rules}
 use Rattle.std.specs.Prelude.{option_and_then}
 use Rattle.std.proofs.lemmas.Bool.Decides.{nat_tests}
 use Rattle.std.proofs.lemmas.List.{drop_more}
@@ -8,7 +8,6 @@ use Rattle.jt_trees.specs.ExpressionView.{expr_view, exprs_view, pairs_view}
 use Rattle.jt_trees.specs.declared.expression.Expr.{Expr}
 use Rattle.jt_ids.specs.FilterTable.{named_at, place_of, with_only}
 use Rattle.jt_ids.specs.declared.filter_id.FilterId.{FilterId}
-use Rattle.jt_ids.specs.declared.filter_id.FilterId.TheVariants as filter
 use Rattle.jt_ids.specs.declared.filter_id.Naming.{Naming}
 use Rattle.jt_evaluation.specs.Inside.{argument_well, row_well, pairs_well}
 use Rattle.jt_trees.proofs.Left.{Entry}
@@ -16,9 +15,7 @@ use Rattle.jt_checks.proofs.Counted.{counted}
 
 -- without a name of an only argument, a name means the filter that has it
 pub alone : (o : Option FilterId) → with_only o None ≡ o
-alone None = refl
-alone (Some filter.Map) = refl
-alone (Some f) = refl
+alone a0 = search (arith, rules)
 
 pub turned : (m n : ℕ) → (m == n) ≡ (n == m)
 turned m n = grind (arith, nat_tests)
@@ -33,17 +30,12 @@ behind ts i lt = let e = length-drop (i + 1) ts in omega (arith, lt, e)
 module _ (f : FilterId) (ts : List Expr) (i : ℕ) (t : Expr) (lt : i < length ts) (is : t ≡ get_or ts i t) where
   pub turn : row_well f (i + 1) (exprs_view (drop i ts))
       ≡ (argument_well (named_at f (i + 1)) (literal_text (expr_view t)) (length ts - i) && row_well f (suc (i + 1)) (exprs_view (drop (i + 1) ts)))
-  turn =
-      ap (λ (z : List Expr). row_well f (i + 1) (exprs_view z)) (left ts i t lt is)
-      ∙ ap (λ n. argument_well (named_at f (i + 1)) (literal_text (expr_view t)) n && row_well f (suc (i + 1)) (exprs_view (drop (i + 1) ts))) (ap suc (counted (drop (i + 1) ts)) ∙ behind ts i lt)
+  turn = search (arith, rules, left, counted, behind)
 
   -- the argument at a place names something wrongly, or it doesn't, and those behind it are left
   module _ (n : Option Naming) (b : Bool) (meant : n ≡ named_at f (i + 1)) (found : b ≡ argument_well n (literal_text (expr_view t)) (length ts - i)) (before : row_well f 1 (exprs_view ts) ≡ row_well f (i + 1) (exprs_view (drop i ts))) where
     found_there : (v : Bool) → b ≡ v → row_well f 1 (exprs_view ts) ≡ (v && row_well f (suc (i + 1)) (exprs_view (drop (i + 1) ts)))
-    found_there v e =
-        let here : argument_well (named_at f (i + 1)) (literal_text (expr_view t)) (length ts - i) ≡ v =
-        sym (ap (λ m. argument_well m (literal_text (expr_view t)) (length ts - i)) meant) ∙ sym found ∙ e in
-        before ∙ turn ∙ ap (λ z. z && row_well f (suc (i + 1)) (exprs_view (drop (i + 1) ts))) here
+    found_there v e = search (arith, rules, turn)
 
     pub row_wrong : b ≡ false → false ≡ row_well f 1 (exprs_view ts)
     row_wrong e = sym (found_there false e)
@@ -55,6 +47,4 @@ module _ (f : FilterId) (ts : List Expr) (i : ℕ) (t : Expr) (lt : i < length t
 
 pub pair_turn : (f : FilterId) (ps : List Entry) (i : ℕ) (p : Entry) → i < length ps → p ≡ get_or ps i p
     → pairs_well f (pairs_view (drop i ps)) ≡ (argument_well (option_and_then (named_at f) (place_of f (string_bytes p.0))) (literal_text (expr_view p.1)) 1 && pairs_well f (pairs_view (drop (i + 1) ps)))
-pair_turn f ps i p lt is =
-    ap (λ (z : List Entry). pairs_well f (pairs_view z)) (drop_more ps i p lt)
-    ∙ ap (λ (q : Entry). argument_well (option_and_then (named_at f) (place_of f (string_bytes q.0))) (literal_text (expr_view q.1)) 1 && pairs_well f (pairs_view (drop (i + 1) ps))) (sym is)
+pair_turn f ps i p lt is = search (arith, rules, drop_more, string_bytes)

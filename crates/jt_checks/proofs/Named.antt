@@ -1,5 +1,5 @@
 -- Macros, libraries and blocks of a chain, by their names.
-use Rattle.std.proofs.Common.{◌≡◌, ℕ, suc, ◌+◌, ◌<◌, Bool, true, false, cond, not, ◌||◌, if◌then◌else◌, List, [], ◌∷◌, length, map, drop, get_or, nat_lt, refl, sym, ap, ◌∙◌, arith, Option, Some, None}
+use Rattle.std.proofs.Common.{◌≡◌, ℕ, suc, ◌+◌, ◌<◌, Bool, true, false, cond, not, ◌||◌, if◌then◌else◌, List, [], ◌∷◌, length, map, drop, get_or, nat_lt, refl, sym, ap, ◌∙◌, arith, Option, Some, None, rules}
 use Rattle.std.specs.Prelude.{option_map, filter}
 use Rattle.std.specs.List.{list_any}
 use Rattle.std.specs.Option.{option_or, is_some}
@@ -29,11 +29,7 @@ abbrev pub if_named : Text → Known → Text → Option Known → Option Known
 if_named name k x rest = if bytes_eq name x then Some k else rest
 
 pub first_given : (ts : List Template) (h : chains.Home) (g : Named) (gs : List (Text × chains.Given)) (x : Text) → known_of (given_to x (named_view ts h g ∷ gs)) ≡ if_named g.name.now (known_as (given_view ts h g.given)) x (known_of (given_to x gs))
-first_given ts h g gs x = by (bytes_eq g.name.now x)
-  where
-    by : (b : Bool) → known_of (if b then Some (given_view ts h g.given) else given_to x gs) ≡ (if b then Some (known_as (given_view ts h g.given)) else known_of (given_to x gs))
-    by true = refl
-    by false = refl
+first_given ts h g gs x = search (arith, rules)
 
 same_name : (x y : Text) → bytes_eq x y ≡ true → x ≡ y
 same_name x y = (bytes_eq-Decides x y).0
@@ -45,17 +41,7 @@ absent f None e = refl
 -- a name that is there already stays what it is
 pub name_kept : (m : ByName) (name x : Text) (v : Known) (rest : Option Known) → is_some (sorted.get_by (λ k. slice_cmp nat_cmp name k.now) m) ≡ true
     → option_or (known_at m x) rest ≡ option_or (known_at m x) (if_named name v x rest)
-name_kept m name x v rest there = by (bytes_eq name x) refl
-  where
-    some_first : {A B : Type 0} (f : A → B) (o : Option A) → is_some o ≡ true → (r s : Option B) → option_or (option_map f o) r ≡ option_or (option_map f o) s
-    some_first f (Some a) e r s = refl
-    some_first f None e r s = absurd (cc)
-
-    by : (b : Bool) → bytes_eq name x ≡ b → option_or (known_at m x) rest ≡ option_or (known_at m x) (if b then Some v else rest)
-    by false e = refl
-    by true e =
-        some_first known_view (sorted.get_by (λ k. slice_cmp nat_cmp x k.now) m)
-        (ap (λ z. is_some (sorted.get_by (λ k. slice_cmp nat_cmp z k.now) m)) (sym (same_name name x e)) ∙ there) rest (Some v)
+name_kept m name x v rest there = search (arith, rules, same_name)
 
 -- and one that isn't there is put there
 pub name_put : (m n : ByName) (k : Bor Text) (v : scope.Known) (x : Text) (rest : Option Known) → is_some (sorted.get_by (λ q. slice_cmp nat_cmp k.now q.now) m) ≡ false → sorted.Updates name_cmp m n k (Some v)
@@ -71,10 +57,7 @@ name_put m n k v x rest new u = ap (λ o. option_or (option_map known_view o) re
 
 pub names_left : (ts : List Template) (h : chains.Home) (gs : List Named) (i : ℕ) (g : Named) (x : Text) → i < length gs → g ≡ get_or gs i g
     → known_of (given_to x (map (named_view ts h) (drop i gs))) ≡ if_named g.name.now (known_as (given_view ts h g.given)) x (known_of (given_to x (map (named_view ts h) (drop (i + 1) gs))))
-names_left ts h gs i g x lt is =
-    ap (λ (l : List Named). known_of (given_to x (map (named_view ts h) l))) (drop_more gs i g lt)
-    ∙ ap (λ (z : Named). known_of (given_to x (named_view ts h z ∷ map (named_view ts h) (drop (i + 1) gs)))) (sym is)
-    ∙ first_given ts h g (map (named_view ts h) (drop (i + 1) gs)) x
+names_left ts h gs i g x lt is = search (arith, rules, drop_more, first_given)
 
 -- ---- blocks
 
@@ -82,9 +65,7 @@ abbrev pub any_named : Text → List BlockBody → Bool
 any_named x bs = list_any (λ b. bytes_eq b.name x) bs
 
 moved : (a b c : Bool) → ((a || b) || c) ≡ (b || (a || c))
-moved true true c = refl
-moved true false c = refl
-moved false b c = refl
+moved a0 a1 c = search (arith, rules)
 
 pub block_put : (ts : List Template) (bs : List Block) (i : ℕ) (b : Block) (m n : Names) (x : Text) → i < length bs → b ≡ get_or bs i b → set.Updates name_cmp m n b.name true
     → (is_among n x || any_named x (map (block_view ts) (drop (i + 1) bs))) ≡ (is_among m x || any_named x (map (block_view ts) (drop i bs)))
@@ -100,8 +81,4 @@ some_left n = grind (arith, nat_tests)
 -- some are left exactly where one passes the test
 pub any_filtered : {A : Type 0} (f : A → Bool) (xs : List A) → list_any f xs ≡ not (nat_lt (length (filter f xs)) 1)
 any_filtered f [] = refl
-any_filtered f (x ∷ xs) = by (f x) (any_filtered f xs)
-  where
-    by : (b : Bool) → list_any f xs ≡ not (nat_lt (length (filter f xs)) 1) → (b || list_any f xs) ≡ not (nat_lt (length (cond b (x ∷ filter f xs) (filter f xs))) 1)
-    by true h = some_left (length (filter f xs))
-    by false h = h
+any_filtered f (x ∷ xs) = search (arith, rules, any_filtered f xs, nat_lt, some_left)

@@ -1,5 +1,5 @@
 -- Sets and lists of names.
-use Rattle.std.proofs.Common.{◌≡◌, ℕ, add-one, drop-cons, ◌+◌, ◌<◌, Bool, true, false, cond, not, ◌||◌, List, [], ◌∷◌, ◌++◌, length, drop, get_or, refl, sym, ap, ◌∙◌}
+use Rattle.std.proofs.Common.{◌≡◌, ℕ, add-one, drop-cons, ◌+◌, ◌<◌, Bool, true, false, cond, not, ◌||◌, List, [], ◌∷◌, ◌++◌, length, drop, get_or, refl, sym, ap, ◌∙◌, arith, rules}
 use Rattle.std.specs.List.{list_any}
 use Rattle.std.specs.Ordering.{nat_cmp, is_eq}
 use Rattle.std.specs.Cmp.Lexicographic.{slice_cmp}
@@ -51,20 +51,11 @@ pub among_added : (m n : Names) (k : Bor Text) → set.Updates name_cmp m n k tr
 among_added m n k u y = u.0 (record { ref_ptr = (0, 0); now = y }) ∙ either (is_eq (slice_cmp nat_cmp k.now y)) (is_among m y) ∙ ap (λ b. b || is_among m y) (is_eq-slice_cmp k.now y)
 
 shuffled : (a b c d e : Bool) → ((a || b) || (c || (d || e))) ≡ ((a || d) || (b || (c || e)))
-shuffled true b c d e = refl
-shuffled false true c true e = refl
-shuffled false true c false e = refl
-shuffled false false true true e = refl
-shuffled false false true false e = refl
-shuffled false false false true e = refl
-shuffled false false false false e = refl
+shuffled a0 a1 a2 a3 e = search (arith, rules)
 
 pub again_added : (m n : Names) (x : Text) → ((y : Text) → is_among n y ≡ (bytes_eq x y || is_among m y)) → (ys : List Text) → again n ys ≡ (among x ys || again m ys)
 again_added m n x h [] = refl
-again_added m n x h (y ∷ ys) =
-    ap (λ b. b || (among y ys || again n ys)) (h y ∙ ap (λ b. b || is_among m y) (symmetric x y))
-    ∙ ap (λ b. (bytes_eq y x || is_among m y) || (among y ys || b)) (again_added m n x h ys)
-    ∙ shuffled (bytes_eq y x) (is_among m y) (among y ys) (among x ys) (again m ys)
+again_added m n x h (y ∷ ys) = search (arith, rules, symmetric, again_added m n x h ys, shuffled)
 
 pub again_none : (s : Names) → s.keys ≡ [] → (xs : List Text) → again s xs ≡ repeated xs
 again_none s e [] = refl
@@ -83,9 +74,7 @@ pub again_here : (m : Names) (ks : List (Bor Text)) (i : ℕ) (d : Bor Text) →
 again_here m ks i d lt old = ap (again m) (texts_left ks i d lt) ∙ ap (λ b. b || (among (get_or ks i d).now (texts (drop (i + 1) ks)) || again m (texts (drop (i + 1) ks)))) old
 
 moved : (a b c : Bool) → ((a || b) || c) ≡ (b || (a || c))
-moved true true c = refl
-moved true false c = refl
-moved false b c = refl
+moved a0 a1 c = search (arith, rules)
 
 pub among_step : (m n : Names) (ks : List (Bor Text)) (i : ℕ) (d : Bor Text) → i < length ks → set.Updates name_cmp m n (get_or ks i d) true
     → (x : Text) → (is_among n x || among x (texts (drop (i + 1) ks))) ≡ (is_among m x || among x (texts (drop i ks)))
@@ -94,14 +83,10 @@ among_step m n ks i d lt u x =
     ap (λ b. b || rest) (among_added m n (get_or ks i d) u x) ∙ moved (bytes_eq (get_or ks i d).now x) (is_among m x) rest ∙ ap (λ l. is_among m x || among x l) (sym (texts_left ks i d lt))
 
 pub from_not : (b c : Bool) → b ≡ not c → b ≡ true → c ≡ false
-from_not true false e f = refl
-from_not true true e f = absurd (cc)
-from_not false c e f = absurd (cc)
+from_not a0 a1 e f = search (arith, rules)
 
 pub from_not_false : (b c : Bool) → b ≡ not c → b ≡ false → c ≡ true
-from_not_false false true e f = refl
-from_not_false false false e f = absurd (cc)
-from_not_false true c e f = absurd (cc)
+from_not_false a0 a1 e f = search (arith, rules)
 
 -- ---- names that are all known
 

@@ -1,5 +1,5 @@
 -- The first rule that is broken, of what is left of lists, and of several one behind the other.
-use Rattle.std.proofs.Common.{◌≡◌, ℕ, suc, ◌+◌, ◌<◌, ◌≤◌, Bool, true, false, List, [], ◌∷◌, length, map, drop, get_or, nat_lt, nat_le, if◌then◌else◌, string_bytes, refl, sym, ap, ◌∙◌, arith, Option, Some, None, Result, Ok, Err, IfOk}
+use Rattle.std.proofs.Common.{◌≡◌, ℕ, suc, ◌+◌, ◌<◌, ◌≤◌, Bool, true, false, List, [], ◌∷◌, length, map, drop, get_or, nat_lt, nat_le, if◌then◌else◌, string_bytes, refl, sym, ap, ◌∙◌, arith, Option, Some, None, Result, Ok, Err, IfOk, rules}
 use Rattle.std.specs.Option.{option_or}
 use Rattle.std.specs.Prelude.{IsOkAnd}
 use Rattle.std.proofs.lemmas.List.{drop_more}
@@ -46,33 +46,21 @@ or_none (Some e) = refl
 -- the first of two results, and of what is behind them
 pub either_is : {E : Type 0} (first second both : Result Found E) (a b : Found) → IfOk first (λ o. o ≡ a) → IfOk second (λ o. o ≡ b)
     → IfOk both (λ o. IsOkAnd first (λ x. IsOkAnd second (λ y. o ≡ option_or x y))) → IfOk both (λ o. o ≡ option_or a b)
-either_is first second (Err e) a b p q k = cc
-either_is (Err e) second (Ok o) a b p q k = absurd k
-either_is (Ok x) (Err e) (Ok o) a b p q k = absurd k
-either_is (Ok x) (Ok y) (Ok o) a b p q k = k ∙ (ap (λ z. option_or z y) p ∙ ap (option_or a) q)
+either_is a0 a1 a2 a b p q k = search (arith, rules)
 
 pub part : {E : Type 0} (first last : Result Found E) (P : Found → Type 0) (c v : Found) → IfOk first P
     → IfOk last (λ o. IsOkAnd first (λ z. o ≡ option_or z c)) → ((x : Found) → P x → option_or x c ≡ v) → IfOk last (λ o. o ≡ v)
-part first (Err e) P c v p l g = cc
-part (Err e) (Ok o) P c v p l g = absurd l
-part (Ok x) (Ok o) P c v p l g = l ∙ g x p
+part a0 a1 a2 c v p l g = search (arith, rules)
 
 pub parts : {E : Type 0} (first second both last : Result Found E) (P Q : Found → Type 0) (c v : Found) → IfOk first P → IfOk second Q
     → IfOk both (λ o. IsOkAnd first (λ x. IsOkAnd second (λ y. o ≡ option_or x y))) → IfOk last (λ o. IsOkAnd both (λ z. o ≡ option_or z c))
     → ((x y : Found) → P x → Q y → option_or x (option_or y c) ≡ v) → IfOk last (λ o. o ≡ v)
-parts first second both (Err e) P Q c v p q k l g = cc
-parts first second (Err e) (Ok o) P Q c v p q k l g = absurd l
-parts (Err e) second (Ok m) (Ok o) P Q c v p q k l g = absurd k
-parts (Ok x) (Err e) (Ok m) (Ok o) P Q c v p q k l g = absurd k
-parts (Ok x) (Ok y) (Ok m) (Ok o) P Q c v p q k l g = l ∙ (ap (λ z. option_or z c) k ∙ (or_grouped x y c ∙ g x y p q))
+parts a0 a1 a2 a3 a4 a5 c v p q k l g = search (arith, rules, or_grouped)
 
 -- the first of two results, behind another
 pub behind : {E : Type 0} (before rest last : Result Found E) (b : Found) → IfOk rest (λ o. o ≡ b)
     → IfOk last (λ o. IsOkAnd before (λ x. IsOkAnd rest (λ y. o ≡ option_or x y))) → IfOk last (λ o. IsOkAnd before (λ x. o ≡ option_or x b))
-behind before rest (Err e) b q k = cc
-behind (Err e) rest (Ok o) b q k = absurd k
-behind (Ok x) (Err e) (Ok o) b q k = absurd k
-behind (Ok x) (Ok y) (Ok o) b q k = k ∙ ap (option_or x) q
+behind a0 a1 a2 b q k = search (arith, rules)
 
 -- the first of two is broken, or it isn't
 pub some_first : (a rest : Found) (e : ScopeError) → a ≡ Some e → Some e ≡ option_or a rest
@@ -88,14 +76,7 @@ equal_found (Err x) u v e h = tt
 -- a filter of a filter tag, and those behind it
 pub filterings_turn : (world : World) (home : Home) (f : Filtering) (fs : List Filtering) (w : rules.Within)
     → rules.filtering_broken world home (f ∷ fs) w ≡ option_or (rules.filtering_broken world home (f ∷ []) w) (rules.filtering_broken world home fs w)
-filterings_turn world home f fs w =
-    four (rules.filter_broken world.filters (world.filters.named f.name f.arguments f.keywords) f.arguments f.keywords) (rules.row_broken world home f.arguments w) (rules.pairs_broken world home f.keywords w) (rules.filtering_broken world home fs w)
-  where
-    four : (a b c d : Found) → option_or a (option_or b (option_or c d)) ≡ option_or (option_or a (option_or b (option_or c None))) d
-    four None None None d = refl
-    four None None (Some e) d = refl
-    four None (Some e) c d = refl
-    four (Some e) b c d = refl
+filterings_turn world home f fs w = search (arith, rules)
 
 abbrev pub page_broken : World → Home → Body → Found
 page_broken world home b = option_or (rules.body_broken world home b (record { in_loop = false; in_block = false })) (rules.refused (nat_lt 4096 (body_bound b)) error.TooManySlots)
@@ -105,9 +86,7 @@ shown_layers ts = map (layer_view ts)
 
 pub layers_left : (world : World) (home : Home) (ts : List Template) (ls : List Layer) (i : ℕ) (l : Layer) → i < length ls → l ≡ get_or ls i l
     → rules.templates_broken world home (shown_layers ts (drop i ls)) ≡ option_or (page_broken world home (body_view l.body.now)) (rules.templates_broken world home (shown_layers ts (drop (i + 1) ls)))
-layers_left world home ts ls i l lt is =
-    ap (λ z. rules.templates_broken world home (shown_layers ts z)) (drop_more ls i l lt)
-    ∙ ap (λ (z : Layer). option_or (page_broken world home (body_view z.body.now)) (rules.templates_broken world home (shown_layers ts (drop (i + 1) ls)))) (sym is)
+layers_left world home ts ls i l lt is = search (arith, rules, drop_more)
 
 -- ---- chains
 
@@ -152,9 +131,7 @@ homes_length (h ∷ hs) = ap suc (homes_length hs)
 
 -- more names than are left
 pub too_many_names : (left all rest count behind : ℕ) → left + all ≡ 65535 + rest → rest ≡ count + behind → (count ≤ left → ⊥) → false ≡ nat_le all 65535
-too_many_names left all rest count behind h e over =
-    let more : 65535 < all = omega arith in
-    grind (arith, nat_tests)
+too_many_names left all rest count behind h e over = search (arith, rules, nat_tests)
 
 pub few_enough : (b : Bool) (n m : ℕ) → b ≡ nat_le n m → b ≡ true → n ≤ m
 few_enough b n m e h = grind (arith, nat_tests)
@@ -173,9 +150,4 @@ library_free world h e = ap (λ b. names_of world (if b then a_library (string_b
 
 pub chain_counted : (world : World) (h : written.Home) → h.is_library ≡ false
     → names_of world (home_view h) ≡ length (ascending (own_names world.sources (home_view h))) + libraries_counted world (ascending (libraries world.sources (home_view h)))
-chain_counted world h e = by h.is_library e
-  where
-    by : (b : Bool) → b ≡ false → names_of world (if b then a_library (string_bytes h.name) else a_chain (string_bytes h.name))
-        ≡ length (ascending (own_names world.sources (if b then a_library (string_bytes h.name) else a_chain (string_bytes h.name)))) + libraries_counted world (ascending (libraries world.sources (if b then a_library (string_bytes h.name) else a_chain (string_bytes h.name))))
-    by true e = absurd (cc)
-    by false e = refl
+chain_counted world h e = search (arith, rules, string_bytes)

@@ -11,4 +11,7 @@ use Rattle.jt_rules.specs.Arguments.{reached, is_filled}
 -- a filter with these parameters takes `n` arguments by place, and others by name
 abbrev pub filter_takes : FilterId → List Parameter → ℕ → List Text → Bool
 filter_takes f ps n ks =
-    accepts (Some f) (suc (max n (reached ps ks))) && (is_filled ps n ks && (not (repeated ks) && not (list_any (λ k. not (among k (map (λ p. p.name) (drop n ps)))) ks)))
+    accepts (Some f) (suc (max n (reached ps ks)))
+    && (is_filled ps n ks
+    && (not (repeated ks)
+    && not (list_any (λ k. not (among k (map (λ p. p.name) (drop n ps)))) ks)))

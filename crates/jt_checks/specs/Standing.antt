@@ -1,4 +1,5 @@
--- What only private clauses cite: what is known of a chain by name: the parameters of macros, libraries, and the names of its blocks.
+-- What only private clauses cite: what is known of a chain by name: the parameters of macros,
+-- libraries, and the names of its blocks.
 use Rattle.std.specs.Prelude.{◌≡◌, ◌⊎◌, ℕ, ◌+◌, ℤ, Bool, not, nat_lt, List, length, Option, Some, None, option_map}
 use mathlib.Core.Path.{refl}
 use mathlib.Core.Logic.{inl, inr}
@@ -62,14 +63,18 @@ home_in c i = home_at (chain_view c).order i
 abbrev pub is_block : World → Home → Text → Bool
 is_block world home x = not (nat_lt (length (bodies world.sources world.escaping home x)) 1)
 
--- how many names a chain reads or binds, with those of the libraries that it imports; a library's count there alone
+-- how many names a chain reads or binds, with those of the libraries that it imports; a library's
+-- count there alone
 abbrev pub names_of : World → Home → ℕ
-names_of world (a_chain n) = length (ascending (own_names world.sources (a_chain n))) + libraries_counted world (ascending (libraries world.sources (a_chain n)))
+names_of world (a_chain n) =
+    length (ascending (own_names world.sources (a_chain n)))
+    + libraries_counted world (ascending (libraries world.sources (a_chain n)))
 names_of world (a_library n) = 0
 
 -- a map has each name of a chain that stands for a macro or a library
 abbrev pub KnowsGiven : Chain → ℕ → ByName → Type 0
-KnowsGiven c i m = (x : Text) → known_at m x ≡ known_of (given_to x (given (world_in c).sources (home_in c i)))
+KnowsGiven c i m =
+    (x : Text) → known_at m x ≡ known_of (given_to x (given (world_in c).sources (home_in c i)))
 
 -- a set has the name of each block of a chain
 abbrev pub KnowsBlocks : Chain → ℕ → Names → Type 0
@@ -99,13 +104,22 @@ coded_text : Coded Text
 coded_text = coded_list coded_ℕ
 
 coded_literal : Coded Literal
-coded_literal = code_by (ℤ ⊎ (Text ⊎ Option Bool)) (coded⊎ coded_ℤ (coded⊎ coded_text (coded_option coded_bool))) literal_code literal_of literal_back
+coded_literal =
+    code_by (ℤ ⊎ (Text ⊎ Option Bool))
+    (coded⊎ coded_ℤ (coded⊎ coded_text (coded_option coded_bool))) literal_code literal_of
+    literal_back
 
 coded_parameter : Coded trees.Parameter
-coded_parameter = code_by (Text × Option Literal) (coded× coded_text (coded_option coded_literal)) (λ p. (p.name, p.default)) (λ c. record { name = c.0; default = c.1 }) (λ p. refl)
+coded_parameter =
+    code_by (Text × Option Literal) (coded× coded_text (coded_option coded_literal))
+    (λ p. (p.name, p.default)) (λ c. record { name = c.0; default = c.1 }) (λ p. refl)
 
 pub KnowsGiven-prop : (c : Chain) (i : ℕ) (m : ByName) → IsProp (KnowsGiven c i m)
-KnowsGiven-prop c i m = Π_prop (λ x. Coded-set (coded_option (coded⊎ (coded_list coded_parameter) coded_text)) (known_at m x) (known_of (given_to x (given (world_in c).sources (home_in c i)))))
+KnowsGiven-prop c i m =
+    Π_prop (λ x.
+    Coded-set (coded_option (coded⊎ (coded_list coded_parameter) coded_text)) (known_at m x)
+    (known_of (given_to x (given (world_in c).sources (home_in c i)))))
 
 pub KnowsBlocks-prop : (c : Chain) (i : ℕ) (s : Names) → IsProp (KnowsBlocks c i s)
-KnowsBlocks-prop c i s = Π_prop (λ x. Coded-set coded_bool (is_among s x) (is_block (world_in c) (home_in c i) x))
+KnowsBlocks-prop c i s =
+    Π_prop (λ x. Coded-set coded_bool (is_among s x) (is_block (world_in c) (home_in c i) x))

@@ -11,7 +11,7 @@ ghost use Rattle.jt_chains.specs.View.{chain_view};
 ghost use Rattle.jt_names.specs.Names.{texts};
 ghost use Rattle.jt_rules.specs.Walk as rules;
 ghost use Rattle.jt_rules.specs.Rules.{KeepsRules, Breaks, libraries_counted, max_bindings, max_names};
-ghost use Rattle.jt_checks.specs.ScopeView.{its_world, its_home};
+ghost use Rattle.jt_checks.specs.ScopeView.{its_home, its_sources, in_scope};
 ghost use Rattle.jt_checks.specs.Standing.{world_in, home_in, names_of};
 ghost use Rattle.jt_rules.specs.World.{world_of};
 ghost use Rattle.jt_rules.specs.declared.error.ScopeError.TheVariants as error;
@@ -70,9 +70,8 @@ fn chains_broken(alloc: Global, chain: &Chain) -> Result<Option<ScopeError>, All
 
 /// The first rule that the templates of a chain break.
 fn templates_broken(scope: &Scope<'_>) -> Result<Option<ScopeError>, AllocError>
-    ensures { IfOk result (λ o. o
-        ≡ rules.templates_broken (its_world scope.now) (its_home scope.now)
-        (templates (its_world scope.now).sources (its_home scope.now))) }
+    ensures { IfOk result (λ o. o ≡ in_scope rules.templates_broken scope.now (templates
+        (its_sources scope.now) (its_home scope.now))) }
 {
     let layers = scope.chain.layers(scope.alloc, scope.home)?;
     for layer in layers.iter() {
@@ -85,11 +84,9 @@ fn templates_broken(scope: &Scope<'_>) -> Result<Option<ScopeError>, AllocError>
 
 /// The first rule that the statements of a template break.
 fn template_broken(scope: &Scope<'_>, body: &[Stmt]) -> Result<Option<ScopeError>, AllocError>
-    ensures { IfOk result (λ o. o
-        ≡ option_or (rules.body_broken (its_world scope.now) (its_home scope.now)
-        (body_view body.now) (record { in_loop = false; in_block = false }))
-        (rules.refused (nat_lt max_bindings (body_bound (body_view body.now)))
-        error.TooManySlots)) }
+    ensures { IfOk result (λ o. o ≡ option_or (in_scope rules.body_broken scope.now
+        (body_view body.now) (record { in_loop = false; in_block = false })) (rules.refused (nat_lt
+        max_bindings (body_bound (body_view body.now))) error.TooManySlots)) }
 {
     let around = Within {
         in_loop: false,
@@ -164,8 +161,8 @@ fn count_own(alloc: Global, chain: &Chain, home: usize) -> Result<usize, AllocEr
     Ok(own_names(alloc, chain, home)?.len())
 }
 
-/// How many different names a chain reads or binds, with those of the libraries that it imports; the
-/// greatest number where it is more. A library's own count there alone.
+/// How many different names a chain reads or binds, with those of the libraries that it imports;
+/// the greatest number where it is more. A library's own count there alone.
 fn count_names(alloc: Global, chain: &Chain, home: usize) -> Result<usize, AllocError>
     requires { home < length chain.now.homes.items }
     ensures { IfOk result (λ n.

@@ -1,21 +1,22 @@
 //! The static rules of expressions: the first that is broken, from left to right.
 
-ghost use Rattle.std.specs.Prelude.{◌≡◌, ◌&&◌, ◌==◌, nat_lt, not, is_some, IfOk, IsOkAnd, option_map};
+ghost use Rattle.std.specs.Prelude.{◌≡◌, ◌&&◌, nat_lt, not, is_some, IfOk, IsOkAnd, option_map};
 ghost use Rattle.std.specs.Option.{option_or};
 ghost use Rattle.jt_trees.specs.Expressions as trees;
 ghost use Rattle.jt_trees.specs.ExpressionView.{expr_view, exprs_view, pairs_view};
-ghost use Rattle.jt_chains.specs.Chain.{callee, given, given_to, Home, named_form, named_alone, named_in, in_library, is_loop};
+ghost use Rattle.jt_chains.specs.Chain.{callee, given_to, Home, named_form, named_alone, named_in, in_library};
 ghost use Rattle.jt_chains.specs.Uses.{count};
 ghost use Rattle.jt_trees.specs.Expressions.{Text};
 ghost use Rattle.jt_evaluation.specs.Loops.{field_named};
 ghost use Rattle.jt_rules.specs.Walk as rules;
 ghost use Rattle.jt_rules.specs.World.{World};
 ghost use Rattle.jt_checks.specs.Standing.{texts, is_block};
-ghost use Rattle.jt_checks.specs.ScopeView.{its_world, its_home, within_view, name_in};
+ghost use Rattle.jt_checks.specs.ScopeView.{its_sources, its_given, in_scope, found, Finds, call_found, is_bare, within_view, name_in};
 ghost use Rattle.jt_rules.specs.declared.error.ScopeError.TheVariants as error;
 
 use crate::arguments::{filter_broken, fits, range_broken, refused, test_broken, unless};
 use crate::scope::{Known, Scope, Within};
+use jt_names::is_loop_name;
 use jt_rules::ScopeError;
 use jt_trees::Expr;
 use std::alloc::AllocError;
@@ -33,14 +34,14 @@ pub(crate) fn read_alone(name: &str) -> Option<ScopeError>
 
 /// What a name breaks that is read as a value, or bound.
 pub(crate) fn used(scope: &Scope<'_>, name: &str) -> Option<ScopeError>
-    ensures { result ≡ rules.used (its_world scope.now) (its_home scope.now) name.now }
+    ensures { result ≡ in_scope rules.used scope.now name.now }
 {
     read_alone(name).or(refused(scope.is_macro(name), ScopeError::MacroAsValue))
 }
 
 /// The first rule that names break which are read or bound.
 pub(crate) fn all_used(scope: &Scope<'_>, names: &[&str]) -> Option<ScopeError>
-    ensures { result ≡ rules.all_used (its_world scope.now) (its_home scope.now) (texts names.now) }
+    ensures { result ≡ in_scope rules.all_used scope.now (texts names.now) }
 {
     for name in names {
         if let Some(rule) = used(scope, name) {
@@ -66,16 +67,6 @@ fn is_field(name: &str) -> bool
             | "previtem"
             | "nextitem"
     )
-}
-
-/// Whether an expression is the bare name `loop`.
-pub(crate) fn names_loop(expr: &Expr) -> bool
-    ensures { result ≡ is_loop (expr_view expr.now) }
-{
-    match expr {
-        Expr::Name(name) => name.as_str() == "loop",
-        _ => false,
-    }
 }
 
 /// What a call of `range` or `super` breaks by itself; no other name can be called.
@@ -104,10 +95,9 @@ fn name_call_broken(
     row: &[Expr],
     pairs: &[(String, Expr)],
 ) -> Result<Option<ScopeError>, AllocError>
-    ensures { IfOk result (λ o. o
-        ≡ rules.call_broken (its_world scope.now) (its_home scope.now) (named_alone (its_world scope.now).sources
-        (given_to name.now (given (its_world scope.now).sources (its_home scope.now))) name.now)
-        (within_view within) (trees.name name.now) (exprs_view row.now) (pairs_view pairs.now)) }
+    ensures { IfOk result (λ o. o ≡ call_found scope.now within (named_alone (its_sources scope.now)
+        (given_to name.now (its_given scope.now)) name.now) (trees.name name.now)
+        (exprs_view row.now) (pairs_view pairs.now)) }
 {
     match scope.known(name) {
         Some(Known::Macro(parameters)) => Ok(unless(fits(scope.alloc, parameters, row, pairs)?)),
@@ -119,10 +109,8 @@ fn name_call_broken(
 /// What a call of `super` breaks.
 #[tactic(auto, using(crate::proofs::Counted::counted, crate::proofs::Counted::keyless))]
 fn super_broken(within: Within, row: &[Expr], pairs: &[(String, Expr)]) -> Option<ScopeError>
-    ensures { result
-        ≡ option_or (rules.refused (not within.in_block) error.NotCallable)
-        (rules.unless
-        ((count (exprs_view row.now) == 0) && rules.no_keywords (pairs_view pairs.now))) }
+    ensures { result ≡ option_or (rules.refused (not within.in_block) error.NotCallable)
+        (rules.unless (is_bare (exprs_view row.now) (pairs_view pairs.now))) }
 {
     let outside = refused(!within.in_block, ScopeError::NotCallable);
     outside.or(unless(row.is_empty() && pairs.is_empty()))
@@ -136,11 +124,8 @@ fn self_broken(
     row: &[Expr],
     pairs: &[(String, Expr)],
 ) -> Option<ScopeError>
-    ensures { result
-        ≡ option_or (rules.refused
-        (not (is_block (its_world scope.now) (its_home scope.now) block.now)) error.NotCallable)
-        (rules.unless
-        ((count (exprs_view row.now) == 0) && rules.no_keywords (pairs_view pairs.now))) }
+    ensures { result ≡ option_or (rules.refused (not (in_scope is_block scope.now block.now))
+        error.NotCallable) (rules.unless (is_bare (exprs_view row.now) (pairs_view pairs.now))) }
 {
     let unknown = refused(!scope.is_block(block), ScopeError::NotCallable);
     unknown.or(unless(row.is_empty() && pairs.is_empty()))
@@ -168,11 +153,9 @@ fn library_call_broken(
     row: &[Expr],
     pairs: &[(String, Expr)],
 ) -> Result<Option<ScopeError>, AllocError>
-    ensures { IfOk result (λ o. o
-        ≡ rules.call_broken (its_world scope.now) (its_home scope.now)
-        (in_library (its_world scope.now).sources
-        (given_to of.now (given (its_world scope.now).sources (its_home scope.now))) field.now)
-        (within_view within) (trees.name of.now) (exprs_view row.now) (pairs_view pairs.now)) }
+    ensures { IfOk result (λ o. o ≡ call_found scope.now within (in_library (its_sources scope.now)
+        (given_to of.now (its_given scope.now)) field.now) (trees.name of.now) (exprs_view row.now)
+        (pairs_view pairs.now)) }
 {
     let Some(Known::Library(library)) = scope.known(of) else {
         return Ok(Some(ScopeError::NotCallable));
@@ -194,12 +177,9 @@ fn field_call_broken(
     row: &[Expr],
     pairs: &[(String, Expr)],
 ) -> Result<Option<ScopeError>, AllocError>
-    ensures { IfOk result (λ o. o
-        ≡ rules.call_broken (its_world scope.now) (its_home scope.now)
-        (named_in (its_world scope.now).sources
-        (given_to of.now (given (its_world scope.now).sources (its_home scope.now))) of.now
-        field.now) (within_view within) (trees.name of.now) (exprs_view row.now)
-        (pairs_view pairs.now)) }
+    ensures { IfOk result (λ o. o ≡ call_found scope.now within (named_in (its_sources scope.now)
+        (given_to of.now (its_given scope.now)) of.now field.now) (trees.name of.now)
+        (exprs_view row.now) (pairs_view pairs.now)) }
 {
     match (of, field) {
         ("self", _) => Ok(self_broken(scope, field, row, pairs)),
@@ -218,11 +198,9 @@ fn call_broken(
     row: &[Expr],
     pairs: &[(String, Expr)],
 ) -> Result<Option<ScopeError>, AllocError>
-    ensures { IfOk result (λ o. o
-        ≡ rules.call_broken (its_world scope.now) (its_home scope.now)
-        (callee (its_world scope.now).sources
-        (given (its_world scope.now).sources (its_home scope.now)) (expr_view called.now))
-        (within_view within) (expr_view called.now) (exprs_view row.now) (pairs_view pairs.now)) }
+    ensures { IfOk result (λ o. o ≡ call_found scope.now within (callee (its_sources scope.now)
+        (its_given scope.now) (expr_view called.now)) (expr_view called.now) (exprs_view row.now)
+        (pairs_view pairs.now)) }
 {
     match called {
         Expr::Name(name) => name_call_broken(scope, within, name, row, pairs),
@@ -244,7 +222,8 @@ fn name_of(expr: &Expr) -> Option<&str>
     }
 }
 
-// The arms of the two functions below have no early exit: a match with many of them is dear to prove.
+// The arms of the two functions below have no early exit: a match with many of them is dear to
+// prove.
 
 /// The first of two rules.
 fn either(
@@ -267,9 +246,7 @@ pub(crate) fn broken(
     within: Within,
     expr: &Expr,
 ) -> Result<Option<ScopeError>, AllocError>
-    ensures { IfOk result (λ o. o
-        ≡ rules.broken (its_world scope.now) (its_home scope.now) (expr_view expr.now)
-        (within_view within)) }
+    ensures { IfOk result (Finds rules.broken scope.now within (expr_view expr.now)) }
 {
     match expr {
         Expr::Constant(_) => Ok(None),
@@ -328,9 +305,7 @@ fn called_broken(
     within: Within,
     called: &Expr,
 ) -> Result<Option<ScopeError>, AllocError>
-    ensures { IfOk result (λ o. o
-        ≡ rules.called_broken (its_world scope.now) (its_home scope.now) (expr_view called.now)
-        (within_view within)) }
+    ensures { IfOk result (Finds rules.called_broken scope.now within (expr_view called.now)) }
 {
     match called {
         Expr::Constant(_) => Ok(None),
@@ -385,10 +360,8 @@ fn both_broken(
     first: &Expr,
     second: &Expr,
 ) -> Result<Option<ScopeError>, AllocError>
-    ensures { IfOk result (λ o. o
-        ≡ option_or (rules.broken (its_world scope.now) (its_home scope.now) (expr_view first.now)
-        (within_view within)) (rules.broken (its_world scope.now) (its_home scope.now)
-        (expr_view second.now) (within_view within))) }
+    ensures { IfOk result (λ o. o ≡ option_or (found rules.broken scope.now within
+        (expr_view first.now)) (found rules.broken scope.now within (expr_view second.now))) }
 {
     let first = broken(scope, within, first);
     let second = broken(scope, within, second);
@@ -404,11 +377,9 @@ fn three_broken(
     second: &Expr,
     third: &Expr,
 ) -> Result<Option<ScopeError>, AllocError>
-    ensures { IfOk result (λ o. o
-        ≡ option_or (rules.broken (its_world scope.now) (its_home scope.now) (expr_view first.now)
-        (within_view within)) (option_or (rules.broken (its_world scope.now) (its_home scope.now)
-        (expr_view second.now) (within_view within)) (rules.broken (its_world scope.now)
-        (its_home scope.now) (expr_view third.now) (within_view within)))) }
+    ensures { IfOk result (λ o. o ≡ option_or (found rules.broken scope.now within
+        (expr_view first.now)) (option_or (found rules.broken scope.now within
+        (expr_view second.now)) (found rules.broken scope.now within (expr_view third.now)))) }
 {
     let first = broken(scope, within, first);
     let others = both_broken(scope, within, second, third);
@@ -424,10 +395,9 @@ fn or_arguments_broken(
     row: &[Expr],
     pairs: &[(String, Expr)],
 ) -> Result<Option<ScopeError>, AllocError>
-    ensures { IfOk result (λ o. IsOkAnd before (λ first. o
-        ≡ option_or first (option_or (rules.row_broken (its_world scope.now) (its_home scope.now)
-        (exprs_view row.now) (within_view within)) (rules.pairs_broken (its_world scope.now)
-        (its_home scope.now) (pairs_view pairs.now) (within_view within))))) }
+    ensures { IfOk result (λ o. IsOkAnd before (λ first. o ≡ option_or first (option_or (found
+        rules.row_broken scope.now within (exprs_view row.now)) (found rules.pairs_broken scope.now
+        within (pairs_view pairs.now))))) }
 {
     let places = row_broken(scope, within, row);
     let keywords = pairs_broken(scope, within, pairs);
@@ -442,11 +412,10 @@ fn attribute_broken(
     value: &Expr,
     field: &str,
 ) -> Result<Option<ScopeError>, AllocError>
-    ensures { IfOk result (λ o. o
-        ≡ rules.broken (its_world scope.now) (its_home scope.now)
-        (trees.attribute (expr_view value.now) field.now) (within_view within)) }
+    ensures { IfOk result (Finds rules.broken scope.now within (trees.attribute
+        (expr_view value.now) field.now)) }
 {
-    if names_loop(value) {
+    if is_loop_name(value) {
         let right = within.in_loop && is_field(field);
         return Ok(refused(!right, ScopeError::LoopOutside));
     }
@@ -462,9 +431,8 @@ fn field_read_broken(
     value: &Expr,
     field: &str,
 ) -> Result<Option<ScopeError>, AllocError>
-    ensures { IfOk result (λ o. o
-        ≡ rules.called_broken (its_world scope.now) (its_home scope.now)
-        (trees.attribute (expr_view value.now) field.now) (within_view within)) }
+    ensures { IfOk result (Finds rules.called_broken scope.now within (trees.attribute
+        (expr_view value.now) field.now)) }
 {
     match name_of(value) {
         Some(of) => Ok(refused(of == "loop" && field != "cycle", ScopeError::LoopOutside)),
@@ -479,9 +447,7 @@ pub(crate) fn row_broken(
     within: Within,
     row: &[Expr],
 ) -> Result<Option<ScopeError>, AllocError>
-    ensures { IfOk result (λ o. o
-        ≡ rules.row_broken (its_world scope.now) (its_home scope.now) (exprs_view row.now)
-        (within_view within)) }
+    ensures { IfOk result (Finds rules.row_broken scope.now within (exprs_view row.now)) }
 {
     for expr in row {
         if let Some(rule) = broken(scope, within, expr)? {
@@ -498,9 +464,7 @@ pub(crate) fn pairs_broken(
     within: Within,
     pairs: &[(String, Expr)],
 ) -> Result<Option<ScopeError>, AllocError>
-    ensures { IfOk result (λ o. o
-        ≡ rules.pairs_broken (its_world scope.now) (its_home scope.now) (pairs_view pairs.now)
-        (within_view within)) }
+    ensures { IfOk result (Finds rules.pairs_broken scope.now within (pairs_view pairs.now)) }
 {
     for (_, value) in pairs {
         if let Some(rule) = broken(scope, within, value)? {

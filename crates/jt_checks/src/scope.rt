@@ -5,7 +5,7 @@ ghost use Rattle.std.specs.List.{list_any};
 ghost use Rattle.std.specs.Str.{bytes_eq};
 ghost use Rattle.jt_trees.specs.Expressions.{Text};
 ghost use Rattle.jt_chains.specs.Chain as chains;
-ghost use Rattle.jt_chains.specs.Chain.{Template, given, given_to};
+ghost use Rattle.jt_chains.specs.Chain.{Template, given_to};
 ghost use Rattle.jt_chains.specs.Named.{given_view, named_view};
 ghost use Rattle.jt_chains.specs.Parts.{block_view};
 ghost use Rattle.jt_checks.specs.Standing.{KnowsGiven, KnowsGiven-prop, KnowsBlocks, KnowsBlocks-prop, known_as, known_of, known_at, known_view, is_among, is_block};
@@ -49,7 +49,7 @@ pub(crate) struct Scope<'a> {
 
 impl<'a> Scope<'a> {
     ghost use Rattle.jt_rules.specs.Walk as rules;
-    ghost use Rattle.jt_checks.specs.ScopeView.{its_world, its_home};
+    ghost use Rattle.jt_checks.specs.ScopeView.{its_given, in_scope};
 
     /// What can be called in the chain at a place.
     pub(crate) fn new(alloc: Global, chain: &'a Chain, home: usize) -> Result<Scope<'a>, AllocError>
@@ -72,16 +72,14 @@ impl<'a> Scope<'a> {
 
     /// Whether a macro or a library has the name.
     pub(crate) fn is_macro(&self, name: &str) -> bool
-        ensures { result ≡ rules.is_macro (its_world self.now) (its_home self.now) name.now }
+        ensures { result ≡ in_scope rules.is_macro self.now name.now }
     {
         self.names.contains_key(name)
     }
 
     /// What the name is known as.
     pub(crate) fn known(&self, name: &str) -> Option<Known<'a>>
-        ensures { option_map known_view result
-            ≡ known_of
-            (given_to name.now (given (its_world self.now).sources (its_home self.now))) }
+        ensures { option_map known_view result ≡ known_of (given_to name.now (its_given self.now)) }
     {
         match self.names.get(name) {
             Some(known) => Some(*known),
@@ -91,7 +89,7 @@ impl<'a> Scope<'a> {
 
     /// Whether a block has the name.
     pub(crate) fn is_block(&self, name: &str) -> bool
-        ensures { result ≡ is_block (its_world self.now) (its_home self.now) name.now }
+        ensures { result ≡ in_scope is_block self.now name.now }
     {
         self.blocks.contains(name)
     }

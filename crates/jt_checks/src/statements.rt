@@ -8,7 +8,7 @@ ghost use Rattle.jt_chains.specs.Chain.{Home};
 ghost use Rattle.jt_chains.specs.Uses.{keywords};
 ghost use Rattle.jt_rules.specs.World.{World};
 ghost use Rattle.jt_rules.specs.Walk as rules;
-ghost use Rattle.jt_checks.specs.ScopeView.{its_world, its_home, within_view};
+ghost use Rattle.jt_checks.specs.ScopeView.{in_scope, found, Finds, within_view};
 
 use crate::arguments::{
     any_repeated, filter_broken, keywords_of, parameter_names, refused, target_names, unless,
@@ -50,9 +50,8 @@ fn condition_broken(
     within: Within,
     condition: &Option<Expr>,
 ) -> Result<Option<ScopeError>, AllocError>
-    ensures { IfOk result (λ o. o
-        ≡ rules.condition_broken (its_world scope.now) (its_home scope.now)
-        (option_map expr_view condition.now) (within_view within)) }
+    ensures { IfOk result (Finds rules.condition_broken scope.now within
+        (option_map expr_view condition.now)) }
 {
     let around = Within {
         in_loop: false,
@@ -66,8 +65,7 @@ fn condition_broken(
 
 /// The first rule that targets break.
 fn targets_broken(scope: &Scope<'_>, targets: &[String]) -> Result<Option<ScopeError>, AllocError>
-    ensures { IfOk result (λ o.
-        o ≡ rules.all_used (its_world scope.now) (its_home scope.now) (names_view targets.now)) }
+    ensures { IfOk result (λ o. o ≡ in_scope rules.all_used scope.now (names_view targets.now)) }
 {
     Ok(all_used(scope, &target_names(scope.alloc, targets)?))
 }
@@ -78,10 +76,9 @@ fn bindings_broken(
     within: Within,
     pairs: &[(String, Expr)],
 ) -> Result<Option<ScopeError>, AllocError>
-    ensures { IfOk result (λ o. o
-        ≡ option_or (rules.pairs_broken (its_world scope.now) (its_home scope.now)
-        (pairs_view pairs.now) (within_view within)) (rules.all_used (its_world scope.now)
-        (its_home scope.now) (keywords (pairs_view pairs.now)))) }
+    ensures { IfOk result (λ o. o ≡ option_or (found rules.pairs_broken scope.now within
+        (pairs_view pairs.now)) (in_scope rules.all_used scope.now
+        (keywords (pairs_view pairs.now)))) }
 {
     if let Some(rule) = pairs_broken(scope, within, pairs)? {
         return Ok(Some(rule));
@@ -97,12 +94,10 @@ fn head_broken(
     items: &Expr,
     condition: &Option<Expr>,
 ) -> Result<Option<ScopeError>, AllocError>
-    ensures { IfOk result (λ o. o
-        ≡ option_or (rules.broken (its_world scope.now) (its_home scope.now) (expr_view items.now)
-        (within_view within)) (option_or
-        (rules.all_used (its_world scope.now) (its_home scope.now) (names_view targets.now))
-        (rules.condition_broken (its_world scope.now) (its_home scope.now)
-        (option_map expr_view condition.now) (within_view within)))) }
+    ensures { IfOk result (λ o. o ≡ option_or (found rules.broken scope.now within
+        (expr_view items.now)) (option_or (in_scope rules.all_used scope.now
+        (names_view targets.now)) (found rules.condition_broken scope.now within
+        (option_map expr_view condition.now)))) }
 {
     if let Some(rule) = broken(scope, within, items)? {
         return Ok(Some(rule));
@@ -120,10 +115,8 @@ fn set_broken(
     targets: &[String],
     value: &Expr,
 ) -> Result<Option<ScopeError>, AllocError>
-    ensures { IfOk result (λ o. o
-        ≡ option_or (rules.broken (its_world scope.now) (its_home scope.now) (expr_view value.now)
-        (within_view within))
-        (rules.all_used (its_world scope.now) (its_home scope.now) (names_view targets.now))) }
+    ensures { IfOk result (λ o. o ≡ option_or (found rules.broken scope.now within
+        (expr_view value.now)) (in_scope rules.all_used scope.now (names_view targets.now))) }
 {
     if let Some(rule) = broken(scope, within, value)? {
         return Ok(Some(rule));
@@ -137,9 +130,8 @@ fn filtering_broken(
     within: Within,
     filtering: &Filtering,
 ) -> Result<Option<ScopeError>, AllocError>
-    ensures { IfOk result (λ o. o
-        ≡ rules.filtering_broken (its_world scope.now) (its_home scope.now)
-        (filtering_view filtering.now ∷ []) (within_view within)) }
+    ensures { IfOk result (Finds rules.filtering_broken scope.now within
+        (filtering_view filtering.now ∷ [])) }
 {
     let arguments = &filtering.arguments;
     let keywords = &filtering.keywords;
@@ -158,9 +150,8 @@ fn filterings_broken(
     within: Within,
     filterings: &[Filtering],
 ) -> Result<Option<ScopeError>, AllocError>
-    ensures { IfOk result (λ o. o
-        ≡ rules.filtering_broken (its_world scope.now) (its_home scope.now)
-        (filterings_view filterings.now) (within_view within)) }
+    ensures { IfOk result (Finds rules.filtering_broken scope.now within
+        (filterings_view filterings.now)) }
 {
     for filtering in filterings {
         if let Some(rule) = filtering_broken(scope, within, filtering)? {
@@ -176,8 +167,7 @@ fn macro_broken(
     name: &str,
     parameters: &[Parameter],
 ) -> Result<Option<ScopeError>, AllocError>
-    ensures { IfOk result (λ o. o
-        ≡ rules.macro_broken (its_world scope.now) (its_home scope.now) name.now
+    ensures { IfOk result (λ o. o ≡ in_scope rules.macro_broken scope.now name.now
         (parameters_view parameters.now)) }
 {
     let names = parameter_names(scope.alloc, parameters)?;
@@ -208,11 +198,9 @@ fn choice_broken(
     branches: &[(u32, Expr, Vec<Stmt>)],
     other: &[Stmt],
 ) -> Result<Option<ScopeError>, AllocError>
-    ensures { IfOk result (λ o. o
-        ≡ option_or (rules.branches_broken (its_world scope.now) (its_home scope.now)
-        (branches_view branches.now) (within_view within))
-        (rules.body_broken (its_world scope.now) (its_home scope.now) (body_view other.now)
-        (within_view within))) }
+    ensures { IfOk result (λ o. o ≡ option_or (found rules.branches_broken scope.now within
+        (branches_view branches.now)) (found rules.body_broken scope.now within
+        (body_view other.now))) }
 {
     if let Some(rule) = branches_broken(scope, within, branches)? {
         return Ok(Some(rule));
@@ -228,11 +216,9 @@ fn turns_broken(
     inside: &[Stmt],
     otherwise: &[Stmt],
 ) -> Result<Option<ScopeError>, AllocError>
-    ensures { IfOk result (λ o. o
-        ≡ option_or (rules.body_broken (its_world scope.now) (its_home scope.now)
-        (body_view inside.now) (record (within_view within) { in_loop = true }))
-        (rules.body_broken (its_world scope.now) (its_home scope.now) (body_view otherwise.now)
-        (within_view within))) }
+    ensures { IfOk result (λ o. o ≡ option_or (in_scope rules.body_broken scope.now
+        (body_view inside.now) (record (within_view within) { in_loop = true })) (found
+        rules.body_broken scope.now within (body_view otherwise.now))) }
 {
     if let Some(rule) = body_broken(scope, in_a_loop(within), inside)? {
         return Ok(Some(rule));
@@ -248,9 +234,8 @@ fn or_body_broken(
     first: Option<ScopeError>,
     inside: &[Stmt],
 ) -> Result<Option<ScopeError>, AllocError>
-    ensures { IfOk result (λ o. o
-        ≡ option_or first (rules.body_broken (its_world scope.now) (its_home scope.now)
-        (body_view inside.now) (within_view within))) }
+    ensures { IfOk result (λ o. o ≡ option_or first (found rules.body_broken scope.now within
+        (body_view inside.now))) }
 {
     match first {
         Some(rule) => Ok(Some(rule)),
@@ -265,9 +250,7 @@ fn statement_broken(
     within: Within,
     statement: &Stmt,
 ) -> Result<Option<ScopeError>, AllocError>
-    ensures { IfOk result (λ o. o
-        ≡ rules.stmt_broken (its_world scope.now) (its_home scope.now) (stmt_view statement.now)
-        (within_view within)) }
+    ensures { IfOk result (Finds rules.stmt_broken scope.now within (stmt_view statement.now)) }
 {
     match statement {
         Stmt::Data(_) | Stmt::Include { .. } | Stmt::Extends(..) => Ok(None),
@@ -320,9 +303,8 @@ fn branches_broken(
     within: Within,
     branches: &[(u32, Expr, Vec<Stmt>)],
 ) -> Result<Option<ScopeError>, AllocError>
-    ensures { IfOk result (λ o. o
-        ≡ rules.branches_broken (its_world scope.now) (its_home scope.now)
-        (branches_view branches.now) (within_view within)) }
+    ensures { IfOk result (Finds rules.branches_broken scope.now within
+        (branches_view branches.now)) }
 {
     for (_, condition, inside) in branches {
         if let Some(rule) = broken(scope, within, condition)? {
@@ -342,9 +324,7 @@ pub(crate) fn body_broken(
     within: Within,
     body: &[Stmt],
 ) -> Result<Option<ScopeError>, AllocError>
-    ensures { IfOk result (λ o. o
-        ≡ rules.body_broken (its_world scope.now) (its_home scope.now) (body_view body.now)
-        (within_view within)) }
+    ensures { IfOk result (Finds rules.body_broken scope.now within (body_view body.now)) }
 {
     for statement in body {
         if let Some(rule) = statement_broken(scope, within, statement)? {

@@ -1,5 +1,5 @@
 -- Walks: what a mark that changes leaves, and what is known when a number is done.
-use Rattle.std.proofs.Common.{◌≡◌, ℕ, zero, suc, ◌+◌, ◌<◌, ◌≤◌, ◌==◌, Bool, true, false, not, cond, ◌||◌, List, [], ◌∷◌, ◌++◌, Result, Ok, Err, length, take, reverse, get_or, set, refl, sym, ap, subst, ◌∙◌, arith}
+use Rattle.std.proofs.Common.{◌≡◌, ℕ, zero, suc, ◌+◌, ◌<◌, ◌≤◌, ◌==◌, Bool, true, false, not, cond, ◌||◌, List, [], ◌∷◌, ◌++◌, Result, Ok, Err, length, take, reverse, get_or, set, refl, sym, ap, subst, ◌∙◌, arith, rules}
 use Rattle.std.proofs.Math.ListN.{replicate}
 use Rattle.std.specs.Result.{IsErrAnd}
 use Rattle.std.specs.List.{AllByRecursion, count_by}
@@ -49,17 +49,10 @@ keep_visit ms i j m apart = unwrap_or-slice_get (set ms i m) j New ∙ get_or-se
 
 -- what a test says of visits when one of them changes
 pub told_set : (p : VisitState → Bool) (ms : List VisitState) (i j : ℕ) (m : VisitState) → i < length ms → p (visit_of (set ms i m) j) ≡ cond (i == j) (p m) (p (visit_of ms j))
-told_set p ms i j m lt = either (i == j)
-    (λ e. ap (λ k. p (visit_of (set ms i m) k)) (sym (equal i j e)) ∙ ap p (set_visit ms i m lt) ∙ sym (ap (λ b. cond b (p m) (p (visit_of ms j))) e))
-    (λ e. ap p (keep_visit ms i j m (λ q. differ i j e (sym q))) ∙ sym (ap (λ b. cond b (p m) (p (visit_of ms j))) e))
+told_set p ms i j m lt = search (arith, rules, either, equal, set_visit, keep_visit, differ)
 
 pub fewer_news : (ms : List VisitState) (i : ℕ) → i < length ms → visit_of ms i ≡ New → count_by is_new (set ms i Open) + 1 ≡ count_by is_new ms
-fewer_news ms i lt e =
-    let at : get_or ms i New ≡ New = sym (unwrap_or-slice_get ms i New) ∙ e in
-    let f : VisitState → ℕ = λ m. cond (is_new m) 1 0 in
-    let old : f (get_or ms i New) ≡ 1 = ap f at in
-    let s = sum_by-set f ms i Open New lt in
-    omega (arith, s, old)
+fewer_news ms i lt e = search (arith, rules, unwrap_or-slice_get, sum_by-set)
 
 pub same_news : (ms : List VisitState) (i : ℕ) → i < length ms → is_open (visit_of ms i) ≡ true → count_by is_new (set ms i Done) ≡ count_by is_new ms
 same_news ms i lt e =
@@ -143,14 +136,7 @@ pub all_new : (ms : List VisitState) (n j : ℕ) → ms ≡ replicate n New → 
 all_new ms n j e = ap (λ is. visit_of is j) e ∙ unwrap_or-slice_get (replicate n New) j New ∙ new_at n j
 
 pub new_walk : (g : Graph) (w : Walk) (n : ℕ) → w.visits.items ≡ replicate n New → n ≡ length g → w.done.items ≡ [] → IsWalk g w
-new_walk g w n new e d =
-    let none : done_of w ≡ [] = ap reverse d in
-    record {
-      each = ap length new ∙ length-replicate n New ∙ e;
-      told = λ j. ap is_done (all_new w.visits.items n j new) ∙ sym (ap (among j) none);
-      within = subst (AllByRecursion (λ j. j < length g)) (sym none) tt;
-      ordered = subst (AreOrdered g) (sym none) tt;
-    }
+new_walk g w n new e d = search (arith, rules, length-replicate, all_new)
 
 -- ---- a number opens
 
@@ -240,10 +226,7 @@ pub goes_none : (w : Walk) → GoesOn w w
 goes_none w = record { opens = λ j. refl; dones = λ j h. h; fewer = omega arith }
 
 pub goes_both : (u v w : Walk) → GoesOn u v → GoesOn v w → GoesOn u w
-goes_both u v w p q =
-    let a = p.fewer in
-    let b = q.fewer in
-    record { opens = λ j. q.opens j ∙ p.opens j; dones = λ j h. q.dones j (p.dones j h); fewer = omega arith }
+goes_both u v w p q = search (arith, rules)
 
 -- the error of a call that is passed on
 pub passed_on : {A E : Type 0} (r : Result A E) (e f : E) → IsErrAnd r (λ y. y ≡ e) → r ≡ Err f → e ≡ f
@@ -253,9 +236,7 @@ passed_on (Err y) e f h is = let same : y ≡ f = cc in sym h ∙ same
 -- ---- a walk goes through all numbers
 
 pub none_lead : (g : Graph) (w : Walk) (i : ℕ) → ((j : ℕ) → is_open (visit_of w.visits.items j) ≡ false) → LeadTo g w i
-none_lead g w i closed j h =
-    let e : false ≡ true = sym (closed j) ∙ h in
-    absurd (cc)
+none_lead g w i closed j h = search (arith, rules)
 
 pub before_next : (P : ℕ → Type 0) (n m : ℕ) → m ≡ n + 1 → ((j : ℕ) → j < n → P j) → P n → (j : ℕ) → j < m → P j
 before_next P n m is old new j lt = either (n == j) (λ e. subst P (equal n j e) new) (λ e. old j (below (differ n j e)))
@@ -264,8 +245,4 @@ before_next P n m is old new j lt = either (n == j) (λ e. subst P (equal n j e)
     below apart = omega arith
 
 pub all_ordered : (g : Graph) (w : Walk) (is : List ℕ) → is ≡ done_of w → IsWalk g w → ((j : ℕ) → j < length g → is_done (visit_of w.visits.items j) ≡ true) → IsOrder g is
-all_ordered g w is e walk all = record {
-  all = λ j lt. ap (among j) e ∙ sym (walk.told j) ∙ all j lt;
-  within = subst (AllByRecursion (λ j. j < length g)) (sym e) walk.within;
-  ordered = subst (AreOrdered g) (sym e) walk.ordered;
-}
+all_ordered g w is e walk all = search (arith, rules)

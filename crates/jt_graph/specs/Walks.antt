@@ -1,4 +1,5 @@
--- What only private clauses cite: a walk over a graph, depth first: what is known of its visits and of the numbers that are done.
+-- What only private clauses cite: a walk over a graph, depth first: what is known of its visits and
+-- of the numbers that are done.
 use Rattle.std.specs.Prelude.{◌≡◌, ℕ, ◌<◌, ◌≤◌, Bool, true, false, List, length, reverse, slice_get, unwrap_or}
 use Rattle.std.specs.List.{AllByRecursion, count_by}
 use Rattle.jt_graph.specs.Graph.{Graph, among, AreOrdered, Reaches}
@@ -46,5 +47,6 @@ LeadTo g w i = (j : ℕ) → is_open (visit_of w.visits.items j) ≡ true → Re
 -- the same are open, what was done is done, and no more are new
 pub record GoesOn (v w : Walk) : Type 0 where
   pub opens : (j : ℕ) → is_open (visit_of w.visits.items j) ≡ is_open (visit_of v.visits.items j)
-  pub dones : (j : ℕ) → is_done (visit_of v.visits.items j) ≡ true → is_done (visit_of w.visits.items j) ≡ true
+  pub dones : (j : ℕ) → is_done (visit_of v.visits.items j) ≡ true
+      → is_done (visit_of w.visits.items j) ≡ true
   pub fewer : news w ≤ news v

@@ -1,16 +1,13 @@
 //! Why there is no order.
 
 use std::alloc::{AllocError, AllocFailed};
-use thiserror::Error;
 
-/// Why there is no order.
-#[derive(Debug, Drop, Error, PartialEq, Eq)]
+/// Why there is no order. It has no text: a caller says what its numbers are.
+#[derive(Debug, Drop, PartialEq, Eq)]
 pub enum OrderError {
     /// A number leads to itself.
-    #[error("a number leads to itself")]
     Cycle,
     /// A growth was refused.
-    #[error("out of memory")]
     NoMemory,
 }
 

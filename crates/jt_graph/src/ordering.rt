@@ -9,9 +9,9 @@ use crate::error::OrderError;
 use crate::walk::{begin, visit};
 use std::alloc::Global;
 
-/// The numbers of a graph, each before those that come next; `next[i]` has those of `i`. A graph that
-/// leads to other numbers than its own has no order, and the answer is empty. The time is linear in
-/// the numbers and their next ones, and calls go as deep as the longest way.
+/// The numbers of a graph, each before those that come next; `next[i]` has those of `i`. A graph
+/// that leads to other numbers than its own has no order, and the answer is empty. The time is
+/// linear in the numbers and their next ones, and calls go as deep as the longest way.
 ///
 /// # Errors
 ///

@@ -1,60 +1,60 @@
 -- The template of a library, at its place.
-use Rattle.std.proofs.Common.{◌≡◌, ℕ, ◌⊎◌, ⊎_elim, inl, inr, Bool, true, false, not, ◌&&◌, ◌||◌, List, [], ◌∷◌, ◌++◌, refl, sym, ap, subst, ◌∙◌, arith, Some, None}
+use Rattle.std.proofs.Common.{◌≡◌, ℕ, ◌⊎◌, ⊎_elim, inl, inr, Bool, true, false, ◌||◌, List, [], ◌∷◌, ◌++◌, sym, ap, subst, ◌∙◌, arith, Some, None, get_or, string_bytes, rules}
 use Rattle.std.specs.Prelude.{slice_get, flat_map}
-use Rattle.std.specs.Option.{is_some, option_to_list}
+use Rattle.std.specs.Option.{option_to_list}
+use Rattle.std.proofs.lemmas.List.{length-map}
 use Rattle.std.proofs.lemmas.Option.{slice_get_within}
 use Rattle.jt_scan.specs.declared.options.Options.{Options}
 use Rattle.jt_trees.specs.Texts.{among, repeated}
 use Rattle.jt_trees.specs.Expressions.{Text}
 use Rattle.jt_chains.specs.Along.{templates_at}
-use Rattle.jt_chains.specs.Chain.{a_chain, a_library, Template, templates, libraries, holds_macros, is_a_library, sources_in}
+use Rattle.jt_chains.specs.Chain.{a_chain, a_library, Template, templates, libraries, holds_macros, sources_in}
 use Rattle.jt_chains.specs.Includes.{needs_in}
 use Rattle.jt_chains.specs.Rules.{Reaches}
 use Rattle.jt_inherit.specs.Chains.{Given}
 use Rattle.jt_inherit.specs.Faults.{IsFaultOf}
+use Rattle.jt_trees.specs.StatementView.{body_of}
+use Rattle.jt_chains.specs.Pages.{page_view, pages_view}
+use Rattle.jt_chains.specs.declared.pages.Page.{Page}
 use Rattle.jt_inherit.specs.Refusals.{Breaks}
-use Rattle.jt_inherit.specs.Ways.{AreKnown, IsWay}
+use Rattle.jt_inherit.specs.Sets.{names_view}
+use Rattle.jt_inherit.specs.declared.sets.Names.{Names}
+use Rattle.jt_inherit.specs.Ways.{AreKnown, IsWay, AddsName, BreaksAll, KnowPages}
 use Rattle.jt_inherit.specs.declared.error.ChainError.{ChainError}
 use Rattle.jt_inherit.specs.declared.error.ChainError.TheVariants as error
 use Rattle.jt_inherit.proofs.Among.{reflexive, among_front}
-use Rattle.jt_inherit.proofs.Growing.{reach_more}
-use Rattle.jt_inherit.proofs.Leads.{names, name_of_slice, asked_breaks}
-use Rattle.jt_chains.proofs.Placed.{only_one}
+use Rattle.jt_inherit.proofs.Leads.{names, length_names, name_of_slice, asked_breaks}
+use Rattle.jt_chains.proofs.Placed.{map_at, only_one}
 
-module _ (ts : List Template) (once : repeated (names ts) ≡ false) (n : Text) (i : ℕ) (t : Template) (at : slice_get (names ts) i ≡ Some n) (there : slice_get ts i ≡ Some t) where
-  named : t.name ≡ n
+module _ (ps : List Page) (once : repeated (names (pages_view ps)) ≡ false) {n : Text} (i : ℕ) {p : Page} (at : slice_get (names (pages_view ps)) i ≡ Some n) (is_there : p ≡ get_or ps i p) where
+  abbrev ts : List Template
+  ts = pages_view ps
+
+  there : slice_get ts i ≡ Some (page_view p)
+  there = map_at page_view ps i p (omega (arith, slice_get_within (names ts) i n at, length_names ts, length-map ps page_view)) is_there
+
+  named : string_bytes p.name ≡ n
   named =
-      let told : Some t.name ≡ Some n = sym (name_of_slice ts i t there) ∙ at in
+      let told : Some (string_bytes p.name) ≡ Some n = sym (name_of_slice ts i (page_view p) there) ∙ at in
       cc
 
-  pub source : sources_in ts n ≡ Some t.body
-  source = subst (λ m. sources_in ts m ≡ Some t.body) named (only_one ts i t once there)
+  source : sources_in ts n ≡ Some (body_of p.template)
+  source = subst (λ m. sources_in ts m ≡ Some (body_of p.template)) named (only_one ts i (page_view p) once there)
 
-  alone_at : templates_at ts (i ∷ []) ≡ t ∷ []
+  alone_at : templates_at ts (i ∷ []) ≡ page_view p ∷ []
   alone_at = ap (λ o. option_to_list o ++ []) there
 
-  pub alone_way : holds_macros t.body ≡ true → (is : List ℕ) → is ≡ i ∷ [] → IsWay ts (a_library n) is None
-  alone_way h is e = subst (λ js. IsWay ts (a_library n) js None) (sym e) (record {
-    places = (slice_get_within ts i t there, tt);
-    leads = record { template = t; only = alone_at; named = named; source = source; holds = h; last = refl };
-    once = ap (λ us. repeated (names us)) alone_at;
-    few = omega arith;
-  })
+  pub alone_way : holds_macros (body_of p.template) ≡ true → (is : List ℕ) → is ≡ i ∷ [] → IsWay ts (a_library n) is None
+  alone_way h is e = search (arith, rules, slice_get_within, there, alone_at, named, source, names)
 
   -- what was new is the library's name
-  pub alone_from : (is : List ℕ) → is ≡ i ∷ [] → (k0 k1 : List Text) → ((x : Text) → among x k1 ≡ true → (among x k0 ≡ true) ⊎ (x ≡ n)) → (x : Text) → among x k1 ≡ true → (among x k0 ≡ true) ⊎ (among x (names (templates_at ts is)) ≡ true)
-  alone_from is e k0 k1 from x a = ⊎_elim (λ p. inl p)
-      (λ q. inr (ap (λ js. among x (names (templates_at ts js))) e ∙ ap (λ us. among x (names us)) alone_at ∙ ap (λ m. among m (t.name ∷ [])) (q ∙ sym named) ∙ ap (λ b. b || false) (reflexive t.name)))
+  pub alone_from : (is : List ℕ) → is ≡ i ∷ [] → (k0 k1 : Names) → AddsName k0 k1 n → (x : Text) → among x (names_view k1) ≡ true → (among x (names_view k0) ≡ true) ⊎ (among x (names (templates_at ts is)) ≡ true)
+  alone_from is e k0 k1 from x a = ⊎_elim (λ q. inl q)
+      (λ q. inr (ap (λ js. among x (names (templates_at ts js))) e ∙ ap (λ us. among x (names us)) alone_at ∙ ap (λ m. among m (string_bytes p.name ∷ [])) (q ∙ sym named) ∙ ap (λ b. b || false) (reflexive (string_bytes p.name))))
       (from x a)
 
-  pub not_alone : (given : Given) (options : Options) (ks : List Text) → AreKnown given options ts ks → holds_macros t.body ≡ false → (old more : List Template) → ts ≡ old ++ more → (root : Text)
-      → Reaches (sources_in old) options.autoescape (a_chain root) (a_library n) → Breaks error.NotALibrary given root options
-  not_alone given options ks known h old more e root r = record {
-    templates = ts;
-    read = known.read;
-    only = known.only;
-    holds = (a_library n, reach_more old ts more options.autoescape (a_chain root) (a_library n) e r, (n, refl, ap (λ o. is_some o && not (is_a_library o)) source ∙ ap not h));
-  }
+  pub not_alone : (given : Given) (options : Options) (ks : Names) → KnowPages given options ps ks → holds_macros (body_of p.template) ≡ false → BreaksAll given options ps (a_library n) error.NotALibrary
+  not_alone given options ks known h root r = search (arith, rules, source)
 
 -- a refusal of its source
 pub alone_breaks : (given : Given) (options : Options) (root : Text) (ts : List Template) {ks : List Text} → AreKnown given options ts ks → (n : Text) → Reaches (sources_in ts) options.autoescape (a_chain root) (a_library n)
@@ -62,4 +62,4 @@ pub alone_breaks : (given : Given) (options : Options) (root : Text) (ts : List 
 alone_breaks given options root ts known n r e f =
     let s = sources_in ts in
     let on = λ (all : Bool). among_front n (n ∷ []) (flat_map (λ t. needs_in all t.body) (templates s (a_library n)) ++ libraries s (a_library n)) (ap (λ c. c || false) (reflexive n)) in
-    asked_breaks given options root ts known (a_library n) r n e (on true) (λ q. on false) f
+    asked_breaks known r n e (on true) (λ q. on false) f

@@ -1,5 +1,5 @@
 -- Names among others.
-use Rattle.std.proofs.Common.{◌≡◌, suc, ◌≤◌, Bool, true, false, cond, ◌||◌, List, [], ◌∷◌, ◌++◌, length, map, refl, sym, ap, subst, ◌∙◌, arith, ◌⊎◌, ⊎_elim, inl, inr}
+use Rattle.std.proofs.Common.{◌≡◌, suc, ◌≤◌, Bool, true, false, cond, ◌||◌, List, [], ◌∷◌, ◌++◌, length, map, refl, sym, ap, ◌∙◌, arith, ◌⊎◌, ⊎_elim, inl, inr, rules}
 use Rattle.std.proofs.lemmas.Cmp.{nat_list_eq_equiv}
 use Rattle.std.proofs.lemmas.Slice.Eq.{bytes_eq-Decides}
 use Rattle.std.specs.List.{AllByRecursion}
@@ -30,13 +30,7 @@ both_false a b p q = ap (λ c. c || b) p ∙ q
 -- in front, or behind
 pub among_front : (x : Text) (xs ys : List Text) → among x xs ≡ true → among x (xs ++ ys) ≡ true
 among_front x [] ys h = absurd (cc)
-among_front x (y ∷ xs) ys h = by (bytes_eq y x) refl (among_front x xs ys)
-  where
-    by : (b : Bool) → bytes_eq y x ≡ b → (among x xs ≡ true → among x (xs ++ ys) ≡ true) → among x (y ∷ xs ++ ys) ≡ true
-    by true e r = ap (λ c. c || among x (xs ++ ys)) e
-    by false e r =
-        let rest : among x xs ≡ true = sym (ap (λ c. c || among x xs) e) ∙ h in
-        or_true (bytes_eq y x) (among x (xs ++ ys)) (r rest)
+among_front x (y ∷ xs) ys h = search (arith, rules, among_front x xs ys, or_true)
 
 pub among_behind : (x : Text) (xs ys : List Text) → among x ys ≡ true → among x (xs ++ ys) ≡ true
 among_behind x [] ys h = h
@@ -62,15 +56,7 @@ once_more x (y ∷ xs) o h =
 -- and one that is there comes again
 pub comes_again : (x : Text) (xs : List Text) → among x xs ≡ true → repeated (xs ++ x ∷ []) ≡ true
 comes_again x [] h = absurd (cc)
-comes_again x (y ∷ xs) h = by (bytes_eq y x) refl (comes_again x xs)
-  where
-    by : (b : Bool) → bytes_eq y x ≡ b → (among x xs ≡ true → repeated (xs ++ x ∷ []) ≡ true) → repeated (y ∷ xs ++ x ∷ []) ≡ true
-    by true e r =
-        let first : among y (xs ++ x ∷ []) ≡ true = subst (λ z. among z (xs ++ x ∷ []) ≡ true) (sym (same y x e)) (among_next x xs []) in
-        ap (λ c. c || repeated (xs ++ x ∷ [])) first
-    by false e r =
-        let rest : among x xs ≡ true = sym (ap (λ c. c || among x xs) e) ∙ h in
-        or_true (among y (xs ++ x ∷ [])) (repeated (xs ++ x ∷ [])) (r rest)
+comes_again x (y ∷ xs) h = search (arith, rules, comes_again x xs, same, among_next, or_true)
 
 pub map_more : {X Y : Type 0} (f : X → Y) (xs : List X) (x : X) → map f (xs ++ x ∷ []) ≡ map f xs ++ f x ∷ []
 map_more f [] x = refl
@@ -89,13 +75,7 @@ among_cases x (y ∷ xs) ys h = by (bytes_eq y x) refl (among_cases x xs ys)
     by false e r = ⊎_elim (λ p. inl (or_true (bytes_eq y x) (among x xs) p)) (λ q. inr q) (r (sym (ap (λ b. b || among x (xs ++ ys)) e) ∙ h))
 
 pub only_among : (x y : Text) → among y (x ∷ []) ≡ true → x ≡ y
-only_among x y a = by (bytes_eq x y) refl a
-  where
-    by : (b : Bool) → bytes_eq x y ≡ b → (bytes_eq x y || false) ≡ true → x ≡ y
-    by true e h = same x y e
-    by false e h =
-        let no : false ≡ true = sym (ap (λ b. b || false) e) ∙ h in
-        absurd (cc)
+only_among x y a = search (arith, rules, same)
 
 -- where one name is put behind others
 pub among_last : (old new : List Text) (x y : Text) → new ≡ old ++ x ∷ [] → x ≡ y → (n : Text) → among n new ≡ true → (among n old ≡ true) ⊎ (n ≡ y)
@@ -117,16 +97,7 @@ one_less x (y ∷ ys) a = by (bytes_eq y x) refl (one_less x ys)
 
 pub still_among : (x z : Text) (ys : List Text) → bytes_eq x z ≡ false → among z ys ≡ true → among z (without x ys) ≡ true
 still_among x z [] n a = absurd (cc)
-still_among x z (y ∷ ys) n a = by (bytes_eq y x) refl (bytes_eq y z) refl (still_among x z ys n)
-  where
-    by : (b : Bool) → bytes_eq y x ≡ b → (c : Bool) → bytes_eq y z ≡ c → (among z ys ≡ true → among z (without x ys) ≡ true) → among z (cond (bytes_eq y x) ys (y ∷ without x ys)) ≡ true
-    by true e true f r =
-        let p : y ≡ x = same y x e in
-        let q : bytes_eq x z ≡ true = ap (λ w. bytes_eq w z) (sym p) ∙ f in
-        absurd (cc)
-    by true e false f r = ap (λ b. among z (cond b ys (y ∷ without x ys))) e ∙ (sym (ap (λ b. b || among z ys) f) ∙ a)
-    by false e true f r = ap (λ b. among z (cond b ys (y ∷ without x ys))) e ∙ ap (λ b. b || among z (without x ys)) f
-    by false e false f r = ap (λ b. among z (cond b ys (y ∷ without x ys))) e ∙ or_true (bytes_eq y z) (among z (without x ys)) (r (sym (ap (λ b. b || among z ys) f) ∙ a))
+still_among x z (y ∷ ys) n a = search (arith, rules, still_among x z ys n, same, or_true)
 
 pub no_more : (xs ys : List Text) → repeated xs ≡ false → ((x : Text) → among x xs ≡ true → among x ys ≡ true) → length xs ≤ length ys
 no_more [] ys once f = omega arith

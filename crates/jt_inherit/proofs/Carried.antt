@@ -1,5 +1,5 @@
 -- A rule that is broken by what was read is broken by the whole chain.
-use Rattle.std.proofs.Common.{◌≡◌, ℕ, zero, suc, ◌<◌, ◌≤◌, ◌==◌, Bool, true, false, not, ◌&&◌, ◌||◌, nat_lt, List, [], ◌∷◌, ◌++◌, length, map, refl, sym, ap, subst, ◌∙◌, if◌then◌else◌, arith, inl, inr, ◌⊎◌, ⊎_elim, Option, Some, None, length-append}
+use Rattle.std.proofs.Common.{◌≡◌, ℕ, zero, suc, ◌<◌, ◌≤◌, ◌==◌, Bool, true, false, not, ◌&&◌, ◌||◌, nat_lt, List, [], ◌∷◌, ◌++◌, length, map, refl, sym, ap, subst, ◌∙◌, if◌then◌else◌, arith, inl, inr, ◌⊎◌, ⊎_elim, Option, Some, None, length-append, rules}
 use Rattle.std.specs.Prelude.{flat_map}
 use Rattle.std.specs.List.{list_any}
 use Rattle.std.specs.Option.{is_some, is_none}
@@ -97,13 +97,7 @@ up_same s r (suc k) (Some n) g h = by (s n) refl (λ b e. up_same s r k (extends
 -- names with a source have one
 still_none : (s r : Sources) (xs : List Text) → Carries s r xs → list_any (λ n. is_none (s n)) xs ≡ false → list_any (λ n. is_none (r n)) xs ≡ false
 still_none s r [] g h = refl
-still_none s r (x ∷ xs) g h =
-    let k = or_false (is_none (s x)) (list_any (λ n. is_none (s n)) xs) h in
-    both_false (is_none (r x)) (list_any (λ n. is_none (r n)) xs) (by (s x) refl k.0) (still_none s r xs (λ n a. g n (or_true (bytes_eq x n) (among n xs) a)) k.1)
-  where
-    by : (o : Option Body) → s x ≡ o → is_none o ≡ false → is_none (r x) ≡ false
-    by None e q = absurd (cc)
-    by (Some b) e q = ap is_none (g x (ap (λ c. c || among x xs) (reflexive x)) b e)
+still_none s r (x ∷ xs) g h = search (arith, rules, or_false, both_false, still_none s r xs (λ n a. g n (or_true (bytes_eq x n) (among n xs) a)), or_true, reflexive)
 
 -- ---- some of the names, in their order
 
@@ -155,15 +149,7 @@ names_none (x ∷ xs) = ap (λ o. (if is_some o then x.1 ∷ [] else []) ++ name
 
 module _ (s r : Sources) where
   in_from : (n : Text) (xs : List (Text × Text)) → ((b : Body) → s n ≡ Some b → r n ≡ Some b) → Within (names_from (macros s (a_library n)) xs) (names_from (macros r (a_library n)) xs)
-  in_from n xs g = by (s n) refl
-    where
-      by : (o : Option Body) → s n ≡ o → Within (names_from (macros s (a_library n)) xs) (names_from (macros r (a_library n)) xs)
-      by None e =
-          let none_there : names_from (macros s (a_library n)) xs ≡ [] = ap (λ o. names_from (flat_map (λ (t : Template). macros_in t.name t.body) (library_template n o)) xs) e ∙ names_none xs in
-          subst (λ l. Within l (names_from (macros r (a_library n)) xs)) (sym none_there) (within_any (names_from (macros r (a_library n)) xs))
-      by (Some b) e =
-          let one : names_from (macros s (a_library n)) xs ≡ names_from (macros r (a_library n)) xs = ap (λ o. names_from (flat_map (λ (t : Template). macros_in t.name t.body) (library_template n o)) xs) (e ∙ sym (g b e)) in
-          subst (λ l. Within (names_from (macros s (a_library n)) xs) l) one (within_same (names_from (macros s (a_library n)) xs))
+  in_from n xs g = search (arith, rules, names_none, within_any, within_same)
 
   lacking_from : (n : Text) (xs : List (Text × Text)) → ((b : Body) → s n ≡ Some b → r n ≡ Some b) → rules.lacks_one s n xs ≡ true → rules.lacks_one r n xs ≡ true
   lacking_from n xs g h = by (s n) refl
@@ -388,16 +374,7 @@ module _ (s r : Sources) (e : Bool) (entry : Home) (g : (n : Text) (b : Body) �
           (all_lacking s r (templates s h) (λ k a. on_libraries s r e entry g h p k (ap (λ vs. among k (flat_map f vs)) more.1 ∙ ap (among k) (flat-append f (templates s h) more.0) ∙ among_front k (flat_map f (templates s h)) (flat_map f more.0) a)) t)
 
   pub not_a_library : NotALibrary s e entry → NotALibrary r e entry
-  not_a_library x =
-      let p = there x.1 in
-      let n = x.2.0 in
-      (x.0, p, (n, x.2.1, by n (subst (Reaches r e entry) x.2.1 p) (s n) refl x.2.2))
-    where
-      by : (n : Text) → Reaches r e entry (a_library n) → (o : Option Body) → s n ≡ o → (is_some (s n) && not (is_a_library (s n))) ≡ true → (is_some (r n) && not (is_a_library (r n))) ≡ true
-      by n p None f t =
-          let no : false ≡ true = sym (ap (λ o. is_some o && not (is_a_library o)) f) ∙ t in
-          absurd (cc)
-      by n p (Some b) f t = ap (λ o. is_some o && not (is_a_library o)) (on_way s r e entry g (a_library n) p n (ap (λ c. c || false) (reflexive n)) b f ∙ sym f) ∙ t
+  not_a_library x = search (arith, rules, there, on_way, reflexive)
 
   pub include_cycle : IncludeCycle s e entry → IncludeCycle r e entry
   include_cycle x =

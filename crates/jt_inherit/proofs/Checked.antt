@@ -1,5 +1,5 @@
 -- The rules on bodies of blocks, as they are checked one body after the other.
-use Rattle.std.proofs.Common.{◌≡◌, ℕ, zero, suc, ◌+◌, ◌<◌, ◌≤◌, Bool, true, false, not, cond, ◌&&◌, ◌||◌, if◌then◌else◌, List, [], ◌∷◌, ◌++◌, length, map, take, drop, get_or, refl, sym, ap, subst, ◌∙◌, arith}
+use Rattle.std.proofs.Common.{◌≡◌, ℕ, zero, suc, ◌+◌, ◌<◌, ◌≤◌, Bool, true, false, not, cond, ◌&&◌, ◌||◌, List, [], ◌∷◌, ◌++◌, length, map, take, drop, get_or, refl, sym, ap, subst, ◌∙◌, arith, rules}
 use Rattle.std.specs.Prelude.{slice_get, unwrap_or, option_map}
 use Rattle.std.proofs.Common.{Some}
 use Rattle.std.proofs.lemmas.List.{drop_more, map-append}
@@ -49,15 +49,7 @@ name_more m n k u x =
 
 pub again : (x : Text) (xs ys : List Text) → among x xs ≡ true → repeated (xs ++ x ∷ ys) ≡ true
 again x [] ys h = absurd (cc)
-again x (y ∷ xs) ys h = by (bytes_eq y x) refl (again x xs ys)
-  where
-    by : (b : Bool) → bytes_eq y x ≡ b → (among x xs ≡ true → repeated (xs ++ x ∷ ys) ≡ true) → repeated (y ∷ xs ++ x ∷ ys) ≡ true
-    by true e r =
-        let first : among y (xs ++ x ∷ ys) ≡ true = subst (λ z. among z (xs ++ x ∷ ys) ≡ true) (sym (same y x e)) (among_next x xs ys) in
-        ap (λ c. c || repeated (xs ++ x ∷ ys)) first
-    by false e r =
-        let rest : among x xs ≡ true = sym (ap (λ c. c || among x xs) e) ∙ h in
-        or_true (among y (xs ++ x ∷ ys)) (repeated (xs ++ x ∷ ys)) (r rest)
+again x (y ∷ xs) ys h = search (arith, rules, again x xs ys, same, among_next, or_true)
 
 -- ---- the nearest body
 
@@ -78,29 +70,11 @@ named_new x (b ∷ bs) cs h =
 -- and others are, where it isn't
 named_old : (x : Text) (bs cs : List BlockBody) → among x (names_of bs) ≡ true → is_required (named x (bs ++ cs)) ≡ is_required (named x bs)
 named_old x [] cs h = absurd (cc)
-named_old x (b ∷ bs) cs h = by (bytes_eq b.name x) refl (named_old x bs cs)
-  where
-    by : (c : Bool) → bytes_eq b.name x ≡ c → (among x (names_of bs) ≡ true → is_required (named x (bs ++ cs)) ≡ is_required (named x bs))
-        → is_required (named x (b ∷ bs ++ cs)) ≡ is_required (named x (b ∷ bs))
-    by true e r =
-        ap (λ c. is_required (cond c (b ∷ named x (bs ++ cs)) (named x (bs ++ cs)))) e ∙ sym (ap (λ c. is_required (cond c (b ∷ named x bs) (named x bs))) e)
-    by false e r =
-        let rest : among x (names_of bs) ≡ true = sym (ap (λ c. c || among x (names_of bs)) e) ∙ h in
-        ap (λ c. is_required (cond c (b ∷ named x (bs ++ cs)) (named x (bs ++ cs)))) e ∙ r rest ∙ sym (ap (λ c. is_required (cond c (b ∷ named x bs) (named x bs))) e)
+named_old x (b ∷ bs) cs h = search (arith, rules, named_old x bs cs)
 
 -- one body more
 pub given_more : (bs : List BlockBody) (b : BlockBody) → AreGiven bs → (not (among b.name (names_of bs)) && b.required) ≡ false → AreGiven (bs ++ b ∷ [])
-given_more bs b g h x = by (among x (names_of bs)) refl
-  where
-    none : among x (names_of bs) ≡ false → (c : Bool) → bytes_eq b.name x ≡ c → is_required (cond c (b ∷ []) []) ≡ false
-    none n true e =
-        let m : among b.name (names_of bs) ≡ false = ap (λ y. among y (names_of bs)) (same b.name x e) ∙ n in
-        sym (ap (λ c. not c && b.required) m) ∙ h
-    none n false e = refl
-
-    by : (a : Bool) → among x (names_of bs) ≡ a → is_required (named x (bs ++ b ∷ [])) ≡ false
-    by true e = named_old x bs (b ∷ []) e ∙ g x
-    by false e = ap is_required (named_new x bs (b ∷ []) e) ∙ none e (bytes_eq b.name x) refl
+given_more bs b g h x = search (arith, rules, same, named_old, named_new)
 
 any_none : {X : Type 0} (p : X → Bool) → ((x : X) → p x ≡ false) → (xs : List X) → list_any p xs ≡ false
 any_none p h [] = refl
@@ -127,39 +101,14 @@ has_given x (b ∷ bs) = (bytes_eq b.name x && not b.required) || has_given x bs
 
 none_behind : (x : Text) (bs : List BlockBody) → is_empty (from_given (named x bs)) ≡ not (has_given x bs)
 none_behind x [] = refl
-none_behind x (b ∷ bs) = by (bytes_eq b.name x) b.required refl refl (none_behind x bs)
-  where
-    by : (c r : Bool) → bytes_eq b.name x ≡ c → b.required ≡ r → is_empty (from_given (named x bs)) ≡ not (has_given x bs)
-        → is_empty (from_given (named x (b ∷ bs))) ≡ not (has_given x (b ∷ bs))
-    by false r e f h =
-        ap (λ c. is_empty (from_given (cond c (b ∷ named x bs) (named x bs)))) e ∙ h ∙ sym (ap (λ c. not ((c && not b.required) || has_given x bs)) e)
-    by true true e f h =
-        ap (λ c. is_empty (from_given (cond c (b ∷ named x bs) (named x bs)))) e ∙ ap (λ r. is_empty (if r then from_given (named x bs) else b ∷ named x bs)) f ∙ h
-        ∙ sym (ap (λ c. not ((c && not b.required) || has_given x bs)) e ∙ ap (λ r. not (not r || has_given x bs)) f)
-    by true false e f h =
-        ap (λ c. is_empty (from_given (cond c (b ∷ named x bs) (named x bs)))) e ∙ ap (λ r. is_empty (if r then from_given (named x bs) else b ∷ named x bs)) f
-        ∙ sym (ap (λ c. not ((c && not b.required) || has_given x bs)) e ∙ ap (λ r. not (not r || has_given x bs)) f)
+none_behind x (b ∷ bs) = search (arith, rules, none_behind x bs)
 
 -- no body of these lacks one
 abbrev pub HaveNext : List BlockBody → Type 0
 HaveNext bs = (x : Text) → lacks_super (named x bs) ≡ false
 
 pub next_more : (b : BlockBody) (bs : List BlockBody) → HaveNext bs → (not (has_given b.name bs) && calls_super b.body) ≡ false → HaveNext (b ∷ bs)
-next_more b bs n h x = by (bytes_eq b.name x) refl
-  where
-    swap : (p q : Bool) → (p && q) ≡ (q && p)
-    swap true true = refl
-    swap true false = refl
-    swap false true = refl
-    swap false false = refl
-
-    by : (c : Bool) → bytes_eq b.name x ≡ c → lacks_super (named x (b ∷ bs)) ≡ false
-    by false e = ap (λ c. lacks_super (cond c (b ∷ named x bs) (named x bs))) e ∙ n x
-    by true e =
-        let y = same b.name x e in
-        let first : (calls_super b.body && is_empty (from_given (named x bs))) ≡ false =
-        ap (λ z. calls_super b.body && z) (none_behind x bs) ∙ swap (calls_super b.body) (not (has_given x bs)) ∙ ap (λ z. not (has_given z bs) && calls_super b.body) (sym y) ∙ h in
-        ap (λ c. lacks_super (cond c (b ∷ named x bs) (named x bs))) e ∙ both_false (calls_super b.body && is_empty (from_given (named x bs))) (lacks_super (named x bs)) first (n x)
+next_more b bs n h x = search (arith, rules, same, none_behind, both_false)
 
 pub all_next : (bs : List BlockBody) → HaveNext bs → lacks_next bs ≡ false
 all_next bs n = any_none (λ b. lacks_super (named b.name bs)) (λ b. n b.name) bs
@@ -173,12 +122,7 @@ lacks_front x (b ∷ bs) cs h = by (bytes_eq b.name x) (lacks_front x bs cs h)
     by false r = r
 
 pub none_next : (bs : List BlockBody) (b : BlockBody) (cs : List BlockBody) → has_given b.name cs ≡ false → calls_super b.body ≡ true → lacks_next (bs ++ b ∷ cs) ≡ true
-none_next bs b cs n h =
-    let empty : is_empty (from_given (named b.name cs)) ≡ true = none_behind b.name cs ∙ ap not n in
-    let here : lacks_super (named b.name (b ∷ cs)) ≡ true =
-    ap (λ c. lacks_super (cond c (b ∷ named b.name cs) (named b.name cs))) (reflexive b.name)
-    ∙ ap (λ c. (c && is_empty (from_given (named b.name cs))) || lacks_super (named b.name cs)) h ∙ ap (λ c. c || lacks_super (named b.name cs)) empty in
-    any_here (λ c. lacks_super (named c.name (bs ++ b ∷ cs))) bs b cs (lacks_front b.name bs (b ∷ cs) here)
+none_next bs b cs n h = search (arith, rules, none_behind, reflexive, any_here, lacks_front)
 
 -- ---- one element more
 
@@ -248,19 +192,7 @@ names_seen ts (x ∷ xs) = ap (λ l. x.name.now ∷ l) (names_seen ts xs)
 
 module _ (ts : List Template) (xs : List Block) (i : ℕ) (x : Block) (lt : i < length xs) (is : x ≡ get_or xs i x) where
   pub body_lacking : (ks : List Text) → ((y : Text) → among y ks ≡ among y (block_names (take i xs))) → (not (among x.name.now ks) && x.required) ≡ true → lacks_body (blocks_view ts xs) ≡ true
-  body_lacking ks h both =
-      let p = parted xs i x lt is in
-      let a = and_both (not (among x.name.now ks)) x.required both in
-      let n : among x.name.now (names_of (blocks_view ts (take i xs))) ≡ false = ap (among x.name.now) (names_seen ts (take i xs)) ∙ sym (h x.name.now) ∙ not_true (among x.name.now ks) a.0 in
-      ap (λ l. lacks_body (blocks_view ts l)) p.1 ∙ ap lacks_body (map-append (block_view ts) (take i xs) (x ∷ p.0)) ∙ none_given (blocks_view ts (take i xs)) (block_view ts x) (blocks_view ts p.0) n a.1
-    where
-      and_both : (a b : Bool) → (a && b) ≡ true → (a ≡ true) × (b ≡ true)
-      and_both true b e = (refl, e)
-      and_both false b e = absurd (cc)
-
-      not_true : (a : Bool) → not a ≡ true → a ≡ false
-      not_true true e = cc
-      not_true false e = refl
+  body_lacking ks h both = search (arith, rules, parted, names_seen, map-append, none_given)
 
   pub body_goes : (ks : List Text) → ((y : Text) → among y ks ≡ among y (block_names (take i xs))) → AreGiven (blocks_view ts (take i xs)) → (not (among x.name.now ks) && x.required) ≡ false
       → AreGiven (blocks_view ts (take (i + 1) xs))
@@ -307,17 +239,7 @@ module _ (e : Bool) (ts : List Template) (is : List ℕ) (k : ℕ) (lt : k < len
   double_none h = double_left ∙ ap (λ c. c || any_double e (templates_at ts (drop (k + 1) is))) h
 
 pub next_lacking : (ts : List Template) (qs : List Block) (b : Block) (rest : List Block) → (not (has_given b.name.now (blocks_view ts rest)) && calls_super (block_view ts b).body) ≡ true → lacks_next (blocks_view ts (qs ++ b ∷ rest)) ≡ true
-next_lacking ts qs b rest h =
-    let a = and_both (not (has_given b.name.now (blocks_view ts rest))) (calls_super (block_view ts b).body) h in
-    ap lacks_next (map-append (block_view ts) qs (b ∷ rest)) ∙ none_next (blocks_view ts qs) (block_view ts b) (blocks_view ts rest) (not_true (has_given b.name.now (blocks_view ts rest)) a.0) a.1
-  where
-    and_both : (a b : Bool) → (a && b) ≡ true → (a ≡ true) × (b ≡ true)
-    and_both true b e = (refl, e)
-    and_both false b e = absurd (cc)
-
-    not_true : (a : Bool) → not a ≡ true → a ≡ false
-    not_true true e = cc
-    not_true false e = refl
+next_lacking ts qs b rest h = search (arith, rules, map-append, none_next)
 
 pub no_items : {X : Type 0} (xs : List X) → length xs ≡ 0 → xs ≡ []
 no_items [] e = refl

@@ -1,5 +1,5 @@
 -- Segments with their options, and the tree that they spell.
-use Rattle.std.proofs.Common.{◌≡◌, ◌<◌, ◌≤◌, List, [], ◌∷◌, length, map, refl, sym, ap, subst, ◌∙◌, chars, ⊎_elim, Some, None, arith}
+use Rattle.std.proofs.Common.{◌≡◌, ◌<◌, ◌≤◌, List, [], ◌∷◌, length, map, refl, sym, ap, subst, ◌∙◌, chars, ⊎_elim, Some, None, arith, rules}
 use Rattle.std.proofs.lemmas.Bool.{cases_lt}
 use Rattle.jt_scan.specs.Cut as cut
 use Rattle.jt_scan.specs.Cut.{Text, IsCut}
@@ -64,14 +64,7 @@ module _ (options : Options) (given : Text) (s : Held) (is : s ≡ record { text
 
   pub tree_found : (t : Template) → length given ≤ max_source_len → IsCut (cut_of ss) (chars s.text) → HaveOptions s.options ss → Spelled (body_of t) (pieces (reads_of ss)) × (body_levels (body_of t) ≤ 100)
       → body_unknown (body_of t) ≡ None → IsTree options given (body_of t)
-  tree_found t le c h p k = record {
-    limited = le;
-    segments = cut_of ss;
-    cut = its_cut c;
-    spelled = subst (λ rs. Spelled (body_of t) (pieces rs)) (its_reads h) p.0;
-    levels = p.1;
-    known = k;
-  }
+  tree_found t le c h p k = search (arith, rules, limited, its_cut, its_reads)
 
   refused_as : (e : ParseError) → (e ≡ parse_error.NoMemory → ⊥) → IsCut (cut_of ss) (chars s.text) → HaveOptions s.options ss → IsRefusal e (pieces (reads_of ss)) → IsUnspelled e options given
   refused_as e f c h r = record { fault = f; segments = cut_of ss; cut = its_cut c; refused = subst (λ rs. IsRefusal e (pieces rs)) (its_reads h) r }
@@ -97,20 +90,7 @@ module _ (options : Options) (given : Text) (s : Held) (is : s ≡ record { text
 
 -- a refusal of the scanner, with the template's name
 pub unscanned : (options : Options) (given name : Text) (e : ScanError) (x : ChainError) → ((e ≡ scan_error.NoMemory → ⊥) → IsUncut e options given × HasNoTree options given) → IsScan name e x → IsFault x name options given
-unscanned options given name e (error.Scan n f) r p = (p.0, subst (λ z. IsUncut z options given) (sym p.1) (r p.2).0, (r p.2).1)
-unscanned options given name e error.NoMemory r p = tt
-unscanned options given name e (error.Parse n f) r p = absurd p
-unscanned options given name e error.Missing r p = absurd p
-unscanned options given name e error.BadName r p = absurd p
-unscanned options given name e error.ExtendsCycle r p = absurd p
-unscanned options given name e error.ChainTooLong r p = absurd p
-unscanned options given name e error.DoubleBlock r p = absurd p
-unscanned options given name e error.RequiredNotGiven r p = absurd p
-unscanned options given name e error.NoSuper r p = absurd p
-unscanned options given name e error.IncludeCycle r p = absurd p
-unscanned options given name e error.MacroTwice r p = absurd p
-unscanned options given name e error.NoMacro r p = absurd p
-unscanned options given name e error.NotALibrary r p = absurd p
+unscanned options given name e a4 r p = search (arith, rules)
 
 pub too_long : (options : Options) (given : Text) (e : ScanError) → (max_source_len < length given → e ≡ scan_error.SourceTooLong 1) → (length given ≤ max_source_len → e ≡ scan_error.NoMemory) → (e ≡ scan_error.NoMemory → ⊥) → IsUncut e options given × HasNoTree options given
 too_long options given e long short f = ⊎_elim
@@ -119,14 +99,7 @@ too_long options given e long short f = ⊎_elim
     (cases_lt max_source_len (length given))
 
 uncut_so : (options : Options) (given : Text) (e : ScanError) → (e ≡ scan_error.NoMemory → ⊥) → scanner.IsRefusal e (chars (normalized options.keep_trailing_newline given)) → IsUncut e options given
-uncut_so options given (scan_error.UnclosedTag n) f r = r
-uncut_so options given (scan_error.UnclosedText n) f r = r
-uncut_so options given (scan_error.BadCharacter n) f r = r
-uncut_so options given (scan_error.BadEscape n) f r = r
-uncut_so options given (scan_error.NumberTooLarge n) f r = r
-uncut_so options given (scan_error.UnclosedRaw n) f r = r
-uncut_so options given (scan_error.SourceTooLong n) f r = absurd r
-uncut_so options given scan_error.NoMemory f r = absurd (f refl)
+uncut_so options given a2 f r = search (arith, rules)
 
 -- ---- the template of a name
 

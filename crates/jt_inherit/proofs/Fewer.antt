@@ -1,13 +1,12 @@
 -- Chains and libraries are few for the weight of their trees: each but the entry's chain has its own tag, an include or an import, which
 -- weighs at least 7.
-use Rattle.std.proofs.Common.{◌≡◌, suc, ◌+◌, ◌*◌, ◌≤◌, Bool, true, false, ◌||◌, ◌⊎◌, inl, inr, if◌then◌else◌, List, [], ◌∷◌, ◌++◌, length, refl, sym, ap, ◌∙◌, subst, arith, length-append}
-use Rattle.std.specs.Prelude.{not, flat_map, filter, IsTrue, map}
+use Rattle.std.proofs.Common.{◌≡◌, suc, ◌+◌, ◌*◌, ◌≤◌, Bool, true, false, ◌||◌, ◌⊎◌, inl, inr, if◌then◌else◌, List, [], ◌∷◌, ◌++◌, length, refl, sym, ap, ◌∙◌, subst, arith, length-append, rules}
+use Rattle.std.specs.Prelude.{not, flat_map, filter, IsTrue}
 use Rattle.std.proofs.lemmas.List.{length-map}
-use Rattle.std.specs.Option.{is_some}
 use Rattle.jt_trees.specs.Expressions.{Text}
 use Rattle.jt_trees.specs.Statements.{Stmt, data_of, print, choose, for_each, set, set_block, with_values, filter_block, autoescape, macro, include, import_as, import_from, extends, block, Body, end, stmt, Branches, no_branches, branch, stmt_weight, body_weight, branch_weight}
 use Rattle.jt_chains.specs.Chain.{Sources, Home, a_chain, a_library, same_home, listed, Template, templates, libraries, libraries_in}
-use Rattle.jt_chains.specs.Includes.{needs_by, needs_in, needs_under, with_source, included, AllIn, InOrder}
+use Rattle.jt_chains.specs.Includes.{needs_by, needs_in, needs_under, included, AllIn, InOrder}
 use Rattle.jt_chains.specs.Rules.{Reaches, here, through}
 use Rattle.jt_chains.specs.Weights.{templates_weight, chains_weight}
 use Rattle.jt_inherit.specs.Found.{twice}
@@ -18,21 +17,15 @@ use Rattle.jt_inherit.proofs.Homes.{same, reflexive, listed_front, listed_behind
 
 mutual
   stmt_needs : (s : Stmt) → 7 * length (needs_by true s) ≤ stmt_weight s
-  stmt_needs (data_of t) = omega arith
-  stmt_needs (print line e) = omega arith
   stmt_needs (choose bs other) = omega (arith, length-append (needs_under true bs) (needs_in true other), branch_needs bs, body_needs other)
   stmt_needs (for_each line xs e c body other) = omega (arith, length-append (needs_in true body) (needs_in true other), body_needs body, body_needs other)
-  stmt_needs (set line xs e) = omega arith
   stmt_needs (set_block line x body) = omega (arith, body_needs body)
   stmt_needs (with_values line ps body) = omega (arith, body_needs body)
   stmt_needs (filter_block line fs body) = omega (arith, body_needs body)
   stmt_needs (autoescape line on body) = omega (arith, body_needs body)
   stmt_needs (macro line x ps body) = omega (arith, body_needs body)
-  stmt_needs (include line n ignore_missing with_context) = omega arith
-  stmt_needs (import_as line n x) = omega arith
-  stmt_needs (import_from line n xs) = omega arith
-  stmt_needs (extends line n) = omega arith
   stmt_needs (block line x scoped required body) = omega (arith, body_needs body)
+  stmt_needs a0 = omega arith
 
   body_needs : (b : Body) → 7 * length (needs_in true b) ≤ body_weight b
   body_needs end = omega arith
@@ -86,17 +79,7 @@ module _ (sources : Sources) where
   few_libraries (a_library n) = omega arith
 
   home_weighs : (h : Home) → 7 * length (included sources h) ≤ templates_weight (templates sources h)
-  home_weighs h =
-      omega (
-        arith,
-        length-append (map a_chain (with_source sources (needed h))) (map a_library (with_source sources (libraries sources h))),
-        length-map (with_source sources (needed h)) a_chain,
-        length-map (with_source sources (libraries sources h)) a_library,
-        filtered_le (λ m. is_some (sources m)) (needed h),
-        filtered_le (λ m. is_some (sources m)) (libraries sources h),
-        few_libraries h,
-        templates_lead (templates sources h),
-      )
+  home_weighs h = search (arith, rules, length-append, length-map, filtered_le, few_libraries, templates_lead)
 
   includes_weigh : (hs : List Home) → 7 * length (flat_map (included sources) hs) ≤ chains_weight sources hs
   includes_weigh [] = omega arith

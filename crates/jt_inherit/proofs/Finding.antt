@@ -1,5 +1,5 @@
 -- Chains and libraries that were followed: what is known of them stays as more is found.
-use Rattle.std.proofs.Common.{◌≡◌, ℕ, zero, suc, ◌<◌, ◌≤◌, Bool, true, false, not, cond, ◌||◌, if◌then◌else◌, List, [], ◌∷◌, ◌++◌, length, map, refl, sym, ap, subst, ◌∙◌, arith, ◌⊎◌, ⊎_elim, inr, Some, None, get_or, Vec, Global}
+use Rattle.std.proofs.Common.{◌≡◌, ℕ, zero, suc, ◌<◌, ◌≤◌, Bool, true, false, not, cond, ◌||◌, if◌then◌else◌, List, [], ◌∷◌, ◌++◌, length, map, refl, sym, ap, subst, ◌∙◌, arith, ◌⊎◌, ⊎_elim, inr, Some, None, get_or, Vec, Global, rules}
 use Rattle.std.specs.Prelude.{slice_get, flat_map, filter, unwrap_or}
 use Rattle.std.specs.List.{AllByRecursion}
 use Rattle.std.specs.Option.{is_some, option_to_list}
@@ -12,9 +12,9 @@ use Rattle.jt_chains.specs.Along.{ArePlaces, templates_at}
 use Rattle.jt_inherit.specs.Along.{imports_along, needs_along}
 use Rattle.jt_chains.specs.Chain.{Home, a_chain, a_library, home_name, listed, Template, template, templates, library_template, libraries, libraries_in, sources_in}
 use Rattle.jt_inherit.specs.Chains.{Given, IsRead}
-use Rattle.jt_inherit.specs.Found.{AreNext, known_of, IsMet, IsNeedFault, IsNextFault, IsFollowed, AreFollowed, AreFound, chosen}
+use Rattle.jt_inherit.specs.Found.{AreNext, IsMet, IsNeedFault, IsNextFault, IsFollowed, AreFollowed, AreFound, chosen}
 use Rattle.jt_chains.specs.Includes.{included, needs_in}
-use Rattle.jt_inherit.specs.Needs.{Need, needed, need_home, library_need, includes_in, imports_in}
+use Rattle.jt_inherit.specs.Needs.{Need, needed, library_need, includes_in, imports_in}
 use Rattle.jt_chains.specs.Places.{home_at}
 use Rattle.jt_inherit.specs.Refusals.{Breaks}
 use Rattle.jt_chains.specs.Rules.{Asks, Reaches, here, asked, way}
@@ -118,16 +118,7 @@ module _ (ts : List Template) (e : Bool) (h : Home) (is : List ℕ) (w : IsWay t
       by (a_library n) v = ap (λ m. m ∷ []) (sym v.leads.named) ∙ sym (ap names v.leads.only)
 
   pub asked_way : (all : Bool) → asked (sources_in ts) e all h ≡ names (templates_at ts is) ++ needed all (needs_along ts is)
-  asked_way all =
-      let s = sources_in ts in
-      let us = templates_at ts is in
-      let ns = flat_map (λ (t : Template). includes_in t.body) us in
-      let ls = flat_map (λ (t : Template). libraries_in t.body) us in
-      ap (λ xs. xs ++ (flat_map (λ t. needs_in all t.body) (templates s h) ++ libraries s h)) way_names
-      ∙ ap (λ vs. names us ++ (flat_map (λ (t : Template). needs_in all t.body) vs ++ libraries s h)) (whole_way ts h is w)
-      ∙ ap (λ l. names us ++ (flat_map (λ (t : Template). needs_in all t.body) us ++ l)) (libraries_way ts h is w)
-      ∙ ap (λ xs. names us ++ xs)
-      (ap (λ l. l ++ ls) (sym (by_templates all us)) ∙ ap (λ l. needed all ns ++ l) (sym (imports_needed all ls)) ∙ sym (needed-append all ns (map library_need ls)) ∙ ap (needed all) (sym (includes_told ts is w.places)))
+  asked_way all = search (arith, rules, way_names, names, whole_way, libraries_way, by_templates, imports_needed, needed-append, includes_told)
 
   -- each template on the way, and each that is included or imported
   pub asks_way : (n : Text) → among n (names (templates_at ts is)) ≡ true → among n (asked (sources_in ts) e true h) ≡ true
@@ -138,36 +129,12 @@ module _ (ts : List Template) (e : Bool) (h : Home) (is : List ℕ) (w : IsWay t
 
 pub none_read : (given : Given) (options : Options) (ts : List Template) (n : Text) → AllByRecursion (IsRead given options) ts → given n ≡ None → among n (names ts) ≡ false
 none_read given options [] n a e = refl
-none_read given options (t ∷ ts) n a e = by (bytes_eq t.name n) refl (none_read given options ts n a.1 e)
-  where
-    by : (b : Bool) → bytes_eq t.name n ≡ b → among n (names ts) ≡ false → among n (names (t ∷ ts)) ≡ false
-    by true h r =
-        let k : given n ≡ Some a.0.source = ap given (sym (same t.name n h)) ∙ a.0.found in
-        let none : None ≡ Some a.0.source = sym e ∙ k in
-        absurd (cc)
-    by false h r = both_false (bytes_eq t.name n) (among n (names ts)) h r
+none_read given options (t ∷ ts) n a e = search (arith, rules, none_read given options ts n a.1 e, names, same, both_false)
 
 -- what may be missing, and is, stays so
 chosen_same : (given : Given) (ks ms : List Text) → ((n : Text) → given n ≡ None → among n (ks ++ ms) ≡ false) → (ns : List Need) → AllByRecursion (IsMet given ks) ns → chosen (ks ++ ms) ns ≡ chosen ks ns
 chosen_same given ks ms absent [] a = refl
-chosen_same given ks ms absent (n ∷ ns) a = ⊎_elim
-    (λ p. step true (among_front n.name ks ms p) p (chosen_same given ks ms absent ns a.1))
-    (λ q. step false (absent n.name q.2) (not_front (among n.name ks) refl (absent n.name q.2)) (chosen_same given ks ms absent ns a.1))
-    a.0
-  where
-    not_front : (b : Bool) → among n.name ks ≡ b → among n.name (ks ++ ms) ≡ false → among n.name ks ≡ false
-    not_front true e f =
-        let k : true ≡ false = sym (among_front n.name ks ms e) ∙ f in
-        absurd (cc)
-    not_front false e f = e
-
-    step : (b : Bool) → among n.name (ks ++ ms) ≡ b → among n.name ks ≡ b → chosen (ks ++ ms) ns ≡ chosen ks ns → chosen (ks ++ ms) (n ∷ ns) ≡ chosen ks (n ∷ ns)
-    step b p q r =
-        ap (λ z. map need_home (cond z (n ∷ known_of (ks ++ ms) ns) (known_of (ks ++ ms) ns))) p ∙ one b r ∙ sym (ap (λ z. map need_home (cond z (n ∷ known_of ks ns) (known_of ks ns))) q)
-      where
-        one : (z : Bool) → chosen (ks ++ ms) ns ≡ chosen ks ns → map need_home (cond z (n ∷ known_of (ks ++ ms) ns) (known_of (ks ++ ms) ns)) ≡ map need_home (cond z (n ∷ known_of ks ns) (known_of ks ns))
-        one true r = ap (λ l. need_home n ∷ l) r
-        one false r = r
+chosen_same given ks ms absent (n ∷ ns) a = search (arith, rules, among_front, chosen_same given ks ms absent ns a.1)
 
 -- ---- those that were followed
 
@@ -224,19 +191,19 @@ at_front (y ∷ xs) ys zero x e = e
 at_front (y ∷ xs) ys (suc i) x e = at_front xs ys i x e
 
 -- one more was followed
-module _ (given : Given) (options : Options) (root : Text) (ts0 : List Template) (ks0 : List Text) (hs : List Home) (ws ns : List (List ℕ)) (f : AreFound given options root ts0 ks0 hs ws ns) (h : Home) (at : slice_get hs (length ws) ≡ Some h)
-    (ts1 m1 : List Template) (e1 : ts1 ≡ ts0 ++ m1) (is : List ℕ) (w : IsWay ts1 h is None) where
+module _ {given : Given} {options : Options} {root : Text} {ts0 : List Template} {ks0 : List Text} {hs : List Home} {ws ns : List (List ℕ)} (f : AreFound given options root ts0 ks0 hs ws ns) {h : Home} (at : slice_get hs (length ws) ≡ Some h)
+    {ts1 : List Template} (more : (m1 : List Template) × (ts1 ≡ ts0 ++ m1)) {is : List ℕ} (w : IsWay ts1 h is None) where
   pub reached_here : Reaches (sources_in ts1) options.autoescape (a_chain root) h
-  reached_here = reach_more ts0 ts1 m1 options.autoescape (a_chain root) h e1 (f.reached h (place_listed hs (length ws) h at))
+  reached_here = reach_more ts0 ts1 more.0 options.autoescape (a_chain root) h more.1 (f.reached h (place_listed hs (length ws) h at))
 
   -- a refusal of what it includes or imports
   pub need_breaks : AreKnown given options ts1 (names ts1) → (e : ChainError) → (e ≡ error.NoMemory) ⊎ IsNeedFault given options (needs_along ts1 is) e → Breaks e given root options
   need_breaks known e fault = ⊎_elim
       (λ m. subst (λ z. Breaks z given root options) (sym m) tt)
-      (λ n. asked_breaks given options root ts1 known h reached_here n.name e (asks_needed ts1 options.autoescape h is w true n.name n.asked) (λ q. asks_needed ts1 options.autoescape h is w false n.name (n.must q)) n.fault)
+      (λ n. asked_breaks known reached_here n.name e (asks_needed ts1 options.autoescape h is w true n.name n.asked) (λ q. asks_needed ts1 options.autoescape h is w false n.name (n.must q)) n.fault)
       fault
 
-  module _ (ts2 m2 : List Template) (e2 : ts2 ≡ ts1 ++ m2) (ks2 : List Text) (known : AreKnown given options ts2 ks2) where
+  module _ {ts2 : List Template} (m2 : List Template) (e2 : ts2 ≡ ts1 ++ m2) {ks2 : List Text} (known : AreKnown given options ts2 ks2) where
     pub way_there : IsWay ts2 h is None
     way_there = subst (λ vs. IsWay vs h is None) (sym e2) (way_grows ts1 m2 h is None w)
 
@@ -246,12 +213,12 @@ module _ (given : Given) (options : Options) (root : Text) (ts0 : List Template)
     chosen_there : included (sources_in ts2) h ≡ chosen ks2 (needs_along ts2 is)
     chosen_there = included_is ts2 h is way_there ∙ ap (λ ks. chosen ks (needs_along ts2 is)) (sym known.named)
 
-    all_more : ts2 ≡ ts0 ++ (m1 ++ m2)
-    all_more = e2 ∙ ap (λ l. l ++ m2) e1 ∙ append_assoc ts0 m1 m2
+    all_more : ts2 ≡ ts0 ++ (more.0 ++ m2)
+    all_more = e2 ∙ ap (λ l. l ++ m2) more.1 ∙ append_assoc ts0 more.0 m2
 
     reached_from : (x : Home) → (listed x hs ≡ true) ⊎ (listed x (chosen ks2 (needs_along ts2 is)) ≡ true) → Reaches (sources_in ts2) options.autoescape (a_chain root) x
     reached_from x c = ⊎_elim
-        (λ a. reach_more ts0 ts2 (m1 ++ m2) options.autoescape (a_chain root) x all_more (f.reached x a))
+        (λ a. reach_more ts0 ts2 (more.0 ++ m2) options.autoescape (a_chain root) x all_more (f.reached x a))
         (λ a. reaches_next (reach_more ts1 ts2 m2 options.autoescape (a_chain root) h e2 reached_here) (ap (listed x) chosen_there ∙ a))
         c
 
@@ -267,18 +234,18 @@ module _ (given : Given) (options : Options) (root : Text) (ts0 : List Template)
         → ((n : Text) → among n ks2 ≡ true → (among n ks1 ≡ true) ⊎ (among n (needed true (needs_along ts1 is)) ≡ true)) → (n : Text) → among n ks2 ≡ true → Asks (sources_in ts2) options.autoescape (a_chain root) n
     asks_more ks1 on_way needs n a = ⊎_elim
         (λ p. ⊎_elim
-        (λ q. ask_more ts0 ts2 (m1 ++ m2) options.autoescape (a_chain root) n all_more (f.asked n q))
+        (λ q. ask_more ts0 ts2 (more.0 ++ m2) options.autoescape (a_chain root) n all_more (f.asked n q))
         (λ q. ask_more ts1 ts2 m2 options.autoescape (a_chain root) n e2 (h, reached_here, asks_way ts1 options.autoescape h is w n q))
         (on_way n p))
         (λ p. ask_more ts1 ts2 m2 options.autoescape (a_chain root) n e2 (h, reached_here, asks_needed ts1 options.autoescape h is w true n p))
         (needs n a)
 
     pub found_more : (ks1 : List Text) → ((n : Text) → among n ks1 ≡ true → (among n ks0 ≡ true) ⊎ (among n (names (templates_at ts1 is)) ≡ true))
-        → ((n : Text) → among n ks2 ≡ true → (among n ks1 ≡ true) ⊎ (among n (needed true (needs_along ts1 is)) ≡ true)) → AllByRecursion (IsMet given ks2) (needs_along ts1 is) → (hs2 : List Home) (next : List ℕ) → AreNext hs hs2 (chosen ks2 (needs_along ts2 is)) next
+        → ((n : Text) → among n ks2 ≡ true → (among n ks1 ≡ true) ⊎ (among n (needed true (needs_along ts1 is)) ≡ true)) → AllByRecursion (IsMet given ks2) (needs_along ts1 is) → {hs2 : List Home} {next : List ℕ} → AreNext hs hs2 (chosen ks2 (needs_along ts2 is)) next
         → AreFound given options root ts2 ks2 hs2 (ws ++ is ∷ []) (ns ++ next ∷ [])
-    found_more ks1 on_way needs met hs2 next n =
+    found_more ks1 on_way needs met {hs2} {next} n =
         let read = subst (AllByRecursion (IsRead given options)) all_more known.read.each in
-        let old : AreFollowed given (ts0 ++ (m1 ++ m2)) (hs ++ n.more) hs ws ns = all_grow given options ts0 (m1 ++ m2) hs n.more read hs ws ns f.followed in
+        let old : AreFollowed given (ts0 ++ (more.0 ++ m2)) (hs ++ n.more) hs ws ns = all_grow given options ts0 (more.0 ++ m2) hs n.more read hs ws ns f.followed in
         let here_followed : IsFollowed given ts2 hs2 h is next = (record {
           led = way_there;
           met = subst (λ l. AllByRecursion (IsMet given (names ts2)) l) (sym needs_there) (subst (λ ks. AllByRecursion (IsMet given ks) (needs_along ts1 is)) known.named met);
@@ -293,13 +260,13 @@ module _ (given : Given) (options : Options) (root : Text) (ts0 : List Template)
           reached = λ x a. reached_from x (n.from x a);
           followed = followed_next given ts2 hs2 hs2 ws ns h is next
               (subst (λ vs. AreFollowed given vs hs2 hs2 ws ns) (sym all_more)
-              (subst (λ l. AreFollowed given (ts0 ++ (m1 ++ m2)) l l ws ns) (sym n.grown)
-              (followed_longer given (ts0 ++ (m1 ++ m2)) (hs ++ n.more) hs n.more ws ns old)))
+              (subst (λ l. AreFollowed given (ts0 ++ (more.0 ++ m2)) l l ws ns) (sym n.grown)
+              (followed_longer given (ts0 ++ (more.0 ++ m2)) (hs ++ n.more) hs n.more ws ns old)))
               (subst (λ l. slice_get l (length ws) ≡ Some h) (sym n.grown) (at_front hs n.more (length ws) h at)) here_followed;
         }
 
-    pub first_same : (hs2 : List Home) (next : List ℕ) → AreNext hs hs2 (chosen ks2 (needs_along ts2 is)) next → home_name (home_at hs2 0) ≡ root
-    first_same hs2 next n = ap (λ o. home_name (unwrap_or o (a_chain []))) (ap (λ l. slice_get l 0) n.grown ∙ at_front hs n.more 0 (a_chain root) f.first)
+    pub first_same : {hs2 : List Home} {next : List ℕ} → AreNext hs hs2 (chosen ks2 (needs_along ts2 is)) next → home_name (home_at hs2 0) ≡ root
+    first_same n = ap (λ o. home_name (unwrap_or o (a_chain []))) (ap (λ l. slice_get l 0) n.grown ∙ at_front hs n.more 0 (a_chain root) f.first)
 
 -- the entry alone is found
 pub found_first : (given : Given) (options : Options) (entry root : Text) (ts : List Template) (ks : List Text) (hs : List Home) (ws ns : List (List ℕ)) → hs ≡ a_chain entry ∷ [] → root ≡ entry → ts ≡ [] → ks ≡ [] → ws ≡ [] → ns ≡ []
@@ -344,3 +311,7 @@ both_pages ps qs rs e = ap pages_view e ∙ both ps
     both : (zs : List Page) → pages_view (zs ++ qs) ≡ pages_view zs ++ pages_view qs
     both [] = refl
     both (z ∷ zs) = ap (λ l. page_view z ∷ l) (both zs)
+
+-- the same needs, of the same templates at the same places
+pub same_needs : (ps qs : List Page) (is js : List ℕ) → qs ≡ ps → js ≡ is → needs_along (pages_view qs) js ≡ needs_along (pages_view ps) is
+same_needs ps qs is js e f = ap (λ (z : List Page). needs_along (pages_view z) js) e ∙ ap (needs_along (pages_view ps)) f

@@ -1,5 +1,5 @@
 -- What is found where a chain or a library is followed: the numbers of what it leads to.
-use Rattle.std.proofs.Common.{◌≡◌, ℕ, zero, suc, ◌+◌, ◌<◌, ◌≤◌, Bool, true, false, not, cond, ◌||◌, if◌then◌else◌, List, [], ◌∷◌, ◌++◌, length, map, take, drop, get_or, refl, sym, ap, subst, ◌∙◌, arith, inl, inr, ◌⊎◌, ⊎_elim, Some, length-append}
+use Rattle.std.proofs.Common.{◌≡◌, ℕ, zero, suc, ◌+◌, ◌<◌, ◌≤◌, Bool, true, false, not, cond, ◌||◌, if◌then◌else◌, List, [], ◌∷◌, ◌++◌, length, map, take, drop, get_or, refl, sym, ap, subst, ◌∙◌, arith, inl, inr, ◌⊎◌, ⊎_elim, Some, length-append, rules}
 use Rattle.std.specs.Prelude.{slice_get}
 use Rattle.std.specs.List.{AllByRecursion}
 use Rattle.std.specs.Str.{bytes_eq}
@@ -31,12 +31,7 @@ text_among (y ∷ xs) (suc i) x e = or_true (bytes_eq y x) (among x xs) (text_am
 
 pub known-append : (ks : List Text) (ns ms : List Need) → known_of ks (ns ++ ms) ≡ known_of ks ns ++ known_of ks ms
 known-append ks [] ms = refl
-known-append ks (n ∷ ns) ms = by (among n.name ks) (known-append ks ns ms)
-  where
-    by : (b : Bool) → known_of ks (ns ++ ms) ≡ known_of ks ns ++ known_of ks ms
-        → cond b (n ∷ known_of ks (ns ++ ms)) (known_of ks (ns ++ ms)) ≡ cond b (n ∷ known_of ks ns) (known_of ks ns) ++ known_of ks ms
-    by true r = ap (λ l. n ∷ l) r
-    by false r = r
+known-append ks (n ∷ ns) ms = search (arith, rules, known-append ks ns ms)
 
 pub one_known : (ks : List Text) (n : Need) → among n.name ks ≡ true → chosen ks (n ∷ []) ≡ need_home n ∷ []
 one_known ks n e = ap (λ b. map need_home (cond b (n ∷ []) [])) e
@@ -53,14 +48,7 @@ next_there hs x i once few at = record { more = []; grown = sym (append-nil hs);
 
 -- one that is new
 pub next_new : (old new : List Home) (x : Home) (i : ℕ) → new ≡ old ++ x ∷ [] → twice old ≡ false → listed x old ≡ false → length (chains_of new) ≤ 1024 → i ≡ length old → AreNext old new (x ∷ []) (i ∷ [])
-next_new old new x i is once h few at = record {
-  more = x ∷ [];
-  grown = is;
-  once = ap twice is ∙ once_more x old once h;
-  few = few;
-  from = λ y a. listed_cases y old (x ∷ []) (sym (ap (listed y) is) ∙ a);
-  numbered = ap (λ o. o ∷ []) (ap (λ l. slice_get l i) is ∙ ap (slice_get (old ++ x ∷ [])) at ∙ last_at old x);
-}
+next_new old new x i is once h few at = search (arith, rules, once_more, listed_cases, last_at)
 
 at_front : (xs ys : List Home) (i : ℕ) (x : Home) → slice_get xs i ≡ Some x → slice_get (xs ++ ys) i ≡ Some x
 at_front [] ys i x e = absurd (cc)
@@ -77,31 +65,11 @@ numbers_grow xs ys (i ∷ is) (n ∷ ns) e =
     ap (λ o. o ∷ map (slice_get (xs ++ ys)) is) (at_front xs ys i n h) ∙ ap (λ l. Some n ∷ l) (numbers_grow xs ys is ns r)
 
 pub next_both : (a b c xs ys : List Home) (is js : List ℕ) → AreNext a b xs is → AreNext b c ys js → AreNext a c (xs ++ ys) (is ++ js)
-next_both a b c xs ys is js p q = record {
-  more = p.more ++ q.more;
-  grown = q.grown ∙ ap (λ l. l ++ q.more) p.grown ∙ append_assoc a p.more q.more;
-  once = q.once;
-  few = q.few;
-  from = λ h i. ⊎_elim (λ m. ⊎_elim (λ k. inl k) (λ k. inr (listed_front h xs ys k)) (p.from h m)) (λ m. inr (listed_behind h xs ys m)) (q.from h i);
-  numbered = map-append (slice_get c) is js
-      ∙ ap (λ l. l ++ map (slice_get c) js) (subst (λ z. map (slice_get z) is ≡ map Some xs) (sym q.grown) (numbers_grow b q.more is xs p.numbered))
-      ∙ ap (λ l. map Some xs ++ l) q.numbered ∙ sym (map-append Some xs ys);
-}
+next_both a b c xs ys is js p q = search (arith, rules, append_assoc, listed_front, listed_behind, map-append, numbers_grow)
 
 -- a refusal at a name is one of all names
 pub fault_later : (a b xs ys zs : List Home) (is : List ℕ) (e : ChainError) → AreNext a b xs is → IsNextFault b ys e → IsNextFault a (xs ++ (ys ++ zs)) e
-fault_later a b xs ys zs is e p f = ⊎_elim (λ m. inl m)
-    (λ t. inr (
-      t.0,
-      (
-        t.1.0,
-        t.1.1,
-        t.1.2,
-        λ n i. let h = a_chain n in
-            ⊎_elim (λ m. ⊎_elim (λ k. inl k) (λ k. inr (listed_front h xs (ys ++ zs) k)) (p.from h m)) (λ m. inr (listed_behind h xs (ys ++ zs) (listed_front h ys zs m))) (t.1.3 n i),
-      ),
-    ))
-    f
+fault_later a b xs ys zs is e p f = search (arith, rules, listed_front, listed_behind)
 
 pub too_many : (old : List Home) (n : Text) → twice old ≡ false → length (chains_of old) ≡ 1024 → listed (a_chain n) old ≡ false → TooMany old (a_chain n ∷ [])
 too_many old n once len new = (
@@ -184,11 +152,4 @@ asked_at all (n ∷ ns) (suc k) d lt e =
 
 pub need_fault : (given : Given) (options : Options) (ns : List Include) (ms : List Need) (k : ℕ) (d : Include) (e : ChainError) → needs_view ns ≡ ms → k < length ns → IsFaultAt given options (need_view (get_or ns k d)) e
     → IsNeedFault given options ms e
-need_fault given options ns ms k d e same_needs lt f =
-    subst (λ l. IsNeedFault given options l e) same_needs
-    (record {
-      name = (get_or ns k d).name.now;
-      asked = asked_at true ns k d lt refl;
-      must = λ q. asked_at false ns k d lt (ap not (f.1 q));
-      fault = f.0;
-    })
+need_fault given options ns ms k d e same_needs lt f = search (arith, rules, get_or, asked_at)

@@ -1,5 +1,5 @@
 -- Chains and libraries that reach one another, and ask for names, do so when more is read.
-use Rattle.std.proofs.Common.{◌≡◌, ℕ, zero, suc, ◌≤◌, arith, ⊎_elim, map, Bool, true, false, cond, ◌||◌, List, [], ◌∷◌, ◌++◌, refl, sym, ap, subst, ◌∙◌, Option, Some, None}
+use Rattle.std.proofs.Common.{◌≡◌, ℕ, zero, suc, ◌≤◌, arith, map, Bool, true, false, ◌||◌, List, [], ◌∷◌, ◌++◌, refl, sym, ap, subst, ◌∙◌, Option, Some, None, rules}
 use Rattle.std.specs.Prelude.{flat_map, filter}
 use Rattle.std.specs.Option.{is_some}
 use Rattle.std.specs.Str.{bytes_eq}
@@ -10,6 +10,12 @@ use Rattle.jt_trees.specs.Statements.{Body}
 use Rattle.jt_chains.specs.Chain.{Sources, Home, a_chain, a_library, listed, Template, template, templates, library_template, libraries, libraries_in, extends_of, parent_of, names_up, sources_in}
 use Rattle.jt_chains.specs.Includes.{included, needs_in, with_source}
 use Rattle.jt_chains.specs.Rules.{Asks, Reaches, here, through, asked, way}
+use Rattle.jt_chains.specs.Pages.{pages_view}
+use Rattle.jt_chains.specs.declared.pages.Page.{Page}
+use Rattle.jt_scan.specs.declared.options.Options.{Options}
+use Rattle.jt_inherit.specs.Chains.{Given}
+use Rattle.jt_inherit.specs.Ways.{BreaksAll, Grow}
+use Rattle.jt_inherit.specs.declared.error.ChainError.{ChainError}
 use Rattle.jt_inherit.proofs.Among.{same, reflexive, or_true, among_front, among_behind, among_cases}
 use Rattle.jt_inherit.proofs.Leads.{more_sources}
 
@@ -17,29 +23,11 @@ use Rattle.jt_inherit.proofs.Leads.{more_sources}
 
 pub among_passes : (p : Text → Bool) (x : Text) (xs : List Text) → among x (filter p xs) ≡ true → (among x xs ≡ true) × (p x ≡ true)
 among_passes p x [] h = absurd (cc)
-among_passes p x (y ∷ xs) h = by (p y) refl (bytes_eq y x) refl (among_passes p x xs)
-  where
-    by : (b : Bool) → p y ≡ b → (c : Bool) → bytes_eq y x ≡ c → (among x (filter p xs) ≡ true → (among x xs ≡ true) × (p x ≡ true)) → (among x (y ∷ xs) ≡ true) × (p x ≡ true)
-    by true e true f r = (ap (λ c. c || among x xs) f, ap p (sym (same y x f)) ∙ e)
-    by true e false f r =
-        let k : among x (filter p xs) ≡ true = sym (ap (λ c. among x (cond c (y ∷ filter p xs) (filter p xs))) e ∙ ap (λ c. c || among x (filter p xs)) f) ∙ h in
-        (or_true (bytes_eq y x) (among x xs) (r k).0, (r k).1)
-    by false e c f r =
-        let k : among x (filter p xs) ≡ true = sym (ap (λ c. among x (cond c (y ∷ filter p xs) (filter p xs))) e) ∙ h in
-        (or_true (bytes_eq y x) (among x xs) (r k).0, (r k).1)
+among_passes p x (y ∷ xs) h = search (arith, rules, among_passes p x xs, same, or_true)
 
 pub passes_among : (p : Text → Bool) (x : Text) (xs : List Text) → among x xs ≡ true → p x ≡ true → among x (filter p xs) ≡ true
 passes_among p x [] h t = absurd (cc)
-passes_among p x (y ∷ xs) h t = by (p y) refl (bytes_eq y x) refl (λ k. passes_among p x xs k t)
-  where
-    by : (b : Bool) → p y ≡ b → (c : Bool) → bytes_eq y x ≡ c → (among x xs ≡ true → among x (filter p xs) ≡ true) → among x (cond (p y) (y ∷ filter p xs) (filter p xs)) ≡ true
-    by true e true f r = ap (λ c. among x (cond c (y ∷ filter p xs) (filter p xs))) e ∙ ap (λ c. c || among x (filter p xs)) f
-    by true e false f r =
-        ap (λ c. among x (cond c (y ∷ filter p xs) (filter p xs))) e ∙ or_true (bytes_eq y x) (among x (filter p xs)) (r (sym (ap (λ c. c || among x xs) f) ∙ h))
-    by false e true f r =
-        let k : p y ≡ true = ap p (same y x f) ∙ t in
-        absurd (cc)
-    by false e false f r = ap (λ c. among x (cond c (y ∷ filter p xs) (filter p xs))) e ∙ r (sym (ap (λ c. c || among x xs) f) ∙ h)
+passes_among p x (y ∷ xs) h t = search (arith, rules, passes_among p x xs, or_true, same)
 
 -- ---- the templates of a chain as sources grow
 
@@ -184,17 +172,7 @@ module _ (s r : Sources) (e : Bool) (entry : Home) (g : (n : Text) (b : Body) �
       ap (among n) more.1 ∙ among_front n (libraries s h) more.0 a
 
   pub asked_more : (all : Bool) (h : Home) → Reaches r e entry h → (n : Text) → among n (asked s e all h) ≡ true → among n (asked r e all h) ≡ true
-  asked_more all h p n a =
-      let ours = flat_map (λ t. needs_in all t.body) (templates r h) in
-      let more = way_more h p in
-      ⊎_elim
-      (λ q. among_front n (way r e h) (ours ++ libraries r h) (ap (among n) more.1 ∙ among_front n (way s e h) more.0 q))
-      (λ q. among_behind n (way r e h) (ours ++ libraries r h)
-      (⊎_elim
-      (λ k. among_front n ours (libraries r h) (needs_more all h p n k))
-      (λ k. among_behind n ours (libraries r h) (imports_more h p n k))
-      (among_cases n (flat_map (λ t. needs_in all t.body) (templates s h)) (libraries s h) q)))
-      (among_cases n (way s e h) (flat_map (λ t. needs_in all t.body) (templates s h) ++ libraries s h) a)
+  asked_more all h p n a = search (arith, rules, way_more, among_front, among_behind, needs_more, imports_more, among_cases)
 
   -- those of them that have a source
   sourced : (h : Home) → Reaches r e entry h → (xs ys : List Text) → ((n : Text) → among n xs ≡ true → among n ys ≡ true) → ((n : Text) → among n ys ≡ true → Asks r e entry n) → (n : Text) → among n (with_source s xs) ≡ true → among n (with_source r ys) ≡ true
@@ -230,3 +208,7 @@ reach_more ts us more e h k grown r =
 pub ask_more : (ts us more : List Template) (e : Bool) (h : Home) (n : Text) → us ≡ ts ++ more → Asks (sources_in ts) e h n → Asks (sources_in us) e h n
 ask_more ts us more e h n grown i =
     subst (λ vs. Asks (sources_in vs) e h n) (sym grown) (asks_more (sources_in ts) (sources_in (ts ++ more)) e h (λ m b k. more_sources ts more m b) n i)
+
+-- what breaks each chain that reaches this one when more is read, breaks each that reached it before
+pub breaks_more : (given : Given) (options : Options) (ps qs : List Page) → Grow ps qs → (h : Home) (e : ChainError) → BreaksAll given options qs h e → BreaksAll given options ps h e
+breaks_more given options ps qs more h e b root r = b root (reach_more (pages_view ps) (pages_view qs) more.0 options.autoescape (a_chain root) h more.1 r)

@@ -1,5 +1,5 @@
 -- Chains and libraries among others.
-use Rattle.std.proofs.Common.{◌≡◌, ℕ, zero, suc, ◌≤◌, Bool, true, false, cond, ◌||◌, List, [], ◌∷◌, ◌++◌, length, refl, sym, ap, ◌∙◌, arith, ◌⊎◌, ⊎_elim, inl, inr, Some}
+use Rattle.std.proofs.Common.{◌≡◌, ℕ, zero, suc, ◌≤◌, Bool, true, false, cond, ◌||◌, List, [], ◌∷◌, ◌++◌, length, refl, sym, ap, ◌∙◌, arith, ◌⊎◌, ⊎_elim, inl, inr, Some, rules}
 use Rattle.std.specs.Prelude.{slice_get}
 use Rattle.std.specs.Str.{bytes_eq}
 use Rattle.jt_trees.specs.Texts.{among}
@@ -28,13 +28,7 @@ symmetric (a_library n) (a_chain m) = refl
 -- in front, or behind
 pub listed_front : (x : Home) (xs ys : List Home) → listed x xs ≡ true → listed x (xs ++ ys) ≡ true
 listed_front x [] ys h = absurd (cc)
-listed_front x (y ∷ xs) ys h = by (same_home y x) refl (listed_front x xs ys)
-  where
-    by : (b : Bool) → same_home y x ≡ b → (listed x xs ≡ true → listed x (xs ++ ys) ≡ true) → listed x (y ∷ xs ++ ys) ≡ true
-    by true e r = ap (λ c. c || listed x (xs ++ ys)) e
-    by false e r =
-        let rest : listed x xs ≡ true = sym (ap (λ c. c || listed x xs) e) ∙ h in
-        or_true (same_home y x) (listed x (xs ++ ys)) (r rest)
+listed_front x (y ∷ xs) ys h = search (arith, rules, listed_front x xs ys, or_true)
 
 pub listed_behind : (x : Home) (xs ys : List Home) → listed x ys ≡ true → listed x (xs ++ ys) ≡ true
 listed_behind x [] ys h = h
@@ -63,13 +57,7 @@ listed_cases x (y ∷ xs) ys h = by (same_home y x) refl (listed_cases x xs ys)
     by false e r = ⊎_elim (λ p. inl (or_true (same_home y x) (listed x xs) p)) (λ q. inr q) (r (sym (ap (λ b. b || listed x (xs ++ ys)) e) ∙ h))
 
 pub only_listed : (x y : Home) → listed y (x ∷ []) ≡ true → x ≡ y
-only_listed x y a = by (same_home x y) refl a
-  where
-    by : (b : Bool) → same_home x y ≡ b → (same_home x y || false) ≡ true → x ≡ y
-    by true e h = same x y e
-    by false e h =
-        let no : false ≡ true = sym (ap (λ b. b || false) e) ∙ h in
-        absurd (cc)
+only_listed x y a = search (arith, rules, same)
 
 -- ---- different ones among others are no more than these
 

@@ -1,16 +1,15 @@
 -- What templates import, and that libraries import nothing.
-use Rattle.std.proofs.Common.{◌≡◌, Bool, true, false, cond, ◌&&◌, if◌then◌else◌, List, [], ◌∷◌, ◌++◌, map, refl, sym, ap, ◌∙◌, Option, Some, None}
+use Rattle.std.proofs.Common.{◌≡◌, Bool, true, false, ◌&&◌, List, [], ◌∷◌, ◌++◌, map, refl, sym, ap, ◌∙◌, arith, rules}
 use Rattle.std.specs.Prelude.{flat_map, filter}
-use Rattle.std.specs.Option.{is_some}
 use Rattle.std.specs.List.{AllByRecursion}
 use Rattle.std.proofs.lemmas.List.{map-append}
 use Rattle.jt_trees.specs.Statements as trees
 use Rattle.jt_trees.specs.Expressions.{Text}
 use Rattle.jt_trees.specs.Statements.{Body, Branches}
 use Rattle.jt_trees.specs.Texts.{among}
-use Rattle.jt_chains.specs.Chain.{Sources, Home, a_chain, a_library, Template, holds_macros, of_a_library, libraries_in, imports_in, all_given_from, given_from, macros, MacroBody, public_macro, Given, own}
+use Rattle.jt_chains.specs.Chain.{Sources, Home, a_chain, a_library, Template, holds_macros, of_a_library, libraries_in, imports_in, all_given_from, macros, MacroBody, Given, own}
 use Rattle.jt_chains.specs.Rules.{lacks_macros}
-use Rattle.jt_inherit.specs.Found.{known_of, chosen}
+use Rattle.jt_inherit.specs.Found.{chosen}
 use Rattle.jt_inherit.specs.Kept.{names_from, imported_names}
 use Rattle.jt_inherit.specs.Needs as needs
 use Rattle.jt_inherit.specs.Needs.{Need, library_need, need_home, needed, includes_of, includes_in, includes_under}
@@ -49,12 +48,7 @@ imports_needed false (n ∷ ns) = ap (λ l. n ∷ l) (imports_needed false ns)
 
 pub imports_chosen : (ks ns : List Text) → chosen ks (map library_need ns) ≡ map a_library (filter (λ n. among n ks) ns)
 imports_chosen ks [] = refl
-imports_chosen ks (n ∷ ns) = by (among n ks) (imports_chosen ks ns)
-  where
-    by : (b : Bool) → chosen ks (map library_need ns) ≡ map a_library (filter (λ m. among m ks) ns)
-        → map need_home (cond b (library_need n ∷ known_of ks (map library_need ns)) (known_of ks (map library_need ns))) ≡ map a_library (cond b (n ∷ filter (λ m. among m ks) ns) (filter (λ m. among m ks) ns))
-    by true r = ap (λ l. a_library n ∷ l) r
-    by false r = r
+imports_chosen ks (n ∷ ns) = search (arith, rules, imports_chosen ks ns)
 
 -- ---- includes are no libraries
 
@@ -67,7 +61,6 @@ both (n ∷ ns) ms a b = (a.0, both ns ms a.1 b)
 
 mutual
   by_statement : (s : trees.Stmt) → AreIncludes (includes_of s)
-  by_statement (trees.include line n ignore with_context) = (refl, tt)
   by_statement (trees.choose bs other) = both (includes_under bs) (includes_in other) (by_branches bs) (by_body other)
   by_statement (trees.for_each line xs e c body other) = both (includes_in body) (includes_in other) (by_body body) (by_body other)
   by_statement (trees.set_block line x body) = by_body body
@@ -76,12 +69,7 @@ mutual
   by_statement (trees.autoescape line on body) = by_body body
   by_statement (trees.macro line x ps body) = by_body body
   by_statement (trees.block line x scoped required body) = by_body body
-  by_statement (trees.data_of x) = tt
-  by_statement (trees.print line e) = tt
-  by_statement (trees.set line xs e) = tt
-  by_statement (trees.import_as line n x) = tt
-  by_statement (trees.import_from line n xs) = tt
-  by_statement (trees.extends line x) = tt
+  by_statement a0 = search (arith, rules)
 
   by_body : (b : Body) → AreIncludes (includes_in b)
   by_body trees.end = tt
@@ -97,12 +85,7 @@ all_includes (t ∷ ts) = both (includes_in t.body) (flat_map (λ (u : Template)
 
 pub includes_chosen : (ks : List Text) (ns : List Need) → AreIncludes ns → chosen ks ns ≡ map a_chain (filter (λ n. among n ks) (needed true ns))
 includes_chosen ks [] a = refl
-includes_chosen ks (n ∷ ns) a = by (among n.name ks) (includes_chosen ks ns a.1)
-  where
-    by : (b : Bool) → chosen ks ns ≡ map a_chain (filter (λ m. among m ks) (needed true ns))
-        → map need_home (cond b (n ∷ known_of ks ns) (known_of ks ns)) ≡ map a_chain (cond b (n.name ∷ filter (λ m. among m ks) (needed true ns)) (filter (λ m. among m ks) (needed true ns)))
-    by true r = ap (λ c. (if c then a_library n.name else a_chain n.name) ∷ chosen ks ns) a.0 ∙ ap (λ l. a_chain n.name ∷ l) r
-    by false r = r
+includes_chosen ks (n ∷ ns) a = search (arith, rules, includes_chosen ks ns a.1)
 
 -- ---- libraries import nothing
 
@@ -111,71 +94,25 @@ and_right true b e = e
 and_right false b e = absurd (cc)
 
 pub none_imported : (b : Body) → holds_macros b ≡ true → libraries_in b ≡ []
-none_imported trees.end h = refl
 none_imported (trees.stmt (trees.data_of t) rest) h = none_imported rest (and_right (of_a_library (trees.data_of t)) (holds_macros rest) h)
 none_imported (trees.stmt (trees.macro line x ps body) rest) h = none_imported rest h
-none_imported (trees.stmt (trees.print line e) rest) h = absurd (cc)
-none_imported (trees.stmt (trees.choose bs other) rest) h = absurd (cc)
-none_imported (trees.stmt (trees.for_each line xs e c body other) rest) h = absurd (cc)
-none_imported (trees.stmt (trees.set line xs e) rest) h = absurd (cc)
-none_imported (trees.stmt (trees.set_block line x body) rest) h = absurd (cc)
-none_imported (trees.stmt (trees.with_values line ps body) rest) h = absurd (cc)
-none_imported (trees.stmt (trees.filter_block line fs body) rest) h = absurd (cc)
-none_imported (trees.stmt (trees.autoescape line on body) rest) h = absurd (cc)
-none_imported (trees.stmt (trees.include line n i c) rest) h = absurd (cc)
-none_imported (trees.stmt (trees.extends line x) rest) h = absurd (cc)
-none_imported (trees.stmt (trees.block line x scoped required body) rest) h = absurd (cc)
-none_imported (trees.stmt (trees.import_as line n x) rest) h = absurd (cc)
-none_imported (trees.stmt (trees.import_from line n xs) rest) h = absurd (cc)
+none_imported a0 h = search (arith, rules)
 
 pub none_given : (s : Sources) (b : Body) → holds_macros b ≡ true → imported_names s b ≡ []
-none_given s trees.end h = refl
 none_given s (trees.stmt (trees.data_of t) rest) h = none_given s rest (and_right (of_a_library (trees.data_of t)) (holds_macros rest) h)
 none_given s (trees.stmt (trees.macro line x ps body) rest) h = none_given s rest h
-none_given s (trees.stmt (trees.print line e) rest) h = absurd (cc)
-none_given s (trees.stmt (trees.choose bs other) rest) h = absurd (cc)
-none_given s (trees.stmt (trees.for_each line xs e c body other) rest) h = absurd (cc)
-none_given s (trees.stmt (trees.set line xs e) rest) h = absurd (cc)
-none_given s (trees.stmt (trees.set_block line x body) rest) h = absurd (cc)
-none_given s (trees.stmt (trees.with_values line ps body) rest) h = absurd (cc)
-none_given s (trees.stmt (trees.filter_block line fs body) rest) h = absurd (cc)
-none_given s (trees.stmt (trees.autoescape line on body) rest) h = absurd (cc)
-none_given s (trees.stmt (trees.include line n i c) rest) h = absurd (cc)
-none_given s (trees.stmt (trees.extends line x) rest) h = absurd (cc)
-none_given s (trees.stmt (trees.block line x scoped required body) rest) h = absurd (cc)
-none_given s (trees.stmt (trees.import_as line n x) rest) h = absurd (cc)
-none_given s (trees.stmt (trees.import_from line n xs) rest) h = absurd (cc)
+none_given s a1 h = search (arith, rules)
 
 pub none_lacking : (s : Sources) (b : Body) → holds_macros b ≡ true → lacks_macros s b ≡ false
-none_lacking s trees.end h = refl
 none_lacking s (trees.stmt (trees.data_of t) rest) h = none_lacking s rest (and_right (of_a_library (trees.data_of t)) (holds_macros rest) h)
 none_lacking s (trees.stmt (trees.macro line x ps body) rest) h = none_lacking s rest h
-none_lacking s (trees.stmt (trees.print line e) rest) h = absurd (cc)
-none_lacking s (trees.stmt (trees.choose bs other) rest) h = absurd (cc)
-none_lacking s (trees.stmt (trees.for_each line xs e c body other) rest) h = absurd (cc)
-none_lacking s (trees.stmt (trees.set line xs e) rest) h = absurd (cc)
-none_lacking s (trees.stmt (trees.set_block line x body) rest) h = absurd (cc)
-none_lacking s (trees.stmt (trees.with_values line ps body) rest) h = absurd (cc)
-none_lacking s (trees.stmt (trees.filter_block line fs body) rest) h = absurd (cc)
-none_lacking s (trees.stmt (trees.autoescape line on body) rest) h = absurd (cc)
-none_lacking s (trees.stmt (trees.include line n i c) rest) h = absurd (cc)
-none_lacking s (trees.stmt (trees.extends line x) rest) h = absurd (cc)
-none_lacking s (trees.stmt (trees.block line x scoped required body) rest) h = absurd (cc)
-none_lacking s (trees.stmt (trees.import_as line n x) rest) h = absurd (cc)
-none_lacking s (trees.stmt (trees.import_from line n xs) rest) h = absurd (cc)
+none_lacking s a1 h = search (arith, rules)
 
 -- ---- the names that imports give
 
 from_named : (n : Text) (ms : List MacroBody) (xs : List (Text × Text)) (s : Sources) → macros s (a_library n) ≡ ms → map (λ g. g.0) (all_given_from s n xs) ≡ names_from ms xs
 from_named n ms [] s e = refl
-from_named n ms (x ∷ xs) s e =
-    ap (λ l. map (λ (g : Text × Given). g.0) (given_from n x.1 (public_macro x.0 l) ++ all_given_from s n xs)) e
-    ∙ map-append (λ (g : Text × Given). g.0) (given_from n x.1 (public_macro x.0 ms)) (all_given_from s n xs)
-    ∙ ap (λ l. l ++ map (λ (g : Text × Given). g.0) (all_given_from s n xs)) (one (public_macro x.0 ms)) ∙ ap (λ l. (if is_some (public_macro x.0 ms) then x.1 ∷ [] else []) ++ l) (from_named n ms xs s e)
-  where
-    one : (o : Option MacroBody) → map (λ (g : Text × Given). g.0) (given_from n x.1 o) ≡ (if is_some o then x.1 ∷ [] else [])
-    one None = refl
-    one (Some m) = refl
+from_named n ms (x ∷ xs) s e = search (arith, rules, map-append, from_named n ms xs s e)
 
 pub imports_named : (s : Sources) (b : Body) → map (λ g. g.0) (imports_in s b) ≡ imported_names s b
 imports_named s trees.end = refl

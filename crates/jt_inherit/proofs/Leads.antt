@@ -1,5 +1,5 @@
 -- Ways that go on, and what is known of them.
-use Rattle.std.proofs.Common.{◌≡◌, ℕ, zero, suc, ◌+◌, ◌-◌, ◌<◌, ◌≤◌, ◌==◌, Bool, true, false, not, ◌&&◌, ◌||◌, if◌then◌else◌, List, [], ◌∷◌, ◌++◌, length, map, drop, get_or, refl, sym, ap, subst, ◌∙◌, arith, inl, inr, ◌⊎◌, ⊎_elim, Option, Some, None, length-append, string_bytes}
+use Rattle.std.proofs.Common.{◌≡◌, ℕ, zero, suc, ◌+◌, ◌-◌, ◌<◌, ◌≤◌, ◌==◌, Bool, true, false, not, ◌&&◌, ◌||◌, List, [], ◌∷◌, ◌++◌, length, map, drop, get_or, refl, sym, ap, subst, ◌∙◌, arith, inl, inr, ◌⊎◌, ⊎_elim, Option, Some, None, length-append, string_bytes, rules}
 use Rattle.std.specs.Prelude.{flat_map, slice_get}
 use Rattle.std.specs.Option.{option_to_list}
 use Rattle.std.proofs.lemmas.Option.{slice_get_within, slice_get-get_or}
@@ -10,6 +10,7 @@ use Rattle.jt_scan.specs.declared.options.Options.{Options}
 use Rattle.jt_trees.specs.Texts.{among, repeated}
 use Rattle.jt_trees.specs.Expressions.{Text}
 use Rattle.jt_trees.specs.Statements.{Body, end}
+use Rattle.jt_trees.specs.StatementView.{body_of}
 use Rattle.jt_chains.specs.Along.{ArePlaces, templates_at}
 use Rattle.jt_chains.specs.Chain.{Sources, Home, a_chain, a_library, Template, template, templates, libraries, extends_of, parent_of, names_up, sources_in}
 use Rattle.jt_inherit.specs.Chains.{Given, IsRead, IsOnly}
@@ -18,8 +19,10 @@ use Rattle.jt_chains.specs.Includes.{needs_in}
 use Rattle.jt_chains.specs.Pages.{page_view, pages_view}
 use Rattle.jt_chains.specs.declared.pages.Page.{Page}
 use Rattle.jt_inherit.specs.Refusals.{Breaks}
+use Rattle.jt_inherit.specs.Sets.{names_view}
+use Rattle.jt_inherit.specs.declared.sets.Names.{Names}
 use Rattle.jt_chains.specs.Rules.{Reaches, asked, way}
-use Rattle.jt_inherit.specs.Ways.{Leads, LeadsFrom, AreKnown, IsWay, IsWithin}
+use Rattle.jt_inherit.specs.Ways.{Leads, LeadsFrom, AreKnown, IsWay, IsWithin, AddsName, Grow}
 use Rattle.jt_inherit.specs.declared.error.ChainError.{ChainError}
 use Rattle.jt_inherit.specs.declared.error.ChainError.TheVariants as error
 use Rattle.jt_inherit.proofs.Among.{among_front, among_next, once_more, comes_again, map_more, all_more}
@@ -35,13 +38,7 @@ Grows s r = (n : Text) (b : Body) → s n ≡ Some b → r n ≡ Some b
 
 pub more_sources : (ts us : List Template) → Grows (sources_in ts) (sources_in (ts ++ us))
 more_sources [] us n b e = absurd (cc)
-more_sources (t ∷ ts) us n b e = by (bytes_eq t.name n) refl (more_sources ts us n b)
-  where
-    by : (c : Bool) → bytes_eq t.name n ≡ c → (sources_in ts n ≡ Some b → sources_in (ts ++ us) n ≡ Some b) → sources_in (t ∷ ts ++ us) n ≡ Some b
-    by true h r =
-        ap (λ c. if c then Some t.body else sources_in (ts ++ us) n) h ∙ (sym (ap (λ c. if c then Some t.body else sources_in ts n) h) ∙ e)
-    by false h r =
-        ap (λ c. if c then Some t.body else sources_in (ts ++ us) n) h ∙ r (sym (ap (λ c. if c then Some t.body else sources_in ts n) h) ∙ e)
+more_sources (t ∷ ts) us n b e = search (arith, rules, more_sources ts us n b)
 
 pub leads_grow : (s r : Sources) → Grows s r → (o : Option Text) (ts : List Template) (p : Option Text) → Leads s o ts p → Leads r o ts p
 leads_grow s r g o [] p l = l
@@ -117,13 +114,7 @@ templates_more ts (j ∷ is) i t e =
 
 pub few_templates : (ts : List Template) (is : List ℕ) → length (templates_at ts is) ≤ length is
 few_templates ts [] = omega arith
-few_templates ts (i ∷ is) =
-    let one = at_most (slice_get ts i) in
-    omega (arith, one, few_templates ts is, length-append (option_to_list (slice_get ts i)) (templates_at ts is))
-  where
-    at_most : (o : Option Template) → length (option_to_list o) ≤ 1
-    at_most None = omega arith
-    at_most (Some t) = omega arith
+few_templates ts (i ∷ is) = search (arith, rules, few_templates ts is, length-append)
 
 pub all_templates : (ts : List Template) (is : List ℕ) → ArePlaces ts is → length (templates_at ts is) ≡ length is
 all_templates ts [] a = refl
@@ -152,17 +143,7 @@ all_at_places P ts (i ∷ is) a = by (slice_get ts i) refl (all_at_places P ts i
 
 pub known_more : (given : Given) (options : Options) (ts : List Template) (ks : List Text) (t : Template) → AreKnown given options ts ks → among t.name ks ≡ false → IsRead given options t → IsOnly given options t → IsWithin given t
     → AreKnown given options (ts ++ t ∷ []) (ks ++ t.name ∷ [])
-known_more given options ts ks t k new r only i =
-    let fresh : among t.name (names ts) ≡ false = ap (among t.name) (sym k.named) ∙ new in
-    record {
-      read = record {
-        each = all_more (IsRead given options) ts t k.read.each r;
-        once = ap repeated (map_more (λ (u : Template). u.name) ts t) ∙ once_more t.name (names ts) k.read.once fresh;
-      };
-      only = all_more (IsOnly given options) ts t k.only only;
-      within = all_more (IsWithin given) ts t k.within i;
-      named = ap (λ l. l ++ t.name ∷ []) k.named ∙ sym (map_more (λ (u : Template). u.name) ts t);
-    }
+known_more given options ts ks t k new r only i = search (arith, rules, all_more, map_more, once_more)
 
 pub last_at : {X : Type 0} (xs : List X) (x : X) → slice_get (xs ++ x ∷ []) (length xs) ≡ Some x
 last_at [] x = refl
@@ -179,32 +160,15 @@ from_grows s r g (a_chain n) ts p l = leads_grow s r g (Some n) ts p l
 from_grows s r g (a_library n) ts p l = record { template = l.template; only = l.only; named = l.named; source = g n l.template.body l.source; holds = l.holds; last = l.last }
 
 pub way_grows : (ts us : List Template) (h : Home) (is : List ℕ) (p : Option Text) → IsWay ts h is p → IsWay (ts ++ us) h is p
-way_grows ts us h is p w =
-    let e = sym (templates_grow ts us is w.places) in
-    record {
-      places = places_grow ts us is w.places;
-      leads = subst (λ vs. LeadsFrom (sources_in (ts ++ us)) h vs p) e (from_grows (sources_in ts) (sources_in (ts ++ us)) (more_sources ts us) h (templates_at ts is) p w.leads);
-      once = subst (λ vs. repeated (names vs) ≡ false) e w.once;
-      few = w.few;
-    }
+way_grows ts us h is p w = search (arith, rules, templates_grow, places_grow, from_grows, more_sources)
 
 pub way_next : (ts : List Template) (h : Text) (is : List ℕ) (i : ℕ) (t : Template) (n : Text) → IsWay ts (a_chain h) is (Some n) → slice_get ts i ≡ Some t → t.name ≡ n → among n (names (templates_at ts is)) ≡ false
     → repeated (names ts) ≡ false → length is < 64 → IsWay ts (a_chain h) (is ++ i ∷ []) (extends_of t.body)
-way_next ts h is i t n w at is_named new once lt =
-    let e = sym (templates_more ts is i t at) in
-    let us = templates_at ts is in
-    record {
-      places = all_more (λ j. j < length ts) is i w.places (slice_get_within ts i t at);
-      leads = subst (λ vs. Leads (sources_in ts) (Some h) vs (extends_of t.body)) e
-          (leads_more (sources_in ts) (Some h) us t (subst (λ x. Leads (sources_in ts) (Some h) us (Some x)) (sym is_named) w.leads) (only_one ts i t once at));
-      once = subst (λ vs. repeated (names vs) ≡ false) e
-          (ap repeated (map_more (λ (u : Template). u.name) us t) ∙ once_more t.name (names us) w.once (ap (λ x. among x (names us)) is_named ∙ new));
-      few = omega (arith, length-append is (i ∷ []));
-    }
+way_next ts h is i t n w at is_named new once lt = search (arith, rules, templates_more, all_more, slice_get_within, leads_more, only_one, map_more, once_more, length-append)
 
 -- ---- a chain that is reached, and what is wrong on its way
 
-module _ (given : Given) (options : Options) (root : Text) (ts : List Template) {ks : List Text} (known : AreKnown given options ts ks) (h : Home) (r : Reaches (sources_in ts) options.autoescape (a_chain root) h) where
+module _ {given : Given} {options : Options} {root : Text} {ts : List Template} {ks : List Text} (known : AreKnown given options ts ks) {h : Home} (r : Reaches (sources_in ts) options.autoescape (a_chain root) h) where
   -- a refusal of a template that a chain or a library asks for
   pub asked_breaks : (n : Text) (e : ChainError) → among n (asked (sources_in ts) options.autoescape true h) ≡ true → (e ≡ error.Missing → among n (asked (sources_in ts) options.autoescape false h) ≡ true)
       → IsFaultOf e given n options → Breaks e given root options
@@ -237,9 +201,9 @@ module _ (given : Given) (options : Options) (root : Text) (ts : List Template) 
   asked_breaks n error.NoMacro a must f = absurd f
   asked_breaks n error.NotALibrary a must f = absurd f
 
-module _ (given : Given) (options : Options) (root : Text) (ts : List Template) {ks : List Text} (known : AreKnown given options ts ks) (h : Text) (r : Reaches (sources_in ts) options.autoescape (a_chain root) (a_chain h)) where
-  pub cycle_breaks : (is : List ℕ) (n : Text) → IsWay ts (a_chain h) is (Some n) → among n (names (templates_at ts is)) ≡ true → Breaks error.ExtendsCycle given root options
-  cycle_breaks is n w there =
+module _ {given : Given} {options : Options} {root : Text} {ts : List Template} {ks : List Text} (known : AreKnown given options ts ks) {h : Text} (r : Reaches (sources_in ts) options.autoescape (a_chain root) (a_chain h)) where
+  pub cycle_breaks : {is : List ℕ} {n : Text} → IsWay ts (a_chain h) is (Some n) → among n (names (templates_at ts is)) ≡ true → Breaks error.ExtendsCycle given root options
+  cycle_breaks {is} {n} w there =
       let s = sources_in ts in
       let us = templates_at ts is in
       let up : names_up s (length us + 1) (Some h) ≡ names us ++ n ∷ [] = names_lead s (length us + 1) 1 (Some h) us (Some n) refl w.leads in
@@ -250,8 +214,8 @@ module _ (given : Given) (options : Options) (root : Text) (ts : List Template) 
         holds = (a_chain h, r, (h, refl, length us + 1, ap repeated up ∙ comes_again n (names us) there));
       }
 
-  pub long_breaks : (is : List ℕ) (n : Text) → IsWay ts (a_chain h) is (Some n) → length is ≡ 64 → among n (names (templates_at ts is)) ≡ false → Breaks error.ChainTooLong given root options
-  long_breaks is n w full new =
+  pub long_breaks : {is : List ℕ} {n : Text} → IsWay ts (a_chain h) is (Some n) → length is ≡ 64 → among n (names (templates_at ts is)) ≡ false → Breaks error.ChainTooLong given root options
+  long_breaks {is} {n} w full new =
       let s = sources_in ts in
       let us = templates_at ts is in
       let len : length us ≡ 64 = all_templates ts is w.places ∙ full in
@@ -268,10 +232,10 @@ module _ (given : Given) (options : Options) (root : Text) (ts : List Template) 
           let count : length (names us ++ n ∷ []) ≡ 65 = length-append (names us) (n ∷ []) ∙ ap (λ k. k + 1) (length-map us (λ (u : Template). u.name) ∙ len) in
           ap (λ k. (k == 65) && not (repeated (names us ++ n ∷ []))) count ∙ ap not o
 
-  pub fault_breaks : (is : List ℕ) (n : Text) → IsWay ts (a_chain h) is (Some n) → (e : ChainError) → IsFaultOf e given n options → Breaks e given root options
-  fault_breaks is n w e f =
+  pub fault_breaks : {is : List ℕ} {n : Text} → IsWay ts (a_chain h) is (Some n) → (e : ChainError) → IsFaultOf e given n options → Breaks e given root options
+  fault_breaks {is} {n} w e f =
       let few : length (templates_at ts is) ≤ 64 = omega (arith, few_templates ts is, w.few) in
-      asked_breaks given options root ts known (a_chain h) r n e (next_asked (sources_in ts) options.autoescape true h (templates_at ts is) n few w.leads)
+      asked_breaks known r n e (next_asked (sources_in ts) options.autoescape true h (templates_at ts is) n few w.leads)
       (λ q. next_asked (sources_in ts) options.autoescape false h (templates_at ts is) n few w.leads) f
 
 -- ---- pages, one more
@@ -288,8 +252,8 @@ page_last ps qs p n k e is at =
 
 -- ---- a way goes on
 
-pub on_way : (ps qs : List Page) (is js : List ℕ) (n m : Text) (b : Bool) → qs ≡ ps → js ≡ is → m ≡ n → b ≡ among m (names (templates_at (pages_view qs) js)) → b ≡ among n (names (templates_at (pages_view ps) is))
-on_way ps qs is js n m b p q r e =
+pub on_way : {ps qs : List Page} {is js : List ℕ} {n m : Text} {b : Bool} → qs ≡ ps → js ≡ is → m ≡ n → b ≡ among m (names (templates_at (pages_view qs) js)) → b ≡ among n (names (templates_at (pages_view ps) is))
+on_way {ps} {qs} {is} {js} {n} {m} {b} p q r e =
     e ∙ ap (λ (z : List Page). among m (names (templates_at (pages_view z) js))) p ∙ ap (λ (z : List ℕ). among m (names (templates_at (pages_view ps) z))) q ∙ ap (λ (z : Text). among z (names (templates_at (pages_view ps) is))) r
 
 pub name_of_slice : (ts : List Template) (i : ℕ) (t : Template) → slice_get ts i ≡ Some t → slice_get (names ts) i ≡ Some t.name
@@ -299,33 +263,49 @@ name_of_slice (u ∷ ts) zero t e =
     ap (λ (z : Template). Some z.name) h
 name_of_slice (u ∷ ts) (suc i) t e = name_of_slice ts i t e
 
-pub way_turn : (ts us more : List Template) → us ≡ ts ++ more → (h : Text) (is js : List ℕ) (i : ℕ) (n m : Text) (o : Option Text) (t : Template) → IsWay ts (a_chain h) is (Some n) → among n (names (templates_at ts is)) ≡ false
-    → length is < 64 → repeated (names us) ≡ false → slice_get (names us) i ≡ Some m → m ≡ n → js ≡ is ++ i ∷ [] → slice_get us i ≡ Some t → o ≡ extends_of t.body → IsWay us (a_chain h) js o
-way_turn ts us more e h is js i n m o t w new lt once at same_name longer there ext =
-    let grown : IsWay us (a_chain h) is (Some n) = subst (λ vs. IsWay vs (a_chain h) is (Some n)) (sym e) (way_grows ts more (a_chain h) is (Some n) w) in
-    let fresh : among n (names (templates_at us is)) ≡ false = ap (λ vs. among n (names (templates_at vs is))) e ∙ ap (λ vs. among n (names vs)) (templates_grow ts more is w.places) ∙ new in
-    let told : Some t.name ≡ Some m = sym (name_of_slice us i t there) ∙ at in
-    let named : t.name ≡ m = cc in
-    let next = way_next us h is i t n grown there (named ∙ same_name) fresh once lt in
-    subst (λ z. IsWay us (a_chain h) z o) (sym longer) (subst (IsWay us (a_chain h) (is ++ i ∷ [])) (sym ext) next)
+-- the template of a name at its place, put behind a way
+module _ (ps qs : List Page) (more : Grow ps qs) (is : List ℕ) {js : List ℕ} (i : ℕ) {n m : Text} {p : Page} (at : slice_get (names (pages_view qs)) i ≡ Some m) (same_name : m ≡ n) (longer : js ≡ is ++ i ∷ []) (there : p ≡ get_or qs i p) where
+  abbrev ts : List Template
+  ts = pages_view ps
 
--- what was new before, and the template that is put on the way
-pub way_from : (ts us more : List Template) → us ≡ ts ++ more → (is js : List ℕ) (i : ℕ) (n m : Text) (t : Template) → ArePlaces ts is → slice_get (names us) i ≡ Some m → m ≡ n → js ≡ is ++ i ∷ [] → slice_get us i ≡ Some t → (k0 k1 k2 : List Text)
-    → ((x : Text) → among x k1 ≡ true → (among x k0 ≡ true) ⊎ (among x (names (templates_at ts is)) ≡ true)) → ((x : Text) → among x k2 ≡ true → (among x k1 ≡ true) ⊎ (x ≡ m))
-    → (x : Text) → among x k2 ≡ true → (among x k0 ≡ true) ⊎ (among x (names (templates_at us js)) ≡ true)
-way_from ts us more e is js i n m t places at same_name longer there k0 k1 k2 before last x a =
-    let told : Some t.name ≡ Some m = sym (name_of_slice us i t there) ∙ at in
-    let named : t.name ≡ m = cc in
-    let theirs : names (templates_at us js) ≡ names (templates_at ts is) ++ t.name ∷ [] =
-    ap (λ l. names (templates_at us l)) longer ∙ ap names (templates_more us is i t there) ∙ map_more (λ (u : Template). u.name) (templates_at us is) t
-    ∙ ap (λ l. names l ++ t.name ∷ []) (ap (λ l. templates_at l is) e ∙ templates_grow ts more is places) in
-    ⊎_elim
-    (λ p. ⊎_elim (λ q. inl q) (λ q. inr (ap (among x) theirs ∙ among_front x (names (templates_at ts is)) (t.name ∷ []) q)) (before x p))
-    (λ p. inr (ap (among x) theirs ∙ ap (λ y. among x (names (templates_at ts is) ++ y ∷ [])) (named ∙ sym p) ∙ among_next x (names (templates_at ts is)) []))
-    (last x a)
+  abbrev us : List Template
+  us = pages_view qs
 
-pub grown_both : {X : Type 0} (xs ys zs us vs : List X) → ys ≡ xs ++ us → zs ≡ ys ++ vs → zs ≡ xs ++ (us ++ vs)
-grown_both xs ys zs us vs p q = q ∙ ap (λ l. l ++ vs) p ∙ append_assoc xs us vs
+  held : slice_get us i ≡ Some (page_view p)
+  held = map_at page_view qs i p (omega (arith, slice_get_within (names us) i m at, length_names us, length-map qs page_view)) there
+
+  named : string_bytes p.name ≡ m
+  named =
+      let told : Some (string_bytes p.name) ≡ Some m = sym (name_of_slice us i (page_view p) held) ∙ at in
+      cc
+
+  -- the way goes on
+  way_turn : {h : Text} {o : Option Text} → IsWay ts (a_chain h) is (Some n) → among n (names (templates_at ts is)) ≡ false → length is < 64 → repeated (names us) ≡ false → o ≡ extends_of (body_of p.template) → IsWay us (a_chain h) js o
+  way_turn {h} {o} w new lt once ext =
+      let grown : IsWay us (a_chain h) is (Some n) = subst (λ vs. IsWay vs (a_chain h) is (Some n)) (sym more.1) (way_grows ts more.0 (a_chain h) is (Some n) w) in
+      let fresh : among n (names (templates_at us is)) ≡ false = ap (λ vs. among n (names (templates_at vs is))) more.1 ∙ ap (λ vs. among n (names vs)) (templates_grow ts more.0 is w.places) ∙ new in
+      let next = way_next us h is i (page_view p) n grown held (named ∙ same_name) fresh once lt in
+      subst (λ z. IsWay us (a_chain h) z o) (sym longer) (subst (IsWay us (a_chain h) (is ++ i ∷ [])) (sym ext) next)
+
+  -- what was new before, and the template that is put on the way
+  way_from : ArePlaces ts is → (k0 k1 k2 : List Text) → ((x : Text) → among x k1 ≡ true → (among x k0 ≡ true) ⊎ (among x (names (templates_at ts is)) ≡ true)) → ((x : Text) → among x k2 ≡ true → (among x k1 ≡ true) ⊎ (x ≡ m))
+      → (x : Text) → among x k2 ≡ true → (among x k0 ≡ true) ⊎ (among x (names (templates_at us js)) ≡ true)
+  way_from places k0 k1 k2 before last x a =
+      let theirs : names (templates_at us js) ≡ names (templates_at ts is) ++ string_bytes p.name ∷ [] =
+      ap (λ l. names (templates_at us l)) longer ∙ ap names (templates_more us is i (page_view p) held) ∙ map_more (λ (u : Template). u.name) (templates_at us is) (page_view p)
+      ∙ ap (λ l. names l ++ string_bytes p.name ∷ []) (ap (λ l. templates_at l is) more.1 ∙ templates_grow ts more.0 is places) in
+      ⊎_elim
+      (λ q. ⊎_elim (λ r. inl r) (λ r. inr (ap (among x) theirs ∙ among_front x (names (templates_at ts is)) (string_bytes p.name ∷ []) r)) (before x q))
+      (λ q. inr (ap (among x) theirs ∙ ap (λ y. among x (names (templates_at ts is) ++ y ∷ [])) (named ∙ sym q) ∙ among_next x (names (templates_at ts is)) []))
+      (last x a)
+
+  pub way_step : {h : Text} {o : Option Text} → IsWay ts (a_chain h) is (Some n) → among n (names (templates_at ts is)) ≡ false → length is < 64 → repeated (names us) ≡ false → o ≡ extends_of (body_of p.template) → (k0 k1 k2 : Names)
+      → ((x : Text) → among x (names_view k1) ≡ true → (among x (names_view k0) ≡ true) ⊎ (among x (names (templates_at ts is)) ≡ true)) → AddsName k1 k2 m
+      → IsWay us (a_chain h) js o × ((x : Text) → among x (names_view k2) ≡ true → (among x (names_view k0) ≡ true) ⊎ (among x (names (templates_at us js)) ≡ true))
+  way_step w new lt once ext k0 k1 k2 before last = (way_turn w new lt once ext, way_from w.places (names_view k0) (names_view k1) (names_view k2) before last)
+
+pub grow_on : (ps qs rs : List Page) → Grow ps qs → Grow qs rs → Grow ps rs
+grow_on ps qs rs p q = (p.0 ++ q.0, q.1 ∙ ap (λ l. l ++ q.0) p.1 ∙ append_assoc (pages_view ps) p.0 q.0)
 
 pub on_way_turn : (ps : List Page) (is : List ℕ) (k : ℕ) (p : Page) (x : Text) → k < length is → ArePlaces (pages_view ps) is → p ≡ get_or ps (get_or is k 0) p
     → among x (names (templates_at (pages_view ps) (drop k is))) ≡ (bytes_eq (string_bytes p.name) x || among x (names (templates_at (pages_view ps) (drop (k + 1) is))))

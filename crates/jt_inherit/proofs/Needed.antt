@@ -1,5 +1,5 @@
 -- The names that templates need are those of their includes.
-use Rattle.std.proofs.Common.{◌≡◌, Bool, not, ◌||◌, if◌then◌else◌, List, [], ◌∷◌, ◌++◌, refl, sym, ap, ◌∙◌}
+use Rattle.std.proofs.Common.{◌≡◌, Bool, not, ◌||◌, if◌then◌else◌, List, [], ◌∷◌, ◌++◌, refl, sym, ap, ◌∙◌, arith, rules}
 use Rattle.std.specs.Prelude.{flat_map}
 use Rattle.std.proofs.lemmas.List.{append-nil, append_assoc}
 use Rattle.jt_trees.specs.Statements as trees
@@ -20,7 +20,6 @@ both all ns ms xs ys p q = needed-append all ns ms ∙ ap (λ l. l ++ needed all
 
 mutual
   pub by_statement : (all : Bool) (s : trees.Stmt) → needed all (includes_of s) ≡ needs_by all s
-  by_statement all (trees.include line n ignore with_context) = append-nil (if all || not ignore then n ∷ [] else [])
   by_statement all (trees.choose bs other) = both all (includes_under bs) (includes_in other) (needs_under all bs) (needs_in all other) (by_branches all bs) (by_body all other)
   by_statement all (trees.for_each line xs e c body other) = both all (includes_in body) (includes_in other) (needs_in all body) (needs_in all other) (by_body all body) (by_body all other)
   by_statement all (trees.set_block line x body) = by_body all body
@@ -29,12 +28,7 @@ mutual
   by_statement all (trees.autoescape line on body) = by_body all body
   by_statement all (trees.macro line x ps body) = by_body all body
   by_statement all (trees.block line x scoped required body) = by_body all body
-  by_statement all (trees.data_of x) = refl
-  by_statement all (trees.print line e) = refl
-  by_statement all (trees.set line xs e) = refl
-  by_statement all (trees.import_as line n x) = refl
-  by_statement all (trees.import_from line n xs) = refl
-  by_statement all (trees.extends line x) = refl
+  by_statement all a1 = search (arith, rules, append-nil)
 
   pub by_body : (all : Bool) (b : Body) → needed all (includes_in b) ≡ needs_in all b
   by_body all trees.end = refl

@@ -1,5 +1,5 @@
 -- Tables of numbers: what they find, and what is told when an item is put behind the others.
-use Rattle.std.proofs.Common.{◌≡◌, ℕ, suc, ◌+◌, Bool, true, false, cond, ◌||◌, if◌then◌else◌, List, [], ◌∷◌, ◌++◌, length, refl, sym, ap, ◌∙◌, arith, Some, None}
+use Rattle.std.proofs.Common.{◌≡◌, ℕ, suc, ◌+◌, Bool, true, false, cond, if◌then◌else◌, List, [], ◌∷◌, ◌++◌, length, refl, sym, ap, ◌∙◌, arith, Some, None, rules}
 use Rattle.std.specs.Prelude.{slice_get}
 use Rattle.std.specs.BTreeMap.{get_by_text}
 use Rattle.std.specs.List.{list_any, position_from}
@@ -20,13 +20,7 @@ pushed r now xs new x e ok is = e ∙ ap (λ b. if b then now ++ x ∷ [] else n
 module _ {A : Type 0} (p : A → Bool) where
   pub first_none : (i : ℕ) (xs : List A) → position_from p i xs ≡ None → list_any p xs ≡ false
   first_none i [] e = refl
-  first_none i (x ∷ xs) e = by (p x) refl (first_none (i + 1) xs)
-    where
-      by : (b : Bool) → p x ≡ b → (position_from p (i + 1) xs ≡ None → list_any p xs ≡ false) → list_any p (x ∷ xs) ≡ false
-      by true h r =
-          let k : Some i ≡ None = sym (ap (λ b. cond b (Some i) (position_from p (i + 1) xs)) h) ∙ e in
-          absurd (cc)
-      by false h r = ap (λ b. b || list_any p xs) h ∙ r (sym (ap (λ b. cond b (Some i) (position_from p (i + 1) xs)) h) ∙ e)
+  first_none i (x ∷ xs) e = search (arith, rules, first_none (i + 1) xs)
 
   abbrev IsFirst : ℕ → List A → ℕ → Type 0
   IsFirst i xs j = (d : ℕ) × (y : A) × (j ≡ i + d) × (slice_get xs d ≡ Some y) × (p y ≡ true)
@@ -48,16 +42,7 @@ module _ {A : Type 0} (p : A → Bool) where
   first_more i [] y n =
       let e : i ≡ i + 0 = omega arith in
       ap (λ j. cond (p y) (Some j) None) e
-  first_more i (x ∷ xs) y n = by (p x) refl (first_more (i + 1) xs y)
-    where
-      by : (b : Bool) → p x ≡ b → (list_any p xs ≡ false → position_from p (i + 1) (xs ++ y ∷ []) ≡ cond (p y) (Some (i + 1 + length xs)) None)
-          → position_from p i (x ∷ xs ++ y ∷ []) ≡ cond (p y) (Some (i + length (x ∷ xs))) None
-      by true h r =
-          let k : true ≡ false = sym (ap (λ b. b || list_any p xs) h) ∙ n in
-          absurd (cc)
-      by false h r =
-          let e : i + 1 + length xs ≡ i + suc (length xs) = omega arith in
-          ap (λ b. cond b (Some i) (position_from p (i + 1) (xs ++ y ∷ []))) h ∙ r (sym (ap (λ b. b || list_any p xs) h) ∙ n) ∙ ap (λ j. cond (p y) (Some j) None) e
+  first_more i (x ∷ xs) y n = search (arith, rules, first_more (i + 1) xs y)
 
   pub first_same : (i : ℕ) (xs : List A) (y : A) → p y ≡ false → position_from p i (xs ++ y ∷ []) ≡ position_from p i xs
   first_same i [] y h = ap (λ b. cond b (Some i) None) h
@@ -69,15 +54,7 @@ module _ {A : Type 0} (is : Text → A → Bool) (xs : List A) where
   -- the table gets its number
   pub numbers_more : (m n : Table) (x : Text) (y : A) → AreNumbers is xs m → ((z : Text) → is z y ≡ bytes_eq x z) → list_any (is x) xs ≡ false
       → ((z : Text) → get_by_text n z ≡ cond (bytes_eq x z) (Some (length xs)) (get_by_text m z)) → AreNumbers is (xs ++ y ∷ []) n
-  numbers_more m n x y k one fresh more z = by (bytes_eq x z) refl
-    where
-      by : (b : Bool) → bytes_eq x z ≡ b → get_by_text n z ≡ position_from (is z) 0 (xs ++ y ∷ [])
-      by true e =
-          let new : list_any (is z) xs ≡ false = ap (λ w. list_any (is w) xs) (sym (same x z e)) ∙ fresh in
-          let at : 0 + length xs ≡ length xs = omega arith in
-          let first : position_from (is z) 0 (xs ++ y ∷ []) ≡ Some (length xs) = first_more (is z) 0 xs y new ∙ ap (λ b. cond b (Some (0 + length xs)) None) (one z ∙ e) ∙ ap Some at in
-          more z ∙ ap (λ b. cond b (Some (length xs)) (get_by_text m z)) e ∙ sym first
-      by false e = more z ∙ ap (λ b. cond b (Some (length xs)) (get_by_text m z)) e ∙ k z ∙ sym (first_same (is z) 0 xs y (one z ∙ e))
+  numbers_more m n x y k one fresh more z = search (arith, rules, same, first_more, first_same)
 
   -- none of the table's names is its name
   pub numbers_same : (m : Table) (y : A) → AreNumbers is xs m → ((z : Text) → is z y ≡ false) → AreNumbers is (xs ++ y ∷ []) m

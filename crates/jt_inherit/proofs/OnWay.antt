@@ -1,5 +1,5 @@
 -- Templates on the way of a chain: their names, sources and weights.
-use Rattle.std.proofs.Common.{◌≡◌, ℕ, zero, suc, ◌≤◌, ◌==◌, Bool, true, false, ◌&&◌, ◌||◌, nat_lt, List, [], ◌∷◌, map, refl, sym, ap, subst, ◌∙◌, arith, Option, Some, None}
+use Rattle.std.proofs.Common.{◌≡◌, ℕ, zero, suc, ◌≤◌, ◌==◌, Bool, true, false, ◌&&◌, ◌||◌, nat_lt, List, [], ◌∷◌, map, refl, sym, ap, subst, ◌∙◌, arith, Option, Some, None, rules}
 use Rattle.std.specs.Prelude.{slice_get, option_map}
 use Rattle.std.specs.List.{AllByRecursion, list_any}
 use Rattle.std.specs.Option.{is_none}
@@ -28,26 +28,13 @@ among_up : (s : Sources) (k : ℕ) (o : Option Text) (ts : List Template) (x : T
 among_up s zero o ts x l h = absurd (cc)
 among_up s (suc k) None ts x l h = absurd (cc)
 among_up s (suc k) (Some n) [] x l h = absurd (cc)
-among_up s (suc k) (Some n) (t ∷ ts) x l h =
-    by (bytes_eq t.name x) refl (subst (λ xs. among x xs ≡ true) (front_up s k n t l.0 l.1) h) (among_up s k (extends_of t.body) ts x l.2)
-  where
-    by : (b : Bool) → bytes_eq t.name x ≡ b → (bytes_eq t.name x || among x (names_up s k (extends_of t.body))) ≡ true
-        → (among x (names_up s k (extends_of t.body)) ≡ true → among x (names ts) ≡ true) → (bytes_eq t.name x || among x (names ts)) ≡ true
-    by true e g r = ap (λ b. b || among x (names ts)) e
-    by false e g r = or_true (bytes_eq t.name x) (among x (names ts)) (r (sym (ap (λ b. b || among x (names_up s k (extends_of t.body))) e) ∙ g))
+among_up s (suc k) (Some n) (t ∷ ts) x l h = search (arith, rules, front_up, among_up s k (extends_of t.body) ts x l.2, names, or_true)
 
 pub repeated_up : (s : Sources) (k : ℕ) (o : Option Text) (ts : List Template) → Leads s o ts None → repeated (names_up s k o) ≡ true → repeated (names ts) ≡ true
 repeated_up s zero o ts l h = absurd (cc)
 repeated_up s (suc k) None ts l h = absurd (cc)
 repeated_up s (suc k) (Some n) [] l h = absurd (cc)
-repeated_up s (suc k) (Some n) (t ∷ ts) l h =
-    let up = names_up s k (extends_of t.body) in
-    by (among t.name up) refl (subst (λ xs. repeated xs ≡ true) (front_up s k n t l.0 l.1) h) (repeated_up s k (extends_of t.body) ts l.2)
-  where
-    by : (b : Bool) → among t.name (names_up s k (extends_of t.body)) ≡ b → (among t.name (names_up s k (extends_of t.body)) || repeated (names_up s k (extends_of t.body))) ≡ true
-        → (repeated (names_up s k (extends_of t.body)) ≡ true → repeated (names ts) ≡ true) → (among t.name (names ts) || repeated (names ts)) ≡ true
-    by true e g r = ap (λ b. b || repeated (names ts)) (among_up s k (extends_of t.body) ts t.name l.2 e)
-    by false e g r = or_true (among t.name (names ts)) (repeated (names ts)) (r (sym (ap (λ b. b || repeated (names_up s k (extends_of t.body))) e) ∙ g))
+repeated_up s (suc k) (Some n) (t ∷ ts) l h = search (arith, rules, front_up, repeated_up s k (extends_of t.body) ts l.2, names, among_up, or_true)
 
 pub all_among : (P : Text → Type 0) (ts : List Template) (n : Text) → AllByRecursion (λ t. P t.name) ts → among n (names ts) ≡ true → P n
 all_among P [] n a h = absurd (cc)

@@ -1,5 +1,5 @@
 -- Homes in an order of their numbers, and in the order of what they lead to.
-use Rattle.std.proofs.Common.{◌≡◌, ℕ, zero, suc, ◌<◌, ◌==◌, Bool, true, false, not, ◌||◌, List, [], ◌∷◌, length, map, refl, sym, ap, ◌∙◌, arith, Some}
+use Rattle.std.proofs.Common.{◌≡◌, ℕ, zero, suc, ◌<◌, ◌==◌, Bool, true, false, not, ◌||◌, List, [], ◌∷◌, length, map, refl, sym, ap, ◌∙◌, arith, Some, rules}
 use Rattle.std.specs.Prelude.{slice_get, unwrap_or}
 use Rattle.std.specs.List.{AllByRecursion}
 use Rattle.std.proofs.lemmas.Bool.Decides.{nat_tests}
@@ -53,25 +53,11 @@ one_number (h ∷ hs) (suc i) (suc j) once p q e = ap suc (one_number hs i j (or
 
 pub named_among : (hs : List Home) (j : ℕ) (is : List ℕ) → graph.among j is ≡ true → listed (home_at hs j) (map (home_at hs) is) ≡ true
 named_among hs j [] a = absurd (cc)
-named_among hs j (i ∷ is) a = by (i == j) refl (named_among hs j is)
-  where
-    by : (b : Bool) → (i == j) ≡ b → (graph.among j is ≡ true → listed (home_at hs j) (map (home_at hs) is) ≡ true) → listed (home_at hs j) (map (home_at hs) (i ∷ is)) ≡ true
-    by true e r =
-        ap (λ b. b || listed (home_at hs j) (map (home_at hs) is)) (ap (λ k. same_home (home_at hs k) (home_at hs j)) (equal i j e) ∙ reflexive (home_at hs j))
-    by false e r = or_true (same_home (home_at hs i) (home_at hs j)) (listed (home_at hs j) (map (home_at hs) is)) (r (sym (ap (λ b. b || graph.among j is) e) ∙ a))
+named_among hs j (i ∷ is) a = search (arith, rules, named_among hs j is, equal, reflexive, or_true)
 
 named_apart : (hs : List Home) (j : ℕ) (is : List ℕ) → twice hs ≡ false → j < length hs → AllByRecursion (λ i. i < length hs) is → graph.among j is ≡ false → listed (home_at hs j) (map (home_at hs) is) ≡ false
 named_apart hs j [] once lt w a = refl
-named_apart hs j (i ∷ is) once lt w a =
-    let k = or_false (i == j) (graph.among j is) a in
-    both_false (same_home (home_at hs i) (home_at hs j)) (listed (home_at hs j) (map (home_at hs) is)) (by (same_home (home_at hs i) (home_at hs j)) refl k.0) (named_apart hs j is once lt w.1 k.1)
-  where
-    by : (b : Bool) → same_home (home_at hs i) (home_at hs j) ≡ b → (i == j) ≡ false → same_home (home_at hs i) (home_at hs j) ≡ false
-    by true e n =
-        let q : i ≡ j = one_number hs i j once w.0 lt (same (home_at hs i) (home_at hs j) e) in
-        let p : (i == j) ≡ true = ap (λ k. k == j) q ∙ itself j in
-        absurd (cc)
-    by false e n = e
+named_apart hs j (i ∷ is) once lt w a = search (arith, rules, or_false, both_false, named_apart hs j is once lt w.1, one_number, same, itself)
 
 -- ---- an order of numbers is one of chains
 
@@ -126,21 +112,8 @@ not_among false p q = cc
 -- none of them leads to itself
 pub no_cycle : (s : Sources) (e : Bool) (os : List Home) → InOrder s os → (h m : Home) → listed h os ≡ true → listed m (included s h) ≡ true → Reaches s e m h → ⊥
 no_cycle s e [] o h m a i r = absurd (cc)
-no_cycle s e (x ∷ os) o h m a i r = by (same_home x h) refl (λ k. no_cycle s e os o.1.1 h m k i r)
-  where
-    by : (b : Bool) → same_home x h ≡ b → (listed h os ≡ true → ⊥) → ⊥
-    by true q f =
-        let there : listed m os ≡ true = all_in_among (included s x) os m o.1.0 (ap (λ y. listed m (included s y)) (same x h q) ∙ i) in
-        let back : listed h os ≡ true = reached_in_order s e os o.1.1 r there in
-        not_among (listed x os) o.0 (ap (λ y. listed y os) (same x h q) ∙ back)
-    by false q f = f (sym (ap (λ b. b || listed h os) q) ∙ a)
+no_cycle s e (x ∷ os) o h m a i r = search (arith, rules, no_cycle s e os o.1.1 h m, all_in_among, same, reached_in_order, not_among)
 
 -- the one from which all are reached comes first
 pub first_in_order : (s : Sources) (e : Bool) (x : Home) (os : List Home) (entry : Home) → InOrder s (x ∷ os) → listed entry (x ∷ os) ≡ true → Reaches s e entry x → x ≡ entry
-first_in_order s e x os entry o a r = by (same_home x entry) refl
-  where
-    by : (b : Bool) → same_home x entry ≡ b → x ≡ entry
-    by true q = same x entry q
-    by false q =
-        let behind : listed entry os ≡ true = sym (ap (λ b. b || listed entry os) q) ∙ a in
-        absurd (not_among (listed x os) o.0 (reached_in_order s e os o.1.1 r behind))
+first_in_order s e x os entry o a r = search (arith, rules, same, not_among, reached_in_order)

@@ -1,6 +1,6 @@
 -- What is behind a mark, a closer, or an `endraw` tag has no more bytes.
-use Rattle.std.proofs.Common.{◌≡◌, ◌≤◌, ◌==◌, Bool, true, false, [], ◌∷◌, drop, codes, refl, ap, arith, Option, Some, None}
-use Rattle.jt_scan.specs.Cut.{Text, closer, closing_text, mark_text, behind_mark, is_mark, is_space, after_space, after_word, closer_at, first_mark, marks, endraw_closed, endraw_named, endraw_at, begins}
+use Rattle.std.proofs.Common.{◌≡◌, ◌≤◌, ◌==◌, Bool, true, false, [], ◌∷◌, drop, codes, refl, ap, arith, Option, Some, None, rules}
+use Rattle.jt_scan.specs.Cut.{Text, closer, closing_text, mark_text, behind_mark, is_space, after_space, after_word, closer_at, first_mark, marks, endraw_closed, endraw_named, endraw_at, begins}
 use Rattle.jt_scan.specs.declared.segment.TagKind.{TagKind}
 use Rattle.jt_scan.specs.declared.segment.TagKind.TheVariants as kind
 use Rattle.jt_scan.specs.declared.segment.Mark.{Mark}
@@ -13,12 +13,7 @@ pub closing_long : (k : TagKind) (mark : Mark) (rest : Text) → bytes rest ≤ 
 closing_long k mark rest = omega (arith, bytes-append (mark_text mark) (closer k ∷ 125 ∷ rest), bytes-cons (closer k) (125 ∷ rest), bytes-cons 125 rest)
 
 pub behind_short : (x : Text) → bytes (behind_mark x) ≤ bytes x
-behind_short [] = omega arith
-behind_short (c ∷ x) = by (is_mark c) refl
-  where
-    by : (b : Bool) → is_mark c ≡ b → bytes (behind_mark (c ∷ x)) ≤ bytes (c ∷ x)
-    by true h = rw h (omega (arith, bytes-cons c x))
-    by false h = rw h (omega arith)
+behind_short a0 = search (arith, rules, bytes, bytes-cons)
 
 space_short : (x : Text) → bytes (after_space x) ≤ bytes x
 unfolding after_space

@@ -1,5 +1,5 @@
 -- An entry has one chain, up to the order of its parts, and none where a rule is broken.
-use Rattle.std.proofs.Common.{◌≡◌, ◌≢◌, ◌↔◌, Bool, true, false, ◌||◌, if◌then◌else◌, List, [], ◌∷◌, refl, sym, ap, subst, ◌∙◌, ⊎_elim, Option, Some, None, string_bytes}
+use Rattle.std.proofs.Common.{◌≡◌, ◌≢◌, ◌↔◌, Bool, true, false, ◌||◌, List, [], ◌∷◌, refl, sym, ap, subst, ◌∙◌, ⊎_elim, Option, Some, None, string_bytes, arith, rules}
 use Rattle.std.specs.List.{AllByRecursion, list_any}
 use Rattle.std.specs.Option.{is_some, is_none}
 use Rattle.std.specs.Str.{bytes_eq}
@@ -32,14 +32,7 @@ any_at p x (y ∷ xs) a t = by (bytes_eq y x) refl (any_at p x xs)
 -- the template of a source
 pub source_read : (P : Template → Type 0) (ts : List Template) (n : Text) (b : Body) → AllByRecursion P ts → sources_in ts n ≡ Some b → P (record { name = n; body = b })
 source_read P [] n b a e = absurd (cc)
-source_read P (t ∷ ts) n b a e = by (bytes_eq t.name n) refl (source_read P ts n b a.1)
-  where
-    by : (c : Bool) → bytes_eq t.name n ≡ c → (sources_in ts n ≡ Some b → P (record { name = n; body = b })) → P (record { name = n; body = b })
-    by true h r =
-        let k : Some t.body ≡ Some b = sym (ap (λ c. if c then Some t.body else sources_in ts n) h) ∙ e in
-        let body : t.body ≡ b = cc in
-        subst (λ x. P (record { name = n; body = x })) body (subst (λ x. P (record { name = x; body = t.body })) (same t.name n h) a.0)
-    by false h r = r (sym (ap (λ c. if c then Some t.body else sources_in ts n) h) ∙ e)
+source_read P (t ∷ ts) n b a e = search (arith, rules, source_read P ts n b a.1, same)
 
 named_source : (ts : List Template) (n : Text) → among n (names ts) ≡ true → (b : Body) × (sources_in ts n ≡ Some b)
 named_source ts n a = by (sources_in ts n) refl (some_source ts n ∙ a)

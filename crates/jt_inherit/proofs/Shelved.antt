@@ -1,5 +1,5 @@
 -- The library of a name among the templates that were read: its macros, and what is asked of it.
-use Rattle.std.proofs.Common.{◌≡◌, ℕ, ◌+◌, ◌<◌, length, drop, get_or, arith, string_bytes, Bool, true, false, ◌&&◌, ◌||◌, if◌then◌else◌, List, [], ◌∷◌, ◌++◌, refl, sym, ap, ◌∙◌, Option, Some, None}
+use Rattle.std.proofs.Common.{◌≡◌, ℕ, ◌+◌, ◌<◌, length, drop, get_or, arith, string_bytes, Bool, true, false, ◌&&◌, ◌||◌, if◌then◌else◌, List, [], ◌∷◌, ◌++◌, refl, sym, ap, ◌∙◌, Option, Some, None, rules}
 use Rattle.std.specs.Prelude.{slice_get, flat_map}
 use Rattle.std.specs.Option.{is_some, is_none, option_to_list}
 use Rattle.std.proofs.lemmas.List.{drop_more, length-map, append-nil}
@@ -10,7 +10,7 @@ use Rattle.jt_trees.specs.StatementView.{body_of}
 use Rattle.jt_trees.specs.Texts.{among, repeated}
 use Rattle.jt_chains.specs.Along.{ArePlaces, templates_at}
 use Rattle.jt_chains.specs.Tables.{library_macros}
-use Rattle.jt_chains.specs.Chain.{Sources, a_library, Template, template, library_template, holds_macros, is_a_library, is_private, MacroBody, macros, macros_in, public_macro, sources_in}
+use Rattle.jt_chains.specs.Chain.{Sources, a_library, Template, template, library_template, holds_macros, is_a_library, MacroBody, macros, macros_in, public_macro, sources_in}
 use Rattle.jt_chains.specs.Pages.{page_view, pages_view}
 use Rattle.jt_chains.specs.Rules.{lacks_one, lacks_macros}
 use Rattle.jt_chains.specs.declared.pages.Page.{Page}
@@ -41,7 +41,7 @@ held_read n m b e = by (holds_macros b)
 -- the template of a name, at its place
 module _ (ps : List Page) (ks : List Text) (k : AreNamed (pages_view ps) ks) (n : Text) (i : ℕ) (at : slice_get ks i ≡ Some n) where
   named_at : slice_get (names (pages_view ps)) i ≡ Some n
-  named_at = ap (λ l. slice_get l i) (sym k.named) ∙ at
+  named_at = ap (λ l. slice_get l i) (sym k.0) ∙ at
 
   pub place_read : i < length ps
   place_read = omega (arith, slice_get_within (names (pages_view ps)) i n named_at, length_names (pages_view ps), length-map ps page_view)
@@ -58,7 +58,7 @@ module _ (ps : List Page) (ks : List Text) (k : AreNamed (pages_view ps) ks) (n 
     source_is : sources_in (pages_view ps) n ≡ Some (body_of p.template)
     source_is =
         ap (sources_in (pages_view ps)) (sym name_is)
-        ∙ only_one (pages_view ps) i (page_view p) (ap (λ l. repeated l) (sym k.named) ∙ k.once) there
+        ∙ only_one (pages_view ps) i (page_view p) (ap (λ l. repeated l) (sym k.0) ∙ k.1) there
 
     pub is_library_read : (b : Bool) → b ≡ holds_macros (body_of p.template) → is_a_library (sources_in (pages_view ps) n) ≡ b
     is_library_read b e = ap is_a_library source_is ∙ sym e
@@ -74,14 +74,7 @@ no_macros s n e = by (s n) e
     by (Some b) h = ap (λ (c : Bool). own_macros (if c then template n (Some b) else [])) h
 
 no_macro : (x : Text) → public_macro x [] ≡ None
-no_macro x = by (is_private x)
-  where
-    nothing : Option MacroBody
-    nothing = None
-
-    by : (b : Bool) → (if b then nothing else nothing) ≡ nothing
-    by true = refl
-    by false = refl
+no_macro x = search (arith, rules)
 
 none_from : (xs : List (Text × Text)) → names_from [] xs ≡ []
 none_from [] = refl

@@ -1,8 +1,6 @@
 -- The trees of chains and libraries weigh no more than their sources, where a library's source counts for each chain that imports it.
-use Rattle.std.proofs.Common.{◌≡◌, ℕ, ◌+◌, ◌≤◌, Bool, true, false, cond, ◌||◌, ◌⊎◌, inl, inr, if◌then◌else◌, List, [], ◌∷◌, ◌++◌, refl, sym, ap, ◌∙◌, arith}
+use Rattle.std.proofs.Common.{◌≡◌, ℕ, ◌+◌, ◌≤◌, Bool, true, false, ◌||◌, ◌⊎◌, inl, inr, List, [], ◌∷◌, ◌++◌, refl, sym, ap, ◌∙◌, arith, rules}
 use Rattle.std.specs.Option.{is_some}
-use Rattle.std.specs.Ordering.{nat_cmp, is_lt}
-use Rattle.std.specs.Cmp.Lexicographic.{slice_cmp}
 use Rattle.std.specs.Str.{bytes_eq}
 use Rattle.jt_trees.specs.Texts.{among, repeated, inserted, all_inserted, ascending}
 use Rattle.jt_trees.specs.Expressions.{Text}
@@ -20,22 +18,11 @@ use Rattle.jt_inherit.proofs.Growing.{among_passes, libraries_listed}
 
 here_inserted : (x : Text) (ys : List Text) → among x (inserted x ys) ≡ true
 here_inserted x [] = ap (λ b. b || false) (reflexive x)
-here_inserted x (y ∷ ys) = by (bytes_eq y x) refl (is_lt (slice_cmp nat_cmp x y)) (here_inserted x ys)
-  where
-    by : (b : Bool) → bytes_eq y x ≡ b → (c : Bool) → among x (inserted x ys) ≡ true → among x (if b then y ∷ ys else if c then x ∷ y ∷ ys else y ∷ inserted x ys) ≡ true
-    by true e c r = ap (λ b. b || among x ys) e
-    by false e true r = ap (λ b. b || among x (y ∷ ys)) (reflexive x)
-    by false e false r = or_true (bytes_eq y x) (among x (inserted x ys)) r
+here_inserted x (y ∷ ys) = search (arith, rules, here_inserted x ys, reflexive, or_true)
 
 kept_inserted : (x z : Text) (ys : List Text) → among z ys ≡ true → among z (inserted x ys) ≡ true
 kept_inserted x z [] a = absurd cc
-kept_inserted x z (y ∷ ys) a = by (bytes_eq y x) (is_lt (slice_cmp nat_cmp x y)) (bytes_eq y z) refl (kept_inserted x z ys)
-  where
-    by : (b c d : Bool) → bytes_eq y z ≡ d → (among z ys ≡ true → among z (inserted x ys) ≡ true) → among z (if b then y ∷ ys else if c then x ∷ y ∷ ys else y ∷ inserted x ys) ≡ true
-    by true c d e r = a
-    by false true d e r = or_true (bytes_eq x z) (among z (y ∷ ys)) a
-    by false false true e r = ap (λ b. b || among z (inserted x ys)) e
-    by false false false e r = or_true (bytes_eq y z) (among z (inserted x ys)) (r (sym (ap (λ b. b || among z ys) e) ∙ a))
+kept_inserted x z (y ∷ ys) a = search (arith, rules, kept_inserted x z ys, or_true)
 
 kept_all : (xs : List Text) (z : Text) (ns : List Text) → among z ns ≡ true → among z (all_inserted xs ns) ≡ true
 kept_all [] z ns a = a
@@ -91,30 +78,12 @@ module _ (given : Given) (s : Sources) where
 
   one_less : (x : Text) (ys : List Text) → among x ys ≡ true → libraries_len given s ys ≡ templates_len given (templates s (a_library x)) + libraries_len given s (without x ys)
   one_less x [] a = absurd cc
-  one_less x (y ∷ ys) a = by (bytes_eq y x) refl (one_less x ys)
-    where
-      by : (b : Bool) → bytes_eq y x ≡ b → (among x ys ≡ true → libraries_len given s ys ≡ templates_len given (templates s (a_library x)) + libraries_len given s (without x ys))
-          → libraries_len given s (y ∷ ys) ≡ templates_len given (templates s (a_library x)) + libraries_len given s (cond (bytes_eq y x) ys (y ∷ without x ys))
-      by true e r =
-          let first : templates_len given (templates s (a_library y)) ≡ templates_len given (templates s (a_library x)) = ap (λ z. templates_len given (templates s (a_library z))) (same y x e) in
-          omega (arith, first, ap (λ b. libraries_len given s (cond b ys (y ∷ without x ys))) e)
-      by false e r =
-          omega (arith, r (sym (ap (λ b. b || among x ys) e) ∙ a), ap (λ b. libraries_len given s (cond b ys (y ∷ without x ys))) e)
+  one_less x (y ∷ ys) a = search (arith, rules, one_less x ys, without, same)
 
   -- different libraries among others are no longer than these
   no_longer : (xs ys : List Text) → repeated xs ≡ false → ((x : Text) → among x xs ≡ true → among x ys ≡ true) → libraries_len given s xs ≤ libraries_len given s ys
   no_longer [] ys once f = omega arith
-  no_longer (x ∷ xs) ys once f =
-      let k = or_false (among x xs) (repeated xs) once in
-      let len = one_less x ys (f x (ap (λ b. b || among x xs) (reflexive x))) in
-      let rest = no_longer xs (without x ys) k.1 (λ z a. still_among x z ys (apart z (bytes_eq x z) refl k.0 a) (f z (or_true (bytes_eq x z) (among z xs) a))) in
-      omega (arith, len, rest)
-    where
-      apart : (z : Text) (b : Bool) → bytes_eq x z ≡ b → among x xs ≡ false → among z xs ≡ true → bytes_eq x z ≡ false
-      apart z true e n a =
-          let m : among x xs ≡ true = ap (λ w. among w xs) (same x z e) ∙ a in
-          absurd cc
-      apart z false e n a = e
+  no_longer (x ∷ xs) ys once f = search (arith, rules, or_false, one_less, reflexive, no_longer xs (without x ys), without, still_among, or_true, same)
 
   -- the templates of the chains alone
   own_len : List Home → ℕ

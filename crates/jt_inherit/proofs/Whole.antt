@@ -1,7 +1,7 @@
 -- The chains and libraries that an entry reaches, all of them followed and checked, in an order of what they lead to.
-use Rattle.std.proofs.Common.{◌≡◌, ◌≢◌, ◌↔◌, ℕ, zero, suc, ◌+◌, ◌*◌, ◌<◌, ◌≤◌, ◌==◌, Bool, true, false, not, ◌&&◌, ◌||◌, if◌then◌else◌, nat_lt, List, [], ◌∷◌, ◌++◌, length, map, refl, sym, ap, subst, ◌∙◌, arith, inl, inr, ◌⊎◌, ⊎_elim, Option, Some, None}
+use Rattle.std.proofs.Common.{◌≡◌, ◌≢◌, ◌↔◌, ℕ, zero, suc, ◌+◌, ◌*◌, ◌<◌, ◌≤◌, ◌==◌, Bool, true, false, not, ◌&&◌, ◌||◌, nat_lt, List, [], ◌∷◌, ◌++◌, length, map, refl, sym, ap, subst, ◌∙◌, arith, inl, inr, ◌⊎◌, ⊎_elim, Option, Some, None, Vec, Global, rules}
 use Rattle.std.proofs.lemmas.List.{length-map, append-nil}
-use Rattle.std.specs.Prelude.{slice_get, unwrap_or, flat_map}
+use Rattle.std.specs.Prelude.{slice_get, unwrap_or}
 use Rattle.std.specs.List.{AllByRecursion, list_any}
 use Rattle.std.specs.Option.{is_some, is_none}
 use Rattle.std.specs.Str.{bytes_eq}
@@ -9,6 +9,7 @@ use Rattle.std.proofs.lemmas.Bool.{cases_lt}
 use Rattle.std.proofs.lemmas.Bool.Decides.{nat_tests}
 use Rattle.jt_graph.specs.Graph as graph
 use Rattle.jt_graph.specs.Graph.{Graph, next_of, IsClosed, HasCycle, IsOrder}
+use Rattle.jt_graph.specs.View.{graph_of}
 use Rattle.jt_graph.specs.declared.error.OrderError.{OrderError}
 use Rattle.jt_graph.specs.declared.error.OrderError.TheVariants as order
 use Rattle.jt_scan.specs.declared.options.Options.{Options}
@@ -17,16 +18,16 @@ use Rattle.jt_trees.specs.Expressions.{Text}
 use Rattle.jt_trees.specs.Statements.{Body}
 use Rattle.jt_chains.specs.Along.{ArePlaces, templates_at}
 use Rattle.jt_inherit.specs.Along.{needs_along}
-use Rattle.jt_chains.specs.Chain.{Home, a_chain, a_library, same_home, listed, is_a_library, Template, templates, sources_in, imports, all_bodies}
+use Rattle.jt_chains.specs.Chain.{Home, a_chain, same_home, listed, is_a_library, Template, templates, sources_in, all_bodies}
 use Rattle.jt_chains.specs.Chain.{given as given_in}
 use Rattle.jt_inherit.specs.Chains.{Given, IsChain}
 use Rattle.jt_inherit.specs.Checks.{lacks_body, lacks_next}
-use Rattle.jt_inherit.specs.Found.{chains_of, AreFound, IsFollowed, AreFollowed, IsMet, BreaksAt, HasHomes, chosen}
+use Rattle.jt_inherit.specs.Found.{chains_of, AreFound, IsFound, found_templates, found_homes, root_of, IsFollowed, AreFollowed, IsMet, BreaksAt, HasHomes, chosen}
 use Rattle.jt_chains.specs.Includes.{included, InOrder}
-use Rattle.jt_inherit.specs.Kept.{KeepAll, BreakOne, their_blocks, their_macros, their_names, any_double, any_lacks_macros, imported_names}
+use Rattle.jt_inherit.specs.Kept.{KeepAll, BreakOne, their_blocks, their_names, any_double, any_lacks_macros}
 use Rattle.jt_chains.specs.Names.{IsName}
 use Rattle.jt_inherit.specs.Needs.{Need, needed}
-use Rattle.jt_chains.specs.Pages.{home_view, names_at, AreWhole}
+use Rattle.jt_chains.specs.Pages.{home_view, AreWhole}
 use Rattle.jt_chains.specs.Places.{home_at}
 use Rattle.jt_inherit.specs.Refusals.{Breaks}
 use Rattle.jt_inherit.specs.Refused.{gives}
@@ -36,6 +37,8 @@ use Rattle.jt_chains.specs.Weights.{templates_weight, chains_weight}
 use Rattle.jt_inherit.specs.Small.{templates_len, chains_len}
 use Rattle.jt_chains.specs.View.{Seen}
 use Rattle.jt_inherit.specs.Ways.{AreKnown, IsWay, IsWithin}
+use Rattle.jt_inherit.specs.Sets.{names_view}
+use Rattle.jt_inherit.specs.declared.discovery.Found.{Found}
 use Rattle.jt_inherit.specs.declared.error.ChainError.{ChainError}
 use Rattle.jt_inherit.specs.declared.error.ChainError.TheVariants as error
 use Rattle.jt_chains.specs.declared.linked.Home as linked
@@ -106,17 +109,7 @@ next_within given ts hs (g ∷ gs) (w ∷ ws) (n ∷ ns) a =
 numbered_among : (hs : List Home) (j : ℕ) (js : List ℕ) (ns : List Home) → map (slice_get hs) js ≡ map Some ns → graph.among j js ≡ true → listed (home_at hs j) ns ≡ true
 numbered_among hs j [] ns e a = absurd (cc)
 numbered_among hs j (k ∷ js) [] e a = absurd (cc)
-numbered_among hs j (k ∷ js) (n ∷ ns) e a =
-    let h : slice_get hs k ≡ Some n = cc in
-    let r : map (slice_get hs) js ≡ map Some ns = cc in
-    by (k == j) refl h (numbered_among hs j js ns r)
-  where
-    by : (b : Bool) → (k == j) ≡ b → slice_get hs k ≡ Some n → (graph.among j js ≡ true → listed (home_at hs j) ns ≡ true) → listed (home_at hs j) (n ∷ ns) ≡ true
-    by true q h f =
-        let i : k ≡ j = grind (arith, nat_tests) in
-        let name : home_at hs j ≡ n = ap (λ o. unwrap_or o (a_chain [])) (ap (slice_get hs) (sym i) ∙ h) in
-        ap (λ x. listed x (n ∷ ns)) name ∙ place_listed (n ∷ ns) 0 n refl
-    by false q h f = or_true (same_home n (home_at hs j)) (listed (home_at hs j) ns) (f (sym (ap (λ b. b || graph.among j js) q) ∙ a))
+numbered_among hs j (k ∷ js) (n ∷ ns) e a = search (arith, rules, numbered_among hs j js ns, nat_tests, place_listed, or_true)
 
 none_next : (ns : Graph) (i j : ℕ) → length ns ≤ i → graph.among j (next_of ns i) ≡ true → ⊥
 none_next [] i j le a = cc
@@ -143,14 +136,7 @@ module _ (given : Given) (ts : List Template) where
 
   needs_sources : (ns : List Need) → AllByRecursion (IsMet given (names ts)) ns → list_any (λ n. is_none (sources_in ts n)) (needed false ns) ≡ false
   needs_sources [] a = refl
-  needs_sources (n ∷ ns) a = by n.ignoring refl (needs_sources ns a.1) a.0
-    where
-      by : (b : Bool) → n.ignoring ≡ b → list_any (λ m. is_none (sources_in ts m)) (needed false ns) ≡ false → IsMet given (names ts) n → list_any (λ m. is_none (sources_in ts m)) (needed false (n ∷ ns)) ≡ false
-      by true e r m = ap (λ b. list_any (λ k. is_none (sources_in ts k)) ((if not b then n.name ∷ [] else []) ++ needed false ns)) e ∙ r
-      by false e r m =
-          ap (λ b. list_any (λ k. is_none (sources_in ts k)) ((if not b then n.name ∷ [] else []) ++ needed false ns)) e
-          ∙ both_false (is_none (sources_in ts n.name)) (list_any (λ k. is_none (sources_in ts k)) (needed false ns))
-          (⊎_elim (λ p. has_source n.name p) (λ q. absurd (never n.ignoring e q.0)) m) r
+  needs_sources (n ∷ ns) a = search (arith, rules, needs_sources ns a.1, names, both_false, has_source, never)
 
   needs_met : (P : Text → Type 0) → ((n : Need) → IsMet given (names ts) n → P n.name) → (ns : List Need) → AllByRecursion (IsMet given (names ts)) ns → (x : Text) → among x (needed true ns) ≡ true → P x
   needs_met P f [] a x h = absurd (cc)
@@ -177,27 +163,11 @@ module _ (given : Given) (options : Options) (ts : List Template) {ks : List Tex
 
   -- the names that are given
   pub names_told : map (λ g. g.0) (given_in (sources_in ts) h) ≡ their_names (sources_in ts) (templates_at ts is)
-  names_told =
-      let s = sources_in ts in
-      let us = templates_at ts is in
-      given_names s h ∙ ap (λ vs. map (λ m. m.name) (their_macros vs) ++ map (λ g. g.0) (imports s h)) (whole_way ts h is w) ∙ ap (λ l. map (λ m. m.name) (their_macros us) ++ l) (by h w)
-    where
-      by : (k : Home) → IsWay ts k is None → map (λ g. g.0) (imports (sources_in ts) k) ≡ flat_map (λ t. imported_names (sources_in ts) t.body) (templates_at ts is)
-      by (a_chain n) v = all_imported (sources_in ts) (templates (sources_in ts) (a_chain n)) ∙ ap (flat_map (λ (t : Template). imported_names (sources_in ts) t.body)) (whole_way ts (a_chain n) is v)
-      by (a_library n) v =
-          let l = v.leads in
-          sym (ap (flat_map (λ (t : Template). imported_names (sources_in ts) t.body)) l.only ∙ append-nil (imported_names (sources_in ts) l.template.body) ∙ none_given (sources_in ts) l.template.body l.holds)
+  names_told = search (arith, rules, given_names, whole_way, all_imported, append-nil, none_given)
 
   -- a library lacks nothing that it imports
   chain_alone : any_lacks_macros (sources_in ts) (templates_at ts is) ≡ true → (n : Text) × (h ≡ a_chain n)
-  chain_alone b = by h w
-    where
-      by : (k : Home) → IsWay ts k is None → (n : Text) × (k ≡ a_chain n)
-      by (a_chain n) v = (n, refl)
-      by (a_library n) v =
-          let l = v.leads in
-          let no : false ≡ true = sym (ap (λ us. any_lacks_macros (sources_in ts) us) l.only ∙ ap (λ c. c || false) (none_lacking (sources_in ts) l.template.body l.holds)) ∙ b in
-          absurd (cc)
+  chain_alone b = search (arith, rules, none_lacking)
 
   -- a rule on blocks, macros or imports that is broken
   pub one_breaks : (root : Text) → Reaches (sources_in ts) options.autoescape (a_chain root) h → (e : ChainError) → BreakOne (sources_in ts) options.autoescape (templates_at ts is) e → Breaks e given root options
@@ -236,7 +206,7 @@ module _ (given : Given) (options : Options) (ts : List Template) {ks : List Tex
 
 -- ---- all chains and libraries
 
-module _ (given : Given) (options : Options) (entry : Text) (ts : List Template) (ks : List Text) (hs : List Home) (ws ns : Graph) (f : AreFound given options entry ts ks hs ws ns) (all : length ws ≡ length hs) where
+module _ {given : Given} {options : Options} {entry : Text} {ts : List Template} {ks : List Text} {hs : List Home} {ws ns : Graph} (f : AreFound given options entry ts ks hs ws ns) (all : length ws ≡ length hs) where
   number : (i : ℕ) → i < length hs → IsFollowed given ts hs (home_at hs i) (next_of ws i) (next_of ns i)
   number i lt = followed_number given ts hs hs ws ns i (omega (arith, all)) f.followed
 
@@ -280,12 +250,7 @@ module _ (given : Given) (options : Options) (entry : Text) (ts : List Template)
   begins_at (graph.further {i} {j} a r) = (edge i j a).0
 
   pub cycle_breaks : HasCycle ns → Breaks error.IncludeCycle given entry options
-  cycle_breaks c = record {
-    templates = ts;
-    read = f.known.read;
-    only = f.known.only;
-    holds = (home_at hs c.0, reached (home_at hs c.0) (home_among hs c.0 (begins_at c.1)), along c.1);
-  }
+  cycle_breaks c = search (arith, rules, reached, home_among, begins_at, along)
 
   pub order_breaks : (g : Graph) (r : OrderError) (e : ChainError) → g ≡ ns → gives r e → (r ≡ order.Cycle → HasCycle g) → Breaks e given entry options
   order_breaks g order.Cycle e q is c = subst (λ z. Breaks z given entry options) (sym is) (cycle_breaks (subst HasCycle q (c refl)))
@@ -293,7 +258,7 @@ module _ (given : Given) (options : Options) (entry : Text) (ts : List Template)
 
   -- ---- in an order of what they include
 
-  module _ (kept : AllByRecursion (λ w. KeepAll (sources_in ts) options.autoescape (templates_at ts w)) ws) (is : List ℕ) (o : IsOrder ns is) where
+  module _ (kept : AllByRecursion (λ w. KeepAll (sources_in ts) options.autoescape (templates_at ts w)) ws) {is : List ℕ} (o : IsOrder ns is) where
     within : AllByRecursion (λ i. i < length hs) is
     within = subst (λ n. AllByRecursion (λ i. i < n) is) lens o.within
 
@@ -400,13 +365,7 @@ module _ (given : Given) (options : Options) (entry : Text) (ts : List Template)
 
     -- the templates are those that are asked for and that the library has
     templates_asked : (n : Text) → (among n (names ts) ≡ true) ↔ (Asks (sources_in ts) options.autoescape (a_chain entry) n × (given n ≢ None))
-    templates_asked n = (
-      λ a. (
-        f.asked n (ap (among n) f.known.named ∙ a),
-        λ none. let no : true ≡ false = sym a ∙ none_read given options ts n f.known.read.each none in absurd (cc),
-      ),
-      λ p. ⊎_elim (λ a. a) (λ none. absurd (p.1 none)) (complete n p.0),
-    )
+    templates_asked n = search (arith, rules, none_read, complete)
 
     pub begins : (rest : List Home) × (map (home_at hs) is ≡ a_chain entry ∷ rest)
     begins = from is in_order entry_in within
@@ -465,13 +424,7 @@ module _ (given : Given) (options : Options) (entry : Text) (ts : List Template)
     whole_along [] [] w a = tt
     whole_along [] (k ∷ homes) w a = absurd a
     whole_along (j ∷ js) [] w a = absurd a
-    whole_along (j ∷ js) (k ∷ homes) w a =
-        let n = number j w.0 in
-        let us = templates_at ts (next_of ws j) in (
-          ap (names_at ts) a.0.1 ∙ names_placed ts (next_of ws j) us (placed_templates ts (next_of ws j) n.led.places)
-              ∙ ap (λ vs. map (λ t. Some t.name) vs) (sym (whole_way ts (home_at hs j) (next_of ws j) n.led)) ∙ ap (λ x. map (λ t. Some t.name) (templates (sources_in ts) x)) (sym a.0.0),
-          whole_along js homes w.1 a.1,
-        )
+    whole_along (j ∷ js) (k ∷ homes) w a = search (arith, rules, number, names_placed, placed_templates, whole_way, whole_along js homes w.1 a.1)
 
     pub all_whole : (homes : List linked.Home) → HasHomes hs ws is homes → AreWhole ts homes
     all_whole homes a = whole_along is homes within a
@@ -481,3 +434,20 @@ homes_named hs ws [] [] a = refl
 homes_named hs ws [] (k ∷ homes) a = absurd a
 homes_named hs ws (i ∷ is) [] a = absurd a
 homes_named hs ws (i ∷ is) (k ∷ homes) a = ap (λ x. x ∷ map home_view homes) a.0.0 ∙ ap (λ l. home_at hs i ∷ l) (homes_named hs ws is homes a.1)
+
+-- what was found from an entry, and an order of its numbers
+module _ {given : Given} {options : Options} {entry : Text} (f : Found) (is : IsFound given options f) (root : root_of f ≡ entry) (lens : length f.ways.items ≡ length (found_homes f)) where
+  pub its_found : AreFound given options entry (found_templates f) (names_view f.names) (found_homes f) (graph_of f.ways.items) (graph_of f.next.items)
+  its_found = subst (λ z. AreFound given options z (found_templates f) (names_view f.names) (found_homes f) (graph_of f.ways.items) (graph_of f.next.items)) root is
+
+  pub its_ways : length (graph_of f.ways.items) ≡ length (found_homes f)
+  its_ways = length-map f.ways.items (λ (v : Vec ℕ Global). v.items) ∙ lens
+
+  pub its_order : (next : List (Vec ℕ Global)) (order : List ℕ) → next ≡ f.next.items → (IsClosed (graph_of next) → IsOrder (graph_of next) order) → IsOrder (graph_of f.next.items) order
+  its_order next order e h = subst (λ (z : List (Vec ℕ Global)). IsOrder (graph_of z) order) e (h (subst (λ (z : List (Vec ℕ Global)). IsClosed (graph_of z)) (sym e) (closed its_found its_ways)))
+
+pub its_homes : (f : Found) (is js : List ℕ) (homes : List linked.Home) → js ≡ is → HasHomes (found_homes f) (graph_of f.ways.items) js homes → HasHomes (found_homes f) (graph_of f.ways.items) is homes
+its_homes f is js homes e has = subst (λ z. HasHomes (found_homes f) (graph_of f.ways.items) z homes) e has
+
+pub its_names : (f : Found) (is js : List ℕ) (homes : List linked.Home) → js ≡ is → HasHomes (found_homes f) (graph_of f.ways.items) js homes → map home_view homes ≡ map (home_at (found_homes f)) is
+its_names f is js homes e has = homes_named (found_homes f) (graph_of f.ways.items) is homes (its_homes f is js homes e has)

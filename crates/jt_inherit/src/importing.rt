@@ -2,16 +2,14 @@
 
 ghost use Rattle.std.specs.Prelude.{◌≡◌, ◌++◌, map, IfOk};
 ghost use Rattle.jt_trees.specs.StatementView.{body_view, given_view};
-ghost use Rattle.jt_chains.specs.Along.{ArePlaces, templates_at};
-ghost use Rattle.jt_chains.specs.Chain.{a_library, macros, sources_in};
+ghost use Rattle.jt_chains.specs.Along.{ArePlaces};
+ghost use Rattle.jt_chains.specs.Chain.{a_library, macros};
 ghost use Rattle.jt_chains.specs.Pages.{pages_view};
 ghost use Rattle.jt_chains.specs.Rules as rules;
 ghost use Rattle.jt_inherit.specs.Kept as spec;
 ghost use Rattle.jt_inherit.specs.Kept.{names_from, imported_names, their_names};
-ghost use Rattle.jt_inherit.specs.Given.{IsGiven, macros_held};
+ghost use Rattle.jt_inherit.specs.Given.{IsGiven, macros_held, its_sources, its_templates};
 ghost use Rattle.jt_inherit.specs.SetView.{texts};
-ghost use Rattle.jt_inherit.specs.Sets.{names_view};
-ghost use Rattle.jt_inherit.specs.Ways.{AreNamed};
 
 use crate::shelf::Shelf;
 use jt_chains::{Macro, Page, macros_at};
@@ -20,7 +18,6 @@ use std::alloc::{AllocError, Global};
 
 /// The template of a library, where it was read.
 fn library_page<'a>(shelf: Shelf<'a>, library: &str) -> Option<&'a Page>
-    requires { AreNamed (pages_view shelf.pages.now) (names_view shelf.names.now) }
     ensures { IsGiven (pages_view shelf.entry.pages.now) library.now result }
 {
     let place = shelf.names.find(library)?;
@@ -41,9 +38,7 @@ fn has_not(page: &Page, names: &[(String, String)]) -> bool
 
 /// Whether `from` asks for a macro that the library lacks.
 fn lacks_one(shelf: Shelf<'_>, library: &str, names: &[(String, String)]) -> bool
-    requires { AreNamed (pages_view shelf.pages.now) (names_view shelf.names.now) }
-    ensures { result ≡ rules.lacks_one (sources_in (pages_view shelf.entry.pages.now))
-        library.now (given_view names.now) }
+    ensures { result ≡ rules.lacks_one (its_sources shelf.entry) library.now (given_view names.now) }
 {
     match library_page(shelf, library) {
         Some(page) => page.is_library() && has_not(page, names),
@@ -53,9 +48,7 @@ fn lacks_one(shelf: Shelf<'_>, library: &str, names: &[(String, String)]) -> boo
 
 /// Whether a template asks for a macro that a library lacks.
 fn lacks_macros(shelf: Shelf<'_>, body: &[Stmt]) -> bool
-    requires { AreNamed (pages_view shelf.pages.now) (names_view shelf.names.now) }
-    ensures { result ≡ rules.lacks_macros (sources_in (pages_view shelf.entry.pages.now))
-        (body_view body.now) }
+    ensures { result ≡ rules.lacks_macros (its_sources shelf.entry) (body_view body.now) }
 {
     for statement in body {
         if let Stmt::From {
@@ -74,11 +67,9 @@ fn lacks_macros(shelf: Shelf<'_>, body: &[Stmt]) -> bool
 
 /// Whether one of the templates at these places does.
 pub(crate) fn any_lacks_macros(shelf: Shelf<'_>, places: &[usize]) -> bool
-    requires named { AreNamed (pages_view shelf.pages.now)
-        (names_view shelf.names.now) }
-    requires places { ArePlaces (pages_view shelf.pages.now) places.now }
-    ensures { result ≡ spec.any_lacks_macros (sources_in (pages_view shelf.entry.pages.now))
-        (templates_at (pages_view shelf.entry.pages.now) places.now) }
+    requires { ArePlaces (pages_view shelf.pages.now) places.now }
+    ensures { result ≡ spec.any_lacks_macros (its_sources shelf.entry)
+        (its_templates shelf.entry places.now) }
 {
     for place in places {
         if lacks_macros(shelf, shelf.pages[*place].template.body()) {
@@ -112,10 +103,8 @@ fn add_given<'a>(
     names: &'a [(String, String)],
     given: &mut Vec<&'a str>,
 ) -> Result<(), AllocError>
-    requires { AreNamed (pages_view shelf.pages.now) (names_view shelf.names.now) }
-    ensures { IfOk result (λ _. texts given.new.items ≡ texts given.old.items
-        ++ names_from (macros (sources_in (pages_view shelf.entry.pages.now))
-        (a_library library.now)) (given_view names.now)) }
+    ensures { IfOk result (λ _. texts given.new.items ≡ texts given.old.items ++ names_from
+        (macros (its_sources shelf.entry) (a_library library.now)) (given_view names.now)) }
 {
     match library_page(shelf, library) {
         Some(page) => add_from(page, names, given),
@@ -129,9 +118,8 @@ fn add_imported<'a>(
     body: &'a [Stmt],
     given: &mut Vec<&'a str>,
 ) -> Result<(), AllocError>
-    requires { AreNamed (pages_view shelf.pages.now) (names_view shelf.names.now) }
-    ensures { IfOk result (λ _. texts given.new.items ≡ texts given.old.items
-        ++ imported_names (sources_in (pages_view shelf.entry.pages.now)) (body_view body.now)) }
+    ensures { IfOk result (λ _. texts given.new.items
+        ≡ texts given.old.items ++ imported_names (its_sources shelf.entry) (body_view body.now)) }
 {
     for statement in body {
         match statement {
@@ -164,12 +152,9 @@ pub(crate) fn names_at<'a>(
     shelf: Shelf<'a>,
     places: &[usize],
 ) -> Result<Vec<&'a str>, AllocError>
-    requires named { AreNamed (pages_view shelf.pages.now)
-        (names_view shelf.names.now) }
-    requires places { ArePlaces (pages_view shelf.pages.now) places.now }
+    requires { ArePlaces (pages_view shelf.pages.now) places.now }
     ensures { IfOk result (λ ns. texts ns.items
-        ≡ their_names (sources_in (pages_view shelf.entry.pages.now))
-        (templates_at (pages_view shelf.entry.pages.now) places.now)) }
+        ≡ their_names (its_sources shelf.entry) (its_templates shelf.entry places.now)) }
 {
     let macros = macros_at(alloc, shelf.pages, places)?;
     let mut given = names_of(alloc, &macros)?;

@@ -3,7 +3,6 @@
 
 ghost use Rattle.std.specs.Prelude.{◌≡◌, ◌≤◌, ◌++◌, ◌∷◌, [], ◌⊎◌, true, false, List, length, OnOk, IfOk, IfErr, IsTrue, string_bytes};
 ghost use Rattle.std.specs.List.{AllByRecursion};
-ghost use Rattle.jt_trees.specs.Texts.{among};
 ghost use Rattle.jt_trees.specs.Expressions.{Text};
 ghost use Rattle.jt_chains.specs.Along.{ArePlaces};
 ghost use Rattle.jt_inherit.specs.Along.{includes_along, imports_along, needs_along};
@@ -13,7 +12,7 @@ ghost use Rattle.jt_inherit.specs.Needs.{need_home, need_view, needed, needs_vie
 ghost use Rattle.jt_chains.specs.Pages.{pages_view};
 ghost use Rattle.jt_inherit.specs.SetView.{key_view};
 ghost use Rattle.jt_inherit.specs.Sets.{homes_view, names_view};
-ghost use Rattle.jt_inherit.specs.Ways.{AreKnown};
+ghost use Rattle.jt_inherit.specs.Ways.{AreKnown, AddsName, KnowPages, AddsNames};
 
 use crate::error::ChainError;
 use crate::library::Library;
@@ -93,9 +92,7 @@ fn read_include<L: Library>(
         (names_view names.new)) }
     ensures grown { OnOk result
         ((more : List Text) × (names_view names.new ≡ names_view names.old ++ more)) }
-    ensures from { OnOk result ((n : Text)
-        → IsTrue (among n (names_view names.new))
-        → IsTrue (among n (names_view names.old)) ⊎ (n ≡ include.entry.name.now)) }
+    ensures from { OnOk result (AddsName names.old names.new include.entry.name.now) }
     ensures met { OnOk result
         (IsMet (L.sources library.now) (names_view names.new) (need_view include.entry)) }
     ensures refused { IfErr result
@@ -123,16 +120,13 @@ pub(crate) fn read_includes<L: Library>(
     library: &L,
     options: Options,
 ) -> Result<Vec<Page>, ChainError>
-    requires known { AreKnown (L.sources library.now) options (pages_view pages.now)
-        (names_view names.old) }
+    requires known { KnowPages (L.sources library.now) options pages.now names.old }
     requires places { ArePlaces (pages_view pages.now) way.now }
     ensures known { IfOk result (λ fresh. AreKnown (L.sources library.now) options
         (pages_view pages.now ++ pages_view fresh.items) (names_view names.new)) }
     // what is new is included or imported
-    ensures from { OnOk result ((n : Text)
-        → IsTrue (among n (names_view names.new))
-        → IsTrue (among n (names_view names.old))
-        ⊎ IsTrue (among n (needed true (needs_along (pages_view pages.now) way.now)))) }
+    ensures from { OnOk result (AddsNames names.old names.new
+        (needed true (needs_along (pages_view pages.now) way.now))) }
     ensures met { OnOk result (AllByRecursion
         (IsMet (L.sources library.now) (names_view names.new))
         (needs_along (pages_view pages.now) way.now)) }

@@ -5,14 +5,13 @@ ghost use Rattle.std.specs.Str.{bytes_eq};
 ghost use Rattle.jt_trees.specs.Texts.{among, repeated};
 ghost use Rattle.jt_trees.specs.Expressions.{Text};
 ghost use Rattle.jt_chains.specs.Along.{ArePlaces, templates_at};
-ghost use Rattle.jt_chains.specs.Chain.{Template, sources_in};
+ghost use Rattle.jt_chains.specs.Chain.{Template};
 ghost use Rattle.jt_inherit.specs.Checks.{lacks_body, lacks_next, block_names};
 ghost use Rattle.jt_inherit.specs.Kept as spec;
 ghost use Rattle.jt_chains.specs.Pages.{pages_view};
 ghost use Rattle.jt_chains.specs.Parts.{blocks_view};
 ghost use Rattle.jt_inherit.specs.SetView.{texts};
-ghost use Rattle.jt_inherit.specs.Sets.{names_view};
-ghost use Rattle.jt_inherit.specs.Ways.{AreNamed};
+ghost use Rattle.jt_inherit.specs.Given.{its_sources, its_templates};
 
 use crate::error::ChainError;
 use crate::importing::{any_lacks_macros, names_at};
@@ -137,13 +136,11 @@ pub(crate) fn check_rules(
     places: &[usize],
     escaping: bool,
 ) -> Result<(), ChainError>
-    requires named { AreNamed (pages_view shelf.pages.now)
-        (names_view shelf.names.now) }
-    requires places { ArePlaces (pages_view shelf.pages.now) places.now }
-    ensures kept { OnOk result (spec.KeepAll (sources_in (pages_view shelf.entry.pages.now))
-        escaping (templates_at (pages_view shelf.entry.pages.now) places.now)) }
-    ensures broken { IfErr result (spec.BreakOne (sources_in (pages_view shelf.entry.pages.now))
-        escaping (templates_at (pages_view shelf.entry.pages.now) places.now)) }
+    requires { ArePlaces (pages_view shelf.pages.now) places.now }
+    ensures kept { OnOk result (spec.KeepAll (its_sources shelf.entry) escaping
+        (its_templates shelf.entry places.now)) }
+    ensures broken { IfErr result (spec.BreakOne (its_sources shelf.entry) escaping
+        (its_templates shelf.entry places.now)) }
 {
     if any_double(alloc, shelf.pages, places, escaping)? {
         return Err(ChainError::DoubleBlock);

@@ -1,13 +1,11 @@
 //! Templates that were read, each once, with their names beside them.
 
-ghost use Rattle.std.specs.Prelude.{◌≡◌, ◌⊎◌, ◌++◌, ◌∷◌, [], false, List, map, slice_get, Some, OnOk, IfOk, IfErr, IsTrue, string_bytes};
+ghost use Rattle.std.specs.Prelude.{◌≡◌, ◌++◌, ◌∷◌, [], false, map, slice_get, Some, OnOk, IfOk, IfErr, string_bytes};
 ghost use Rattle.jt_trees.specs.Texts.{among};
-ghost use Rattle.jt_trees.specs.Expressions.{Text};
-ghost use Rattle.jt_chains.specs.Chain.{Template};
 ghost use Rattle.jt_inherit.specs.Faults.{IsFaultOf};
 ghost use Rattle.jt_chains.specs.Pages.{pages_view};
+ghost use Rattle.jt_inherit.specs.Ways.{AddsName, Grow, KnowPages, AreNamed, AreNamed-prop};
 ghost use Rattle.jt_inherit.specs.Sets.{names_view};
-ghost use Rattle.jt_inherit.specs.Ways.{AreKnown};
 
 use crate::error::ChainError;
 use crate::library::Library;
@@ -22,6 +20,8 @@ use std::alloc::{AllocError, Global};
 pub(crate) struct Shelf<'a> {
     pub(crate) names: &'a Names,
     pub(crate) pages: &'a [Page],
+    ghost named: { AreNamed (pages_view pages.now)
+        (names_view names.now) } by { AreNamed-prop (pages_view pages.now) (names_view names.now) },
 }
 
 /// Puts a template, whose name is new, behind the others.
@@ -50,15 +50,11 @@ pub(crate) fn read_place<L: Library>(
     library: &L,
     options: Options,
 ) -> Result<usize, ChainError>
-    requires { AreKnown (L.sources library.now) options (pages_view pages.old.items)
-        (names_view names.old) }
-    ensures known { OnOk result (AreKnown (L.sources library.now) options
-        (pages_view pages.new.items) (names_view names.new)) }
-    ensures grown { OnOk result ((more : List Template)
-        × (pages_view pages.new.items ≡ pages_view pages.old.items ++ more)) }
-    ensures from { OnOk result ((n : Text)
-        → IsTrue (among n (names_view names.new))
-        → IsTrue (among n (names_view names.old)) ⊎ (n ≡ name.now)) }
+    requires { KnowPages (L.sources library.now) options pages.old.items names.old }
+    ensures known { OnOk result
+        (KnowPages (L.sources library.now) options pages.new.items names.new) }
+    ensures grown { OnOk result (Grow pages.old.items pages.new.items) }
+    ensures from { OnOk result (AddsName names.old names.new name.now) }
     ensures place { IfOk result
         (λ i. slice_get (map (λ t. t.name) (pages_view pages.new.items)) i ≡ Some name.now) }
     ensures refused { IfErr result (λ e. IsFaultOf e (L.sources library.now) name.now options) }

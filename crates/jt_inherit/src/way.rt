@@ -1,17 +1,13 @@
 //! The way from a chain's entry to the root, and the template of a library.
 
-ghost use Rattle.std.specs.Prelude.{◌≡◌, ◌⊎◌, ◌++◌, List, map, None, OnOk, IfOk, IfErr, IsTrue, option_map, string_bytes};
+ghost use Rattle.std.specs.Prelude.{◌≡◌, map, IfOk, IfErr, option_map, string_bytes};
 ghost use Rattle.jt_trees.specs.Texts.{among};
-ghost use Rattle.jt_trees.specs.Expressions.{Text};
 ghost use Rattle.jt_trees.specs.StatementView.{body_of};
 ghost use Rattle.jt_chains.specs.Along.{ArePlaces, templates_at};
-ghost use Rattle.jt_chains.specs.Chain.{Template, a_chain, a_library, extends_of, sources_in};
+ghost use Rattle.jt_chains.specs.Chain.{a_chain, a_library, extends_of};
 ghost use Rattle.jt_chains.specs.Pages.{pages_view};
-ghost use Rattle.jt_inherit.specs.Refusals.{Breaks};
-ghost use Rattle.jt_chains.specs.Rules.{Reaches};
+ghost use Rattle.jt_inherit.specs.Ways.{BreaksAll, HasRead, KnowPages};
 ghost use Rattle.jt_inherit.specs.SetView.{key_view};
-ghost use Rattle.jt_inherit.specs.Sets.{names_view};
-ghost use Rattle.jt_inherit.specs.Ways.{AreKnown, IsWay};
 
 use crate::error::ChainError;
 use crate::library::Library;
@@ -59,25 +55,11 @@ fn read_way<L: Library>(
     library: &L,
     options: Options,
 ) -> Result<Vec<usize>, ChainError>
-    requires { AreKnown (L.sources library.now) options (pages_view pages.old.items)
-        (names_view names.old) }
-    ensures known { OnOk result (AreKnown (L.sources library.now) options
-        (pages_view pages.new.items) (names_view names.new)) }
-    ensures grown { OnOk result ((more : List Template)
-        × (pages_view pages.new.items ≡ pages_view pages.old.items ++ more)) }
-    // what is new was on the way
-    ensures from { IfOk result (λ is. (n : Text)
-        → IsTrue (among n (names_view names.new))
-        → IsTrue (among n (names_view names.old))
-        ⊎ IsTrue
-        (among n (map (λ t. t.name) (templates_at (pages_view pages.new.items) is.items)))) }
-    ensures way { IfOk result
-        (λ is. IsWay (pages_view pages.new.items) (a_chain entry.now) is.items None) }
-    // of any chain from which this one is reached
-    ensures refused { IfErr result (λ e. (root : Text)
-        → Reaches (sources_in (pages_view pages.old.items)) options.autoescape (a_chain root)
-        (a_chain entry.now)
-        → Breaks e (L.sources library.now) root options) }
+    requires { KnowPages (L.sources library.now) options pages.old.items names.old }
+    ensures read { IfOk result (λ is. HasRead (L.sources library.now) options pages.old.items
+        pages.new.items names.old names.new (a_chain entry.now) is.items) }
+    ensures refused { IfErr result
+        (BreaksAll (L.sources library.now) options pages.old.items (a_chain entry.now)) }
 {
     let mut way = Vec::new(alloc);
     let mut name = String::from_str(alloc, entry)?;
@@ -107,25 +89,11 @@ fn read_library<L: Library>(
     library: &L,
     options: Options,
 ) -> Result<Vec<usize>, ChainError>
-    requires { AreKnown (L.sources library.now) options (pages_view pages.old.items)
-        (names_view names.old) }
-    ensures known { OnOk result (AreKnown (L.sources library.now) options
-        (pages_view pages.new.items) (names_view names.new)) }
-    ensures grown { OnOk result ((more : List Template)
-        × (pages_view pages.new.items ≡ pages_view pages.old.items ++ more)) }
-    // what is new was on the way
-    ensures from { IfOk result (λ is. (n : Text)
-        → IsTrue (among n (names_view names.new))
-        → IsTrue (among n (names_view names.old))
-        ⊎ IsTrue
-        (among n (map (λ t. t.name) (templates_at (pages_view pages.new.items) is.items)))) }
-    ensures way { IfOk result
-        (λ is. IsWay (pages_view pages.new.items) (a_library name.now) is.items None) }
-    // of any chain from which this one is reached
-    ensures refused { IfErr result (λ e. (root : Text)
-        → Reaches (sources_in (pages_view pages.old.items)) options.autoescape (a_chain root)
-        (a_library name.now)
-        → Breaks e (L.sources library.now) root options) }
+    requires { KnowPages (L.sources library.now) options pages.old.items names.old }
+    ensures read { IfOk result (λ is. HasRead (L.sources library.now) options pages.old.items
+        pages.new.items names.old names.new (a_library name.now) is.items) }
+    ensures refused { IfErr result
+        (BreaksAll (L.sources library.now) options pages.old.items (a_library name.now)) }
 {
     let place = read_place(alloc, names, pages, name, library, options)?;
     if !holds_macros(pages[place].template.body()) {
@@ -145,25 +113,11 @@ pub(crate) fn read_home<L: Library>(
     library: &L,
     options: Options,
 ) -> Result<Vec<usize>, ChainError>
-    requires { AreKnown (L.sources library.now) options (pages_view pages.old.items)
-        (names_view names.old) }
-    ensures known { OnOk result (AreKnown (L.sources library.now) options
-        (pages_view pages.new.items) (names_view names.new)) }
-    ensures grown { OnOk result ((more : List Template)
-        × (pages_view pages.new.items ≡ pages_view pages.old.items ++ more)) }
-    // what is new was on the way
-    ensures from { IfOk result (λ is. (n : Text)
-        → IsTrue (among n (names_view names.new))
-        → IsTrue (among n (names_view names.old))
-        ⊎ IsTrue
-        (among n (map (λ t. t.name) (templates_at (pages_view pages.new.items) is.items)))) }
-    ensures way { IfOk result
-        (λ is. IsWay (pages_view pages.new.items) (key_view home.now) is.items None) }
-    // of any chain from which this one is reached
-    ensures refused { IfErr result (λ e. (root : Text)
-        → Reaches (sources_in (pages_view pages.old.items)) options.autoescape (a_chain root)
-        (key_view home.now)
-        → Breaks e (L.sources library.now) root options) }
+    requires { KnowPages (L.sources library.now) options pages.old.items names.old }
+    ensures read { IfOk result (λ is. HasRead (L.sources library.now) options pages.old.items
+        pages.new.items names.old names.new (key_view home.now) is.items) }
+    ensures refused { IfErr result
+        (BreaksAll (L.sources library.now) options pages.old.items (key_view home.now)) }
 {
     if home.is_library {
         return read_library(alloc, names, pages, &home.name, library, options);

@@ -1,7 +1,6 @@
 -- Names that are put in order, one by one.
-use Rattle.std.proofs.Common.{◌≡◌, ℕ, ◌+◌, ◌<◌, length, drop, get_or, if◌then◌else◌, List, [], ◌∷◌, ◌++◌, Result, Ok, Err, IfOk, append_assoc, refl, sym, ap, ◌∙◌}
+use Rattle.std.proofs.Common.{◌≡◌, ℕ, ◌+◌, ◌<◌, length, drop, get_or, if◌then◌else◌, List, [], ◌∷◌, ◌++◌, Result, IfOk, append_assoc, refl, sym, ap, ◌∙◌, arith, rules}
 use Rattle.std.specs.declared.cmp.Ordering.{Ordering}
-use Rattle.std.specs.declared.cmp.Ordering.TheVariants.{Less, Equal, Greater}
 use Rattle.std.specs.Ordering.{nat_cmp, is_lt, is_eq, match_ordering}
 use Rattle.std.specs.Cmp.Lexicographic.{slice_cmp}
 use Rattle.std.specs.Str.{bytes_eq}
@@ -36,9 +35,7 @@ both_inserted xs ys ns ms ns' e f = f ∙ ap (all_inserted ys) e ∙ sym (insert
 -- what was done before went well, and so did what was done then
 pub then_is : {E : Type 0} (first last : Result (Unit {0}) E) (xs ys zs ns ms ns' : List Text) → IfOk first (λ u. ms ≡ all_inserted xs ns)
     → IfOk last (λ u. IsOk first × (ns' ≡ all_inserted ys ms)) → xs ++ ys ≡ zs → IfOk last (λ u. ns' ≡ all_inserted zs ns)
-then_is first (Err x) xs ys zs ns ms ns' e f same = cc
-then_is (Err x) (Ok v) xs ys zs ns ms ns' e f same = let bad = f.0 in absurd (cc)
-then_is (Ok u) (Ok v) xs ys zs ns ms ns' e f same = both_inserted xs ys ns ms ns' e f.1 ∙ ap (λ l. all_inserted l ns) same
+then_is a0 a1 xs ys zs ns ms ns' e f same = search (arith, rules, both_inserted)
 
 abbrev pub name_cmp : Bor Text → Bor Text → Ordering
 name_cmp x y = slice_cmp nat_cmp x.now y.now
@@ -52,47 +49,26 @@ key_inserted (y ∷ ys) x =
   where
     through : (o : Ordering) → texts (insert_key name_cmp ys x) ≡ inserted x.now (texts ys)
         → texts (match_ordering o (x ∷ y ∷ ys) (y ∷ ys) (y ∷ insert_key name_cmp ys x)) ≡ (if is_eq o then texts (y ∷ ys) else if is_lt o then x.now ∷ texts (y ∷ ys) else y.now ∷ inserted x.now (texts ys))
-    through Less h = refl
-    through Equal h = refl
-    through Greater h = ap (λ l. y.now ∷ l) h
+    through a0 h = search (arith, rules)
 
 pub statement_added : (ss : List Stmt) (i : ℕ) (s : Stmt) (ns ns' : List Text) → i < length ss → s ≡ get_or ss i s → ns' ≡ all_inserted (stmt_names (parsed.stmt_view s)) ns
     → all_inserted (body_names (parsed.body_view (drop (i + 1) ss))) ns' ≡ all_inserted (body_names (parsed.body_view (drop i ss))) ns
-statement_added ss i s ns ns' lt is e =
-    let rest = body_names (parsed.body_view (drop (i + 1) ss)) in
-    ap (all_inserted rest) e ∙ sym (inserted_both (stmt_names (parsed.stmt_view s)) rest ns) ∙ ap (λ b. all_inserted (body_names b) ns) (sym (statements_left ss i s lt is))
+statement_added ss i s ns ns' lt is e = search (arith, rules, inserted_both, statements_left)
 
 pub branch_added : (bs : List Branch) (i : ℕ) (b : Branch) (ns ns' : List Text) → i < length bs → b ≡ get_or bs i b
     → ns' ≡ all_inserted (body_names (parsed.body_view b.2.items)) (all_inserted (expr_names (written.expr_view b.1)) ns)
     → all_inserted (branch_names (parsed.branches_view (drop (i + 1) bs))) ns' ≡ all_inserted (branch_names (parsed.branches_view (drop i bs))) ns
-branch_added bs i b ns ns' lt is e =
-    let rest = branch_names (parsed.branches_view (drop (i + 1) bs)) in
-    let first = expr_names (written.expr_view b.1) in
-    let second = body_names (parsed.body_view b.2.items) in
-    ap (all_inserted rest) e ∙ sym (inserted_both second rest (all_inserted first ns)) ∙ sym (inserted_both first (second ++ rest) ns)
-    ∙ ap (λ c. all_inserted (branch_names c) ns) (sym (branches_left bs i b lt is))
+branch_added bs i b ns ns' lt is e = search (arith, rules, inserted_both, branches_left)
 
 pub expression_added : (ts : List Expr) (i : ℕ) (t : Expr) (ns ns' : List Text) → i < length ts → t ≡ get_or ts i t → ns' ≡ all_inserted (expr_names (written.expr_view t)) ns
     → all_inserted (row_names (written.exprs_view (drop (i + 1) ts))) ns' ≡ all_inserted (row_names (written.exprs_view (drop i ts))) ns
-expression_added ts i t ns ns' lt is e =
-    let rest = row_names (written.exprs_view (drop (i + 1) ts)) in
-    ap (all_inserted rest) e ∙ sym (inserted_both (expr_names (written.expr_view t)) rest ns) ∙ ap (λ r. all_inserted (row_names r) ns) (sym (row_left ts i t lt is))
+expression_added ts i t ns ns' lt is e = search (arith, rules, inserted_both, row_left)
 
 pub entry_added : (ps : List Entry) (i : ℕ) (p : Entry) (ns ns' : List Text) → i < length ps → p ≡ get_or ps i p → ns' ≡ all_inserted (expr_names (written.expr_view p.1)) ns
     → all_inserted (pair_names (written.pairs_view (drop (i + 1) ps))) ns' ≡ all_inserted (pair_names (written.pairs_view (drop i ps))) ns
-entry_added ps i p ns ns' lt is e =
-    let rest = pair_names (written.pairs_view (drop (i + 1) ps)) in
-    ap (all_inserted rest) e ∙ sym (inserted_both (expr_names (written.expr_view p.1)) rest ns) ∙ ap (λ r. all_inserted (pair_names r) ns) (sym (pairs_left ps i p lt is))
+entry_added ps i p ns ns' lt is e = search (arith, rules, inserted_both, pairs_left)
 
 pub filtering_added : (fs : List Filtering) (i : ℕ) (f : Filtering) (us : List Expr) (qs : List Entry) (ns ns' : List Text) → i < length fs → f ≡ get_or fs i f → us ≡ f.arguments.items → qs ≡ f.keywords.items
     → ns' ≡ all_inserted (row_names (written.exprs_view us) ++ pair_names (written.pairs_view qs)) ns
     → all_inserted (filtering_names (parsed.filterings_view (drop (i + 1) fs))) ns' ≡ all_inserted (filtering_names (parsed.filterings_view (drop i fs))) ns
-filtering_added fs i f us qs ns ns' lt is a b e =
-    let rest = filtering_names (parsed.filterings_view (drop (i + 1) fs)) in
-    let first = row_names (written.exprs_view f.arguments.items) in
-    let second = pair_names (written.pairs_view f.keywords.items) in
-    ap (all_inserted rest) (e ∙ ap (λ (z : List Entry). all_inserted (row_names (written.exprs_view us) ++ pair_names (written.pairs_view z)) ns) b
-    ∙ ap (λ (z : List Expr). all_inserted (row_names (written.exprs_view z) ++ second) ns) a)
-    ∙ sym (inserted_both (first ++ second) rest ns) ∙ ap (λ l. all_inserted l ns) (append_assoc first second rest)
-    ∙ ap (λ (z : Filtering). all_inserted (row_names (written.exprs_view z.arguments.items) ++ (pair_names (written.pairs_view z.keywords.items) ++ rest)) ns) is
-    ∙ ap (λ (z : List Filtering). all_inserted (filtering_names (parsed.filterings_view z)) ns) (sym (drop_more fs i f lt))
+filtering_added fs i f us qs ns ns' lt is a b e = search (arith, rules, inserted_both, append_assoc, drop_more)

@@ -1,7 +1,19 @@
 -- Names, and not where they lie in memory.
-use Rattle.std.specs.Prelude.{List, map}
+use Rattle.std.specs.Prelude.{◌≡◌, ◌++◌, List, map}
+use Rattle.std.specs.BTreeSet.{BTreeSet}
+use Rattle.std.specs.declared.alloc.Global.{Global}
+use Rattle.std.specs.declared.vec.Vec.{Vec}
 use denote.Ref.{Bor}
 use Rattle.jt_trees.specs.Expressions.{Text}
+use Rattle.jt_trees.specs.Texts.{all_inserted}
 
 abbrev pub texts : List (Bor Text) → List Text
 texts ks = map (λ k. k.now) ks
+
+-- these go into a set
+abbrev pub Puts : BTreeSet (Bor Text) → BTreeSet (Bor Text) → List Text → Type 0
+Puts old new xs = texts new.keys ≡ all_inserted xs (texts old.keys)
+
+-- these stand behind those that were there
+abbrev pub Adds : Vec (Bor Text) Global → Vec (Bor Text) Global → List Text → Type 0
+Adds old new xs = texts new.items ≡ texts old.items ++ xs

@@ -10,3 +10,4 @@ mod scopes;
 mod sets;
 
 pub use chains::{in_order, library_names, own_names, scope_names, set_names};
+pub use own::is_loop_name;

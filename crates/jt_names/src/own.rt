@@ -2,18 +2,18 @@
 
 ghost use Rattle.std.specs.Prelude.{◌≡◌, ◌++◌, if◌then◌else◌, [], map, option_map, IfOk, IsOk};
 ghost use Rattle.jt_trees.specs.ExpressionView.{expr_view, exprs_view, pairs_view};
-ghost use Rattle.jt_trees.specs.Texts.{inserted, all_inserted};
+ghost use Rattle.jt_trees.specs.Texts.{inserted};
 ghost use Rattle.jt_chains.specs.Chain.{is_loop};
 ghost use Rattle.jt_trees.specs.StatementView.{stmt_view, body_view, branches_view, names_view, filterings_view, parameters_view};
 ghost use Rattle.jt_chains.specs.Uses.{expr_names, row_names, pair_names, condition_names, filtering_names, stmt_names, body_names, branch_names, keywords};
-ghost use Rattle.jt_names.specs.Names.{texts};
+ghost use Rattle.jt_names.specs.Names.{Puts, texts};
 
 use jt_trees::{Expr, Filtering, Parameter, Stmt};
 use std::alloc::AllocError;
 use std::collections::BTreeSet;
 
 /// Whether an expression is the bare name `loop`.
-fn is_loop_name(expr: &Expr) -> bool
+pub fn is_loop_name(expr: &Expr) -> bool
     ensures { result ≡ is_loop (expr_view expr.now) }
 {
     match expr {
@@ -34,8 +34,7 @@ pub(crate) fn add_name<'a>(names: &mut BTreeSet<&'a str>, name: &'a str) -> Resu
 #[tactic(auto, using(jt_trees::proofs::ExpressionViews::view_Map))]
 #[cycle(gather)]
 fn add_expression<'a>(names: &mut BTreeSet<&'a str>, expr: &'a Expr) -> Result<(), AllocError>
-    ensures { IfOk result (λ u. texts names.new.keys
-        ≡ all_inserted (expr_names (expr_view expr.now)) (texts names.old.keys)) }
+    ensures { IfOk result (λ _. Puts names.old names.new (expr_names (expr_view expr.now))) }
 {
     match expr {
         Expr::Constant(_) => Ok(()),
@@ -83,8 +82,8 @@ fn add_expression<'a>(names: &mut BTreeSet<&'a str>, expr: &'a Expr) -> Result<(
     }
 }
 
-// Each `then` function takes how it went before as a `Result`, so that the many arms of its callers have
-// no early exit: a match with many of them is dear to prove.
+// Each `then` function takes how it went before as a `Result`, so that the many arms of its callers
+// have no early exit: a match with many of them is dear to prove.
 
 /// Adds the names of an expression, behind others.
 #[cycle(gather)]
@@ -93,8 +92,8 @@ fn then_expression<'a>(
     before: Result<(), AllocError>,
     expr: &'a Expr,
 ) -> Result<(), AllocError>
-    ensures { IfOk result (λ u. IsOk before × (texts names.new.keys
-        ≡ all_inserted (expr_names (expr_view expr.now)) (texts names.old.keys))) }
+    ensures { IfOk result (λ _. IsOk before × Puts names.old names.new
+        (expr_names (expr_view expr.now))) }
 {
     before?;
     add_expression(names, expr)?;
@@ -110,9 +109,8 @@ fn then_arguments<'a>(
     row: &'a [Expr],
     pairs: &'a [(String, Expr)],
 ) -> Result<(), AllocError>
-    ensures { IfOk result (λ u. IsOk before × (texts names.new.keys
-        ≡ all_inserted (row_names (exprs_view row.now) ++ pair_names (pairs_view pairs.now))
-        (texts names.old.keys))) }
+    ensures { IfOk result (λ _. IsOk before × Puts names.old names.new (row_names
+        (exprs_view row.now) ++ pair_names (pairs_view pairs.now))) }
 {
     before?;
     add_row(names, row)?;
@@ -128,9 +126,8 @@ fn add_both<'a>(
     first: &'a Expr,
     second: &'a Expr,
 ) -> Result<(), AllocError>
-    ensures { IfOk result (λ u. texts names.new.keys
-        ≡ all_inserted (expr_names (expr_view first.now) ++ expr_names (expr_view second.now))
-        (texts names.old.keys)) }
+    ensures { IfOk result (λ _. Puts names.old names.new (expr_names (expr_view first.now) ++
+        expr_names (expr_view second.now))) }
 {
     add_expression(names, first)?;
     add_expression(names, second)?;
@@ -140,10 +137,8 @@ fn add_both<'a>(
 /// Adds the names of what has an attribute; `loop` is none.
 #[cycle(gather)]
 fn add_of_attribute<'a>(names: &mut BTreeSet<&'a str>, value: &'a Expr) -> Result<(), AllocError>
-    ensures { IfOk result (λ u. texts names.new.keys
-        ≡ all_inserted
-        (if is_loop (expr_view value.now) then [] else expr_names (expr_view value.now))
-        (texts names.old.keys)) }
+    ensures { IfOk result (λ _. Puts names.old names.new (if is_loop (expr_view value.now) then []
+        else expr_names (expr_view value.now))) }
 {
     if is_loop_name(value) {
         return Ok(());
@@ -154,8 +149,7 @@ fn add_of_attribute<'a>(names: &mut BTreeSet<&'a str>, value: &'a Expr) -> Resul
 /// Adds the names of a row of expressions.
 #[cycle(gather)]
 fn add_row<'a>(names: &mut BTreeSet<&'a str>, row: &'a [Expr]) -> Result<(), AllocError>
-    ensures { IfOk result (λ u. texts names.new.keys
-        ≡ all_inserted (row_names (exprs_view row.now)) (texts names.old.keys)) }
+    ensures { IfOk result (λ _. Puts names.old names.new (row_names (exprs_view row.now))) }
 {
     for expr in row {
         add_expression(names, expr)?;
@@ -169,8 +163,7 @@ fn add_pairs<'a>(
     names: &mut BTreeSet<&'a str>,
     pairs: &'a [(String, Expr)],
 ) -> Result<(), AllocError>
-    ensures { IfOk result (λ u. texts names.new.keys
-        ≡ all_inserted (pair_names (pairs_view pairs.now)) (texts names.old.keys)) }
+    ensures { IfOk result (λ _. Puts names.old names.new (pair_names (pairs_view pairs.now))) }
 {
     for (_, value) in pairs {
         add_expression(names, value)?;
@@ -180,8 +173,7 @@ fn add_pairs<'a>(
 
 /// Adds the names of targets.
 fn add_targets<'a>(names: &mut BTreeSet<&'a str>, targets: &'a [String]) -> Result<(), AllocError>
-    ensures { IfOk result
-        (λ u. texts names.new.keys ≡ all_inserted (names_view targets.now) (texts names.old.keys)) }
+    ensures { IfOk result (λ _. Puts names.old names.new (names_view targets.now)) }
 {
     for target in targets {
         add_name(names, target.as_str())?;
@@ -194,8 +186,7 @@ fn add_keywords<'a>(
     names: &mut BTreeSet<&'a str>,
     pairs: &'a [(String, Expr)],
 ) -> Result<(), AllocError>
-    ensures { IfOk result (λ u. texts names.new.keys
-        ≡ all_inserted (keywords (pairs_view pairs.now)) (texts names.old.keys)) }
+    ensures { IfOk result (λ _. Puts names.old names.new (keywords (pairs_view pairs.now))) }
 {
     for (name, _) in pairs {
         add_name(names, name.as_str())?;
@@ -208,9 +199,8 @@ fn add_parameters<'a>(
     names: &mut BTreeSet<&'a str>,
     parameters: &'a [Parameter],
 ) -> Result<(), AllocError>
-    ensures { IfOk result (λ u. texts names.new.keys
-        ≡ all_inserted (map (λ p. p.name) (parameters_view parameters.now))
-        (texts names.old.keys)) }
+    ensures { IfOk result (λ _. Puts names.old names.new (map (λ p. p.name)
+        (parameters_view parameters.now))) }
 {
     for parameter in parameters {
         add_name(names, parameter.name.as_str())?;
@@ -223,9 +213,8 @@ fn add_condition<'a>(
     names: &mut BTreeSet<&'a str>,
     condition: &'a Option<Expr>,
 ) -> Result<(), AllocError>
-    ensures { IfOk result (λ u. texts names.new.keys
-        ≡ all_inserted (condition_names (option_map expr_view condition.now))
-        (texts names.old.keys)) }
+    ensures { IfOk result (λ _. Puts names.old names.new (condition_names
+        (option_map expr_view condition.now))) }
 {
     match condition {
         Some(condition) => add_expression(names, condition),
@@ -239,8 +228,8 @@ fn then_filterings<'a>(
     before: Result<(), AllocError>,
     filterings: &'a [Filtering],
 ) -> Result<(), AllocError>
-    ensures { IfOk result (λ u. IsOk before × (texts names.new.keys
-        ≡ all_inserted (filtering_names (filterings_view filterings.now)) (texts names.old.keys))) }
+    ensures { IfOk result (λ _. IsOk before × Puts names.old names.new (filtering_names
+        (filterings_view filterings.now))) }
 {
     before?;
     for filtering in filterings {
@@ -255,9 +244,8 @@ fn add_bindings<'a>(
     names: &mut BTreeSet<&'a str>,
     pairs: &'a [(String, Expr)],
 ) -> Result<(), AllocError>
-    ensures { IfOk result (λ u. texts names.new.keys
-        ≡ all_inserted (pair_names (pairs_view pairs.now) ++ keywords (pairs_view pairs.now))
-        (texts names.old.keys)) }
+    ensures { IfOk result (λ _. Puts names.old names.new (pair_names (pairs_view pairs.now) ++
+        keywords (pairs_view pairs.now))) }
 {
     add_pairs(names, pairs)?;
     add_keywords(names, pairs)?;
@@ -272,10 +260,8 @@ fn add_head<'a>(
     targets: &'a [String],
     condition: &'a Option<Expr>,
 ) -> Result<(), AllocError>
-    ensures { IfOk result (λ u. texts names.new.keys
-        ≡ all_inserted (expr_names (expr_view items.now)
-        ++ (names_view targets.now ++ condition_names (option_map expr_view condition.now)))
-        (texts names.old.keys)) }
+    ensures { IfOk result (λ _. Puts names.old names.new (expr_names (expr_view items.now) ++
+        (names_view targets.now ++ condition_names (option_map expr_view condition.now)))) }
 {
     add_expression(names, items)?;
     add_targets(names, targets)?;
@@ -290,9 +276,8 @@ fn add_set<'a>(
     targets: &'a [String],
     value: &'a Expr,
 ) -> Result<(), AllocError>
-    ensures { IfOk result (λ u. texts names.new.keys
-        ≡ all_inserted (expr_names (expr_view value.now) ++ names_view targets.now)
-        (texts names.old.keys)) }
+    ensures { IfOk result (λ _. Puts names.old names.new (expr_names (expr_view value.now) ++
+        names_view targets.now)) }
 {
     add_expression(names, value)?;
     add_targets(names, targets)?;
@@ -305,8 +290,8 @@ fn add_branches<'a>(
     names: &mut BTreeSet<&'a str>,
     branches: &'a [(u32, Expr, Vec<Stmt>)],
 ) -> Result<(), AllocError>
-    ensures { IfOk result (λ u. texts names.new.keys
-        ≡ all_inserted (branch_names (branches_view branches.now)) (texts names.old.keys)) }
+    ensures { IfOk result (λ _. Puts names.old names.new
+        (branch_names (branches_view branches.now))) }
 {
     for (_, condition, body) in branches {
         add_expression(names, condition)?;
@@ -319,8 +304,7 @@ fn add_branches<'a>(
 #[tactic(auto, using(jt_trees::proofs::StatementViews::view_Set))]
 #[cycle(add)]
 fn add_statement<'a>(names: &mut BTreeSet<&'a str>, statement: &'a Stmt) -> Result<(), AllocError>
-    ensures { IfOk result (λ u. texts names.new.keys
-        ≡ all_inserted (stmt_names (stmt_view statement.now)) (texts names.old.keys)) }
+    ensures { IfOk result (λ _. Puts names.old names.new (stmt_names (stmt_view statement.now))) }
 {
     match statement {
         Stmt::Data(_)
@@ -378,8 +362,8 @@ fn then_statements<'a>(
     before: Result<(), AllocError>,
     body: &'a [Stmt],
 ) -> Result<(), AllocError>
-    ensures { IfOk result (λ u. IsOk before × (texts names.new.keys
-        ≡ all_inserted (body_names (body_view body.now)) (texts names.old.keys))) }
+    ensures { IfOk result (λ _. IsOk before × Puts names.old names.new
+        (body_names (body_view body.now))) }
 {
     before?;
     add_statements(names, body)?;
@@ -392,8 +376,7 @@ pub(crate) fn add_statements<'a>(
     names: &mut BTreeSet<&'a str>,
     body: &'a [Stmt],
 ) -> Result<(), AllocError>
-    ensures { IfOk result (λ u. texts names.new.keys
-        ≡ all_inserted (body_names (body_view body.now)) (texts names.old.keys)) }
+    ensures { IfOk result (λ _. Puts names.old names.new (body_names (body_view body.now))) }
 {
     for statement in body {
         add_statement(names, statement)?;

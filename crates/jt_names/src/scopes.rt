@@ -1,10 +1,11 @@
-//! The names that scopes bind: targets of loops, parameters, values of `with`, and what is set in a scope.
+//! The names that scopes bind: targets of loops, parameters, values of `with`, and what is set in a
+//! scope.
 
-ghost use Rattle.std.specs.Prelude.{◌≡◌, ◌++◌, map, IfOk};
+ghost use Rattle.std.specs.Prelude.{◌++◌, map, IfOk};
 ghost use Rattle.jt_trees.specs.ExpressionView.{pairs_view};
 ghost use Rattle.jt_chains.specs.Uses.{keywords, set_in, scope_names_by, scope_names_in};
 ghost use Rattle.jt_trees.specs.StatementView.{stmt_view, body_view, parameters_view};
-ghost use Rattle.jt_names.specs.Names.{texts};
+ghost use Rattle.jt_names.specs.Names.{Adds};
 
 use crate::sets::{add_sets, add_targets};
 use jt_trees::{Expr, Parameter, Stmt};
@@ -12,8 +13,7 @@ use std::alloc::AllocError;
 
 /// Adds the keys of pairs.
 fn add_keys<'a>(found: &mut Vec<&'a str>, pairs: &'a [(String, Expr)]) -> Result<(), AllocError>
-    ensures { IfOk result
-        (λ _. texts found.new.items ≡ texts found.old.items ++ keywords (pairs_view pairs.now)) }
+    ensures { IfOk result (λ _. Adds found.old found.new (keywords (pairs_view pairs.now))) }
 {
     for (name, _) in pairs {
         found.push(name.as_str())?;
@@ -26,8 +26,8 @@ fn add_parameters<'a>(
     found: &mut Vec<&'a str>,
     parameters: &'a [Parameter],
 ) -> Result<(), AllocError>
-    ensures { IfOk result (λ _. texts found.new.items
-        ≡ texts found.old.items ++ map (λ p. p.name) (parameters_view parameters.now)) }
+    ensures { IfOk result (λ _. Adds found.old found.new (map (λ p. p.name)
+        (parameters_view parameters.now))) }
 {
     for parameter in parameters {
         found.push(parameter.name.as_str())?;
@@ -38,8 +38,7 @@ fn add_parameters<'a>(
 /// Adds the names that the scopes in statements bind.
 #[cycle(scopes)]
 pub(crate) fn add_scopes<'a>(found: &mut Vec<&'a str>, body: &'a [Stmt]) -> Result<(), AllocError>
-    ensures { IfOk result (λ _.
-        texts found.new.items ≡ texts found.old.items ++ scope_names_in (body_view body.now)) }
+    ensures { IfOk result (λ _. Adds found.old found.new (scope_names_in (body_view body.now))) }
 {
     for statement in body {
         add_scope(found, statement)?;
@@ -50,9 +49,8 @@ pub(crate) fn add_scopes<'a>(found: &mut Vec<&'a str>, body: &'a [Stmt]) -> Resu
 /// Adds what a scope of its own sets, and the names that the scopes in it bind.
 #[cycle(scopes)]
 fn add_inside<'a>(found: &mut Vec<&'a str>, body: &'a [Stmt]) -> Result<(), AllocError>
-    ensures { IfOk result (λ _. texts found.new.items
-        ≡ texts found.old.items
-        ++ (set_in (body_view body.now) ++ scope_names_in (body_view body.now))) }
+    ensures { IfOk result (λ _. Adds found.old found.new (set_in (body_view body.now) ++
+        scope_names_in (body_view body.now))) }
 {
     add_sets(found, body)?;
     add_scopes(found, body)?;
@@ -62,8 +60,7 @@ fn add_inside<'a>(found: &mut Vec<&'a str>, body: &'a [Stmt]) -> Result<(), Allo
 /// Adds those of one statement.
 #[cycle(scopes)]
 fn add_scope<'a>(found: &mut Vec<&'a str>, statement: &'a Stmt) -> Result<(), AllocError>
-    ensures { IfOk result (λ _.
-        texts found.new.items ≡ texts found.old.items ++ scope_names_by (stmt_view statement.now)) }
+    ensures { IfOk result (λ _. Adds found.old found.new (scope_names_by (stmt_view statement.now))) }
 {
     match statement {
         Stmt::If(branches, other) => {

@@ -1,9 +1,9 @@
 //! The names that a body sets in its own scope.
 
-ghost use Rattle.std.specs.Prelude.{◌≡◌, ◌++◌, IfOk};
+ghost use Rattle.std.specs.Prelude.{IfOk};
 ghost use Rattle.jt_chains.specs.Uses.{set_by, set_in};
 ghost use Rattle.jt_trees.specs.StatementView.{stmt_view, body_view, names_view};
-ghost use Rattle.jt_names.specs.Names.{texts};
+ghost use Rattle.jt_names.specs.Names.{Adds};
 
 use jt_trees::Stmt;
 use std::alloc::AllocError;
@@ -13,8 +13,7 @@ pub(crate) fn add_targets<'a>(
     found: &mut Vec<&'a str>,
     targets: &'a [String],
 ) -> Result<(), AllocError>
-    ensures { IfOk result
-        (λ _. texts found.new.items ≡ texts found.old.items ++ names_view targets.now) }
+    ensures { IfOk result (λ _. Adds found.old found.new (names_view targets.now)) }
 {
     for target in targets {
         found.push(target.as_str())?;
@@ -25,8 +24,7 @@ pub(crate) fn add_targets<'a>(
 /// Adds the names that statements set in their scope.
 #[cycle(sets)]
 pub(crate) fn add_sets<'a>(found: &mut Vec<&'a str>, body: &'a [Stmt]) -> Result<(), AllocError>
-    ensures { IfOk result
-        (λ _. texts found.new.items ≡ texts found.old.items ++ set_in (body_view body.now)) }
+    ensures { IfOk result (λ _. Adds found.old found.new (set_in (body_view body.now))) }
 {
     for statement in body {
         add_set(found, statement)?;
@@ -37,8 +35,7 @@ pub(crate) fn add_sets<'a>(found: &mut Vec<&'a str>, body: &'a [Stmt]) -> Result
 /// Adds those of one statement.
 #[cycle(sets)]
 fn add_set<'a>(found: &mut Vec<&'a str>, statement: &'a Stmt) -> Result<(), AllocError>
-    ensures { IfOk result
-        (λ _. texts found.new.items ≡ texts found.old.items ++ set_by (stmt_view statement.now)) }
+    ensures { IfOk result (λ _. Adds found.old found.new (set_by (stmt_view statement.now))) }
 {
     match statement {
         Stmt::Set { targets, .. } => add_targets(found, targets),

@@ -1,5 +1,4 @@
-use borrow.Author.Tests.{ltb-true}
-use Rattle.std.proofs.Common.{sym, ap, ◌∙◌}
+use Rattle.std.proofs.Common.{sym, ap, arith, rules}
 use Rattle.std.specs.Prelude.{option_and_then}
 use Rattle.jt_trees.specs.StatementView.{stmt_view}
 use Rattle.jt_chains.specs.Parts.{name_at}
@@ -9,9 +8,7 @@ use Rattle.jt_chains.proofs.Tabled.{past_mapped}
 use Rattle.jt_chains.proofs.pages.macro_at.Goals as goal
 
 pub returns-in-Some : goal.returns-in-Some
-returns-in-Some c = λ ts.
-    c.as_macro.ensures ts ∙ ap (option_and_then (as_macro (name_at ts c.args.template)))
-    (sym (map_at stmt_view c.args.body.now c.args.place c.in-Some.statement.now (ltb-true _ _ (sym c.in-Some.ensures.lookup.0)) c.in-Some.ensures.lookup.1))
+returns-in-Some c = search (arith, rules, map_at)
 
 pub returns-in-None : goal.returns-in-None
 returns-in-None c = λ ts.

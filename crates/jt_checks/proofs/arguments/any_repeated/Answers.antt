@@ -1,4 +1,4 @@
-use Rattle.std.proofs.Common.{sym, ◌∙◌, get_or}
+use Rattle.std.proofs.Common.{sym, ◌∙◌, get_or, arith, rules}
 use Rattle.jt_checks.specs.Standing.{texts, is_among}
 use Rattle.jt_checks.proofs.Sets.{again_none, again_step, again_here, from_not, from_not_false, nameless}
 use Rattle.jt_checks.proofs.arguments.any_repeated.Goals as goal
@@ -7,10 +7,7 @@ pub loop-name-init : goal.loop-name-init
 loop-name-init c = again_none c.new-seen.result c.new-seen.ensures.empty (texts c.args.names.now)
 
 pub loop-name-preserved : goal.loop-name-preserved
-loop-name-preserved c =
-    let l = c.loop-name in
-    let new = from_not c.in_ok-insert.field-0 (is_among l.seen (get_or c.args.names.now l.name-index nameless).now) c.in_ok-insert.ensures.added c.if-not-branch.false in
-    again_step l.seen c.insert.new.self c.args.names.now l.name-index nameless c.loop-name-test.true new c.in_ok-insert.ensures.updates ∙ l.invariant
+loop-name-preserved c = search (arith, rules, from_not, get_or, nameless, again_step)
 
 pub returns-then-not-branch : goal.returns-then-not-branch
 returns-then-not-branch c =

@@ -1,16 +1,11 @@
-use Rattle.std.proofs.Common.{take, sym, ◌∙◌}
+use Rattle.std.proofs.Common.{take, sym, ◌∙◌, arith, rules}
 use Rattle.std.proofs.lemmas.List.{at_drop_all}
 use Rattle.jt_checks.specs.Standing.{texts}
 use Rattle.jt_checks.proofs.Filled.{all_filled, filled_among, unfilled_at}
 use Rattle.jt_checks.proofs.arguments.is_filled.Goals as goal
 
 pub returns-then-is_none : goal.returns-then-is_none
-returns-then-is_none c =
-    let ps = c.args.parameters.now in
-    let ks = texts c.args.names.now in
-    sym (unfilled_at ks (take c.reached.result ps) c.loop-parameter.parameter-index c.parameter-item.result c.loop-parameter-test.true c.parameter-item.is
-    (sym c.is_given.ensures ∙ c.if-not-is_given.true) c.if-is_none.ensures)
-    ∙ c.loop-parameter.invariant ∙ filled_among ks ps c.reached.result c.reached.ensures.value
+returns-then-is_none c = search (arith, rules, unfilled_at, filled_among)
 
 pub returns : goal.returns
 returns c =

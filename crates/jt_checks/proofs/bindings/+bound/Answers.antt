@@ -1,11 +1,9 @@
-use Rattle.std.proofs.Common.{arith}
+use Rattle.std.proofs.Common.{arith, rules}
 use Rattle.jt_checks.proofs.Bound.{for_bound, set_bound, with_bound, macro_bound, choice_bound, all_bound}
 use Rattle.jt_checks.proofs.bindings.+bound.Goals as goal
 
 pub bound_by-returns-after-loop-inside : goal.bound_by-returns-after-loop-inside
-bound_by-returns-after-loop-inside t c =
-    choice_bound 18446744073709551615 c.args.statement.now c.in-If.branches c.in-If.other c.deref-inside-items.result.now c.deref.result.now c.loop-inside.inside-index c.bound_in-bound.result c.loop-inside.bound
-    c.in-If.is c.deref-inside-items.ensures.value c.deref.ensures.value c.bound_in-bound.ensures c.loop-inside-test.false c.loop-inside.invariant.within c.loop-inside.invariant.left
+bound_by-returns-after-loop-inside t c = search (arith, rules, choice_bound)
 
 pub bound_by-returns-in-For : goal.bound_by-returns-in-For
 bound_by-returns-in-For t c =
@@ -18,14 +16,10 @@ bound_by-returns-in-Set t c =
     set_bound 18446744073709551615 c.args.statement.now c.in-Set.line c.in-Set.targets c.in-Set.value c.len-in-Set.result c.in-Set.is (omega (arith, c.len-in-Set.ensures, c.in-Set.targets.ok.0)) c.len-in-Set.type_inv
 
 pub bound_by-returns-in-With : goal.bound_by-returns-in-With
-bound_by-returns-in-With t c =
-    with_bound 18446744073709551615 c.args.statement.now c.in-With.line c.in-With.values c.in-With.body c.deref-in-With.result.now c.bound_in-in-With.result c.saturating_add-in-With.result c.len-in-With.result
-    c.in-With.is c.deref-in-With.ensures.value c.bound_in-in-With.ensures (omega (arith, c.len-in-With.ensures, c.in-With.values.ok.0)) c.saturating_add-in-With.ensures
+bound_by-returns-in-With t c = search (arith, rules, with_bound)
 
 pub bound_by-returns-in-Macro : goal.bound_by-returns-in-Macro
-bound_by-returns-in-Macro t c =
-    macro_bound 18446744073709551615 c.args.statement.now c.in-Macro.line c.in-Macro.name c.in-Macro.parameters c.in-Macro.body c.deref-in-Macro.result.now c.bound_in-in-Macro.result c.saturating_add-in-Macro.result c.len-in-Macro.result
-    c.in-Macro.is c.deref-in-Macro.ensures.value c.bound_in-in-Macro.ensures (omega (arith, c.len-in-Macro.ensures, c.in-Macro.parameters.ok.0)) c.saturating_add-in-Macro.ensures
+bound_by-returns-in-Macro t c = search (arith, rules, macro_bound)
 
 pub bound_in-returns : goal.bound_in-returns
 bound_in-returns t c =

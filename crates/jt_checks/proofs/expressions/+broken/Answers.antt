@@ -1,76 +1,52 @@
-use Rattle.std.proofs.Common.{◌≡◌, ◌∙◌, Ok, refl}
+use Rattle.std.proofs.Common.{◌≡◌, ◌∙◌, Ok, ap, arith, rules}
 use Rattle.std.specs.Option.{option_or}
 use Rattle.jt_trees.specs.ExpressionView.{exprs_view, pairs_view}
+use Rattle.jt_trees.proofs.ExpressionViews.{shown_item, shown_binary, shown_when, shown_choice, shown_filter, shown_test}
 use Rattle.jt_evaluation.specs.Tests.{test_named}
 use Rattle.jt_rules.specs.Walk as rules
-use Rattle.jt_checks.specs.ScopeView.{its_world, its_home, within_view}
-use Rattle.jt_checks.proofs.Found.{its_filters, found_call, found_inner, found_filter, found_test, filter_called, test_called, item_read, binary_read, when_read, choice_read, item_called, binary_called, when_called, choice_called, row_some, row_none, pairs_some, pairs_none}
+use Rattle.jt_checks.specs.ScopeView.{its_world, its_home, found, within_view}
+use Rattle.jt_checks.proofs.Found.{its_filters, found_call, found_inner, found_filter, found_test, row_some, row_none, pairs_some, pairs_none}
 use Rattle.jt_checks.proofs.Turns.{behind, either_is, equal_found, part, parts}
 use Rattle.jt_checks.proofs.expressions.+broken.Goals as goal
 
 pub broken-returns-in-Call : goal.broken-returns-in-Call
 broken-returns-in-Call t c =
     let s = c.args.scope.now in
-    let w = within_view c.args.within in
-    let rest = option_or (rules.row_broken (its_world s) (its_home s) (exprs_view c.deref-in-Call-5.result.now) w) (rules.pairs_broken (its_world s) (its_home s) (pairs_view c.deref-in-Call-6.result.now) w) in
-    parts c.called_broken-first.result c.call_broken-call.result c.either.result c.or_arguments_broken.result _ _ rest _
-    c.called_broken-first.ensures c.call_broken-call.ensures c.either.ensures c.or_arguments_broken.ensures
-    (λ x y p q. found_call (its_world s) (its_home s) w c.args.expr.now c.deref-in-Call.result.now c.deref-in-Call-2.result.now c.deref-in-Call-3.result.now c.deref-in-Call-5.result.now
-    c.deref-in-Call-4.result.now c.deref-in-Call-6.result.now c.in-Call.callee c.in-Call.arguments c.in-Call.keywords x y _ _ _ _ _
-    c.in-Call.is c.deref-in-Call.ensures c.deref-in-Call-2.ensures c.deref-in-Call-3.ensures.value c.deref-in-Call-4.ensures.value c.deref-in-Call-5.ensures.value c.deref-in-Call-6.ensures.value
-    p q refl refl refl refl refl)
+    parts c.called_broken-first.result c.call_broken-call.result c.either.result c.or_arguments_broken.result _ _ _ _ c.called_broken-first.ensures c.call_broken-call.ensures c.either.ensures c.or_arguments_broken.ensures
+    (λ x y p q. found_call (its_world s) (its_home s) (within_view c.args.within) c.in-Call.arguments c.in-Call.keywords c.in-Call.is c.deref-in-Call.ensures c.deref-in-Call-2.ensures c.deref-in-Call-3.ensures.value c.deref-in-Call-4.ensures.value c.deref-in-Call-5.ensures.value c.deref-in-Call-6.ensures.value p q)
 
 pub broken-returns-in-Filter : goal.broken-returns-in-Filter
 broken-returns-in-Filter t c =
     let s = c.args.scope.now in
-    let w = within_view c.args.within in
-    let rest = option_or (rules.row_broken (its_world s) (its_home s) (exprs_view c.deref-in-Filter-5.result.now) w) (rules.pairs_broken (its_world s) (its_home s) (pairs_view c.deref-in-Filter-6.result.now) w) in
-    parts c.filter_broken-call.result c.broken-input.result c.either-in-Filter.result c.or_arguments_broken-in-Filter.result _ _ rest _
-    c.filter_broken-call.ensures c.broken-input.ensures c.either-in-Filter.ensures c.or_arguments_broken-in-Filter.ensures
-    (λ x y p q. found_filter (its_world s) (its_home s) w (its_filters s.chain.now) c.args.expr.now c.deref-in-Filter-4.result.now c.deref-in-Filter.result.now c.deref-in-Filter-2.result.now c.deref-in-Filter-5.result.now
-    c.deref-in-Filter-3.result.now c.deref-in-Filter-6.result.now c.in-Filter.input c.in-Filter.name c.in-Filter.arguments c.in-Filter.keywords x y _ _ _ _ _
-    c.in-Filter.is c.deref-in-Filter.ensures c.deref-in-Filter-2.ensures.value c.deref-in-Filter-3.ensures.value c.deref-in-Filter-4.ensures c.deref-in-Filter-5.ensures.value c.deref-in-Filter-6.ensures.value
-    p q refl refl refl refl refl)
+    parts c.filter_broken-call.result c.broken-input.result c.either-in-Filter.result c.or_arguments_broken-in-Filter.result _ _ _ _ c.filter_broken-call.ensures c.broken-input.ensures c.either-in-Filter.ensures c.or_arguments_broken-in-Filter.ensures
+    (λ x y p q. found_filter (its_world s) (its_home s) (within_view c.args.within) c.in-Filter.arguments c.in-Filter.keywords (its_filters s.chain.now) c.in-Filter.is c.deref-in-Filter.ensures c.deref-in-Filter-2.ensures.value c.deref-in-Filter-3.ensures.value c.deref-in-Filter-4.ensures c.deref-in-Filter-5.ensures.value c.deref-in-Filter-6.ensures.value p q)
 
 pub broken-returns-in-Test : goal.broken-returns-in-Test
 broken-returns-in-Test t c =
     let s = c.args.scope.now in
-    let w = within_view c.args.within in
-    let rest = option_or (rules.row_broken (its_world s) (its_home s) (exprs_view c.deref-in-Test-5.result.now) w) (rules.pairs_broken (its_world s) (its_home s) (pairs_view c.deref-in-Test-6.result.now) w) in
     let call = rules.test_broken (test_named c.deref-in-Test.result.now) (exprs_view c.deref-in-Test-2.result.now) (pairs_view c.deref-in-Test-3.result.now) in
-    parts (Ok c.test_broken-call.result) c.broken-value.result c.either-in-Test.result c.or_arguments_broken-in-Test.result (λ o. o ≡ call) _ rest _
-    c.test_broken-call.ensures c.broken-value.ensures c.either-in-Test.ensures c.or_arguments_broken-in-Test.ensures
-    (λ x y p q. found_test (its_world s) (its_home s) w c.args.expr.now c.deref-in-Test-4.result.now c.deref-in-Test.result.now c.deref-in-Test-2.result.now c.deref-in-Test-5.result.now c.deref-in-Test-3.result.now c.deref-in-Test-6.result.now
-    c.in-Test.value c.in-Test.polarity c.in-Test.name c.in-Test.arguments c.in-Test.keywords x y _ _ _ _ _
-    c.in-Test.is c.deref-in-Test.ensures c.deref-in-Test-2.ensures.value c.deref-in-Test-3.ensures.value c.deref-in-Test-4.ensures c.deref-in-Test-5.ensures.value c.deref-in-Test-6.ensures.value
-    p q refl refl refl refl refl)
+    parts (Ok c.test_broken-call.result) c.broken-value.result c.either-in-Test.result c.or_arguments_broken-in-Test.result (λ o. o ≡ call) _ _ _ c.test_broken-call.ensures c.broken-value.ensures c.either-in-Test.ensures c.or_arguments_broken-in-Test.ensures
+    (λ x y p q. found_test (its_world s) (its_home s) (within_view c.args.within) c.in-Test.arguments c.in-Test.keywords c.in-Test.is c.deref-in-Test.ensures c.deref-in-Test-2.ensures.value c.deref-in-Test-3.ensures.value c.deref-in-Test-4.ensures c.deref-in-Test-5.ensures.value c.deref-in-Test-6.ensures.value p q)
 
 pub called_broken-returns-in-Call : goal.called_broken-returns-in-Call
 called_broken-returns-in-Call t c =
     let s = c.args.scope.now in
-    let w = within_view c.args.within in
-    let rest = option_or (rules.row_broken (its_world s) (its_home s) (exprs_view c.deref-in-Call-2.result.now) w) (rules.pairs_broken (its_world s) (its_home s) (pairs_view c.deref-in-Call-3.result.now) w) in
-    part c.called_broken-callee.result c.or_arguments_broken.result _ rest _ c.called_broken-callee.ensures c.or_arguments_broken.ensures
-    (λ x p. found_inner (its_world s) (its_home s) w c.args.called.now c.deref-in-Call.result.now c.deref-in-Call-2.result.now c.deref-in-Call-3.result.now c.in-Call.callee c.in-Call.arguments c.in-Call.keywords x _ _ _ _
-    c.in-Call.is c.deref-in-Call.ensures c.deref-in-Call-2.ensures.value c.deref-in-Call-3.ensures.value p refl refl refl refl)
+    part c.called_broken-callee.result c.or_arguments_broken.result _ _ _ c.called_broken-callee.ensures c.or_arguments_broken.ensures
+    (λ x p. found_inner (its_world s) (its_home s) (within_view c.args.within) c.in-Call.arguments c.in-Call.keywords c.in-Call.is c.deref-in-Call.ensures c.deref-in-Call-2.ensures.value c.deref-in-Call-3.ensures.value p)
 
 pub called_broken-returns-in-Filter : goal.called_broken-returns-in-Filter
 called_broken-returns-in-Filter t c =
     let s = c.args.scope.now in
-    let w = within_view c.args.within in
-    let rest = option_or (rules.row_broken (its_world s) (its_home s) (exprs_view c.deref-in-Filter-2.result.now) w) (rules.pairs_broken (its_world s) (its_home s) (pairs_view c.deref-in-Filter-3.result.now) w) in
-    part c.broken-input.result c.or_arguments_broken-in-Filter.result _ rest _ c.broken-input.ensures c.or_arguments_broken-in-Filter.ensures
-    (λ x p. filter_called (its_world s) (its_home s) w c.args.called.now c.deref-in-Filter.result.now c.deref-in-Filter-2.result.now c.deref-in-Filter-3.result.now c.in-Filter.input c.in-Filter.name c.in-Filter.arguments c.in-Filter.keywords x _ _ _ _
-    c.in-Filter.is c.deref-in-Filter.ensures c.deref-in-Filter-2.ensures.value c.deref-in-Filter-3.ensures.value p refl refl refl refl)
+    let shown = shown_filter c.args.called.now c.deref-in-Filter.result.now c.in-Filter.name c.deref-in-Filter-2.result.now c.deref-in-Filter-3.result.now c.in-Filter.input c.in-Filter.arguments c.in-Filter.keywords
+    c.in-Filter.is c.deref-in-Filter.ensures c.deref-in-Filter-2.ensures.value c.deref-in-Filter-3.ensures.value in
+    part c.broken-input.result c.or_arguments_broken-in-Filter.result _ _ _ c.broken-input.ensures c.or_arguments_broken-in-Filter.ensures (λ x p. rw p (ap (found rules.called_broken s c.args.within) shown))
 
 pub called_broken-returns-in-Test : goal.called_broken-returns-in-Test
 called_broken-returns-in-Test t c =
     let s = c.args.scope.now in
-    let w = within_view c.args.within in
-    let rest = option_or (rules.row_broken (its_world s) (its_home s) (exprs_view c.deref-in-Test-2.result.now) w) (rules.pairs_broken (its_world s) (its_home s) (pairs_view c.deref-in-Test-3.result.now) w) in
-    part c.broken-value.result c.or_arguments_broken-in-Test.result _ rest _ c.broken-value.ensures c.or_arguments_broken-in-Test.ensures
-    (λ x p. test_called (its_world s) (its_home s) w c.args.called.now c.deref-in-Test.result.now c.deref-in-Test-2.result.now c.deref-in-Test-3.result.now c.in-Test.value c.in-Test.polarity c.in-Test.name c.in-Test.arguments c.in-Test.keywords x _ _ _ _
-    c.in-Test.is c.deref-in-Test.ensures c.deref-in-Test-2.ensures.value c.deref-in-Test-3.ensures.value p refl refl refl refl)
+    let shown = shown_test c.args.called.now c.deref-in-Test.result.now c.in-Test.polarity c.in-Test.name c.deref-in-Test-2.result.now c.deref-in-Test-3.result.now c.in-Test.value c.in-Test.arguments c.in-Test.keywords
+    c.in-Test.is c.deref-in-Test.ensures c.deref-in-Test-2.ensures.value c.deref-in-Test-3.ensures.value in
+    part c.broken-value.result c.or_arguments_broken-in-Test.result _ _ _ c.broken-value.ensures c.or_arguments_broken-in-Test.ensures (λ x p. rw p (ap (found rules.called_broken s c.args.within) shown))
 
 pub both_broken-returns : goal.both_broken-returns
 both_broken-returns t c = either_is c.broken-first.result c.broken-second.result c.either.result _ _ c.broken-first.ensures c.broken-second.ensures c.either.ensures
@@ -89,63 +65,49 @@ or_arguments_broken-returns t c =
 
 pub broken-returns-in-Item : goal.broken-returns-in-Item
 broken-returns-in-Item t c =
-    let s = c.args.scope.now in
-    equal_found c.both_broken.result _ _ (item_read (its_world s) (its_home s) (within_view c.args.within) c.args.expr.now c.deref-in-Item.result.now c.deref-in-Item-2.result.now c.in-Item.value c.in-Item.index
-    c.in-Item.is c.deref-in-Item.ensures c.deref-in-Item-2.ensures) c.both_broken.ensures
+    let shown = shown_item c.args.expr.now c.deref-in-Item.result.now c.deref-in-Item-2.result.now c.in-Item.value c.in-Item.index c.in-Item.is c.deref-in-Item.ensures c.deref-in-Item-2.ensures in
+    equal_found c.both_broken.result _ _ (ap (found rules.broken c.args.scope.now c.args.within) shown) c.both_broken.ensures
 
 pub broken-returns-in-Binary : goal.broken-returns-in-Binary
 broken-returns-in-Binary t c =
-    let s = c.args.scope.now in
-    equal_found c.both_broken-in-Binary.result _ _ (binary_read (its_world s) (its_home s) (within_view c.args.within) c.args.expr.now c.deref-in-Binary.result.now c.deref-in-Binary-2.result.now c.in-Binary.operator c.in-Binary.left c.in-Binary.right
-    c.in-Binary.is c.deref-in-Binary.ensures c.deref-in-Binary-2.ensures) c.both_broken-in-Binary.ensures
+    let shown = shown_binary c.args.expr.now c.deref-in-Binary.result.now c.deref-in-Binary-2.result.now c.in-Binary.operator c.in-Binary.left c.in-Binary.right c.in-Binary.is c.deref-in-Binary.ensures c.deref-in-Binary-2.ensures in
+    equal_found c.both_broken-in-Binary.result _ _ (ap (found rules.broken c.args.scope.now c.args.within) shown) c.both_broken-in-Binary.ensures
 
 pub broken-returns-in-When : goal.broken-returns-in-When
 broken-returns-in-When t c =
-    let s = c.args.scope.now in
-    equal_found c.both_broken-in-When.result _ _ (when_read (its_world s) (its_home s) (within_view c.args.within) c.args.expr.now c.deref-in-When.result.now c.deref-in-When-2.result.now c.in-When.condition c.in-When.value
-    c.in-When.is c.deref-in-When.ensures c.deref-in-When-2.ensures) c.both_broken-in-When.ensures
+    let shown = shown_when c.args.expr.now c.deref-in-When.result.now c.deref-in-When-2.result.now c.in-When.condition c.in-When.value c.in-When.is c.deref-in-When.ensures c.deref-in-When-2.ensures in
+    equal_found c.both_broken-in-When.result _ _ (ap (found rules.broken c.args.scope.now c.args.within) shown) c.both_broken-in-When.ensures
 
 pub broken-returns-in-Choice : goal.broken-returns-in-Choice
 broken-returns-in-Choice t c =
-    let s = c.args.scope.now in
-    equal_found c.three_broken.result _ _ (choice_read (its_world s) (its_home s) (within_view c.args.within) c.args.expr.now c.deref-in-Choice.result.now c.deref-in-Choice-2.result.now c.deref-in-Choice-3.result.now
-    c.in-Choice.condition c.in-Choice.value c.in-Choice.other c.in-Choice.is c.deref-in-Choice.ensures c.deref-in-Choice-2.ensures c.deref-in-Choice-3.ensures) c.three_broken.ensures
+    let shown = shown_choice c.args.expr.now c.deref-in-Choice.result.now c.deref-in-Choice-2.result.now c.deref-in-Choice-3.result.now c.in-Choice.condition c.in-Choice.value c.in-Choice.other c.in-Choice.is c.deref-in-Choice.ensures c.deref-in-Choice-2.ensures c.deref-in-Choice-3.ensures in
+    equal_found c.three_broken.result _ _ (ap (found rules.broken c.args.scope.now c.args.within) shown) c.three_broken.ensures
 
 pub called_broken-returns-in-Item : goal.called_broken-returns-in-Item
 called_broken-returns-in-Item t c =
-    let s = c.args.scope.now in
-    equal_found c.both_broken.result _ _ (item_called (its_world s) (its_home s) (within_view c.args.within) c.args.called.now c.deref-in-Item.result.now c.deref-in-Item-2.result.now c.in-Item.value c.in-Item.index
-    c.in-Item.is c.deref-in-Item.ensures c.deref-in-Item-2.ensures) c.both_broken.ensures
+    let shown = shown_item c.args.called.now c.deref-in-Item.result.now c.deref-in-Item-2.result.now c.in-Item.value c.in-Item.index c.in-Item.is c.deref-in-Item.ensures c.deref-in-Item-2.ensures in
+    equal_found c.both_broken.result _ _ (ap (found rules.called_broken c.args.scope.now c.args.within) shown) c.both_broken.ensures
 
 pub called_broken-returns-in-Binary : goal.called_broken-returns-in-Binary
 called_broken-returns-in-Binary t c =
-    let s = c.args.scope.now in
-    equal_found c.both_broken-in-Binary.result _ _ (binary_called (its_world s) (its_home s) (within_view c.args.within) c.args.called.now c.deref-in-Binary.result.now c.deref-in-Binary-2.result.now c.in-Binary.operator c.in-Binary.left c.in-Binary.right
-    c.in-Binary.is c.deref-in-Binary.ensures c.deref-in-Binary-2.ensures) c.both_broken-in-Binary.ensures
+    let shown = shown_binary c.args.called.now c.deref-in-Binary.result.now c.deref-in-Binary-2.result.now c.in-Binary.operator c.in-Binary.left c.in-Binary.right c.in-Binary.is c.deref-in-Binary.ensures c.deref-in-Binary-2.ensures in
+    equal_found c.both_broken-in-Binary.result _ _ (ap (found rules.called_broken c.args.scope.now c.args.within) shown) c.both_broken-in-Binary.ensures
 
 pub called_broken-returns-in-When : goal.called_broken-returns-in-When
 called_broken-returns-in-When t c =
-    let s = c.args.scope.now in
-    equal_found c.both_broken-in-When.result _ _ (when_called (its_world s) (its_home s) (within_view c.args.within) c.args.called.now c.deref-in-When.result.now c.deref-in-When-2.result.now c.in-When.condition c.in-When.value
-    c.in-When.is c.deref-in-When.ensures c.deref-in-When-2.ensures) c.both_broken-in-When.ensures
+    let shown = shown_when c.args.called.now c.deref-in-When.result.now c.deref-in-When-2.result.now c.in-When.condition c.in-When.value c.in-When.is c.deref-in-When.ensures c.deref-in-When-2.ensures in
+    equal_found c.both_broken-in-When.result _ _ (ap (found rules.called_broken c.args.scope.now c.args.within) shown) c.both_broken-in-When.ensures
 
 pub called_broken-returns-in-Choice : goal.called_broken-returns-in-Choice
 called_broken-returns-in-Choice t c =
-    let s = c.args.scope.now in
-    equal_found c.three_broken.result _ _ (choice_called (its_world s) (its_home s) (within_view c.args.within) c.args.called.now c.deref-in-Choice.result.now c.deref-in-Choice-2.result.now c.deref-in-Choice-3.result.now
-    c.in-Choice.condition c.in-Choice.value c.in-Choice.other c.in-Choice.is c.deref-in-Choice.ensures c.deref-in-Choice-2.ensures c.deref-in-Choice-3.ensures) c.three_broken.ensures
+    let shown = shown_choice c.args.called.now c.deref-in-Choice.result.now c.deref-in-Choice-2.result.now c.deref-in-Choice-3.result.now c.in-Choice.condition c.in-Choice.value c.in-Choice.other c.in-Choice.is c.deref-in-Choice.ensures c.deref-in-Choice-2.ensures c.deref-in-Choice-3.ensures in
+    equal_found c.three_broken.result _ _ (ap (found rules.called_broken c.args.scope.now c.args.within) shown) c.three_broken.ensures
 
 pub row_broken-loop-expr-preserved : goal.row_broken-loop-expr-preserved
-row_broken-loop-expr-preserved t c =
-    let s = c.args.scope.now in
-    row_none (its_world s) (its_home s) (within_view c.args.within) c.args.row.now c.loop-expr.expr-index c.expr-item.result c.in_ok-rule.field-0 c.loop-expr-test.true c.expr-item.is c.in_ok-rule.ensures c.in_default.is
-    ∙ c.loop-expr.invariant
+row_broken-loop-expr-preserved t c = search (arith, rules, row_none)
 
 pub row_broken-returns-in-Some : goal.row_broken-returns-in-Some
-row_broken-returns-in-Some t c =
-    let s = c.args.scope.now in
-    row_some (its_world s) (its_home s) (within_view c.args.within) c.args.row.now c.loop-expr.expr-index c.expr-item.result c.in_ok-rule.field-0 c.in-Some.rule c.loop-expr-test.true c.expr-item.is c.in_ok-rule.ensures c.in-Some.is
-    ∙ c.loop-expr.invariant
+row_broken-returns-in-Some t c = search (arith, rules, row_some)
 
 pub pairs_broken-loop-value-preserved : goal.pairs_broken-loop-value-preserved
 pairs_broken-loop-value-preserved t c =
@@ -154,7 +116,4 @@ pairs_broken-loop-value-preserved t c =
     ∙ c.loop-value.invariant
 
 pub pairs_broken-returns-in-Some : goal.pairs_broken-returns-in-Some
-pairs_broken-returns-in-Some t c =
-    let s = c.args.scope.now in
-    pairs_some (its_world s) (its_home s) (within_view c.args.within) c.args.pairs.now c.loop-value.value-index c.loop-value-item.result c.in_ok-rule.field-0 c.in-Some.rule c.loop-value-test.true c.loop-value-item.is c.in_ok-rule.ensures c.in-Some.is
-    ∙ c.loop-value.invariant
+pairs_broken-returns-in-Some t c = search (arith, rules, pairs_some)

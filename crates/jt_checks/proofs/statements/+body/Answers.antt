@@ -1,4 +1,4 @@
-use Rattle.std.proofs.Common.{refl, sym, ap, ◌∙◌}
+use Rattle.std.proofs.Common.{refl, sym, ap, ◌∙◌, arith, rules}
 use Rattle.std.specs.Option.{option_or}
 use Rattle.jt_trees.specs.StatementView.{stmt_view, body_view, given_view}
 use Rattle.jt_trees.proofs.StatementViews.{view_From}
@@ -9,12 +9,7 @@ use Rattle.jt_checks.proofs.Turns.{equal_found, some_first, none_first}
 use Rattle.jt_checks.proofs.statements.+body.Goals as goal
 
 pub branches_broken-returns-in-Some : goal.branches_broken-returns-in-Some
-branches_broken-returns-in-Some t c =
-    let s = c.args.scope.now in
-    let w = within_view c.args.within in
-    let b = c.loop-condition-item.result in
-    branch_found (its_world s) (its_home s) w c.args.branches.now c.loop-condition.condition-index b c.in-Some.rule c.loop-condition-test.true c.loop-condition-item.is c.loop-condition.invariant
-    (ap (λ z. option_or z (rules.body_broken (its_world s) (its_home s) (body_view b.2.items) w)) (sym c.in_ok-rule.ensures ∙ c.in-Some.is))
+branches_broken-returns-in-Some t c = search (arith, rules, branch_found)
 
 pub branches_broken-returns-in-Some-2 : goal.branches_broken-returns-in-Some-2
 branches_broken-returns-in-Some-2 t c =
@@ -27,10 +22,7 @@ branches_broken-returns-in-Some-2 t c =
     ∙ ap (λ z. rules.body_broken (its_world s) (its_home s) (body_view z) w) (sym c.deref.ensures.value) ∙ sym c.in_ok-rule-2.ensures ∙ c.in-Some-2.is)
 
 pub statement_broken-returns-in-If : goal.statement_broken-returns-in-If
-statement_broken-returns-in-If t c =
-    let s = c.args.scope.now in
-    equal_found c.choice_broken.result _ _ (choice_is (its_world s) (its_home s) (within_view c.args.within) c.args.statement.now c.in-If.branches c.in-If.other c.deref-in-If.result.now c.deref-in-If-2.result.now
-    c.in-If.is c.deref-in-If.ensures.value c.deref-in-If-2.ensures.value) c.choice_broken.ensures
+statement_broken-returns-in-If t c = search (arith, rules, equal_found, choice_is)
 
 pub statement_broken-returns-in-Some : goal.statement_broken-returns-in-Some
 statement_broken-returns-in-Some t c =

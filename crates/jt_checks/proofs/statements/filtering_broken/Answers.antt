@@ -1,4 +1,4 @@
-use Rattle.std.proofs.Common.{ap, ◌∙◌}
+use Rattle.std.proofs.Common.{ap, ◌∙◌, arith, rules}
 use Rattle.jt_trees.specs.ExpressionView.{exprs_view, pairs_view}
 use Rattle.jt_trees.specs.StatementView.{filtering_view}
 use Rattle.std.proofs.Common.{[], ◌∷◌}
@@ -9,21 +9,10 @@ use Rattle.jt_checks.proofs.Turns.{equal_found}
 use Rattle.jt_checks.proofs.statements.filtering_broken.Goals as goal
 
 pub returns-in-Some : goal.returns-in-Some
-returns-in-Some c =
-    let s = c.args.scope.now in
-    let f = c.args.filtering.now in
-    let w = within_view c.args.within in
-    let first = filtering_rule (its_world s) (its_home s) w (its_filters s.chain.now) f c.deref.result.now c.deref-2.result.now c.deref-3.result.now c.in_ok-rule.field-0 c.deref.ensures c.deref-2.ensures.value c.deref-3.ensures.value c.in_ok-rule.ensures in
-    filtering_first (its_world s) (its_home s) w f c.in_ok-rule.field-0 c.in-Some.rule first c.in-Some.is
+returns-in-Some c = search (arith, rules, filtering_rule, its_filters, filtering_first)
 
 pub returns-in-Some-2 : goal.returns-in-Some-2
-returns-in-Some-2 c =
-    let s = c.args.scope.now in
-    let f = c.args.filtering.now in
-    let w = within_view c.args.within in
-    let first = filtering_rule (its_world s) (its_home s) w (its_filters s.chain.now) f c.deref.result.now c.deref-2.result.now c.deref-3.result.now c.in_ok-rule.field-0 c.deref.ensures c.deref-2.ensures.value c.deref-3.ensures.value c.in_ok-rule.ensures in
-    filtering_second (its_world s) (its_home s) w f c.in_ok-rule.field-0 c.in_ok-rule-2.field-0 c.in-Some-2.rule first c.in_default.is
-    (c.in_ok-rule-2.ensures ∙ ap (λ z. rules.row_broken (its_world s) (its_home s) (exprs_view z) w) c.deref-4.ensures.value) c.in-Some-2.is
+returns-in-Some-2 c = search (arith, rules, filtering_rule, its_filters, filtering_second)
 
 pub returns : goal.returns
 returns c =

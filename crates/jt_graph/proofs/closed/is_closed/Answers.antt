@@ -1,4 +1,4 @@
-use Rattle.std.proofs.Common.{◌≡◌, ℕ, zero, suc, ◌+◌, ◌<◌, false, IsTrue, refl, List, [], ◌∷◌, length, take, get_or, sym, subst, arith, Vec, Global}
+use Rattle.std.proofs.Common.{◌≡◌, ℕ, zero, suc, ◌+◌, ◌<◌, false, IsTrue, List, [], ◌∷◌, length, take, get_or, sym, subst, arith, Vec, Global, rules}
 use Rattle.std.proofs.lemmas.List.{take_all}
 use Rattle.std.specs.List.{AllByRecursion}
 use Rattle.jt_graph.specs.Graph.{IsClosed}
@@ -44,8 +44,4 @@ loop-others-preserved c =
     (subst (AllByRecursion (λ j. j < length next)) c.deref.ensures.value (c.are_below.ensures.0 c.if-not-are_below.false))
 
 pub returns : goal.returns
-returns c =
-    let next = c.args.next.now in (
-      λ t. closed_by next (subst (λ (vs : List (Vec ℕ Global)). AllByRecursion (AllByRecursion (λ j. j < length next)) (graph_of vs)) (take_all _ _ c.loop-others-test.false) c.loop-others.invariant),
-      λ closed. refl,
-    )
+returns c = search (arith, rules, closed_by, take_all)

@@ -1,8 +1,8 @@
-use Rattle.std.proofs.Common.{◌≡◌, ◌<◌, ◌+◌, true, Err, cond, length, refl, sym, ap, ◌∙◌, arith, slice_index_or}
+use Rattle.std.proofs.Common.{◌≡◌, ◌<◌, ◌+◌, true, Err, cond, length, refl, sym, ap, ◌∙◌, arith, slice_index_or, rules}
 use Rattle.std.specs.Vec.{with_item}
 use Rattle.jt_graph.specs.Graph.{among, next_of}
 use Rattle.jt_graph.specs.View.{graph_of}
-use Rattle.jt_graph.specs.Walks.{is_done, is_open, visit_of}
+use Rattle.jt_graph.specs.Walks.{is_done, visit_of}
 use Rattle.jt_graph.specs.declared.error.OrderError.TheVariants.{Cycle}
 use Rattle.jt_graph.specs.declared.walk.VisitState.TheVariants.{New, Open, Done}
 use Rattle.jt_graph.specs.declared.walk.Walk.{Walk}
@@ -89,13 +89,7 @@ returns-in_err-visit-clause-cycle t c is =
     c.in_err-visit.ensures.cycle (ap (λ e. Err e) (passed_on c.from_residual.result c.in_err-visit.field-0.0 Cycle c.from_residual.ensures.1 is))
 
 pub returns-in-Open-clause-cycle : goal.returns-in-Open-clause-cycle
-returns-in-Open-clause-cycle t c is =
-    let ms = c.args.walk.now.visits.items in
-    let lv : c.args.number < length ms = omega (arith, c.requires.walked.each, graph_len c.args.next.now, c.requires.within) in
-    (c.args.number, c.requires.lead c.args.number (ap is_open (read_visit ms c.args.number c.index.result.now lv c.index.ensures ∙ c.in-Open.is)))
+returns-in-Open-clause-cycle t c is = search (arith, rules, graph_len, read_visit)
 
 pub returns-in-Done-clause-done : goal.returns-in-Done-clause-done
-returns-in-Done-clause-done t c =
-    let ms = c.args.walk.now.visits.items in
-    let lv : c.args.number < length ms = omega (arith, c.requires.walked.each, graph_len c.args.next.now, c.requires.within) in
-    ap is_done (read_visit ms c.args.number c.index.result.now lv c.index.ensures ∙ c.in-Done.is)
+returns-in-Done-clause-done t c = search (arith, rules, graph_len, read_visit)

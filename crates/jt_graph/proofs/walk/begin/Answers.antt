@@ -1,7 +1,6 @@
-use Rattle.std.proofs.Common.{◌≡◌, ap, length, sym}
+use Rattle.std.proofs.Common.{◌≡◌, length, sym, arith, rules}
 use Rattle.std.proofs.Math.ListN.{replicate}
 use Rattle.jt_graph.specs.View.{graph_of}
-use Rattle.jt_graph.specs.Walks.{is_open}
 use Rattle.jt_graph.specs.declared.walk.VisitState.TheVariants.{New}
 use Rattle.jt_graph.proofs.Walked.{all_new, graph_len, new_walk}
 use Rattle.jt_graph.proofs.walk.begin.Goals as goal
@@ -15,7 +14,4 @@ returns-clause-walk c =
     new_walk (graph_of c.args.next.now) (record { visits = visits; done = done }) all new (sym (graph_len c.args.next.now)) c.in_ok-with_capacity.ensures.items
 
 pub returns-clause-closed : goal.returns-clause-closed
-returns-clause-closed c j =
-    let visits = c.in_ok-vec.field-0.items in
-    let new : visits ≡ replicate (length c.args.next.now) New = c.in_ok-vec.ensures.items_if_clones_equal (λ y is. is) in
-    ap is_open (all_new visits (length c.args.next.now) j new)
+returns-clause-closed c j = search (arith, rules, replicate, all_new)

@@ -14,11 +14,11 @@ use Rattle.jt_inherit.proofs.Listed.{way_number}
 use Rattle.jt_inherit.proofs.Whole.{at_number}
 use Rattle.jt_inherit.proofs.chaining.check_chains.Goals as goal
 
-pub check_rules-requires-clause-named : goal.check_rules-requires-clause-named
-check_rules-requires-clause-named c = subst (λ (z : List Page). AreNamed (pages_view z) (names_view c.args.found.now.names)) (sym c.deref.ensures.value) c.requires.named
+pub invariant_of-shelf : goal.invariant_of-shelf
+invariant_of-shelf c = record { named = subst (λ (z : List Page). AreNamed (pages_view z) (names_view c.args.found.now.names)) (sym c.deref.ensures.value) c.requires.named }
 
-pub check_rules-requires-clause-places : goal.check_rules-requires-clause-places
-check_rules-requires-clause-places c =
+pub check_rules-requires : goal.check_rules-requires
+check_rules-requires c =
     let f = c.args.found.now in
     let i = c.loop-way.way-index in
     let is = c.deref-in-loop-way.result.now in

@@ -16,7 +16,7 @@ returns-then-lacks_macros c =
     let i = get_or is k 0 in
     let p = get_or ps i c.index-shelf-place.result in
     let here = ap (lacks_macros s) (sym c.body.ensures) ∙ sym c.lacks_macros.ensures ∙ c.if-lacks_macros.true in
-    sym (c.loop-place.invariant ∙ lacking_turn s ps is k p c.loop-place-test.true c.requires.places (ap (λ d. get_or ps i d) c.index-shelf-place.is) ∙ ap (λ b. b || any_lacks_macros s (templates_at (pages_view ps) (drop (k + 1) is))) here)
+    sym (c.loop-place.invariant ∙ lacking_turn s ps is k p c.loop-place-test.true c.requires (ap (λ d. get_or ps i d) c.index-shelf-place.is) ∙ ap (λ b. b || any_lacks_macros s (templates_at (pages_view ps) (drop (k + 1) is))) here)
 
 pub loop-place-preserved : goal.loop-place-preserved
 loop-place-preserved c =
@@ -27,4 +27,4 @@ loop-place-preserved c =
     let i = get_or is k 0 in
     let p = get_or ps i c.index-shelf-place.result in
     let here = ap (lacks_macros s) (sym c.body.ensures) ∙ sym c.lacks_macros.ensures ∙ c.if-lacks_macros.false in
-    c.loop-place.invariant ∙ lacking_turn s ps is k p c.loop-place-test.true c.requires.places (ap (λ d. get_or ps i d) c.index-shelf-place.is) ∙ ap (λ b. b || any_lacks_macros s (templates_at (pages_view ps) (drop (k + 1) is))) here
+    c.loop-place.invariant ∙ lacking_turn s ps is k p c.loop-place-test.true c.requires (ap (λ d. get_or ps i d) c.index-shelf-place.is) ∙ ap (λ b. b || any_lacks_macros s (templates_at (pages_view ps) (drop (k + 1) is))) here

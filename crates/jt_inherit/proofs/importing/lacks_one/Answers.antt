@@ -1,19 +1,13 @@
-use Rattle.std.proofs.Common.{sym, ap, subst, ◌∙◌}
+use Rattle.std.proofs.Common.{sym, subst, ◌∙◌, arith, rules}
 use Rattle.jt_trees.specs.StatementView.{given_view}
 use Rattle.jt_chains.specs.Chain.{sources_in}
 use Rattle.jt_chains.specs.Pages.{pages_view}
 use Rattle.jt_inherit.specs.Given.{IsGiven}
-use Rattle.jt_inherit.specs.Kept.{has_not}
 use Rattle.jt_inherit.proofs.Shelved.{nothing_lacks, library_lacks}
 use Rattle.jt_inherit.proofs.importing.lacks_one.Goals as goal
 
 pub returns-then-is_library : goal.returns-then-is_library
-returns-then-is_library c =
-    let ts = pages_view c.args.shelf.pages.now in
-    let n = c.args.library.now in
-    let xs = given_view c.args.names.now in
-    let given = subst (IsGiven ts n) c.in-Some.is c.library_page.ensures in
-    c.has_not.ensures ∙ ap (λ ms. has_not ms xs) given.1 ∙ sym (library_lacks (sources_in ts) n xs (given.0 ∙ sym c.is_library.ensures ∙ c.if-is_library.true))
+returns-then-is_library c = search (arith, rules, library_lacks)
 
 pub returns-else-is_library : goal.returns-else-is_library
 returns-else-is_library c =

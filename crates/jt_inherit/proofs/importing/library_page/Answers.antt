@@ -12,14 +12,14 @@ pub returns-in_err-place : goal.returns-in_err-place
 returns-in_err-place c =
     let ts = pages_view c.args.shelf.pages.now in
     let n = c.args.library.now in
-    subst (IsGiven ts n) (sym c.from_residual.ensures) (unread ts n (ap (among n) (sym c.requires.named) ∙ c.in_err-place.ensures))
+    subst (IsGiven ts n) (sym c.from_residual.ensures) (unread ts n (ap (among n) (sym c.args.shelf.named.0) ∙ c.in_err-place.ensures))
 
 pub bounds-shelf-place : goal.bounds-shelf-place
-bounds-shelf-place c = place_read c.args.shelf.pages.now (names_view c.args.shelf.names.now) c.requires c.args.library.now c.in_ok-place.place c.in_ok-place.ensures
+bounds-shelf-place c = place_read c.args.shelf.pages.now (names_view c.args.shelf.names.now) c.args.shelf.named c.args.library.now c.in_ok-place.place c.in_ok-place.ensures
 
 pub offset_bounds-shelf-place : goal.offset_bounds-shelf-place
 offset_bounds-shelf-place c =
-    let lt : c.in_ok-place.place < length c.args.shelf.pages.now = place_read c.args.shelf.pages.now (names_view c.args.shelf.names.now) c.requires c.args.library.now c.in_ok-place.place c.in_ok-place.ensures in
+    let lt : c.in_ok-place.place < length c.args.shelf.pages.now = place_read c.args.shelf.pages.now (names_view c.args.shelf.names.now) c.args.shelf.named c.args.library.now c.in_ok-place.place c.in_ok-place.ensures in
     search rules
 
 pub returns : goal.returns
@@ -30,6 +30,6 @@ returns c =
     let i = c.in_ok-place.place in
     let p = get_or ps i c.index-shelf-place.result in
     let is = ap (λ d. get_or ps i d) c.index-shelf-place.is in (
-      is_library_read ps ks c.requires n i c.in_ok-place.ensures p is (holds_macros (body_of p.template)) refl,
-      macros_there ps ks c.requires n i c.in_ok-place.ensures p is,
+      is_library_read ps ks c.args.shelf.named n i c.in_ok-place.ensures p is (holds_macros (body_of p.template)) refl,
+      macros_there ps ks c.args.shelf.named n i c.in_ok-place.ensures p is,
     )

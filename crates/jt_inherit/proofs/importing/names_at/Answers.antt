@@ -18,7 +18,7 @@ loop-place-preserved c =
     let is = c.args.places.now in
     let k = c.loop-place.place-index in
     let i = get_or is k 0 in
-    let lt = place_within ps is k c.loop-place-test.true c.requires.places in
+    let lt = place_within ps is k c.loop-place-test.true c.requires in
     along_turn (λ n b. imported_names s b) (pages_view ps) is k (body_view c.body.result.now) (texts c.loop-place.given.items) (texts c.add_imported.new.given.items)
     c.loop-place-test.true (c.body.ensures ∙ sym (page_at ps i (get_or ps i c.index-shelf-place.result) lt (ap (λ d. get_or ps i d) c.index-shelf-place.is))) c.in_ok-add_imported.ensures
     ∙ c.loop-place.invariant
@@ -30,4 +30,4 @@ returns c =
     let is = c.args.places.now in
     let found = texts c.loop-place.given.items in
     let ended = at_drop_all (λ (z : List ℕ). found ++ along ts (λ n b. imported_names s b) z) is c.loop-place.place-index c.loop-place-test.false in
-    sym (append-nil found) ∙ sym ended ∙ c.loop-place.invariant ∙ names_found s ts (templates_at ts is) is (placed_templates ts is c.requires.places) c.in_ok-macros.macros.items c.in_ok-macros.ensures
+    sym (append-nil found) ∙ sym ended ∙ c.loop-place.invariant ∙ names_found s ts (templates_at ts is) is (placed_templates ts is c.requires) c.in_ok-macros.macros.items c.in_ok-macros.ensures

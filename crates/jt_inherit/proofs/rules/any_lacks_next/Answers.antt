@@ -1,4 +1,4 @@
-use Rattle.std.proofs.Common.{◌≡◌, ◌++◌, ◌∷◌, ◌&&◌, ◌||◌, [], List, not, sym, ap, ◌∙◌, arith}
+use Rattle.std.proofs.Common.{◌≡◌, ◌++◌, ◌∷◌, ◌&&◌, ◌||◌, [], List, not, sym, ap, ◌∙◌, arith, rules}
 use Rattle.std.specs.Option.{option_to_list}
 use Rattle.std.specs.Str.{bytes_eq}
 use Rattle.std.proofs.lemmas.List.{append_assoc}
@@ -38,9 +38,4 @@ loop-block-preserved c =
     )
 
 pub returns : goal.returns
-returns c =
-    λ ts.
-    let v = c.loop-block.invariant in
-    let none = no_items c.loop-block.bodies.items (omega (arith, c.in_default.ensures.cases.0)) in
-    let whole : c.args.bodies.items ≡ v.0 = v.1 ∙ ap (λ (l : List Block). l ++ v.0) none in
-    sym (ap (λ (l : List Block). lacks_next (blocks_view ts l)) whole ∙ all_next (blocks_view ts v.0) (v.3 ts))
+returns c = search (arith, rules, no_items, all_next)

@@ -16,7 +16,7 @@ pub returns-then-branch-3-clause-broken : goal.returns-then-branch-3-clause-brok
 returns-then-branch-3-clause-broken c =
     let ts = pages_view c.args.shelf.pages.now in
     let is = c.args.places.now in
-    bodies_told c.args.escaping ts (templates_at ts is) is (placed_templates ts is c.requires.places) c.in_ok-blocks.blocks.items c.in_ok-any_lacks_body.field-0 c.in_ok-blocks.ensures
+    bodies_told c.args.escaping ts (templates_at ts is) is (placed_templates ts is c.requires) c.in_ok-blocks.blocks.items c.in_ok-any_lacks_body.field-0 c.in_ok-blocks.ensures
     (c.in_ok-any_lacks_body.ensures ts ∙ ap (λ (z : List Block). lacks_body (blocks_view ts z)) c.deref-2.ensures.value)
     ∙ c.if-branch-3.true
 
@@ -24,13 +24,13 @@ pub returns-then-branch-4-clause-broken : goal.returns-then-branch-4-clause-brok
 returns-then-branch-4-clause-broken c =
     let ts = pages_view c.args.shelf.pages.now in
     let is = c.args.places.now in
-    next_told c.args.escaping ts (templates_at ts is) is (placed_templates ts is c.requires.places) c.in_ok-blocks.blocks.items c.in_ok-any_lacks_next.field-0 c.in_ok-blocks.ensures (c.in_ok-any_lacks_next.ensures ts) ∙ c.if-branch-4.true
+    next_told c.args.escaping ts (templates_at ts is) is (placed_templates ts is c.requires) c.in_ok-blocks.blocks.items c.in_ok-any_lacks_next.field-0 c.in_ok-blocks.ensures (c.in_ok-any_lacks_next.ensures ts) ∙ c.if-branch-4.true
 
 pub returns-clause-kept : goal.returns-clause-kept
 returns-clause-kept c =
     let ts = pages_view c.args.shelf.pages.now in
     let is = c.args.places.now in
-    let placed = placed_templates ts is c.requires.places in
+    let placed = placed_templates ts is c.requires in
     record {
       doubles = sym c.in_ok-any_double.ensures ∙ c.if-branch.false;
       bodies = bodies_told c.args.escaping ts (templates_at ts is) is placed c.in_ok-blocks.blocks.items c.in_ok-any_lacks_body.field-0 c.in_ok-blocks.ensures

@@ -1,7 +1,6 @@
-use Rattle.std.proofs.Common.{◌≡◌, List, map, [], ◌∷◌, ◌++◌, ◌∙◌, append_assoc, ap, refl}
+use Rattle.std.proofs.Common.{◌≡◌, List, map, [], ◌∷◌, ◌++◌, ◌∙◌, append_assoc, ap, refl, arith, rules}
 use Rattle.jt_trees.specs.StatementView as parsed
 use Rattle.jt_chains.specs.Uses.{body_names, branch_names, filtering_names, condition_names, expr_names, keywords, pair_names, stmt_names}
-use Rattle.jt_trees.specs.Texts.{all_inserted}
 use Rattle.jt_names.specs.Names.{texts}
 use Rattle.jt_names.proofs.Inserted.{statement_added, branch_added, then_is}
 use Rattle.jt_trees.proofs.StatementViews.{shown_if, shown_for, shown_set_block, shown_with, shown_filters, shown_macro}
@@ -13,18 +12,10 @@ five : {A : Type 0} (a b c d e : List A) → ((a ++ (b ++ c)) ++ d) ++ e ≡ a +
 five a b c d e = simp append_assoc
 
 pub add_statements-loop-statement-preserved : goal.add_statements-loop-statement-preserved
-add_statements-loop-statement-preserved t c =
-    let l = c.loop-statement in
-    statement_added c.args.body.now l.statement-index c.statement-item.result (texts l.names.keys) (texts c.add_statement.new.names.keys) c.loop-statement-test.true c.statement-item.is c.in_ok-add_statement.ensures ∙ l.invariant
+add_statements-loop-statement-preserved t c = search (arith, rules, statement_added)
 
 pub add_branches-loop-condition-preserved : goal.add_branches-loop-condition-preserved
-add_branches-loop-condition-preserved t c =
-    let l = c.loop-condition in
-    let b = c.loop-condition-item.result in
-    let step =
-    c.in_ok-add_statements.ensures ∙ ap (λ z. all_inserted (body_names (parsed.body_view z)) (texts c.add_expression.new.names.keys)) c.deref.ensures.value
-    ∙ ap (all_inserted (body_names (parsed.body_view b.2.items))) c.in_ok-add_expression.ensures in
-    branch_added c.args.branches.now l.condition-index b (texts l.names.keys) (texts c.add_statements.new.names.keys) c.loop-condition-test.true c.loop-condition-item.is step ∙ l.invariant
+add_branches-loop-condition-preserved t c = search (arith, rules, branch_added)
 
 pub add_statement-returns-in-If : goal.add_statement-returns-in-If
 add_statement-returns-in-If t c =

@@ -1,4 +1,4 @@
-use Rattle.std.proofs.Common.{◌++◌, append_assoc, ap, refl, ◌∙◌}
+use Rattle.std.proofs.Common.{◌++◌, append_assoc, ap, refl, ◌∙◌, arith, rules}
 use Rattle.std.proofs.lemmas.Result.{IfOk-weaker}
 use Rattle.jt_trees.specs.ExpressionView.{expr_view, exprs_view, pairs_view}
 use Rattle.jt_chains.specs.Uses.{expr_names, row_names, pair_names}
@@ -9,14 +9,10 @@ use Rattle.jt_trees.proofs.ExpressionViews.{shown_item, shown_binary, shown_when
 use Rattle.jt_names.proofs.own.+gather.Goals as goal
 
 pub add_row-loop-expr-preserved : goal.add_row-loop-expr-preserved
-add_row-loop-expr-preserved t c =
-    let l = c.loop-expr in
-    expression_added c.args.row.now l.expr-index c.expr-item.result (texts l.names.keys) (texts c.add_expression.new.names.keys) c.loop-expr-test.true c.expr-item.is c.in_ok-add_expression.ensures ∙ l.invariant
+add_row-loop-expr-preserved t c = search (arith, rules, expression_added)
 
 pub add_pairs-loop-value-preserved : goal.add_pairs-loop-value-preserved
-add_pairs-loop-value-preserved t c =
-    let l = c.loop-value in
-    entry_added c.args.pairs.now l.value-index c.loop-value-item.result (texts l.names.keys) (texts c.add_expression.new.names.keys) c.loop-value-test.true c.loop-value-item.is c.in_ok-add_expression.ensures ∙ l.invariant
+add_pairs-loop-value-preserved t c = search (arith, rules, entry_added)
 
 pub add_expression-returns-in-Item : goal.add_expression-returns-in-Item
 add_expression-returns-in-Item t c =

@@ -1,5 +1,5 @@
 use borrow.Author.Tests.{ltb-true}
-use Rattle.std.proofs.Common.{◌≡◌, ◌<◌, length, get_or, subst, List, [], ◌∷◌, Vec, Global, map, refl, sym, ap, ◌∙◌}
+use Rattle.std.proofs.Common.{◌≡◌, ◌<◌, length, get_or, subst, List, [], ◌∷◌, Vec, Global, map, refl, sym, ap, ◌∙◌, arith, rules}
 use Rattle.std.proofs.lemmas.Result.{IfOk-weaker}
 use Rattle.std.specs.Prelude.{flat_map}
 use Rattle.jt_chains.specs.Along.{along}
@@ -23,11 +23,7 @@ each_alone [] = refl
 each_alone (t ∷ ts) = ap (λ l. t ∷ l) (each_alone ts)
 
 pub layers_at-requires : goal.layers_at-requires
-layers_at-requires c =
-    let self = c.args.self.now in
-    let lt : c.args.home < length self.homes.items = subst (λ (z : List Home). c.args.home < length z) c.deref.ensures.value (ltb-true _ _ (sym c.in-Some.ensures.lookup.0)) in
-    let at : c.in-Some.found.now ≡ get_or self.homes.items c.args.home c.in-Some.found.now = subst (λ (z : List Home). c.in-Some.found.now ≡ get_or z c.args.home c.in-Some.found.now) c.deref.ensures.value c.in-Some.ensures.lookup.1 in
-    home_places self.templates.items c.deref-in-Some.result.now self.homes.items c.args.home c.in-Some.found.now c.deref-in-Some-2.result.now c.deref-in-Some.ensures.value c.deref-in-Some-2.ensures.value lt at self.once self.whole
+layers_at-requires c = search (arith, rules, home_places)
 
 pub returns-in-Some-clause-there : goal.returns-in-Some-clause-there
 returns-in-Some-clause-there c =

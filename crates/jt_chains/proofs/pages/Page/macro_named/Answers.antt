@@ -1,4 +1,4 @@
-use Rattle.std.proofs.Common.{map, subst, sym, ap, ◌∙◌, Some}
+use Rattle.std.proofs.Common.{map, subst, sym, ap, ◌∙◌, Some, arith, rules}
 use Rattle.jt_trees.specs.StatementView.{stmt_view, body_of}
 use Rattle.jt_chains.specs.Chain.{macro_of}
 use Rattle.jt_chains.specs.Parts.{name_at}
@@ -7,9 +7,7 @@ use Rattle.jt_chains.proofs.Tabled.{table_some, table_none, no_table}
 use Rattle.jt_chains.proofs.pages.Page.macro_named.Goals as goal
 
 pub returns-in_default : goal.returns-in_default
-returns-in_default c = λ ts.
-    let page = c.args.self.now in
-    no_table c.args.name.now (name_at ts c.args.place) (body_of page.template) (subst (IsTable (body_of page.template)) c.in_default.is page.table)
+returns-in_default c = search (arith, rules, no_table)
 
 pub returns-in-Some-get : goal.returns-in-Some-get
 returns-in-Some-get c = λ ts.
