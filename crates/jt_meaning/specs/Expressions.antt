@@ -26,7 +26,6 @@ use Rattle.jt_ops.specs.Operation as operators
 use Rattle.jt_ops.specs.Operation.{as_truth}
 use Rattle.jt_ops.specs.Testing.{tested}
 use Rattle.jt_chains.specs.Uses.{keywords}
-use Rattle.jt_evaluation.specs.Values.{literal, as_value}
 
 -- an operation on values
 abbrev pub operated : OpId → List Tree → Got Tree

@@ -4,11 +4,10 @@ use Rattle.std.specs.List.{AllByRecursion}
 use Rattle.jt_value.specs.Pairs.{Pairs}
 use Rattle.jt_evaluation.specs.Got.{Got, deeper}
 use Rattle.jt_trees.specs.Expressions.{Text}
-use Rattle.jt_chains.specs.Chain.{Home, a_chain}
+use Rattle.jt_chains.specs.Chain.{Home, a_chain, templates}
 use Rattle.jt_chains.specs.Weights.{NamesFew}
 use Rattle.jt_chains.specs.View.{Seen, sources_of}
 use Rattle.jt_trees.specs.Sizes.{body_bytes}
-use Rattle.jt_chains.specs.Chain.{templates}
 use Rattle.jt_meaning.specs.Bytes.{IsShort}
 use Rattle.jt_meaning.specs.Ascends.{Ascends}
 use Rattle.jt_meaning.specs.Layout.{names}
