@@ -20,8 +20,8 @@ mod macros;
 mod places;
 
 pub use count::more;
+pub use home_tables::HomeTables;
 pub use index::Index;
 pub use jt_value::NoMemory;
 pub use laid::Laid;
 pub use laying::lay_out;
-pub use scope::HomeTables;
