@@ -1,6 +1,5 @@
 -- Names among others.
-use Rattle.std.proofs.Common.{◌≡◌, Bool, true, List, [], ◌∷◌, ◌++◌, refl, ◌⊎◌, inl, arith, rules}
-use Rattle.std.specs.Bool.{Decides}
+use Rattle.std.proofs.Common.{◌≡◌, true, List, [], ◌∷◌, refl, ◌⊎◌, inl, arith, rules}
 use Rattle.std.specs.Str.{bytes_eq}
 use Rattle.std.proofs.lemmas.Slice.Eq.{bytes_eq-Decides}
 use Rattle.jt_trees.specs.Expressions.{Text}
@@ -16,18 +15,7 @@ abbrev pub AllAmong : List Text → List Text → Type 0
 AllAmong [] ns = Unit {0}
 AllAmong (x ∷ xs) ns = Among x ns × AllAmong xs ns
 
-among_front : (xs ys ns : List Text) → AllAmong (xs ++ ys) ns → AllAmong xs ns
-among_front [] ys ns h = tt
-among_front (x ∷ xs) ys ns h = (h.0, among_front xs ys ns h.1)
-
-among_back : (xs ys ns : List Text) → AllAmong (xs ++ ys) ns → AllAmong ys ns
-among_back [] ys ns h = h
-among_back (x ∷ xs) ys ns h = among_back xs ys ns h.1
-
-surely : (b : Bool) (P : Type 0) → Decides b P → P → b ≡ true
-surely b P d h = d.1 h
-
-same_text : (x y : Text) → bytes_eq x y ≡ true → x ≡ y
+pub same_text : (x y : Text) → bytes_eq x y ≡ true → x ≡ y
 same_text x y e = (bytes_eq-Decides x y).0 e
 
 -- a text that is put among others is there, and so are the others

@@ -14,7 +14,7 @@ use Rattle.jt_evaluation.specs.Loops.{Loop, tree_at}
 use Rattle.jt_rules.specs.World.{World}
 use Rattle.jt_meaning.specs.Around.{Placement, Around, Called, the_macro, the_block, the_chain, Calls}
 use Rattle.jt_resolved.specs.Slots.{Memory, Valued, Listed, Written, SCalls}
-use Rattle.jt_meaning.specs.Layout.{Table, slot_in, Key, of_chain, of_macro, of_body, names, first_slot, globals, block_parameters, is_scoped, numbered_of, unit, default_place}
+use Rattle.jt_meaning.specs.Layout.{slot_in, of_chain, of_macro, of_body, names, first_slot, globals, block_parameters, numbered_of, unit, default_place}
 use Rattle.jt_meaning.specs.Programs.{pool}
 use Rattle.jt_meaning.specs.Resolve.{Spot, Part, grown}
 use Rattle.jt_meaning.proofs.Both.{Both}

@@ -17,7 +17,7 @@ use Rattle.jt_rules.specs.World.{World}
 use Rattle.jt_meaning.specs.Expressions.{filter_parameters}
 use Rattle.jt_meaning.specs.Layout.{Table, slot_in, names, numbered_of, globals, block_parameters, default_place, first_slot, unit, of_chain}
 use Rattle.jt_resolved.specs.Slots as slots
-use Rattle.jt_resolved.specs.Slots.{Slot, local, SlotExpr, SRow, Targets, one, several, SBody, variable, run}
+use Rattle.jt_resolved.specs.Slots.{Slot, local, SlotExpr, SRow, SBody, variable, run}
 use Rattle.jt_resolved.specs.Pool.{Constant, own, known, expr_values, row_values, condition_values, stmt_values, body_values}
 use Rattle.jt_meaning.specs.Resolve.{value_or, turned_round, tested_by, filtered_by, in_form, field_from, followed, fresh_targets, filled, filled_some, first_locals, reads, handed_on, Part, Spot, place, grown, bound_all, copied, scoped, first_body, invoked_body, invoked_super, invoked, resolved, resolved_row, resolved_asides, resolved_entries, resolved_condition, resolved_filters, resolved_values, placed_body, resolved_stmt, resolved_body, resolved_choice, left_out}
 use Rattle.jt_meaning.specs.Measure.{stmt_own, body_own, branch_own}

@@ -59,14 +59,14 @@ names_ascend world (k ∷ ks) h = search (arith, rules, names_ascend world ks h,
 
 -- ---- texts that differ, all among others, are no more than those
 
-abbrev Differs : List Text → Type 0
+abbrev pub Differs : List Text → Type 0
 Differs [] = Unit {0}
 Differs (x ∷ xs) = (Among x xs → ⊥) × Differs xs
 
-less_is : (o : Ordering) → is_lt o ≡ true → o ≡ Less
+pub less_is : (o : Ordering) → is_lt o ≡ true → o ≡ Less
 less_is o e = search (arith, rules)
 
-before_trans : (x y z : Text) → IsBefore x y → IsBefore y z → IsBefore x z
+pub before_trans : (x y z : Text) → IsBefore x y → IsBefore y z → IsBefore x z
 before_trans x y z a b = ap is_lt (nat_list_cmp_total.trans x y z (less_is (slice_cmp nat_cmp x y) a) (less_is (slice_cmp nat_cmp y z) b))
 
 never_before : (x : Text) → IsBefore x x → ⊥
@@ -81,7 +81,7 @@ above_differs : (z : Text) (ns : List Text) → Above z ns → (Among z ns → �
 above_differs z [] h = (λ i. i, tt)
 above_differs z (y ∷ ys) h = (λ i. never_before z (above_all z (y ∷ ys) h z i), above_differs y ys h.1)
 
-ascends_differs : (ns : List Text) → Ascends ns → Differs ns
+pub ascends_differs : (ns : List Text) → Ascends ns → Differs ns
 ascends_differs [] h = tt
 ascends_differs (y ∷ ys) h = above_differs y ys h
 
@@ -110,7 +110,7 @@ removed_keeps x z (y ∷ ys) d i = through (bytes_eq y x) refl i (removed_keeps 
     through false e (inl p) r = inl p
     through false e (inr k) r = inr (r k)
 
-no_more : (xs ns : List Text) → Differs xs → AllAmong xs ns → length xs ≤ length ns
+pub no_more : (xs ns : List Text) → Differs xs → AllAmong xs ns → length xs ≤ length ns
 no_more [] ns d a = omega arith
 no_more (x ∷ xs) ns d a =
     let r = no_more xs (removed x ns) d.1 (all_among xs (removed x ns) (λ z i. removed_keeps x z ns (λ e. d.0 (subst (λ w. Among w xs) (sym e) i)) (each_among xs ns a.1 z i))) in

@@ -13,7 +13,7 @@ use Rattle.jt_evaluation.specs.Loops.{Field}
 use Rattle.jt_rules.specs.World.{World}
 use Rattle.jt_meaning.specs.Layout.{Table, slot_in, globals_from, names, numbered_of, globals, block_parameters, first_slot, unit, of_chain}
 use Rattle.jt_resolved.specs.Slots as slots
-use Rattle.jt_resolved.specs.Slots.{Slot, local, global, SlotExpr, SRow, Targets, one, several, SBody, variable, run}
+use Rattle.jt_resolved.specs.Slots.{Slot, local, SlotExpr, SRow, SBody, variable, run}
 use Rattle.jt_resolved.specs.Pool.{Constant, known}
 use Rattle.jt_meaning.specs.Resolve.{value_or, turned_round, tested_by, filtered_by, in_form, field_from, followed, locals_from, fresh, fresh_targets, kept_slots, set_targets, filled, filled_some, first_locals, reads, handed_on, Part, Spot, place, grown, bound_table, bound_all, slot_of, copied, scoped, first_body, invoked_body, invoked_super, invoked, resolved, resolved_row, resolved_asides, resolved_entries, resolved_condition, resolved_filters, resolved_values, placed_body, resolved_stmt, resolved_body, resolved_choice, left_out}
 use Rattle.jt_resolved.specs.Locals.{slot_locals, slots_locals, targets_locals, expr_locals, row_locals, condition_locals, body_locals}

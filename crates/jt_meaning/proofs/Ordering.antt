@@ -11,7 +11,7 @@ use Rattle.jt_chains.specs.Chain.{Home, a_chain, a_library, same_home, listed, T
 use Rattle.jt_rules.specs.World.{World}
 use Rattle.jt_chains.specs.Uses.{keywords, pair_names, filtering_names, stmt_names, body_names, branch_names, own_names, set_in, scope_names_in, scope_names}
 use Rattle.jt_chains.specs.Includes.{needs_by, needs_in, needs_under, with_source, included, AllIn, InOrder}
-use Rattle.jt_meaning.specs.Layout.{in_globals, names_in, names, first_in, first_slot, is_scoped, defaults_of, first_default, shared, default_in, default_place, numbered_bodies, counted_from, scopes}
+use Rattle.jt_meaning.specs.Layout.{in_globals, names_in, names, first_in, first_slot, is_scoped, numbered_bodies, scopes}
 use Rattle.jt_meaning.proofs.Reading.{same_is, home_same, home_is, no_both, among_front, among_back, each_among}
 use Rattle.jt_meaning.proofs.Valuing.{counted_are}
 use Rattle.jt_meaning.proofs.Agreeing.{limit, read_names}

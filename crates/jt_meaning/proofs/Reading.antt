@@ -14,11 +14,9 @@ use Rattle.jt_evaluation.specs.Values.{value_in}
 use Rattle.jt_evaluation.specs.Loops.{tree_at}
 use Rattle.jt_resolved.specs.Slots.{Slot, Memory, load, put_at}
 use Rattle.jt_meaning.proofs.Among.{Among, AllAmong}
+pub use Rattle.jt_meaning.proofs.Among.{same_text}
 
 -- ---- texts
-
-pub same_text : (x y : Text) → bytes_eq x y ≡ true → x ≡ y
-same_text x y e = (bytes_eq-Decides x y).0 e
 
 surely : (b : Bool) (P : Type 0) → Decides b P → P → b ≡ true
 surely b P d h = d.1 h
@@ -66,9 +64,6 @@ put_here zero v [] = refl
 put_here zero v (t ∷ ts) = refl
 put_here (suc i) v [] = put_here i v []
 put_here (suc i) v (t ∷ ts) = put_here i v ts
-
-nothing_at : (i : ℕ) → tree_at [] i ≡ tree.undefined
-nothing_at i = refl
 
 pub put_elsewhere : (i j : ℕ) (v : Tree) (ts : List Tree) → (i ≡ j → ⊥) → tree_at (put_at i v ts) j ≡ tree_at ts j
 put_elsewhere (suc i) (suc j) v [] n = put_elsewhere i j v [] (λ e. n (ap suc e))

@@ -10,10 +10,10 @@ use Rattle.jt_chains.specs.Chain.{Home, BlockBody, blocks_of, blocks_in, blocks_
 use Rattle.jt_rules.specs.World.{World}
 use Rattle.jt_chains.specs.Includes.{needs_by, needs_in, needs_under}
 use Rattle.jt_resolved.specs.Slots as slots
-use Rattle.jt_resolved.specs.Slots.{Slot, local, global, one, SlotExpr, SBody, none, assign, capture, run, Routine}
+use Rattle.jt_resolved.specs.Slots.{SlotExpr, SBody}
 use Rattle.jt_resolved.specs.Size.{row_count}
 use Rattle.jt_resolved.specs.Takes.{HasParameters, ConditionTakes, BodyTakes}
-use Rattle.jt_rules.specs.Known.{ExprKnown, ConditionKnown, FilteringKnown, StmtKnown, BodyKnown, BranchesKnown}
+use Rattle.jt_rules.specs.Known.{ConditionKnown, FilteringKnown, StmtKnown, BodyKnown, BranchesKnown}
 use Rattle.jt_meaning.specs.Layout.{Table, slot_in, block_parameters, globals, numbered_of}
 use Rattle.jt_resolved.specs.Pool.{Constant, known}
 use Rattle.jt_meaning.specs.Resolve.{followed, reads, handed_on, Spot, place, grown, bound_all, copied, scoped, first_body, resolved_condition, resolved_filters, resolved_values, placed_body, resolved_stmt, resolved_body, resolved_choice}

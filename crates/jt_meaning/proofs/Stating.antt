@@ -21,7 +21,7 @@ use Rattle.jt_meaning.specs.Expressions.{block_text, value, named_values}
 use Rattle.jt_meaning.specs.Meaning.{put, within, captured, turns, gone_over, kept, through, meaning, meanings, chosen}
 use Rattle.jt_chains.specs.Includes.{needs_by, needs_in, needs_under}
 use Rattle.jt_resolved.specs.Slots as slots
-use Rattle.jt_resolved.specs.Slots.{Slot, local, global, Targets, one, several, SlotExpr, SlotStmt, SBody, none, assign, capture, run, Memory, Valued, Listed, Written, SCalls, load, put_at, store, store_if, take, in_front, sturns, sgone_over, svalue, svalues, skept, smeaning, smeanings}
+use Rattle.jt_resolved.specs.Slots.{Slot, local, global, one, SlotExpr, SlotStmt, SBody, none, assign, capture, run, Memory, Valued, Listed, Written, SCalls, store, take, in_front, sturns, sgone_over, svalue, skept, smeaning, smeanings}
 use Rattle.jt_meaning.specs.Layout.{Table, slot_in, globals_from, of_chain, of_body, names, first_slot, globals, block_parameters, is_scoped, numbered_of, unit, scopes}
 use Rattle.jt_meaning.specs.Programs.{pool}
 use Rattle.jt_resolved.specs.Pool.{Constant, constant_in}

@@ -24,7 +24,7 @@ use Rattle.jt_evaluation.specs.Filters.{some_given}
 use Rattle.jt_rules.specs.World.{World}
 use Rattle.jt_meaning.specs.Expressions.{filter_parameters}
 use Rattle.jt_resolved.specs.Slots as slots
-use Rattle.jt_resolved.specs.Slots.{Slot, operator, a_list, made, SlotExpr, SRow, none, Routine}
+use Rattle.jt_resolved.specs.Slots.{Slot, SlotExpr, SRow, none, Routine}
 use Rattle.jt_resolved.specs.Size.{row_count}
 use Rattle.jt_rules.specs.Known.{IsThere, ExprKnown, RowKnown, PairsKnown}
 use Rattle.jt_meaning.specs.Layout.{Table, slot_in, block_parameters, globals, numbered_of, default_place}

@@ -186,10 +186,6 @@ low_append : (w : ℕ) (a b : List (Routine Constant)) → AllByRecursion (Low w
 low_append w [] b h g = g
 low_append w (r ∷ a) b h g = (h.0, low_append w a b h.1 g)
 
-low_more : (w v : ℕ) → w ≤ v → (a : List (Routine Constant)) → AllByRecursion (Low w) a → AllByRecursion (Low v) a
-low_more w v e [] h = tt
-low_more w v e (r ∷ a) h = (omega (arith, e, h.0), low_more w v e a h.1)
-
 module _ (world : World) (order : List Home) (h : Home) (q : ℕ) (k : HasAtMost world order q h) where
   sets_low : (b : Body) (t : Text) → body_bound b ≤ q → 2 * body_height (resolved_sets world order b (top_spot world order h t)) ≤ body_free b + 2 * q
   sets_low end t g = omega arith
