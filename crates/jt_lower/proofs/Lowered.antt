@@ -18,7 +18,7 @@ use Rattle.jt_image.specs.Config.{Frame, Entry, value, frame, capture, State}
 use Rattle.jt_image.specs.Loops.{trees_of, loop_over, item_at, field_of, field_id, told}
 use Rattle.jt_image.specs.Step as step
 use Rattle.jt_image.specs.Ids.{operator_of, operands_of, filter_of, test_of}
-use Rattle.jt_image.specs.Step.{Plain, broken, goes, plain, as_frame, on_values, push, push_given, told_by, piled, spreads, unpacks, begins, makes, operated, filtered_by, tested_by, with_entries, put_printed, constant_value, text_of}
+use Rattle.jt_image.specs.Step.{broken, goes, plain, as_frame, on_values, push_given, told_by, piled, spreads, unpacks, begins, makes, operated, filtered_by, tested_by, with_entries, put_printed, constant_value, text_of}
 use Rattle.jt_ids.specs.declared.op_id.OpId.{OpId}
 use Rattle.jt_ids.specs.declared.test_id.TestId.{TestId}
 use Rattle.jt_ids.specs.OpTable.{op_id, op_operands}
@@ -32,7 +32,7 @@ use Rattle.jt_trees.specs.Expressions.{Text}
 use Rattle.jt_evaluation.specs.TheFilters.{the_filters}
 use Rattle.jt_evaluation.specs.Loops.{Field, Loop, result_listed, items_of_value, tree_at}
 use Rattle.jt_resolved.specs.Slots as slots
-use Rattle.jt_resolved.specs.Slots.{Slot, local, global, Maker, SlotExpr, SRow, Targets, SlotStmt, SBody, Routine, Program, Memory, Valued, Listed, Written, SCalls, load, put_at, store, store_if, store_each, take, make, valued, sturns, sgone_over, in_front, svalue, svalues, skept, smeaning, smeanings}
+use Rattle.jt_resolved.specs.Slots.{Slot, local, global, Maker, SlotExpr, SRow, Targets, SlotStmt, SBody, Program, Memory, Valued, Listed, Written, SCalls, load, put_at, store, store_if, store_each, take, make, valued, sturns, sgone_over, in_front, svalue, svalues, skept, smeaning, smeanings}
 use Rattle.jt_lower.specs.Asm.{Asm, one, both, choose, when, each, invoke, Ran, does, bad, and_then, of_plain, turns, of_written, run}
 use Rattle.jt_resolved.specs.Size.{row_count}
 use Rattle.jt_lower.specs.Lower.{half, maker, told_as, flag, load_of, store_of, expr_asm, row_asm, store_if_of, stores_asm, take_asm, turn_asm, over_asm, kept_asm, stmt_asm, body_asm, unit_of, lowered}

@@ -1,5 +1,5 @@
 -- Tests whether the entries of expressions are few enough.
-use Rattle.std.proofs.Common.{◌≡◌, ℕ, ◌+◌, ◌-◌, max, ◌<◌, ◌≤◌, true, false, ◌&&◌, List, length, drop, get_or, if◌then◌else◌, arith, rules}
+use Rattle.std.proofs.Common.{◌≡◌, ℕ, ◌+◌, ◌-◌, max, ◌<◌, ◌≤◌, true, ◌&&◌, List, length, drop, get_or, if◌then◌else◌, arith, rules}
 use Rattle.std.specs.Prelude.{nat_le}
 use Rattle.std.specs.Option.{is_some}
 use Rattle.std.proofs.lemmas.Bool.Decides.{nat_tests}
@@ -21,9 +21,6 @@ height_some a0 = omega arith
 -- one expression in front of a row
 item_low : (h r left : ℕ) → nat_le h left ≡ true → 1 ≤ h → nat_le (max h (1 + r)) left ≡ nat_le r (left - 1)
 item_low h r left low some = grind (arith, nat_tests)
-
-high : (h r left : ℕ) → nat_le h left ≡ false → nat_le (max h r) left ≡ false
-high h r left e = grind (arith, nat_tests)
 
 aside_low : (h r left : ℕ) → nat_le h left ≡ true → nat_le (max h r) left ≡ nat_le r left
 aside_low h r left low = grind (arith, nat_tests)

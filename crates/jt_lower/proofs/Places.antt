@@ -7,7 +7,7 @@ use Rattle.jt_evaluation.specs.Filters.{Filters}
 use Rattle.jt_evaluation.specs.Values.{as_value}
 use Rattle.jt_evaluation.specs.Loops.{Loop}
 use Rattle.jt_resolved.specs.Slots as slots
-use Rattle.jt_resolved.specs.Slots.{SlotExpr, SRow, Targets, SlotStmt, SBody, Program, Memory, Valued, Listed, SCalls, store, take, sturns, sgone_over, in_front, svalue, svalues, skept, smeaning, smeanings}
+use Rattle.jt_resolved.specs.Slots.{SRow, Targets, SlotStmt, SBody, Program, Memory, SCalls, store, sturns, sgone_over, in_front, svalues, smeaning, smeanings}
 use Rattle.jt_lower.specs.Fits.{IsBare, StmtFits, BodyFits}
 
 abbrev pub HasPlace : {A : Type 0} → Got A → Type 0

@@ -6,7 +6,7 @@ use Rattle.jt_value.specs.Tree.{Tree}
 use Rattle.jt_value.specs.Place.{Place}
 use Rattle.jt_evaluation.specs.Got.{Got, gives, bind, checked, at}
 use Rattle.jt_evaluation.specs.Values.{shown, bytes_of, as_value}
-use Rattle.jt_resolved.specs.Slots.{with_locals, SlotExpr, SRow, Targets, SlotStmt, SBody, Routine, Memory, Valued, Listed, Written, SCalls, local, store, take, make, valued, sturns, sgone_over, in_front, svalue, svalues, skept, smeaning, smeanings, sperformed, scalls, smean_of}
+use Rattle.jt_resolved.specs.Slots.{with_locals, SlotExpr, SRow, Targets, SlotStmt, SBody, Routine, Memory, Valued, SCalls, store, take, make, valued, sturns, sgone_over, svalue, svalues, skept, smeaning, smeanings, sperformed, scalls, smean_of}
 use Rattle.jt_evaluation.specs.Filters.{Filters}
 use Rattle.jt_evaluation.specs.Loops.{Loop, tree_at}
 use Rattle.jt_resolved.specs.Slots as slots

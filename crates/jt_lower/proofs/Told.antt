@@ -12,7 +12,7 @@ use Rattle.jt_image.specs.Loops as image
 use Rattle.jt_image.specs.Loops.{trees_of, field_id, field_of, told}
 use Rattle.jt_evaluation.specs.Got.{checked}
 use Rattle.jt_evaluation.specs.Loops as loops
-use Rattle.jt_evaluation.specs.Loops.{Field, Loop, items_listed, tree_at, tree_before, field_at}
+use Rattle.jt_evaluation.specs.Loops.{Field, Loop, items_listed, field_at}
 use Rattle.jt_lower.specs.Lower.{told_as}
 
 -- the items of a value
