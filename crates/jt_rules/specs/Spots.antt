@@ -106,8 +106,8 @@ abbrev mutual
   stmt_spots (for_each line xs e c body other) w =
       expr_spots e w
       ++ (bound xs w
-          ++ (condition_spots c w
-              ++ (body_spots body (record w { in_loop = true }) ++ body_spots other w)))
+      ++ (condition_spots c w
+      ++ (body_spots body (record w { in_loop = true }) ++ body_spots other w)))
   stmt_spots (set line xs e) w = expr_spots e w ++ bound xs w
   stmt_spots (set_block line x body) w = at w (binds x) ++ body_spots body w
   stmt_spots (with_values line ps body) w =

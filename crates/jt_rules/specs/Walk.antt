@@ -28,8 +28,8 @@ abbrev pub read_alone : Text → Option ScopeError
 read_alone x =
     if bytes_eq x (codes "loop") then Some error.LoopOutside
     else
-        if bytes_eq x (codes "self") || (bytes_eq x (codes "super") || bytes_eq x (codes "range"))
-          then Some error.NotCallable
+    if bytes_eq x (codes "self") || (bytes_eq x (codes "super") || bytes_eq x (codes "range"))
+    then Some error.NotCallable
     else None
 
 -- what arguments break that ought to be right
@@ -72,8 +72,8 @@ module _ (world : World) (home : Home) where
       option_or (refused (not w.in_block) error.NotCallable) (unless (callee_takes a_super ts ps))
   call_broken (a_block x) w f ts ps =
       option_or
-        (refused (nat_lt (length (bodies world.sources world.escaping home x)) 1) error.NotCallable)
-        (unless (callee_takes (a_block x) ts ps))
+      (refused (nat_lt (length (bodies world.sources world.escaping home x)) 1) error.NotCallable)
+      (unless (callee_takes (a_block x) ts ps))
   call_broken a_cycle w f ts ps =
       option_or (refused (not w.in_loop) error.LoopOutside) (unless (callee_takes a_cycle ts ps))
   call_broken no_callee w f ts ps = Some error.NotCallable
@@ -89,19 +89,19 @@ module _ (world : World) (home : Home) where
     broken (map_of ps) w = pairs_broken ps w
     broken (attribute a k) w =
         if is_loop a
-          then refused (not (w.in_loop && is_some (field_named k))) error.LoopOutside
-          else broken a w
+        then refused (not (w.in_loop && is_some (field_named k))) error.LoopOutside
+        else broken a w
     broken (item a b) w = option_or (broken a w) (broken b w)
     broken (call f ts ps) w =
         option_or (called_broken f w)
-          (option_or (call_broken (callee world.sources (given world.sources home) f) w f ts ps)
-             (option_or (row_broken ts w) (pairs_broken ps w)))
+        (option_or (call_broken (callee world.sources (given world.sources home) f) w f ts ps)
+        (option_or (row_broken ts w) (pairs_broken ps w)))
     broken (filter a x ts ps) w =
         option_or (filter_broken world.filters (world.filters.named x ts ps) ts ps)
-          (option_or (broken a w) (option_or (row_broken ts w) (pairs_broken ps w)))
+        (option_or (broken a w) (option_or (row_broken ts w) (pairs_broken ps w)))
     broken (test a n x ts ps) w =
         option_or (test_broken (test_named x) ts ps)
-          (option_or (broken a w) (option_or (row_broken ts w) (pairs_broken ps w)))
+        (option_or (broken a w) (option_or (row_broken ts w) (pairs_broken ps w)))
     broken (unary o a) w = broken a w
     broken (binary o a b) w = option_or (broken a w) (broken b w)
     broken (when c a) w = option_or (broken c w) (broken a w)
@@ -145,17 +145,17 @@ module _ (world : World) (home : Home) where
   filtering_broken [] w = None
   filtering_broken (f ∷ fs) w =
       option_or
-        (filter_broken world.filters (world.filters.named f.name f.arguments f.keywords) f.arguments
-           f.keywords)
+      (filter_broken world.filters (world.filters.named f.name f.arguments f.keywords) f.arguments
+      f.keywords)
       (option_or (row_broken f.arguments w)
-         (option_or (pairs_broken f.keywords w) (filtering_broken fs w)))
+      (option_or (pairs_broken f.keywords w) (filtering_broken fs w)))
 
   -- a macro's own name and its parameters
   abbrev pub macro_broken : Text → List Parameter → Option ScopeError
   macro_broken x ps =
       option_or (read_alone x) (option_or (all_used (parameter_names ps))
-           (option_or (unless (not (repeated (parameter_names ps))))
-              (refused (nat_lt max_parameters (length ps)) error.TooManySlots)))
+      (option_or (unless (not (repeated (parameter_names ps))))
+      (refused (nat_lt max_parameters (length ps)) error.TooManySlots)))
 
   -- the names that `from` gives
   abbrev pub imports_broken : List (Text × Text) → Option ScopeError
@@ -169,7 +169,7 @@ module _ (world : World) (home : Home) where
     stmt_broken (choose bs other) w = option_or (branches_broken bs w) (body_broken other w)
     stmt_broken (for_each line xs e c body other) w =
         option_or (broken e w) (option_or (all_used xs) (option_or (condition_broken c w)
-                (option_or (body_broken body (record w { in_loop = true })) (body_broken other w))))
+        (option_or (body_broken body (record w { in_loop = true })) (body_broken other w))))
     stmt_broken (set line xs e) w = option_or (broken e w) (all_used xs)
     stmt_broken (set_block line x body) w = option_or (used x) (body_broken body w)
     stmt_broken (with_values line ps body) w =
@@ -179,7 +179,7 @@ module _ (world : World) (home : Home) where
     stmt_broken (autoescape line on body) w = body_broken body w
     stmt_broken (macro line x ps body) w =
         option_or (macro_broken x ps)
-          (body_broken body (record { in_loop = false; in_block = false }))
+        (body_broken body (record { in_loop = false; in_block = false }))
     stmt_broken (include line n ignore_missing with_context) w = None
     stmt_broken (import_as line n x) w = read_alone x
     stmt_broken (import_from line n xs) w = imports_broken xs
@@ -202,8 +202,8 @@ module _ (world : World) (home : Home) where
   templates_broken [] = None
   templates_broken (t ∷ ts) =
       option_or (option_or (body_broken t.body (record { in_loop = false; in_block = false }))
-           (refused (nat_lt max_bindings (body_bound t.body)) error.TooManySlots))
-        (templates_broken ts)
+      (refused (nat_lt max_bindings (body_bound t.body)) error.TooManySlots))
+      (templates_broken ts)
 
 -- the first rule that the chains break
 abbrev pub chains_broken : World → List Home → Option ScopeError
