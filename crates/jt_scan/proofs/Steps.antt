@@ -1,5 +1,5 @@
 -- Steps of outcomes, and runs of characters.
-use Rattle.std.proofs.Common.{◌≡◌, ℕ, ◌==◌, ◌&&◌, Bool, true, false, cond, [], ◌∷◌, ◌++◌, drop, refl, ap, sym, ◌∙◌, arith, Ok, Err, rules}
+use Rattle.std.proofs.Common.{◌≡◌, ℕ, ◌&&◌, Bool, true, false, cond, [], ◌∷◌, ◌++◌, drop, refl, ap, sym, ◌∙◌, arith, Ok, Err, rules}
 use Rattle.std.proofs.lemmas.Bool.Decides.{nat_tests}
 use Rattle.unicode_ident.specs.Ident.{is_xid_continue}
 use Rattle.jt_scan.specs.declared.error.ScanError.{ScanError}
