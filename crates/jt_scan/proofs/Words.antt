@@ -1,5 +1,5 @@
 -- Texts and their characters.
-use Rattle.std.proofs.Common.{◌≡◌, ℕ, zero, suc, ◌<◌, Bool, true, false, ◌&&◌, List, [], ◌∷◌, slice_index, refl, sym, ap, ◌∙◌, arith, chars, bytes_eq, encode_utf8_all, IsUtf8, IsAscii}
+use Rattle.std.proofs.Common.{◌≡◌, ℕ, zero, suc, ◌<◌, Bool, true, false, ◌&&◌, List, [], ◌∷◌, slice_index, refl, sym, ap, ◌∙◌, arith, chars, bytes_eq, encode_utf8_all, IsUtf8, IsAscii, if◌then◌else◌}
 use Rattle.std.specs.Bool.{one_answer}
 use lib.Utf8.{scalars}
 use Rattle.std.specs.Str.{is_utf8}
