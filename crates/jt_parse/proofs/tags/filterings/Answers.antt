@@ -16,7 +16,11 @@ loop-turn-init c =
     _ _ c.left-turn-end.ensures (ap filterings_view c.new-found.ensures.items)
 
 pub returns-in_err-one : goal.returns-in_err-one
-returns-in_err-one c = let q = turn_refused filtering_view (λ (v : Vec Filtering Global). filterings_view v.items) IsFiltering s.Pipe OpensNone NoToken filtering_row one_filtering_levels c.args.levels (ahead c.args.cursor.now) _ _ _ _ _ _ c.loop-turn.invariant (ahead c.filtering.new.cursor) c.in_err-one.ensures in search rules
+returns-in_err-one c =
+    let q : Reads (λ (v : Vec Filtering Global). filterings_view v.items) (Separated IsFiltering s.Pipe) NoToken (most one_filtering_levels) c.args.levels (ahead c.args.cursor.now) (Err c.in_err-one.field-0.0) (ahead c.filtering.new.cursor) =
+    turn_refused filtering_view (λ (v : Vec Filtering Global). filterings_view v.items) IsFiltering s.Pipe OpensNone NoToken filtering_row one_filtering_levels c.args.levels (ahead c.args.cursor.now)
+    _ _ _ _ _ _ c.loop-turn.invariant _ c.in_err-one.ensures in
+    search rules
 
 pub returns-then-not-eat : goal.returns-then-not-eat
 returns-then-not-eat c =

@@ -17,7 +17,11 @@ loop-turn-init c =
     _ _ c.left-turn-end.ensures (ap values_view c.new-found.ensures.items)
 
 pub returns-in_err-one : goal.returns-in_err-one
-returns-in_err-one c = let q = turn_refused value_view (λ (v : Vec (String Global × Expr) Global). values_view v.items) IsValue s.Comma (EndsAt whole) NoToken value_row value_levels c.args.levels (ahead c.args.cursor.now) _ _ _ _ _ _ c.loop-turn.invariant (ahead c.value.new.cursor) c.in_err-one.ensures in search rules
+returns-in_err-one c =
+    let q : Reads (λ (v : Vec (String Global × Expr) Global). values_view v.items) (Separated IsValue s.Comma) NoToken (most value_levels) c.args.levels (ahead c.args.cursor.now) (Err c.in_err-one.field-0.0) (ahead c.value.new.cursor) =
+    turn_refused value_view (λ (v : Vec (String Global × Expr) Global). values_view v.items) IsValue s.Comma (EndsAt whole) NoToken value_row value_levels c.args.levels (ahead c.args.cursor.now)
+    _ _ _ _ _ _ c.loop-turn.invariant _ c.in_err-one.ensures in
+    search rules
 
 pub returns-then-not-eat : goal.returns-then-not-eat
 returns-then-not-eat c =
