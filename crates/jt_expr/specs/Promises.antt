@@ -35,8 +35,6 @@ abbrev pub Reads : {A B : Type 0} → (A → B) → (B → Tokens → Type 0) �
 Reads {B = B} view Form Ends levels limit ts (Ok a) rest = Leads Form (view a) ts rest × (levels (view a) ≤ limit) × ((b : B) (v : Tokens) → Leads Form b ts v → Ends v → (b ≡ view a) × (v ≡ rest))
 Reads {B = B} view Form Ends levels limit ts (Err e.Syntax) rest = (b : B) (v : Tokens) → Leads Form b ts v → Ends v → ⊥
 Reads {B = B} view Form Ends levels limit ts (Err e.TooDeep) rest = (b : B) (v : Tokens) → Leads Form b ts v → Ends v → limit < levels b
-Reads view Form Ends levels limit ts (Err e.UnknownFilter) rest = ⊥
-Reads view Form Ends levels limit ts (Err e.UnknownTest) rest = ⊥
 Reads view Form Ends levels limit ts (Err e.NoMemory) rest = Unit {0}
 
 -- an expression of the level ends before these tokens in a tag: there are none, a comma stands there, or `if` behind what is no inline if

@@ -69,8 +69,6 @@ GivesBody O (Err f) = Refuses O f
 abbrev pub refusal_at : ℕ → ExprError → ParseError
 refusal_at line fault.Syntax = e.Syntax line
 refusal_at line fault.TooDeep = e.TooDeep line
-refusal_at line fault.UnknownFilter = e.UnknownFilter line
-refusal_at line fault.UnknownTest = e.UnknownTest line
 refusal_at line fault.NoMemory = e.NoMemory
 
 -- each name has a meaning, or the refusal is for the first tag with one that has none

@@ -4,10 +4,12 @@ use Rattle.std.specs.declared.alloc.Global.{Global}
 use Rattle.jt_scan.specs.declared.segment.Sign.{Sign}
 use Rattle.jt_scan.specs.declared.segment.Sign.TheVariants as s
 use Rattle.jt_scan.specs.Cut as cut
+use Rattle.jt_expr.specs.declared.cursor.Cursor.{Cursor}
 use Rattle.jt_expr.specs.declared.error.ExprError.{ExprError}
 use Rattle.jt_expr.specs.declared.error.ExprError.TheVariants as e
 use Rattle.jt_trees.specs.Expressions.{Expr, Literal, levels, exprs_levels, pairs_levels, Text}
 use Rattle.jt_expr.specs.Grammar.{Tokens, word, is_reserved}
+use Rattle.jt_expr.specs.Cursor.{ahead}
 use Rattle.jt_expr.specs.Promises.{Reads}
 use Rattle.jt_trees.specs.Statements.{Filtering}
 use Rattle.jt_parse.specs.Tags.{literal_token, without_words, Says, an_opening, a_text, head_levels}
@@ -19,8 +21,6 @@ abbrev pub TakesWord : List ℕ → Tokens → Result (Unit {0}) ExprError → T
 TakesWord w ts (Ok x) new = ts ≡ word w ∷ new
 TakesWord w ts (Err e.Syntax) new = (v : Tokens) → ts ≡ word w ∷ v → ⊥
 TakesWord w ts (Err e.TooDeep) new = ⊥
-TakesWord w ts (Err e.UnknownFilter) new = ⊥
-TakesWord w ts (Err e.UnknownTest) new = ⊥
 TakesWord w ts (Err e.NoMemory) new = ⊥
 
 -- ---- what stands behind a form
@@ -91,13 +91,24 @@ ReadsFlat view Form Ends ts result rest = Reads view Form Ends (λ b. 0) 0 ts re
 abbrev pub ReadsHead : ℕ → ℕ → List ℕ → Tokens → Result Head ExprError → Tokens → Type 0
 ReadsHead line limit w ts result rest = Reads head_view (λ h x. Says line h (word w ∷ x)) NoToken head_levels (suc limit) ts result rest
 
+-- ---- the same of the tokens of a cursor
+
+abbrev pub TakesForm : {A B : Type 0} → (A → B) → (B → Tokens → Type 0) → (Tokens → Type 0) → (B → ℕ) → ℕ → Cursor → Result A ExprError → Cursor → Type 0
+TakesForm view Form Ends height limit old result new = Reads view Form Ends height limit (ahead old) result (ahead new)
+
+abbrev pub TakesFlat : {A B : Type 0} → (A → B) → (B → Tokens → Type 0) → (Tokens → Type 0) → Cursor → Result A ExprError → Cursor → Type 0
+TakesFlat view Form Ends old result new = ReadsFlat view Form Ends (ahead old) result (ahead new)
+
+abbrev pub TakesHead : ℕ → ℕ → List ℕ → Cursor → Result Head ExprError → Cursor → Type 0
+TakesHead line limit w old result new = ReadsHead line limit w (ahead old) result (ahead new)
+
+-- ---- names
+
 -- the only one of the names, as that of a text that is captured
 abbrev pub GivesText : List Text → Result Head ExprError → Type 0
 GivesText names (Ok h) = (x : Text) × (names ≡ x ∷ []) × (head_view h ≡ an_opening (a_text x))
 GivesText names (Err e.Syntax) = (x : Text) → names ≡ x ∷ [] → ⊥
 GivesText names (Err e.TooDeep) = ⊥
-GivesText names (Err e.UnknownFilter) = ⊥
-GivesText names (Err e.UnknownTest) = ⊥
 GivesText names (Err e.NoMemory) = ⊥
 
 -- a macro with the name that is given to it, or else with its own
@@ -105,6 +116,4 @@ abbrev pub GivesPair : Text → Option Text → Result (String Global × String 
 GivesPair name given (Ok p) = imported_view p ≡ (name, unwrap_or given name)
 GivesPair name given (Err e.Syntax) = ⊥
 GivesPair name given (Err e.TooDeep) = ⊥
-GivesPair name given (Err e.UnknownFilter) = ⊥
-GivesPair name given (Err e.UnknownTest) = ⊥
 GivesPair name given (Err e.NoMemory) = Unit {0}
