@@ -1,4 +1,5 @@
--- What only private clauses cite: what the steps of the cursor and the functions of the grammar give, by the reader of Reading.
+-- What only private clauses cite: what the steps of the cursor and the functions of the grammar
+-- give, by the reader of Reading.
 use Rattle.std.specs.Prelude.{◌≡◌, ℕ, suc, ◌≤◌, ◌<◌, List, encode_utf8_all, Option, Some, None, option_map, Result, Ok, Err, String, string_bytes}
 use Rattle.std.specs.Str.{chars}
 use Rattle.std.specs.declared.alloc.Global.{Global}
@@ -33,7 +34,8 @@ use Rattle.jt_expr.specs.Cursor.{ahead}
 -- ---- steps of the cursor
 
 -- an operator is taken with its tokens, or nothing is
-abbrev pub Operates : Option (BinaryOperator × Tokens) → Tokens → Option BinaryOperator → Tokens → Type 0
+abbrev pub Operates : Option (BinaryOperator × Tokens) → Tokens → Option BinaryOperator → Tokens
+    → Type 0
 Operates found ts None new = (found ≡ None) × (new ≡ ts)
 Operates found ts (Some op) new = found ≡ Some (op, new)
 
@@ -89,7 +91,8 @@ GivesElement o (Ok x) new = o ≡ Ok (element_view x, new)
 GivesElement o (Err x) new = Refuses o x
 
 -- a key is taken, or nothing is
-abbrev pub GivesKey : Option (Text × Tokens) → Tokens → Result (Option (String Global)) ExprError → Tokens → Type 0
+abbrev pub GivesKey : Option (Text × Tokens) → Tokens → Result (Option (String Global)) ExprError
+    → Tokens → Type 0
 GivesKey found ts (Ok None) new = (found ≡ None) × (new ≡ ts)
 GivesKey found ts (Ok (Some k)) new = found ≡ Some (string_bytes k, new)
 GivesKey found ts (Err e.NoMemory) new = Unit {0}
@@ -113,7 +116,8 @@ level_of_chain c.Power = grammar.power
 abbrev pub by_rule : {A : Type 0} → ((Level → Reader Expr) → ℕ → A) → ℕ → A
 by_rule rule below = rule (read below) (suc below)
 
-abbrev pub Follows : ((Level → Reader Expr) → ℕ → Reader Expr) → ℕ → Cursor → Result Part ExprError → Cursor → Type 0
+abbrev pub Follows : ((Level → Reader Expr) → ℕ → Reader Expr) → ℕ → Cursor → Result Part ExprError
+    → Cursor → Type 0
 Follows rule below old result new = Gives (by_rule rule below (ahead old)) result (ahead new)
 
 -- what stands between the operators of a level
@@ -122,8 +126,10 @@ operand_of below k = read_at (read below) (suc below) (next (level_of_chain k))
 
 -- a function value that reads what lies deeper
 pub record Nests {F : Type 0} (g : Shared F (Global × (MutBor Cursor × (ℕ × (Form × Unit {0})))) (Result Part ExprError × (MutBor Cursor × Unit {0}))) (below : ℕ) (inner : F) : Type 0 where
-  pub callable : (alloc : Global) (old : MutBor Cursor) (form : Form) → g.pre inner (alloc, (old, (below, (form, tt))))
-  pub reads : (alloc : Global) (old new : MutBor Cursor) (form : Form) (r : Result Part ExprError) → g.post inner (alloc, (old, (below, (form, tt)))) (r, (new, tt))
+  pub callable : (alloc : Global) (old : MutBor Cursor) (form : Form)
+      → g.pre inner (alloc, (old, (below, (form, tt))))
+  pub reads : (alloc : Global) (old new : MutBor Cursor) (form : Form) (r : Result Part ExprError)
+      → g.post inner (alloc, (old, (below, (form, tt)))) (r, (new, tt))
       → Gives (read below (level_of_form form) (ahead old.now)) r (ahead new.now)
 
 -- the levels around what has so many, if they are allowed
@@ -147,5 +153,8 @@ GivesStep o left (Ok (Ended p)) new = (o ≡ Ok (None, new)) × (expr_view p.exp
 GivesStep o left (Err x) new = Refuses o x
 
 -- the same from a part
-abbrev pub FollowsStep : ((Level → Reader Expr) → ℕ → Expr → Reader (Option Expr)) → ℕ → Part → Cursor → Result Step ExprError → Cursor → Type 0
-FollowsStep rule below left old result new = GivesStep (by_rule rule below (expr_view left.expr.value) (ahead old)) (expr_view left.expr.value) result (ahead new)
+abbrev pub FollowsStep : ((Level → Reader Expr) → ℕ → Expr → Reader (Option Expr)) → ℕ → Part
+    → Cursor → Result Step ExprError → Cursor → Type 0
+FollowsStep rule below left old result new =
+    GivesStep (by_rule rule below (expr_view left.expr.value) (ahead old))
+    (expr_view left.expr.value) result (ahead new)

@@ -1,4 +1,5 @@
--- Filters and tests whose names have a meaning. A filter's arguments may name filters and tests too.
+-- Filters and tests whose names have a meaning. A filter's arguments may name filters and tests
+-- too.
 use Rattle.std.specs.Prelude.{ℕ, suc, Bool, true, false, not, ◌||◌, Option, Some, None}
 use Rattle.std.specs.Option.{is_some}
 use Rattle.jt_ids.specs.TestTable.{test_of_name}
@@ -38,10 +39,12 @@ argument_unknown u None literal = false
 argument_unknown u (Some what) None = false
 argument_unknown u (Some what) (Some x) = unknown_naming u what x
 
--- one of a filter's arguments, from a place among its values on, names a filter or a test that there is not
+-- one of a filter's arguments, from a place among its values on, names a filter or a test that
+-- there is not
 abbrev pub arguments_unknown : Named → FilterId → ℕ → Exprs → Bool
 arguments_unknown u f place no_exprs = false
-arguments_unknown u f place (expr t ts) = argument_unknown u (named_at f place) (literal_text t) || arguments_unknown u f (suc place) ts
+arguments_unknown u f place (expr t ts) =
+    argument_unknown u (named_at f place) (literal_text t) || arguments_unknown u f (suc place) ts
 
 abbrev pub inside_unknown : Named → Option FilterId → Exprs → Bool
 inside_unknown u None ts = false
@@ -61,9 +64,13 @@ abbrev mutual
   has_unknown u (map_of ps) = pairs_have_unknown u ps
   has_unknown u (attribute a k) = has_unknown u a
   has_unknown u (item a b) = has_unknown u a || has_unknown u b
-  has_unknown u (call a ts ps) = has_unknown u a || (exprs_have_unknown u ts || pairs_have_unknown u ps)
-  has_unknown u (filter a x ts ps) = filter_unknown u x ts ps || (has_unknown u a || (exprs_have_unknown u ts || pairs_have_unknown u ps))
-  has_unknown u (test a b x ts ps) = unknown_test u x || (has_unknown u a || (exprs_have_unknown u ts || pairs_have_unknown u ps))
+  has_unknown u (call a ts ps) =
+      has_unknown u a || (exprs_have_unknown u ts || pairs_have_unknown u ps)
+  has_unknown u (filter a x ts ps) =
+      filter_unknown u x ts ps
+      || (has_unknown u a || (exprs_have_unknown u ts || pairs_have_unknown u ps))
+  has_unknown u (test a b x ts ps) =
+      unknown_test u x || (has_unknown u a || (exprs_have_unknown u ts || pairs_have_unknown u ps))
   has_unknown u (unary op a) = has_unknown u a
   has_unknown u (binary op a b) = has_unknown u a || has_unknown u b
   has_unknown u (when c a) = has_unknown u c || has_unknown u a

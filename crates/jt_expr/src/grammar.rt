@@ -1,5 +1,5 @@
-//! The rules of the grammar. They take the reader of what lies deeper as a parameter, so that each is
-//! proved by itself.
+//! The rules of the grammar. They take the reader of what lies deeper as a parameter, so that each
+//! is proved by itself.
 
 ghost use Rattle.std.specs.Prelude.{◌≡◌, ◌≤◌, ◌<◌, ◌^◌, suc, length, codes, encode_utf8_all, IfOk};
 ghost use Rattle.std.specs.Str.{chars};

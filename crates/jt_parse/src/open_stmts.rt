@@ -70,7 +70,9 @@ pub(crate) fn push_branch(
 /// Takes the innermost open_stmt.
 pub(crate) fn pop_open_stmt(open_stmts: &mut Vec<OpenStmt>) -> Option<OpenStmt>
     ensures { MatchOption result (open_stmts_view open_stmts.old.items ≡ [])
-        (λ f. open_stmts_view open_stmts.old.items ≡ open_stmt_view f ∷ open_stmts_view open_stmts.new.items) }
+        (λ f.
+        open_stmts_view open_stmts.old.items
+        ≡ open_stmt_view f ∷ open_stmts_view open_stmts.new.items) }
 {
     open_stmts.pop()
 }
@@ -81,7 +83,9 @@ pub(crate) fn push_open_stmt(
     open_stmt: OpenStmt,
 ) -> Result<(), AllocError>
     ensures { IfOk result
-        (λ u. open_stmts_view open_stmts.new.items ≡ open_stmt_view open_stmt ∷ open_stmts_view open_stmts.old.items) }
+        (λ u.
+        open_stmts_view open_stmts.new.items
+        ≡ open_stmt_view open_stmt ∷ open_stmts_view open_stmts.old.items) }
 {
     open_stmts.push(open_stmt)?;
     Ok(())
@@ -185,8 +189,8 @@ fn finished(alloc: Global, line: u32, kind: OpenKind, body: Vec<Stmt>) -> Result
     }
 }
 
-/// Ends a open_stmt, whose statements are given: they become those before it, with the one that ends
-/// behind them.
+/// Ends a open_stmt, whose statements are given: they become those before it, with the one that
+/// ends behind them.
 pub(crate) fn close_open_stmt(
     alloc: Global,
     open_stmt: OpenStmt,
@@ -247,7 +251,8 @@ fn is_end_of(opening: &Opening, word: &str) -> bool
 /// Whether the tag with this word ends the open_stmt.
 pub(crate) fn ends_open_stmt(open_stmt: &OpenStmt, word: &str, tokens: &[Token<'_>]) -> bool
     ensures { result
-        ≡ reading.ends_open_stmt (chars word.now) (map token_view tokens.now) (open_stmt_view open_stmt.now) }
+        ≡ reading.ends_open_stmt (chars word.now) (map token_view tokens.now)
+        (open_stmt_view open_stmt.now) }
 {
     match &open_stmt.kind {
         OpenKind::Branch(_, _, _) | OpenKind::Else(_) => is_word(word, "endif")

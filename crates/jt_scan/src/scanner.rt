@@ -135,10 +135,11 @@ fn read_segments<'a>(
     Ok(segments)
 }
 
-/// The segments of a source: data, tags with their tokens, comments and raw text, all of them slices
-/// of the source, in its order, each with the source's options. A refusal has the line of the tag: the source ends inside it or
-/// inside a text of it, a character begins no token, an escape has no meaning, a number is above
-/// the greatest, or a `raw` tag has no `endraw` tag behind it. `NoMemory` has none.
+/// The segments of a source: data, tags with their tokens, comments and raw text, all of them
+/// slices of the source, in its order, each with the source's options. A refusal has the line of
+/// the tag: the source ends inside it or inside a text of it, a character begins no token, an
+/// escape has no meaning, a number is above the greatest, or a `raw` tag has no `endraw` tag behind
+/// it. `NoMemory` has none.
 pub fn scan(alloc: Global, source: &Source) -> Result<Vec<Segment<'_>>, ScanError>
     ensures cut { IfOk result (λ v. cut.IsCut (cut_of v.items) (chars source.now.text)) }
     ensures only { (ss : List cut.Segment) → cut.IsCut ss (chars source.now.text) →
