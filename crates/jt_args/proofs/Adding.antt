@@ -1,8 +1,8 @@
 -- Programs and commands that a loop adds to.
-use Rattle.std.proofs.Common.{◌≡◌, ◌∙◌, ◌<◌, ◌≤◌, ◌+◌, ℕ, Bool, true, false, List, [], ◌∷◌, add-one, ap, drop, get_or, length, refl, arith, sym}
+use Rattle.std.proofs.Common.{◌≡◌, ◌∙◌, ◌<◌, ◌≤◌, ◌+◌, ℕ, Bool, true, false, List, [], ◌∷◌, add-one, ap, drop, get_or, length, refl, arith, sym, rules}
 use Rattle.std.specs.Prelude.{◌||◌}
 use Rattle.std.proofs.Math.Seq.{drop-cons, drop-length}
-use Rattle.clap.specs.Words.{AddsArg, AddsSubcommand, App, app_of, rule_of, with_rule, with_subcommand}
+use Rattle.clap.specs.Words.{AddsArg, AddsSubcommand, App, app_of, rule_of}
 use Rattle.clap.specs.declared.builder.Arg.{Arg}
 use Rattle.clap.specs.declared.builder.Command.{Command}
 use Rattle.clap.specs.declared.builder.Command.TheViews.{out-Command as fields_of}
@@ -27,13 +27,7 @@ pub argument_added : (target : App) (old new : Command) (made : Arg) (xs : List 
     → i < length xs → rule_of made ≡ rule_for (get_or xs i d) → made.global ≡ false → AddsArg old made new
     → (with_arguments (app_of old) (drop i xs) ≡ target) × ((fields_of old).has_globals ≡ false)
     → (with_arguments (app_of new) (drop (i + 1) xs) ≡ target) × ((fields_of new).has_globals ≡ false)
-argument_added target old new made xs i d below rule local added before =
-    let is : app_of new ≡ with_rule (app_of old) (rule_for (get_or xs i d)) = added.shape local ∙ ap (λ r. with_rule (app_of old) r) rule in
-    let rest = drop (i + 1) xs in
-    let globals = (fields_of old).has_globals in (
-      ap (λ a. with_arguments a rest) is ∙ (sym (ap (λ ys. with_arguments (app_of old) ys) (one_less xs i d below)) ∙ before.0),
-      added.globals ∙ (ap (λ b. globals || b) local ∙ (or_false globals ∙ before.1)),
-    )
+argument_added target old new made xs i d below rule local added before = search (arith, rules, one_less, or_false)
 
 pub arguments_done : (target : App) (made : Command) (xs : List Argument) (i : ℕ) → i ≤ length xs → length xs ≤ i
     → (with_arguments (app_of made) (drop i xs) ≡ target) × ((fields_of made).has_globals ≡ false)
@@ -45,9 +39,7 @@ arguments_done target made xs i most least before =
 pub command_added : (target : App) (old part new : Command) (xs : List CommandForm) (i : ℕ) (d : CommandForm)
     → i < length xs → (app_of part ≡ app_for (get_or xs i d)) × ((fields_of part).has_globals ≡ false) → AddsSubcommand old part new
     → with_commands (app_of old) (drop i xs) ≡ target → with_commands (app_of new) (drop (i + 1) xs) ≡ target
-command_added target old part new xs i d below made added before =
-    let is : app_of new ≡ with_subcommand (app_of old) (app_for (get_or xs i d)).top = added.shape made.1 ∙ ap (λ a. with_subcommand (app_of old) a.top) made.0 in
-    ap (λ a. with_commands a (drop (i + 1) xs)) is ∙ (sym (ap (λ ys. with_commands (app_of old) ys) (one_less xs i d below)) ∙ before)
+command_added target old part new xs i d below made added before = search (arith, rules, one_less)
 
 pub commands_done : (target : App) (made : Command) (xs : List CommandForm) (i : ℕ) → i ≤ length xs → length xs ≤ i
     → with_commands (app_of made) (drop i xs) ≡ target → app_of made ≡ target

@@ -1,23 +1,17 @@
 -- A line that the program takes names one of its commands.
-use Rattle.std.proofs.Common.{◌≡◌, Bool, true, false, not, List, [], ◌∷◌, Option, Some, None, ap, subst, refl, is_some, option_map, find, cond, ◌&&◌, ◌⊎◌, inl, inr}
+use Rattle.std.proofs.Common.{◌≡◌, Bool, true, false, not, List, [], ◌∷◌, Option, Some, None, ap, refl, is_some, option_map, find, cond, ◌&&◌, ◌⊎◌, inl, inr, arith, rules}
 use Rattle.clap.specs.Words.{App, Kinds, Shape, Text, subcommand_of, built, is_simple_and_free, is_simple}
-use Rattle.clap.specs.Faults.{check_fault, level_fault, entered_fault, walk_fault, settle_fault, defaults_fault}
+use Rattle.clap.specs.Faults.{level_fault, entered_fault}
 use Rattle.clap.specs.Kinds.{check_kinds, or_else}
 use Rattle.clap.specs.Simple.{built_leaf, inherited, marked_built, with_leaf_noted, argument_words, entered, label_of, names_of, rows_at}
-use Rattle.clap.specs.Facts.{explicit_source}
-use Rattle.clap.specs.Takes.{is_given}
-use Rattle.std.specs.List.{list_any}
-use Rattle.clap.specs.Walk.{Names, answers_to, finished, nothing_held, settled, stop_after, walk, walk_from, Held}
+use Rattle.clap.specs.Walk.{Names, answers_to, nothing_held, stop_after, Held}
 use Rattle.clap.proofs.OnLiterals.{clap_on_literals}
 use Rattle.jt_args.specs.Line.{program_app, compile_app, check_app, run_app, render_app, turns_app, upgrade_app, IsClear, IsKnown}
 use Rattle.jt_args.proofs.Passed.{neither}
 
 -- a command is wanted, so there is one where nothing is wrong
 has_command : (help given wanted has : Bool) → check_kinds (not has && (help && given)) (not has && true) wanted ≡ [] → has ≡ true
-has_command h g w true e = refl
-has_command true true w false e = absurd (cc)
-has_command true false w false e = absurd (cc)
-has_command false g w false e = absurd (cc)
+has_command a0 a1 a2 a3 a4 = search (arith, rules)
 
 -- the name is that of one of the commands
 abbrev IsOneOf : Option Text → List Shape → Type 0
@@ -67,15 +61,7 @@ all_built = refl
 
 level_clear : (s : Shape) (names : Names) (h : Held) (words : List Text) (has : Bool) (below : Kinds) → s.subcommand_required ≡ true
     → level_fault s names h words has below ≡ [] → has ≡ true
-level_clear s names h words has below want e =
-    let end = (walk s.rules names h words).held in
-    let rows = finished s.rules end in
-    let checked : check_fault s rows has ≡ [] = last_clear (walk_fault s names (walk_from h) words) below (settle_fault s.rules s.args_override_self end)
-    (defaults_fault (settled s.rules end).rows s.rules) (check_fault s rows has) e in
-    let help = s.arg_required_else_help in
-    let given = not (list_any (λ r. explicit_source r.source) rows) in
-    let wanted = not (s.subcommand_negates_reqs && has) && list_any (λ a. a.required && not (is_given a.id rows)) s.rules in
-    has_command help given wanted has (subst (λ (b : Bool). check_kinds (not has && (help && given)) (not has && b) wanted ≡ []) want checked)
+level_clear s names h words has below want e = search (arith, rules, last_clear, has_command)
 
 wants_command : (built program_app).top.subcommand_required ≡ true
 unfolding clap_on_literals
@@ -83,13 +69,7 @@ wants_command = refl
 
 -- one of six
 of_six : (A B C D E F : Type 0) → A ⊎ (B ⊎ (C ⊎ (D ⊎ (E ⊎ (F ⊎ ⊥))))) → A ⊎ (B ⊎ (C ⊎ (D ⊎ (E ⊎ F))))
-of_six A B C D E F (inl a) = inl a
-of_six A B C D E F (inr (inl b)) = inr (inl b)
-of_six A B C D E F (inr (inr (inl c))) = inr (inr (inl c))
-of_six A B C D E F (inr (inr (inr (inl d)))) = inr (inr (inr (inl d)))
-of_six A B C D E F (inr (inr (inr (inr (inl e))))) = inr (inr (inr (inr (inl e))))
-of_six A B C D E F (inr (inr (inr (inr (inr (inl f)))))) = inr (inr (inr (inr (inr f))))
-of_six A B C D E F (inr (inr (inr (inr (inr (inr none)))))) = absurd none
+of_six a0 a1 a2 a3 a4 a5 a6 = search (arith, rules)
 
 pub named : (words : List Text) → IsClear words → IsKnown (option_map (λ p. p.0) (subcommand_of program_app words))
 named words e =

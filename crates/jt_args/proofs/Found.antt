@@ -1,5 +1,5 @@
 -- What is read of the rows of a line.
-use Rattle.std.proofs.Common.{◌≡◌, ◌∙◌, ℕ, Bool, true, false, codes, List, [], Option, Some, None, Result, Ok, Err, ap, refl, option_map, unwrap_or, inl, inr, subst, Bor}
+use Rattle.std.proofs.Common.{◌≡◌, ◌∙◌, ℕ, Bool, true, false, codes, List, [], Option, Some, None, Result, Ok, Err, ap, refl, option_map, unwrap_or, inl, inr, subst, Bor, arith, rules}
 use Rattle.std.specs.Str.Parse.{ParsesUnsigned}
 use Rattle.std.specs.Prelude.{IfSome, OnOk, ◌≢◌}
 use Rattle.clap.specs.Words.{HasKind, IsAmong, Kinds, ReadsOne, Text, kind_of}
@@ -24,11 +24,7 @@ text_or_none (Some s) d v e f = ap (λ x. unwrap_or x []) f
 
 pub flagged : (text : Option Text) (b : Bool) → IfSome text IsSwitch → (text ≡ None → b ≡ false) → (text ≡ Some (codes "true") → b ≡ true)
     → (text ≡ Some (codes "false") → b ≡ false) → IsFlag text b
-flagged None b switch none on off = none refl
-flagged (Some t) b switch none on off = elim switch [
-  | inl e ↦ inl (e, on (ap Some e))
-  | inr e ↦ inr (e, off (ap Some e))
-]
+flagged a0 a1 a2 a3 a4 a5 = search (arith, rules)
 
 -- what always holds holds of a success
 pub always : {T E : Type 0} (r : Result T E) (P : Type 0) → P → OnOk r P

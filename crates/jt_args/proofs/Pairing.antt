@@ -1,16 +1,15 @@
 -- The words of `turns`, two by two.
-use Rattle.std.proofs.Common.{◌≡◌, ◌≢◌, ◌∙◌, ◌+◌, ◌*◌, ◌<◌, ◌%◌, ℕ, List, [], ◌∷◌, ◌++◌, length, Option, Some, None, inl, inr, ap, refl, sym, subst, codes, arith, take, suc, get_or, append_assoc, Bor, option_map}
+use Rattle.std.proofs.Common.{◌≡◌, ◌≢◌, ◌∙◌, ◌+◌, ◌*◌, ◌<◌, ◌%◌, ℕ, List, [], ◌∷◌, ◌++◌, length, Option, Some, None, ap, refl, sym, subst, codes, arith, take, suc, get_or, append_assoc, Bor, option_map, rules}
 use Rattle.std.proofs.Math.Seq.{take-suc}
 use Rattle.std.proofs.lemmas.List.{length-map, map-append}
 use Rattle.clap.specs.Walk.{texts}
 use Rattle.clap.specs.Words.{Row, Text}
 use Rattle.jt_budget.specs.declared.Budget.{Budget}
 use Rattle.jt_args.specs.declared.jobs.Command.{Command}
-use Rattle.jt_args.specs.declared.jobs.Command.TheVariants as command
 use Rattle.jt_args.specs.declared.jobs.Job.{Job}
 use Rattle.jt_scan.specs.declared.Options.{Options}
 use Rattle.jt_args.specs.declared.jobs.Pair.{Pair}
-use Rattle.jt_args.specs.Line.{ArePaired, ComeInPairs, IsAsked, IsCommand, IsKnown, pair_words, words_of_pairs}
+use Rattle.jt_args.specs.Line.{ArePaired, ComeInPairs, IsAsked, IsCommand, IsKnown, words_of_pairs}
 use Rattle.std.specs.Prelude.{IfSome, slice_get, string_bytes, unwrap_or}
 
 -- two words a pair
@@ -23,10 +22,7 @@ some_pair [] h = absurd (h refl)
 some_pair (p ∷ ps) h = omega arith
 
 come : (ps : List Pair) (words : List Text) → words_of_pairs ps ≡ words → ps ≢ [] → ComeInPairs words
-come ps words e some =
-    let n = some_pair ps some in
-    let two = twice ps in
-    subst ComeInPairs e (omega arith, omega arith)
+come ps words e some = search (arith, rules, some_pair, twice)
 
 -- a name of a command that is not `turns`
 of_other : (rows : List Row) (name other : Text) → name ≡ other → other ≢ codes "turns" → ArePaired (Some (name, rows))
@@ -37,12 +33,7 @@ apart : (s : Text) → unwrap_or (slice_get s 0) 0 ≢ 116 → s ≢ codes "turn
 apart s d e = d (ap (λ (t : Text). unwrap_or (slice_get t 0) 0) e)
 
 paired : (name : Text) (rows : List Row) (k : Command) (o : Options) (b : Budget) (n : ℕ) → IsCommand name rows k o b n → ArePaired (Some (name, rows))
-paired name rows (command.Compile dir template out) o b n h = of_other rows name (codes "compile") h.0 (apart (codes "compile") (λ e. omega (arith, e)))
-paired name rows (command.Check image) o b n h = of_other rows name (codes "check") h.0 (apart (codes "check") (λ e. omega (arith, e)))
-paired name rows (command.Run image context) o b n h = of_other rows name (codes "run") h.0 (apart (codes "run") (λ e. omega (arith, e)))
-paired name rows (command.Render dir template context) o b n h = of_other rows name (codes "render") h.0 (apart (codes "render") (λ e. omega (arith, e)))
-paired name rows (command.Upgrade image out) o b n h = of_other rows name (codes "upgrade") h.0 (apart (codes "upgrade") (λ e. omega (arith, e)))
-paired name rows (command.Turns sessions) o b n h = λ turns. come sessions.items (pair_words rows) h.1 h.2
+paired a0 a1 a2 a3 a4 a5 a6 = search (arith, rules, of_other, apart, come)
 
 -- the words of a job that is asked for come in pairs
 pub paired_of : (found : Option (Text × List Row)) (j : Job) → IsAsked found j → ArePaired found
@@ -81,34 +72,16 @@ at_rows P (Some c) rows e h = let same : c.1 ≡ rows = cc in subst P same h
 
 -- pairs of no words
 pub no_words : (ps : List Pair) (words : List (Bor Text)) → words_of_pairs ps ≡ texts words → ps ≡ [] → length words ≡ 0
-no_words ps words e none =
-    let empty : length (texts words) ≡ 0 = ap length (sym e) ∙ ap (λ (qs : List Pair). length (words_of_pairs qs)) none in
-    sym (length-map words (λ (s : Bor Text). s.now)) ∙ empty
+no_words ps words e none = search (arith, rules, length-map)
 
 -- words that come in pairs
 pub come_of : (words : List (Bor Text)) (all : List Text) → texts words ≡ all → ComeInPairs all → (0 < length words) × (length words % 2 ≡ 0)
-come_of words all e paired =
-    let same : length words ≡ length all = sym (length-map words (λ (s : Bor Text). s.now)) ∙ ap length e in
-    (subst (λ (n : ℕ). 0 < n) (sym same) paired.0, ap (λ n. n % 2) same ∙ paired.1)
+come_of words all e paired = search (arith, rules, length-map)
 
 -- a known name is one of six
 pub no_other : (o : Option Text) (name : Text) → o ≡ Some name → IsKnown o → name ≢ codes "compile" → name ≢ codes "check"
     → name ≢ codes "run" → name ≢ codes "render" → name ≢ codes "turns" → name ≢ codes "upgrade" → ⊥
-no_other o name same known a b d e f g = elim known [
-  | inl x ↦ let is : name ≡ codes "compile" = cc in a is
-  | inr (inl x) ↦ let is : name ≡ codes "check" = cc in b is
-  | inr (inr (inl x)) ↦ let is : name ≡ codes "run" = cc in d is
-  | inr (inr (inr (inl x))) ↦ let is : name ≡ codes "render" = cc in e is
-  | inr (inr (inr (inr (inl x)))) ↦ let is : name ≡ codes "turns" = cc in f is
-  | inr (inr (inr (inr (inr x)))) ↦ let is : name ≡ codes "upgrade" = cc in g is
-]
+no_other o name same known a b d e f g = search (arith, rules)
 
 pub no_name : (o : Option Text) → o ≡ None → IsKnown o → ⊥
-no_name o none known = elim known [
-  | inl x ↦ absurd (cc)
-  | inr (inl x) ↦ absurd (cc)
-  | inr (inr (inl x)) ↦ absurd (cc)
-  | inr (inr (inr (inl x))) ↦ absurd (cc)
-  | inr (inr (inr (inr (inl x)))) ↦ absurd (cc)
-  | inr (inr (inr (inr (inr x)))) ↦ absurd (cc)
-]
+no_name o none known = search (arith, rules)

@@ -1,5 +1,5 @@
 -- What the text of an option says that its parser took.
-use Rattle.std.proofs.Common.{◌≡◌, ◌<◌, ◌≤◌, ◌^◌, ◌==◌, ◌||◌, ℕ, Bool, true, false, cond, codes, drop, List, [], ◌∷◌, Some, None, refl, ap, subst, sym, arith, inl, inr}
+use Rattle.std.proofs.Common.{◌≡◌, ◌<◌, ◌≤◌, ◌^◌, ◌==◌, ◌||◌, ℕ, Bool, true, false, cond, codes, drop, List, [], ◌∷◌, Some, None, refl, subst, sym, arith, inl, inr, rules}
 use Rattle.std.specs.Prelude.{pos, unwrap_or}
 use Rattle.std.specs.Str.{bytes_eq}
 use Rattle.std.specs.Str.Parse.{IsNumeral, digits_value, starts_with_minus, without_leading_plus}
@@ -24,10 +24,7 @@ without_minus_is (x ∷ xs) = go (x == 45)
 
 -- digits begin with no plus
 no_plus : (ds : List ℕ) → IsNumeral 10 ds → without_leading_plus ds ≡ ds
-no_plus [] h = refl
-no_plus (d ∷ ds) h =
-    let plus : (d == 43) ≡ false = ne_eqb _ _ (λ e. omega (arith, digit_from_value d h.1.0)) in
-    ap (λ (b : Bool). drop (cond b 1 0) (d ∷ ds)) plus
+no_plus a0 a1 = search (arith, rules, ne_eqb, digit_from_value)
 
 -- a number from low, which is not below zero, and `-0` isn't either
 in_range : (bits low high : ℕ) (t : Text) → high < 2 ^ bits → IsSignedIn (pos low) (pos high) t

@@ -63,7 +63,8 @@ check_app = with_rule (new_app (codes "check")) (word_rule (codes "IMAGE"))
 -- `run IMAGE [CONTEXT]`
 abbrev pub run_app : App
 run_app =
-    with_budget (with_rule (with_rule (new_app (codes "run")) (word_rule (codes "IMAGE"))) context_rule)
+    with_budget
+    (with_rule (with_rule (new_app (codes "run")) (word_rule (codes "IMAGE"))) context_rule)
 
 -- `render DIR NAME [CONTEXT]`
 abbrev pub render_app : App
@@ -85,7 +86,9 @@ turns_app = with_budget (with_rule (with_rule (new_app (codes "turns")) pairs_ru
 
 -- `upgrade IN OUT`
 abbrev pub upgrade_app : App
-upgrade_app = with_rule (with_rule (new_app (codes "upgrade")) (word_rule (codes "IN"))) (word_rule (codes "OUT"))
+upgrade_app =
+    with_rule (with_rule (new_app (codes "upgrade")) (word_rule (codes "IN")))
+    (word_rule (codes "OUT"))
 
 -- the program: a command, and then the words and options of that command
 abbrev pub program_app : App
@@ -150,7 +153,8 @@ IsBudget rows b = IsGiven 64 usual_budget.fuel (one_of (codes "fuel") rows) b.fu
     × IsGiven 32 usual_budget.size (one_of (codes "size") rows) b.size
     × IsGiven 8 usual_budget.nesting (one_of (codes "nesting") rows) b.nesting
 
--- how many instructions a turn has: 1 to 1,000,000, or the usual number where the option isn't given
+-- how many instructions a turn has: 1 to 1,000,000, or the usual number where the option isn't
+-- given
 abbrev pub IsSlice : List Row → ℕ → Type 0
 IsSlice rows n = IsGiven 32 usual_slice (one_of (codes "slice") rows) n × (1 ≤ n) × (n ≤ max_slice)
 

@@ -5,7 +5,8 @@ use jt_scan::Options;
 use std::alloc::AllocError;
 use thiserror::Error;
 
-/// What the program is to do, with its words. A context is the file of one, and none is the empty context.
+/// What the program is to do, with its words. A context is the file of one, and none is the empty
+/// context.
 #[derive(Debug, Drop, PartialEq, Eq)]
 pub enum Command {
     /// Compile the template of a name, from the files of a directory, into an image.

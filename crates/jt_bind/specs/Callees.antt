@@ -1,4 +1,5 @@
--- What only private clauses cite: what stands in front of the arguments of a call, as the code keeps it.
+-- What only private clauses cite: what stands in front of the arguments of a call, as the code
+-- keeps it.
 use Rattle.std.specs.Prelude.{◌≡◌, ℕ, true, List, Option, Some, None, option_map}
 use Rattle.jt_trees.specs.Expressions.{Text}
 use Rattle.jt_trees.specs.StatementView.{parameters_view}
@@ -29,7 +30,8 @@ module _ (world : World) (order : List Home) where
     pub defaults : s.first_default ≡ default_place world order h m.name
 
   abbrev pub IsCallee : Callee → chain.Callee → Type 0
-  IsCallee (c.Macro s) k = (h : Home) × (m : MacroBody) × (IsSignature h s m × (k ≡ chain.a_macro h m))
+  IsCallee (c.Macro s) k =
+      (h : Home) × (m : MacroBody) × (IsSignature h s m × (k ≡ chain.a_macro h m))
   IsCallee c.Range k = k ≡ chain.a_range
   IsCallee c.Super k = k ≡ chain.a_super
   IsCallee (c.Block x) k = k ≡ chain.a_block x.now
@@ -38,7 +40,8 @@ module _ (world : World) (order : List Home) where
 
   -- where a chain or a library has a macro of the name, it is in the order
   abbrev pub IsLaidThere : Home → Text → Type 0
-  IsLaidThere h x = (m : MacroBody) → macro_of x (macros world.sources h) ≡ Some m → listed h order ≡ true
+  IsLaidThere h x =
+      (m : MacroBody) → macro_of x (macros world.sources h) ≡ Some m → listed h order ≡ true
 
   -- the unit of a body
   abbrev pub unit_of : Home → Option ℕ → Option ℕ

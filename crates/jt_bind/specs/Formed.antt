@@ -1,4 +1,5 @@
--- What only private clauses cite: how an operator works, as the code keeps it, and counts as values.
+-- What only private clauses cite: how an operator works, as the code keeps it, and counts as
+-- values.
 use Rattle.std.specs.Prelude.{◌≡◌, ℕ, ◌≤◌, ◌^◌, Result, Ok, Err, pos}
 use Rattle.jt_value.specs.Tree as tree
 use Rattle.jt_value.specs.View.{view}

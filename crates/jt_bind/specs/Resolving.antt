@@ -1,4 +1,5 @@
--- What only private clauses cite: what the parts of a chain are resolved to where a resolver stands, and what is put behind others there.
+-- What only private clauses cite: what the parts of a chain are resolved to where a resolver
+-- stands, and what is put behind others there.
 use Rattle.std.specs.Prelude.{ℕ, Bool, List, Option, Vec}
 use Rattle.std.specs.declared.alloc.Global.{Global}
 use Rattle.jt_value.specs.Tree.{Tree}
@@ -22,8 +23,10 @@ use Rattle.jt_bind.specs.Scoped.{values, IsPlaced, RowLeads, spot_in, templates_
 use Rattle.jt_bind.specs.Stated.{Led, BodyLed, line_in, stmt_in, body_in, scoped_in, layer_at, values_in}
 
 -- a part of a row is put behind others, and its values at the end of a pool: what is left of it
-abbrev pub RowAdds : SRow Constant → SRow Constant → Vec (Option ℕ × SlotExpr) Global → Vec (Option ℕ × SlotExpr) Global → Vec Value Global → Vec Value Global → Type 0
-RowAdds whole left before after old new = RowLeads whole left before.items after.items (values old) (values new)
+abbrev pub RowAdds : SRow Constant → SRow Constant → Vec (Option ℕ × SlotExpr) Global
+    → Vec (Option ℕ × SlotExpr) Global → Vec Value Global → Vec Value Global → Type 0
+RowAdds whole left before after old new =
+    RowLeads whole left before.items after.items (values old) (values new)
 
 module _ (r : Resolver) where
   -- ---- where it stands
@@ -68,7 +71,8 @@ module _ (r : Resolver) where
   abbrev pub entries_of : expressions.Pairs → SRow Constant
   entries_of ps = entries_in r.tables.now ps r.spot
 
-  abbrev pub filtered_of : Option ℕ → slots.SlotExpr Constant → expressions.Exprs → expressions.Pairs → slots.SlotExpr Constant
+  abbrev pub filtered_of : Option ℕ → slots.SlotExpr Constant → expressions.Exprs
+      → expressions.Pairs → slots.SlotExpr Constant
   filtered_of f c ts ps = filtered_in r.tables.now f c ts ps r.spot
 
   -- ---- statements
@@ -90,13 +94,16 @@ module _ (r : Resolver) where
   values_of ps line behind = values_in r.tables.now ps r.spot line behind
 
   -- all of a body is put behind other statements, and its values at the end of a pool
-  abbrev pub BodyAdds : SBody Constant → Vec SlotStmt Global → Vec SlotStmt Global → Vec Value Global → Vec Value Global → Type 0
+  abbrev pub BodyAdds : SBody Constant → Vec SlotStmt Global → Vec SlotStmt Global
+      → Vec Value Global → Vec Value Global → Type 0
   BodyAdds whole before after old new = BodyLed r.tables.now whole before after old new
 
   -- so is what a statement is resolved to
-  abbrev pub StmtAdds : trees.Stmt → Vec SlotStmt Global → Vec SlotStmt Global → Vec Value Global → Vec Value Global → Type 0
+  abbrev pub StmtAdds : trees.Stmt → Vec SlotStmt Global → Vec SlotStmt Global → Vec Value Global
+      → Vec Value Global → Type 0
   StmtAdds t before after old new = BodyAdds (stmt_of t) before after old new
 
   -- the same where the values are those of a pool
-  abbrev pub StmtLeads : trees.Stmt → Vec SlotStmt Global → Vec SlotStmt Global → List Tree → List Tree → Type 0
+  abbrev pub StmtLeads : trees.Stmt → Vec SlotStmt Global → Vec SlotStmt Global → List Tree
+      → List Tree → Type 0
   StmtLeads t before after p q = Led templates_of (stmt_of t) before.items after.items p q

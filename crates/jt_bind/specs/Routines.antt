@@ -1,4 +1,5 @@
--- What only private clauses cite: what the routines of chains are, with the places of the pool that they fill.
+-- What only private clauses cite: what the routines of chains are, with the places of the pool that
+-- they fill.
 use Rattle.std.specs.Prelude.{◌≡◌, List, ◌++◌, length, map}
 use Rattle.jt_value.specs.Tree.{Tree}
 use Rattle.jt_trees.specs.Expressions.{Text}
@@ -14,14 +15,21 @@ pub record IsRoutine (templates : List Text) (c : slots.Routine Constant) (r : R
 
 -- routines that were put behind others, and the values that they put at the end of a pool
 pub record AreRoutines (templates : List Text) (cs : List (slots.Routine Constant)) (before after : List Routine) (old new : List Tree) : Type 0 where
-  pub shown : map (routine_view templates) after ≡ map (routine_view templates) before ++ placed_routines cs (length old)
+  pub shown :
+      map (routine_view templates) after
+      ≡ map (routine_view templates) before ++ placed_routines cs (length old)
   pub pooled : new ≡ old ++ routines_values cs
 
 -- routines that were put behind others, so that only a part is left to do
 pub record RoutinesLead (templates : List Text) (whole left : List (slots.Routine Constant)) (before after : List Routine) (old new : List Tree) : Type 0 where
-  pub shown : map (routine_view templates) after ++ placed_routines left (length new) ≡ map (routine_view templates) before ++ placed_routines whole (length old)
+  pub shown :
+      map (routine_view templates) after ++ placed_routines left (length new)
+      ≡ map (routine_view templates) before ++ placed_routines whole (length old)
   pub pooled : new ++ routines_values left ≡ old ++ routines_values whole
 
 -- all of some routines, whatever is put behind them
-abbrev pub AllLed : List Text → List (slots.Routine Constant) → List Routine → List Routine → List Tree → List Tree → Type 0
-AllLed templates cs before after old new = (left : List (slots.Routine Constant)) → RoutinesLead templates (cs ++ left) left before after old new
+abbrev pub AllLed : List Text → List (slots.Routine Constant) → List Routine → List Routine
+    → List Tree → List Tree → Type 0
+AllLed templates cs before after old new =
+    (left : List (slots.Routine Constant))
+    → RoutinesLead templates (cs ++ left) left before after old new

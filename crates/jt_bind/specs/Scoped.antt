@@ -1,4 +1,5 @@
--- What only private clauses cite: what the parts of a chain are resolved to, in the tables that the code keeps, and with the places of the pool that it fills.
+-- What only private clauses cite: what the parts of a chain are resolved to, in the tables that the
+-- code keeps, and with the places of the pool that it fills.
 use Rattle.std.specs.Prelude.{◌≡◌, ℕ, List, [], ◌∷◌, ◌++◌, map, drop, length, Option, Some, None, Vec}
 use Rattle.std.specs.declared.alloc.Global.{Global}
 use Rattle.std.specs.Str.{bytes_eq}
@@ -39,18 +40,23 @@ values pool = map view pool.items
 -- ---- what stands at the end of a pool that is filled from one list of values to another
 
 -- an expression, and the values that it put there
-pub record IsPlaced (c : slots.SlotExpr Constant) (e : slots.SlotExpr ℕ) (old new : List Tree) : Type 0 where
+pub record IsPlaced (c : slots.SlotExpr Constant) (e : slots.SlotExpr ℕ) (old new : List Tree) :
+    Type 0 where
   pub shown : e ≡ placed_expr c (length old)
   pub pooled : new ≡ old ++ expr_values c
 
 -- expressions that were put behind others, so that of a row only a part is left to do
 pub record RowLeads (whole left : SRow Constant) (before after : List (Option ℕ × SlotExpr)) (old new : List Tree) : Type 0 where
-  pub shown : row_view after (placed_row left (length new)) ≡ row_view before (placed_row whole (length old))
+  pub shown :
+      row_view after (placed_row left (length new))
+      ≡ row_view before (placed_row whole (length old))
   pub pooled : new ++ row_values left ≡ old ++ row_values whole
 
 -- statements that were put behind others, so that of a body only a part is left to do
 pub record BodyLeads (templates : List Text) (whole left : SBody Constant) (before after : List SlotStmt) (old new : List Tree) : Type 0 where
-  pub shown : body_view templates after (placed_body left (length new)) ≡ body_view templates before (placed_body whole (length old))
+  pub shown :
+      body_view templates after (placed_body left (length new))
+      ≡ body_view templates before (placed_body whole (length old))
   pub pooled : new ++ body_values left ≡ old ++ body_values whole
 
 -- ---- where something is resolved
@@ -63,7 +69,8 @@ framed (f ∷ fs) table = framed fs (bound_table (texts f.names.items) f.first t
 -- a body with those of its block behind it, by what is left from its place on
 abbrev pub part_from : List (ℕ × BlockBody) → Option Part
 part_from [] = None
-part_from (b ∷ bs) = Some (record { name = b.1.name; behind = filter (λ c. bytes_eq c.1.name b.1.name) bs })
+part_from (b ∷ bs) =
+    Some (record { name = b.1.name; behind = filter (λ c. bytes_eq c.1.name b.1.name) bs })
 
 abbrev pub part_at : List (ℕ × BlockBody) → Option ℕ → Option Part
 part_at bs None = None
@@ -86,7 +93,8 @@ module _ (s : Chains) where
   abbrev pub IsTable : Home → Laid → Type 0
   IsTable h l = IsLaid world_in order_in (chain_view s.chain.now).templates h l
 
-  -- the names that stand for macros and libraries, and what stands in front of the arguments of a call
+  -- the names that stand for macros and libraries, and what stands in front of the arguments of a
+  -- call
   abbrev pub given_in : List (Text × Given)
   given_in = given world_in.sources home_in
 
@@ -120,7 +128,8 @@ module _ (s : Chains) where
   entries_in ps p = resolve.resolved_entries world_in order_in ps (spot_in p)
 
   -- a filter, by its number, of what is resolved, with the arguments that it is given
-  abbrev pub filtered_in : Option ℕ → slots.SlotExpr Constant → trees.Exprs → trees.Pairs → Spot → slots.SlotExpr Constant
+  abbrev pub filtered_in : Option ℕ → slots.SlotExpr Constant → trees.Exprs → trees.Pairs → Spot
+      → slots.SlotExpr Constant
   filtered_in f c ts ps p =
       resolve.filtered_by f (spot_in p).escaping (slots.item c (row_in ts p (asides_in ps p
       (filled_some (filter_parameters world_in.filters f) (count ts) (keywords ps) (locals_from (spot_in p).free (keywords ps))))))

@@ -1,4 +1,5 @@
--- What only private clauses cite: what the statements of a chain are resolved to, in the tables that the code keeps, and with the places of the pool that it fills.
+-- What only private clauses cite: what the statements of a chain are resolved to, in the tables
+-- that the code keeps, and with the places of the pool that it fills.
 use Rattle.std.specs.Prelude.{◌≡◌, ℕ, Bool, ◌+◌, List, [], ◌++◌, length, Option, Some, None, option_map, Vec, if◌then◌else◌, ◌==◌}
 use Rattle.std.specs.declared.alloc.Global.{Global}
 use Rattle.jt_value.specs.Tree.{Tree}
@@ -30,8 +31,10 @@ Branch = Place × SlotExpr × Vec SlotStmt Global
 -- ---- what stands at the end of a pool that is filled from one list of values to another
 
 -- statements that were put behind others: all of a body, whatever is put behind it
-abbrev pub Led : List Text → SBody Constant → List SlotStmt → List SlotStmt → List Tree → List Tree → Type 0
-Led templates whole before after old new = (left : SBody Constant) → BodyLeads templates (followed whole left) left before after old new
+abbrev pub Led : List Text → SBody Constant → List SlotStmt → List SlotStmt → List Tree → List Tree
+    → Type 0
+Led templates whole before after old new =
+    (left : SBody Constant) → BodyLeads templates (followed whole left) left before after old new
 
 -- the statements of a body
 abbrev pub IsBody : List Text → SBody Constant → List SlotStmt → List Tree → List Tree → Type 0
@@ -57,7 +60,9 @@ pub record IsBranch (templates : List Text) (at : place.Place) (c : slots.SlotEx
 
 -- branches that were resolved, so that of a choice only the other part is left to do
 pub record ChoiceLeads (templates : List Text) (whole other : SBody Constant) (branches : List Branch) (old new : List Tree) : Type 0 where
-  pub shown : (f : Front) (left : SBody Constant) (last : ℕ) → StandsFor other left f (length new) last → StandsFor whole left (choice_view templates branches f) (length old) last
+  pub shown : (f : Front) (left : SBody Constant) (last : ℕ)
+      → StandsFor other left f (length new) last
+      → StandsFor whole left (choice_view templates branches f) (length old) last
   pub pooled : new ++ body_values other ≡ old ++ body_values whole
 
 -- what is kept of a name that is set at a place: its slot where that place is its last
@@ -75,8 +80,10 @@ module _ (s : Chains) where
   stmt_in t p = resolve.resolved_stmt (world_in s) (order_in s) t (spot_in s p)
 
   -- all of a body is put behind other statements, and its values at the end of a pool
-  abbrev pub BodyLed : SBody Constant → Vec SlotStmt Global → Vec SlotStmt Global → Vec Value Global → Vec Value Global → Type 0
-  BodyLed whole before after old new = Led (templates_in s) whole before.items after.items (values old) (values new)
+  abbrev pub BodyLed : SBody Constant → Vec SlotStmt Global → Vec SlotStmt Global → Vec Value Global
+      → Vec Value Global → Type 0
+  BodyLed whole before after old new =
+      Led (templates_in s) whole before.items after.items (values old) (values new)
 
   abbrev pub body_in : trees.Body → Spot → SBody Constant
   body_in b p = resolve.resolved_body (world_in s) (order_in s) b (spot_in s p)
@@ -90,13 +97,18 @@ module _ (s : Chains) where
 
   -- a template of a chain at its top: the root, or what another one sets
   abbrev pub layer_at : resolve.Spot → trees.Body → Bool → SBody Constant
-  layer_at top b is_root = if is_root then resolve.resolved_body (world_in s) (order_in s) b top else resolve.resolved_sets (world_in s) (order_in s) b top
+  layer_at top b is_root =
+      if is_root
+      then resolve.resolved_body (world_in s) (order_in s) b top
+      else resolve.resolved_sets (world_in s) (order_in s) b top
 
   abbrev pub layer_in : Template → Bool → SBody Constant
-  layer_in t is_root = layer_at (resolve.top_spot (world_in s) (order_in s) (home_in s) t.name) t.body is_root
+  layer_in t is_root =
+      layer_at (resolve.top_spot (world_in s) (order_in s) (home_in s) t.name) t.body is_root
 
   abbrev pub values_in : expressions.Pairs → Spot → ℕ → SBody Constant → SBody Constant
-  values_in ps p line behind = resolve.resolved_values (world_in s) (order_in s) ps (spot_in s p) line behind
+  values_in ps p line behind =
+      resolve.resolved_values (world_in s) (order_in s) ps (spot_in s p) line behind
 
   -- the condition and the statements of a loop's turns
   pub record IsTurn (k : Option (slots.SlotExpr Constant)) (whole : SBody Constant) (condition : Option SlotExpr) (body : List SlotStmt) (old new : List Tree) : Type 0 where

@@ -64,8 +64,8 @@ impl<'t, 's, 'a> Resolver<'t, 's, 'a> {
         self.reads(self.tables.block_parameters(name))
     }
 
-    /// Resolves the call of a block, which does not see the names of the scopes around; absent where
-    /// the block has no body.
+    /// Resolves the call of a block, which does not see the names of the scopes around; absent
+    /// where the block has no body.
     pub(crate) fn block_called(&self, name: &str) -> Result<SlotExpr, NoMemory>
         ensures { IfOk result (λ e. (row asides : slots.SRow Constant → slots.SRow Constant)
             (n : ℕ) (ks : layout.Table) (p : List Tree)

@@ -375,7 +375,8 @@ impl<'t, 's, 'a> Resolver<'t, 's, 'a> {
         pool: &mut Vec<Value>,
     ) -> Result<(), NoMemory>
         ensures { IfOk result (λ u. (left : slots.SRow Constant)
-            → RowAdds (row_of self.now (written.exprs_view row.now) left) left done.old done.new pool.old
+            → RowAdds (row_of self.now (written.exprs_view row.now) left) left done.old done.new
+            pool.old
             pool.new) }
     {
         for expr in row {
@@ -385,7 +386,8 @@ impl<'t, 's, 'a> Resolver<'t, 's, 'a> {
         Ok(())
     }
 
-    /// Resolves what is given by name, behind others that are resolved: each is kept aside in a local.
+    /// Resolves what is given by name, behind others that are resolved: each is kept aside in a
+    /// local.
     #[cycle(expressions)]
     pub(crate) fn resolve_asides(
         &self,
@@ -394,7 +396,8 @@ impl<'t, 's, 'a> Resolver<'t, 's, 'a> {
         pool: &mut Vec<Value>,
     ) -> Result<(), NoMemory>
         ensures { IfOk result (λ u. (left : slots.SRow Constant)
-            → RowAdds (asides_of self.now (written.pairs_view pairs.now) left) left done.old done.new
+            → RowAdds (asides_of self.now (written.pairs_view pairs.now) left) left done.old
+            done.new
             pool.old pool.new) }
     {
         let mut spot = self.spot;

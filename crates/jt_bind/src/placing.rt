@@ -128,8 +128,8 @@ impl<'t, 's, 'a> Resolver<'t, 's, 'a> {
         put_run(there.unit, Vec::new(self.alloc), done)
     }
 
-    /// Puts a block where its tag stands behind other statements. What a block without a body prints
-    /// is absent.
+    /// Puts a block where its tag stands behind other statements. What a block without a body
+    /// prints is absent.
     pub(crate) fn put_block(
         &self,
         name: &str,

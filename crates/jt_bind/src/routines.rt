@@ -1,4 +1,5 @@
-//! Resolves the routines of a chain or a library: the chain, its macros, and the bodies of its blocks.
+//! Resolves the routines of a chain or a library: the chain, its macros, and the bodies of its
+//! blocks.
 
 ghost use Rattle.std.specs.Prelude.{◌≡◌, map, IfOk, if◌then◌else◌};
 ghost use Rattle.jt_chains.specs.Chain.{a_chain, macros};
@@ -279,7 +280,8 @@ fn resolve_blocks<'a>(
     Ok(())
 }
 
-/// Resolves a chain or a library with its macros and the bodies of its blocks, behind other routines.
+/// Resolves a chain or a library with its macros and the bodies of its blocks, behind other
+/// routines.
 pub(crate) fn resolve_home<'a>(
     alloc: Global,
     tables: &Tables<'a>,

@@ -176,7 +176,8 @@ impl<'t, 's, 'a> Resolver<'t, 's, 'a> {
         pool: &mut Vec<Value>,
     ) -> Result<(Option<SlotExpr>, Vec<SlotStmt>), NoMemory>
         ensures { IfOk result (λ t. IsTurn self.now.tables.now (resolve.resolved_condition
-            (world_in self.now.tables.now) (order_in self.now.tables.now) (option_map written.expr_view condition.now)
+            (world_in self.now.tables.now) (order_in self.now.tables.now)
+            (option_map written.expr_view condition.now)
             (resolve.bound_all (names_view names.now) (spot_of self.now)))
             (scoped_of self.now (body_view body.now)
             (resolve.bound_all (names_view names.now) (spot_of self.now))) t.0 t.1.items

@@ -1,5 +1,5 @@
 -- The code of statements, put behind other code.
-use Rattle.std.proofs.Common.{◌≡◌, ℕ, ◌+◌, ◌-◌, ◌<◌, ◌≤◌, List, [], ◌∷◌, ◌++◌, length, drop, get_or, Option, Some, refl, sym, ap, ◌∙◌, subst, arith, length-append}
+use Rattle.std.proofs.Common.{◌≡◌, ℕ, ◌+◌, ◌-◌, ◌<◌, ◌≤◌, List, [], ◌∷◌, ◌++◌, length, drop, get_or, Option, Some, refl, sym, ap, ◌∙◌, subst, arith, length-append, rules}
 use Rattle.std.specs.Prelude.{option_map}
 use Rattle.std.proofs.lemmas.List.{drop_more, at_drop_all}
 use Rattle.jt_image.specs.declared.instruction.Instruction.TheVariants as op
@@ -125,10 +125,7 @@ module _ (templates : List Text) (h : ℕ) where
 -- ---- jumps that are closed, and slots, from the last one on
 
 pub drop_before : {A : Type 0} (xs : List A) (at : ℕ) (d : A) → 0 < at → at ≤ length xs → drop (at - 1) xs ≡ get_or xs (at - 1) d ∷ drop at xs
-drop_before xs at d some le =
-    let lt : at - 1 < length xs = omega (arith, some, le) in
-    let next : at - 1 + 1 ≡ at = omega (arith, some) in
-    drop_more xs (at - 1) d lt ∙ ap (λ n. get_or xs (at - 1) d ∷ drop n xs) next
+drop_before xs at d some le = search (arith, rules, drop_more)
 
 pub stores_more : (ts : List Text) (o : Option Place) (ss : List (Option Slot)) (at : ℕ) (d s : Option Slot) (c0 c1 c2 : Emitter) → 0 < at → at ≤ length ss → get_or ss (at - 1) d ≡ s → Puts ts c0 (stores_asm o (slots_view (drop at ss))) c1 → Puts ts c1 (one o (store_if_of (option_map slot_view s))) c2
     → Puts ts c0 (stores_asm o (slots_view (drop (at - 1) ss))) c2

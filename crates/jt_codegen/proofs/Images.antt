@@ -1,5 +1,5 @@
 -- A chain that breaks no rule: its image, and what its refusals say.
-use Rattle.std.proofs.Common.{◌≡◌, ℕ, suc, ◌+◌, ◌*◌, ◌<◌, ◌≤◌, Bool, true, false, List, [], ◌∷◌, map, length, Some, refl, sym, ap, ◌∙◌, subst, arith}
+use Rattle.std.proofs.Common.{◌≡◌, ℕ, suc, ◌+◌, ◌*◌, ◌<◌, ◌≤◌, Bool, true, false, List, [], ◌∷◌, map, length, Some, refl, sym, ap, ◌∙◌, subst, arith, rules}
 use Rattle.std.specs.Prelude.{slice_get, nat_le, IsTrue}
 use Rattle.std.specs.List.{AllByRecursion}
 use Rattle.std.proofs.lemmas.Bool.Decides.{nat_tests}
@@ -94,11 +94,7 @@ low_of q rs b same counted e =
 pub high_of : (q : given.Program) (rs : List given_routine.Routine) (b : Bool) → rs ≡ q.routines.items
     → ((templates : List Text) → (IsTrue b → AllByRecursion (λ (r : Routine ℕ). body_height r.body ≤ max_entries) (map (routine_view templates) rs)) × (AllByRecursion (λ (r : Routine ℕ). body_height r.body ≤ max_entries) (map (routine_view templates) rs) → IsTrue b))
     → b ≡ false → ¬ (Low (program_of q))
-high_of q rs b same counted e = λ h.
-    let back = subst (λ (l : List given_routine.Routine). AllByRecursion (λ (r : Routine ℕ). body_height r.body ≤ max_entries) (map (routine_view (templates_of q)) l)) (sym same) h in
-    let is_true : b ≡ true = (counted (templates_of q)).1 back in
-    let no : true ≡ false = sym is_true ∙ e in
-    absurd cc
+high_of q rs b same counted e = search (arith, rules)
 
 -- a refusal of the chain
 pub chain_refused : (given : Given) (entry : Text) (options : Options) (e : ChainError) → inherit.Breaks e given entry options → ((c : Seen) → IsChain given entry options c → e ≡ chain_error.NoMemory) → Breaks given entry options (of_chain e)

@@ -10,16 +10,15 @@ use Rattle.jt_value.specs.Tree as tree
 use Rattle.jt_value.specs.Tree.{Tree}
 use Rattle.jt_ids.specs.declared.op_id.OpId.TheVariants as op
 use Rattle.jt_ids.specs.declared.test_id.TestId.{TestId}
-use Rattle.jt_trees.specs.Expressions as written
 use Rattle.jt_trees.specs.Expressions.{Expr, Literal, constant, name, group, list_of, map_of, attribute, item, call, filter, test, unary, binary, when, choice, Exprs, no_exprs, expr, Pairs, no_pairs, pair, Text}
-use Rattle.jt_meaning.specs.Operators.{Form, operation, negation, conjunction, disjunction, form}
+use Rattle.jt_meaning.specs.Operators.{Form, form}
 use Rattle.jt_value.specs.Place.{Place}
 use Rattle.jt_evaluation.specs.Tests.{test_named}
 use Rattle.jt_evaluation.specs.Values.{literal}
 use Rattle.jt_chains.specs.Uses.{count, keywords, set_in, own_names}
 use Rattle.jt_chains.specs.Includes.{included, InOrder}
 use Rattle.jt_trees.specs.Statements.{Parameter, Filtering, Stmt, data_of, print, choose, for_each, set, set_block, with_values, filter_block, autoescape, macro, include, import_as, import_from, extends, block, Body, end, stmt, Branches, no_branches, branch}
-use Rattle.jt_chains.specs.Chain.{Home, a_chain, a_library, same_home, listed, Template, templates, BlockBody, MacroBody, macros, macro_of, given, Callee, a_macro, a_range, a_super, a_block, a_cycle, no_callee, callee, is_loop}
+use Rattle.jt_chains.specs.Chain.{Home, a_chain, a_library, same_home, listed, Template, templates, BlockBody, MacroBody, macros, macro_of, given, Callee, a_macro, callee, is_loop}
 use Rattle.jt_evaluation.specs.Loops.{Field, field_named}
 use Rattle.jt_evaluation.specs.Filters.{default_value, some_given}
 use Rattle.jt_trees.specs.Texts.{among, ascending}

@@ -15,8 +15,7 @@ use Rattle.jt_scan.proofs.Weight.{shrinks}
 use Rattle.jt_expr.specs.Grammar.{Tokens, word}
 use Rattle.jt_parse.specs.Kept as kept
 use Rattle.jt_parse.specs.Kept.{Side, Piece, with_text, with_segment, side_ahead, side_behind, pieces_from}
-use Rattle.jt_parse.specs.Tags as tags
-use Rattle.jt_parse.specs.Tags.{Opening, a_text, values, filters, escaping, a_macro, a_block, Head, a_statement, an_if, a_loop, an_opening, made, looped, Says}
+use Rattle.jt_parse.specs.Tags.{Opening, Head, a_statement, an_if, a_loop, an_opening, made, Says}
 use Rattle.jt_parse.specs.Grammar as grammar
 use Rattle.jt_parse.specs.Grammar.{block, Forms, GoesOn, Otherwise}
 use Rattle.jt_trees.specs.Statements.{Body, Branches}
@@ -108,12 +107,7 @@ says_lined : {line : ℕ} {o : Head} {ts : Tokens} → Says line o ts → IsLine
 says_lined x1 l = search (arith, rules)
 
 made_lined : (line : ℕ) (o : Opening) (b : Body) → IsLine line → BodyLines IsLine b → StmtLines IsLine (made line o b)
-made_lined line (a_text x) b l h = h
-made_lined line (values ps) b l h = (l, h)
-made_lined line (filters fs) b l h = (l, h)
-made_lined line (escaping on) b l h = h
-made_lined line (a_macro x ps) b l h = h
-made_lined line (a_block x scoped required) b l h = h
+made_lined a0 a1 a2 a3 a4 = search (arith, rules)
 
 mutual
   forms_lined : {b : Body} {ps : List Piece} → Forms b ps → ArePieces ps → BodyLines IsLine b

@@ -3,7 +3,6 @@ use Rattle.std.proofs.Common.{◌≡◌, Option, Some, subst, arith, rules}
 use Rattle.jt_image.specs.Code.{Code}
 use Rattle.jt_image.specs.Parts.{IsRefusal, HasTables}
 use Rattle.jt_image.specs.declared.error.ImageError.{ImageError}
-use Rattle.jt_image.specs.declared.error.ImageError.TheVariants as image_error
 use Rattle.jt_codegen.specs.Units.{RefusesCode, of_image}
 
 by_code : (e : ImageError) (k : Code) → HasTables k → IsRefusal e (Some k) → RefusesCode (of_image e) k

@@ -9,26 +9,18 @@ use Rattle.std.specs.Ordering.{nat_cmp, is_lt, is_eq, ordering_index}
 use Rattle.std.specs.Cmp.Lexicographic.{slice_cmp}
 use Rattle.std.specs.List.Sorted.{IsNonDecreasingBy, IsBinarySearchResult, IsSearchInRange, IsPartitionPoint}
 use Rattle.std.proofs.lemmas.Bool.{cases_order}
-use Rattle.std.proofs.lemmas.Cmp.{nat_list_cmp_total}
 use Rattle.std.proofs.lemmas.Map.Text.{is_eq-slice_cmp}
 use Rattle.std.proofs.lemmas.Slice.Eq.{bytes_eq-Decides}
 use denote.Ref.{Bor}
 use Rattle.jt_trees.specs.Expressions.{Text}
 use Rattle.jt_names.specs.Names.{texts}
 use Rattle.jt_meaning.specs.Ascends.{IsBefore, Above, Ascends}
+use Rattle.jt_meaning.proofs.Few.{less_is, before_trans}
 use Rattle.jt_lower.specs.Spots.{number_of}
 
 -- how a name stands to this text
 abbrev pub against : Text → Bor Text → Ordering
 against t k = slice_cmp nat_cmp k.now t
-
-less_is : (o : Ordering) → is_lt o ≡ true → o ≡ Less
-less_is Less e = refl
-less_is Equal e = absurd cc
-less_is Greater e = absurd cc
-
-before_trans : (x y z : Text) → IsBefore x y → IsBefore y z → IsBefore x z
-before_trans x y z a b = ap is_lt (nat_list_cmp_total.trans x y z (less_is (slice_cmp nat_cmp x y) a) (less_is (slice_cmp nat_cmp y z) b))
 
 equal_same : (x y : Text) → slice_cmp nat_cmp x y ≡ Equal → bytes_eq x y ≡ true
 equal_same x y e = sym (is_eq-slice_cmp x y) ∙ ap is_eq e

@@ -1,5 +1,5 @@
 -- The tables and the units of a program.
-use Rattle.std.proofs.Common.{◌≡◌, ℕ, suc, ◌+◌, ◌-◌, ◌<◌, ◌≤◌, List, [], ◌∷◌, ◌++◌, length, drop, get_or, map, ◌^◌, Option, Some, None, refl, sym, ap, ◌∙◌, subst, arith, append_assoc, append-nil}
+use Rattle.std.proofs.Common.{◌≡◌, ℕ, suc, ◌+◌, ◌-◌, ◌<◌, ◌≤◌, List, [], ◌∷◌, ◌++◌, length, drop, get_or, map, ◌^◌, Option, Some, None, refl, sym, ap, ◌∙◌, subst, arith, append_assoc, append-nil, rules}
 use Rattle.std.specs.Prelude.{option_map, flat_map}
 use Rattle.std.proofs.lemmas.List.{map-append, drop_more, at_drop_all}
 use Rattle.jt_image.specs.Code.{Section, Code}
@@ -158,10 +158,7 @@ pub parts_are : (p : Program) (parts : Parts) (before : List given.Unit) (places
     → ((us : List Section) → each_of section_of_unit before ≡ Some us → each_of section_of_unit parts.units.items ≡ Some (map (moved_unit places) us)) → places ≡ ps (program_of p)
     → parts.version ≡ (compiled (program_of p)).version → parts.globals ≡ p.globals → names_view parts.names.items ≡ (compiled (program_of p)).names → constants_view parts.constants.items ≡ (compiled (program_of p)).constants
     → texts_view parts.templates.items ≡ (compiled (program_of p)).templates → spots_view parts.spots.items ≡ (compiled (program_of p)).spots → code_of_parts parts ≡ Some (compiled (program_of p))
-parts_are p parts before places read moves at v g n c t s =
-    let us = units (templates_of p) p.routines.items in
-    ap (option_map (code_with parts)) (moves us read ∙ ap (λ (l : List ℕ). Some (map (moved_unit l) us)) at)
-    ∙ ap Some (same_code parts (map (moved_unit (ps (program_of p))) us) (compiled (program_of p)) v g n c refl t s)
+parts_are p parts before places read moves at v g n c t s = search (arith, rules, same_code, ps)
 
 pub numbered_len : (i : ℕ) (xs : List Text) → length (numbered i xs) ≡ length xs
 numbered_len i [] = refl

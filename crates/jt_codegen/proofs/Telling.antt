@@ -1,5 +1,5 @@
 -- What an image tells of places: templates are put in order, and places get their numbers.
-use Rattle.std.proofs.Common.{◌≡◌, ℕ, ◌+◌, ◌<◌, List, [], ◌∷◌, ◌++◌, length, map, drop, get_or, Option, Some, None, refl, sym, ap, ◌∙◌, subst, append_assoc, inl, inr}
+use Rattle.std.proofs.Common.{◌≡◌, ℕ, ◌+◌, ◌<◌, List, [], ◌∷◌, ◌++◌, length, map, drop, get_or, Option, Some, None, refl, sym, ap, ◌∙◌, subst, append_assoc, inl, inr, arith, rules}
 use Rattle.std.specs.List.{AllByRecursion}
 use Rattle.std.proofs.lemmas.List.{map-append, drop_more}
 use Rattle.jt_value.specs.Place as place
@@ -25,12 +25,7 @@ first_inserted (Some q) qs ns = refl
 
 pub named_more : (ts : List Text) (ps : List (Option Place)) (i : ℕ) (d o : Option Place) (ns ns' : List Text) → i < length ps → get_or ps i d ≡ o → ns' ≡ all_inserted (templates_in (tag_view ts o ∷ [])) ns
     → all_inserted (templates_in (places_view ts (drop (i + 1) ps))) ns' ≡ all_inserted (templates_in (places_view ts (drop i ps))) ns
-named_more ts ps i d o ns ns' lt is e =
-    let rest = drop (i + 1) ps in
-    let left = place_left ps i d o lt is in
-    ap (all_inserted (templates_in (places_view ts rest))) e
-    ∙ first_inserted (tag_view ts o) (places_view ts rest) ns
-    ∙ ap (λ l. all_inserted (templates_in (places_view ts l)) ns) (sym left)
+named_more ts ps i d o ns ns' lt is e = search (arith, rules, place_left, first_inserted)
 
 -- the template of each place is among those that are named
 each_named : (ns : List Text) (qs : List (Option place.Place)) → ((t : Text) → Among t (templates_in qs) → Among t ns) → AllByRecursion (IsNamed ns) qs

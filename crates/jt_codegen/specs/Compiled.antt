@@ -18,15 +18,21 @@ use Rattle.jt_rules.specs.Rules.{KeepsRules}
 use Rattle.jt_rules.specs.World.{World, world_of}
 use Rattle.jt_meaning.specs.Meaning.{mean}
 
--- A text, or a fault with its place, that the code ends with for a context under a budget is what the entry means, where calls go at
--- most so many deep; and what the entry means, some budget is enough for.
+-- A text, or a fault with its place, that the code ends with for a context under a budget is what
+-- the entry means, where calls go at most so many deep; and what the entry means, some budget is
+-- enough for.
 pub record DoesChain (world : World) (entry : Text) (k : Code) : Type 0 where
-  pub texts : (x : Pairs) (b : Budget) (t : Text) → Run k x b (config.text t) → (n : ℕ) × (mean world entry x n ≡ gives t)
-  pub faults : (x : Pairs) (b : Budget) (f : Fault) (q : Option Place) → Run k x b (config.fault f q) → (n : ℕ) × (mean world entry x n ≡ fails f q)
-  pub enough_text : (x : Pairs) (n : ℕ) (t : Text) → mean world entry x n ≡ gives t → Enough k x (config.text t)
-  pub enough_fault : (x : Pairs) (n : ℕ) (f : Fault) (q : Option Place) → mean world entry x n ≡ fails f q → Enough k x (config.fault f q)
+  pub texts : (x : Pairs) (b : Budget) (t : Text) → Run k x b (config.text t)
+      → (n : ℕ) × (mean world entry x n ≡ gives t)
+  pub faults : (x : Pairs) (b : Budget) (f : Fault) (q : Option Place)
+      → Run k x b (config.fault f q) → (n : ℕ) × (mean world entry x n ≡ fails f q)
+  pub enough_text : (x : Pairs) (n : ℕ) (t : Text) → mean world entry x n ≡ gives t
+      → Enough k x (config.text t)
+  pub enough_fault : (x : Pairs) (n : ℕ) (f : Fault) (q : Option Place)
+      → mean world entry x n ≡ fails f q → Enough k x (config.fault f q)
 
--- The entry has the chain, and no other but for the order of its parts: what templates are read with is the same.
+-- The entry has the chain, and no other but for the order of its parts: what templates are read
+-- with is the same.
 pub record IsOnlyChain (given : Given) (entry : Text) (options : Options) (c : Seen) : Type 0 where
   pub is : IsChain given entry options c
   pub only : (d : Seen) → IsChain given entry options d → world_of d ≡ world_of c

@@ -1,4 +1,5 @@
--- Which programs are refused: those whose code an image has no place for, and those of which a routine needs too many entries.
+-- Which programs are refused: those whose code an image has no place for, and those of which a
+-- routine needs too many entries.
 use Rattle.std.specs.Prelude.{◌≡◌, ℕ, ◌<◌, Some, slice_get}
 use Rattle.jt_image.specs.Typed.{max_entries}
 use Rattle.jt_resolved.specs.Slots.{Routine, Program}

@@ -43,7 +43,8 @@ module _ (given : Given) (entry : Text) (options : Options) where
   abbrev pub HasNoChain : Type 0
   HasNoChain = (c : Seen) → IsChain given entry options c → ⊥
 
-  -- the rule of names and calls that is named is broken by the entry's chain, or one that its includes reach
+  -- the rule of names and calls that is named is broken by the entry's chain, or one that its
+  -- includes reach
   pub record BreaksRule (e : ScopeError) : Type 0 where
     pub chain : Seen
     pub is : IsOnlyChain given entry options chain
@@ -59,7 +60,8 @@ module _ (given : Given) (entry : Text) (options : Options) where
 
   -- the refusal holds; want of memory is no claim
   abbrev pub Breaks : CompileError → Type 0
-  Breaks (error.Chain e) = (e ≢ chain_error.NoMemory) × inherit.Breaks e given entry options × HasNoChain
+  Breaks (error.Chain e) =
+      (e ≢ chain_error.NoMemory) × inherit.Breaks e given entry options × HasNoChain
   Breaks (error.Scope e) = BreaksRule e
   Breaks error.CodeTooLong = HasProgram IsTooLong
   Breaks error.NoMemory = Unit {0}

@@ -14,11 +14,16 @@ use Rattle.jt_lower.specs.declared.emitter.Emitter.{Emitter}
 abbrev pub slots_view : List (Option Slot) → List (Option slots.Slot)
 slots_view ss = map (option_map slot_view) ss
 
--- whatever comes last: where its code stands behind the new code, the code of all stands behind the old one
+-- whatever comes last: where its code stands behind the new code, the code of all stands behind the
+-- old one
 abbrev pub Emits : List Text → ℕ → Emitter → Front → Emitter → Type 0
-Emits templates h old front new = (behind : SBody ℕ) (final : Emitter) → Puts templates new (body_asm behind h) final → Puts templates old (body_asm (front behind) h) final
+Emits templates h old front new =
+    (behind : SBody ℕ) (final : Emitter)
+    → Puts templates new (body_asm behind h) final
+    → Puts templates old (body_asm (front behind) h) final
 
 -- the jumps at these points go behind all instructions
 abbrev pub Closes : Emitter → List ℕ → Emitter → Type 0
 Closes old [] new = new ≡ old
-Closes old (e ∷ es) new = (mid : Emitter) × Closes old es mid × Patches mid e (op.Jump (length mid.code.items)) new
+Closes old (e ∷ es) new =
+    (mid : Emitter) × Closes old es mid × Patches mid e (op.Jump (length mid.code.items)) new

@@ -21,8 +21,8 @@ use std::alloc::Global;
 /// # Errors
 ///
 /// What the chain, the names or the calls break; `CodeTooLong` where the image would pass a limit;
-/// `StackTooDeep` where a unit of it would need more than 1,024 entries; `NoMemory` where a growth was
-/// refused.
+/// `StackTooDeep` where a unit of it would need more than 1,024 entries; `NoMemory` where a growth
+/// was refused.
 pub fn compile<L: Library>(
     alloc: Global,
     entry: &str,

@@ -55,7 +55,8 @@ pub(crate) struct Emitted {
     pub(crate) places: Vec<Option<Place>>,
 }
 
-/// The unit of a routine: its statements, and then the return. It has at most so many instructions as are left.
+/// The unit of a routine: its statements, and then the return. It has at most so many instructions
+/// as are left.
 ///
 /// # Errors
 ///

@@ -14,7 +14,8 @@ use jt_image::{Image, ImageError, assemble};
 use jt_resolved::Program;
 use std::alloc::Global;
 
-/// The image of a program, the names of which ascend and are not empty, and whose first routine has no parameters.
+/// The image of a program, the names of which ascend and are not empty, and whose first routine has
+/// no parameters.
 ///
 /// # Errors
 ///

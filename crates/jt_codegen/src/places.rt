@@ -1,4 +1,5 @@
-//! What an image tells of places: the templates that are named, and for each place one of them and a line.
+//! What an image tells of places: the templates that are named, and for each place one of them and
+//! a line.
 
 ghost use Rattle.std.specs.Prelude.{◌≡◌, ◌≤◌, ◌∷◌, [], length, map, IfOk, IfErr};
 ghost use Rattle.std.specs.List.{AllByRecursion};
@@ -32,7 +33,8 @@ pub(crate) struct PlaceTable {
 ///
 /// # Errors
 ///
-/// `CodeTooLong` where an image has no place for so many templates, `NoMemory` where a growth was refused.
+/// `CodeTooLong` where an image has no place for so many templates, `NoMemory` where a growth was
+/// refused.
 pub(crate) fn told_places(
     alloc: Global,
     templates: &[String],

@@ -26,8 +26,6 @@ none_ends v h = subst (EndsAt whole) (sym h) the_end
 pub refused_before : (n : ℕ) (ts rest : Tokens) (x : ExprError) → InFront n ts (Err x) rest → OfAll n ts (Err x)
 refused_before n ts rest e.Syntax g = λ b v l h. g b v l (none_ends v h)
 refused_before n ts rest e.TooDeep g = λ b v l h. g b v l (none_ends v h)
-refused_before n ts rest e.UnknownFilter g = g
-refused_before n ts rest e.UnknownTest g = g
 refused_before n ts rest e.NoMemory g = tt
 
 pub left_over : (n : ℕ) (ts rest : Tokens) (p : Part) → InFront n ts (Ok p) rest → 0 < length rest → OfAll n ts (Err e.Syntax)
@@ -50,8 +48,6 @@ pub answers_only : (n : ℕ) (ts : Tokens) (r : Result Tree ExprError) → OfAll
 answers_only n ts (Ok x) g t d le = sym (g.2 t [] (led t ts d) refl).0
 answers_only n ts (Err e.Syntax) g t d le = absurd (g t [] (led t ts d) refl)
 answers_only n ts (Err e.TooDeep) g t d le = absurd (omega (arith, g t [] (led t ts d) refl))
-answers_only n ts (Err e.UnknownFilter) g t d le = absurd g
-answers_only n ts (Err e.UnknownTest) g t d le = absurd g
 answers_only n ts (Err e.NoMemory) g t d le = refl
 
 pub answers_alone : (n : ℕ) (ts : Tokens) (r : Result Tree ExprError) → OfAll n ts r → IfOk r (λ x. (t : Expr) → Spells whole t ts → t ≡ expr_view x)
@@ -62,13 +58,7 @@ pub answers_syntax : (n : ℕ) (ts : Tokens) (r : Result Tree ExprError) → OfA
 answers_syntax n ts (Ok x) g h t d = cc
 answers_syntax n ts (Err e.Syntax) g h t d = g t [] (led t ts d) refl
 answers_syntax n ts (Err e.TooDeep) g h t d = cc
-answers_syntax n ts (Err e.UnknownFilter) g h t d = g
-answers_syntax n ts (Err e.UnknownTest) g h t d = g
 answers_syntax n ts (Err e.NoMemory) g h t d = cc
 
 pub answers_deep : (n : ℕ) (ts : Tokens) (r : Result Tree ExprError) → OfAll n ts r → IsErrOf r e.TooDeep → (t : Expr) → Spells whole t ts → n < levels t
 answers_deep n ts r g h t d = search (arith, rules, led)
-
--- a refusal names no unknown filter or test
-pub answers_known : (n : ℕ) (ts : Tokens) (r : Result Tree ExprError) → OfAll n ts r → (IsErrOf r e.UnknownFilter → ⊥) × (IsErrOf r e.UnknownTest → ⊥)
-answers_known n ts r g = search (arith, rules)

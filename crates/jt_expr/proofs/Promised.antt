@@ -73,8 +73,6 @@ module _ {A B : Type 0} (view : A → B) (Form : B → Tokens → Type 0) (Ends 
   read_err : (x : ExprError) (new : Tokens) → Refuses o x → Reads view Form Ends height n ts (Err x) new
   read_err e.Syntax new g = λ b v l h. none b v g l h
   read_err e.TooDeep new g = λ b v l h. too_deep b v g l h
-  read_err e.UnknownFilter new g = g
-  read_err e.UnknownTest new g = g
   read_err e.NoMemory new g = tt
 
 -- ---- the public readers

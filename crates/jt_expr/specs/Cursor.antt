@@ -24,15 +24,12 @@ abbrev pub TakesSign : Sign → Tokens → Result (Unit {0}) ExprError → Token
 TakesSign k ts (Ok x) new = ts ≡ cut.sign k ∷ new
 TakesSign k ts (Err e.Syntax) new = (v : Tokens) → ts ≡ cut.sign k ∷ v → ⊥
 TakesSign k ts (Err e.TooDeep) new = ⊥
-TakesSign k ts (Err e.UnknownFilter) new = ⊥
-TakesSign k ts (Err e.UnknownTest) new = ⊥
 TakesSign k ts (Err e.NoMemory) new = ⊥
 
 -- a name, or none stands in front
 abbrev pub TakesAName : Tokens → Result (Bor (List ℕ)) ExprError → Tokens → Type 0
 TakesAName ts (Ok s) new = (ts ≡ cut.name (chars s.now) ∷ new) × (is_reserved (chars s.now) ≡ false)
-TakesAName ts (Err e.Syntax) new = (x : List ℕ) (v : Tokens) → ts ≡ cut.name x ∷ v → is_reserved x ≡ false → ⊥
+TakesAName ts (Err e.Syntax) new =
+    (x : List ℕ) (v : Tokens) → ts ≡ cut.name x ∷ v → is_reserved x ≡ false → ⊥
 TakesAName ts (Err e.TooDeep) new = ⊥
-TakesAName ts (Err e.UnknownFilter) new = ⊥
-TakesAName ts (Err e.UnknownTest) new = ⊥
 TakesAName ts (Err e.NoMemory) new = ⊥

@@ -1,4 +1,5 @@
--- What only private clauses cite: what the steps of the cursor and the functions of the grammar give, by the reader of Reading.
+-- What only private clauses cite: what the steps of the cursor and the functions of the grammar
+-- give, by the reader of Reading.
 use Rattle.std.specs.Prelude.{◌≡◌, ℕ, suc, ◌≤◌, ◌<◌, List, encode_utf8_all, Option, Some, None, option_map, Result, Ok, Err, String, string_bytes}
 use Rattle.std.specs.Str.{chars}
 use Rattle.std.specs.declared.alloc.Global.{Global}
@@ -26,16 +27,21 @@ use Rattle.jt_trees.specs.ExpressionView.{expr_view}
 use Rattle.jt_expr.specs.Promises.{parts_view, level_of_form}
 use Rattle.jt_expr.specs.Grammar as grammar
 use Rattle.jt_expr.specs.Grammar.{Tokens, Level, next}
-use Rattle.jt_expr.specs.Reading.{Outcome, Reader, syntax, deep, read, read_at}
+use Rattle.jt_expr.specs.Reading.{Outcome, Reader, syntax, deep, operator, read, read_at}
 use Rattle.jt_expr.specs.Elements as elements
 use Rattle.jt_expr.specs.Cursor.{ahead}
 
 -- ---- steps of the cursor
 
 -- an operator is taken with its tokens, or nothing is
-abbrev pub Operates : Option (BinaryOperator × Tokens) → Tokens → Option BinaryOperator → Tokens → Type 0
+abbrev pub Operates : Option (BinaryOperator × Tokens) → Tokens → Option BinaryOperator → Tokens
+    → Type 0
 Operates found ts None new = (found ≡ None) × (new ≡ ts)
 Operates found ts (Some op) new = found ≡ Some (op, new)
+
+-- one of the level
+abbrev pub OperatesAt : Level → Cursor → Option BinaryOperator → Cursor → Type 0
+OperatesAt k old result new = Operates (operator k (ahead old)) (ahead old) result (ahead new)
 
 -- a name is taken with the sign behind it, or nothing is
 abbrev pub TakesName : Option (Text × Tokens) → Tokens → Option (Bor (List ℕ)) → Tokens → Type 0
@@ -51,8 +57,6 @@ TakesText found ts (Some s) new = found ≡ Some (encode_utf8_all (unescaped (ch
 abbrev pub Refuses : {A : Type 0} → Outcome A → ExprError → Type 0
 Refuses o e.Syntax = o ≡ Err syntax
 Refuses o e.TooDeep = o ≡ Err deep
-Refuses o e.UnknownFilter = ⊥
-Refuses o e.UnknownTest = ⊥
 Refuses o e.NoMemory = Unit {0}
 
 abbrev pub GivesWord : Outcome Text → Result (Bor (List ℕ)) ExprError → Tokens → Type 0
@@ -87,7 +91,8 @@ GivesElement o (Ok x) new = o ≡ Ok (element_view x, new)
 GivesElement o (Err x) new = Refuses o x
 
 -- a key is taken, or nothing is
-abbrev pub GivesKey : Option (Text × Tokens) → Tokens → Result (Option (String Global)) ExprError → Tokens → Type 0
+abbrev pub GivesKey : Option (Text × Tokens) → Tokens → Result (Option (String Global)) ExprError
+    → Tokens → Type 0
 GivesKey found ts (Ok None) new = (found ≡ None) × (new ≡ ts)
 GivesKey found ts (Ok (Some k)) new = found ≡ Some (string_bytes k, new)
 GivesKey found ts (Err e.NoMemory) new = Unit {0}
@@ -107,14 +112,24 @@ level_of_chain c.Concatenation = grammar.concatenation
 level_of_chain c.Product = grammar.product
 level_of_chain c.Power = grammar.power
 
+-- what a rule of the grammar reads, where so many levels may lie deeper
+abbrev pub by_rule : {A : Type 0} → ((Level → Reader Expr) → ℕ → A) → ℕ → A
+by_rule rule below = rule (read below) (suc below)
+
+abbrev pub Follows : ((Level → Reader Expr) → ℕ → Reader Expr) → ℕ → Cursor → Result Part ExprError
+    → Cursor → Type 0
+Follows rule below old result new = Gives (by_rule rule below (ahead old)) result (ahead new)
+
 -- what stands between the operators of a level
 abbrev pub operand_of : ℕ → ChainLevel → Reader Expr
 operand_of below k = read_at (read below) (suc below) (next (level_of_chain k))
 
 -- a function value that reads what lies deeper
 pub record Nests {F : Type 0} (g : Shared F (Global × (MutBor Cursor × (ℕ × (Form × Unit {0})))) (Result Part ExprError × (MutBor Cursor × Unit {0}))) (below : ℕ) (inner : F) : Type 0 where
-  pub callable : (alloc : Global) (old : MutBor Cursor) (form : Form) → g.pre inner (alloc, (old, (below, (form, tt))))
-  pub reads : (alloc : Global) (old new : MutBor Cursor) (form : Form) (r : Result Part ExprError) → g.post inner (alloc, (old, (below, (form, tt)))) (r, (new, tt))
+  pub callable : (alloc : Global) (old : MutBor Cursor) (form : Form)
+      → g.pre inner (alloc, (old, (below, (form, tt))))
+  pub reads : (alloc : Global) (old new : MutBor Cursor) (form : Form) (r : Result Part ExprError)
+      → g.post inner (alloc, (old, (below, (form, tt)))) (r, (new, tt))
       → Gives (read below (level_of_form form) (ahead old.now)) r (ahead new.now)
 
 -- the levels around what has so many, if they are allowed
@@ -122,8 +137,6 @@ abbrev pub Around : ℕ → ℕ → Result ℕ ExprError → Type 0
 Around below inside (Ok h) = (h ≡ suc inside) × (inside ≤ below)
 Around below inside (Err e.Syntax) = ⊥
 Around below inside (Err e.TooDeep) = below < inside
-Around below inside (Err e.UnknownFilter) = ⊥
-Around below inside (Err e.UnknownTest) = ⊥
 Around below inside (Err e.NoMemory) = ⊥
 
 -- the new tree, if its levels are allowed
@@ -131,8 +144,6 @@ abbrev pub Fits : ℕ → Expr → Result Part ExprError → Type 0
 Fits n t (Ok p) = (expr_view p.expr.value ≡ t) × (levels t ≤ n)
 Fits n t (Err e.Syntax) = ⊥
 Fits n t (Err e.TooDeep) = n < levels t
-Fits n t (Err e.UnknownFilter) = ⊥
-Fits n t (Err e.UnknownTest) = ⊥
 Fits n t (Err e.NoMemory) = Unit {0}
 
 -- a step from a tree
@@ -140,3 +151,10 @@ abbrev pub GivesStep : Outcome (Option Expr) → Expr → Result Step ExprError 
 GivesStep o left (Ok (Grown p)) new = o ≡ Ok (Some (expr_view p.expr.value), new)
 GivesStep o left (Ok (Ended p)) new = (o ≡ Ok (None, new)) × (expr_view p.expr.value ≡ left)
 GivesStep o left (Err x) new = Refuses o x
+
+-- the same from a part
+abbrev pub FollowsStep : ((Level → Reader Expr) → ℕ → Expr → Reader (Option Expr)) → ℕ → Part
+    → Cursor → Result Step ExprError → Cursor → Type 0
+FollowsStep rule below left old result new =
+    GivesStep (by_rule rule below (expr_view left.expr.value) (ahead old))
+    (expr_view left.expr.value) result (ahead new)

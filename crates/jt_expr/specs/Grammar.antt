@@ -155,7 +155,8 @@ begins_argument (cut.sign k ∷ ts) = opens_argument k
 
 -- ---- what stands in brackets
 
--- the items of a list, the entries of a map, or arguments, which all have names behind the first that has one
+-- the items of a list, the entries of a map, or arguments, which all have names behind the first
+-- that has one
 pub data Row : Type 0 where
   items : Row
   entries : Row
@@ -203,47 +204,69 @@ mutual
   pub data Spells : Level → Expr → Tokens → Type 0 where
     plain : {t : Expr} {x : Tokens} → Spells disjunction t x → Spells whole t x
     -- a if c
-    an_if : {c a : Expr} {x y : Tokens} → Spells disjunction a x → Spells disjunction c y → Spells whole (when c a) (x ++ (word (codes "if") ∷ y))
+    an_if : {c a : Expr} {x y : Tokens} → Spells disjunction a x → Spells disjunction c y
+        → Spells whole (when c a) (x ++ (word (codes "if") ∷ y))
     -- a if c else b
-    an_if_else : {c a b : Expr} {x y z : Tokens} → Spells disjunction a x → Spells disjunction c y → Spells whole b z
+    an_if_else : {c a b : Expr} {x y z : Tokens} → Spells disjunction a x → Spells disjunction c y
+        → Spells whole b z
         → Spells whole (choice c a b) (x ++ (word (codes "if") ∷ (y ++ (word (codes "else") ∷ z))))
-    chain : {k : Level} {a t : Expr} {x y : Tokens} → is_chain k ≡ true → Spells (next k) a x → Goes k a t y → Spells k t (x ++ y)
-    inverted : {t : Expr} {x : Tokens} → Spells inversion t x → Spells inversion (unary u.Not t) (word (codes "not") ∷ x)
+    chain : {k : Level} {a t : Expr} {x y : Tokens} → is_chain k ≡ true → Spells (next k) a x
+        → Goes k a t y → Spells k t (x ++ y)
+    inverted : {t : Expr} {x : Tokens} → Spells inversion t x
+        → Spells inversion (unary u.Not t) (word (codes "not") ∷ x)
     upright : {t : Expr} {x : Tokens} → Spells comparison t x → Spells inversion t x
     -- one comparison at most
-    compared : {op : BinaryOperator} {a b : Expr} {x y : Tokens} → level_of op ≡ comparison → Spells sum a x → Spells sum b y
+    compared : {op : BinaryOperator} {a b : Expr} {x y : Tokens} → level_of op ≡ comparison
+        → Spells sum a x → Spells sum b y
         → Spells comparison (binary op a b) (x ++ (operator_tokens op ++ y))
     alone : {t : Expr} {x : Tokens} → Spells sum t x → Spells comparison t x
     -- filters and tests
-    postscripts : {a t : Expr} {x y : Tokens} → Spells signed a x → Goes postscript a t y → Spells postscript t (x ++ y)
-    minus : {t : Expr} {x : Tokens} → Spells signed t x → Spells signed (unary u.Negate t) (cut.sign s.Minus ∷ x)
-    plus : {t : Expr} {x : Tokens} → Spells signed t x → Spells signed (unary u.Plus t) (cut.sign s.Plus ∷ x)
+    postscripts : {a t : Expr} {x y : Tokens} → Spells signed a x → Goes postscript a t y
+        → Spells postscript t (x ++ y)
+    minus : {t : Expr} {x : Tokens} → Spells signed t x
+        → Spells signed (unary u.Negate t) (cut.sign s.Minus ∷ x)
+    plus : {t : Expr} {x : Tokens} → Spells signed t x
+        → Spells signed (unary u.Plus t) (cut.sign s.Plus ∷ x)
     unsigned : {t : Expr} {x : Tokens} → Spells postfix t x → Spells signed t x
-    postfixes : {a t : Expr} {x y : Tokens} → Primary a x → Goes postfix a t y → Spells postfix t (x ++ y)
+    postfixes : {a t : Expr} {x y : Tokens} → Primary a x → Goes postfix a t y
+        → Spells postfix t (x ++ y)
 
   -- behind the first tree the tokens make the second of it, in the same level
   pub data Goes : Level → Expr → Expr → Tokens → Type 0 where
     stay : {k : Level} {t : Expr} → Goes k t t []
-    operated : {k : Level} {op : BinaryOperator} {a b t : Expr} {x y : Tokens} → is_chain k ≡ true → level_of op ≡ k → Spells (next k) b x → Goes k (binary op a b) t y
+    operated : {k : Level} {op : BinaryOperator} {a b t : Expr} {x y : Tokens} → is_chain k ≡ true
+        → level_of op ≡ k → Spells (next k) b x → Goes k (binary op a b) t y
         → Goes k a t (operator_tokens op ++ (x ++ y))
-    filtered : {a t : Expr} {n : Text} {ts : Exprs} {ps : Pairs} {x y : Tokens} → is_reserved n ≡ false → Arguments (ts, ps) x
-        → Goes postscript (filter a (encode_utf8_all n) ts ps) t y → Goes postscript a t (cut.sign s.Pipe ∷ cut.name n ∷ (x ++ y))
-    tested : {a t : Expr} {b : Bool} {ts : Exprs} {ps : Pairs} {x y : Tokens} → (n : Text) → names_test b n ≡ true → TestArguments (ts, ps) x
-        → Goes postscript (test a b (encode_utf8_all n) ts ps) t y → Goes postscript a t (is_tokens b ++ (cut.name n ∷ (x ++ y)))
-    attributed : {a t : Expr} {n : Text} {y : Tokens} → Goes postfix (attribute a (encode_utf8_all n)) t y → Goes postfix a t (cut.sign s.Dot ∷ cut.name n ∷ y)
+    filtered : {a t : Expr} {n : Text} {ts : Exprs} {ps : Pairs} {x y : Tokens}
+        → is_reserved n ≡ false → Arguments (ts, ps) x
+        → Goes postscript (filter a (encode_utf8_all n) ts ps) t y
+        → Goes postscript a t (cut.sign s.Pipe ∷ cut.name n ∷ (x ++ y))
+    tested : {a t : Expr} {b : Bool} {ts : Exprs} {ps : Pairs} {x y : Tokens} → (n : Text)
+        → names_test b n ≡ true → TestArguments (ts, ps) x
+        → Goes postscript (test a b (encode_utf8_all n) ts ps) t y
+        → Goes postscript a t (is_tokens b ++ (cut.name n ∷ (x ++ y)))
+    attributed : {a t : Expr} {n : Text} {y : Tokens}
+        → Goes postfix (attribute a (encode_utf8_all n)) t y
+        → Goes postfix a t (cut.sign s.Dot ∷ cut.name n ∷ y)
     indexed : {a i t : Expr} {x y : Tokens} → Spells whole i x → Goes postfix (item a i) t y
         → Goes postfix a t (cut.sign s.LeftBracket ∷ (x ++ (cut.sign s.RightBracket ∷ y)))
-    called : {a t : Expr} {ts : Exprs} {ps : Pairs} {x y : Tokens} → Holds arguments (ts, ps) x → Goes postfix (call a ts ps) t y
+    called : {a t : Expr} {ts : Exprs} {ps : Pairs} {x y : Tokens} → Holds arguments (ts, ps) x
+        → Goes postfix (call a ts ps) t y
         → Goes postfix a t (cut.sign s.LeftParen ∷ (x ++ y))
 
   pub data Primary : Expr → Tokens → Type 0 where
     a_number : {n : ℤ} → Primary (constant (number n)) (cut.number n ∷ [])
     a_text : {v : Text} → Primary (constant (text (encode_utf8_all v))) (cut.text v ∷ [])
-    a_constant : {l : Literal} {x : Text} → literal_of x ≡ Some l → Primary (constant l) (cut.name x ∷ [])
-    a_name : {x : Text} → is_reserved x ≡ false → Primary (name (encode_utf8_all x)) (cut.name x ∷ [])
-    a_group : {t : Expr} {x : Tokens} → Spells whole t x → Primary (group t) (cut.sign s.LeftParen ∷ (x ++ cut.sign s.RightParen ∷ []))
-    a_list : {ts : Exprs} {x : Tokens} → Holds items (ts, no_pairs) x → Primary (list_of ts) (cut.sign s.LeftBracket ∷ x)
-    a_map : {ps : Pairs} {x : Tokens} → Holds entries (no_exprs, ps) x → Primary (map_of ps) (cut.sign s.LeftBrace ∷ x)
+    a_constant : {l : Literal} {x : Text} → literal_of x ≡ Some l
+        → Primary (constant l) (cut.name x ∷ [])
+    a_name : {x : Text} → is_reserved x ≡ false
+        → Primary (name (encode_utf8_all x)) (cut.name x ∷ [])
+    a_group : {t : Expr} {x : Tokens} → Spells whole t x
+        → Primary (group t) (cut.sign s.LeftParen ∷ (x ++ cut.sign s.RightParen ∷ []))
+    a_list : {ts : Exprs} {x : Tokens} → Holds items (ts, no_pairs) x
+        → Primary (list_of ts) (cut.sign s.LeftBracket ∷ x)
+    a_map : {ps : Pairs} {x : Tokens} → Holds entries (no_exprs, ps) x
+        → Primary (map_of ps) (cut.sign s.LeftBrace ∷ x)
 
   -- of a filter: none, or some in parentheses
   pub data Arguments : Parts → Tokens → Type 0 where
@@ -253,16 +276,23 @@ mutual
   -- of a test: as of a filter, or one postfix form
   pub data TestArguments : Parts → Tokens → Type 0 where
     as_filter : {p : Parts} {x : Tokens} → Arguments p x → TestArguments p x
-    bare : {t : Expr} {x : Tokens} → begins_argument x ≡ true → Spells postfix t x → TestArguments (expr t no_exprs, no_pairs) x
+    bare : {t : Expr} {x : Tokens} → begins_argument x ≡ true → Spells postfix t x
+        → TestArguments (expr t no_exprs, no_pairs) x
 
-  -- a row's parts with commas between them, where one may stand behind the last, and the closing sign
+  -- a row's parts with commas between them, where one may stand behind the last, and the closing
+  -- sign
   pub data Holds : Row → Parts → Tokens → Type 0 where
     closed : {r : Row} → Holds r no_parts (cut.sign (closer r) ∷ [])
-    last : {r : Row} {k : Option Text} {t : Expr} {x : Tokens} → IsPart r k t x → Holds r (put k t no_parts) (x ++ (cut.sign (closer r) ∷ []))
-    more : {r : Row} {k : Option Text} {t : Expr} {p : Parts} {x y : Tokens} → IsPart r k t x → Holds (behind_key r k) p y → Holds r (put k t p) (x ++ (cut.sign s.Comma ∷ y))
+    last : {r : Row} {k : Option Text} {t : Expr} {x : Tokens} → IsPart r k t x
+        → Holds r (put k t no_parts) (x ++ (cut.sign (closer r) ∷ []))
+    more : {r : Row} {k : Option Text} {t : Expr} {p : Parts} {x y : Tokens} → IsPart r k t x
+        → Holds (behind_key r k) p y → Holds r (put k t p) (x ++ (cut.sign s.Comma ∷ y))
 
   pub data IsPart : Row → Option Text → Expr → Tokens → Type 0 where
-    without_key : {r : Row} {t : Expr} {x : Tokens} → takes_plain r ≡ true → Spells whole t x → IsPart r None t x
-    an_entry : {v : Text} {t : Expr} {x : Tokens} → Spells whole t x → IsPart entries (Some (encode_utf8_all v)) t (cut.text v ∷ cut.sign s.Colon ∷ x)
-    by_name : {r : Row} {n : Text} {t : Expr} {x : Tokens} → takes_names r ≡ true → is_reserved n ≡ false → Spells whole t x
+    without_key : {r : Row} {t : Expr} {x : Tokens} → takes_plain r ≡ true → Spells whole t x
+        → IsPart r None t x
+    an_entry : {v : Text} {t : Expr} {x : Tokens} → Spells whole t x
+        → IsPart entries (Some (encode_utf8_all v)) t (cut.text v ∷ cut.sign s.Colon ∷ x)
+    by_name : {r : Row} {n : Text} {t : Expr} {x : Tokens} → takes_names r ≡ true
+        → is_reserved n ≡ false → Spells whole t x
         → IsPart r (Some (encode_utf8_all n)) t (cut.name n ∷ cut.sign s.Assign ∷ x)

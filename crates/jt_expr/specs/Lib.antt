@@ -1,7 +1,6 @@
 pub mod Grammar
 pub mod Front
 pub mod Reading
-pub mod Words
 pub mod Cursor
 pub mod Elements
 pub mod Collecting

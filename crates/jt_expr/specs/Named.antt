@@ -1,5 +1,6 @@
--- Filters and tests whose names have a meaning. A filter's arguments may name filters and tests too.
-use Rattle.std.specs.Prelude.{◌≡◌, ℕ, suc, Bool, true, false, not, ◌||◌, Option, Some, None}
+-- Filters and tests whose names have a meaning. A filter's arguments may name filters and tests
+-- too.
+use Rattle.std.specs.Prelude.{ℕ, suc, Bool, true, false, not, ◌||◌, Option, Some, None}
 use Rattle.std.specs.Option.{is_some}
 use Rattle.jt_ids.specs.TestTable.{test_of_name}
 use Rattle.jt_ids.specs.FilterTable.{filter_of_name, named_at}
@@ -8,8 +9,6 @@ use Rattle.jt_ids.specs.declared.filter_id.Naming.{Naming}
 use Rattle.jt_ids.specs.declared.filter_id.Naming.TheVariants as naming
 use Rattle.jt_expr.specs.declared.named.Named.{Named}
 use Rattle.jt_expr.specs.declared.named.Named.TheVariants as n
-use Rattle.jt_expr.specs.declared.error.ExprError.{ExprError}
-use Rattle.jt_expr.specs.declared.error.ExprError.TheVariants as e
 use Rattle.jt_trees.specs.Written.{literal_text, filter_written}
 use Rattle.jt_trees.specs.Expressions.{Text, Expr, constant, name, group, list_of, map_of, attribute, item, call, filter, test, unary, binary, when, choice, Exprs, no_exprs, expr, Pairs, no_pairs, pair}
 
@@ -40,10 +39,12 @@ argument_unknown u None literal = false
 argument_unknown u (Some what) None = false
 argument_unknown u (Some what) (Some x) = unknown_naming u what x
 
--- one of a filter's arguments, from a place among its values on, names a filter or a test that there is not
+-- one of a filter's arguments, from a place among its values on, names a filter or a test that
+-- there is not
 abbrev pub arguments_unknown : Named → FilterId → ℕ → Exprs → Bool
 arguments_unknown u f place no_exprs = false
-arguments_unknown u f place (expr t ts) = argument_unknown u (named_at f place) (literal_text t) || arguments_unknown u f (suc place) ts
+arguments_unknown u f place (expr t ts) =
+    argument_unknown u (named_at f place) (literal_text t) || arguments_unknown u f (suc place) ts
 
 abbrev pub inside_unknown : Named → Option FilterId → Exprs → Bool
 inside_unknown u None ts = false
@@ -63,9 +64,13 @@ abbrev mutual
   has_unknown u (map_of ps) = pairs_have_unknown u ps
   has_unknown u (attribute a k) = has_unknown u a
   has_unknown u (item a b) = has_unknown u a || has_unknown u b
-  has_unknown u (call a ts ps) = has_unknown u a || (exprs_have_unknown u ts || pairs_have_unknown u ps)
-  has_unknown u (filter a x ts ps) = filter_unknown u x ts ps || (has_unknown u a || (exprs_have_unknown u ts || pairs_have_unknown u ps))
-  has_unknown u (test a b x ts ps) = unknown_test u x || (has_unknown u a || (exprs_have_unknown u ts || pairs_have_unknown u ps))
+  has_unknown u (call a ts ps) =
+      has_unknown u a || (exprs_have_unknown u ts || pairs_have_unknown u ps)
+  has_unknown u (filter a x ts ps) =
+      filter_unknown u x ts ps
+      || (has_unknown u a || (exprs_have_unknown u ts || pairs_have_unknown u ps))
+  has_unknown u (test a b x ts ps) =
+      unknown_test u x || (has_unknown u a || (exprs_have_unknown u ts || pairs_have_unknown u ps))
   has_unknown u (unary op a) = has_unknown u a
   has_unknown u (binary op a b) = has_unknown u a || has_unknown u b
   has_unknown u (when c a) = has_unknown u c || has_unknown u a
@@ -78,19 +83,3 @@ abbrev mutual
   pub pairs_have_unknown : Named → Pairs → Bool
   pairs_have_unknown u no_pairs = false
   pairs_have_unknown u (pair k t ps) = has_unknown u t || pairs_have_unknown u ps
-
-abbrev pub IsKnown : Expr → Type 0
-IsKnown t = (has_unknown n.Filter t ≡ false) × (has_unknown n.Test t ≡ false)
-
--- a name without a meaning stands in the tree, and a filter is blamed before each test
-abbrev pub IsBlamed : Named → Expr → Type 0
-IsBlamed n.Filter t = has_unknown n.Filter t ≡ true
-IsBlamed n.Test t = (has_unknown n.Filter t ≡ false) × (has_unknown n.Test t ≡ true)
-
--- the refusal is for such a name
-abbrev pub Blames : ExprError → Expr → Type 0
-Blames e.Syntax t = ⊥
-Blames e.TooDeep t = ⊥
-Blames e.UnknownFilter t = IsBlamed n.Filter t
-Blames e.UnknownTest t = IsBlamed n.Test t
-Blames e.NoMemory t = ⊥

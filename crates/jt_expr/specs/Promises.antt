@@ -1,5 +1,5 @@
--- What a reader of a form promises of the tokens in front of it. `Form a x` says that the tokens x are the form, namely a, and `Ends v`
--- that nothing at the front of v goes on with it.
+-- What a reader of a form promises of the tokens in front of it. `Form a x` says that the tokens x
+-- are the form, namely a, and `Ends v` that nothing at the front of v goes on with it.
 use Rattle.std.specs.Prelude.{◌≡◌, ℕ, ◌<◌, ◌≤◌, max, [], ◌∷◌, ◌++◌, codes, Result, Ok, Err}
 use Rattle.jt_scan.specs.declared.segment.Sign.TheVariants as s
 use Rattle.jt_scan.specs.Cut as cut
@@ -29,17 +29,22 @@ level_of_form f.Postfix = postfix
 abbrev pub Leads : {B : Type 0} → (B → Tokens → Type 0) → B → Tokens → Tokens → Type 0
 Leads Form b ts rest = (x : Tokens) × (ts ≡ x ++ rest) × Form b x
 
--- What is answered stands in front, with at most so many levels, and nothing else does that ends there. A refusal holds of each
--- that ends there: none does, or it has more levels.
-abbrev pub Reads : {A B : Type 0} → (A → B) → (B → Tokens → Type 0) → (Tokens → Type 0) → (B → ℕ) → ℕ → Tokens → Result A ExprError → Tokens → Type 0
-Reads {B = B} view Form Ends levels limit ts (Ok a) rest = Leads Form (view a) ts rest × (levels (view a) ≤ limit) × ((b : B) (v : Tokens) → Leads Form b ts v → Ends v → (b ≡ view a) × (v ≡ rest))
-Reads {B = B} view Form Ends levels limit ts (Err e.Syntax) rest = (b : B) (v : Tokens) → Leads Form b ts v → Ends v → ⊥
-Reads {B = B} view Form Ends levels limit ts (Err e.TooDeep) rest = (b : B) (v : Tokens) → Leads Form b ts v → Ends v → limit < levels b
-Reads view Form Ends levels limit ts (Err e.UnknownFilter) rest = ⊥
-Reads view Form Ends levels limit ts (Err e.UnknownTest) rest = ⊥
+-- What is answered stands in front, with at most so many levels, and nothing else does that ends
+-- there. A refusal holds of each that ends there: none does, or it has more levels.
+abbrev pub Reads : {A B : Type 0} → (A → B) → (B → Tokens → Type 0) → (Tokens → Type 0) → (B → ℕ)
+    → ℕ → Tokens → Result A ExprError → Tokens → Type 0
+Reads {B = B} view Form Ends levels limit ts (Ok a) rest =
+    Leads Form (view a) ts rest
+    × (levels (view a) ≤ limit)
+    × ((b : B) (v : Tokens) → Leads Form b ts v → Ends v → (b ≡ view a) × (v ≡ rest))
+Reads {B = B} view Form Ends levels limit ts (Err e.Syntax) rest =
+    (b : B) (v : Tokens) → Leads Form b ts v → Ends v → ⊥
+Reads {B = B} view Form Ends levels limit ts (Err e.TooDeep) rest =
+    (b : B) (v : Tokens) → Leads Form b ts v → Ends v → limit < levels b
 Reads view Form Ends levels limit ts (Err e.NoMemory) rest = Unit {0}
 
--- an expression of the level ends before these tokens in a tag: there are none, a comma stands there, or `if` behind what is no inline if
+-- an expression of the level ends before these tokens in a tag: there are none, a comma stands
+-- there, or `if` behind what is no inline if
 pub data EndsAt : Level → Tokens → Type 0 where
   the_end : {k : Level} → EndsAt k []
   a_comma : {k : Level} {ts : Tokens} → EndsAt k (cut.sign s.Comma ∷ ts)

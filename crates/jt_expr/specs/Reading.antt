@@ -1,4 +1,5 @@
--- What only private clauses cite: a reader of expressions from lists of tokens, which allows a number of levels.
+-- What only private clauses cite: a reader of expressions from lists of tokens, which allows a
+-- number of levels.
 use Rattle.std.specs.Prelude.{ℕ, zero, suc, Bool, [], ◌∷◌, length, drop, codes, encode_utf8_all, Option, Some, None, Result, Ok, Err, if◌then◌else◌, nat_le}
 use Rattle.jt_scan.specs.declared.segment.Sign.{Sign}
 use Rattle.jt_scan.specs.declared.segment.Sign.TheVariants as s
@@ -54,7 +55,10 @@ name_at ts = word_at ts >>= unreserved
 
 -- the operator in front, and what follows it
 abbrev pub not_in : Tokens → Option (BinaryOperator × Tokens)
-not_in ts = if says (codes "not") ts then (if says (codes "in") (drop 1 ts) then Some (o.NotIn, drop 1 (drop 1 ts)) else None) else None
+not_in ts =
+    if says (codes "not") ts
+    then (if says (codes "in") (drop 1 ts) then Some (o.NotIn, drop 1 (drop 1 ts)) else None)
+    else None
 
 unfoldable pub operator : Level → Tokens → Option (BinaryOperator × Tokens)
 operator disjunction ts = if says (codes "or") ts then Some (o.Or, drop 1 ts) else None
@@ -88,7 +92,10 @@ entry_key _ = None
 
 -- a name and `=`
 unfoldable pub keyword : Tokens → Option (Text × Tokens)
-keyword (cut.name x ∷ ts) = if is_reserved x then None else (if sees s.Assign ts then Some (encode_utf8_all x, drop 1 ts) else None)
+keyword (cut.name x ∷ ts) =
+    if is_reserved x
+    then None
+    else (if sees s.Assign ts then Some (encode_utf8_all x, drop 1 ts) else None)
 keyword _ = None
 
 -- the key of a part, and what follows it
@@ -113,7 +120,8 @@ module _ (inner : Level → Reader Expr) (n : ℕ) where
 
   abbrev pub part_by : Row → Tokens → Option (Text × Tokens) → Outcome (Option Text × Expr)
   part_by r ts (Some (k, u)) = inner whole u >>= λ t v. Ok ((Some k, t), v)
-  part_by r ts None = if takes_plain r then (inner whole ts >>= λ t v. Ok ((None, t), v)) else Err syntax
+  part_by r ts None =
+      if takes_plain r then (inner whole ts >>= λ t v. Ok ((None, t), v)) else Err syntax
 
   unfoldable pub part : Row → Reader (Option Text × Expr)
   part r ts = part_by r ts (key_at r ts)
@@ -124,7 +132,8 @@ module _ (inner : Level → Reader Expr) (n : ℕ) where
   row (suc turns) r ts =
       if sees (closer r) ts then Ok (no_parts, drop 1 ts)
       else (part r ts >>= λ p u.
-      if sees s.Comma u then (row turns (behind_key r p.0) (drop 1 u) >>= λ q v. Ok (put p.0 p.1 q, v))
+      if sees s.Comma u then
+      (row turns (behind_key r p.0) (drop 1 u) >>= λ q v. Ok (put p.0 p.1 q, v))
       else (expect (closer r) u >>= λ _ v. Ok (put p.0 p.1 no_parts, v)))
 
   -- ---- primaries
@@ -151,9 +160,18 @@ module _ (inner : Level → Reader Expr) (n : ℕ) where
   -- a tree with one attribute, item or call more, or none
   unfoldable pub postfix_step : Expr → Reader (Option Expr)
   postfix_step left ts =
-      if sees s.Dot ts then (word_at (drop 1 ts) >>= λ x v. cap (levels (attribute left (encode_utf8_all x))) n (Some (attribute left (encode_utf8_all x))) v)
-      else if sees s.LeftBracket ts then (inner whole (drop 1 ts) >>= λ i v. expect s.RightBracket v >>= λ _ w. cap (levels (item left i)) n (Some (item left i)) w)
-      else if sees s.LeftParen ts then (row (length (drop 1 ts)) arguments (drop 1 ts) >>= λ p v. cap (levels (call left p.0 p.1)) n (Some (call left p.0 p.1)) v)
+      if sees s.Dot ts then (word_at (drop 1 ts)
+      >>= λ x v.
+      cap (levels (attribute left (encode_utf8_all x))) n
+      (Some (attribute left (encode_utf8_all x))) v)
+      else
+      if sees s.LeftBracket ts then (inner whole (drop 1 ts)
+      >>= λ i v.
+      expect s.RightBracket v
+      >>= λ _ w. cap (levels (item left i)) n (Some (item left i)) w)
+      else
+      if sees s.LeftParen ts then (row (length (drop 1 ts)) arguments (drop 1 ts)
+      >>= λ p v. cap (levels (call left p.0 p.1)) n (Some (call left p.0 p.1)) v)
       else Ok (None, ts)
 
   unfoldable pub read_postfix : Reader Expr
@@ -168,17 +186,35 @@ module _ (inner : Level → Reader Expr) (n : ℕ) where
   -- ---- filters and tests
 
   unfoldable pub arguments_at : Reader Parts
-  arguments_at ts = if sees s.LeftParen ts then row (length (drop 1 ts)) arguments (drop 1 ts) else Ok (no_parts, ts)
+  arguments_at ts =
+      if sees s.LeftParen ts
+      then row (length (drop 1 ts)) arguments (drop 1 ts)
+      else Ok (no_parts, ts)
 
   unfoldable pub test_arguments : Reader Parts
-  test_arguments ts = if begins_argument ts then (inner postfix ts >>= λ t v. Ok ((expr t no_exprs, no_pairs), v)) else arguments_at ts
+  test_arguments ts =
+      if begins_argument ts
+      then (inner postfix ts >>= λ t v. Ok ((expr t no_exprs, no_pairs), v))
+      else arguments_at ts
 
   unfoldable pub filter_step : Expr → Reader (Option Expr)
-  filter_step left ts = name_at ts >>= λ x v. arguments_at v >>= λ p w. cap (levels (filter left (encode_utf8_all x) p.0 p.1)) n (Some (filter left (encode_utf8_all x) p.0 p.1)) w
+  filter_step left ts =
+      name_at ts
+      >>= λ x v.
+      arguments_at v
+      >>= λ p w.
+      cap (levels (filter left (encode_utf8_all x) p.0 p.1)) n
+      (Some (filter left (encode_utf8_all x) p.0 p.1)) w
 
   -- with the word `not` in front, or without
   unfoldable pub test_step : Bool → Expr → Reader (Option Expr)
-  test_step b left ts = word_at (past b ts) >>= λ x v. test_arguments v >>= λ p w. cap (levels (test left b (encode_utf8_all x) p.0 p.1)) n (Some (test left b (encode_utf8_all x) p.0 p.1)) w
+  test_step b left ts =
+      word_at (past b ts)
+      >>= λ x v.
+      test_arguments v
+      >>= λ p w.
+      cap (levels (test left b (encode_utf8_all x) p.0 p.1)) n
+      (Some (test left b (encode_utf8_all x) p.0 p.1)) w
 
   -- a tree under one filter or test more, or none
   unfoldable pub postscript_step : Expr → Reader (Option Expr)
@@ -193,9 +229,11 @@ module _ (inner : Level → Reader Expr) (n : ℕ) where
   -- ---- operators
 
   -- a tree as the left operand of one operator more, or none
-  abbrev pub chain_by : Reader Expr → Expr → Tokens → Option (BinaryOperator × Tokens) → Outcome (Option Expr)
+  abbrev pub chain_by : Reader Expr → Expr → Tokens → Option (BinaryOperator × Tokens)
+      → Outcome (Option Expr)
   chain_by operand left ts None = Ok (None, ts)
-  chain_by operand left ts (Some (op, v)) = operand v >>= λ b w. cap (levels (binary op left b)) n (Some (binary op left b)) w
+  chain_by operand left ts (Some (op, v)) =
+      operand v >>= λ b w. cap (levels (binary op left b)) n (Some (binary op left b)) w
 
   unfoldable pub chain_step : Level → Reader Expr → Expr → Reader (Option Expr)
   chain_step k operand left ts = chain_by operand left ts (operator k ts)
@@ -218,13 +256,17 @@ module _ (inner : Level → Reader Expr) (n : ℕ) where
 
   abbrev pub compare_by : Expr → Tokens → Option (BinaryOperator × Tokens) → Outcome Expr
   compare_by left ts None = Ok (left, ts)
-  compare_by left ts (Some (op, v)) = read_sum v >>= λ b w. cap (levels (binary op left b)) n (binary op left b) w
+  compare_by left ts (Some (op, v)) =
+      read_sum v >>= λ b w. cap (levels (binary op left b)) n (binary op left b) w
 
   unfoldable pub read_comparison : Reader Expr
   read_comparison ts = read_sum ts >>= λ left v. compare_by left v (operator comparison v)
 
   unfoldable pub read_inversion : Reader Expr
-  read_inversion ts = if says (codes "not") ts then (inner inversion (drop 1 ts) >>= λ t v. Ok (unary u.Not t, v)) else read_comparison ts
+  read_inversion ts =
+      if says (codes "not") ts
+      then (inner inversion (drop 1 ts) >>= λ t v. Ok (unary u.Not t, v))
+      else read_comparison ts
 
   abbrev pub read_conjunction : Reader Expr
   read_conjunction = read_chain conjunction read_inversion
@@ -237,12 +279,14 @@ module _ (inner : Level → Reader Expr) (n : ℕ) where
   -- behind the condition
   unfoldable pub else_part : Expr → Expr → Reader Expr
   else_part a c ts =
-      if says (codes "else") ts then (inner whole (drop 1 ts) >>= λ b v. cap (levels (choice c a b)) n (choice c a b) v)
+      if says (codes "else") ts then
+      (inner whole (drop 1 ts) >>= λ b v. cap (levels (choice c a b)) n (choice c a b) v)
       else cap (levels (when c a)) n (when c a) ts
 
   -- behind the value
   unfoldable pub if_part : Expr → Reader Expr
-  if_part a ts = if says (codes "if") ts then (read_disjunction (drop 1 ts) >>= else_part a) else Ok (a, ts)
+  if_part a ts =
+      if says (codes "if") ts then (read_disjunction (drop 1 ts) >>= else_part a) else Ok (a, ts)
 
   unfoldable pub read_whole : Reader Expr
   read_whole ts = read_disjunction ts >>= if_part

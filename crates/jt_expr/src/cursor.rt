@@ -1,26 +1,34 @@
 //! A cursor over the tokens of a tag.
 
-ghost use Rattle.std.specs.Prelude.{◌≡◌, length};
-ghost use Rattle.jt_expr.specs.Words.{letters_of};
+ghost use Rattle.std.specs.Prelude.{◌≡◌, length, map};
+ghost use Rattle.jt_scan.specs.View.{token_view};
+ghost use Rattle.jt_scan.specs.Words.{letters_of};
 ghost use Rattle.jt_expr.specs.Front as front;
 ghost use Rattle.jt_expr.specs.Reading as reading;
 ghost use Rattle.jt_expr.specs.Grammar as grammar;
 ghost use Rattle.jt_expr.specs.Cursor.{ahead, Takes, TakesSign, TakesAName};
-ghost use Rattle.jt_expr.specs.Gives.{level_of_chain, Operates, TakesName, TakesText, GivesWord};
+ghost use Rattle.jt_expr.specs.Gives.{level_of_chain, Operates, OperatesAt, TakesName, TakesText, GivesWord};
 
 use crate::error::ExprError;
 use crate::rows::ChainLevel;
-use crate::words::{is_operand, is_reserved, is_word};
-use jt_scan::{Sign, Token};
+use crate::words::{is_operand, is_reserved};
+use jt_scan::{Sign, Token, is_word};
 use jt_trees::BinaryOperator;
 
 /// The tokens that are still to be read.
 #[derive(Drop)]
 pub struct Cursor<'a> {
-    pub rest: &'a [Token<'a>],
+    rest: &'a [Token<'a>],
 }
 
 impl<'a> Cursor<'a> {
+    /// All the tokens of a tag.
+    pub fn new(tokens: &'a [Token<'a>]) -> Cursor<'a>
+        ensures { ahead result ≡ map token_view tokens.now }
+    {
+        Cursor { rest: tokens }
+    }
+
     /// How many tokens there are.
     pub fn left(&self) -> usize
         ensures { result ≡ length (ahead self.now) }
@@ -163,8 +171,7 @@ impl<'a> Cursor<'a> {
 
     /// An operator of the level.
     pub(crate) fn operator(&mut self, level: ChainLevel) -> Option<BinaryOperator>
-        ensures { Operates (reading.operator (level_of_chain level) (ahead self.old))
-            (ahead self.old) result (ahead self.new) }
+        ensures { OperatesAt (level_of_chain level) self.old result self.new }
     {
         match level {
             ChainLevel::Disjunction => self.or_operator(),
@@ -179,8 +186,7 @@ impl<'a> Cursor<'a> {
     /// `or`
     #[tactic(auto, unfolding(crate::specs::Reading::operator))]
     fn or_operator(&mut self) -> Option<BinaryOperator>
-        ensures { Operates (reading.operator grammar.disjunction (ahead self.old)) (ahead self.old)
-            result (ahead self.new) }
+        ensures { OperatesAt grammar.disjunction self.old result self.new }
     {
         if self.eat_word("or") {
             Some(BinaryOperator::Or)
@@ -192,8 +198,7 @@ impl<'a> Cursor<'a> {
     /// `and`
     #[tactic(auto, unfolding(crate::specs::Reading::operator))]
     fn and_operator(&mut self) -> Option<BinaryOperator>
-        ensures { Operates (reading.operator grammar.conjunction (ahead self.old)) (ahead self.old)
-            result (ahead self.new) }
+        ensures { OperatesAt grammar.conjunction self.old result self.new }
     {
         if self.eat_word("and") {
             Some(BinaryOperator::And)
@@ -205,8 +210,7 @@ impl<'a> Cursor<'a> {
     /// `==` and its like, `in` and `not in`
     #[tactic(auto, unfolding(crate::specs::Reading::operator))]
     pub(crate) fn comparison(&mut self) -> Option<BinaryOperator>
-        ensures { Operates (reading.operator grammar.comparison (ahead self.old)) (ahead self.old)
-            result (ahead self.new) }
+        ensures { OperatesAt grammar.comparison self.old result self.new }
     {
         if self.eat(Sign::Equal) {
             Some(BinaryOperator::Equal)
@@ -245,8 +249,7 @@ impl<'a> Cursor<'a> {
     /// `+` and `-`
     #[tactic(auto, unfolding(crate::specs::Reading::operator))]
     fn sum_operator(&mut self) -> Option<BinaryOperator>
-        ensures { Operates (reading.operator grammar.sum (ahead self.old)) (ahead self.old) result
-            (ahead self.new) }
+        ensures { OperatesAt grammar.sum self.old result self.new }
     {
         if self.eat(Sign::Plus) {
             Some(BinaryOperator::Add)
@@ -260,8 +263,7 @@ impl<'a> Cursor<'a> {
     /// `~`
     #[tactic(auto, unfolding(crate::specs::Reading::operator))]
     fn concatenation_operator(&mut self) -> Option<BinaryOperator>
-        ensures { Operates (reading.operator grammar.concatenation (ahead self.old))
-            (ahead self.old) result (ahead self.new) }
+        ensures { OperatesAt grammar.concatenation self.old result self.new }
     {
         if self.eat(Sign::Tilde) {
             Some(BinaryOperator::Concatenate)
@@ -273,8 +275,7 @@ impl<'a> Cursor<'a> {
     /// `*`, `//` and `%`
     #[tactic(auto, unfolding(crate::specs::Reading::operator))]
     fn product_operator(&mut self) -> Option<BinaryOperator>
-        ensures { Operates (reading.operator grammar.product (ahead self.old)) (ahead self.old)
-            result (ahead self.new) }
+        ensures { OperatesAt grammar.product self.old result self.new }
     {
         if self.eat(Sign::Times) {
             Some(BinaryOperator::Multiply)
@@ -290,8 +291,7 @@ impl<'a> Cursor<'a> {
     /// `**`
     #[tactic(auto, unfolding(crate::specs::Reading::operator))]
     fn power_operator(&mut self) -> Option<BinaryOperator>
-        ensures { Operates (reading.operator grammar.power (ahead self.old)) (ahead self.old) result
-            (ahead self.new) }
+        ensures { OperatesAt grammar.power self.old result self.new }
     {
         if self.eat(Sign::Power) {
             Some(BinaryOperator::Power)

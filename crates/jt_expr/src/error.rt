@@ -1,25 +1,15 @@
 //! Why tokens are no expression.
 
 use std::alloc::{AllocError, AllocFailed};
-use thiserror::Error;
 
-/// Why tokens are no expression.
-#[derive(Clone, Copy, Debug, Drop, Error, PartialEq, Eq)]
+/// Why tokens are no expression. Who reads a tag shows it, with the tag's line.
+#[derive(Clone, Copy, Debug, Drop, PartialEq, Eq)]
 pub enum ExprError {
     /// No tree is spelled so.
-    #[error("P1 Syntax")]
     Syntax,
     /// Each tree that is spelled so has more levels than are allowed.
-    #[error("P2 TooDeep")]
     TooDeep,
-    /// A filter has no meaning.
-    #[error("P3 UnknownFilter")]
-    UnknownFilter,
-    /// A test has no meaning.
-    #[error("P4 UnknownTest")]
-    UnknownTest,
     /// A growth was refused.
-    #[error("P5 NoMemory")]
     NoMemory,
 }
 

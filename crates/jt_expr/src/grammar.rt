@@ -1,7 +1,7 @@
-//! The rules of the grammar. They take the reader of what lies deeper as a parameter, so that each is
-//! proved by itself.
+//! The rules of the grammar. They take the reader of what lies deeper as a parameter, so that each
+//! is proved by itself.
 
-ghost use Rattle.std.specs.Prelude.{◌≡◌, ◌≤◌, ◌<◌, ◌^◌, suc, max, length, true, false, codes, encode_utf8_all, IfOk};
+ghost use Rattle.std.specs.Prelude.{◌≡◌, ◌≤◌, ◌<◌, ◌^◌, suc, length, codes, encode_utf8_all, IfOk};
 ghost use Rattle.std.specs.Str.{chars};
 ghost use Rattle.jt_trees.specs.Expressions as trees;
 ghost use Rattle.jt_trees.specs.ExpressionView.{is_negated, expr_view, exprs_view, pairs_view};
@@ -16,7 +16,7 @@ ghost use Rattle.jt_expr.specs.Promises.{Reads, EndsAt, OpensNone, parts_levels}
 ghost use Rattle.jt_expr.specs.Promises.{level_of_form, parts_view};
 ghost use Rattle.jt_expr.specs.Gives.{Gives, GivesParts, GivesKeyed, GivesElement, GivesKey};
 ghost use Rattle.jt_expr.specs.Gives.{Nests, Around, Fits, GivesStep, row_view};
-ghost use Rattle.jt_expr.specs.Gives.{level_of_chain, operand_of};
+ghost use Rattle.jt_expr.specs.Gives.{by_rule, Follows, FollowsStep, level_of_chain, operand_of};
 ghost use Rattle.jt_scan.specs.declared.segment.Sign.TheVariants as sign;
 
 use crate::cursor::Cursor;
@@ -228,9 +228,8 @@ impl<F: Fn(Global, &mut Cursor<'_>, usize, Form) -> Result<Part, ExprError>> Gra
     /// What stands in brackets, up to the closing sign.
     fn row(&self, cursor: &mut Cursor<'_>, first: Row) -> Result<Parts, ExprError>
         requires { Nests F.Fn self.now.below self.now.inner }
-        ensures { GivesParts (spec.row (spec.read self.now.below) (suc self.now.below)
-            (length (ahead cursor.old)) (row_view first) (ahead cursor.old)) result
-            (ahead cursor.new) }
+        ensures { GivesParts (by_rule spec.row self.now.below (length (ahead cursor.old))
+            (row_view first) (ahead cursor.old)) result (ahead cursor.new) }
     {
         let mut found = Parts::new(self.alloc);
         let mut row = first;
@@ -297,9 +296,8 @@ impl<F: Fn(Global, &mut Cursor<'_>, usize, Form) -> Result<Part, ExprError>> Gra
 
     /// A constant or a name.
     fn word(&self, cursor: &mut Cursor<'_>, word: &str) -> Result<Part, ExprError>
-        ensures { Gives (spec.word_by (spec.read self.now.below) (suc self.now.below)
-            (grammar.literal_of (chars word.now)) (chars word.now) (ahead cursor.old)) result
-            (ahead cursor.new) }
+        ensures { Gives (by_rule spec.word_by self.now.below (grammar.literal_of (chars word.now))
+            (chars word.now) (ahead cursor.old)) result (ahead cursor.new) }
     {
         if let Some(literal) = literal_of(word) {
             return Ok(Part {
@@ -320,9 +318,7 @@ impl<F: Fn(Global, &mut Cursor<'_>, usize, Form) -> Result<Part, ExprError>> Gra
     #[tactic(auto, unfolding(crate::specs::Reading::primary, crate::specs::Reading::opened))]
     fn primary(&self, cursor: &mut Cursor<'_>) -> Result<Part, ExprError>
         requires { Nests F.Fn self.now.below self.now.inner }
-        ensures { Gives
-            (spec.primary (spec.read self.now.below) (suc self.now.below) (ahead cursor.old)) result
-            (ahead cursor.new) }
+        ensures { Follows spec.primary self.now.below cursor.old result cursor.new }
     {
         match cursor.take() {
             Some(Token::Name(word)) => self.word(cursor, word),
@@ -348,9 +344,7 @@ impl<F: Fn(Global, &mut Cursor<'_>, usize, Form) -> Result<Part, ExprError>> Gra
     #[tactic(auto, unfolding(crate::specs::Reading::postfix_step, crate::specs::Reading::expect))]
     fn postfix_step(&self, cursor: &mut Cursor<'_>, left: Part) -> Result<Step, ExprError>
         requires { Nests F.Fn self.now.below self.now.inner }
-        ensures { GivesStep (spec.postfix_step (spec.read self.now.below) (suc self.now.below)
-            (expr_view left.expr.value) (ahead cursor.old)) (expr_view left.expr.value) result
-            (ahead cursor.new) }
+        ensures { FollowsStep spec.postfix_step self.now.below left cursor.old result cursor.new }
     {
         if cursor.eat(Sign::Dot) {
             let name = cursor.word()?;
@@ -373,9 +367,7 @@ impl<F: Fn(Global, &mut Cursor<'_>, usize, Form) -> Result<Part, ExprError>> Gra
     #[tactic(auto, unfolding(crate::specs::Reading::read_postfix))]
     fn postfix(&self, cursor: &mut Cursor<'_>) -> Result<Part, ExprError>
         requires { Nests F.Fn self.now.below self.now.inner }
-        ensures { Gives
-            (spec.read_postfix (spec.read self.now.below) (suc self.now.below) (ahead cursor.old))
-            result (ahead cursor.new) }
+        ensures { Follows spec.read_postfix self.now.below cursor.old result cursor.new }
     {
         let mut left = self.primary(cursor)?;
         for _turn in 0..self.below + 1 {
@@ -410,9 +402,7 @@ impl<F: Fn(Global, &mut Cursor<'_>, usize, Form) -> Result<Part, ExprError>> Gra
     #[tactic(auto, unfolding(crate::specs::Reading::read_signed))]
     fn signed(&self, cursor: &mut Cursor<'_>) -> Result<Part, ExprError>
         requires { Nests F.Fn self.now.below self.now.inner }
-        ensures { Gives
-            (spec.read_signed (spec.read self.now.below) (suc self.now.below) (ahead cursor.old))
-            result (ahead cursor.new) }
+        ensures { Follows spec.read_signed self.now.below cursor.old result cursor.new }
     {
         if cursor.eat(Sign::Minus) {
             self.prefixed(cursor, UnaryOperator::Negate, Form::Signed)
@@ -427,9 +417,8 @@ impl<F: Fn(Global, &mut Cursor<'_>, usize, Form) -> Result<Part, ExprError>> Gra
     #[tactic(auto, unfolding(crate::specs::Reading::arguments_at))]
     fn arguments(&self, cursor: &mut Cursor<'_>) -> Result<Parts, ExprError>
         requires { Nests F.Fn self.now.below self.now.inner }
-        ensures { GivesParts
-            (spec.arguments_at (spec.read self.now.below) (suc self.now.below) (ahead cursor.old))
-            result (ahead cursor.new) }
+        ensures { GivesParts (by_rule spec.arguments_at self.now.below (ahead cursor.old)) result
+            (ahead cursor.new) }
     {
         if cursor.eat(Sign::LeftParen) {
             self.row(cursor, Row::Arguments)
@@ -442,9 +431,8 @@ impl<F: Fn(Global, &mut Cursor<'_>, usize, Form) -> Result<Part, ExprError>> Gra
     #[tactic(auto, unfolding(crate::specs::Reading::test_arguments))]
     fn test_arguments(&self, cursor: &mut Cursor<'_>) -> Result<Parts, ExprError>
         requires { Nests F.Fn self.now.below self.now.inner }
-        ensures { GivesParts
-            (spec.test_arguments (spec.read self.now.below) (suc self.now.below) (ahead cursor.old))
-            result (ahead cursor.new) }
+        ensures { GivesParts (by_rule spec.test_arguments self.now.below (ahead cursor.old)) result
+            (ahead cursor.new) }
     {
         if !cursor.begins_argument() {
             return self.arguments(cursor);
@@ -459,9 +447,7 @@ impl<F: Fn(Global, &mut Cursor<'_>, usize, Form) -> Result<Part, ExprError>> Gra
     #[tactic(auto, unfolding(crate::specs::Reading::filter_step, crate::specs::Reading::name_at))]
     fn filter_step(&self, cursor: &mut Cursor<'_>, left: Part) -> Result<Step, ExprError>
         requires { Nests F.Fn self.now.below self.now.inner }
-        ensures { GivesStep (spec.filter_step (spec.read self.now.below) (suc self.now.below)
-            (expr_view left.expr.value) (ahead cursor.old)) (expr_view left.expr.value) result
-            (ahead cursor.new) }
+        ensures { FollowsStep spec.filter_step self.now.below left cursor.old result cursor.new }
     {
         let name = cursor.word()?;
         if is_reserved(name) {
@@ -489,9 +475,7 @@ impl<F: Fn(Global, &mut Cursor<'_>, usize, Form) -> Result<Part, ExprError>> Gra
     #[tactic(auto, unfolding(crate::specs::Reading::postscript_step))]
     fn postscript_step(&self, cursor: &mut Cursor<'_>, left: Part) -> Result<Step, ExprError>
         requires { Nests F.Fn self.now.below self.now.inner }
-        ensures { GivesStep (spec.postscript_step (spec.read self.now.below) (suc self.now.below)
-            (expr_view left.expr.value) (ahead cursor.old)) (expr_view left.expr.value) result
-            (ahead cursor.new) }
+        ensures { FollowsStep spec.postscript_step self.now.below left cursor.old result cursor.new }
     {
         if cursor.eat(Sign::Pipe) {
             self.filter_step(cursor, left)
@@ -506,8 +490,7 @@ impl<F: Fn(Global, &mut Cursor<'_>, usize, Form) -> Result<Part, ExprError>> Gra
     #[tactic(auto, unfolding(crate::specs::Reading::read_postscript))]
     fn postscript(&self, cursor: &mut Cursor<'_>) -> Result<Part, ExprError>
         requires { Nests F.Fn self.now.below self.now.inner }
-        ensures { Gives (spec.read_postscript (spec.read self.now.below) (suc self.now.below)
-            (ahead cursor.old)) result (ahead cursor.new) }
+        ensures { Follows spec.read_postscript self.now.below cursor.old result cursor.new }
     {
         let mut left = self.signed(cursor)?;
         for _turn in 0..self.below + 1 {
@@ -563,9 +546,8 @@ impl<F: Fn(Global, &mut Cursor<'_>, usize, Form) -> Result<Part, ExprError>> Gra
     #[tactic(auto, unfolding(crate::specs::Reading::read_chain))]
     fn chain(&self, cursor: &mut Cursor<'_>, level: ChainLevel) -> Result<Part, ExprError>
         requires { Nests F.Fn self.now.below self.now.inner }
-        ensures { Gives (spec.read_chain (spec.read self.now.below) (suc self.now.below)
-            (level_of_chain level) (operand_of self.now.below level) (ahead cursor.old)) result
-            (ahead cursor.new) }
+        ensures { Gives (by_rule spec.read_chain self.now.below (level_of_chain level)
+            (operand_of self.now.below level) (ahead cursor.old)) result (ahead cursor.new) }
     {
         let mut left = self.operand(cursor, level)?;
         for _turn in 0..self.below + 1 {
@@ -582,8 +564,7 @@ impl<F: Fn(Global, &mut Cursor<'_>, usize, Form) -> Result<Part, ExprError>> Gra
     #[tactic(auto, unfolding(crate::specs::Reading::read_comparison, crate::specs::Reading::read_at))]
     fn comparison(&self, cursor: &mut Cursor<'_>) -> Result<Part, ExprError>
         requires { Nests F.Fn self.now.below self.now.inner }
-        ensures { Gives (spec.read_comparison (spec.read self.now.below) (suc self.now.below)
-            (ahead cursor.old)) result (ahead cursor.new) }
+        ensures { Follows spec.read_comparison self.now.below cursor.old result cursor.new }
     {
         let left = self.chain(cursor, ChainLevel::Sum)?;
         let Some(op) = cursor.comparison() else {
@@ -598,9 +579,7 @@ impl<F: Fn(Global, &mut Cursor<'_>, usize, Form) -> Result<Part, ExprError>> Gra
     #[tactic(auto, unfolding(crate::specs::Reading::read_inversion))]
     fn inversion(&self, cursor: &mut Cursor<'_>) -> Result<Part, ExprError>
         requires { Nests F.Fn self.now.below self.now.inner }
-        ensures { Gives
-            (spec.read_inversion (spec.read self.now.below) (suc self.now.below) (ahead cursor.old))
-            result (ahead cursor.new) }
+        ensures { Follows spec.read_inversion self.now.below cursor.old result cursor.new }
     {
         if !cursor.eat_word("not") {
             return self.comparison(cursor);
@@ -617,9 +596,8 @@ impl<F: Fn(Global, &mut Cursor<'_>, usize, Form) -> Result<Part, ExprError>> Gra
         condition: Part,
     ) -> Result<Part, ExprError>
         requires { Nests F.Fn self.now.below self.now.inner }
-        ensures { Gives (spec.else_part (spec.read self.now.below) (suc self.now.below)
-            (expr_view value.expr.value) (expr_view condition.expr.value) (ahead cursor.old)) result
-            (ahead cursor.new) }
+        ensures { Gives (by_rule spec.else_part self.now.below (expr_view value.expr.value)
+            (expr_view condition.expr.value) (ahead cursor.old)) result (ahead cursor.new) }
     {
         if !cursor.eat_word("else") {
             return self.when(condition, value);
@@ -646,9 +624,7 @@ impl<F: Fn(Global, &mut Cursor<'_>, usize, Form) -> Result<Part, ExprError>> Gra
     #[tactic(auto, unfolding(crate::specs::Reading::read_whole, crate::specs::Reading::read_at))]
     fn whole(&self, cursor: &mut Cursor<'_>) -> Result<Part, ExprError>
         requires { Nests F.Fn self.now.below self.now.inner }
-        ensures { Gives
-            (spec.read_whole (spec.read self.now.below) (suc self.now.below) (ahead cursor.old))
-            result (ahead cursor.new) }
+        ensures { Follows spec.read_whole self.now.below cursor.old result cursor.new }
     {
         let value = self.chain(cursor, ChainLevel::Disjunction)?;
         self.if_part(cursor, value)

@@ -117,7 +117,8 @@ pub(crate) fn make_test(
     keywords: Vec<(String, Expr)>,
 ) -> Result<Box<Expr>, AllocError>
     ensures { IfOk result (λ e. expr_view e.value
-        ≡ trees.test (expr_view value.value) (is_negated polarity) (encode_utf8_all (chars text.now))
+        ≡ trees.test (expr_view value.value) (is_negated polarity)
+        (encode_utf8_all (chars text.now))
         (exprs_view arguments.items) (pairs_view keywords.items)) }
 {
     let name = copy_of(alloc, text)?;

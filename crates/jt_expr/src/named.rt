@@ -1,12 +1,11 @@
 //! Filters and tests whose names have a meaning, those too that a filter's arguments name.
 
-ghost use Rattle.std.specs.Prelude.{◌≡◌, MatchResult};
+ghost use Rattle.std.specs.Prelude.{◌≡◌};
 ghost use Rattle.jt_ids.specs.FilterTable.{named_at};
 ghost use Rattle.jt_trees.specs.ExpressionView.{expr_view, exprs_view, pairs_view};
 ghost use Rattle.jt_trees.specs.Written.{literal_text};
 ghost use Rattle.jt_expr.specs.Named as spec;
 
-use crate::error::ExprError;
 use jt_ids::{FilterId, Naming, TestId};
 use jt_trees::{Expr, filter_of, literal_text};
 
@@ -15,24 +14,6 @@ use jt_trees::{Expr, filter_of, literal_text};
 pub enum Named {
     Filter,
     Test,
-}
-
-/// Tells whether each filter and each test of an expression has a meaning.
-///
-/// # Errors
-///
-/// `UnknownFilter` where a filter has none, else `UnknownTest` where a test has none.
-pub fn check_names(expr: &Expr) -> Result<(), ExprError>
-    ensures { MatchResult result (λ u. spec.IsKnown (expr_view expr.now))
-        (λ e. spec.Blames e (expr_view expr.now)) }
-{
-    if has_unknown(expr, Named::Filter) {
-        return Err(ExprError::UnknownFilter);
-    }
-    if has_unknown(expr, Named::Test) {
-        return Err(ExprError::UnknownTest);
-    }
-    Ok(())
 }
 
 /// Whether a test has the name.

@@ -38,9 +38,6 @@ pub fn expression(alloc: Global, tokens: &[Token<'_>], limit: u8) -> Result<Expr
         → (t : trees.Expr)
         → Spells whole t (map token_view tokens.now)
         → limit < levels t }
-    // No other refusal is answered, but for want of memory.
-    ensures others { (IsErrOf result ExprError.UnknownFilter → ⊥)
-        × (IsErrOf result ExprError.UnknownTest → ⊥) }
 {
     read_all(alloc, tokens, limit)
 }
@@ -50,7 +47,7 @@ fn read_all(alloc: Global, tokens: &[Token<'_>], limit: u8) -> Result<Expr, Expr
     ensures { Reads expr_view (Spells whole) (λ v. v ≡ []) levels limit
         (map token_view tokens.now) result [] }
 {
-    let mut rest = Cursor { rest: tokens };
+    let mut rest = Cursor::new(tokens);
     let Part { expr, .. } = grammar::read(alloc, &mut rest, limit, Form::Whole)?;
     if rest.left() > 0 {
         return Err(ExprError::Syntax);

@@ -1,11 +1,11 @@
 //! Words of the language.
 
-ghost use Rattle.std.specs.Prelude.{◌≡◌, option_map, bytes_eq};
+ghost use Rattle.std.specs.Prelude.{◌≡◌, option_map};
 ghost use Rattle.std.specs.Str.{chars};
-ghost use Rattle.jt_expr.specs.Words.{letters_of};
 ghost use Rattle.jt_expr.specs.Grammar as grammar;
 ghost use Rattle.jt_trees.specs.ExpressionView.{literal_view};
 
+use jt_scan::is_word;
 use jt_trees::Literal;
 
 /// What a word is that stands for itself.
@@ -47,11 +47,4 @@ pub(crate) fn is_operand(word: &str) -> bool
     ensures { result ≡ grammar.is_operand (chars word.now) }
 {
     literal_of(word).is_some() || !is_reserved(word)
-}
-
-/// Whether a word is the known one.
-pub(crate) fn is_word(word: &str, known: &str) -> bool
-    ensures { result ≡ bytes_eq (chars word.now) (letters_of known.now) }
-{
-    word == known
 }

@@ -1,6 +1,6 @@
 -- What is spelled is read again: the tools.
-use Rattle.std.proofs.Common.{◌≡◌, ℕ, ◌<◌, true, false, ltb, List, [], ◌∷◌, ◌++◌, length, map, Result, Ok, refl, sym, ap, ◌∙◌, arith, append_assoc}
-use Rattle.std.specs.Int.{Width, byte_len, to_le_bytes}
+use Rattle.std.proofs.Common.{◌≡◌, ℕ, ◌<◌, true, false, ltb, List, [], ◌∷◌, ◌++◌, length, map, Result, Ok, refl, sym, ap, ◌∙◌, arith, append_assoc, rules}
+use Rattle.std.specs.Int.{Width, to_le_bytes}
 use Rattle.std.specs.List.{flat_map, AllByRecursion}
 use Rattle.std.specs.Str.{is_utf8}
 use Rattle.std.specs.Prelude.{IsUtf8}
@@ -13,10 +13,7 @@ use Rattle.jt_image.specs.Reading.{◌>>=◌, number_at, text_at, many_at, each_
 use Rattle.jt_image.proofs.Found.{Read, IsWide, AllGood}
 
 pub number_again : (w : Width) (limit : ℕ) → IsWide w limit → (n : ℕ) (rest : List ℕ) → n < limit → number_at w (to_le_bytes w n ++ rest) ≡ Ok (n, rest)
-number_again w limit wide n rest lt =
-    let len = wide.len n in
-    let long : ltb (length (to_le_bytes w n ++ rest)) (byte_len w) ≡ false = le-ltb _ _ (omega (arith, len, length-append (to_le_bytes w n) rest)) in
-    rw (long, take_at (to_le_bytes w n) rest (byte_len w) len, drop_at (to_le_bytes w n) rest (byte_len w) len, wide.again n lt) refl
+number_again w limit wide n rest lt = search (arith, rules, le-ltb, length-append, take_at, drop_at)
 
 pub text_again : (t rest : List ℕ) → IsUtf8 t → text_at (length t) (t ++ rest) ≡ Ok (t, rest)
 unfolding text_at

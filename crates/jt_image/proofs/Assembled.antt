@@ -1,5 +1,5 @@
 -- When parts are a code that has a spelling.
-use Rattle.std.proofs.Common.{◌≡◌, ℕ, ◌+◌, ◌-◌, ◌*◌, min, ◌<◌, ◌≤◌, ◌^◌, Bool, true, false, List, [], ◌∷◌, ◌++◌, length, Option, Some, refl, ap, subst, ◌∙◌, arith, rules}
+use Rattle.std.proofs.Common.{◌≡◌, ℕ, ◌+◌, ◌-◌, ◌*◌, min, ◌<◌, ◌≤◌, ◌^◌, Bool, true, false, List, [], ◌∷◌, ◌++◌, length, Option, Some, refl, ap, subst, arith, rules}
 use Rattle.std.specs.Prelude.{◌&&◌, ◌↔◌, not, nat_lt, IsUtf8}
 use Rattle.std.specs.Int.{w16, w32, w64, to_le_bytes}
 use Rattle.std.specs.List.{flat_map, AllByRecursion}
@@ -76,9 +76,7 @@ are_named globals [] short slots some = tt
 are_named globals (n ∷ ns) short slots some = (record { slot = slots.0; some = some.0; fits = short.0.fits; utf8 = short.0.utf8 }, are_named globals ns short.1 slots.1 some.1)
 
 pub all_named : (globals : ℕ) (ns : List Name) → AllByRecursion IsShort ns → AreInOrder globals ns → AllGood (IsNamed globals) [] ns
-all_named globals ns short h =
-    let all = are_named globals ns short h.slots h.some in
-    named globals [] ns all h.ascend h.distinct (all_clear ns) (first_starts globals ns all)
+all_named globals ns short h = search (arith, rules, are_named, named, all_clear, first_starts)
 
 -- the test of a name behind others
 abbrev pub is_next : ℕ → List Name → Name → Bool
@@ -96,9 +94,7 @@ pub next_named : (globals : ℕ) (before : List Name) (n : Name) → IsShort n �
 next_named globals before n short e = search (arith, rules, and_true, ltb-true, not_true)
 
 pub named_next : (globals : ℕ) (before : List Name) (n : Name) → IsNamed globals before n → is_next globals before n ≡ true
-named_next globals before n h =
-    let below : nat_lt n.slot globals ≡ true = lt-ltb _ _ h.slot.below in
-    rw (below, h.slot.free, h.next.follows) refl
+named_next globals before n h = search (arith, rules, lt-ltb)
 
 pub short_names : (ns : List Name) → AllByRecursion (λ n. length n.text ≤ max_count) ns → AllByRecursion (λ n. IsUtf8 n.text) ns → AllByRecursion IsShort ns
 short_names ns fits utf8 = all_both (λ n. length n.text ≤ max_count) (λ n. IsUtf8 n.text) IsShort ns (λ n short text. record { fits = omega (arith, short); utf8 = text }) fits utf8
@@ -124,10 +120,7 @@ all_next_texts ts short h = good_templates ts (are_templates ts short h.some) h.
 pub limits_from : (k : Code) (names constants places both tables : ℕ) → names ≡ min (length (flat_map name_bytes k.names)) (2 ^ 64 - 1) → constants ≡ min (length (flat_map constant_bytes k.constants)) (2 ^ 64 - 1) → places ≡ min (length (place_bytes k.version k.templates k.spots)) (2 ^ 64 - 1) → both ≡ min (names + constants) (2 ^ 64 - 1) → tables ≡ min (both + places) (2 ^ 64 - 1)
     → length k.names ≤ max_count → length k.constants ≤ max_count → length k.units ≤ max_count → length k.templates ≤ max_count → total_len k.units ≤ max_instructions → AllByRecursion (λ n. length n.text ≤ max_count) k.names → AllByRecursion (λ t. length t ≤ max_count) k.templates → AllByRecursion (λ u. u.locals ≤ max_locals) k.units
     → (14 + tables + 8 * (length k.units + total_len k.units) ≤ max_bytes) ↔ KeepsLimits k
-limits_from k names constants places both tables a b p u t count_names count_constants count_units count_templates instructions texts templates locals = (
-  λ le. record { names = count_names; texts = texts; constants = count_constants; units = count_units; locals = locals; instructions = instructions; templates = count_templates; template_texts = templates; bytes = omega (arith, le, a, b, p, u, t, spelled_len k) },
-  λ h. omega (arith, h.bytes, a, b, p, u, t, spelled_len k),
-)
+limits_from k names constants places both tables a b p u t count_names count_constants count_units count_templates instructions texts templates locals = search (arith, rules, spelled_len)
 
 -- a constant of an image that is not too long fits its field
 constant_fits : (c : Constant) → length (constant_bytes c) ≤ max_bytes → IsHeld c → IsConstant c
@@ -135,9 +128,7 @@ constant_fits a0 le h = search (arith, rules, text_len)
 
 constants_fit : (cs : List Constant) → length (flat_map constant_bytes cs) ≤ max_bytes → AllByRecursion IsHeld cs → AllByRecursion IsConstant cs
 constants_fit [] le h = tt
-constants_fit (c ∷ cs) le h =
-    let whole : length (flat_map constant_bytes (c ∷ cs)) ≡ length (constant_bytes c) + length (flat_map constant_bytes cs) = ap length (flat_map-cons constant_bytes c cs) ∙ length-append (constant_bytes c) (flat_map constant_bytes cs) in
-    (constant_fits c (omega (arith, le, whole)) h.0, constants_fit cs (omega (arith, le, whole)) h.1)
+constants_fit (c ∷ cs) le h = search (arith, rules, flat_map-cons, length-append, constant_fits, constants_fit cs)
 
 sections_fit : (us : List Section) → AllByRecursion IsWritable us → AllByRecursion IsUnitInOrder us → AllByRecursion (λ u. u.locals ≤ max_locals) us → AllByRecursion IsSection us
 sections_fit [] written order locals = tt
@@ -148,9 +139,7 @@ first_from [] h = absurd h
 first_from (u ∷ us) h = record { entry = u; is = refl; emits = h.0; plain = h.1 }
 
 pub entry_from : (k : Code) → Starts k.units → HasEntry k
-entry_from k h =
-    let first = first_from k.units h in
-    record { entry = first.entry; is = first.is; emits = first.emits; plain = first.plain }
+entry_from k h = search (arith, rules, first_from)
 
 -- what the types of the parts say
 pub record AreHeld (k : Code) : Type 0 where

@@ -1,20 +1,19 @@
 -- No run of an image of version 1 has a fault with a place.
-use Rattle.std.proofs.Common.{◌≡◌, ℕ, zero, suc, ◌+◌, List, [], take, Option, Some, None, refl, ap, subst, ◌∙◌, arith, rules}
+use Rattle.std.proofs.Common.{◌≡◌, ℕ, zero, suc, ◌+◌, List, [], take, Option, Some, None, refl, ap, ◌∙◌, arith, rules}
 use Rattle.std.specs.Prelude.{slice_get}
 use Rattle.std.specs.Option.{option_and_then}
 use Rattle.jt_value.specs.Pairs.{Pairs}
 use Rattle.jt_value.specs.declared.fault.Fault.{Fault}
 use Rattle.jt_image.specs.declared.instruction.Instruction.{Instruction}
-use Rattle.jt_image.specs.declared.version.Version.{Version}
 use Rattle.jt_image.specs.declared.version.Version.TheVariants as version
 use Rattle.jt_image.specs.Code.{Section, Spot, Code}
-use Rattle.jt_image.specs.IsCode.{total_len, IsPlaced, IsCode}
+use Rattle.jt_image.specs.IsCode.{total_len, IsCode}
 use Rattle.jt_value.specs.Place.{Place}
 use Rattle.jt_image.specs.Places.{place_of, place_at}
 use Rattle.jt_image.specs.Config as config
 use Rattle.jt_image.specs.Config.{Budget, Config}
-use Rattle.jt_image.specs.Step.{strict, cost, fetch}
-use Rattle.jt_image.specs.Run.{Next, Goes, Ends, Wrong, spends, placed, next_at, next, passed, start, then_goes, after, RunFrom, Run}
+use Rattle.jt_image.specs.Step.{strict, cost}
+use Rattle.jt_image.specs.Run.{Next, Ends, spends, placed, next_at, next, start, then_goes, after, RunFrom, Run}
 
 no_place : (k : Code) → k.spots ≡ [] → (u p : ℕ) → place_at k u p ≡ None
 no_place k e u p = ap (λ (ss : List Spot). option_and_then (place_of k.templates) (slice_get ss (total_len (take u k.units) + p))) e
@@ -28,9 +27,7 @@ module _ (k : Code) (bare : k.spots ≡ []) (f : Fault) (q : Option Place) where
   bare_at (Some (u, i)) c e = placed_by (place_at k c.machine.unit c.machine.point) (spends (cost i c.machine.state) (strict k u i c.machine) c.left) f q e ∙ no_place k bare c.machine.unit c.machine.point
 
   bare_then : (n : ℕ) (c : Config) (x : Next) → next k c ≡ x → then_goes x (after k n) ≡ Ends (config.fault f q) → ((d : Config) → after k n d ≡ Ends (config.fault f q) → q ≡ None) → q ≡ None
-  bare_then n c (Goes d) is e h = h d e
-  bare_then n c (Ends o) is e h = bare_at (fetch k c.machine.unit c.machine.point) c (is ∙ e)
-  bare_then n c Wrong is e h = absurd cc
+  bare_then n c a2 is e h = search (arith, rules, bare_at)
 
   bare_after : (n : ℕ) (c : Config) → after k n c ≡ Ends (config.fault f q) → q ≡ None
   bare_after zero c e = absurd cc
@@ -41,6 +38,4 @@ module _ (k : Code) (bare : k.spots ≡ []) (f : Fault) (q : Option Place) where
   bare_from None x b r = bare_after r.0 (start k x b) r.1
 
 pub no_places : (k : Code) → IsCode k → k.version ≡ version.One → (x : Pairs) (b : Budget) (f : Fault) (q : Option Place) → Run k x b (config.fault f q) → q ≡ None
-no_places k h one x b f q r =
-    let both = subst (λ (v : Version). IsPlaced v (total_len k.units) k.templates k.spots) one h.placed in
-    bare_from k both.1 f q (passed b x k.names) x b r
+no_places k h one x b f q r = search (arith, rules, bare_from)

@@ -71,10 +71,7 @@ unequal a b ne = grind (arith, nat_tests)
 
 still_clear : (before : List Name) (n : Name) (ns : List Name) → IsClear before ns → AllByRecursion (λ m. n.slot ≢ m.slot) ns → IsClear (before ++ n ∷ []) ns
 still_clear before n [] clear ne = tt
-still_clear before n (m ∷ ns) clear ne =
-    let free : is_used m.slot before ≡ false = clear.0 in
-    let other : eqb n.slot m.slot ≡ false = unequal n.slot m.slot ne.0 in
-    (is_used-push m.slot before n ∙ rw (free, other) refl, still_clear before n ns clear.1 ne.1)
+still_clear before n (m ∷ ns) clear ne = search (arith, rules, unequal, is_used-push, still_clear before n ns clear.1 ne.1)
 
 next_starts : (before : List Name) (n : Name) (ns : List Name) → Ascend (n ∷ ns) → Starts (before ++ n ∷ []) ns
 next_starts before n [] h = tt
@@ -283,26 +280,17 @@ IsPlainFirst first [] = Unit {0}
 IsPlainFirst first (u ∷ us) = IsPlain first u.parameters × IsPlain first u.kind
 
 not_first : (h : Header) (before : List Header) (us : List Section) → IsPlainFirst (is_first (before ++ h ∷ [])) us
-not_first h before [] = tt
-not_first h before (u ∷ us) =
-    let e : is_first (before ++ h ∷ []) ≡ false = is_first-push before h in
-    (λ f. absurd (cc), λ f. absurd (cc))
+not_first h before a2 = search (arith, rules, is_first-push)
 
 headers_good : (before : List Header) (us : List Section) → AllByRecursion IsSection us → header_total before + total_len us ≤ max_instructions → IsPlainFirst (is_first before) us → AllGood good_header before (map head_of us)
 headers_good before [] all small plain = tt
-headers_good before (u ∷ us) all small plain = (
-  record { parameters = all.0.parameters; kind = all.0.kind; locals = all.0.locals; within = all.0.within; plain = plain.0; emits = plain.1; fits = omega (arith, small) },
-  headers_good (before ++ head_of u ∷ []) us all.1 (omega (arith, small, header_total-push before (head_of u))) (not_first (head_of u) before us),
-)
+headers_good before (u ∷ us) all small plain = search (arith, rules, headers_good (before ++ head_of u ∷ []) us all.1 (omega (arith, small, header_total-push before (head_of u))) (not_first (head_of u) before us), head_of, header_total-push, not_first)
 
 plain_first : (us : List Section) → HasFirst us → IsPlainFirst true us
 plain_first a0 h = search (arith, rules)
 
 some_units : (us : List Section) → HasFirst us → 0 < length us
-some_units [] h = absurd (none h.entry h.is)
-  where
-    none : (u : Section) → (let o : Option Section = None in o ≡ Some u) → ⊥
-    none u e = cc
+some_units [] h = search (arith, rules)
 some_units (u ∷ us) h = omega arith
 
 units_again : (us : List Section) (rest : List ℕ) → AreUnits us → units_at (to_le_bytes w16 (length us) ++ (flat_map header_bytes us ++ (flat_map code_bytes us ++ rest))) ≡ Ok (us, rest)

@@ -1,5 +1,5 @@
 -- An instruction whose eight bytes are there, read at once.
-use Rattle.std.proofs.Common.{◌≡◌, ℕ, zero, suc, List, [], ◌∷◌, ◌++◌, length, get_or, Some, Ok, refl, sym, ap, ◌∙◌, arith, rules}
+use Rattle.std.proofs.Common.{◌≡◌, ℕ, List, [], ◌∷◌, ◌++◌, length, get_or, Some, Ok, refl, sym, ap, ◌∙◌, arith, rules}
 use Rattle.std.specs.Int.{w16, w32, from_le_bytes, to_le_bytes}
 use Rattle.jt_image.specs.declared.instruction.Instruction.{Instruction}
 use Rattle.jt_image.specs.declared.wire.Instr.{Instr}
@@ -25,9 +25,7 @@ eight (a ∷ b ∷ c ∷ d ∷ e ∷ f ∷ g ∷ h ∷ []) len = refl
 eight _ len = absurd (omega arith)
 
 b_fits : (front : List ℕ) → IsBytes front → IsBytes (b_of front)
-b_fits front fits zero = fits 2
-b_fits front fits (suc zero) = fits 3
-b_fits front fits (suc (suc i)) = omega arith
+b_fits front fits a2 = search (arith, rules)
 
 c_fits : (front : List ℕ) → IsBytes front → IsBytes (c_of front)
 c_fits front fits a2 = search (arith, rules)

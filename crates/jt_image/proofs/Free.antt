@@ -1,5 +1,5 @@
 -- Runs without a budget: a budget changes nothing of a run that it does not cut off, and each run that ends has a budget.
-use Rattle.std.proofs.Common.{◌≡◌, ℕ, zero, suc, ◌+◌, ◌≤◌, Bool, true, false, List, [], ◌∷◌, Option, Some, None, refl, sym, ap, subst, ◌∙◌, arith, if◌then◌else◌, rules}
+use Rattle.std.proofs.Common.{◌≡◌, ℕ, zero, suc, ◌+◌, ◌≤◌, Bool, true, false, List, [], ◌∷◌, Option, Some, None, refl, sym, ap, subst, ◌∙◌, arith, rules}
 use Rattle.std.specs.Prelude.{nat_lt}
 use Rattle.std.proofs.lemmas.Bool.Decides.{nat_tests}
 use Rattle.jt_value.specs.Tree as tree
@@ -15,7 +15,7 @@ use Rattle.jt_image.specs.Config.{Budget, Outcome, Caller, Machine, Config}
 use Rattle.jt_image.specs.Step.{Demand, Action, goes_on, ends, faulty, wrong, action, strict, cost, fetch}
 use Rattle.jt_image.specs.Run.{Next, Goes, Ends, spared, unless, spends, placed, next_at, limit_of, first_of, limit_of_named, passed, start, then_goes, after, Ending, RunFrom, Run}
 use Rattle.jt_image.specs.Enough.{AtLeast, Enough}
-use Rattle.jt_image.specs.FreeRun.{Free, Finished, Failed, Stuck, Going, on_action, exec_at, exec, start_machine}
+use Rattle.jt_image.specs.FreeRun.{Free, Finished, Failed, Stuck, Going, on_action, exec, start_machine}
 use Rattle.jt_image.proofs.Safe.{IsFit, IsFineAction, IsReady, ready}
 
 abbrev pub strict_at : Code → Option (Section × Instruction) → Machine → (Machine → Free) → Free
@@ -51,16 +51,10 @@ passes : (b : Bool) (l : config.Limit) (n : Next) (o : Free) → IsMeant o → u
 passes a0 l n a3 h e = search (arith, rules)
 
 text_is : (t : List ℕ) (o : Free) → IsMeant o → Ends (config.text t) ≡ Ends (outcome_of o) → Finished t ≡ o
-text_is t (Finished s) h e = cc
-text_is t (Failed f z) h e = absurd cc
-text_is t Stuck h e = absurd h
-text_is t Going h e = absurd h
+text_is t a1 h e = search (arith, rules)
 
 fault_is : (f : Fault) (z : Option Place) (o : Free) → IsMeant o → Ends (config.fault f z) ≡ Ends (outcome_of o) → Failed f z ≡ o
-fault_is f z (Finished s) h e = absurd cc
-fault_is f z (Failed g y) h e = cc
-fault_is f z Stuck h e = absurd h
-fault_is f z Going h e = absurd h
+fault_is f z a2 h e = search (arith, rules)
 
 erased_step : (n : ℕ) (z : Option Place) (a : Action) (b : Budget) (go : Config → Next) (free : Machine → Free) (o : Free) → IsMeant o → ((m : Machine) (b : Budget) → go (on_machine m b) ≡ Ends (outcome_of o) → free m ≡ o)
     → then_goes (placed z (spends n a b)) go ≡ Ends (outcome_of o) → on_action z a free ≡ o
@@ -82,9 +76,7 @@ erased_step n z (goes_on m d) b go free o h rest e = through (nat_lt b.fuel n) (
     through false false false true t e' = spent_is config.size e'
     through false false false false true e' = spent_is config.nesting e'
     through false false false false false e' = rest m (spared n d b) e'
-erased_step n z (ends t) b go free o h rest e = search (arith, rules, text_is, passes)
-erased_step n z (faulty f) b go free o h rest e = search (arith, rules, fault_is, passes)
-erased_step n z wrong b go free o h rest e = absurd cc
+erased_step n z a2 b go free o h rest e = search (arith, rules, text_is, passes, fault_is)
 
 erased_at : (k : Code) (q : Option (Section × Instruction)) (m : Machine) (b : Budget) (go : Config → Next) (free : Machine → Free) (o : Free) → IsMeant o → ((m : Machine) (b : Budget) → go (on_machine m b) ≡ Ends (outcome_of o) → free m ≡ o)
     → then_goes (next_at k q (on_machine m b)) go ≡ Ends (outcome_of o) → strict_at k q m free ≡ o
@@ -137,10 +129,7 @@ enough k (suc n) m o h e = enough_at k (fetch k m.unit m.point) m (after k n) (e
 -- ---- the context's test lets every large enough budget through
 
 limit_passes : (b : Budget) (t : Tree) → tree.size t ≤ b.size → tree.nesting t ≤ b.nesting → limit_of b t ≡ None
-limit_passes b t s n =
-    let p : nat_lt b.size (tree.size t) ≡ false = grind (arith, nat_tests) in
-    let q : nat_lt b.nesting (tree.nesting t) ≡ false = grind (arith, nat_tests) in
-    ap (λ x. if x then Some config.size else if nat_lt b.nesting (tree.nesting t) then Some config.nesting else None) p ∙ ap (λ x. if x then Some config.nesting else None) q
+limit_passes b t s n = search (arith, rules, nat_tests)
 
 named_fits : (o : Option Tree) → (a : Budget) × ((b : Budget) → AtLeast a b → limit_of_named b o ≡ None)
 named_fits None = (only_fuel 0, λ b at. refl)
@@ -190,16 +179,10 @@ same_action : (k : Code) (u : Section) (i : Instruction) (m : Machine) (es : Lis
 same_action k u i m es above fine = search (arith, rules)
 
 same_on : (k : Code) (z : Option Place) (es : List config.Entry) (above : List Caller) (a : Action) (go go' : Machine → Free) → IsFineAction k es above a → ((m : Machine) → IsFit k m → go m ≡ go' m) → on_action z a go ≡ on_action z a go'
-same_on k z es above (goes_on m d) go go' fine h = h m fine.0
-same_on k z es above (ends t) go go' fine h = refl
-same_on k z es above (faulty f) go go' fine h = refl
-same_on k z es above wrong go go' fine h = absurd fine
+same_on k z es above a4 go go' fine h = search (arith, rules)
 
 same_at : (k : Code) (n : ℕ) (m : Machine) (r : IsReady k m) → ((m : Machine) → IsFit k m → exec_strict k n m ≡ exec k n m) → exec_strict k (suc n) m ≡ exec k (suc n) m
-same_at k n m r h =
-    let left : exec_strict k (suc n) m ≡ on_action (place_at k m.unit m.point) (strict k r.unit r.instruction m) (exec_strict k n) = ap (λ q. strict_at k q m (exec_strict k n)) r.is in
-    let right : exec k (suc n) m ≡ on_action (place_at k m.unit m.point) (action k r.unit r.instruction m) (exec k n) = ap (λ q. exec_at k q m (exec k n)) r.is in
-    left ∙ same_on k (place_at k m.unit m.point) m.state.entries m.callers (strict k r.unit r.instruction m) (exec_strict k n) (exec k n) r.fine h ∙ ap (λ a. on_action (place_at k m.unit m.point) a (exec k n)) (same_action k r.unit r.instruction m m.state.entries m.callers r.fine) ∙ sym right
+same_at k n m r h = search (arith, rules, same_on, same_action)
 
 pub same_exec : (k : Code) (n : ℕ) (m : Machine) → IsFit k m → exec_strict k n m ≡ exec k n m
 same_exec k zero m g = refl

@@ -1,5 +1,5 @@
 -- The laws of codes and their runs.
-use Rattle.std.proofs.Common.{ℕ, ◌≤◌, List, [], ◌∷◌, sym, ◌∙◌, arith, rules}
+use Rattle.std.proofs.Common.{ℕ, ◌≤◌, List, [], ◌∷◌, ◌∙◌, arith, rules}
 use Rattle.std.specs.List.{AllByRecursion}
 use Rattle.std.proofs.lemmas.List.{length-map}
 use Rattle.jt_value.specs.Pairs.{Pairs}
@@ -32,9 +32,7 @@ module _ (k : Code) (whole : IsCode k) (typed : IsTyped k) where
   fit x = (start_good k whole typed x (only_fuel 0)).fit
 
   comes : (x : Pairs) (b : Budget) (o : Free) → IsMeant o → Run k x b (outcome_of o) → ComesTo k x o
-  comes x b o meant r =
-      let e = run_erased k x b o meant r in
-      (e.0, sym (same_exec k e.0 (start_machine k x) (fit x)) ∙ e.1)
+  comes x b o meant r = search (arith, rules, run_erased, same_exec, fit)
 
   enough : (x : Pairs) (o : Free) → IsMeant o → ComesTo k x o → Enough k x (outcome_of o)
   enough x o meant e = enough_run k x e.0 o meant (same_exec k e.0 (start_machine k x) (fit x) ∙ e.1)

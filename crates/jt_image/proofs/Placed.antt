@@ -1,8 +1,7 @@
 -- Instructions that stay bytes: how many there are, and the one at a point.
-use Rattle.std.proofs.Common.{◌≡◌, ℕ, zero, suc, ◌+◌, ◌*◌, ◌<◌, ◌≤◌, ◌^◌, List, [], ◌∷◌, ◌++◌, length, drop, Option, Some, None, Result, Ok, Err, refl, sym, ap, subst, ◌∙◌, arith, append_assoc}
+use Rattle.std.proofs.Common.{◌≡◌, ℕ, zero, suc, ◌+◌, ◌*◌, ◌<◌, ◌≤◌, ◌^◌, List, [], ◌∷◌, ◌++◌, length, drop, Option, Some, None, Result, Ok, Err, refl, sym, ap, subst, ◌∙◌, arith, append_assoc, rules}
 use Rattle.std.specs.Prelude.{slice_get}
 use Rattle.std.specs.Option.{IsSome}
-use Rattle.std.specs.Int.{w32, from_le_bytes, to_le_bytes}
 use Rattle.std.specs.List.{flat_map, AllByRecursion}
 use Rattle.std.proofs.lemmas.List.Concat.{flat_map-cons}
 use Rattle.jt_image.specs.declared.error.ImageError.{ImageError}
@@ -22,9 +21,7 @@ abbrev Read : Type 0
 Read = Result (List Instruction × List ℕ) ImageError
 
 pub is_answered : {A : Type 0} (r : Result (List A × List ℕ) ImageError) (is : List A) (rest : List ℕ) → r ≡ Ok (is, rest) → r ≡ Ok (read_or [] r, rest)
-is_answered {A} r is rest e =
-    let back : is ≡ read_or [] r = sym (ap (λ (q : Result (List A × List ℕ) ImageError). read_or [] q) e) in
-    e ∙ ap (λ (js : List A). let o : Result (List A × List ℕ) ImageError = Ok (js, rest) in o) back
+is_answered {A} r is rest e = search (arith, rules)
 
 pub place_gives : (h : Header) (bytes rest : List ℕ) → instructions_at h.len bytes ≡ Ok (instructions_in h.len bytes, rest) → section_at h bytes ≡ Ok (section_of h (instructions_in h.len bytes), rest)
 unfolding section_at
@@ -47,9 +44,7 @@ all_push P (y ∷ ys) x h p = (h.0, all_push P ys x h.1 p)
 
 -- the fields that were written
 head_fields : (w : Instr) (t : List ℕ) → w.b < 2 ^ 16 → w.c < 2 ^ 32 → fields_in (wire_bytes w ++ t) ≡ w
-head_fields w t b c =
-    ap (λ (n : ℕ). wire_at w.op w.a n (from_le_bytes w32 (to_le_bytes w32 w.c))) (wide16.again w.b b)
-    ∙ ap (λ (n : ℕ). wire_at w.op w.a w.b n) (wide32.again w.c c)
+head_fields w t b c = search (arith, rules, wire_at, wide16, wide32)
 
 known_one : Result Instruction ImageError → Option Instruction
 known_one (Ok i) = Some i
@@ -103,9 +98,7 @@ placed n p bytes fits len lt = by_answer (instructions_at n bytes) (many_found (
 -- ---- spots that stay bytes
 
 spot_fields : (s : Spot) (t : List ℕ) → s.template < 2 ^ 16 → s.line < 2 ^ 32 → spot_in (spot_bytes s ++ t) ≡ s
-spot_fields s t a b =
-    ap (λ (n : ℕ). let r : Spot = record { template = n; line = from_le_bytes w32 (to_le_bytes w32 s.line) } in r) (wide16.again s.template a)
-    ∙ ap (λ (n : ℕ). let r : Spot = record { template = s.template; line = n } in r) (wide32.again s.line b)
+spot_fields s t a b = search (arith, rules, wide16, wide32)
 
 small_line : (template line : ℕ) → IsLine template line → line < 2 ^ 32
 small_line zero line h = omega (arith, h)
@@ -116,9 +109,7 @@ abbrev pub IsSpotAt : List ℕ → ℕ → Option Spot → Type 0
 IsSpotAt bytes i o = (6 * i + 6 ≤ length bytes) × (o ≡ Some (spot_in (drop (6 * i) bytes)))
 
 spot_front : (templates : ℕ) (s : Spot) (t : List ℕ) → templates < 2 ^ 16 → IsSpot templates s → IsSpotAt (spot_bytes s ++ t) 0 (Some s)
-spot_front templates s t small h =
-    let len : length (spot_bytes s ++ t) ≡ suc (suc (suc (suc (suc (suc (length t)))))) = refl in
-    (omega (arith, len), ap (λ (x : Spot). let o : Option Spot = Some x in o) (sym (spot_fields s t (omega (arith, h.template, small)) (small_line s.template s.line h.line))))
+spot_front templates s t small h = search (arith, rules, spot_fields, small_line)
 
 spot_on : (s : Spot) (t : List ℕ) (i : ℕ) (o : Option Spot) → IsSpotAt t i o → IsSpotAt (spot_bytes s ++ t) (suc i) o
 spot_on s t i o h =

@@ -1,5 +1,5 @@
 -- Names, texts and headers in the reader, as the definitions see them.
-use Rattle.std.proofs.Common.{◌≡◌, ℕ, suc, ◌+◌, ◌-◌, ◌++◌, false, true, ◌<◌, ◌≤◌, Bool, take, drop, ltb, ◌≢◌, Ok, Err, List, [], ◌∷◌, length, get_or, set, refl, map, sym, ap, ◌∙◌, arith, nat_cmp, rules}
+use Rattle.std.proofs.Common.{◌≡◌, ℕ, ◌+◌, ◌-◌, ◌++◌, false, true, ◌<◌, ◌≤◌, Bool, take, drop, ltb, ◌≢◌, Ok, Err, List, [], ◌∷◌, length, get_or, set, refl, map, sym, ap, ◌∙◌, arith, nat_cmp, rules}
 use Rattle.std.specs.Prelude.{◌==◌, ◌||◌}
 use Rattle.std.specs.Str.{IsUtf8, is_utf8}
 use Rattle.std.proofs.lemmas.Str.{is_utf8-from_IsUtf8, IsUtf8-from_is_utf8}
@@ -13,9 +13,7 @@ use Rattle.jt_image.specs.Code as code
 use Rattle.jt_image.specs.Reading.{Header, IsTable, is_used, may_follow, may_follow_texts, text_at, header_total, is_first}
 
 last_of : {A : Type 0} (m l : A) (ns : List A) (d : A) → get_or (m ∷ l ∷ ns) (length (m ∷ l ∷ ns) - 1) d ≡ get_or (l ∷ ns) (length (l ∷ ns) - 1) d
-last_of m l ns d =
-    let e : length (m ∷ l ∷ ns) - 1 ≡ suc (length (l ∷ ns) - 1) = omega arith in
-    rw e refl
+last_of m l ns d = search (arith, rules)
 
 -- what may follow names is told by the last of them, however they are held
 pub may_follow_last : {A : Type 0} (view : A → code.Name) (ns : List A) (d : A) (t : List ℕ) → 0 < length ns → may_follow (map view ns) t ≡ is_lt (slice_cmp nat_cmp (view (get_or ns (length ns - 1) d)).text t)

@@ -29,18 +29,14 @@ ends_within k zero c g lt = absurd (omega arith)
 ends_within k (suc m) c g lt = ends_at k m c.left.fuel (depth_of c) (next k c) lt (step_fine k c g) (λ d e less. ends_within k m d e less)
 
 not_wrong_at : (k : Code) (n fuel depth : ℕ) (x : Next) → IsFineStep k fuel depth x → ((d : Config) → IsGood k d → after k n d ≢ Wrong) → then_goes x (after k n) ≢ Wrong
-not_wrong_at k n fuel depth (Goes d) f h = h d f.0
-not_wrong_at k n fuel depth (Ends o) f h = λ e. absurd cc
-not_wrong_at k n fuel depth Wrong f h = absurd f
+not_wrong_at k n fuel depth a4 f h = search (arith, rules)
 
 pub never_wrong : (k : Code) (n : ℕ) (c : Config) → IsGood k c → after k n c ≢ Wrong
 never_wrong k zero c g = λ e. absurd cc
 never_wrong k (suc n) c g = not_wrong_at k n c.left.fuel (depth_of c) (next k c) (step_fine k c g) (λ d e. never_wrong k n d e)
 
 good_at : (k : Code) (n fuel depth : ℕ) (x : Next) (d : Config) → IsFineStep k fuel depth x → ((c : Config) → IsGood k c → after k n c ≡ Goes d → IsGood k d) → then_goes x (after k n) ≡ Goes d → IsGood k d
-good_at k n fuel depth (Goes c) d f h e = h c f.0 e
-good_at k n fuel depth (Ends o) d f h e = absurd cc
-good_at k n fuel depth Wrong d f h e = absurd f
+good_at k n fuel depth a4 d f h e = search (arith, rules)
 
 -- what a good configuration leads to is good
 pub good_after : (k : Code) (n : ℕ) (c d : Config) → IsGood k c → after k n c ≡ Goes d → IsGood k d
@@ -48,9 +44,7 @@ good_after k zero c d g e = let same : c ≡ d = cc in subst (IsGood k) same g
 good_after k (suc n) c d g e = good_at k n c.left.fuel (depth_of c) (next k c) d (step_fine k c g) (λ c' g' e'. good_after k n c' d g' e') e
 
 same_end : (k : Code) (n m : ℕ) (x : Next) (o p : Outcome) → then_goes x (after k n) ≡ Ends o → then_goes x (after k m) ≡ Ends p → ((d : Config) → after k n d ≡ Ends o → after k m d ≡ Ends p → o ≡ p) → o ≡ p
-same_end k n m (Goes d) o p e f h = h d e f
-same_end k n m (Ends q) o p e f h = cc
-same_end k n m Wrong o p e f h = absurd cc
+same_end k n m a3 o p e f h = search (arith, rules)
 
 pub one_end : (k : Code) (n m : ℕ) (c : Config) (o p : Outcome) → after k n c ≡ Ends o → after k m c ≡ Ends p → o ≡ p
 one_end k zero m c o p e f = absurd cc
@@ -107,9 +101,7 @@ spent_at k (Some (u, i)) c ok =
 
 -- one step more than those that led here
 then_more : (k : Code) (n : ℕ) (d : Config) (x : Next) → ((f : Config) → after k n f ≡ Goes d → after k (suc n) f ≡ Wrong) → then_goes x (after k n) ≡ Goes d → then_goes x (after k (suc n)) ≡ Wrong
-then_more k n d (Goes f) h e = h f e
-then_more k n d (Ends o) h e = absurd cc
-then_more k n d Wrong h e = absurd cc
+then_more k n d a3 h e = search (arith, rules)
 
 after_more : (k : Code) (n : ℕ) (c d : Config) → after k n c ≡ Goes d → next k d ≡ Wrong → after k (suc n) c ≡ Wrong
 after_more k zero c d e w = let same : c ≡ d = cc in ap (λ x. then_goes x (after k zero)) (ap (next k) same ∙ w)

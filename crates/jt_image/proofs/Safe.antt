@@ -1,6 +1,6 @@
 -- A machine of a typed code goes on or ends, and is never wrong.
-use Rattle.std.proofs.Common.{◌≡◌, ℕ, zero, suc, ◌+◌, ◌*◌, ◌<◌, ◌≤◌, Bool, true, false, cond, ltb, eqb, List, [], ◌∷◌, ◌++◌, length, map, Option, Some, None, Result, Ok, Err, refl, sym, ap, subst, ◌∙◌, arith, rules}
-use Rattle.std.specs.Prelude.{◌==◌, slice_get, slice_set}
+use Rattle.std.proofs.Common.{◌≡◌, ℕ, zero, suc, ◌+◌, ◌*◌, ◌<◌, ◌≤◌, Bool, true, false, cond, eqb, List, [], ◌∷◌, ◌++◌, length, map, Option, Some, None, Result, Ok, Err, refl, sym, ap, subst, ◌∙◌, arith, rules}
+use Rattle.std.specs.Prelude.{slice_get, slice_set}
 use Rattle.std.specs.Option.{is_some}
 use Rattle.std.specs.List.{AllByRecursion}
 use Rattle.std.proofs.lemmas.Bool.{ltb-false, eqb-true}
@@ -9,19 +9,16 @@ use Rattle.jt_value.specs.Tree as tree
 use Rattle.jt_value.specs.declared.fault.Fault.{Fault}
 use Rattle.jt_value.specs.declared.fault.Fault.TheVariants as faults
 use Rattle.jt_value.specs.Tree.{Tree, Items, truth, printed}
-use Rattle.jt_value.specs.Iteration.{items_of_tree}
 use Rattle.jt_image.specs.declared.instruction.Instruction.{Instruction}
 use Rattle.jt_image.specs.declared.instruction.Instruction.TheVariants as op
 use Rattle.jt_image.specs.declared.kind.Kind.TheVariants as kind
 use Rattle.jt_image.specs.declared.kind.Flaw.{Flaw}
-use Rattle.jt_image.specs.declared.kind.Flaw.TheVariants as flaw
 use Rattle.jt_image.specs.Code.{Section, Code}
 use Rattle.jt_value.specs.Place.{Place}
 use Rattle.jt_image.specs.Places.{place_at}
 use Rattle.jt_image.specs.Effect as effect
 use Rattle.jt_image.specs.Effect.{Shape, Leads, require, pops, pops_many, pops_frame, pops_capture, pushes, gives, calls, goes_on, jumps, branches, may_return, effect, effect_of}
 use Rattle.jt_image.specs.Typed.{Shapes, Equal, HasSame, IsTypedBy, IsTyped}
-use Rattle.jt_image.specs.Ids.{operator_of, operands_of, filter_of, test_of}
 use Rattle.jt_image.specs.Loops.{trees_of, loop_over, keeping, field_of}
 use Rattle.jt_image.specs.Config as config
 use Rattle.jt_image.specs.Config.{Budget, Outcome, Frame, Entry, value, frame, capture, kind_of, State, Caller, Machine, Config}
@@ -123,72 +120,48 @@ module _ {A : Type 0} (l : Leads) (none : A) (P : A → Type 0) where
   taken : (es : List Entry) (go : Shape → Result Leads Flaw) (f : Tree → List Entry → A) → pops (kinds_of es) go ≡ Ok l
       → ((t : Tree) (fs : List Entry) → go (kinds_of fs) ≡ Ok l → captures fs ≡ captures es → ((n : ℕ) → AreSized n es → (tree.size t ≤ n) × AreSized n fs) → P (f t fs))
       → P (on_value es none f)
-  taken [] go f e h = absurd cc
-  taken (value t ∷ es) go f e h = h t es e refl (λ n z. z)
-  taken (frame x ∷ es) go f e h = absurd cc
-  taken (capture ∷ es) go f e h = absurd cc
+  taken a0 go f e h = search (arith, rules)
 
   taken_many : (n : ℕ) (ts : List Tree) (es : List Entry) (go : Shape → Result Leads Flaw) (f : List Tree → List Entry → A) → pops_many n (kinds_of es) go ≡ Ok l
       → ((us : List Tree) (fs : List Entry) → go (kinds_of fs) ≡ Ok l → captures fs ≡ captures es → ((z : ℕ) → AreSized z es → AreSized z fs) → P (f us fs))
       → P (on_values n ts es none f)
-  taken_many zero ts es go f e h = h ts es e refl (λ z x. x)
-  taken_many (suc n) ts [] go f e h = absurd cc
   taken_many (suc n) ts (value t ∷ es) go f e h = taken_many n (t ∷ ts) es go f e (λ us fs kinds count sized. h us fs kinds count (λ z x. sized z x.1))
-  taken_many (suc n) ts (frame x ∷ es) go f e h = absurd cc
-  taken_many (suc n) ts (capture ∷ es) go f e h = absurd cc
+  taken_many a0 ts a2 go f e h = search (arith, rules)
 
   taken_frame : (es : List Entry) (go : Shape → Result Leads Flaw) (f : Frame → List Entry → A) → pops_frame (kinds_of es) go ≡ Ok l
       → ((x : Frame) (fs : List Entry) → es ≡ frame x ∷ fs → go (kinds_of fs) ≡ Ok l → captures fs ≡ captures es → ((n : ℕ) → AreSized n es → AreSized n fs) → P (f x fs))
       → P (on_frame es none f)
-  taken_frame [] go f e h = absurd cc
-  taken_frame (value t ∷ es) go f e h = absurd cc
-  taken_frame (frame x ∷ es) go f e h = h x es refl e refl (λ n z. z)
-  taken_frame (capture ∷ es) go f e h = absurd cc
+  taken_frame a0 go f e h = search (arith, rules)
 
   taken_capture : (es : List Entry) (go : Shape → Result Leads Flaw) (f : List Entry → A) → pops_capture (kinds_of es) go ≡ Ok l
       → ((fs : List Entry) → go (kinds_of fs) ≡ Ok l → captures es ≡ suc (captures fs) → ((n : ℕ) → AreSized n es → AreSized n fs) → P (f fs))
       → P (on_capture es none f)
-  taken_capture [] go f e h = absurd cc
-  taken_capture (value t ∷ es) go f e h = absurd cc
-  taken_capture (frame x ∷ es) go f e h = absurd cc
-  taken_capture (capture ∷ es) go f e h = h es e refl (λ n z. z)
+  taken_capture a0 go f e h = search (arith, rules)
 
   -- the loop that has so many entries above it
   found_frame : (es : List Entry) (c : ℕ) (go : Result Leads Flaw) (f : Frame → A) → effect.on_frame (slice_get (kinds_of es) c) go ≡ Ok l
       → ((x : Frame) → slice_get es c ≡ Some (frame x) → go ≡ Ok l → P (f x))
       → P (as_frame (slice_get es c) none f)
-  found_frame [] c go f e h = absurd cc
-  found_frame (value t ∷ es) zero go f e h = absurd cc
-  found_frame (frame x ∷ es) zero go f e h = h x refl e
-  found_frame (capture ∷ es) zero go f e h = absurd cc
   found_frame (x ∷ es) (suc c) go f e h = found_frame es c go f e h
+  found_frame a0 a1 go f e h = search (arith, rules)
 
 -- ---- a loop in the place of another
 
 kinds-set : (es : List Entry) (c : ℕ) (x y : Frame) → slice_get es c ≡ Some (frame x) → kinds_of (slice_set es c (frame y)) ≡ kinds_of es
-kinds-set [] c x y e = refl
-kinds-set (value t ∷ es) zero x y e = absurd cc
-kinds-set (frame f ∷ es) zero x y e = refl
-kinds-set (capture ∷ es) zero x y e = absurd cc
 kinds-set (z ∷ es) (suc c) x y e = ap (λ s. kind_of z ∷ s) (kinds-set es c x y e)
+kinds-set a0 a1 x y e = search (arith, rules)
 
 captures-set : (es : List Entry) (c : ℕ) (x y : Frame) → slice_get es c ≡ Some (frame x) → captures (slice_set es c (frame y)) ≡ captures es
-captures-set [] c x y e = refl
-captures-set (value t ∷ es) zero x y e = absurd cc
-captures-set (frame f ∷ es) zero x y e = refl
-captures-set (capture ∷ es) zero x y e = absurd cc
 captures-set (value t ∷ es) (suc c) x y e = captures-set es c x y e
 captures-set (frame f ∷ es) (suc c) x y e = captures-set es c x y e
 captures-set (capture ∷ es) (suc c) x y e = ap suc (captures-set es c x y e)
+captures-set a0 a1 x y e = search (arith, rules)
 
 sized-set : (n : ℕ) (es : List Entry) (c : ℕ) (x y : Frame) → slice_get es c ≡ Some (frame x) → AreSized n es → AreSized n (slice_set es c (frame y))
-sized-set n [] c x y e h = tt
-sized-set n (value t ∷ es) zero x y e h = absurd cc
-sized-set n (frame f ∷ es) zero x y e h = h
-sized-set n (capture ∷ es) zero x y e h = absurd cc
 sized-set n (value t ∷ es) (suc c) x y e h = (h.0, sized-set n es c x y e h.1)
 sized-set n (frame f ∷ es) (suc c) x y e h = sized-set n es c x y e h
 sized-set n (capture ∷ es) (suc c) x y e h = sized-set n es c x y e h
+sized-set n a1 a2 x y e h = search (arith, rules)
 
 -- ---- values in a pile
 
@@ -232,10 +205,7 @@ module _ (k : Code) (u : Section) (shapes : Shapes) where
   jumps_ok c s l e a = has_shape s c (leads_to _ _ _ l e a).0
 
   branches_ok : (p c : ℕ) (s : Shape) (l : Leads) → branches u p c s ≡ Ok l → Agrees l → (shapes (p + 1) ≡ Some s) × (shapes c ≡ Some s)
-  branches_ok p c s l e a =
-      let r = require_ok (ltb c (length u.code)) flaw.JumpOut (require (ltb (p + 1) (length u.code)) flaw.FallsOff (Ok (record { shape = s; points = (p + 1) ∷ c ∷ [] }))) l e in
-      let m = leads_to (ltb (p + 1) (length u.code)) flaw.FallsOff (record { shape = s; points = (p + 1) ∷ c ∷ [] }) l r.1 a in
-      (has_shape s (p + 1) m.0, has_shape s c m.1.0)
+  branches_ok p c s l e a = search (arith, rules, require_ok, leads_to, has_shape)
 
 -- ---- each instruction
 
@@ -280,25 +250,17 @@ module _ (k : Code) (m : Machine) (g : IsFit k m) (l : Leads) (agree : Agrees k 
   const_fine c e = let a = require_ok _ _ _ l e in in_place _ _ a.0 (pushed (constant_value (slice_get k.constants c)) a.1)
 
   load_fine : (c : ℕ) → effect k g.unit m.point (op.Load c) s ≡ Ok l → Fine (strict k g.unit (op.Load c) m)
-  load_fine c e =
-      let a = require_ok _ _ _ l e in
-      let there : ltb c (length m.state.locals) ≡ true = rw g.locals a.0 in
-      in_place _ _ there (pushed (slot m.state.locals c) a.1)
+  load_fine c e = search (arith, rules, require_ok, in_place, pushed)
 
   load_global_fine : (c : ℕ) → effect k g.unit m.point (op.GLoad c) s ≡ Ok l → Fine (strict k g.unit (op.GLoad c) m)
-  load_global_fine c e =
-      let a = require_ok _ _ _ l e in
-      let there : ltb c (length m.state.globals) ≡ true = rw g.globals a.0 in
-      in_place _ _ there (pushed (slot m.state.globals c) a.1)
+  load_global_fine c e = search (arith, rules, require_ok, in_place, pushed)
 
   -- how a step without a jump is fine
   abbrev FinePlain : Plain → Type 0
   FinePlain x = Fine (straight x m)
 
   drop_fine : effect k g.unit m.point op.Drop s ≡ Ok l → Fine (strict k g.unit op.Drop m)
-  drop_fine e =
-      taken l broken FinePlain es (λ r. goes_on g.unit m.point r) (λ t fs. goes (with_entries m.state fs) no_demand) e
-      (λ t fs e' count sized. lands_on (m.point + 1) fs no_demand (behind (kinds_of fs) e') count (λ n z _. (sized n z).1) refl)
+  drop_fine e = search (arith, rules, taken, lands_on, behind)
 
   store_fine : (c : ℕ) → effect k g.unit m.point (op.Store c) s ≡ Ok l → Fine (strict k g.unit (op.Store c) m)
   store_fine c e = search (arith, rules, require_ok, in_place, taken, lands, behind, length-set)
@@ -307,9 +269,7 @@ module _ (k : Code) (m : Machine) (g : IsFit k m) (l : Leads) (agree : Agrees k 
   store_global_fine c e = search (arith, rules, require_ok, in_place, taken, lands, behind, length-set)
 
   dup_fine : effect k g.unit m.point op.Dup s ≡ Ok l → Fine (strict k g.unit op.Dup m)
-  dup_fine e =
-      taken l broken FinePlain es (λ r. goes_on g.unit m.point (kind.Value ∷ kind.Value ∷ r)) (λ t fs. push t (value t ∷ fs) m.state) e
-      (λ t fs e' count sized. lands_on (m.point + 1) (value t ∷ value t ∷ fs) (pushing t) (behind (kind.Value ∷ kind.Value ∷ kinds_of fs) e') count (λ n z fits. (fits, sized n z)) refl)
+  dup_fine e = search (arith, rules, taken, lands_on, behind)
 
   -- bytes into the innermost buffer, with entries that hold as many captures
   put_fine : (bytes : List ℕ) (bs : List (List ℕ)) (fs : List Entry) → length bs ≡ suc (captures fs + above) → g.shapes (m.point + 1) ≡ Some (kinds_of fs) → ((n : ℕ) → AreSized n es → AreSized n fs) → FinePlain (put bytes bs (with_entries m.state fs))
@@ -321,10 +281,7 @@ module _ (k : Code) (m : Machine) (g : IsFit k m) (l : Leads) (agree : Agrees k 
   printed_fine (Some bytes) fs count here sized = put_fine bytes m.state.buffers fs count here sized
 
   emit_fine : (a : ℕ) → effect k g.unit m.point (op.Emit a) s ≡ Ok l → Fine (strict k g.unit (op.Emit a) m)
-  emit_fine a e =
-      let b = require_ok _ _ _ l e in
-      in_place _ _ b.0 (taken l broken FinePlain es (λ r. goes_on g.unit m.point r) (λ t fs. put_printed (shown (eqb a 1) t) (with_entries m.state fs)) b.1
-      (λ t fs e' count sized. printed_fine (shown (eqb a 1) t) fs (rw count g.buffers) (behind (kinds_of fs) e') (λ n z. (sized n z).1)))
+  emit_fine a e = search (arith, rules, require_ok, in_place, taken, printed_fine, behind)
 
   data_fine : (c : ℕ) → effect k g.unit m.point (op.Data c) s ≡ Ok l → Fine (strict k g.unit (op.Data c) m)
   data_fine c e = let a = require_ok _ _ _ l e in in_place _ _ a.0 (put_fine (text_of (slice_get k.constants c)) m.state.buffers es g.buffers (behind s a.1) (λ n z. z))
@@ -354,19 +311,13 @@ module _ (k : Code) (m : Machine) (g : IsFit k m) (l : Leads) (agree : Agrees k 
       (λ ts fs e' count sized. given_fine (operate ts) fs count e' sized)
 
   op_fine : (a : ℕ) → effect k g.unit m.point (op.Op a) s ≡ Ok l → Fine (strict k g.unit (op.Op a) m)
-  op_fine a e =
-      let b = require_ok _ _ _ l e in
-      in_place _ _ b.0 (makes_fine (operands_of (operator_of a)) (operated (operator_of a)) b.1)
+  op_fine a e = search (arith, rules, require_ok, in_place, makes_fine)
 
   filter_fine : (a n f : ℕ) → effect k g.unit m.point (op.Filter a n f) s ≡ Ok l → Fine (strict k g.unit (op.Filter a n f) m)
-  filter_fine a n f e =
-      let b = require_ok _ _ _ l e in
-      in_place _ _ b.0 (makes_fine n (filtered_by (filter_of a) (f == 1)) b.1)
+  filter_fine a n f e = search (arith, rules, require_ok, in_place, makes_fine)
 
   test_fine : (a n : ℕ) → effect k g.unit m.point (op.Test a n) s ≡ Ok l → Fine (strict k g.unit (op.Test a n) m)
-  test_fine a n e =
-      let b = require_ok _ _ _ l e in
-      in_place _ _ b.0 (makes_fine n (tested_by (test_of a)) b.1)
+  test_fine a n e = search (arith, rules, require_ok, in_place, makes_fine)
 
   -- ---- loops
 
@@ -375,9 +326,7 @@ module _ (k : Code) (m : Machine) (g : IsFit k m) (l : Leads) (agree : Agrees k 
   begins_fine (Err x) fs count e sized = tt
 
   start_fine : effect k g.unit m.point op.LoopStart s ≡ Ok l → Fine (strict k g.unit op.LoopStart m)
-  start_fine e =
-      taken l broken FinePlain es (λ r. goes_on g.unit m.point (kind.Frame ∷ r)) (λ t fs. begins (items_of_tree t) fs m.state) e
-      (λ t fs e' count sized. begins_fine (items_of_tree t) fs count e' (λ n z. (sized n z).1))
+  start_fine e = search (arith, rules, taken, begins_fine)
 
   either_fine : (b : Bool) (x y : Action) → Fine x → Fine y → Fine (cond b x y)
   either_fine true x y h i = h
@@ -394,9 +343,7 @@ module _ (k : Code) (m : Machine) (g : IsFit k m) (l : Leads) (agree : Agrees k 
 
   -- the loop with the current item kept, or as it was
   kept_fine : (b : Bool) (fs : List Entry) (c : ℕ) (f : Frame) → slice_get fs c ≡ Some (frame f) → captures fs ≡ captures es → goes_on g.unit m.point (kinds_of fs) ≡ Ok l → ((n : ℕ) → AreSized n es → AreSized n fs) → FinePlain (goes (with_entries m.state (cond b (slice_set fs c (frame (keeping f))) fs)) no_demand)
-  kept_fine true fs c f is count e sized =
-      lands_on (m.point + 1) (slice_set fs c (frame (keeping f))) no_demand (behind (kinds_of fs) e ∙ ap Some (sym (kinds-set fs c f (keeping f) is))) (captures-set fs c f (keeping f) is ∙ count) (λ n z _. sized-set n fs c f (keeping f) is (sized n z)) refl
-  kept_fine false fs c f is count e sized = lands_on (m.point + 1) fs no_demand (behind (kinds_of fs) e) count (λ n z _. sized n z) refl
+  kept_fine a0 fs c f is count e sized = search (arith, rules, lands_on, behind, kinds-set, captures-set, sized-set)
 
   keep_fine : (c : ℕ) → effect k g.unit m.point (op.LoopKeep c) s ≡ Ok l → Fine (strict k g.unit (op.LoopKeep c) m)
   keep_fine c e =
@@ -406,14 +353,10 @@ module _ (k : Code) (m : Machine) (g : IsFit k m) (l : Leads) (agree : Agrees k 
       (λ f is e''. kept_fine (truth t) fs c f is count e'' (λ n z. (sized n z).1)))
 
   rewind_fine : effect k g.unit m.point op.LoopRewind s ≡ Ok l → Fine (strict k g.unit op.LoopRewind m)
-  rewind_fine e =
-      taken_frame l broken FinePlain es (λ r. goes_on g.unit m.point (kind.Frame ∷ r)) (λ f fs. goes (with_entries m.state (frame (loop_over f.kept) ∷ fs)) no_demand) e
-      (λ f fs is e' count sized. lands_on (m.point + 1) (frame (loop_over f.kept) ∷ fs) no_demand (behind (kind.Frame ∷ kinds_of fs) e') count (λ n z _. sized n z) refl)
+  rewind_fine e = search (arith, rules, taken_frame, lands_on, behind)
 
   end_fine : effect k g.unit m.point op.LoopEnd s ≡ Ok l → Fine (strict k g.unit op.LoopEnd m)
-  end_fine e =
-      taken_frame l broken FinePlain es (λ r. goes_on g.unit m.point (kind.Value ∷ r)) (λ f fs. push (tree.truth_value (eqb f.position 0)) fs m.state) e
-      (λ f fs is e' count sized. given_fine (Ok (tree.truth_value (eqb f.position 0))) fs count e' sized)
+  end_fine e = search (arith, rules, taken_frame, given_fine)
 
   -- ---- captures
 
@@ -424,27 +367,19 @@ module _ (k : Code) (m : Machine) (g : IsFit k m) (l : Leads) (agree : Agrees k 
   closes_fine b a1 fs count one e sized = search (arith, rules, lands, behind)
 
   close_fine : (a : ℕ) → effect k g.unit m.point (op.CaptureEnd a) s ≡ Ok l → Fine (strict k g.unit (op.CaptureEnd a) m)
-  close_fine a e =
-      let b = require_ok _ _ _ l e in
-      in_place _ _ b.0 (taken_capture l broken FinePlain es (λ r. goes_on g.unit m.point (kind.Value ∷ r)) (λ fs. closes (eqb a 1) m.state.buffers fs m.state) b.1
-      (λ fs e' one sized. closes_fine (eqb a 1) m.state.buffers fs g.buffers one e' sized))
+  close_fine a e = search (arith, rules, require_ok, in_place, taken_capture, closes_fine)
 
   -- ---- unpacking
 
   spreads_fine : (b : Bool) (n : ℕ) (ts : List Tree) (fs : List Entry) → eqb (length ts) n ≡ b → captures fs ≡ captures es → goes_on g.unit m.point (pushes n (kinds_of fs)) ≡ Ok l → ((z : ℕ) → AreSized z es → AreSized z fs) → FinePlain (cond b (goes (with_entries m.state (piled ts fs)) (pushing_all ts)) (faults_by faults.Unpack))
-  spreads_fine true n ts fs is count e sized =
-      let there : g.shapes (m.point + 1) ≡ Some (kinds_of (piled ts fs)) = behind (pushes n (kinds_of fs)) e ∙ ap (λ (z : ℕ). Some (pushes z (kinds_of fs))) (sym (eqb-true (length ts) n is)) ∙ ap Some (sym (kinds-piled ts fs)) in
-      lands_on (m.point + 1) (piled ts fs) (pushing_all ts) there (captures-piled ts fs ∙ count) (λ z all fits. sized-piled z ts fs fits (sized z all)) refl
-  spreads_fine false n ts fs is count e sized = tt
+  spreads_fine a0 n ts fs is count e sized = search (arith, rules, behind, eqb-true, kinds-piled, lands_on, captures-piled, sized-piled)
 
   unpacks_fine : (n : ℕ) (r : Result Items Fault) (fs : List Entry) → captures fs ≡ captures es → goes_on g.unit m.point (pushes n (kinds_of fs)) ≡ Ok l → ((z : ℕ) → AreSized z es → AreSized z fs) → FinePlain (unpacks n r fs m.state)
   unpacks_fine n (Ok ts) fs count e sized = spreads_fine (eqb (length (trees_of ts)) n) n (trees_of ts) fs refl count e sized
   unpacks_fine n (Err x) fs count e sized = tt
 
   unpack_fine : (c : ℕ) → effect k g.unit m.point (op.Unpack c) s ≡ Ok l → Fine (strict k g.unit (op.Unpack c) m)
-  unpack_fine c e =
-      taken l broken FinePlain es (λ r. goes_on g.unit m.point (pushes c r)) (λ t fs. unpacks c (items_of_tree t) fs m.state) e
-      (λ t fs e' count sized. unpacks_fine c (items_of_tree t) fs count e' (λ n z. (sized n z).1))
+  unpack_fine c e = search (arith, rules, taken, unpacks_fine)
 
   -- ---- calls
 
@@ -483,9 +418,7 @@ module _ (k : Code) (m : Machine) (g : IsFit k m) (l : Leads) (agree : Agrees k 
 
   -- the first activation returns with no entries, so one buffer is left
   ends_fine : (fs : List Entry) (bs : List (List ℕ)) → length bs ≡ 1 → IsFineAction k fs [] (back_to [] nothing bs m)
-  ends_fine fs [] count = absurd (omega arith)
-  ends_fine fs (b ∷ []) count = tt
-  ends_fine fs (b ∷ d ∷ bs) count = absurd (omega arith)
+  ends_fine fs a1 count = search (arith, rules)
 
   returned_fine : (rest : List Caller) (n : ℕ) (fs : List Entry) → AreWaiting k n rest → may_return n (kinds_of fs) ≡ true → length m.state.buffers ≡ suc (captures fs + captures_above rest) → IsFineAction k fs rest (back_to rest (given_by n fs) m.state.buffers m)
   returned_fine a0 a1 a2 w ok count = search (arith, rules, ends_fine, resumed_fine)

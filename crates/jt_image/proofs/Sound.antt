@@ -214,9 +214,7 @@ abbrev pub wire_at : ℕ → ℕ → ℕ → ℕ → Instr
 wire_at opcode a b c = record { op = opcode; a = a; b = b; c = c }
 
 same_wire : (w : Instr) (opcode a b c : ℕ) → eqb w.op opcode ≡ true → a ≡ w.a → b ≡ w.b → c ≡ w.c → wire_at opcode a b c ≡ w
-same_wire w opcode a b c e x y z =
-    let o : opcode ≡ w.op = sym (eqb-true w.op opcode e) in
-    ap (λ (n : ℕ). wire_at n a b c) o ∙ ap (λ (n : ℕ). wire_at w.op n b c) x ∙ ap (λ (n : ℕ). wire_at w.op w.a n c) y ∙ ap (λ (n : ℕ). wire_at w.op w.a w.b n) z
+same_wire w opcode a b c e x y z = search (arith, rules, eqb-true)
 
 none_wire : (w : Instr) (opcode : ℕ) (i : Instruction) → eqb w.op opcode ≡ true → wire_of i ≡ wire_at opcode 0 0 0 → HasWire w (uses_none w i)
 none_wire w opcode i e is = search (arith, rules, same_wire, eqb-true)

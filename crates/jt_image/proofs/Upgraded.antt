@@ -17,8 +17,8 @@ use Rattle.jt_image.specs.Places.{place_of, place_at}
 use Rattle.jt_image.specs.Upgrading.{unplaced}
 use Rattle.jt_image.specs.Config as config
 use Rattle.jt_image.specs.Config.{Budget, Outcome, Machine, Config}
-use Rattle.jt_image.specs.Step.{action, in_tables, strict, wrong, cost, fetch}
-use Rattle.jt_image.specs.Run.{Next, Goes, Ends, Wrong, spends, placed, next_at, next, passed, start, then_goes, after, RunFrom, Run}
+use Rattle.jt_image.specs.Step.{action, in_tables, strict, wrong, fetch}
+use Rattle.jt_image.specs.Run.{Next, next_at, next, passed, start, then_goes, after, RunFrom, Run}
 use Rattle.jt_image.proofs.Assembled.{spelled_len}
 use Rattle.jt_image.proofs.Sound.{code_bytes}
 
@@ -101,18 +101,13 @@ module _ (k : Code) (bare : k.spots ≡ []) where
   same_strict u i m = ap (λ t. if t then action (unplaced k) u i m else wrong) (same_tables i m.state) ∙ ap (λ a. if in_tables k i m.state then a else wrong) (same_action u i m)
 
   same_at : (q : Option (Section × Instruction)) (c : Config) → next_at (unplaced k) q c ≡ next_at k q c
-  same_at None c = refl
-  same_at (Some (u, i)) c =
-      ap (λ z. placed z (spends (cost i c.machine.state) (strict (unplaced k) u i c.machine) c.left)) (same_place c.machine.unit c.machine.point)
-      ∙ ap (λ a. placed (place_at k c.machine.unit c.machine.point) (spends (cost i c.machine.state) a c.left)) (same_strict u i c.machine)
+  same_at a0 c = search (arith, rules, same_place, same_strict)
 
   same_next : (c : Config) → next (unplaced k) c ≡ next k c
   same_next c = same_at (fetch k c.machine.unit c.machine.point) c
 
   then_same : (n : ℕ) (x : Next) → ((c : Config) → after (unplaced k) n c ≡ after k n c) → then_goes x (after (unplaced k) n) ≡ then_goes x (after k n)
-  then_same n (Goes c) h = h c
-  then_same n (Ends o) h = refl
-  then_same n Wrong h = refl
+  then_same n a1 h = search (arith, rules)
 
   same_after : (n : ℕ) (c : Config) → after (unplaced k) n c ≡ after k n c
   same_after zero c = refl

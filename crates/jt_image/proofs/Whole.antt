@@ -1,5 +1,5 @@
 -- What is read from all of the bytes is a code, and its spelling is the bytes.
-use Rattle.std.proofs.Common.{◌≡◌, ℕ, suc, ◌+◌, ◌<◌, ◌≤◌, ◌^◌, Bool, true, false, eqb, List, [], ◌∷◌, ◌++◌, length, map, Some, refl, sym, ap, subst, ◌∙◌, arith, append_assoc, nat_cmp}
+use Rattle.std.proofs.Common.{◌≡◌, ℕ, suc, ◌+◌, ◌<◌, ◌≤◌, ◌^◌, Bool, true, false, eqb, List, [], ◌∷◌, ◌++◌, length, map, Some, refl, sym, ap, subst, ◌∙◌, arith, append_assoc, nat_cmp, rules}
 use Rattle.std.specs.Prelude.{◌||◌, ◌≢◌, nat_lt, slice_get}
 use Rattle.std.specs.Int.{w16, to_le_bytes}
 use Rattle.std.specs.List.{flat_map, AllByRecursion}
@@ -52,10 +52,7 @@ or_false true b e = absurd cc
 or_false false b e = (refl, e)
 
 unused : (s : ℕ) (before : List Name) (n : Name) (after : List Name) → is_used s (before ++ n ∷ after) ≡ false → n.slot ≢ s
-unused s [] n after e = λ f. differ (or_false (eqb n.slot s) (is_used s after) e).0 f
-  where
-    differ : {a b : ℕ} → eqb a b ≡ false → a ≢ b
-    differ {a} {b} e f = grind (arith, nat_tests)
+unused s [] n after e = search (arith, rules, or_false, nat_tests)
 unused s (m ∷ before) n after e = unused s before n after (or_false (eqb m.slot s) (is_used s (before ++ n ∷ after)) e).1
 
 apart : (globals : ℕ) (n : Name) (before after ns : List Name) → AllGood (IsNamed globals) (before ++ n ∷ after) ns → AllByRecursion (λ m. n.slot ≢ m.slot) ns
@@ -130,10 +127,7 @@ sections before (u ∷ us) h codes =
 
 total_fits : (before : List Header) (us : List Section) → header_total before ≤ max_instructions → AllGood good_header before (map head_of us) → header_total before + total_len us ≤ max_instructions
 total_fits before [] le h = omega (arith, le)
-total_fits before (u ∷ us) le h =
-    let push = header_total-push before (head_of u) in
-    let more = total_fits (before ++ head_of u ∷ []) us (omega (arith, push, h.0.fits)) h.1 in
-    omega (arith, push, more)
+total_fits before (u ∷ us) le h = search (arith, rules, header_total-push, head_of, total_fits (before ++ head_of u ∷ []) us)
 
 -- the first of the units
 pub record HasFirst (us : List Section) : Type 0 where

@@ -43,22 +43,15 @@ known_units [] h = refl
 known_units (u ∷ us) h = rw (known_code u.code.items h.0, known_units us h.1) refl
 
 front_some : {A : Type 0} (o : Option A) (r : Option (List A)) (ys : List A) → in_front o r ≡ Some ys → IsSome o × ((zs : List A) × (r ≡ Some zs))
-front_some None r ys e = absurd cc
-front_some (Some x) None ys e = absurd cc
-front_some (Some x) (Some zs) ys e = (refl, (zs, refl))
+front_some a0 a1 ys e = search (arith, rules)
 
 found_code : (ws : List Instr) (is : List Instruction) → each_of instruction_of ws ≡ Some is → AllByRecursion (λ w. IsSome (instruction_of w)) ws
 found_code [] is e = tt
-found_code (w ∷ ws) is e =
-    let f = front_some (instruction_of w) (each_of instruction_of ws) is e in
-    (f.0, found_code ws f.1.0 f.1.1)
+found_code (w ∷ ws) is e = search (arith, rules, front_some, found_code ws)
 
 pub unknown_units : (us : List given.Unit) → ¬ (AreKnown us) → each_of section_of_unit us ≡ None
 unknown_units [] h = absurd (h tt)
 unknown_units (u ∷ us) h = by (each_of instruction_of u.code.items) refl (λ n. unknown_units us n)
   where
     by : (o : Option (List Instruction)) → each_of instruction_of u.code.items ≡ o → (¬ (AreKnown us) → each_of section_of_unit us ≡ None) → in_front (option_map (λ code. let s : Section = record { parameters = u.parameters; kind = u.kind; locals = u.locals; code = code } in s) o) (each_of section_of_unit us) ≡ None
-    by None e more = refl
-    by (Some is) e more =
-        let rest : each_of section_of_unit us ≡ None = more (λ all. h (found_code u.code.items is e, all)) in
-        rw rest refl
+    by a0 e more = search (arith, rules, found_code)

@@ -10,6 +10,7 @@ ghost use Rattle.jt_image.specs.Upgrading.{unplaced, upgraded, IsNotUpgraded};
 ghost use Rattle.jt_image.specs.declared.error.ImageError.TheVariants.{NoMemory};
 ghost use Rattle.jt_image.specs.declared.version.Version.TheVariants as variant;
 
+use crate::code::Code;
 use crate::error::ImageError;
 use crate::image::Image;
 use crate::limits::MAX_BYTES;

@@ -1,6 +1,6 @@
 -- The template of a library, at its place.
-use Rattle.std.proofs.Common.{◌≡◌, ℕ, ◌⊎◌, ⊎_elim, inl, inr, Bool, true, false, ◌||◌, List, [], ◌∷◌, ◌++◌, sym, ap, subst, ◌∙◌, arith, Some, None, get_or, string_bytes, rules}
-use Rattle.std.specs.Prelude.{slice_get, flat_map}
+use Rattle.std.proofs.Common.{◌≡◌, ℕ, ◌⊎◌, ⊎_elim, inl, inr, true, false, ◌||◌, List, [], ◌∷◌, ◌++◌, sym, ap, subst, ◌∙◌, arith, Some, None, get_or, string_bytes, rules}
+use Rattle.std.specs.Prelude.{slice_get}
 use Rattle.std.specs.Option.{option_to_list}
 use Rattle.std.proofs.lemmas.List.{length-map}
 use Rattle.std.proofs.lemmas.Option.{slice_get_within}
@@ -8,8 +8,7 @@ use Rattle.jt_scan.specs.declared.options.Options.{Options}
 use Rattle.jt_trees.specs.Texts.{among, repeated}
 use Rattle.jt_trees.specs.Expressions.{Text}
 use Rattle.jt_chains.specs.Along.{templates_at}
-use Rattle.jt_chains.specs.Chain.{a_chain, a_library, Template, templates, libraries, holds_macros, sources_in}
-use Rattle.jt_chains.specs.Includes.{needs_in}
+use Rattle.jt_chains.specs.Chain.{a_chain, a_library, Template, holds_macros, sources_in}
 use Rattle.jt_chains.specs.Rules.{Reaches}
 use Rattle.jt_inherit.specs.Chains.{Given}
 use Rattle.jt_inherit.specs.Faults.{IsFaultOf}
@@ -59,7 +58,4 @@ module _ (ps : List Page) (once : repeated (names (pages_view ps)) ≡ false) {n
 -- a refusal of its source
 pub alone_breaks : (given : Given) (options : Options) (root : Text) (ts : List Template) {ks : List Text} → AreKnown given options ts ks → (n : Text) → Reaches (sources_in ts) options.autoescape (a_chain root) (a_library n)
     → (e : ChainError) → IsFaultOf e given n options → Breaks e given root options
-alone_breaks given options root ts known n r e f =
-    let s = sources_in ts in
-    let on = λ (all : Bool). among_front n (n ∷ []) (flat_map (λ t. needs_in all t.body) (templates s (a_library n)) ++ libraries s (a_library n)) (ap (λ c. c || false) (reflexive n)) in
-    asked_breaks known r n e (on true) (λ q. on false) f
+alone_breaks given options root ts known n r e f = search (arith, rules, among_front, reflexive, asked_breaks)

@@ -48,10 +48,7 @@ not_next x y (z ∷ xs) h e =
 -- a name that isn't there comes behind others
 pub once_more : (x : Text) (xs : List Text) → repeated xs ≡ false → among x xs ≡ false → repeated (xs ++ x ∷ []) ≡ false
 once_more x [] o h = refl
-once_more x (y ∷ xs) o h =
-    let a = or_false (among y xs) (repeated xs) o in
-    let b = or_false (bytes_eq y x) (among x xs) h in
-    both_false (among y (xs ++ x ∷ [])) (repeated (xs ++ x ∷ [])) (not_next y x xs a.0 (symmetric x y ∙ b.0)) (once_more x xs a.1 b.1)
+once_more x (y ∷ xs) o h = search (arith, rules, or_false, both_false, not_next, symmetric, once_more x xs)
 
 -- and one that is there comes again
 pub comes_again : (x : Text) (xs : List Text) → among x xs ≡ true → repeated (xs ++ x ∷ []) ≡ true
@@ -68,11 +65,7 @@ all_more P (y ∷ xs) x a p = (a.0, all_more P xs x a.1 p)
 
 pub among_cases : (x : Text) (xs ys : List Text) → among x (xs ++ ys) ≡ true → (among x xs ≡ true) ⊎ (among x ys ≡ true)
 among_cases x [] ys h = inr h
-among_cases x (y ∷ xs) ys h = by (bytes_eq y x) refl (among_cases x xs ys)
-  where
-    by : (b : Bool) → bytes_eq y x ≡ b → (among x (xs ++ ys) ≡ true → (among x xs ≡ true) ⊎ (among x ys ≡ true)) → (among x (y ∷ xs) ≡ true) ⊎ (among x ys ≡ true)
-    by true e r = inl (ap (λ b. b || among x xs) e)
-    by false e r = ⊎_elim (λ p. inl (or_true (bytes_eq y x) (among x xs) p)) (λ q. inr q) (r (sym (ap (λ b. b || among x (xs ++ ys)) e) ∙ h))
+among_cases x (y ∷ xs) ys h = search (arith, rules, among_cases x xs ys, or_true)
 
 pub only_among : (x y : Text) → among y (x ∷ []) ≡ true → x ≡ y
 only_among x y a = search (arith, rules, same)
@@ -89,11 +82,7 @@ without x (y ∷ ys) = cond (bytes_eq y x) ys (y ∷ without x ys)
 
 one_less : (x : Text) (ys : List Text) → among x ys ≡ true → length ys ≡ suc (length (without x ys))
 one_less x [] a = absurd (cc)
-one_less x (y ∷ ys) a = by (bytes_eq y x) refl (one_less x ys)
-  where
-    by : (b : Bool) → bytes_eq y x ≡ b → (among x ys ≡ true → length ys ≡ suc (length (without x ys))) → suc (length ys) ≡ suc (length (cond (bytes_eq y x) ys (y ∷ without x ys)))
-    by true e r = ap suc (sym (ap (λ b. length (cond b ys (y ∷ without x ys))) e))
-    by false e r = ap suc (r (sym (ap (λ b. b || among x ys) e) ∙ a) ∙ sym (ap (λ b. length (cond b ys (y ∷ without x ys))) e))
+one_less x (y ∷ ys) a = search (arith, rules, one_less x ys)
 
 pub still_among : (x z : Text) (ys : List Text) → bytes_eq x z ≡ false → among z ys ≡ true → among z (without x ys) ≡ true
 still_among x z [] n a = absurd (cc)
@@ -108,7 +97,4 @@ no_more (x ∷ xs) ys once f =
     omega (arith, len, rest)
   where
     apart : (z : Text) (b : Bool) → bytes_eq x z ≡ b → among x xs ≡ false → among z xs ≡ true → bytes_eq x z ≡ false
-    apart z true e n a =
-        let m : among x xs ≡ true = ap (λ w. among w xs) (same x z e) ∙ a in
-        absurd (cc)
-    apart z false e n a = e
+    apart z a1 e n a = search (arith, rules, same)

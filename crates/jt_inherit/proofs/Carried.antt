@@ -1,8 +1,8 @@
 -- A rule that is broken by what was read is broken by the whole chain.
-use Rattle.std.proofs.Common.{◌≡◌, ℕ, zero, suc, ◌<◌, ◌≤◌, ◌==◌, Bool, true, false, not, ◌&&◌, ◌||◌, nat_lt, List, [], ◌∷◌, ◌++◌, length, map, refl, sym, ap, subst, ◌∙◌, if◌then◌else◌, arith, inl, inr, ◌⊎◌, ⊎_elim, Option, Some, None, length-append, rules}
+use Rattle.std.proofs.Common.{◌≡◌, ℕ, zero, suc, ◌<◌, ◌≤◌, ◌==◌, Bool, true, false, not, ◌&&◌, ◌||◌, nat_lt, List, [], ◌∷◌, ◌++◌, length, map, refl, sym, ap, subst, ◌∙◌, arith, inl, inr, ◌⊎◌, ⊎_elim, Option, Some, None, length-append, rules}
 use Rattle.std.specs.Prelude.{flat_map}
 use Rattle.std.specs.List.{list_any}
-use Rattle.std.specs.Option.{is_some, is_none}
+use Rattle.std.specs.Option.{is_none}
 use Rattle.std.specs.Str.{bytes_eq}
 use Rattle.std.proofs.lemmas.List.{append-nil, map-append}
 use Rattle.std.proofs.lemmas.Bool.{cases_lt}
@@ -11,7 +11,7 @@ use Rattle.jt_trees.specs.Texts.{among, repeated}
 use Rattle.jt_trees.specs.Expressions.{Text}
 use Rattle.jt_trees.specs.Statements as trees
 use Rattle.jt_trees.specs.Statements.{Body}
-use Rattle.jt_chains.specs.Chain.{Sources, Home, a_chain, a_library, Template, template, templates, library_template, is_a_library, is_private, extends_of, parent_of, names_up, blocks_in, MacroBody, Given, macros, macros_in, public_macro, given, own, imports, libraries_in}
+use Rattle.jt_chains.specs.Chain.{Sources, Home, a_chain, a_library, Template, template, templates, library_template, is_a_library, extends_of, parent_of, names_up, blocks_in, MacroBody, Given, macros, macros_in, public_macro, given, own, imports, libraries_in}
 use Rattle.jt_inherit.specs.Checks.{lacks_body, lacks_next}
 use Rattle.jt_inherit.specs.Kept.{their_blocks, their_macros, any_double, any_lacks_macros, names_from, imported_names}
 use Rattle.jt_chains.specs.Rules as rules
@@ -25,11 +25,7 @@ use Rattle.jt_inherit.proofs.OnWay.{and_true}
 
 any_front : {A : Type 0} (p : A → Bool) (xs ys : List A) → list_any p xs ≡ true → list_any p (xs ++ ys) ≡ true
 any_front p [] ys h = absurd (cc)
-any_front p (x ∷ xs) ys h = by (p x) refl (any_front p xs ys)
-  where
-    by : (b : Bool) → p x ≡ b → (list_any p xs ≡ true → list_any p (xs ++ ys) ≡ true) → (p x || list_any p (xs ++ ys)) ≡ true
-    by true e r = ap (λ b. b || list_any p (xs ++ ys)) e
-    by false e r = or_true (p x) (list_any p (xs ++ ys)) (r (sym (ap (λ b. b || list_any p xs) e) ∙ h))
+any_front p (x ∷ xs) ys h = search (arith, rules, any_front p xs ys, or_true)
 
 none_front : {A : Type 0} (p : A → Bool) (xs ys : List A) → list_any p (xs ++ ys) ≡ false → list_any p xs ≡ false
 none_front p [] ys h = refl
@@ -39,11 +35,7 @@ none_front p (x ∷ xs) ys h =
 
 pub repeated_front : (xs ys : List Text) → repeated xs ≡ true → repeated (xs ++ ys) ≡ true
 repeated_front [] ys h = absurd (cc)
-repeated_front (x ∷ xs) ys h = by (among x xs) refl (repeated_front xs ys)
-  where
-    by : (b : Bool) → among x xs ≡ b → (repeated xs ≡ true → repeated (xs ++ ys) ≡ true) → (among x (xs ++ ys) || repeated (xs ++ ys)) ≡ true
-    by true e r = ap (λ b. b || repeated (xs ++ ys)) (among_front x xs ys e)
-    by false e r = or_true (among x (xs ++ ys)) (repeated (xs ++ ys)) (r (sym (ap (λ b. b || repeated xs) e) ∙ h))
+repeated_front (x ∷ xs) ys h = search (arith, rules, repeated_front xs ys, among_front, or_true)
 
 both_true : (a b : Bool) → (a && b) ≡ true → (a ≡ true) × (b ≡ true)
 both_true true b h = (refl, h)
@@ -84,15 +76,7 @@ up_same s r (suc k) (Some n) g h = by (s n) refl (λ b e. up_same s r k (extends
         → ((b : Body) → s n ≡ Some b → list_any (λ m. is_none (s m)) (names_up s k (extends_of b)) ≡ false
         → (names_up r k (extends_of b) ≡ names_up s k (extends_of b)) × (flat_map (λ m. template m (r m)) (names_up r k (extends_of b)) ≡ flat_map (λ m. template m (s m)) (names_up s k (extends_of b))))
         → (names_up r (suc k) (Some n) ≡ names_up s (suc k) (Some n)) × (flat_map (λ m. template m (r m)) (names_up r (suc k) (Some n)) ≡ flat_map (λ m. template m (s m)) (names_up s (suc k) (Some n)))
-    by None e f =
-        let no : true ≡ false = sym (ap (λ o. is_none o || list_any (λ m. is_none (s m)) (names_up s k (parent_of (s n)))) e) ∙ h in
-        absurd (cc)
-    by (Some b) e f =
-        let there = front_carried s r k n g b e in
-        let rest = f b e (sym (ap (λ o. is_none o || list_any (λ m. is_none (s m)) (names_up s k (parent_of o))) e) ∙ h) in (
-          ap (λ o. n ∷ names_up r k (parent_of o)) there ∙ ap (λ l. n ∷ l) rest.0 ∙ sym (ap (λ o. n ∷ names_up s k (parent_of o)) e),
-          up_some r k n b there ∙ ap (λ l. template n (Some b) ++ l) rest.1 ∙ sym (up_some s k n b e),
-        )
+    by a0 e f = search (arith, rules, front_carried, up_some)
 
 -- names with a source have one
 still_none : (s r : Sources) (xs : List Text) → Carries s r xs → list_any (λ n. is_none (s n)) xs ≡ false → list_any (λ n. is_none (r n)) xs ≡ false
@@ -121,31 +105,19 @@ within_any (y ∷ ys) = skip (within_any ys)
 
 among_within : {xs ys : List Text} → Within xs ys → (z : Text) → among z xs ≡ true → among z ys ≡ true
 among_within none z a = a
-among_within (keep {x} {xs} {ys} r) z a = by (bytes_eq x z) refl (among_within r z)
-  where
-    by : (b : Bool) → bytes_eq x z ≡ b → (among z xs ≡ true → among z ys ≡ true) → among z (x ∷ ys) ≡ true
-    by true e f = ap (λ b. b || among z ys) e
-    by false e f = or_true (bytes_eq x z) (among z ys) (f (sym (ap (λ b. b || among z xs) e) ∙ a))
+among_within (keep {x} {xs} {ys} r) z a = search (arith, rules, among_within r z, or_true)
 among_within (skip {y} {xs} {ys} r) z a = or_true (bytes_eq y z) (among z ys) (among_within r z a)
 
 repeated_within : {xs ys : List Text} → Within xs ys → repeated xs ≡ true → repeated ys ≡ true
 repeated_within none h = h
-repeated_within (keep {x} {xs} {ys} r) h = by (among x xs) refl (repeated_within r)
-  where
-    by : (b : Bool) → among x xs ≡ b → (repeated xs ≡ true → repeated ys ≡ true) → (among x ys || repeated ys) ≡ true
-    by true e f = ap (λ b. b || repeated ys) (among_within r x e)
-    by false e f = or_true (among x ys) (repeated ys) (f (sym (ap (λ b. b || repeated xs) e) ∙ h))
+repeated_within (keep {x} {xs} {ys} r) h = search (arith, rules, repeated_within r, among_within, or_true)
 repeated_within (skip {y} {xs} {ys} r) h = or_true (among y ys) (repeated ys) (repeated_within r h)
 
 -- ---- the macros of libraries, where those that are imported have the same source
 
 names_none : (xs : List (Text × Text)) → names_from [] xs ≡ []
 names_none [] = refl
-names_none (x ∷ xs) = ap (λ o. (if is_some o then x.1 ∷ [] else []) ++ names_from [] xs) (no_macro (is_private x.0) None) ∙ names_none xs
-  where
-    no_macro : (b : Bool) (o : Option MacroBody) → (if b then o else o) ≡ o
-    no_macro true o = refl
-    no_macro false o = refl
+names_none (x ∷ xs) = search (arith, rules, names_none xs)
 
 module _ (s r : Sources) where
   in_from : (n : Text) (xs : List (Text × Text)) → ((b : Body) → s n ≡ Some b → r n ≡ Some b) → Within (names_from (macros s (a_library n)) xs) (names_from (macros r (a_library n)) xs)
@@ -165,10 +137,7 @@ module _ (s r : Sources) where
           ∙ ap (λ b. (is_a_library (s n) && is_none (public_macro y.0 (macros s (a_library n)))) || b) (one ys e)
 
       by : (o : Option Body) → s n ≡ o → rules.lacks_one r n xs ≡ true
-      by None e =
-          let no : false ≡ true = sym (never_one xs e) ∙ h in
-          absurd (cc)
-      by (Some b) e = one xs (e ∙ sym (g b e)) ∙ h
+      by a0 e = search (arith, rules, never_one, one)
 
   in_imports : (b : Body) → Carries s r (libraries_in b) → Within (imported_names s b) (imported_names r b)
   in_imports trees.end g = none
@@ -322,11 +291,7 @@ module _ (s r : Sources) (e : Bool) (entry : Home) (g : (n : Text) (b : Body) �
           by (Some b) f = on_way s r e entry g (a_library n) q n (ap (λ c. c || false) (reflexive n)) b f ∙ sym f
 
   in_chain : (f : List Template → Bool) → InSomeChain s e entry (λ h. f (templates s h)) → InSomeChain r e entry (λ h. f (templates r h))
-  in_chain f x =
-      let p = there x.1 in
-      let k = both_true (is_whole s e x.0) (f (templates s x.0)) x.2 in
-      let w = whole_same x.0 p k.0 in
-      (x.0, p, and_true (is_whole r e x.0) (f (templates r x.0)) w.1 (ap f w.0 ∙ k.1))
+  in_chain f x = search (arith, rules, there, both_true, whole_same, and_true)
 
   pub required_not_given : RequiredNotGiven s e entry → RequiredNotGiven r e entry
   required_not_given = in_chain (λ us. lacks_body (their_blocks e us))

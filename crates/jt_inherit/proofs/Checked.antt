@@ -115,11 +115,7 @@ all_next bs n = any_none (λ b. lacks_super (named b.name bs)) (λ b. n b.name) 
 
 lacks_front : (x : Text) (bs cs : List BlockBody) → lacks_super (named x cs) ≡ true → lacks_super (named x (bs ++ cs)) ≡ true
 lacks_front x [] cs h = h
-lacks_front x (b ∷ bs) cs h = by (bytes_eq b.name x) (lacks_front x bs cs h)
-  where
-    by : (c : Bool) → lacks_super (named x (bs ++ cs)) ≡ true → lacks_super (cond c (b ∷ named x (bs ++ cs)) (named x (bs ++ cs))) ≡ true
-    by true r = or_true (calls_super b.body && is_empty (from_given (named x (bs ++ cs)))) (lacks_super (named x (bs ++ cs))) r
-    by false r = r
+lacks_front x (b ∷ bs) cs h = search (arith, rules, lacks_front x bs cs h, or_true)
 
 pub none_next : (bs : List BlockBody) (b : BlockBody) (cs : List BlockBody) → has_given b.name cs ≡ false → calls_super b.body ≡ true → lacks_next (bs ++ b ∷ cs) ≡ true
 none_next bs b cs n h = search (arith, rules, none_behind, reflexive, any_here, lacks_front)
@@ -156,10 +152,7 @@ or_three true d e = refl
 or_three false d e = refl
 
 or_swapped : (c d : Bool) → (c || d) ≡ (d || c)
-or_swapped true true = refl
-or_swapped true false = refl
-or_swapped false true = refl
-or_swapped false false = refl
+or_swapped a0 a1 = search (arith, rules)
 
 pub among_snoc : (l : List Text) (n y : Text) → among y (l ++ n ∷ []) ≡ (among y l || bytes_eq n y)
 among_snoc [] n y = or_nil (bytes_eq n y)
@@ -207,11 +200,7 @@ not_not false = refl
 
 -- a set that gets the name of a given body
 pub given_noted : (ks ms : List Text) (n : Text) (r : Bool) (x : Text) → ((y : Text) → among y ms ≡ (bytes_eq n y || among y ks)) → not r ≡ true → among x ms ≡ ((bytes_eq n x && not r) || among x ks)
-given_noted ks ms n r x m off = m x ∙ ap (λ c. c || among x ks) (with_true (bytes_eq n x)) ∙ ap (λ c. (bytes_eq n x && c) || among x ks) (sym off)
-  where
-    with_true : (c : Bool) → c ≡ (c && true)
-    with_true true = refl
-    with_true false = refl
+given_noted ks ms n r x m off = search (arith, rules)
 
 -- ---- templates by their places, one more
 

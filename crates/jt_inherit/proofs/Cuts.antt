@@ -93,10 +93,7 @@ pub unscanned : (options : Options) (given name : Text) (e : ScanError) (x : Cha
 unscanned options given name e a4 r p = search (arith, rules)
 
 pub too_long : (options : Options) (given : Text) (e : ScanError) → (max_source_len < length given → e ≡ scan_error.SourceTooLong 1) → (length given ≤ max_source_len → e ≡ scan_error.NoMemory) → (e ≡ scan_error.NoMemory → ⊥) → IsUncut e options given × HasNoTree options given
-too_long options given e long short f = ⊎_elim
-    (λ (gt : max_source_len < length given). (subst (λ z. IsUncut z options given) (sym (long gt)) (refl, gt), λ b t. let le = t.limited in omega (arith, gt, le)))
-    (λ (le : length given ≤ max_source_len). absurd (f (short le)))
-    (cases_lt max_source_len (length given))
+too_long options given e long short f = search (arith, rules, cases_lt)
 
 uncut_so : (options : Options) (given : Text) (e : ScanError) → (e ≡ scan_error.NoMemory → ⊥) → scanner.IsRefusal e (chars (normalized options.keep_trailing_newline given)) → IsUncut e options given
 uncut_so options given a2 f r = search (arith, rules)

@@ -1,6 +1,6 @@
 -- Chains and libraries are few for the weight of their trees: each but the entry's chain has its own tag, an include or an import, which
 -- weighs at least 7.
-use Rattle.std.proofs.Common.{◌≡◌, suc, ◌+◌, ◌*◌, ◌≤◌, Bool, true, false, ◌||◌, ◌⊎◌, inl, inr, if◌then◌else◌, List, [], ◌∷◌, ◌++◌, length, refl, sym, ap, ◌∙◌, subst, arith, length-append, rules}
+use Rattle.std.proofs.Common.{◌≡◌, ◌+◌, ◌*◌, ◌≤◌, Bool, true, false, ◌||◌, ◌⊎◌, inl, inr, List, [], ◌∷◌, ◌++◌, length, refl, sym, ap, ◌∙◌, subst, arith, length-append, rules}
 use Rattle.std.specs.Prelude.{not, flat_map, filter, IsTrue}
 use Rattle.std.proofs.lemmas.List.{length-map}
 use Rattle.jt_trees.specs.Expressions.{Text}
@@ -64,11 +64,7 @@ templates_lead (t ∷ ts) =
 
 filtered_le : (p : Text → Bool) (xs : List Text) → length (filter p xs) ≤ length xs
 filtered_le p [] = omega arith
-filtered_le p (x ∷ xs) = by (p x) (filtered_le p xs)
-  where
-    by : (b : Bool) → length (filter p xs) ≤ length xs → length (if b then x ∷ filter p xs else filter p xs) ≤ suc (length xs)
-    by true h = omega (arith, h)
-    by false h = omega (arith, h)
+filtered_le p (x ∷ xs) = search (arith, rules, filtered_le p xs)
 
 module _ (sources : Sources) where
   abbrev pub needed : Home → List Text
@@ -92,11 +88,7 @@ module _ (sources : Sources) where
 
   all_listed : (m : Home) (ms hs : List Home) → AllIn ms hs → listed m ms ≡ true → listed m hs ≡ true
   all_listed m [] hs a e = absurd cc
-  all_listed m (n ∷ ms) hs a e = by (same_home n m) refl e (all_listed m ms hs a.1)
-    where
-      by : (b : Bool) → same_home n m ≡ b → (b || listed m ms) ≡ true → (listed m ms ≡ true → listed m hs ≡ true) → listed m hs ≡ true
-      by true is f g = subst (λ x. listed x hs ≡ true) (same n m is) a.0
-      by false is f g = g f
+  all_listed m (n ∷ ms) hs a e = search (arith, rules, all_listed m ms hs a.1, same)
 
   closed_in : (hs : List Home) → InOrder sources hs → (k m : Home) → listed k hs ≡ true → listed m (included sources k) ≡ true → listed m hs ≡ true
   closed_in [] o k m e i = absurd cc
@@ -112,11 +104,7 @@ module _ (sources : Sources) where
 
   pub tagged : (escaping : Bool) (order : List Home) → InOrder sources order → {g h : Home} → Reaches sources escaping g h → listed g order ≡ true → (h ≡ g) ⊎ HasTag order h
   tagged escaping order o here e = inl refl
-  tagged escaping order o (through {h = g} {m = m} {k = h} i r) e = by (tagged escaping order o r (closed_in order o g m e i))
-    where
-      by : (h ≡ m) ⊎ HasTag order h → (h ≡ g) ⊎ HasTag order h
-      by (inl is) = inr (g, e, subst (λ x. listed x (included sources g) ≡ true) (sym is) i)
-      by (inr t) = inr t
+  tagged escaping order o (through {h = g} {m = m} {k = h} i r) e = search (arith, rules, tagged escaping order o r (closed_in order o g m e i), closed_in)
 
   listed_flat : (h k : Home) (order : List Home) → listed k order ≡ true → listed h (included sources k) ≡ true → listed h (flat_map (included sources) order) ≡ true
   listed_flat h k [] e i = absurd cc

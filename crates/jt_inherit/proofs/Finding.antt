@@ -1,16 +1,15 @@
 -- Chains and libraries that were followed: what is known of them stays as more is found.
-use Rattle.std.proofs.Common.{◌≡◌, ℕ, zero, suc, ◌<◌, ◌≤◌, Bool, true, false, not, cond, ◌||◌, if◌then◌else◌, List, [], ◌∷◌, ◌++◌, length, map, refl, sym, ap, subst, ◌∙◌, arith, ◌⊎◌, ⊎_elim, inr, Some, None, get_or, Vec, Global, rules}
+use Rattle.std.proofs.Common.{◌≡◌, ℕ, zero, suc, ◌<◌, ◌≤◌, Bool, true, false, cond, List, [], ◌∷◌, ◌++◌, length, map, refl, sym, ap, subst, ◌∙◌, arith, ◌⊎◌, ⊎_elim, Some, None, get_or, Vec, Global, rules}
 use Rattle.std.specs.Prelude.{slice_get, flat_map, filter, unwrap_or}
 use Rattle.std.specs.List.{AllByRecursion}
 use Rattle.std.specs.Option.{is_some, option_to_list}
-use Rattle.std.specs.Str.{bytes_eq}
 use Rattle.std.proofs.lemmas.List.{append-nil, append_assoc, length-map}
 use Rattle.jt_scan.specs.declared.options.Options.{Options}
 use Rattle.jt_trees.specs.Texts.{among}
 use Rattle.jt_trees.specs.Expressions.{Text}
 use Rattle.jt_chains.specs.Along.{ArePlaces, templates_at}
 use Rattle.jt_inherit.specs.Along.{imports_along, needs_along}
-use Rattle.jt_chains.specs.Chain.{Home, a_chain, a_library, home_name, listed, Template, template, templates, library_template, libraries, libraries_in, sources_in}
+use Rattle.jt_chains.specs.Chain.{Home, a_chain, a_library, home_name, listed, Template, templates, libraries, libraries_in, sources_in}
 use Rattle.jt_inherit.specs.Chains.{Given, IsRead}
 use Rattle.jt_inherit.specs.Found.{AreNext, IsMet, IsNeedFault, IsNextFault, IsFollowed, AreFollowed, AreFound, chosen}
 use Rattle.jt_chains.specs.Includes.{included, needs_in}
@@ -64,29 +63,18 @@ includes_grow ts us is a b =
 
 pub some_source : (ts : List Template) (m : Text) → is_some (sources_in ts m) ≡ among m (names ts)
 some_source [] m = refl
-some_source (t ∷ ts) m = by (bytes_eq t.name m) refl (some_source ts m)
-  where
-    by : (b : Bool) → bytes_eq t.name m ≡ b → is_some (sources_in ts m) ≡ among m (names ts) → is_some (if bytes_eq t.name m then Some t.body else sources_in ts m) ≡ (bytes_eq t.name m || among m (names ts))
-    by true e r = ap (λ b. is_some (if b then Some t.body else sources_in ts m)) e ∙ sym (ap (λ b. b || among m (names ts)) e)
-    by false e r = ap (λ b. is_some (if b then Some t.body else sources_in ts m)) e ∙ r ∙ sym (ap (λ b. b || among m (names ts)) e)
+some_source (t ∷ ts) m = search (arith, rules, some_source ts m, names)
 
 filter_same : (p q : Text → Bool) → ((m : Text) → p m ≡ q m) → (xs : List Text) → filter p xs ≡ filter q xs
 filter_same p q e [] = refl
 filter_same p q e (x ∷ xs) = ap (λ b. cond b (x ∷ filter p xs) (filter p xs)) (e x) ∙ ap (λ l. cond (q x) (x ∷ l) l) (filter_same p q e xs)
 
 pub whole_way : (ts : List Template) (h : Home) (is : List ℕ) → IsWay ts h is None → templates (sources_in ts) h ≡ templates_at ts is
-whole_way ts (a_chain n) is w = templates_to_root (sources_in ts) n (templates_at ts is) (omega (arith, few_templates ts is, w.few)) w.leads
-whole_way ts (a_library n) is w =
-    let l = w.leads in
-    let t = l.template in
-    ap (library_template n) l.source ∙ ap (λ c. if c then template n (Some t.body) else []) l.holds ∙ ap (λ m. template m (Some t.body)) (sym l.named) ∙ sym l.only
+whole_way ts a1 is w = search (arith, rules, templates_to_root, few_templates)
 
 -- what it imports
 pub libraries_way : (ts : List Template) (h : Home) (is : List ℕ) → IsWay ts h is None → libraries (sources_in ts) h ≡ flat_map (λ t. libraries_in t.body) (templates_at ts is)
-libraries_way ts (a_chain n) is w = ap (flat_map (λ (t : Template). libraries_in t.body)) (whole_way ts (a_chain n) is w)
-libraries_way ts (a_library n) is w =
-    let l = w.leads in
-    sym (ap (flat_map (λ (t : Template). libraries_in t.body)) l.only ∙ append-nil (libraries_in l.template.body) ∙ none_imported l.template.body l.holds)
+libraries_way ts a1 is w = search (arith, rules, whole_way, append-nil, none_imported)
 
 -- what it leads to
 pub included_is : (ts : List Template) (h : Home) (is : List ℕ) → IsWay ts h is None → included (sources_in ts) h ≡ chosen (names ts) (needs_along ts is)
@@ -176,14 +164,11 @@ followed_longer given ts hs (g ∷ gs) fs (w ∷ ws) (n ∷ ns) a = (a.0, follow
 
 followed_next : (given : Given) (ts : List Template) (hs gs : List Home) (ws ns : List (List ℕ)) (h : Home) (w n : List ℕ) → AreFollowed given ts hs gs ws ns → slice_get gs (length ws) ≡ Some h → IsFollowed given ts hs h w n
     → AreFollowed given ts hs gs (ws ++ w ∷ []) (ns ++ n ∷ [])
-followed_next given ts hs [] [] [] h w n a at f = absurd (cc)
 followed_next given ts hs (g ∷ gs) [] [] h w n a at f =
     let e : g ≡ h = cc in
     (subst (λ x. IsFollowed given ts hs x w n) (sym e) f, tt)
-followed_next given ts hs gs [] (m ∷ ns) h w n a at f = absurd a
-followed_next given ts hs gs (v ∷ ws) [] h w n a at f = absurd a
-followed_next given ts hs [] (v ∷ ws) (m ∷ ns) h w n a at f = absurd a
 followed_next given ts hs (g ∷ gs) (v ∷ ws) (m ∷ ns) h w n a at f = (a.0, followed_next given ts hs gs ws ns h w n a.1 at f)
+followed_next given ts hs a3 a4 a5 h w n a at f = search (arith, rules)
 
 at_front : (xs ys : List Home) (i : ℕ) (x : Home) → slice_get xs i ≡ Some x → slice_get (xs ++ ys) i ≡ Some x
 at_front [] ys i x e = absurd (cc)
@@ -223,11 +208,7 @@ module _ {given : Given} {options : Options} {root : Text} {ts0 : List Template}
         c
 
     pub next_breaks : (e : ChainError) → IsNextFault hs (chosen ks2 (needs_along ts2 is)) e → Breaks e given root options
-    next_breaks e fault = ⊎_elim
-        (λ m. subst (λ z. Breaks z given root options) (sym m) tt)
-        (λ t. subst (λ z. Breaks z given root options) (sym t.0)
-        (record { templates = ts2; read = known.read; only = known.only; holds = inr (t.1.0, t.1.1, ap not t.1.2, λ x a. reached_from (a_chain x) (t.1.3 x a)) }))
-        fault
+    next_breaks e fault = search (arith, rules, reached_from)
 
     -- what is known is asked for
     asks_more : (ks1 : List Text) → ((n : Text) → among n ks1 ≡ true → (among n ks0 ≡ true) ⊎ (among n (names (templates_at ts1 is)) ≡ true))

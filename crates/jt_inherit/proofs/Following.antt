@@ -59,10 +59,7 @@ pub numbers_grow : (xs ys : List Home) (is : List ℕ) (ns : List Home) → map 
 numbers_grow xs ys [] [] e = refl
 numbers_grow xs ys [] (n ∷ ns) e = absurd (cc)
 numbers_grow xs ys (i ∷ is) [] e = absurd (cc)
-numbers_grow xs ys (i ∷ is) (n ∷ ns) e =
-    let h : slice_get xs i ≡ Some n = cc in
-    let r : map (slice_get xs) is ≡ map Some ns = cc in
-    ap (λ o. o ∷ map (slice_get (xs ++ ys)) is) (at_front xs ys i n h) ∙ ap (λ l. Some n ∷ l) (numbers_grow xs ys is ns r)
+numbers_grow xs ys (i ∷ is) (n ∷ ns) e = search (arith, rules, at_front, numbers_grow xs ys is ns)
 
 pub next_both : (a b c xs ys : List Home) (is js : List ℕ) → AreNext a b xs is → AreNext b c ys js → AreNext a c (xs ++ ys) (is ++ js)
 next_both a b c xs ys is js p q = search (arith, rules, append_assoc, listed_front, listed_behind, map-append, numbers_grow)

@@ -161,10 +161,7 @@ module _ (s r : Sources) (e : Bool) (entry : Home) (g : (n : Text) (b : Body) �
   libraries_more (a_library n) p = ([], refl)
 
   pub needs_more : (all : Bool) (h : Home) → Reaches r e entry h → (n : Text) → among n (flat_map (λ t. needs_in all t.body) (templates s h)) ≡ true → among n (flat_map (λ t. needs_in all t.body) (templates r h)) ≡ true
-  needs_more all h p n a =
-      let f : Template → List Text = λ t. needs_in all t.body in
-      let more = home_more h p in
-      ap (among n) (ap (flat_map f) more.1 ∙ flat-append f (templates s h) more.0) ∙ among_front n (flat_map f (templates s h)) (flat_map f more.0) a
+  needs_more all h p n a = search (arith, rules, home_more, flat-append, among_front)
 
   pub imports_more : (h : Home) → Reaches r e entry h → (n : Text) → among n (libraries s h) ≡ true → among n (libraries r h) ≡ true
   imports_more h p n a =

@@ -1,6 +1,6 @@
 -- Sets of chains and libraries: where one is, and what is there when one is put.
-use Rattle.std.proofs.Common.{◌≡◌, ℕ, ◌+◌, ◌<◌, ◌≤◌, Bool, true, false, cond, ◌||◌, if◌then◌else◌, List, [], ◌∷◌, ◌++◌, length, drop, get_or, refl, sym, ap, ◌∙◌, arith, Option, Some, None, string_bytes, MatchOption, length-append}
-use Rattle.std.specs.Prelude.{slice_get, option_map}
+use Rattle.std.proofs.Common.{◌≡◌, ℕ, ◌+◌, ◌<◌, ◌≤◌, Bool, true, false, cond, ◌||◌, if◌then◌else◌, List, [], ◌∷◌, ◌++◌, length, drop, get_or, refl, sym, ap, ◌∙◌, arith, Option, Some, string_bytes, MatchOption, length-append, rules}
+use Rattle.std.specs.Prelude.{slice_get}
 use Rattle.std.specs.List.{list_any, position_from}
 use Rattle.std.proofs.lemmas.List.{append-nil, drop_more}
 use Rattle.std.proofs.lemmas.Option.{slice_get-map}
@@ -24,11 +24,7 @@ any_home h (k ∷ ks) =
 
 pub find_told : (h : Home) (ks : List HomeKey) (r : Option ℕ) → r ≡ position_from (λ k. same_home h (key_view k)) 0 ks
     → MatchOption r (listed h (keys_view ks) ≡ false) (λ i. slice_get (keys_view ks) i ≡ Some h)
-find_told h ks None e = sym (any_home h ks) ∙ first_none (λ (k : HomeKey). same_home h (key_view k)) 0 ks (sym e)
-find_told h ks (Some i) e =
-    let f = first_found (λ (k : HomeKey). same_home h (key_view k)) 0 ks i (sym e) in
-    let at : i ≡ f.0 = omega (arith, f.2) in
-    ap (slice_get (keys_view ks)) at ∙ slice_get-map key_view ks f.0 ∙ ap (option_map key_view) f.3 ∙ ap Some (sym (same h (key_view f.1) f.4))
+find_told h ks a2 e = search (arith, rules, any_home, first_none, first_found, slice_get-map, same)
 
 -- ---- chains among them, one after the other
 
@@ -42,11 +38,7 @@ few_chains (k ∷ hs) = by k.is_library (few_chains hs)
 
 pub chain_turn : (hs : List HomeKey) (i : ℕ) (k : HomeKey) → i < length hs → k ≡ get_or hs i k
     → length (chains_of (keys_view (drop i hs))) ≡ (if k.is_library then 0 else 1) + length (chains_of (keys_view (drop (i + 1) hs)))
-chain_turn hs i k lt is = ap (λ (l : List HomeKey). length (chains_of (keys_view l))) (drop_more hs i k lt ∙ ap (λ z. z ∷ drop (i + 1) hs) (sym is)) ∙ by k.is_library
-  where
-    by : (b : Bool) → length (chains_of ((if b then a_library (string_bytes k.name) else a_chain (string_bytes k.name)) ∷ keys_view (drop (i + 1) hs))) ≡ (if b then 0 else 1) + length (chains_of (keys_view (drop (i + 1) hs)))
-    by true = omega arith
-    by false = omega arith
+chain_turn hs i k lt is = search (arith, rules, drop_more, string_bytes)
 
 pub is_chain : (k : HomeKey) → k.is_library ≡ false → key_view k ≡ a_chain (string_bytes k.name)
 is_chain k e = ap (λ (b : Bool). if b then a_library (string_bytes k.name) else a_chain (string_bytes k.name)) e

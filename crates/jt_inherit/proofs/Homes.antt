@@ -1,5 +1,5 @@
 -- Chains and libraries among others.
-use Rattle.std.proofs.Common.{◌≡◌, ℕ, zero, suc, ◌≤◌, Bool, true, false, cond, ◌||◌, List, [], ◌∷◌, ◌++◌, length, refl, sym, ap, ◌∙◌, arith, ◌⊎◌, ⊎_elim, inl, inr, Some, rules}
+use Rattle.std.proofs.Common.{◌≡◌, ℕ, zero, suc, ◌≤◌, Bool, true, false, cond, ◌||◌, List, [], ◌∷◌, ◌++◌, length, refl, sym, ap, ◌∙◌, arith, ◌⊎◌, inr, Some, rules}
 use Rattle.std.specs.Prelude.{slice_get}
 use Rattle.std.specs.Str.{bytes_eq}
 use Rattle.jt_trees.specs.Texts.{among}
@@ -43,18 +43,11 @@ not_next x y (z ∷ xs) h e =
 -- a name that isn't there comes behind others
 pub once_more : (x : Home) (xs : List Home) → twice xs ≡ false → listed x xs ≡ false → twice (xs ++ x ∷ []) ≡ false
 once_more x [] o h = refl
-once_more x (y ∷ xs) o h =
-    let a = or_false (listed y xs) (twice xs) o in
-    let b = or_false (same_home y x) (listed x xs) h in
-    both_false (listed y (xs ++ x ∷ [])) (twice (xs ++ x ∷ [])) (not_next y x xs a.0 (symmetric x y ∙ b.0)) (once_more x xs a.1 b.1)
+once_more x (y ∷ xs) o h = search (arith, rules, or_false, both_false, not_next, symmetric, once_more x xs)
 
 pub listed_cases : (x : Home) (xs ys : List Home) → listed x (xs ++ ys) ≡ true → (listed x xs ≡ true) ⊎ (listed x ys ≡ true)
 listed_cases x [] ys h = inr h
-listed_cases x (y ∷ xs) ys h = by (same_home y x) refl (listed_cases x xs ys)
-  where
-    by : (b : Bool) → same_home y x ≡ b → (listed x (xs ++ ys) ≡ true → (listed x xs ≡ true) ⊎ (listed x ys ≡ true)) → (listed x (y ∷ xs) ≡ true) ⊎ (listed x ys ≡ true)
-    by true e r = inl (ap (λ b. b || listed x xs) e)
-    by false e r = ⊎_elim (λ p. inl (or_true (same_home y x) (listed x xs) p)) (λ q. inr q) (r (sym (ap (λ b. b || listed x (xs ++ ys)) e) ∙ h))
+listed_cases x (y ∷ xs) ys h = search (arith, rules, listed_cases x xs ys, or_true)
 
 pub only_listed : (x y : Home) → listed y (x ∷ []) ≡ true → x ≡ y
 only_listed x y a = search (arith, rules, same)
@@ -97,10 +90,7 @@ no_more (x ∷ xs) ys once f =
     omega (arith, len, rest)
   where
     apart : (z : Home) (b : Bool) → same_home x z ≡ b → listed x xs ≡ false → listed z xs ≡ true → same_home x z ≡ false
-    apart z true e n a =
-        let m : listed x xs ≡ true = ap (λ w. listed w xs) (same x z e) ∙ a in
-        absurd (cc)
-    apart z false e n a = e
+    apart z a1 e n a = search (arith, rules, same)
 
 -- ---- by their places
 

@@ -245,10 +245,7 @@ pages_more ps qs p e = ap pages_view e ∙ map_more page_view ps p
 
 -- the name of the last page at its place
 pub page_last : (ps qs : List Page) (p : Page) (n : Text) (k : ℕ) → qs ≡ ps ++ p ∷ [] → string_bytes p.name ≡ n → k ≡ length ps → slice_get (names (pages_view qs)) k ≡ Some n
-page_last ps qs p n k e is at =
-    let len : k ≡ length (names (pages_view ps)) = omega (arith, at, length_names (pages_view ps), length-map ps page_view) in
-    ap (λ ts. slice_get (names ts) k) (pages_more ps qs p e) ∙ ap (λ l. slice_get l k) (map_more (λ (t : Template). t.name) (pages_view ps) (page_view p))
-    ∙ ap (slice_get (names (pages_view ps) ++ string_bytes p.name ∷ [])) len ∙ last_at (names (pages_view ps)) (string_bytes p.name) ∙ ap (λ (x : Text). Some x) is
+page_last ps qs p n k e is at = search (arith, rules, length_names, length-map, pages_more, map_more, string_bytes, last_at)
 
 -- ---- a way goes on
 
@@ -309,8 +306,4 @@ grow_on ps qs rs p q = (p.0 ++ q.0, q.1 ∙ ap (λ l. l ++ q.0) p.1 ∙ append_a
 
 pub on_way_turn : (ps : List Page) (is : List ℕ) (k : ℕ) (p : Page) (x : Text) → k < length is → ArePlaces (pages_view ps) is → p ≡ get_or ps (get_or is k 0) p
     → among x (names (templates_at (pages_view ps) (drop k is))) ≡ (bytes_eq (string_bytes p.name) x || among x (names (templates_at (pages_view ps) (drop (k + 1) is))))
-on_way_turn ps is k p x lt a at =
-    let ts = pages_view ps in
-    let i = get_or is k 0 in
-    let within : i < length ps = place_within ps is k lt a in
-    ap (λ l. among x (names (templates_at ts l))) (drop_more is k 0 lt) ∙ ap (λ o. among x (names (option_to_list o ++ templates_at ts (drop (k + 1) is)))) (map_at page_view ps i p within at)
+on_way_turn ps is k p x lt a at = search (arith, rules, get_or, place_within, drop_more, map_at)

@@ -1,9 +1,9 @@
 -- A tree is no longer than its source.
-use Rattle.std.proofs.Common.{◌≡◌, ℕ, ◌+◌, ◌<◌, ◌≤◌, Bool, List, [], ◌∷◌, ◌++◌, length, ap, arith, chars, IsUtf8, ⊎_elim}
+use Rattle.std.proofs.Common.{◌≡◌, ℕ, ◌+◌, ◌<◌, ◌≤◌, Bool, List, ◌∷◌, ◌++◌, length, ap, arith, chars, IsUtf8, ⊎_elim, rules}
 use Rattle.std.proofs.lemmas.Bool.{cases_lt}
 use Rattle.std.proofs.lemmas.Str.{encodes-chars, length-le-encodes}
 use Rattle.jt_scan.specs.declared.segment.TagKind.{TagKind}
-use Rattle.jt_scan.specs.Cut.{Text, Token, Segment, Spelled, a_name, a_number, a_text, a_sign, Inside, closed, space, token, Cuts, no_more, more, IsSegment, some_data, a_tag, a_comment, a_raw, second}
+use Rattle.jt_scan.specs.Cut.{Text, Token, Segment, Spelled, Inside, closed, space, token, Cuts, no_more, more, IsSegment, some_data, a_tag, a_comment, a_raw, second}
 use Rattle.jt_scan.specs.declared.segment.Mark.{Mark}
 use Rattle.jt_inherit.proofs.Raws.{closing_long, behind_short, endraw_short}
 use Rattle.jt_scan.specs.LineEnds.{normalized}
@@ -16,11 +16,7 @@ use Rattle.jt_inherit.proofs.Escapes.{bytes, bytes-append, bytes-cons, means_sho
 
 -- what a token's text is spelled by is no shorter
 token_short : {t : Token} {x rest : Text} → Spelled t x rest → token_bytes t ≤ bytes x
-token_short (a_name h a w) = omega arith
-token_short (a_number m le) = omega arith
-token_short (a_text {quote} {x} {v} h e m) =
-    omega (arith, means_short m, bytes-cons quote (x ++ (quote ∷ [])), bytes-append x (quote ∷ []))
-token_short (a_sign a) = omega arith
+token_short a0 = search (arith, rules, means_short, bytes-cons, bytes-append)
 
 inside_short : {k : TagKind} {depth : ℕ} {ts : List Token} {mark : Mark} {x rest : Text} → Inside k depth ts mark x rest → tokens_bytes ts + bytes rest ≤ bytes x
 inside_short {k} (closed {mark} {rest} ok) = omega (arith, closing_long k mark rest)

@@ -1,6 +1,6 @@
 -- Sets of names: where a name is, and which numbers there are when one is put.
-use Rattle.std.proofs.Common.{◌≡◌, ℕ, false, cond, ◌||◌, List, [], ◌∷◌, ◌++◌, length, refl, sym, ap, ◌∙◌, arith, Option, Some, None, String, Global, string_bytes, MatchOption}
-use Rattle.std.specs.Prelude.{slice_get, option_map}
+use Rattle.std.proofs.Common.{◌≡◌, ℕ, false, cond, ◌||◌, List, [], ◌∷◌, ◌++◌, length, refl, ap, ◌∙◌, arith, Option, Some, String, Global, string_bytes, MatchOption, rules}
+use Rattle.std.specs.Prelude.{slice_get}
 use Rattle.std.specs.BTreeMap.{get_by_text}
 use Rattle.std.specs.List.{list_any}
 use Rattle.std.specs.Str.{bytes_eq}
@@ -19,11 +19,7 @@ any_string x (k ∷ ks) = ap (λ b. b || list_any (is_text x) ks) (symmetric x (
 
 pub find_told : (x : Text) (ks : List (String Global)) (m : Table) (r : Option ℕ) → AreNumbers is_text ks m → r ≡ get_by_text m x
     → MatchOption r (among x (strings ks) ≡ false) (λ i. slice_get (strings ks) i ≡ Some x)
-find_told x ks m None k e = sym (any_string x ks) ∙ first_none (is_text x) 0 ks (sym (e ∙ k x))
-find_told x ks m (Some i) k e =
-    let f = first_found (is_text x) 0 ks i (sym (e ∙ k x)) in
-    let at : i ≡ f.0 = omega (arith, f.2) in
-    ap (slice_get (strings ks)) at ∙ slice_get-map string_bytes ks f.0 ∙ ap (option_map string_bytes) f.3 ∙ ap (λ (n : Text). Some n) (sym (same x (string_bytes f.1) f.4))
+find_told x ks m a3 k e = search (arith, rules, any_string, first_none, first_found, slice_get-map, string_bytes, same)
 
 pub put_told : (ks : List (String Global)) (k : String Global) (m n : Table) → AreNumbers is_text ks m → among (string_bytes k) (strings ks) ≡ false
     → ((x : Text) → get_by_text n x ≡ cond (bytes_eq (string_bytes k) x) (Some (length ks)) (get_by_text m x)) → AreNumbers is_text (ks ++ k ∷ []) n

@@ -1,5 +1,5 @@
 -- When a text is a name.
-use Rattle.std.proofs.Common.{ℕ, ◌<◌, ◌≤◌, ◌==◌, Bool, true, false, List, [], ◌∷◌, length, refl, arith, All, IsTrue, ◌↔◌, MatchBool}
+use Rattle.std.proofs.Common.{ℕ, ◌<◌, ◌≤◌, ◌==◌, Bool, true, false, List, [], ◌∷◌, length, refl, arith, All, IsTrue, ◌↔◌, MatchBool, rules}
 use Rattle.std.specs.List.{slice_split, AllWithin, HoldsAt}
 use Rattle.jt_chains.specs.Names.{Text, IsNameByte, IsPart, IsName}
 
@@ -14,10 +14,7 @@ not_empty (c ∷ x) h = omega arith
 
 -- what is left to test, where the text is short and each byte may stand in a name
 pub named : (x : Text) (b : Bool) → length x ≤ 255 → All IsNameByte x → (IsTrue b ↔ All IsPart (parts x)) → IsTrue b ↔ IsName x
-named x b l h w = (
-  λ t. record { some = not_empty x (w.0 t); short = l; bytes = h; parts = w.0 t },
-  λ n. w.1 n.parts,
-)
+named x b l h w = search (arith, rules, not_empty)
 
 not_all : {X : Type 0} (P : X → Type 0) (xs : List X) (k : ℕ) → k < length xs → HoldsAt (λ x. P x → ⊥) xs k → All P xs → ⊥
 not_all P [] k l h a = absurd (omega arith)

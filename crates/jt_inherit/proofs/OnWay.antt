@@ -1,9 +1,8 @@
 -- Templates on the way of a chain: their names, sources and weights.
-use Rattle.std.proofs.Common.{◌≡◌, ℕ, zero, suc, ◌≤◌, ◌==◌, Bool, true, false, ◌&&◌, ◌||◌, nat_lt, List, [], ◌∷◌, map, refl, sym, ap, subst, ◌∙◌, arith, Option, Some, None, rules}
-use Rattle.std.specs.Prelude.{slice_get, option_map}
+use Rattle.std.proofs.Common.{◌≡◌, ℕ, zero, suc, ◌≤◌, ◌==◌, Bool, true, false, ◌&&◌, nat_lt, List, [], ◌∷◌, map, refl, sym, ap, ◌∙◌, arith, Option, Some, None, rules}
+use Rattle.std.specs.Prelude.{slice_get}
 use Rattle.std.specs.List.{AllByRecursion, list_any}
 use Rattle.std.specs.Option.{is_none}
-use Rattle.std.specs.Str.{bytes_eq}
 use Rattle.std.proofs.lemmas.Bool.Decides.{nat_tests}
 use Rattle.jt_scan.specs.declared.options.Options.{Options}
 use Rattle.jt_trees.specs.Sizes.{body_bytes}
@@ -38,11 +37,7 @@ repeated_up s (suc k) (Some n) (t ∷ ts) l h = search (arith, rules, front_up, 
 
 pub all_among : (P : Text → Type 0) (ts : List Template) (n : Text) → AllByRecursion (λ t. P t.name) ts → among n (names ts) ≡ true → P n
 all_among P [] n a h = absurd (cc)
-all_among P (t ∷ ts) n a h = by (bytes_eq t.name n) refl (all_among P ts n a.1)
-  where
-    by : (b : Bool) → bytes_eq t.name n ≡ b → (among n (names ts) ≡ true → P n) → P n
-    by true e r = subst P (same t.name n e) a.0
-    by false e r = r (sym (ap (λ b. b || among n (names ts)) e) ∙ h)
+all_among P (t ∷ ts) n a h = search (arith, rules, all_among P ts n a.1, names, same)
 
 pub have_sources : (s : Sources) (ts : List Template) → AllByRecursion (λ t. s t.name ≡ Some t.body) ts → list_any (λ n. is_none (s n)) (names ts) ≡ false
 have_sources s [] a = refl
@@ -85,7 +80,4 @@ pub names_placed : (ts : List Template) (is : List ℕ) (us : List Template) →
 names_placed ts [] [] e = refl
 names_placed ts [] (u ∷ us) e = absurd (cc)
 names_placed ts (i ∷ is) [] e = absurd (cc)
-names_placed ts (i ∷ is) (u ∷ us) e =
-    let h : slice_get ts i ≡ Some u = cc in
-    let r : map (slice_get ts) is ≡ map Some us = cc in
-    ap (λ o. option_map (λ (t : Template). t.name) o ∷ names_at ts is) h ∙ ap (λ l. Some u.name ∷ l) (names_placed ts is us r)
+names_placed ts (i ∷ is) (u ∷ us) e = search (arith, rules, names_placed ts is us)

@@ -41,14 +41,8 @@ number_of (h ∷ hs) x a = by (same_home h x) refl (number_of hs x)
 one_number : (hs : List Home) (i j : ℕ) → twice hs ≡ false → i < length hs → j < length hs → home_at hs i ≡ home_at hs j → i ≡ j
 one_number [] i j once p q e = absurd (omega arith)
 one_number (h ∷ hs) zero zero once p q e = refl
-one_number (h ∷ hs) zero (suc j) once p q e =
-    let a : listed h hs ≡ true = ap (λ x. listed x hs) e ∙ home_among hs j (omega arith) in
-    let n = (or_false (listed h hs) (twice hs) once).0 in
-    absurd (cc)
-one_number (h ∷ hs) (suc i) zero once p q e =
-    let a : listed h hs ≡ true = ap (λ x. listed x hs) (sym e) ∙ home_among hs i (omega arith) in
-    let n = (or_false (listed h hs) (twice hs) once).0 in
-    absurd (cc)
+one_number (h ∷ hs) zero (suc j) once p q e = search (arith, rules, home_among, or_false)
+one_number (h ∷ hs) (suc i) zero once p q e = search (arith, rules, home_among, or_false)
 one_number (h ∷ hs) (suc i) (suc j) once p q e = ap suc (one_number hs i j (or_false (listed h hs) (twice hs) once).1 (omega arith) (omega arith) e)
 
 pub named_among : (hs : List Home) (j : ℕ) (is : List ℕ) → graph.among j is ≡ true → listed (home_at hs j) (map (home_at hs) is) ≡ true
@@ -86,11 +80,7 @@ names_in_order s hs g (i ∷ is) once w n o =
 
 all_in_among : (ms os : List Home) (m : Home) → AllIn ms os → listed m ms ≡ true → listed m os ≡ true
 all_in_among [] os m a h = absurd (cc)
-all_in_among (x ∷ ms) os m a h = by (same_home x m) refl (all_in_among ms os m a.1)
-  where
-    by : (b : Bool) → same_home x m ≡ b → (listed m ms ≡ true → listed m os ≡ true) → listed m os ≡ true
-    by true e r = ap (λ y. listed y os) (sym (same x m e)) ∙ a.0
-    by false e r = r (sym (ap (λ b. b || listed m ms) e) ∙ h)
+all_in_among (x ∷ ms) os m a h = search (arith, rules, all_in_among ms os m a.1, same)
 
 next_in_order : (s : Sources) (os : List Home) (k m : Home) → InOrder s os → listed k os ≡ true → listed m (included s k) ≡ true → listed m os ≡ true
 next_in_order s [] k m o a i = absurd (cc)

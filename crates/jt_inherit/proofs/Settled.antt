@@ -1,8 +1,7 @@
 -- An entry has one chain, up to the order of its parts, and none where a rule is broken.
-use Rattle.std.proofs.Common.{◌≡◌, ◌≢◌, ◌↔◌, Bool, true, false, ◌||◌, List, [], ◌∷◌, refl, sym, ap, subst, ◌∙◌, ⊎_elim, Option, Some, None, string_bytes, arith, rules}
+use Rattle.std.proofs.Common.{◌≡◌, ◌≢◌, ◌↔◌, Bool, true, false, List, [], ◌∷◌, refl, sym, ap, subst, ◌∙◌, ⊎_elim, Option, Some, None, string_bytes, arith, rules}
 use Rattle.std.specs.List.{AllByRecursion, list_any}
 use Rattle.std.specs.Option.{is_some, is_none}
-use Rattle.std.specs.Str.{bytes_eq}
 use Rattle.jt_scan.specs.declared.options.Options.{Options}
 use Rattle.jt_trees.specs.Texts.{among}
 use Rattle.jt_trees.specs.Expressions.{Text}
@@ -23,11 +22,7 @@ use Rattle.jt_inherit.proofs.Leads.{names}
 
 pub any_at : (p : Text → Bool) (x : Text) (xs : List Text) → among x xs ≡ true → p x ≡ true → list_any p xs ≡ true
 any_at p x [] a t = absurd (cc)
-any_at p x (y ∷ xs) a t = by (bytes_eq y x) refl (any_at p x xs)
-  where
-    by : (b : Bool) → bytes_eq y x ≡ b → (among x xs ≡ true → p x ≡ true → list_any p xs ≡ true) → (p y || list_any p xs) ≡ true
-    by true e r = ap (λ z. p z || list_any p xs) (same y x e) ∙ ap (λ b. b || list_any p xs) t
-    by false e r = or_true (p y) (list_any p xs) (r (sym (ap (λ b. b || among x xs) e) ∙ a) t)
+any_at p x (y ∷ xs) a t = search (arith, rules, any_at p x xs, same, or_true)
 
 -- the template of a source
 pub source_read : (P : Template → Type 0) (ts : List Template) (n : Text) (b : Body) → AllByRecursion P ts → sources_in ts n ≡ Some b → P (record { name = n; body = b })

@@ -1,7 +1,7 @@
 -- The library of a name among the templates that were read: its macros, and what is asked of it.
 use Rattle.std.proofs.Common.{◌≡◌, ℕ, ◌+◌, ◌<◌, length, drop, get_or, arith, string_bytes, Bool, true, false, ◌&&◌, ◌||◌, if◌then◌else◌, List, [], ◌∷◌, ◌++◌, refl, sym, ap, ◌∙◌, Option, Some, None, rules}
 use Rattle.std.specs.Prelude.{slice_get, flat_map}
-use Rattle.std.specs.Option.{is_some, is_none, option_to_list}
+use Rattle.std.specs.Option.{is_some, is_none}
 use Rattle.std.proofs.lemmas.List.{drop_more, length-map, append-nil}
 use Rattle.std.proofs.lemmas.Option.{slice_get_within}
 use Rattle.jt_trees.specs.Expressions.{Text}
@@ -10,7 +10,7 @@ use Rattle.jt_trees.specs.StatementView.{body_of}
 use Rattle.jt_trees.specs.Texts.{among, repeated}
 use Rattle.jt_chains.specs.Along.{ArePlaces, templates_at}
 use Rattle.jt_chains.specs.Tables.{library_macros}
-use Rattle.jt_chains.specs.Chain.{Sources, a_library, Template, template, library_template, holds_macros, is_a_library, MacroBody, macros, macros_in, public_macro, sources_in}
+use Rattle.jt_chains.specs.Chain.{Sources, a_library, Template, library_template, holds_macros, is_a_library, MacroBody, macros, macros_in, public_macro, sources_in}
 use Rattle.jt_chains.specs.Pages.{page_view, pages_view}
 use Rattle.jt_chains.specs.Rules.{lacks_one, lacks_macros}
 use Rattle.jt_chains.specs.declared.pages.Page.{Page}
@@ -32,11 +32,7 @@ abbrev own_macros : List Template → List MacroBody
 own_macros = flat_map (λ t. macros_in t.name t.body)
 
 held_read : (n m : Text) (b : Body) → m ≡ n → library_macros m b ≡ own_macros (library_template n (Some b))
-held_read n m b e = by (holds_macros b)
-  where
-    by : (c : Bool) → (if c then macros_in m b else []) ≡ own_macros (if c then template n (Some b) else [])
-    by true = ap (λ x. macros_in x b) e ∙ sym (append-nil (macros_in n b))
-    by false = refl
+held_read n m b e = search (arith, rules, append-nil)
 
 -- the template of a name, at its place
 module _ (ps : List Page) (ks : List Text) (k : AreNamed (pages_view ps) ks) (n : Text) (i : ℕ) (at : slice_get ks i ≡ Some n) where
@@ -67,11 +63,7 @@ module _ (ps : List Page) (ks : List Text) (k : AreNamed (pages_view ps) ks) (n 
     macros_there = held_read n (string_bytes p.name) (body_of p.template) name_is ∙ sym (ap (λ o. own_macros (library_template n o)) source_is)
 
 no_macros : (s : Sources) (n : Text) → is_a_library (s n) ≡ false → macros s (a_library n) ≡ []
-no_macros s n e = by (s n) e
-  where
-    by : (o : Option Body) → is_a_library o ≡ false → own_macros (library_template n o) ≡ []
-    by None h = refl
-    by (Some b) h = ap (λ (c : Bool). own_macros (if c then template n (Some b) else [])) h
+no_macros s n e = search (arith, rules)
 
 no_macro : (x : Text) → public_macro x [] ≡ None
 no_macro x = search (arith, rules)
@@ -97,8 +89,4 @@ library_lacks s n (x ∷ xs) e =
 -- a template of some asks for a macro that a library lacks
 pub lacking_turn : (s : Sources) (ps : List Page) (is : List ℕ) (k : ℕ) (p : Page) → k < length is → ArePlaces (pages_view ps) is → p ≡ get_or ps (get_or is k 0) p
     → any_lacks_macros s (templates_at (pages_view ps) (drop k is)) ≡ (lacks_macros s (body_of p.template) || any_lacks_macros s (templates_at (pages_view ps) (drop (k + 1) is)))
-lacking_turn s ps is k p lt a at =
-    let ts = pages_view ps in
-    let i = get_or is k 0 in
-    let within : i < length ps = place_within ps is k lt a in
-    ap (λ l. any_lacks_macros s (templates_at ts l)) (drop_more is k 0 lt) ∙ ap (λ o. any_lacks_macros s (option_to_list o ++ templates_at ts (drop (k + 1) is))) (map_at page_view ps i p within at)
+lacking_turn s ps is k p lt a at = search (arith, rules, get_or, place_within, drop_more, map_at)

@@ -30,11 +30,7 @@ kept_all (x ∷ xs) z ns a = kept_all xs z (inserted x ns) (kept_inserted x z ns
 
 here_all : (xs : List Text) (z : Text) (ns : List Text) → among z xs ≡ true → among z (all_inserted xs ns) ≡ true
 here_all [] z ns a = absurd cc
-here_all (x ∷ xs) z ns a = by (bytes_eq x z) refl (here_all xs z (inserted x ns))
-  where
-    by : (b : Bool) → bytes_eq x z ≡ b → (among z xs ≡ true → among z (all_inserted xs (inserted x ns)) ≡ true) → among z (all_inserted xs (inserted x ns)) ≡ true
-    by true e r = kept_all xs z (inserted x ns) (ap (λ y. among y (inserted x ns)) (sym (same x z e)) ∙ here_inserted x ns)
-    by false e r = r (sym (ap (λ b. b || among z xs) e) ∙ a)
+here_all (x ∷ xs) z ns a = search (arith, rules, here_all xs z (inserted x ns), kept_all, same, here_inserted)
 
 -- ---- the libraries of an order, and those that its chains import
 

@@ -1,5 +1,5 @@
 -- The chains and libraries that an entry reaches, all of them followed and checked, in an order of what they lead to.
-use Rattle.std.proofs.Common.{◌≡◌, ◌≢◌, ◌↔◌, ℕ, zero, suc, ◌+◌, ◌*◌, ◌<◌, ◌≤◌, ◌==◌, Bool, true, false, not, ◌&&◌, ◌||◌, nat_lt, List, [], ◌∷◌, ◌++◌, length, map, refl, sym, ap, subst, ◌∙◌, arith, inl, inr, ◌⊎◌, ⊎_elim, Option, Some, None, Vec, Global, rules}
+use Rattle.std.proofs.Common.{◌≡◌, ◌≢◌, ◌↔◌, ℕ, zero, suc, ◌+◌, ◌*◌, ◌<◌, ◌≤◌, ◌==◌, Bool, true, false, not, ◌&&◌, nat_lt, List, [], ◌∷◌, ◌++◌, length, map, refl, sym, ap, subst, ◌∙◌, arith, inl, inr, ◌⊎◌, ⊎_elim, Some, None, Vec, Global, rules}
 use Rattle.std.proofs.lemmas.List.{length-map, append-nil}
 use Rattle.std.specs.Prelude.{slice_get, unwrap_or}
 use Rattle.std.specs.List.{AllByRecursion, list_any}
@@ -15,10 +15,9 @@ use Rattle.jt_graph.specs.declared.error.OrderError.TheVariants as order
 use Rattle.jt_scan.specs.declared.options.Options.{Options}
 use Rattle.jt_trees.specs.Texts.{among, repeated}
 use Rattle.jt_trees.specs.Expressions.{Text}
-use Rattle.jt_trees.specs.Statements.{Body}
 use Rattle.jt_chains.specs.Along.{ArePlaces, templates_at}
 use Rattle.jt_inherit.specs.Along.{needs_along}
-use Rattle.jt_chains.specs.Chain.{Home, a_chain, same_home, listed, is_a_library, Template, templates, sources_in, all_bodies}
+use Rattle.jt_chains.specs.Chain.{Home, a_chain, listed, is_a_library, Template, templates, sources_in, all_bodies}
 use Rattle.jt_chains.specs.Chain.{given as given_in}
 use Rattle.jt_inherit.specs.Chains.{Given, IsChain}
 use Rattle.jt_inherit.specs.Checks.{lacks_body, lacks_next}
@@ -47,7 +46,6 @@ use Rattle.jt_inherit.proofs.Carried.{given_names}
 use Rattle.jt_inherit.proofs.Fewer.{few_chains}
 use Rattle.jt_inherit.proofs.Finding.{none_read, few_way, way_names, asked_way, placed_templates, included_is, whole_way, some_source}
 use Rattle.jt_inherit.proofs.Following.{text_among}
-use Rattle.jt_inherit.proofs.Homes as homes
 use Rattle.jt_inherit.proofs.Homes.{place_listed, chain_among}
 use Rattle.jt_inherit.proofs.Imported.{all_imported, none_given, none_lacking}
 use Rattle.jt_inherit.proofs.Leads.{names, few_templates, all_at_places}
@@ -93,10 +91,7 @@ some_within (h ∷ hs) (suc j) n e =
 numbers_within : (hs : List Home) (js : List ℕ) (ns : List Home) → map (slice_get hs) js ≡ map Some ns → AllByRecursion (λ j. j < length hs) js
 numbers_within hs [] ns e = tt
 numbers_within hs (j ∷ js) [] e = absurd (cc)
-numbers_within hs (j ∷ js) (n ∷ ns) e =
-    let h : slice_get hs j ≡ Some n = cc in
-    let r : map (slice_get hs) js ≡ map Some ns = cc in
-    (some_within hs j n h, numbers_within hs js ns r)
+numbers_within hs (j ∷ js) (n ∷ ns) e = search (arith, rules, some_within, numbers_within hs js ns)
 
 next_within : (given : Given) (ts : List Template) (hs gs : List Home) (ws ns : Graph) → AreFollowed given ts hs gs ws ns → AllByRecursion (λ js. AllByRecursion (λ j. j < length hs) js) ns
 next_within given ts hs gs [] [] a = tt
@@ -128,11 +123,7 @@ any_both p (x ∷ xs) ys a b =
 
 module _ (given : Given) (ts : List Template) where
   has_source : (n : Text) → among n (names ts) ≡ true → is_none (sources_in ts n) ≡ false
-  has_source n a = by (sources_in ts n) (some_source ts n ∙ a)
-    where
-      by : (o : Option Body) → is_some o ≡ true → is_none o ≡ false
-      by None e = absurd (cc)
-      by (Some b) e = refl
+  has_source n a = search (arith, rules, some_source)
 
   needs_sources : (ns : List Need) → AllByRecursion (IsMet given (names ts)) ns → list_any (λ n. is_none (sources_in ts n)) (needed false ns) ≡ false
   needs_sources [] a = refl
@@ -140,11 +131,7 @@ module _ (given : Given) (ts : List Template) where
 
   needs_met : (P : Text → Type 0) → ((n : Need) → IsMet given (names ts) n → P n.name) → (ns : List Need) → AllByRecursion (IsMet given (names ts)) ns → (x : Text) → among x (needed true ns) ≡ true → P x
   needs_met P f [] a x h = absurd (cc)
-  needs_met P f (n ∷ ns) a x h = by (bytes_eq n.name x) refl (needs_met P f ns a.1 x)
-    where
-      by : (b : Bool) → bytes_eq n.name x ≡ b → (among x (needed true ns) ≡ true → P x) → P x
-      by true e r = subst P (same n.name x e) (f n a.0)
-      by false e r = r (sym (ap (λ b. b || among x (needed true ns)) e) ∙ h)
+  needs_met P f (n ∷ ns) a x h = search (arith, rules, needs_met P f ns a.1 x, same)
 
 -- ---- a chain that was followed
 
@@ -273,11 +260,7 @@ module _ {given : Given} {options : Options} {entry : Text} {ts : List Template}
       where
         from : (js : List ℕ) → AllByRecursion (λ i. i < length hs) js → listed x (map (home_at hs) js) ≡ true → listed x hs ≡ true
         from [] w a = absurd (cc)
-        from (j ∷ js) w a = by (same_home (home_at hs j) x) refl (from js w.1)
-          where
-            by : (b : Bool) → same_home (home_at hs j) x ≡ b → (listed x (map (home_at hs) js) ≡ true → listed x hs ≡ true) → listed x hs ≡ true
-            by true e r = ap (λ y. listed y hs) (sym (homes.same (home_at hs j) x e)) ∙ home_among hs j w.0
-            by false e r = r (sym (ap (λ b. b || listed x (map (home_at hs) js)) e) ∙ a)
+        from (j ∷ js) w a = search (arith, rules, from js w.1, home_among)
 
     ordered : {h : Home} → Reaches (sources_in ts) options.autoescape (a_chain entry) h → listed h (map (home_at hs) is) ≡ true
     ordered r = reached_in_order (sources_in ts) options.autoescape (map (home_at hs) is) in_order r entry_in

@@ -1,4 +1,5 @@
--- What only private clauses cite: what the templates at some places include and import, in this order.
+-- What only private clauses cite: what the templates at some places include and import, in this
+-- order.
 use Rattle.std.specs.Prelude.{ℕ, List, ◌++◌}
 use Rattle.jt_chains.specs.Along.{along}
 use Rattle.jt_chains.specs.Chain.{Template}

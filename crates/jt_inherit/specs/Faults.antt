@@ -1,4 +1,5 @@
--- What only private clauses cite: what a refusal of one source says, before it is a refusal of a chain.
+-- What only private clauses cite: what a refusal of one source says, before it is a refusal of a
+-- chain.
 use Rattle.std.specs.Prelude.{◌≡◌, ◌≢◌, Some, None, string_bytes}
 use Rattle.jt_scan.specs.declared.error.ScanError.{ScanError}
 use Rattle.jt_scan.specs.declared.error.ScanError.TheVariants as scan_error
@@ -12,10 +13,13 @@ use Rattle.jt_inherit.specs.Refusals.{IsUncut, IsUnspelled}
 use Rattle.jt_inherit.specs.declared.error.ChainError.{ChainError}
 use Rattle.jt_inherit.specs.declared.error.ChainError.TheVariants as error
 
--- the refusal, which names the template, is one of its source, which spells no tree; want of memory is no claim about it
+-- the refusal, which names the template, is one of its source, which spells no tree; want of memory
+-- is no claim about it
 abbrev pub IsFault : ChainError → Text → Options → Text → Type 0
-IsFault (error.Scan n e) name options source = (string_bytes n ≡ name) × IsUncut e options source × HasNoTree options source
-IsFault (error.Parse n e) name options source = (string_bytes n ≡ name) × IsUnspelled e options source × HasNoTree options source
+IsFault (error.Scan n e) name options source =
+    (string_bytes n ≡ name) × IsUncut e options source × HasNoTree options source
+IsFault (error.Parse n e) name options source =
+    (string_bytes n ≡ name) × IsUnspelled e options source × HasNoTree options source
 IsFault error.NoMemory name options source = Unit {0}
 IsFault e name options source = ⊥
 
@@ -23,8 +27,18 @@ IsFault e name options source = ⊥
 abbrev pub IsFaultOf : ChainError → Given → Text → Options → Type 0
 IsFaultOf error.BadName given name options = IsName name → ⊥
 IsFaultOf error.Missing given name options = given name ≡ None
-IsFaultOf (error.Scan n e) given name options = (string_bytes n ≡ name) × ((source : Text) × (given name ≡ Some source) × IsUncut e options source × HasNoTree options source)
-IsFaultOf (error.Parse n e) given name options = (string_bytes n ≡ name) × ((source : Text) × (given name ≡ Some source) × IsUnspelled e options source × HasNoTree options source)
+IsFaultOf (error.Scan n e) given name options =
+    (string_bytes n ≡ name)
+    × ((source : Text)
+    × (given name ≡ Some source)
+    × IsUncut e options source
+    × HasNoTree options source)
+IsFaultOf (error.Parse n e) given name options =
+    (string_bytes n ≡ name)
+    × ((source : Text)
+    × (given name ≡ Some source)
+    × IsUnspelled e options source
+    × HasNoTree options source)
 IsFaultOf error.NoMemory given name options = Unit {0}
 IsFaultOf e given name options = ⊥
 

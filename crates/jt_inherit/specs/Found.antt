@@ -1,5 +1,5 @@
--- What only private clauses cite: chains and libraries while they are looked for: what is known of their includes and imports, and of those
--- that were followed.
+-- What only private clauses cite: chains and libraries while they are looked for: what is known of
+-- their includes and imports, and of those that were followed.
 use Rattle.std.specs.Prelude.{◌≡◌, ℕ, ◌<◌, ◌≤◌, ◌⊎◌, true, false, Bool, IsTrue, List, [], ◌∷◌, ◌++◌, ◌||◌, length, map, filter, slice_get, Some, None}
 use Rattle.std.specs.List.{AllByRecursion}
 use Rattle.jt_graph.specs.Graph.{next_of}
@@ -26,16 +26,21 @@ use Rattle.jt_inherit.specs.declared.error.ChainError.{ChainError}
 use Rattle.jt_chains.specs.declared.linked.Home.{Home}
 use Rattle.jt_inherit.specs.declared.error.ChainError.TheVariants as error
 
--- a template that is included or imported is known, or it may be missing, and is: its name is a good one without a source
+-- a template that is included or imported is known, or it may be missing, and is: its name is a
+-- good one without a source
 abbrev pub IsMet : Given → List Text → Need → Type 0
-IsMet given known n = IsTrue (among n.name known) ⊎ (IsTrue n.ignoring × IsName n.name × (given n.name ≡ None))
+IsMet given known n =
+    IsTrue (among n.name known) ⊎ (IsTrue n.ignoring × IsName n.name × (given n.name ≡ None))
 
 -- the refusal is one of the template, which may not be missing
 abbrev pub IsFaultAt : Given → Options → Need → ChainError → Type 0
-IsFaultAt given options n e = IsFaultOf e given n.name options × (e ≡ error.Missing → n.ignoring ≡ false)
+IsFaultAt given options n e =
+    IsFaultOf e given n.name options × (e ≡ error.Missing → n.ignoring ≡ false)
 
--- the refusal is one of a template that is included or imported, and that may not be missing where it is
-pub record IsNeedFault (given : Given) (options : Options) (ns : List Need) (e : ChainError) : Type 0 where
+-- the refusal is one of a template that is included or imported, and that may not be missing where
+-- it is
+pub record IsNeedFault (given : Given) (options : Options) (ns : List Need) (e : ChainError) :
+    Type 0 where
   pub name : Text
   pub asked : IsTrue (among name (needed true ns))
   pub must : e ≡ error.Missing → IsTrue (among name (needed false ns))
@@ -66,43 +71,57 @@ pub record AreNext (old new names : List chain.Home) (numbers : List ℕ) : Type
   pub grown : new ≡ old ++ more
   pub once : twice new ≡ false
   pub few : length (chains_of new) ≤ max_chains
-  pub from : (h : chain.Home) → IsTrue (listed h new) → IsTrue (listed h old) ⊎ IsTrue (listed h names)
+  pub from : (h : chain.Home) → IsTrue (listed h new)
+      → IsTrue (listed h old) ⊎ IsTrue (listed h names)
   pub numbered : map (slice_get new) numbers ≡ map Some names
 
 -- with these their chains are more than 1,024
 abbrev pub TooMany : List chain.Home → List chain.Home → Type 0
 TooMany old names =
-    (ns : List Text) × (max_chains < length ns) × (repeated ns ≡ false) × ((n : Text) → IsTrue (among n ns) → IsTrue (listed (a_chain n) old) ⊎ IsTrue (listed (a_chain n) names))
+    (ns : List Text)
+    × (max_chains < length ns)
+    × (repeated ns ≡ false)
+    × ((n : Text)
+    → IsTrue (among n ns)
+    → IsTrue (listed (a_chain n) old) ⊎ IsTrue (listed (a_chain n) names))
 
 -- the numbers come behind others
 abbrev pub AddsNext : List chain.Home → List chain.Home → List chain.Home → List ℕ → List ℕ → Type 0
-AddsNext old new names before after = (numbers : List ℕ) × (after ≡ before ++ numbers) × AreNext old new names numbers
+AddsNext old new names before after =
+    (numbers : List ℕ) × (after ≡ before ++ numbers) × AreNext old new names numbers
 
 abbrev pub IsNextFault : List chain.Home → List chain.Home → ChainError → Type 0
 IsNextFault old names e = (e ≡ error.NoMemory) ⊎ ((e ≡ error.ChainTooLong) × TooMany old names)
 
--- the way of a chain or library was read, and what its templates include and import; these are the numbers of what it leads to
+-- the way of a chain or library was read, and what its templates include and import; these are the
+-- numbers of what it leads to
 pub record IsFollowed (given : Given) (ts : List Template) (hs : List chain.Home) (h : chain.Home) (way next : List ℕ) : Type 0 where
   pub led : IsWay ts h way None
   pub met : AllByRecursion (IsMet given (map (λ t. t.name) ts)) (needs_along ts way)
-  pub numbered : map (slice_get hs) next ≡ map Some (chosen (map (λ t. t.name) ts) (needs_along ts way))
+  pub numbered :
+      map (slice_get hs) next ≡ map Some (chosen (map (λ t. t.name) ts) (needs_along ts way))
 
 -- the first of them, as many as there are ways
-abbrev pub AreFollowed : Given → List Template → List chain.Home → List chain.Home → List (List ℕ) → List (List ℕ) → Type 0
+abbrev pub AreFollowed : Given → List Template → List chain.Home → List chain.Home → List (List ℕ)
+    → List (List ℕ) → Type 0
 AreFollowed given ts hs gs [] [] = Unit {0}
 AreFollowed given ts hs gs [] (n ∷ ns) = ⊥
 AreFollowed given ts hs gs (w ∷ ws) [] = ⊥
 AreFollowed given ts hs [] (w ∷ ws) (n ∷ ns) = ⊥
-AreFollowed given ts hs (g ∷ gs) (w ∷ ws) (n ∷ ns) = IsFollowed given ts hs g w n × AreFollowed given ts hs gs ws ns
+AreFollowed given ts hs (g ∷ gs) (w ∷ ws) (n ∷ ns) =
+    IsFollowed given ts hs g w n × AreFollowed given ts hs gs ws ns
 
--- the templates that were read, and the chains and libraries that were found, the entry's chain first
+-- the templates that were read, and the chains and libraries that were found, the entry's chain
+-- first
 pub record AreFound (given : Given) (options : Options) (root : Text) (ts : List Template) (names : List Text) (hs : List chain.Home) (ways next : List (List ℕ)) : Type 0 where
   pub known : AreKnown given options ts names
-  pub asked : (n : Text) → IsTrue (among n names) → Asks (sources_in ts) options.autoescape (a_chain root) n
+  pub asked : (n : Text) → IsTrue (among n names)
+      → Asks (sources_in ts) options.autoescape (a_chain root) n
   pub first : slice_get hs 0 ≡ Some (a_chain root)
   pub once : twice hs ≡ false
   pub few : length (chains_of hs) ≤ max_chains
-  pub reached : (h : chain.Home) → IsTrue (listed h hs) → Reaches (sources_in ts) options.autoescape (a_chain root) h
+  pub reached : (h : chain.Home) → IsTrue (listed h hs)
+      → Reaches (sources_in ts) options.autoescape (a_chain root) h
   pub followed : AreFollowed given ts hs hs ways next
 
 abbrev pub found_templates : Found → List Template
@@ -116,7 +135,9 @@ abbrev pub root_of : Found → Text
 root_of f = home_name (home_at (found_homes f) 0)
 
 abbrev pub IsFound : Given → Options → Found → Type 0
-IsFound given options f = AreFound given options (root_of f) (found_templates f) (names_view f.names) (found_homes f) (graph_of f.ways.items) (graph_of f.next.items)
+IsFound given options f =
+    AreFound given options (root_of f) (found_templates f) (names_view f.names) (found_homes f)
+    (graph_of f.ways.items) (graph_of f.next.items)
 
 -- nothing but the entry is known
 pub record IsFirst (entry : Text) (f : Found) : Type 0 where
@@ -127,7 +148,8 @@ pub record IsFirst (entry : Text) (f : Found) : Type 0 where
   pub next : f.next.items ≡ []
 
 -- the refusal is one of the templates of some chain or library
-pub record BreaksAt (escaping : Bool) (ts : List Template) (ways : List (List ℕ)) (e : ChainError) : Type 0 where
+pub record BreaksAt (escaping : Bool) (ts : List Template) (ways : List (List ℕ)) (e : ChainError) :
+    Type 0 where
   pub number : ℕ
   pub within : number < length ways
   pub broken : BreakOne (sources_in ts) escaping (templates_at ts (next_of ways number)) e
@@ -137,4 +159,5 @@ abbrev pub HasHomes : List chain.Home → List (List ℕ) → List ℕ → List 
 HasHomes hs ways [] [] = Unit {0}
 HasHomes hs ways [] (k ∷ ks) = ⊥
 HasHomes hs ways (i ∷ is) [] = ⊥
-HasHomes hs ways (i ∷ is) (k ∷ ks) = ((home_view k ≡ home_at hs i) × (k.templates.items ≡ next_of ways i)) × HasHomes hs ways is ks
+HasHomes hs ways (i ∷ is) (k ∷ ks) =
+    ((home_view k ≡ home_at hs i) × (k.templates.items ≡ next_of ways i)) × HasHomes hs ways is ks

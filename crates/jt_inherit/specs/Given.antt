@@ -25,4 +25,6 @@ macros_held p = library_macros (string_bytes p.name) (body_of p.template)
 -- the template of the name, or nothing where it wasn't read
 abbrev pub IsGiven : List Template → Text → Option (Bor Page) → Type 0
 IsGiven ts n None = is_a_library (sources_in ts n) ≡ false
-IsGiven ts n (Some p) = (is_a_library (sources_in ts n) ≡ holds_macros (body_of p.now.template)) × (macros_held p.now ≡ macros (sources_in ts) (a_library n))
+IsGiven ts n (Some p) =
+    (is_a_library (sources_in ts n) ≡ holds_macros (body_of p.now.template))
+    × (macros_held p.now ≡ macros (sources_in ts) (a_library n))

@@ -1,4 +1,5 @@
--- What only private clauses cite: the rules on the blocks, macros and imports of the templates of a chain, or of a library.
+-- What only private clauses cite: the rules on the blocks, macros and imports of the templates of a
+-- chain, or of a library.
 use Rattle.std.specs.Prelude.{◌≡◌, true, false, Bool, ◌||◌, ◌++◌, List, [], ◌∷◌, map, flat_map, if◌then◌else◌}
 use Rattle.std.specs.Option.{is_some, is_none}
 use Rattle.std.specs.List.{list_any}
@@ -14,7 +15,8 @@ use Rattle.jt_inherit.specs.declared.error.ChainError.TheVariants as error
 -- of the names that `from` gives those of macros that the library has
 abbrev pub names_from : List MacroBody → List (Text × Text) → List Text
 names_from ms [] = []
-names_from ms (x ∷ xs) = (if is_some (public_macro x.0 ms) then x.1 ∷ [] else []) ++ names_from ms xs
+names_from ms (x ∷ xs) =
+    (if is_some (public_macro x.0 ms) then x.1 ∷ [] else []) ++ names_from ms xs
 
 -- whether it has not all
 abbrev pub has_not : List MacroBody → List (Text × Text) → Bool
@@ -25,7 +27,8 @@ has_not ms (x ∷ xs) = is_none (public_macro x.0 ms) || has_not ms xs
 abbrev pub imported_names : Sources → Body → List Text
 imported_names s end = []
 imported_names s (stmt (import_as line n x) rest) = x ∷ imported_names s rest
-imported_names s (stmt (import_from line n xs) rest) = names_from (macros s (a_library n)) xs ++ imported_names s rest
+imported_names s (stmt (import_from line n xs) rest) =
+    names_from (macros s (a_library n)) xs ++ imported_names s rest
 imported_names s (stmt t rest) = imported_names s rest
 
 module _ (escaping : Bool) (ts : List Template) where

@@ -1,5 +1,6 @@
--- The law of refusals: a rule that is broken by the templates that were read is broken in each reading of the library, so that what is not
--- read yet cannot mend it. `Refusals.Shows` says what was read.
+-- The law of refusals: a rule that is broken by the templates that were read is broken in each
+-- reading of the library, so that what is not read yet cannot mend it. `Refusals.Shows` says what
+-- was read.
 use Rattle.std.specs.Prelude.{◌≡◌, Bool, Some}
 use Rattle.jt_scan.specs.declared.options.Options.{Options}
 use Rattle.jt_trees.specs.Expressions.{Text}
@@ -9,18 +10,26 @@ use Rattle.jt_chains.specs.Rules.{Missing, BadName, ExtendsCycle, ChainTooLong, 
 use Rattle.jt_inherit.specs.Chains.{Given, IsRead}
 use Rattle.jt_inherit.specs.Refusals.{Shows, IsMissing}
 
--- trees of a library's sources: one of each name of a template whose source spells a tree, and no others
+-- trees of a library's sources: one of each name of a template whose source spells a tree, and no
+-- others
 pub record IsReading (given : Given) (options : Options) (s : Sources) : Type 0 where
-  pub each : (n : Text) (b : Body) → IsRead given options (record { name = n; body = b }) → (c : Body) × (s n ≡ Some c)
-  pub read : (n : Text) (b : Body) → s n ≡ Some b → IsRead given options (record { name = n; body = b })
+  pub each : (n : Text) (b : Body) → IsRead given options (record { name = n; body = b })
+      → (c : Body) × (s n ≡ Some c)
+  pub read : (n : Text) (b : Body) → s n ≡ Some b
+      → IsRead given options (record { name = n; body = b })
 
 -- where the rule is shown to be broken, it is broken in each reading
 abbrev pub IsLasting : (Sources → Bool → Home → Type 0) → Type 0
 IsLasting Breaks =
-    (given : Given) (options : Options) (entry : Text) (s : Sources) → IsReading given options s → Shows given options (λ r. Breaks r options.autoescape (a_chain entry)) → Breaks s options.autoescape (a_chain entry)
+    (given : Given) (options : Options) (entry : Text) (s : Sources)
+    → IsReading given options s
+    → Shows given options (λ r. Breaks r options.autoescape (a_chain entry))
+    → Breaks s options.autoescape (a_chain entry)
 
 pub record RefusalLaws : Type 0 where
-  pub missing : (given : Given) (options : Options) (entry : Text) (s : Sources) → IsReading given options s → IsMissing given entry options → Missing s options.autoescape (a_chain entry)
+  pub missing : (given : Given) (options : Options) (entry : Text) (s : Sources)
+      → IsReading given options s → IsMissing given entry options
+      → Missing s options.autoescape (a_chain entry)
   pub bad_name : IsLasting BadName
   pub extends_cycle : IsLasting ExtendsCycle
   pub too_long : IsLasting ChainTooLong

@@ -1,4 +1,5 @@
--- What only private clauses cite: the line that a refusal of a source names: that of the tag in which it was found, or 1 where there is none.
+-- What only private clauses cite: the line that a refusal of a source names: that of the tag in
+-- which it was found, or 1 where there is none.
 use Rattle.std.specs.Prelude.{ℕ}
 use Rattle.jt_scan.specs.declared.error.ScanError.{ScanError}
 use Rattle.jt_scan.specs.declared.error.ScanError.TheVariants as scan_error

@@ -1,4 +1,5 @@
--- What only private clauses cite: the includes and imports of a template, in the order of the source.
+-- What only private clauses cite: the includes and imports of a template, in the order of the
+-- source.
 use Rattle.std.specs.Prelude.{Bool, true, false, not, ◌||◌, if◌then◌else◌, List, [], ◌∷◌, ◌++◌, map}
 use Rattle.jt_trees.specs.Expressions.{Text}
 use Rattle.jt_trees.specs.Statements.{Stmt, choose, for_each, set_block, with_values, filter_block, autoescape, macro, include, import_as, import_from, block, Body, end, stmt, Branches, no_branches, branch}
@@ -21,7 +22,8 @@ need_home n = if n.library then a_library n.name else a_chain n.name
 
 abbrev mutual
   pub includes_of : Stmt → List Need
-  includes_of (include line n ignore_missing with_context) = record { name = n; ignoring = ignore_missing; library = false } ∷ []
+  includes_of (include line n ignore_missing with_context) =
+      record { name = n; ignoring = ignore_missing; library = false } ∷ []
   includes_of (choose bs other) = includes_under bs ++ includes_in other
   includes_of (for_each line xs e c body other) = includes_in body ++ includes_in other
   includes_of (set_block line x body) = includes_in body

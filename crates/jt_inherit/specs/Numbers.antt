@@ -27,5 +27,7 @@ is_library x k = same_home (a_library x) (key_view k)
 abbrev pub AreNumbers : {A : Type 0} → (Text → A → Bool) → List A → Table → Type 0
 AreNumbers is xs m = (x : Text) → get_by_text m x ≡ position_from (is x) 0 xs
 
-pub AreNumbers-prop : {A : Type 0} (is : Text → A → Bool) (xs : List A) (m : Table) → IsProp (AreNumbers is xs m)
-AreNumbers-prop is xs m = Π_prop (λ x. Coded-set (coded_option coded_ℕ) (get_by_text m x) (position_from (is x) 0 xs))
+pub AreNumbers-prop : {A : Type 0} (is : Text → A → Bool) (xs : List A) (m : Table)
+    → IsProp (AreNumbers is xs m)
+AreNumbers-prop is xs m =
+    Π_prop (λ x. Coded-set (coded_option coded_ℕ) (get_by_text m x) (position_from (is x) 0 xs))

@@ -1,5 +1,6 @@
--- What a refusal says of a library and an entry. What has been read shows the broken rule: templates that are not read count as names
--- without a source, which breaks no rule but the one that a source is missing: a library that isn't read lacks no macro and holds nothing else.
+-- What a refusal says of a library and an entry. What has been read shows the broken rule:
+-- templates that are not read count as names without a source, which breaks no rule but the one
+-- that a source is missing: a library that isn't read lacks no macro and holds nothing else.
 use Rattle.std.specs.Prelude.{◌≡◌, ◌≢◌, ◌<◌, false, IsTrue, List, Some, None, length, map, string_bytes}
 use Rattle.std.specs.List.{AllByRecursion}
 use Rattle.jt_scan.specs.Cut.{Segment, IsCut}
@@ -34,7 +35,8 @@ pub record IsUnspelled (e : ParseError) (options : Options) (source : Text) : Ty
   pub cut : IsCut segments (scanned options source)
   pub refused : parser.IsRefusal e (pieces (map (λ s. (options, s)) segments))
 
--- templates that were read on the way from the entry, and that can be read in no other way, of which this holds
+-- templates that were read on the way from the entry, and that can be read in no other way, of
+-- which this holds
 pub record Shows (given : Given) (options : Options) (P : Sources → Type 0) : Type 0 where
   pub templates : List Template
   pub read : AreRead given options templates
@@ -52,22 +54,37 @@ pub record HasFault (given : Given) (entry : Text) (options : Options) (n : Text
 -- a name that is asked for, and may not be missing, has no source
 pub record IsMissing (given : Given) (entry : Text) (options : Options) : Type 0 where
   pub name : Text
-  pub reached : Shows given options (λ sources. Somewhere sources options.autoescape (a_chain entry) (λ h. IsTrue (among name (asked sources options.autoescape false h))))
+  pub reached :
+      Shows given options (λ sources.
+      Somewhere sources options.autoescape (a_chain entry)
+      (λ h. IsTrue (among name (asked sources options.autoescape false h))))
   pub found : given name ≡ None
 
 -- the refusal holds; want of memory is no claim
 abbrev pub Breaks : ChainError → Given → Text → Options → Type 0
 Breaks error.Missing given entry options = IsMissing given entry options
-Breaks error.BadName given entry options = Shows given options (λ s. rules.BadName s options.autoescape (a_chain entry))
-Breaks error.ExtendsCycle given entry options = Shows given options (λ s. rules.ExtendsCycle s options.autoescape (a_chain entry))
-Breaks error.ChainTooLong given entry options = Shows given options (λ s. rules.ChainTooLong s options.autoescape (a_chain entry))
-Breaks error.DoubleBlock given entry options = Shows given options (λ s. rules.DoubleBlock s options.autoescape (a_chain entry))
-Breaks error.RequiredNotGiven given entry options = Shows given options (λ s. rules.RequiredNotGiven s options.autoescape (a_chain entry))
-Breaks error.NoSuper given entry options = Shows given options (λ s. rules.NoSuper s options.autoescape (a_chain entry))
-Breaks error.IncludeCycle given entry options = Shows given options (λ s. rules.IncludeCycle s options.autoescape (a_chain entry))
-Breaks error.MacroTwice given entry options = Shows given options (λ s. rules.MacroTwice s options.autoescape (a_chain entry))
+Breaks error.BadName given entry options =
+    Shows given options (λ s. rules.BadName s options.autoescape (a_chain entry))
+Breaks error.ExtendsCycle given entry options =
+    Shows given options (λ s. rules.ExtendsCycle s options.autoescape (a_chain entry))
+Breaks error.ChainTooLong given entry options =
+    Shows given options (λ s. rules.ChainTooLong s options.autoescape (a_chain entry))
+Breaks error.DoubleBlock given entry options =
+    Shows given options (λ s. rules.DoubleBlock s options.autoescape (a_chain entry))
+Breaks error.RequiredNotGiven given entry options =
+    Shows given options (λ s. rules.RequiredNotGiven s options.autoescape (a_chain entry))
+Breaks error.NoSuper given entry options =
+    Shows given options (λ s. rules.NoSuper s options.autoescape (a_chain entry))
+Breaks error.IncludeCycle given entry options =
+    Shows given options (λ s. rules.IncludeCycle s options.autoescape (a_chain entry))
+Breaks error.MacroTwice given entry options =
+    Shows given options (λ s. rules.MacroTwice s options.autoescape (a_chain entry))
 Breaks error.NoMemory given entry options = Unit {0}
-Breaks error.NoMacro given entry options = Shows given options (λ s. rules.NoMacro s options.autoescape (a_chain entry))
-Breaks error.NotALibrary given entry options = Shows given options (λ s. rules.NotALibrary s options.autoescape (a_chain entry))
-Breaks (error.Scan n e) given entry options = HasFault given entry options (string_bytes n) (IsUncut e options)
-Breaks (error.Parse n e) given entry options = HasFault given entry options (string_bytes n) (IsUnspelled e options)
+Breaks error.NoMacro given entry options =
+    Shows given options (λ s. rules.NoMacro s options.autoescape (a_chain entry))
+Breaks error.NotALibrary given entry options =
+    Shows given options (λ s. rules.NotALibrary s options.autoescape (a_chain entry))
+Breaks (error.Scan n e) given entry options =
+    HasFault given entry options (string_bytes n) (IsUncut e options)
+Breaks (error.Parse n e) given entry options =
+    HasFault given entry options (string_bytes n) (IsUnspelled e options)

@@ -1,4 +1,5 @@
--- What only private clauses cite: what contracts see of sets of names and of homes: the names and homes in the order of their numbers.
+-- What only private clauses cite: what contracts see of sets of names and of homes: the names and
+-- homes in the order of their numbers.
 use Rattle.std.specs.Prelude.{List}
 use Rattle.jt_trees.specs.Expressions.{Text}
 use Rattle.jt_chains.specs.Chain.{Home}

@@ -19,7 +19,8 @@ use Rattle.jt_inherit.specs.Small.{source_len}
 use Rattle.jt_inherit.specs.declared.error.ChainError.{ChainError}
 use Rattle.jt_inherit.specs.declared.sets.Names.{Names}
 
--- these templates are the next ones on the way from a name, and behind them comes the last name, if any
+-- these templates are the next ones on the way from a name, and behind them comes the last name, if
+-- any
 abbrev pub Leads : Sources → Option Text → List Template → Option Text → Type 0
 Leads s o [] p = o ≡ p
 Leads s None (t ∷ ts) p = ⊥
@@ -48,17 +49,21 @@ abbrev pub AreNamed : List Template → List Text → Type 0
 AreNamed ts names = (names ≡ map (λ t. t.name) ts) × (repeated names ≡ false)
 
 pub AreNamed-prop : (ts : List Template) (names : List Text) → IsProp (AreNamed ts names)
-AreNamed-prop ts names = ×_prop (Coded-set (coded_list (coded_list coded_ℕ)) names (map (λ t. t.name) ts)) (Coded-set coded_bool (repeated names) false)
+AreNamed-prop ts names =
+    ×_prop (Coded-set (coded_list (coded_list coded_ℕ)) names (map (λ t. t.name) ts))
+    (Coded-set coded_bool (repeated names) false)
 
--- the templates that were read: each once, in the only way, and no tree is longer than its source. Their names are kept beside them
-pub record AreKnown (given : Given) (options : Options) (ts : List Template) (names : List Text) : Type 0 where
+-- the templates that were read: each once, in the only way, and no tree is longer than its source.
+-- Their names are kept beside them
+pub record AreKnown (given : Given) (options : Options) (ts : List Template) (names : List Text) :
+    Type 0 where
   pub read : AreRead given options ts
   pub only : AllByRecursion (IsOnly given options) ts
   pub within : AllByRecursion (IsWithin given) ts
   pub named : names ≡ map (λ t. t.name) ts
 
--- the templates at these places are the next ones on the way of a chain, or the library's own, each once, and behind them comes the last
--- name, if any
+-- the templates at these places are the next ones on the way of a chain, or the library's own, each
+-- once, and behind them comes the last name, if any
 pub record IsWay (ts : List Template) (h : Home) (is : List ℕ) (p : Option Text) : Type 0 where
   pub places : ArePlaces ts is
   pub leads : LeadsFrom (sources_in ts) h (templates_at ts is) p
@@ -77,13 +82,18 @@ Grow old new = (more : List Template) × (pages_view new ≡ pages_view old ++ m
 
 -- no other name than this one is new
 abbrev pub AddsName : Names → Names → Text → Type 0
-AddsName old new x = (n : Text) → IsTrue (among n (names_view new)) → IsTrue (among n (names_view old)) ⊎ (n ≡ x)
+AddsName old new x =
+    (n : Text) → IsTrue (among n (names_view new)) → IsTrue (among n (names_view old)) ⊎ (n ≡ x)
 
 -- none is new but some of these
 abbrev pub AddsNames : Names → Names → List Text → Type 0
-AddsNames old new xs = (n : Text) → IsTrue (among n (names_view new)) → IsTrue (among n (names_view old)) ⊎ IsTrue (among n xs)
+AddsNames old new xs =
+    (n : Text)
+    → IsTrue (among n (names_view new))
+    → IsTrue (among n (names_view old)) ⊎ IsTrue (among n xs)
 
--- the templates of a chain or a library were read: what is known after it, that what is new was on the way, and the way
+-- the templates of a chain or a library were read: what is known after it, that what is new was on
+-- the way, and the way
 pub record HasRead (given : Given) (options : Options) (before after : List Page) (old new : Names) (h : Home) (is : List ℕ) : Type 0 where
   pub known : KnowPages given options after new
   pub grown : Grow before after
@@ -92,4 +102,7 @@ pub record HasRead (given : Given) (options : Options) (before after : List Page
 
 -- a refusal breaks each chain from which this one is reached
 abbrev pub BreaksAll : Given → Options → List Page → Home → ChainError → Type 0
-BreaksAll given options ps h e = (root : Text) → Reaches (sources_in (pages_view ps)) options.autoescape (a_chain root) h → Breaks e given root options
+BreaksAll given options ps h e =
+    (root : Text)
+    → Reaches (sources_in (pages_view ps)) options.autoescape (a_chain root) h
+    → Breaks e given root options

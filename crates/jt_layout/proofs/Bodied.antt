@@ -1,5 +1,5 @@
 -- Bodies of blocks by their places.
-use Rattle.std.proofs.Common.{◌≡◌, ℕ, zero, suc, ◌+◌, ◌<◌, Bool, true, false, cond, List, [], ◌∷◌, length, map, drop, get_or, refl, sym, ap, ◌∙◌, Option, Some, if◌then◌else◌, add-one, set}
+use Rattle.std.proofs.Common.{◌≡◌, ℕ, zero, suc, ◌+◌, ◌<◌, true, false, List, [], ◌∷◌, length, map, drop, get_or, refl, sym, ap, ◌∙◌, Option, Some, if◌then◌else◌, add-one, set, arith, rules}
 use Rattle.std.specs.Prelude.{slice_get, filter}
 use Rattle.std.proofs.lemmas.List.{drop_more, drop-set}
 use Rattle.std.specs.Str.{bytes_eq}
@@ -23,12 +23,7 @@ length-nexts (b ∷ bs) = ap suc (length-nexts bs)
 pub next_at : (all : List (ℕ × BlockBody)) (i : ℕ) (n : Option ℕ) → slice_get (nexts all) i ≡ Some n → (c : ℕ × BlockBody) (bs : List (ℕ × BlockBody)) → drop i all ≡ c ∷ bs
     → n ≡ next_given (filter (λ d. bytes_eq d.1.name c.1.name) bs)
 next_at [] i n e c bs d = absurd (cc)
-next_at (a ∷ all) zero n e c bs d =
-    let first : a ≡ c = cc in
-    let rest : all ≡ bs = cc in
-    let is : next_given (filter (λ f. bytes_eq f.1.name a.1.name) all) ≡ n = cc in
-    sym is ∙ ap (λ (z : ℕ × BlockBody). next_given (filter (λ f. bytes_eq f.1.name z.1.name) all)) first
-    ∙ ap (λ (l : List (ℕ × BlockBody)). next_given (filter (λ f. bytes_eq f.1.name c.1.name) l)) rest
+next_at (a ∷ all) zero n e c bs d = search (arith, rules)
 next_at (a ∷ all) (suc i) n e c bs d = next_at all i n e c bs d
 
 -- ---- one body more, from the last one to the first
@@ -38,35 +33,17 @@ module _ (ts : List Template) (bs : List Block) (i m : ℕ) (b : Block) (lt : i 
   behind = counted_from m (map (block_view ts) (drop m bs))
 
   pub numbered_left : counted_from i (map (block_view ts) (drop i bs)) ≡ (i, block_view ts b) ∷ behind
-  numbered_left =
-      ap (λ l. counted_from i (map (block_view ts) l)) (drop_more bs i b lt)
-      ∙ ap (λ (z : Block). (i, block_view ts z) ∷ counted_from (suc i) (map (block_view ts) (drop (i + 1) bs))) (sym is)
-      ∙ ap (λ k. (i, block_view ts b) ∷ counted_from k (map (block_view ts) (drop (i + 1) bs))) (sym (e ∙ add-one i))
-      ∙ ap (λ k. (i, block_view ts b) ∷ counted_from m (map (block_view ts) (drop k bs))) (sym e)
+  numbered_left = search (arith, rules, drop_more, add-one)
 
   abbrev given : Text → List (ℕ × BlockBody) → Option ℕ
   given x l = next_given (filter (λ c. bytes_eq c.1.name x) l)
 
   -- a body that is given, and one that is required
   pub given_turn : (x : Text) (p q : Option ℕ) → b.required ≡ false → q ≡ (if bytes_eq b.name.now x then Some i else p) → p ≡ given x behind → q ≡ given x (counted_from i (map (block_view ts) (drop i bs)))
-  given_turn x p q r s t = s ∙ by (bytes_eq b.name.now x) ∙ ap (given x) (sym numbered_left)
-    where
-      rest : List (ℕ × BlockBody)
-      rest = filter (λ c. bytes_eq c.1.name x) behind
-
-      by : (c : Bool) → (if c then Some i else p) ≡ next_given (cond c ((i, block_view ts b) ∷ rest) rest)
-      by true = ap (λ a. if a then next_given rest else Some i) (sym r)
-      by false = t
+  given_turn x p q r s t = search (arith, rules, numbered_left)
 
   pub required_turn : (x : Text) (p : Option ℕ) → b.required ≡ true → p ≡ given x behind → p ≡ given x (counted_from i (map (block_view ts) (drop i bs)))
-  required_turn x p r t = t ∙ by (bytes_eq b.name.now x) ∙ ap (given x) (sym numbered_left)
-    where
-      rest : List (ℕ × BlockBody)
-      rest = filter (λ c. bytes_eq c.1.name x) behind
-
-      by : (c : Bool) → next_given rest ≡ next_given (cond c ((i, block_view ts b) ∷ rest) rest)
-      by true = ap (λ a. if a then next_given rest else Some i) (sym r)
-      by false = refl
+  required_turn x p r t = search (arith, rules, numbered_left)
 
   pub nexts_turn : (p : Option ℕ) (old : List (Option ℕ)) → i < length old → p ≡ given b.name.now behind → drop m old ≡ nexts behind
       → drop i (set old i p) ≡ nexts (counted_from i (map (block_view ts) (drop i bs)))

@@ -1,5 +1,5 @@
 -- The first macro of a name.
-use Rattle.std.proofs.Common.{◌≡◌, ℕ, suc, ◌+◌, Bool, true, false, ◌&&◌, List, [], ◌∷◌, ◌++◌, length, map, refl, sym, ap, ◌∙◌, Option, Some, None, if◌then◌else◌, arith}
+use Rattle.std.proofs.Common.{◌≡◌, ℕ, suc, ◌+◌, Bool, true, false, ◌&&◌, List, [], ◌∷◌, ◌++◌, length, map, refl, sym, ap, ◌∙◌, Option, Some, None, if◌then◌else◌, arith, rules}
 use Rattle.std.specs.Prelude.{slice_get}
 use Rattle.std.specs.Str.{bytes_eq}
 use Rattle.jt_trees.specs.Expressions.{Text}
@@ -68,13 +68,4 @@ module _ (ts : List Template) (x : Text) where
 
   pub no_macro : (ms : List Macro) (n : ℕ) → first_of x n (map (λ m. m.name.now) ms) ≡ None → macro_of x (map (macro_view ts) ms) ≡ None
   no_macro [] n e = refl
-  no_macro (m ∷ ms) n e = by (bytes_eq m.name.now x) refl (no_macro ms (suc n))
-    where
-      rest : Option ℕ
-      rest = first_of x (suc n) (map (λ (k : Macro). k.name.now) ms)
-
-      by : (b : Bool) → bytes_eq m.name.now x ≡ b → (rest ≡ None → macro_of x (map (macro_view ts) ms) ≡ None) → macro_of x (map (macro_view ts) (m ∷ ms)) ≡ None
-      by true q g =
-          let here : Some n ≡ None = sym (ap (λ c. if c then Some n else rest) q) ∙ e in
-          absurd (cc)
-      by false q g = ap (λ c. if c then Some (macro_view ts m) else macro_of x (map (macro_view ts) ms)) q ∙ g (sym (ap (λ c. if c then Some n else rest) q) ∙ e)
+  no_macro (m ∷ ms) n e = search (arith, rules, no_macro ms (suc n))

@@ -1,5 +1,5 @@
 -- The first of a name that is given to something.
-use Rattle.std.proofs.Common.{◌≡◌, ℕ, suc, ◌+◌, Bool, true, false, List, [], ◌∷◌, map, refl, sym, ap, ◌∙◌, Option, Some, None, if◌then◌else◌, arith}
+use Rattle.std.proofs.Common.{◌≡◌, ℕ, suc, ◌+◌, Bool, true, false, List, [], ◌∷◌, map, refl, sym, ap, ◌∙◌, Option, Some, None, if◌then◌else◌, arith, rules}
 use Rattle.std.specs.Prelude.{slice_get}
 use Rattle.std.specs.Str.{bytes_eq}
 use Rattle.jt_trees.specs.Expressions.{Text}
@@ -37,10 +37,4 @@ module _ (ts : List Template) (h : Home) (x : Text) where
 
   pub nothing_given : (gs : List Named) (n : ℕ) → first_of x n (map (λ g. g.name.now) gs) ≡ None → given_to x (names_view ts h gs) ≡ None
   nothing_given [] n e = refl
-  nothing_given (g ∷ gs) n e = by (bytes_eq g.name.now x) refl (nothing_given gs (suc n))
-    where
-      by : (b : Bool) → bytes_eq g.name.now x ≡ b → (rest n gs ≡ None → later gs ≡ None) → later (g ∷ gs) ≡ None
-      by true q f =
-          let here : Some n ≡ None = sym (ap (λ c. if c then Some n else rest n gs) q) ∙ e in
-          absurd (cc)
-      by false q f = ap (λ c. if c then Some (given_view ts h g.given) else later gs) q ∙ f (sym (ap (λ c. if c then Some n else rest n gs) q) ∙ e)
+  nothing_given (g ∷ gs) n e = search (arith, rules, nothing_given gs (suc n))

@@ -1,5 +1,5 @@
 -- Places of the first of some names.
-use Rattle.std.proofs.Common.{◌≡◌, ℕ, zero, suc, ◌+◌, ◌<◌, Bool, true, false, ◌||◌, cond, List, [], ◌∷◌, length, map, drop, get_or, refl, sym, ap, subst, ◌∙◌, Option, Some, None, if◌then◌else◌, add-one, arith}
+use Rattle.std.proofs.Common.{◌≡◌, ℕ, zero, suc, ◌+◌, ◌<◌, Bool, true, false, ◌||◌, List, [], ◌∷◌, length, map, drop, get_or, refl, ap, ◌∙◌, Option, Some, None, if◌then◌else◌, add-one, arith, rules}
 use Rattle.std.specs.Prelude.{option_map, filter}
 use Rattle.std.specs.Option.{is_none}
 use Rattle.std.proofs.lemmas.List.{drop_more}
@@ -23,43 +23,24 @@ or_right false b h = h
 -- one name more, in front of those that are left
 pub first_turn : (ks : List (Bor Text)) (i : ℕ) (k : Bor Text) (x : Text) (n m : ℕ) → i < length ks → k ≡ get_or ks i k → m ≡ n + 1
     → (if bytes_eq k.now x then Some n else first_of x m (texts (drop (i + 1) ks))) ≡ first_of x n (texts (drop i ks))
-first_turn ks i k x n m lt is e =
-    ap (λ j. if bytes_eq k.now x then Some n else first_of x j (texts (drop (i + 1) ks))) (e ∙ add-one n)
-    ∙ ap (λ (z : Bor Text). first_of x n (z.now ∷ texts (drop (i + 1) ks))) is
-    ∙ ap (λ (l : List (Bor Text)). first_of x n (texts l)) (sym (drop_more ks i k lt))
+first_turn ks i k x n m lt is e = search (arith, rules, add-one, drop_more)
 
 -- ---- what the first of a name is
 
 -- names in slots
 pub in_slots : (x : Text) (n : ℕ) (xs : List Text) → option_map global (first_of x n xs) ≡ slot_in x (globals_from n xs)
 in_slots x n [] = refl
-in_slots x n (y ∷ ys) = by (bytes_eq y x) (in_slots x (suc n) ys)
-  where
-    by : (b : Bool) → option_map global (first_of x (suc n) ys) ≡ slot_in x (globals_from (suc n) ys)
-        → option_map global (if b then Some n else first_of x (suc n) ys) ≡ (if b then Some (global n) else slot_in x (globals_from (suc n) ys))
-    by true h = refl
-    by false h = h
+in_slots x n (y ∷ ys) = search (arith, rules, in_slots x (suc n) ys)
 
 -- bodies of a block
 pub first_bodies : (x : Text) (n : ℕ) (bs : List BlockBody) → first_of x n (map (λ b. b.name) bs) ≡ first_body (filter (λ b. bytes_eq b.1.name x) (counted_from n bs))
 first_bodies x n [] = refl
-first_bodies x n (b ∷ bs) = by (bytes_eq b.name x) (first_bodies x (suc n) bs)
-  where
-    by : (c : Bool) → first_of x (suc n) (map (λ (d : BlockBody). d.name) bs) ≡ first_body (filter (λ d. bytes_eq d.1.name x) (counted_from (suc n) bs))
-        → (if c then Some n else first_of x (suc n) (map (λ (d : BlockBody). d.name) bs))
-        ≡ first_body (cond c ((n, b) ∷ filter (λ d. bytes_eq d.1.name x) (counted_from (suc n) bs)) (filter (λ d. bytes_eq d.1.name x) (counted_from (suc n) bs)))
-    by true h = refl
-    by false h = h
+first_bodies x n (b ∷ bs) = search (arith, rules, first_bodies x (suc n) bs)
 
 -- templates
 pub of_sources : (x : Text) (n : ℕ) (ts : List Template) → is_none (first_of x n (map (λ t. t.name) ts)) ≡ is_none (sources_in ts x)
 of_sources x n [] = refl
-of_sources x n (t ∷ ts) = by (bytes_eq t.name x) (of_sources x (suc n) ts)
-  where
-    by : (b : Bool) → is_none (first_of x (suc n) (map (λ (u : Template). u.name) ts)) ≡ is_none (sources_in ts x)
-        → is_none (if b then Some n else first_of x (suc n) (map (λ (u : Template). u.name) ts)) ≡ is_none (if b then Some t.body else sources_in ts x)
-    by true h = refl
-    by false h = h
+of_sources x n (t ∷ ts) = search (arith, rules, of_sources x (suc n) ts)
 
 -- chains and libraries
 abbrev IsFrom : List Home → Home → ℕ → Option ℕ → Type 0
@@ -79,11 +60,7 @@ from h n (k ∷ hs) = by (same_home k h) refl (from h (suc n) hs)
     by false e r = later (first_home h (suc n) hs) e r
 
 pub is_home : (h : Home) (order : List Home) (o : Option ℕ) → o ≡ first_home h 0 order → IsHomeAt order h o
-is_home h order None e = subst (IsFrom order h 0) (sym e) (from h 0 order)
-is_home h order (Some i) e =
-    let r : IsFrom order h 0 (Some i) = subst (IsFrom order h 0) (sym e) (from h 0 order) in
-    let is : i ≡ r.0 = omega (arith, r.1) in
-    (omega (arith, r.2), ap (home_at order) is ∙ r.3)
+is_home h order a2 e = search (arith, rules, from)
 
 -- ---- chains and libraries by their places
 

@@ -1,12 +1,11 @@
 -- What is in front of a chain or a library, one more of them.
-use Rattle.std.proofs.Common.{◌≡◌, ℕ, zero, suc, ◌+◌, ◌<◌, ◌==◌, Bool, true, false, not, ◌&&◌, ◌||◌, List, [], ◌∷◌, ◌++◌, length, map, refl, sym, ap, ◌∙◌, if◌then◌else◌, arith, length-append, append_assoc, rules}
+use Rattle.std.proofs.Common.{◌≡◌, ℕ, zero, suc, ◌+◌, ◌<◌, ◌==◌, true, false, not, ◌||◌, List, [], ◌∷◌, ◌++◌, length, map, ap, ◌∙◌, if◌then◌else◌, arith, length-append, append_assoc, rules}
 use Rattle.std.proofs.lemmas.List.{length-map}
 use Rattle.std.specs.Prelude.{flat_map}
-use Rattle.std.specs.Str.{bytes_eq}
 use Rattle.jt_trees.specs.Expressions.{Text}
 use Rattle.jt_chains.specs.Chain.{Home, a_chain, a_library, same_home, listed, BlockBody, MacroBody, macros, all_bodies}
 use Rattle.jt_rules.specs.World.{World}
-use Rattle.jt_meaning.specs.Layout.{Key, of_chain, of_macro, of_body, same_key, place_of, entry_keys, chain_keys, unit, names, counted_from, numbered_bodies, first_in, first_slot, default_in, default_place, defaults_of, first_default}
+use Rattle.jt_meaning.specs.Layout.{Key, of_chain, of_macro, of_body, same_key, place_of, entry_keys, chain_keys, unit, names, counted_from, numbered_bodies, first_slot, default_place, defaults_of, first_default}
 use Rattle.jt_layout.specs.Front.{home_of, Stands}
 use Rattle.jt_layout.specs.declared.front.Front.{Front}
 use Rattle.jt_layout.proofs.Bodied.{length-counted}
@@ -15,31 +14,18 @@ use Rattle.jt_layout.proofs.Homes.{reflexive, same_is, itself}
 
 -- what is behind another is another one
 pub apart : (h : Home) (hs : List Home) → not (listed h hs) ≡ true → (k : Home) → listed k hs ≡ true → same_home h k ≡ false
-apart h hs n k a = by (same_home h k) refl
-  where
-    by : (b : Bool) → same_home h k ≡ b → b ≡ false
-    by false e = refl
-    by true e =
-        let there : listed h hs ≡ true = ap (λ x. listed x hs) (same_is h k e) ∙ a in
-        let false_is : not true ≡ true = sym (ap not there) ∙ n in
-        absurd (cc)
+apart h hs n k a = search (arith, rules, same_is)
 
 -- ---- keys of another chain
 
 chain_apart : (n : Text) (k : Key) → same_home (a_chain n) (home_of k) ≡ false → same_key (of_chain n) k ≡ false
-chain_apart n (of_chain a) e = e
-chain_apart n (of_macro a x) e = refl
-chain_apart n (of_body a i) e = refl
+chain_apart n a1 e = search (arith, rules)
 
 macro_apart : (h : Home) (x : Text) (k : Key) → same_home h (home_of k) ≡ false → same_key (of_macro h x) k ≡ false
-macro_apart h x (of_chain a) e = refl
-macro_apart h x (of_macro a y) e = ap (λ b. b && bytes_eq x y) e
-macro_apart h x (of_body a i) e = refl
+macro_apart h x a2 e = search (arith, rules)
 
 body_apart : (h : Home) (n : ℕ) (k : Key) → same_home h (home_of k) ≡ false → same_key (of_body h n) k ≡ false
-body_apart h n (of_chain a) e = refl
-body_apart h n (of_macro a y) e = refl
-body_apart h n (of_body a i) e = ap (λ b. b && (n == i)) e
+body_apart h n a2 e = search (arith, rules)
 
 passed : (j k : Key) (ks : List Key) → same_key j k ≡ false → place_of k (j ∷ ks) ≡ suc (place_of k ks)
 passed j k ks e = ap (λ b. if b then 0 else suc (place_of k ks)) e
@@ -83,17 +69,8 @@ different_numbers n i = search rules
 
 body_at : (h : Home) (n i : ℕ) (bs : List BlockBody) (rest : List Key) → i < length bs → place_of (of_body h (n + i)) (map (λ b. of_body h b.0) (counted_from n bs) ++ rest) ≡ i
 body_at h n i [] rest lt = absurd (omega arith)
-body_at h n zero (b ∷ bs) rest lt =
-    let later = map (λ (c : ℕ × BlockBody). of_body h c.0) (counted_from (suc n) bs) ++ rest in
-    let is : n ≡ n + 0 = omega arith in
-    ap (λ a. if a && (n == (n + 0)) then 0 else suc (place_of (of_body h (n + 0)) later)) (itself h)
-    ∙ ap (λ a. if a then 0 else suc (place_of (of_body h (n + 0)) later)) (equal_numbers n (n + 0) is)
-body_at h n (suc i) (b ∷ bs) rest lt =
-    let later = map (λ (c : ℕ × BlockBody). of_body h c.0) (counted_from (suc n) bs) ++ rest in
-    let is : n + suc i ≡ suc n + i = omega arith in
-    ap (λ a. if a && (n == (n + suc i)) then 0 else suc (place_of (of_body h (n + suc i)) later)) (itself h)
-    ∙ ap (λ a. if a then 0 else suc (place_of (of_body h (n + suc i)) later)) (different_numbers n i)
-    ∙ ap suc (ap (λ m. place_of (of_body h m) later) is ∙ body_at h (suc n) i bs rest (omega arith))
+body_at h n zero (b ∷ bs) rest lt = search (arith, rules, itself, equal_numbers)
+body_at h n (suc i) (b ∷ bs) rest lt = search (arith, rules, itself, different_numbers, body_at h (suc n) i bs rest (omega arith))
 
 module _ (world : World) (h : Home) where
   abbrev ms : List MacroBody
@@ -113,21 +90,11 @@ module _ (world : World) (h : Home) where
   in_parts rest = append_assoc (entry_keys world h) (macro_keys ++ body_keys) rest ∙ ap (λ l. entry_keys world h ++ l) (append_assoc macro_keys body_keys rest)
 
   pub count_keys : length (chain_keys world h) ≡ length (entry_keys world h) + (length ms + length bs)
-  count_keys =
-      let whole = length-append (entry_keys world h) (macro_keys ++ body_keys) in
-      let all = length-append macro_keys body_keys in
-      let first = length-map ms (λ (m : MacroBody). of_macro h m.name) in
-      let second = length-map (numbered_bodies world h) (λ (b : ℕ × BlockBody). of_body h b.0) in
-      let third = length-counted 0 bs in
-      omega (arith, whole, all, first, second, third)
+  count_keys = search (arith, rules, length-append, length-map, length-counted)
 
   -- keys of another one are behind them
   pub others : (k : Key) (rest : List Key) → same_home h (home_of k) ≡ false → place_of k (chain_keys world h ++ rest) ≡ length (chain_keys world h) + place_of k rest
-  others k rest e =
-      let first = entries_passed world h k e (macro_keys ++ (body_keys ++ rest)) in
-      let second = macros_passed h k e ms (body_keys ++ rest) in
-      let third = bodies_passed h k e (numbered_bodies world h) rest in
-      ap (place_of k) (in_parts rest) ∙ omega (arith, first, second, third, count_keys, length-counted 0 bs)
+  others k rest e = search (arith, rules, entries_passed, macros_passed, bodies_passed, in_parts, count_keys, length-counted)
 
   pub macro_key : (x : Text) (j : ℕ) (rest : List Key) → ((ks : List Key) → place_of (of_macro h x) (macro_keys ++ ks) ≡ j) → place_of (of_macro h x) (chain_keys world h ++ rest) ≡ length (entry_keys world h) + j
   macro_key x j rest f =
@@ -149,12 +116,7 @@ chain_key world n rest =
 module _ (world : World) (order : List Home) where
   -- nothing is in front of the first chain; the place 0 of the pool is the undefined value
   pub first_front : (f : Front) → f.slot ≡ 0 → f.unit ≡ 0 → f.default ≡ 1 → Stands world order order f
-  first_front f p q r = record {
-    slots = λ h a. omega (arith, p);
-    units = λ k a. omega (arith, q);
-    defaults = λ h x a. omega (arith, r);
-    all = omega (arith, q);
-  }
+  first_front f p q r = search (arith, rules)
 
   module _ (h : Home) (rest : List Home) (f : Front) (s : Stands world order (h ∷ rest) f) where
     abbrev behind : List Key
@@ -164,15 +126,10 @@ module _ (world : World) (order : List Home) where
     here = ap (λ b. b || listed h rest) (itself h)
 
     pub slot_here : first_slot world order h ≡ f.slot
-    slot_here =
-        let first : first_in world order (h ∷ rest) h ≡ 0 = ap (λ b. if b then 0 else length (names world order h) + first_in world order rest h) (itself h) in
-        omega (arith, s.slots h here, first)
+    slot_here = search (arith, rules, itself, here)
 
     pub chain_unit : (n : Text) → h ≡ a_chain n → unit world order (of_chain n) ≡ f.unit
-    chain_unit n e =
-        let there : listed (a_chain n) (h ∷ rest) ≡ true = ap (λ k. listed k (h ∷ rest)) (sym e) ∙ here in
-        let first : place_of (of_chain n) (chain_keys world h ++ behind) ≡ 0 = ap (λ k. place_of (of_chain n) (chain_keys world k ++ behind)) e ∙ chain_key world n behind in
-        omega (arith, s.units (of_chain n) there, first)
+    chain_unit n e = search (arith, rules, here, chain_key)
 
     pub macro_unit : (x : Text) (j : ℕ) → ((ks : List Key) → place_of (of_macro h x) (macro_keys world h ++ ks) ≡ j) → unit world order (of_macro h x) ≡ f.unit + (length (entry_keys world h) + j)
     macro_unit x j g = omega (arith, s.units (of_macro h x) here, macro_key world h x j behind g)
@@ -181,32 +138,10 @@ module _ (world : World) (order : List Home) where
     body_unit i lt = omega (arith, s.units (of_body h i) here, body_key world h i behind lt)
 
     pub default_here : (x : Text) → default_place world order h x ≡ f.default + first_default x (macros world.sources h)
-    default_here x =
-        let first : default_in world order (h ∷ rest) h x ≡ first_default x (macros world.sources h) =
-        ap (λ b. if b then first_default x (macros world.sources h) else length (defaults_of (macros world.sources h)) + default_in world order rest h x) (itself h) in
-        s.defaults h x here ∙ ap (λ n. f.default + n) first
+    default_here x = search (arith, rules, itself, here)
 
     -- and the next one
     module _ (new : not (listed h rest) ≡ true) (g : Front) where
       pub front_turn : g.slot ≡ f.slot + length (names world order h) → g.unit ≡ f.unit + length (chain_keys world h) → g.default ≡ f.default + length (defaults_of (macros world.sources h))
           → Stands world order rest g
-      front_turn p q r = record {
-        slots = λ k a.
-            let e = apart h rest new k a in
-            let before = s.slots k (or_right (same_home h k) (listed k rest) a) in
-            let next : first_in world order (h ∷ rest) k ≡ length (names world order h) + first_in world order rest k =
-            ap (λ b. if b then 0 else length (names world order h) + first_in world order rest k) e in
-            omega (arith, before, next, p);
-        units = λ k a.
-            let e = apart h rest new (home_of k) a in
-            let before = s.units k (or_right (same_home h (home_of k)) (listed (home_of k) rest) a) in
-            let next = others world h k behind e in
-            omega (arith, before, next, q);
-        defaults = λ k x a.
-            let e = apart h rest new k a in
-            let before = s.defaults k x (or_right (same_home h k) (listed k rest) a) in
-            let next : default_in world order (h ∷ rest) k x ≡ length (defaults_of (macros world.sources h)) + default_in world order rest k x =
-            ap (λ b. if b then first_default x (macros world.sources k) else length (defaults_of (macros world.sources h)) + default_in world order rest k x) e in
-            omega (arith, before, next, r);
-        all = omega (arith, s.all, length-append (chain_keys world h) behind, q);
-      }
+      front_turn p q r = search (arith, rules, apart, or_right, others, length-append)

@@ -1,5 +1,5 @@
 -- Chains and libraries by themselves.
-use Rattle.std.proofs.Common.{◌≡◌, Bool, true, false, refl, ap}
+use Rattle.std.proofs.Common.{◌≡◌, Bool, true, false, refl, arith, rules}
 use Rattle.std.specs.Str.{bytes_eq}
 use Rattle.std.proofs.lemmas.Cmp.{nat_list_eq_equiv}
 use Rattle.std.proofs.lemmas.Slice.Eq.{bytes_eq-Decides}
@@ -14,10 +14,7 @@ pub reflexive : (x : Text) → bytes_eq x x ≡ true
 reflexive x = nat_list_eq_equiv.refl x
 
 pub same_is : (h k : Home) → same_home h k ≡ true → h ≡ k
-same_is (a_chain n) (a_chain m) e = ap a_chain (same n m e)
-same_is (a_chain n) (a_library m) e = absurd (cc)
-same_is (a_library n) (a_chain m) e = absurd (cc)
-same_is (a_library n) (a_library m) e = ap a_library (same n m e)
+same_is a0 a1 e = search (arith, rules, same)
 
 pub itself : (h : Home) → same_home h h ≡ true
 itself (a_chain n) = reflexive n

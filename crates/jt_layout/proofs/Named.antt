@@ -1,5 +1,5 @@
 -- Names that are put in order, and names of chains.
-use Rattle.std.proofs.Common.{◌≡◌, ℕ, ◌+◌, ◌<◌, Bool, true, false, cond, length, drop, get_or, Vec, Global, if◌then◌else◌, List, [], ◌∷◌, ◌++◌, map, refl, sym, ap, ◌∙◌, Option, Some, None, append_assoc}
+use Rattle.std.proofs.Common.{◌≡◌, ℕ, ◌+◌, ◌<◌, Bool, true, false, cond, length, drop, get_or, Vec, Global, if◌then◌else◌, List, [], ◌∷◌, ◌++◌, map, refl, sym, ap, ◌∙◌, Option, Some, append_assoc, arith, rules}
 use Rattle.std.specs.Prelude.{flat_map, filter}
 use Rattle.std.specs.Option.{is_some, is_none}
 use Rattle.std.specs.Str.{bytes_eq}
@@ -8,7 +8,7 @@ use Rattle.std.proofs.lemmas.List.{drop_more, append-nil}
 use denote.Ref.{Bor}
 use Rattle.jt_trees.specs.Expressions.{Text}
 use Rattle.jt_trees.specs.Texts.{all_inserted, ascending}
-use Rattle.jt_chains.specs.Chain.{Home, a_chain, a_library, same_home, Sources, templates, libraries}
+use Rattle.jt_chains.specs.Chain.{Home, a_chain, a_library, same_home, Sources, templates}
 use Rattle.jt_chains.specs.Includes.{included, needs_in, with_source}
 use Rattle.jt_chains.specs.Places.{home_at}
 use Rattle.jt_chains.specs.Uses.{own_names}
@@ -23,9 +23,7 @@ use Rattle.jt_names.proofs.Inserted.{inserted_both, name_cmp, key_inserted}
 -- one name more goes into a set
 pub key_turn : (ks : List (Bor Text)) (i : ℕ) (d : Bor Text) (old new : List (Bor Text)) → i < length ks → new ≡ insert_key name_cmp old (get_or ks i d)
     → all_inserted (texts (drop (i + 1) ks)) (texts new) ≡ all_inserted (texts (drop i ks)) (texts old)
-key_turn ks i d old new lt e =
-    ap (all_inserted (texts (drop (i + 1) ks))) (ap texts e ∙ key_inserted old (get_or ks i d))
-    ∙ ap (λ (l : List (Bor Text)). all_inserted (texts l) (texts old)) (sym (drop_more ks i d lt))
+key_turn ks i d old new lt e = search (arith, rules, key_inserted, get_or, drop_more)
 
 -- ---- the names of a map
 
@@ -36,10 +34,7 @@ names_put false v o = refl
 -- ---- the names of included chains
 
 some_from_none : {A B : Type 0} (o : Option A) (p : Option B) → is_none o ≡ is_none p → is_some o ≡ is_some p
-some_from_none None None e = refl
-some_from_none None (Some b) e = absurd (cc)
-some_from_none (Some a) None e = absurd (cc)
-some_from_none (Some a) (Some b) e = refl
+some_from_none a0 a1 e = search (arith, rules)
 
 module _ (N : Text → List Text) (sources : Sources) (ks : List (Bor Text)) (i : ℕ) (d : Bor Text) (lt : i < length ks) where
   abbrev k : Bor Text
@@ -54,18 +49,11 @@ module _ (N : Text → List Text) (sources : Sources) (ks : List (Bor Text)) (i 
   -- a chain that is there, and one that isn't
   pub chain_turn : (p : Option ℕ) (old new : List Text) → is_none p ≡ is_none (sources k.now) → is_some p ≡ true → new ≡ all_inserted (N k.now) old
       → all_inserted (those (drop (i + 1) ks)) new ≡ all_inserted (those (drop i ks)) old
-  chain_turn p old new q s e =
-      let there : is_some (sources k.now) ≡ true = sym (some_from_none p (sources k.now) q) ∙ s in
-      let rest = filter (λ m. is_some (sources m)) (texts (drop (i + 1) ks)) in
-      ap (all_inserted (flat_map N rest)) e ∙ sym (inserted_both (N k.now) (flat_map N rest) old)
-      ∙ ap (λ l. all_inserted l old) (sym (here ∙ ap (λ b. flat_map N (cond b (k.now ∷ rest) rest)) there))
+  chain_turn p old new q s e = search (arith, rules, some_from_none, inserted_both, here)
 
   pub none_turn : (p : Option ℕ) (old : List Text) → is_none p ≡ is_none (sources k.now) → is_some p ≡ false
       → all_inserted (those (drop (i + 1) ks)) old ≡ all_inserted (those (drop i ks)) old
-  none_turn p old q s =
-      let there : is_some (sources k.now) ≡ false = sym (some_from_none p (sources k.now) q) ∙ s in
-      let rest = filter (λ m. is_some (sources m)) (texts (drop (i + 1) ks)) in
-      ap (λ l. all_inserted l old) (sym (here ∙ ap (λ b. flat_map N (cond b (k.now ∷ rest) rest)) there))
+  none_turn p old q s = search (arith, rules, some_from_none, here)
 
 -- ---- the names of a chain and of those that it leads to
 
@@ -80,11 +68,7 @@ flat_map-map f g (x ∷ xs) = ap (λ l. f (g x) ++ l) (flat_map-map f g xs)
 -- a library has no globals
 pub no_names : (world : World) (hs : List Home) (n : Text) → names_in world hs (a_library n) ≡ []
 no_names world [] n = refl
-no_names world (k ∷ hs) n = by (same_home k (a_library n)) (no_names world hs n)
-  where
-    by : (b : Bool) → names_in world hs (a_library n) ≡ [] → (if b then [] else names_in world hs (a_library n)) ≡ []
-    by true r = refl
-    by false r = r
+no_names world (k ∷ hs) n = search (arith, rules, no_names world hs n)
 
 no_names_of : (world : World) (hs : List Home) (ns : List Text) → flat_map (names_in world hs) (map a_library ns) ≡ []
 no_names_of world hs [] = refl
@@ -94,13 +78,7 @@ no_names_of world hs (n ∷ ns) = ap (λ l. l ++ flat_map (names_in world hs) (m
 names_of_included : (world : World) (hs : List Home) (h : Home)
     → flat_map (names_in world hs) (included world.sources h)
     ≡ flat_map (λ x. names_in world hs (a_chain x)) (with_source world.sources (flat_map (λ t. needs_in true t.body) (templates world.sources h)))
-names_of_included world hs h =
-    let cs : List Text = with_source world.sources (flat_map (λ t. needs_in true t.body) (templates world.sources h)) in
-    let ls : List Text = with_source world.sources (libraries world.sources h) in
-    flat_map-append (names_in world hs) (map a_chain cs) (map a_library ls)
-    ∙ ap (λ l. flat_map (names_in world hs) (map a_chain cs) ++ l) (no_names_of world hs ls)
-    ∙ append-nil (flat_map (names_in world hs) (map a_chain cs))
-    ∙ flat_map-map (names_in world hs) a_chain cs
+names_of_included world hs h = search (arith, rules, flat_map-append, no_names_of, append-nil, flat_map-map)
 
 module _ (world : World) (order : List Home) (i : ℕ) (lt : i < length order) where
   abbrev h : Home
@@ -113,15 +91,10 @@ module _ (world : World) (order : List Home) (i : ℕ) (lt : i < length order) w
   pub names_here : (ns : List Text)
       → ns ≡ all_inserted (flat_map (λ x. names_in world behind (a_chain x)) (with_source world.sources (flat_map (λ t. needs_in true t.body) (templates world.sources h)))) (ascending (own_names world.sources h))
       → ns ≡ all_names world behind h
-  names_here ns e =
-      let own = own_names world.sources h in
-      let others = flat_map (λ x. names_in world behind (a_chain x)) (with_source world.sources (flat_map (λ t. needs_in true t.body) (templates world.sources h))) in
-      e ∙ sym (inserted_both own others []) ∙ ap (λ l. ascending (own ++ l)) (sym (names_of_included world behind h))
+  names_here ns e = search (arith, rules, inserted_both, names_of_included)
 
   in_front : (k x : Home) → h ≡ k → (if same_home k x then in_globals x (all_names world behind x) else names_in world behind x) ≡ names_in world (drop i order) x
-  in_front k x e =
-      ap (λ z. if same_home z x then in_globals x (all_names world behind x) else names_in world behind x) (sym e)
-      ∙ ap (λ l. names_in world l x) (sym (homes_left order i lt))
+  in_front k x e = search (arith, rules, homes_left)
 
   -- and those of any chain
   pub names_turn : (ns old : List Text) (n x : Text) → h ≡ a_chain n → ns ≡ all_names world behind h → old ≡ names_in world behind (a_chain x)

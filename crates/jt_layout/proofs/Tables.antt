@@ -1,5 +1,5 @@
 -- The table of a chain or a library.
-use Rattle.std.proofs.Common.{◌≡◌, ℕ, zero, suc, ◌+◌, ◌<◌, Bool, true, false, not, ◌||◌, List, [], ◌∷◌, ◌++◌, length, map, drop, get_or, refl, sym, ap, subst, ◌∙◌, Option, Some, None, if◌then◌else◌, arith, add-one, string_bytes}
+use Rattle.std.proofs.Common.{◌≡◌, ℕ, zero, suc, ◌+◌, ◌<◌, Bool, true, false, not, ◌||◌, List, [], ◌∷◌, ◌++◌, length, map, drop, get_or, refl, sym, ap, subst, ◌∙◌, Option, Some, None, if◌then◌else◌, arith, add-one, string_bytes, rules}
 use Rattle.std.proofs.lemmas.List.{length-map}
 use Rattle.std.specs.Prelude.{slice_get, option_map}
 use Rattle.std.specs.Option.{is_some, is_none}
@@ -17,7 +17,7 @@ use Rattle.jt_chains.specs.declared.pages.Page.{Page}
 use Rattle.jt_chains.specs.declared.parts.Block.{Block}
 use Rattle.jt_rules.specs.World.{World}
 use Rattle.jt_resolved.specs.Slots.{global}
-use Rattle.jt_meaning.specs.Layout.{in_globals, slot_in, globals_from, counted_from, of_macro, of_body, entry_keys, place_of, first_default, default_place, numbered_of, names, scopes, block_parameters, is_scoped, unit, defaults_of}
+use Rattle.jt_meaning.specs.Layout.{in_globals, slot_in, globals_from, counted_from, of_macro, of_body, entry_keys, place_of, first_default, default_place, numbered_of, names, block_parameters, is_scoped, unit, defaults_of}
 use Rattle.jt_meaning.specs.Resolve.{first_body}
 use Rattle.jt_layout.specs.Front.{Stands, its_world, its_order, its_home}
 use Rattle.jt_layout.specs.Laid.{is_library, IsCalled, IsGiven}
@@ -119,9 +119,7 @@ module _ (c : Chain) (i : ℕ) (lt : i < length c.homes.items) (f : Front) where
       count_next ns e = ap length e ∙ length-nexts (counted_from 0 (all_bodies W.sources W.escaping h)) ∙ length-counted 0 (all_bodies W.sources W.escaping h) ∙ sym count_blocks
 
     pub scoped_laid : (x : Text) (p : Option ℕ) (ns : List Text) → is_some p ≡ is_scoped W h x → ns ≡ uses.scope_names W.sources h → block_parameters W O h x ≡ (if is_some p then ns else [])
-    scoped_laid x p ns e g =
-        let bound : scopes W O h ≡ ns = ap (λ b. if b then uses.scope_names W.sources h else []) (listed_at O i within) ∙ sym g in
-        ap (λ b. if b then scopes W O h else []) (sym e) ∙ ap (λ l. if is_some p then l else []) bound
+    scoped_laid x p ns e g = search (arith, rules, listed_at, within)
 
     -- what is in front of the next chain
     pub behind : (g : Front) (n ms bs : ℕ) → g.slot ≡ f.slot + n → n ≡ length (names W O h) → g.unit ≡ (f.unit + length (entry_keys W h)) + ms + bs → ms ≡ length (macros W.sources h)
@@ -135,10 +133,8 @@ module _ (c : Chain) (i : ℕ) (lt : i < length c.homes.items) (f : Front) where
 -- what holds of each of some tables, with one more behind them
 pub each_more : {A : Type 0} (P : ℕ → A → Type 0) (xs : List A) (y : A) → ((i : ℕ) (t : A) → i < length xs → t ≡ get_or xs i t → P i t) → P (length xs) y
     → (i : ℕ) (t : A) → i < length (xs ++ y ∷ []) → t ≡ get_or (xs ++ y ∷ []) i t → P i t
-each_more P [] y all last zero t lt is = subst (P 0) (sym is) last
-each_more P [] y all last (suc i) t lt is = absurd (omega arith)
-each_more P (x ∷ xs) y all last zero t lt is = all zero t (omega arith) is
 each_more P (x ∷ xs) y all last (suc i) t lt is = each_more (λ j. P (suc j)) xs y (λ j u l q. all (suc j) u (omega arith) q) last i t (omega arith) is
+each_more a0 a1 y all last a5 t lt is = search (arith, rules)
 
 module _ (c : Chain) (i : ℕ) (lt : i < length c.homes.items) where
   inside : i < length (its_order c)

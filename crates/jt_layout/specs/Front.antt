@@ -27,7 +27,10 @@ home_of (of_body h i) = h
 
 -- the first slot, unit and place of a default that none has in front of those that are left
 pub record Stands (world : World) (order left : List Home) (f : Front) : Type 0 where
-  pub slots : (h : Home) → listed h left ≡ true → first_slot world order h ≡ f.slot + first_in world order left h
-  pub units : (k : Key) → listed (home_of k) left ≡ true → unit world order k ≡ f.unit + place_of k (flat_map (chain_keys world) left)
-  pub defaults : (h : Home) (x : Text) → listed h left ≡ true → default_place world order h x ≡ f.default + default_in world order left h x
+  pub slots : (h : Home) → listed h left ≡ true
+      → first_slot world order h ≡ f.slot + first_in world order left h
+  pub units : (k : Key) → listed (home_of k) left ≡ true
+      → unit world order k ≡ f.unit + place_of k (flat_map (chain_keys world) left)
+  pub defaults : (h : Home) (x : Text) → listed h left ≡ true
+      → default_place world order h x ≡ f.default + default_in world order left h x
   pub all : length (keys world order) ≡ f.unit + length (flat_map (chain_keys world) left)

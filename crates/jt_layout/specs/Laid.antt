@@ -29,7 +29,8 @@ module _ (world : World) (order : List Home) (templates : List Template) (h : Ho
     pub code : Macro
     pub found : slice_get l.macros.items i ≡ Some code
     pub meant : macro_of x (macros world.sources h) ≡ Some (macro_view templates code)
-    pub first_default : slice_get l.defaults.items i ≡ Some (default_place world order h code.name.now)
+    pub first_default :
+        slice_get l.defaults.items i ≡ Some (default_place world order h code.name.now)
     pub macro_unit : l.macro_unit + i ≡ unit world order (of_macro h code.name.now)
 
   abbrev pub IsCalled : Text → Option ℕ → Type 0
@@ -50,20 +51,27 @@ module _ (world : World) (order : List Home) (templates : List Template) (h : Ho
   pub record IsLaid : Type 0 where
     pub kind : l.is_library ≡ is_library h
     pub named : texts l.names.items ≡ names world order h
-    pub in_slots : (x : Text) → option_map global (place_in l.slots.places x) ≡ slot_in x (globals world order h)
+    pub in_slots : (x : Text)
+        → option_map global (place_in l.slots.places x) ≡ slot_in x (globals world order h)
     pub from : l.first_slot ≡ first_slot world order h
     pub chain_unit : (n : Text) → h ≡ a_chain n → l.unit ≡ unit world order (of_chain n)
     pub all_macros : map (macro_view templates) l.macros.items ≡ macros world.sources h
     pub by_names : (x : Text) → IsCalled x (place_in l.called.places x)
     pub all_given : names_view templates h l.given.items ≡ given world.sources h
     pub given_names : (x : Text) → IsGiven x (place_in l.given_places.places x)
-    pub all_blocks : map (block_view templates) l.blocks.items ≡ all_bodies world.sources world.escaping h
-    pub body_units : (i : ℕ) → i < length l.blocks.items → l.body_unit + i ≡ unit world order (of_body h i)
+    pub all_blocks :
+        map (block_view templates) l.blocks.items ≡ all_bodies world.sources world.escaping h
+    pub body_units : (i : ℕ) → i < length l.blocks.items
+        → l.body_unit + i ≡ unit world order (of_body h i)
     pub firsts : (x : Text) → place_in l.first_bodies.places x ≡ first_body (numbered_of world h x)
-    pub nexts : (i : ℕ) (n : Option ℕ) → slice_get l.next_bodies.items i ≡ Some n → (b : BlockBody) (bs : List (ℕ × BlockBody))
-        → drop i (numbered_bodies world h) ≡ (i, b) ∷ bs → n ≡ next_given (filter (λ c. bytes_eq c.1.name b.name) bs)
+    pub nexts : (i : ℕ) (n : Option ℕ) → slice_get l.next_bodies.items i ≡ Some n
+        → (b : BlockBody) (bs : List (ℕ × BlockBody))
+        → drop i (numbered_bodies world h) ≡ (i, b) ∷ bs
+        → n ≡ next_given (filter (λ c. bytes_eq c.1.name b.name) bs)
     pub all_next : length l.next_bodies.items ≡ length l.blocks.items
-    pub scoped : (x : Text) → block_parameters world order h x ≡ (if is_some (place_in l.scoped.places x) then texts l.scope_names.items else [])
+    pub scoped : (x : Text)
+        → block_parameters world order h x
+        ≡ (if is_some (place_in l.scoped.places x) then texts l.scope_names.items else [])
 
 -- a chain or a library by its place in the order
 abbrev pub IsHomeAt : List Home → Home → Option ℕ → Type 0
@@ -75,8 +83,14 @@ pub record IsLaidOut (s : HomeTables) : Type 0 where
   pub inside : s.home < length s.homes.items
   pub all_homes : length s.homes.items ≡ length (chain_view s.chain.now).order
   pub each : (i : ℕ) (l : Laid) → i < length s.homes.items → l ≡ get_or s.homes.items i l
-      → IsLaid (world_of (chain_view s.chain.now)) (chain_view s.chain.now).order (chain_view s.chain.now).templates (home_at (chain_view s.chain.now).order i) l
-  pub all_units : s.units ≡ length (keys (world_of (chain_view s.chain.now)) (chain_view s.chain.now).order)
-  pub chains : (x : Text) → IsHomeAt (chain_view s.chain.now).order (a_chain x) (place_in s.places.places x)
-  pub libraries : (x : Text) → IsHomeAt (chain_view s.chain.now).order (a_library x) (place_in s.libraries.places x)
-  pub sources : (x : Text) → is_none (place_in s.sources.places x) ≡ is_none ((world_of (chain_view s.chain.now)).sources x)
+      → IsLaid (world_of (chain_view s.chain.now)) (chain_view s.chain.now).order
+      (chain_view s.chain.now).templates (home_at (chain_view s.chain.now).order i) l
+  pub all_units :
+      s.units ≡ length (keys (world_of (chain_view s.chain.now)) (chain_view s.chain.now).order)
+  pub chains : (x : Text)
+      → IsHomeAt (chain_view s.chain.now).order (a_chain x) (place_in s.places.places x)
+  pub libraries : (x : Text)
+      → IsHomeAt (chain_view s.chain.now).order (a_library x) (place_in s.libraries.places x)
+  pub sources : (x : Text)
+      → is_none (place_in s.sources.places x)
+      ≡ is_none ((world_of (chain_view s.chain.now)).sources x)

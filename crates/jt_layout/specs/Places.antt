@@ -32,7 +32,9 @@ first_home h n (k ∷ ks) = if same_home k h then Some n else first_home h (suc 
 
 -- the names of a chain and of those that it leads to, which stand behind it
 abbrev pub all_names : World → List Home → Home → List Text
-all_names world behind h = ascending (own_names world.sources h ++ flat_map (names_in world behind) (included world.sources h))
+all_names world behind h =
+    ascending
+    (own_names world.sources h ++ flat_map (names_in world behind) (included world.sources h))
 
 -- the names that were gathered for a chain; none for one that isn't there
 abbrev pub texts_of : Option (Vec (Bor Text) Global) → List Text

@@ -3,8 +3,8 @@
 use crate::index::Index;
 use jt_chains::{Block, Macro, Named};
 
-/// How one chain or library is laid out: its names in slots of globals, its macros and its bodies as
-/// units. A library has no globals, and no unit of its own.
+/// How one chain or library is laid out: its names in slots of globals, its macros and its bodies
+/// as units. A library has no globals, and no unit of its own.
 #[derive(Drop)]
 pub struct Laid<'a> {
     pub is_library: bool,

@@ -11,7 +11,8 @@ use jt_chains::Home;
 use jt_value::NoMemory;
 use std::alloc::Global;
 
-/// The places of the chains, or of the libraries, by their names: one of each may have the same name.
+/// The places of the chains, or of the libraries, by their names: one of each may have the same
+/// name.
 pub(crate) fn home_places<'a>(
     alloc: Global,
     homes: &'a [Home],

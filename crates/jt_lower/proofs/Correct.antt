@@ -1,5 +1,5 @@
 -- A program's code does what the program means.
-use Rattle.std.proofs.Common.{◌≡◌, ◌≢◌, false, ℕ, zero, suc, ◌+◌, ◌<◌, ◌≤◌, List, [], ◌∷◌, ◌++◌, length, map, Option, Some, None, refl, sym, ap, ◌∙◌, subst, arith, append_assoc, append-nil, length-append, rules}
+use Rattle.std.proofs.Common.{◌≡◌, ◌≢◌, false, ℕ, zero, suc, ◌+◌, ◌≤◌, List, [], ◌∷◌, ◌++◌, length, map, Option, Some, None, refl, sym, ap, ◌∙◌, subst, arith, append_assoc, append-nil, length-append, rules}
 use Rattle.std.specs.Prelude.{slice_get, slice_set, unwrap_or, replicate}
 use Rattle.std.specs.Option.{option_map, option_and_then}
 use Rattle.std.proofs.Math.Seq.{get_or-append_seam, set-append_seam}
@@ -54,23 +54,13 @@ text_of_slot None h = refl
 text_of_slot (Some t) h = text_same t (h t refl)
 
 pub has_pool : (p : Program) → ProgramFits p → HasPool (lowered p) p.pool
-has_pool p fit =
-    record {
-      values = λ i. ap constant_value (slice_get-map constant_of p.pool i) ∙ value_of_slot (slice_get p.pool i) (fit.pooled i);
-      texts = λ i. ap text_of (slice_get-map constant_of p.pool i) ∙ text_of_slot (slice_get p.pool i) (fit.pooled i);
-    }
+has_pool p fit = search (arith, rules, slice_get-map, value_of_slot, text_of_slot)
 
 -- ---- the start
 
 has_all : (is pre : List Instruction) → HasAt (pre ++ is) (length pre) is
 has_all [] pre = tt
-has_all (i ∷ is) pre =
-    let within : length pre < length (pre ++ i ∷ is) = omega (arith, length-append pre (i ∷ is)) in
-    let here = slice_get-get_or (pre ++ i ∷ is) (length pre) i within ∙ ap Some (get_or-append_seam pre i is i) in
-    let n : length (pre ++ i ∷ []) ≡ length pre + 1 = omega (arith, length-append pre (i ∷ [])) in
-    let rest = has_all is (pre ++ i ∷ []) in
-    let rest' = subst (λ l. HasAt l (length (pre ++ i ∷ [])) is) (append_assoc pre (i ∷ []) is) rest in
-    (here, subst (λ m. HasAt (pre ++ i ∷ is) m is) n rest')
+has_all (i ∷ is) pre = search (arith, rules, length-append pre (i ∷ is), slice_get-get_or (pre ++ i ∷ is) (length pre) i, get_or-append_seam pre i is i, length-append pre (i ∷ []), has_all is (pre ++ i ∷ []), append_assoc pre (i ∷ []) is)
 
 none_given : (n : ℕ) → replicate n tree.undefined ≡ with_locals n []
 none_given zero = refl
@@ -122,10 +112,7 @@ seam (d ∷ done) rest x = seam done rest x
 -- the places of a unit stand in a table that is read from them
 places_hold : (k : Code) (table : Table) (u : ℕ) (all qs done : List (Option Place)) (n : ℕ) → ((i : ℕ) → table u i ≡ option_and_then (λ q. q) (slice_get all i)) → all ≡ done ++ qs → n ≡ length done → PlacesAt k table u n qs
 places_hold k table u all [] done n h e l = tt
-places_hold k table u all (q ∷ qs) done n h e l = (
-  h n ∙ ap (λ qs. option_and_then (λ q. q) (slice_get qs n)) e ∙ ap (λ i. option_and_then (λ q. q) (slice_get (done ++ q ∷ qs) i)) l ∙ ap (option_and_then (λ q. q)) (seam done qs q),
-  places_hold k table u all qs (done ++ q ∷ []) (n + 1) h (e ∙ sym (append_assoc done (q ∷ []) qs)) (omega (arith, l, length-append done (q ∷ []))),
-)
+places_hold k table u all (q ∷ qs) done n h e l = search (arith, rules, seam, places_hold k table u all qs (done ++ q ∷ []) (n + 1) h (e ∙ sym (append_assoc done (q ∷ []) qs)) (omega (arith, l, length-append done (q ∷ []))), append_assoc, length-append)
 
 abbrev written : Memory → Got Written
 written m = gives (record { text = m.out; globals = m.globals })
@@ -235,9 +222,7 @@ module _ (p : Program) (fit : ProgramFits p) where
   performed_runs : (n : ℕ) → CallsRun k table n (calls n) → (u : ℕ) (o : Option (Routine ℕ)) (t : Section) (ts gs : List Tree) (q : Option Place) (out : Text) (bufs : List (List ℕ)) (a : Caller) (ks : List Caller)
       → slice_get p.routines u ≡ o → slice_get k.units u ≡ Some t → length gs ≡ p.globals
       → Reaches k table (suc n) (machine u 0 (a ∷ ks) (record { entries = []; locals = locals_of t.locals ts; globals = gs; buffers = out ∷ bufs })) (of_written q (sperformed the_filters (tree_at p.pool) (calls n) o ts gs) a.entries a.locals out bufs) (machine a.unit a.point ks)
-  performed_runs n run_calls u None t ts gs q out bufs a ks is there e =
-      let none : slice_get k.units u ≡ None = slice_get-map unit_of p.routines u ∙ ap (option_map unit_of) is in
-      absurd cc
+  performed_runs n run_calls u None t ts gs q out bufs a ks is there e = search (arith, rules, slice_get-map)
   performed_runs n run_calls u (Some r) t ts gs q out bufs a ks is there e =
       let at = unit_at u r is in
       let same : unit_of r ≡ t = cc in
@@ -277,9 +262,7 @@ module _ (p : Program) (fit : ProgramFits p) where
       (flat_runs k table n (calls n) (runs_calls n) (body_asm r.body 0) (unit_of r) 0 0 [] (at_memory [] [] [] m) (unit_at 0 r fit.is_entry) (front r) (places_at r 0 fit.is_entry)))))
     where
       less : (n : ℕ) (c : Machine) (g : Got Text) → Follows k table c (suc n) g → Follows k table c n g
-      less n c (gives t) h = h
-      less n c (fails e q) h = h
-      less n c deeper h = (h.0, omega (arith, h.1), h.2)
+      less n c a2 h = search (arith, rules)
 
   -- a run that ends after n instructions is what it means where calls go n deep
   over_too : (x : Pairs) (n : ℕ) (o : Free) (g : Got Text) → o ≢ Going → placed_exec k table n (start_machine k x) ≡ o → Follows k table (start_machine k x) n g → o ≡ as_free g

@@ -1,9 +1,9 @@
 -- What it is for a run to do what a meaning says, and how such runs stand one behind the other.
-use Rattle.std.proofs.Common.{◌≡◌, Bool, true, false, if◌then◌else◌, Option, Some, None, refl, sym, ap, ◌∙◌, subst, arith, rules}
+use Rattle.std.proofs.Common.{◌≡◌, Bool, true, false, if◌then◌else◌, Option, Some, None, sym, subst, arith, rules}
 use Rattle.jt_image.specs.Config.{State}
 use Rattle.jt_value.specs.Place.{Place}
 use Rattle.jt_evaluation.specs.Got.{Got, gives, fails, deeper, bind, at}
-use Rattle.jt_lower.specs.Asm.{Ran, does, stops, too_deep, bad, and_then, place_or}
+use Rattle.jt_lower.specs.Asm.{Ran, does, stops, too_deep, and_then, place_or}
 
 -- Where the meaning gives something, the run comes to the state of it, and an invariant holds of it. Where it fails, the run stops
 -- with the fault, and with its place, or else with that of the tag.
@@ -58,6 +58,4 @@ pub and_then_assoc : (r : Ran) (f g : State → Ran) → and_then (and_then r f)
 and_then_assoc r f g = search (arith, rules)
 
 pub bind_assoc : {A B C : Type 0} (m : Got A) (f : A → Got B) (g : B → Got C) → bind (bind m f) g ≡ bind m (λ x. bind (f x) g)
-bind_assoc (gives x) f g = refl
-bind_assoc (fails e q) f g = refl
-bind_assoc deeper f g = refl
+bind_assoc a0 f g = search (arith, rules)

@@ -1,5 +1,5 @@
 -- The program of lawful routines fits.
-use Rattle.std.proofs.Common.{◌≡◌, ℕ, zero, suc, ◌+◌, ◌<◌, ◌≤◌, Bool, true, false, List, [], ◌∷◌, ◌++◌, length, Option, Some, None, refl, sym, ap, ◌∙◌, subst, arith, append_assoc, length-append, rules}
+use Rattle.std.proofs.Common.{◌≡◌, ℕ, zero, suc, ◌+◌, ◌<◌, ◌≤◌, Bool, true, false, List, [], ◌∷◌, ◌++◌, length, Option, Some, None, refl, sym, ap, subst, arith, append_assoc, length-append, rules}
 use Rattle.std.specs.Prelude.{slice_get}
 use Rattle.std.specs.List.{AllByRecursion}
 use Rattle.std.proofs.Math.Seq.{get_or-append_seam}
@@ -30,19 +30,11 @@ pool_front pool n (x ∷ xs) ys h = (h.0, pool_front pool (n + 1) xs ys h.1)
 
 pub pool_back : (pool : List Tree) (n : ℕ) (xs ys : List Tree) → PoolAt pool n (xs ++ ys) → PoolAt pool (n + length xs) ys
 pool_back pool n [] ys h = let e : n ≡ n + 0 = omega arith in subst (λ m. PoolAt pool m ys) e h
-pool_back pool n (x ∷ xs) ys h =
-    let e : n + 1 + length xs ≡ n + length (x ∷ xs) = omega arith in
-    subst (λ m. PoolAt pool m ys) e (pool_back pool (n + 1) xs ys h.1)
+pool_back pool n (x ∷ xs) ys h = search (arith, rules, pool_back pool (n + 1) xs ys h.1)
 
 pub pool_whole : (ts before : List Tree) → PoolAt (before ++ ts) (length before) ts
 pool_whole [] before = tt
-pool_whole (t ∷ ts) before =
-    let inside : length before < length (before ++ t ∷ ts) = omega (arith, length-append before (t ∷ ts)) in
-    let here = slice_get-get_or (before ++ t ∷ ts) (length before) t inside ∙ ap Some (get_or-append_seam before t ts t) in
-    let n : length (before ++ t ∷ []) ≡ length before + 1 = omega (arith, length-append before (t ∷ [])) in
-    let rest = pool_whole ts (before ++ t ∷ []) in
-    let rest' = subst (λ l. PoolAt l (length (before ++ t ∷ [])) ts) (append_assoc before (t ∷ []) ts) rest in
-    (here, subst (λ m. PoolAt (before ++ t ∷ ts) m ts) n rest')
+pool_whole (t ∷ ts) before = search (arith, rules, length-append before (t ∷ ts), slice_get-get_or (before ++ t ∷ ts) (length before) t, get_or-append_seam before t ts t, length-append before (t ∷ []), pool_whole ts (before ++ t ∷ []), append_assoc before (t ∷ []) ts)
 
 -- ---- lists
 
@@ -71,25 +63,20 @@ placed_is (s ∷ rs) n zero r e = let same : s ≡ r = cc in (n, ap (λ x. Some 
 placed_is (s ∷ rs) n (suc u) r e = placed_is rs (n + length (body_values s.body)) u r e
 
 bare_placed : (es : SRow Constant) (n : ℕ) → IsBare es → IsBare (placed_row es n)
-bare_placed slots.none n b = tt
 bare_placed (slots.item (slots.pooled k) es) n b = bare_placed es (n + length (constant_values k)) b
 bare_placed (slots.item (slots.variable s) es) n b = bare_placed es (n + 0) b
-bare_placed (slots.item e es) n b = absurd b
-bare_placed (slots.aside i e es) n b = absurd b
+bare_placed a0 n b = search (arith, rules)
 
 -- ---- heights and sizes
 
 mutual
   expr_low : (e : SlotExpr Constant) (n : ℕ) → expr_height (placed_expr e n) ≡ expr_height e
-  expr_low (slots.pooled k) n = refl
-  expr_low (slots.variable s) n = refl
-  expr_low (slots.field f) n = refl
-  expr_low slots.absent n = refl
   expr_low (slots.made k es) n = omega (arith, row_low es n)
   expr_low (slots.conjunction a b) n = omega (arith, expr_low a n, expr_low b (n + length (expr_values a)))
   expr_low (slots.disjunction a b) n = omega (arith, expr_low a n, expr_low b (n + length (expr_values a)))
   expr_low (slots.choice c a b) n = omega (arith, expr_low c n, expr_low a (n + length (expr_values c)), expr_low b (n + length (expr_values c) + length (expr_values a)))
   expr_low (slots.invoke u escaping es) n = omega (arith, row_low es n)
+  expr_low a0 n = refl
 
   row_low : (es : SRow Constant) (n : ℕ) → row_height (placed_row es n) ≡ row_height es
   row_low slots.none n = refl
@@ -106,10 +93,7 @@ mutual
   stmt_low (slots.print q escaping e) n = expr_low e n
   stmt_low (slots.assign q xs e) n = omega (arith, expr_low e n)
   stmt_low (slots.if_else q c a b) n = omega (arith, expr_low c n, body_low a (n + length (expr_values c)), body_low b (n + length (expr_values c) + length (body_values a)))
-  stmt_low (slots.for_each q xs e c body other) n =
-      let i = n + length (expr_values e) in
-      let j = i + length (condition_values c) in
-      omega (arith, expr_low e n, condition_low c i, body_low body j, body_low other (j + length (body_values body)))
+  stmt_low (slots.for_each q xs e c body other) n = search (arith, rules, expr_low, condition_low, body_low body, body_low other)
   stmt_low (slots.capture escaping s body) n = omega (arith, body_low body n)
   stmt_low (slots.run u es) n = row_low es n
 
@@ -119,15 +103,12 @@ mutual
 
 mutual
   expr_sized : (e : SlotExpr Constant) (n : ℕ) → expr_size (placed_expr e n) ≡ expr_size e
-  expr_sized (slots.pooled k) n = refl
-  expr_sized (slots.variable s) n = refl
-  expr_sized (slots.field f) n = refl
-  expr_sized slots.absent n = refl
   expr_sized (slots.made k es) n = omega (arith, row_sized es n)
   expr_sized (slots.conjunction a b) n = omega (arith, expr_sized a n, expr_sized b (n + length (expr_values a)))
   expr_sized (slots.disjunction a b) n = omega (arith, expr_sized a n, expr_sized b (n + length (expr_values a)))
   expr_sized (slots.choice c a b) n = omega (arith, expr_sized c n, expr_sized a (n + length (expr_values c)), expr_sized b (n + length (expr_values c) + length (expr_values a)))
   expr_sized (slots.invoke u escaping es) n = omega (arith, row_sized es n)
+  expr_sized a0 n = refl
 
   row_sized : (es : SRow Constant) (n : ℕ) → row_size (placed_row es n) ≡ row_size es
   row_sized slots.none n = refl
@@ -144,10 +125,7 @@ mutual
   stmt_sized (slots.print q escaping e) n = omega (arith, expr_sized e n)
   stmt_sized (slots.assign q xs e) n = omega (arith, expr_sized e n)
   stmt_sized (slots.if_else q c a b) n = omega (arith, expr_sized c n, body_sized a (n + length (expr_values c)), body_sized b (n + length (expr_values c) + length (body_values a)))
-  stmt_sized (slots.for_each q xs e c body other) n =
-      let i = n + length (expr_values e) in
-      let j = i + length (condition_values c) in
-      omega (arith, expr_sized e n, kept_sized xs c i, body_sized body j, body_sized other (j + length (body_values body)))
+  stmt_sized (slots.for_each q xs e c body other) n = search (arith, rules, expr_sized, kept_sized, body_sized body, body_sized other)
   stmt_sized (slots.capture escaping s body) n = omega (arith, body_sized body n)
   stmt_sized (slots.run u es) n = omega (arith, row_sized es n)
 
@@ -210,9 +188,7 @@ module _ (names : List Text) (globals : ℕ) (front : List Tree) (rs : List (Rou
     stmt_pooled (slots.print q escaping e) h = expr_pooled e h
     stmt_pooled (slots.assign q xs e) h = expr_pooled e h.1
     stmt_pooled (slots.if_else q c a b) h = all_append IsPooled (expr_values c) (body_values a ++ body_values b) (expr_pooled c h.0) (all_append IsPooled (body_values a) (body_values b) (body_pooled a h.1) (body_pooled b h.2))
-    stmt_pooled (slots.for_each q xs e c body other) h =
-        all_append IsPooled (expr_values e) (condition_values c ++ (body_values body ++ body_values other)) (expr_pooled e h.1)
-        (all_append IsPooled (condition_values c) (body_values body ++ body_values other) (condition_pooled c h.2) (all_append IsPooled (body_values body) (body_values other) (body_pooled body h.3) (body_pooled other h.4)))
+    stmt_pooled (slots.for_each q xs e c body other) h = search (arith, rules, all_append, expr_pooled, condition_pooled, body_pooled body h.3, body_pooled other h.4)
     stmt_pooled (slots.capture escaping s body) h = body_pooled body h.1
     stmt_pooled (slots.run u es) h = row_pooled es h.0
 
@@ -262,24 +238,14 @@ module _ (names : List Text) (globals : ℕ) (front : List Tree) (rs : List (Rou
           (expr_fits a inside n t.0 h.0 (pool_front p.pool n (expr_values a) (expr_values b) at) (omega (arith, le)), expr_fits b inside (n + length (expr_values a)) t.1 h.1 (pool_back p.pool n (expr_values a) (expr_values b) at) (omega (arith, le)))
       expr_fits (slots.disjunction a b) inside n t h at le =
           (expr_fits a inside n t.0 h.0 (pool_front p.pool n (expr_values a) (expr_values b) at) (omega (arith, le)), expr_fits b inside (n + length (expr_values a)) t.1 h.1 (pool_back p.pool n (expr_values a) (expr_values b) at) (omega (arith, le)))
-      expr_fits (slots.choice c a b) inside n t h at le =
-          let rest = pool_back p.pool n (expr_values c) (expr_values a ++ expr_values b) at in
-          let m = n + length (expr_values c) in (
-            expr_fits c inside n t.0 h.0 (pool_front p.pool n (expr_values c) (expr_values a ++ expr_values b) at) (omega (arith, le)),
-            expr_fits a inside m t.1 h.1 (pool_front p.pool m (expr_values a) (expr_values b) rest) (omega (arith, le)),
-            expr_fits b inside (m + length (expr_values a)) t.2 h.2 (pool_back p.pool m (expr_values a) (expr_values b) rest) (omega (arith, le)),
-          )
+      expr_fits (slots.choice c a b) inside n t h at le = search (arith, rules, pool_back, expr_fits c inside n t.0 h.0, pool_front, expr_fits a inside, expr_fits b inside)
       expr_fits (slots.invoke u escaping es) inside n t h at le = (call_fits u es n t.0, row_fits es inside n t.1 h at le)
 
       row_fits : (es : SRow Constant) (inside : Bool) (n : ℕ) → RowTakes the_filters p.routines inside (placed_row es n) → RowLawful before globals es → PoolAt p.pool n (row_values es) → row_locals es ≤ count → RowFits p count inside (placed_row es n)
       row_fits slots.none inside n t h at le = tt
       row_fits (slots.item e es) inside n t h at le =
           (expr_fits e inside n t.0 h.0 (pool_front p.pool n (expr_values e) (row_values es) at) (omega (arith, le)), row_fits es inside (n + length (expr_values e)) t.1 h.1 (pool_back p.pool n (expr_values e) (row_values es) at) (omega (arith, le)))
-      row_fits (slots.aside i e es) inside n t h at le = (
-        omega (arith, le),
-        expr_fits e inside n t.0 h.0 (pool_front p.pool n (expr_values e) (row_values es) at) (omega (arith, le)),
-        row_fits es inside (n + length (expr_values e)) t.1 h.1 (pool_back p.pool n (expr_values e) (row_values es) at) (omega (arith, le)),
-      )
+      row_fits (slots.aside i e es) inside n t h at le = search (arith, rules, expr_fits e inside n t.0 h.0, pool_front, row_fits es inside (n + length (expr_values e)) t.1 h.1, pool_back)
 
     each_fits : (ss : List (Option Slot)) → SlotsLawful before globals ss → slots_locals ss ≤ count → SlotsFit p count ss
     each_fits [] h le = tt
@@ -299,24 +265,8 @@ module _ (names : List Text) (globals : ℕ) (front : List Tree) (rs : List (Rou
       stmt_fits (slots.put_pooled k) inside n t h at le = text_fits k n h at
       stmt_fits (slots.print q escaping e) inside n t h at le = expr_fits e inside n t h at le
       stmt_fits (slots.assign q xs e) inside n t h at le = (targets_fit xs h.0 (omega (arith, le)), expr_fits e inside n t h.1 at (omega (arith, le)))
-      stmt_fits (slots.if_else q c a b) inside n t h at le =
-          let rest = pool_back p.pool n (expr_values c) (body_values a ++ body_values b) at in
-          let m = n + length (expr_values c) in (
-            expr_fits c inside n t.0 h.0 (pool_front p.pool n (expr_values c) (body_values a ++ body_values b) at) (omega (arith, le)),
-            body_fits a inside m t.1 h.1 (pool_front p.pool m (body_values a) (body_values b) rest) (omega (arith, le)),
-            body_fits b inside (m + length (body_values a)) t.2 h.2 (pool_back p.pool m (body_values a) (body_values b) rest) (omega (arith, le)),
-          )
-      stmt_fits (slots.for_each q xs e c body other) inside n t h at le =
-          let rest = pool_back p.pool n (expr_values e) (condition_values c ++ (body_values body ++ body_values other)) at in
-          let m = n + length (expr_values e) in
-          let later = pool_back p.pool m (condition_values c) (body_values body ++ body_values other) rest in
-          let l = m + length (condition_values c) in (
-            targets_fit xs h.0 (omega (arith, le)),
-            expr_fits e inside n t.0 h.1 (pool_front p.pool n (expr_values e) (condition_values c ++ (body_values body ++ body_values other)) at) (omega (arith, le)),
-            condition_fits c m t.1 h.2 (pool_front p.pool m (condition_values c) (body_values body ++ body_values other) rest) (omega (arith, le)),
-            body_fits body true l t.2 h.3 (pool_front p.pool l (body_values body) (body_values other) later) (omega (arith, le)),
-            body_fits other inside (l + length (body_values body)) t.3 h.4 (pool_back p.pool l (body_values body) (body_values other) later) (omega (arith, le)),
-          )
+      stmt_fits (slots.if_else q c a b) inside n t h at le = search (arith, rules, pool_back, expr_fits, pool_front, body_fits a inside, body_fits b inside)
+      stmt_fits (slots.for_each q xs e c body other) inside n t h at le = search (arith, rules, pool_back, targets_fit, expr_fits, pool_front, condition_fits, body_fits body true, body_fits other inside)
       stmt_fits (slots.capture escaping s body) inside n t h at le = (slot_fits s h.0 (omega (arith, le)), body_fits body inside n t h.1 at (omega (arith, le)))
       stmt_fits (slots.run u es) inside n t h at le = (call_fits u es n t.0, row_fits es inside n t.1 h.0 at le, bare_placed es n h.1)
 

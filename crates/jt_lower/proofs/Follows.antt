@@ -27,28 +27,18 @@ has_front code p (i ∷ a) b h = (h.0, has_front code (p + 1) a b h.1)
 
 pub has_back : (code : List Instruction) (p : ℕ) (a b : List Instruction) → HasAt code p (a ++ b) → HasAt code (p + length a) b
 has_back code p [] b h = let e : p ≡ p + 0 = omega arith in subst (λ n. HasAt code n b) e h
-has_back code p (i ∷ a) b h =
-    let e : p + 1 + length a ≡ p + length (i ∷ a) = omega arith in
-    subst (λ n. HasAt code n b) e (has_back code (p + 1) a b h.1)
+has_back code p (i ∷ a) b h = search (arith, rules, has_back code (p + 1) a b h.1)
 
 abbrev pub machine : ℕ → ℕ → List Caller → State → Machine
 machine u p ks m = record { unit = u; point = p; state = m; callers = ks }
 
 -- each instruction has one place
 pub placed : (a : Asm) (n : ℕ) → length (places a) ≡ length (flat a n)
-placed nil n = refl
-placed (one o i) n = refl
 placed (both a b) n = length-append (places a) (places b) ∙ omega (arith, placed a n, placed b (n + length (flat a n)), length-append (flat a n) (flat b (n + length (flat a n))))
-placed (choose a b) n =
-    let ca = flat a (n + 1) in
-    let q = n + 1 + length ca + 1 in
-    let cb = flat b q in
-    omega (arith, placed a (n + 1), placed b q, length-append ca (op.Jump (q + length cb) ∷ cb), length-append (places a) (None ∷ places b))
+placed (choose a b) n = search (arith, rules, placed a (n + 1), placed b, length-append)
 placed (when a) n = omega (arith, placed a (n + 1))
-placed (each a) n =
-    let ca = flat a (n + 1) in
-    omega (arith, placed a (n + 1), length-append ca (op.Jump n ∷ []), length-append (places a) (None ∷ []))
-placed (invoke o u) n = refl
+placed (each a) n = search (arith, rules, placed a (n + 1), length-append)
+placed a0 n = refl
 
 eq_told : (a b : ℕ) → (a == b) ≡ true → a ≡ b
 eq_told a b h = grind (arith, nat_tests)

@@ -18,11 +18,9 @@ use Rattle.jt_image.specs.Config.{Frame, Entry, value, frame, capture, State}
 use Rattle.jt_image.specs.Loops.{trees_of, loop_over, item_at, field_of, field_id, told}
 use Rattle.jt_image.specs.Step as step
 use Rattle.jt_image.specs.Ids.{operator_of, operands_of, filter_of, test_of}
-use Rattle.jt_image.specs.Step.{Plain, broken, goes, plain, as_frame, on_values, push, push_given, told_by, piled, spreads, unpacks, begins, makes, operated, filtered_by, tested_by, with_entries, put_printed, constant_value, text_of}
+use Rattle.jt_image.specs.Step.{broken, goes, plain, as_frame, on_values, push_given, told_by, piled, spreads, unpacks, begins, makes, operated, filtered_by, tested_by, with_entries, put_printed, constant_value, text_of}
 use Rattle.jt_ids.specs.declared.op_id.OpId.{OpId}
-use Rattle.jt_ids.specs.declared.op_id.OpId.TheVariants as o
 use Rattle.jt_ids.specs.declared.test_id.TestId.{TestId}
-use Rattle.jt_ids.specs.declared.test_id.TestId.TheVariants as t
 use Rattle.jt_ids.specs.OpTable.{op_id, op_operands}
 use Rattle.jt_ids.specs.TestTable.{test_id}
 use Rattle.jt_ops.specs.Making.{listed, mapped}
@@ -34,8 +32,8 @@ use Rattle.jt_trees.specs.Expressions.{Text}
 use Rattle.jt_evaluation.specs.TheFilters.{the_filters}
 use Rattle.jt_evaluation.specs.Loops.{Field, Loop, result_listed, items_of_value, tree_at}
 use Rattle.jt_resolved.specs.Slots as slots
-use Rattle.jt_resolved.specs.Slots.{Slot, local, global, Maker, SlotExpr, SRow, Targets, SlotStmt, SBody, Routine, Program, Memory, Valued, Listed, Written, SCalls, load, put_at, store, store_if, store_each, take, make, valued, sturns, sgone_over, in_front, svalue, svalues, skept, smeaning, smeanings}
-use Rattle.jt_lower.specs.Asm.{Asm, nil, one, both, choose, when, each, invoke, Ran, does, bad, and_then, of_plain, turns, of_written, into_buffers, called, run}
+use Rattle.jt_resolved.specs.Slots.{Slot, local, global, Maker, SlotExpr, SRow, Targets, SlotStmt, SBody, Program, Memory, Valued, Listed, Written, SCalls, load, put_at, store, store_if, store_each, take, make, valued, sturns, sgone_over, in_front, svalue, svalues, skept, smeaning, smeanings}
+use Rattle.jt_lower.specs.Asm.{Asm, one, both, choose, when, each, invoke, Ran, does, bad, and_then, of_plain, turns, of_written, run}
 use Rattle.jt_resolved.specs.Size.{row_count}
 use Rattle.jt_lower.specs.Lower.{half, maker, told_as, flag, load_of, store_of, expr_asm, row_asm, store_if_of, stores_asm, take_asm, turn_asm, over_asm, kept_asm, stmt_asm, body_asm, unit_of, lowered}
 use Rattle.jt_lower.specs.Fits.{MakerFits, TakesRow, SlotFits, ExprFits, RowFits, SomeFits, SlotsFit, TargetsFit, ConditionFits, StmtFits, BodyFits}
@@ -72,14 +70,10 @@ eq_untold a b h = grind (arith, nat_tests)
 
 pub popped : {A : Type 0} (vs acc : List Tree) (es : List Entry) (n : ℕ) (z : A) (f : List Tree → List Entry → A) → on_values (length vs + n) acc (piled vs es) z f ≡ on_values n (vs ++ acc) es z f
 popped [] acc es n z f = let e : 0 + n ≡ n = omega arith in ap (λ i. on_values i acc es z f) e
-popped (v ∷ vs) acc es n z f =
-    let e : length (v ∷ vs) + n ≡ length vs + suc n = omega arith in
-    ap (λ i. on_values i acc (piled vs (value v ∷ es)) z f) e ∙ popped vs acc (value v ∷ es) (suc n) z f
+popped (v ∷ vs) acc es n z f = search (arith, rules, popped vs acc (value v ∷ es) (suc n) z f)
 
 pub popped_all : {A : Type 0} (vs : List Tree) (es : List Entry) (n : ℕ) (z : A) (f : List Tree → List Entry → A) → length vs ≡ n → on_values n [] (piled vs es) z f ≡ f vs es
-popped_all vs es n z f e =
-    let m : n ≡ length vs + 0 = omega arith in
-    ap (λ i. on_values i [] (piled vs es) z f) m ∙ popped vs [] es 0 z f ∙ ap (λ ts. f ts es) (append-nil vs)
+popped_all vs es n z f e = search (arith, rules, popped vs [] es 0 z f, append-nil vs)
 
 pub has_operator : (x : OpId) → operator_of (op_id x) ≡ Some x
 unfolding operator_of
@@ -148,10 +142,8 @@ pub record KeptIn (p : Program) (count : ℕ) (out : Text) (m : Memory) : Type 0
   pub text : m.out ≡ out
 
 wrong_count : (ss : List (Option Slot)) (vs : List Tree) (m : Memory) → length vs ≢ length ss → store_each ss vs m ≡ fails faults.Unpack None
-wrong_count [] [] m h = absurd (h refl)
-wrong_count [] (v ∷ vs) m h = refl
-wrong_count (s ∷ ss) [] m h = refl
 wrong_count (s ∷ ss) (v ∷ vs) m h = ap (λ g. bind g (λ n. gives (store_if s v n))) (wrong_count ss vs m (λ e. h (ap suc e)))
+wrong_count a0 a1 m h = search (arith, rules)
 
 module _ (p : Program) (call : SCalls) (has : HasPool (lowered p) p.pool) (keep : CallsKeep p.globals call) (count : ℕ) where
   abbrev k : Code
@@ -176,12 +168,7 @@ module _ (p : Program) (call : SCalls) (has : HasPool (lowered p) p.pool) (keep 
 
   store_does : (s : Slot) (v : Tree) (q : Option Place) (es : List Entry) (bs : List (List ℕ)) (out : Text) (m : Memory) → SlotFits p count s → Kept out m
       → (code (one q (store_of s)) (at_bufs (value v ∷ es) bs m) ≡ does (at_bufs es bs (store s v m))) × Kept out (store s v m)
-  store_does (local i) v q es bs out m fit w =
-      let lt : i < length m.locals = omega (arith, fit, w.locals) in
-      (ap (λ ts. does (record { entries = es; locals = ts; globals = m.globals; buffers = bs })) (put_same i v m.locals lt), record { locals = put_len i v m.locals lt ∙ w.locals; globals = w.globals; text = w.text })
-  store_does (global i) v q es bs out m fit w =
-      let lt : i < length m.globals = omega (arith, fit, w.globals) in
-      (ap (λ ts. does (record { entries = es; locals = m.locals; globals = ts; buffers = bs })) (put_same i v m.globals lt), record { locals = w.locals; globals = put_len i v m.globals lt ∙ w.globals; text = w.text })
+  store_does a0 v q es bs out m fit w = search (arith, rules, put_same, put_len)
 
   store_if_does : (s : Option Slot) (v : Tree) (q : Option Place) (es : List Entry) (bs : List (List ℕ)) (out : Text) (m : Memory) → SomeFits p count s → Kept out m
       → (code (one q (store_if_of s)) (at_bufs (value v ∷ es) bs m) ≡ does (at_bufs es bs (store_if s v m))) × Kept out (store_if s v m)
@@ -228,10 +215,7 @@ module _ (p : Program) (call : SCalls) (has : HasPool (lowered p) p.pool) (keep 
 
   made_by : (n : ℕ) (operate : List Tree → Result Tree Fault) (vs : List Tree) (q : Option Place) (es : List Entry) (bs : List (List ℕ)) (out : Text) (m : Memory) → length vs ≡ n → Kept out m
       → Does q (KeptValue out) (ValueOn es bs) (of_plain q (makes n operate (at_bufs (piled vs es) bs m))) (bind (checked (operate vs)) (valued m))
-  made_by n operate vs q es bs out m e w =
-      same_run q (KeptValue out) (ValueOn es bs) _ (of_plain q (push_given (operate vs) es (at_bufs (piled vs es) bs m))) (bind (checked (operate vs)) (valued m))
-      (ap (of_plain q) (popped_all vs es n broken (λ ts fs. push_given (operate ts) fs (at_bufs (piled vs es) bs m)) e))
-      (checked_does (operate vs) q es bs out m (piled vs es) w)
+  made_by n operate vs q es bs out m e w = search (arith, rules, same_run, popped_all, checked_does)
 
   made_does : (h : Maker) (n : ℕ) (vs : List Tree) (q : Option Place) (es : List Entry) (bs : List (List ℕ)) (out : Text) (m : Memory) → MakerFits h n → length vs ≡ n → Kept out m
       → Does q (KeptValue out) (ValueOn es bs) (of_plain q (plain k (maker h n) (at_bufs (piled vs es) bs m))) (bind (checked (make the_filters h vs)) (valued m))
@@ -254,18 +238,11 @@ module _ (p : Program) (call : SCalls) (has : HasPool (lowered p) p.pool) (keep 
 
   call_runs : (u n : ℕ) (vs : List Tree) (q : Option Place) (es : List Entry) (out : Text) (bufs : List (List ℕ)) (m : Memory) → TakesRow p.routines u n → length vs ≡ n → length m.globals ≡ p.globals
       → code (invoke q u) (at_bufs (piled vs es) (out ∷ bufs) m) ≡ of_written q (call u vs m.globals) es m.locals out bufs
-  call_runs u n vs q es out bufs m x e g =
-      ap (λ s. called q k call u s (at_bufs (piled vs es) (out ∷ bufs) m)) (unit_at u n x)
-      ∙ popped_all vs es x.routine.parameters bad (λ ts fs. if length m.globals == k.globals then into_buffers q (call u ts m.globals) fs m.locals (out ∷ bufs) else bad) (e ∙ sym x.parameters)
-      ∙ ap (λ b. if b then into_buffers q (call u vs m.globals) es m.locals (out ∷ bufs) else bad) (eq_true (length m.globals) p.globals g)
+  call_runs u n vs q es out bufs m x e g = search (arith, rules, unit_at u n x, popped_all vs es x.routine.parameters bad, eq_true (length m.globals))
 
   captured : (g : Got Written) (escaping : Bool) (q : Option Place) (es : List Entry) (bs : List (List ℕ)) (out : Text) (m : Memory) → Keeps p.globals g → Kept out m → IsOpen bs
       → Does q (KeptValue out) (ValueOn es bs) (and_then (of_written q g (capture ∷ es) m.locals [] bs) (code (one q (op.CaptureEnd (flag escaping))))) (bind g (λ w. valued (record m { globals = w.globals }) (as_value escaping w.text)))
-  captured (gives w) escaping q es [] out m fit h opened = absurd opened
-  captured (gives w) true q es (b ∷ bs) out m fit h opened = (refl, record { locals = h.locals; globals = fit; text = h.text })
-  captured (gives w) false q es (b ∷ bs) out m fit h opened = (refl, record { locals = h.locals; globals = fit; text = h.text })
-  captured (fails e s) escaping q es bs out m fit h opened = refl
-  captured deeper escaping q es bs out m fit h opened = refl
+  captured a0 a1 q es a4 out m fit h opened = search (arith, rules)
 
   -- ---- expressions
 
@@ -306,31 +283,10 @@ module _ (p : Program) (call : SCalls) (has : HasPool (lowered p) p.pool) (keep 
         then_does q (KeptRow out (row_count r)) (RowOn es bs) (KeptValue out) (ValueOn es bs) (code (row_asm q r h) (at_bufs es bs m)) (MeansRow r l m) (code (one q (maker x (row_count r)))) (λ y. bind (checked (make the_filters x y.values)) (valued y.memory))
         (row_does r q inside h l es bs out m fit.1 fr w opened)
         (λ y j. made_does x (row_count r) y.values q es bs out y.memory fit.0 j.1 j.0)
-    expr_does (slots.conjunction a b) q inside h l es bs out m fit fr w opened =
-        then_does q (KeptValue out) (ValueOn es bs) (KeptValue out) (ValueOn es bs) (code (expr_asm q a h) (at_bufs es bs m)) (Means a l m)
-        (code (both (one q op.Dup) (choose (both (one q op.Drop) (expr_asm q b h)) nil))) (λ r. if tree.truth r.value then Means b l r.memory else gives r)
-        (expr_does a q inside h l es bs out m fit.0 fr w opened)
-        (λ r w'. either (tree.truth r.value) q (KeptValue out) (ValueOn es bs) (code (expr_asm q b h) (at_bufs es bs r.memory)) (does (ValueOn es bs r)) (Means b l r.memory) (gives r) (expr_does b q inside h l es bs out r.memory fit.1 fr w' opened) (refl, w'))
-    expr_does (slots.disjunction a b) q inside h l es bs out m fit fr w opened =
-        then_does q (KeptValue out) (ValueOn es bs) (KeptValue out) (ValueOn es bs) (code (expr_asm q a h) (at_bufs es bs m)) (Means a l m)
-        (code (both (one q op.Dup) (choose nil (both (one q op.Drop) (expr_asm q b h))))) (λ r. if tree.truth r.value then gives r else Means b l r.memory)
-        (expr_does a q inside h l es bs out m fit.0 fr w opened)
-        (λ r w'. either (tree.truth r.value) q (KeptValue out) (ValueOn es bs) (does (ValueOn es bs r)) (code (expr_asm q b h) (at_bufs es bs r.memory)) (gives r) (Means b l r.memory) (refl, w') (expr_does b q inside h l es bs out r.memory fit.1 fr w' opened))
-    expr_does (slots.choice c a b) q inside h l es bs out m fit fr w opened =
-        then_does q (KeptValue out) (ValueOn es bs) (KeptValue out) (ValueOn es bs) (code (expr_asm q c h) (at_bufs es bs m)) (Means c l m)
-        (code (choose (expr_asm q a h) (expr_asm q b h))) (λ r. if tree.truth r.value then Means a l r.memory else Means b l r.memory)
-        (expr_does c q inside h l es bs out m fit.0 fr w opened)
-        (λ r w'. either (tree.truth r.value) q (KeptValue out) (ValueOn es bs) (code (expr_asm q a h) (at_bufs es bs r.memory)) (code (expr_asm q b h) (at_bufs es bs r.memory)) (Means a l r.memory) (Means b l r.memory)
-        (expr_does a q inside h l es bs out r.memory fit.1 fr w' opened) (expr_does b q inside h l es bs out r.memory fit.2 fr w' opened))
-    expr_does (slots.invoke u escaping r) q inside h l es bs out m fit fr w opened =
-        then_does q (KeptRow out (row_count r)) (RowOn (capture ∷ es) ([] ∷ bs)) (KeptValue out) (ValueOn es bs) (code (row_asm q r (suc h)) (at_bufs (capture ∷ es) ([] ∷ bs) m)) (MeansRow r l m)
-        (code (both (invoke q u) (one q (op.CaptureEnd (flag escaping))))) (λ y. bind (call u y.values y.memory.globals) (λ g. valued (record y.memory { globals = g.globals }) (as_value escaping g.text)))
-        (row_does r q inside (suc h) l (capture ∷ es) ([] ∷ bs) out m fit.1 (raise inside h capture es l fr) w tt)
-        (λ y j.
-        same_run q (KeptValue out) (ValueOn es bs) _ (and_then (of_written q (call u y.values y.memory.globals) (capture ∷ es) y.memory.locals [] bs) (code (one q (op.CaptureEnd (flag escaping)))))
-        (bind (call u y.values y.memory.globals) (λ g. valued (record y.memory { globals = g.globals }) (as_value escaping g.text)))
-        (ap (λ s. and_then s (code (one q (op.CaptureEnd (flag escaping))))) (call_runs u (row_count r) y.values q (capture ∷ es) [] bs y.memory fit.0 j.1 j.0.globals))
-        (captured (call u y.values y.memory.globals) escaping q es bs out y.memory (keep u y.values y.memory.globals j.0.globals) j.0 opened))
+    expr_does (slots.conjunction a b) q inside h l es bs out m fit fr w opened = search (arith, rules, then_does, expr_does a q inside h l es bs out m fit.0 fr w opened, either, expr_does b q inside h l es bs out)
+    expr_does (slots.disjunction a b) q inside h l es bs out m fit fr w opened = search (arith, rules, then_does, expr_does a q inside h l es bs out m fit.0 fr w opened, either, expr_does b q inside h l es bs out)
+    expr_does (slots.choice c a b) q inside h l es bs out m fit fr w opened = search (arith, rules, then_does, expr_does c q inside h l es bs out m fit.0 fr w opened, either, expr_does a q inside h l es bs out, expr_does b q inside h l es bs out)
+    expr_does (slots.invoke u escaping r) q inside h l es bs out m fit fr w opened = search (arith, rules, then_does, row_does r q inside (suc h) l (capture ∷ es) ([] ∷ bs) out m fit.1 (raise inside h capture es l fr) w tt, raise, same_run, call_runs, captured)
 
     -- a row: there are as many values as it leaves
     pub row_does : (r : SRow ℕ) (q : Option Place) (inside : Bool) (h : ℕ) (l : Option Loop) (es : List Entry) (bs : List (List ℕ)) (out : Text) (m : Memory) → RowFits p count inside r → FrameAt inside h es l → Kept out m → IsOpen bs
@@ -370,10 +326,7 @@ module _ (p : Program) (call : SCalls) (has : HasPool (lowered p) p.pool) (keep 
 
   is_over : (body : State → Ran) (all done : List Tree) (b : ℕ) (kept : List Tree) (es : List Entry) (bs : List (List ℕ)) (m : Memory) → all ≡ done ++ [] → b ≡ length done
       → turns body 0 (at_bufs (framed all b kept es) bs m) ≡ does (at_bufs (framed all (length all) kept es) bs m)
-  is_over body all done b kept es bs m e n =
-      let same : b ≡ length all = n ∙ ap length (sym (e ∙ append-nil done)) in
-      ap (λ t. if t then bad else does (at_bufs (framed all b kept es) bs m)) (lt_false b (length all) (omega arith))
-      ∙ ap (λ i. does (at_bufs (framed all i kept es) bs m)) same
+  is_over body all done b kept es bs m e n = search (arith, rules, append-nil, lt_false)
 
   -- the item of a turn
   item_got : (all done rest : List Tree) (v : Tree) (b : ℕ) (kept : List Tree) (q : Option Place) (es : List Entry) (bs : List (List ℕ)) (m : Memory) → all ≡ done ++ v ∷ rest → b ≡ length done
@@ -541,24 +494,12 @@ module _ (p : Program) (call : SCalls) (has : HasPool (lowered p) p.pool) (keep 
   closed : (escaping : Bool) (s : Slot) (es : List Entry) (pre : Text) (bufs : List (List ℕ)) (out : Text) (m : Memory) → SlotFits p count s → Sized m
       → (code (both (one None (op.CaptureEnd (flag escaping))) (one None (store_of s))) (at_memory (capture ∷ es) [] ((pre ++ out) ∷ bufs) m) ≡ does (at_memory es pre bufs (store s (as_value escaping m.out) (record m { out = out }))))
       × Sized (store s (as_value escaping m.out) (record m { out = out }))
-  closed escaping s es pre bufs out m fit w =
-      let m' = record m { out = out } in
-      let d = store_does s (as_value escaping m.out) None es ((pre ++ out) ∷ bufs) out m' fit (record { locals = w.locals; globals = w.globals; text = refl }) in
-      let st = store s (as_value escaping m.out) m' in
-      (ended escaping ∙ d.0 ∙ ap does (settled es pre bufs out st d.1), sized_of out st d.1)
-    where
-      ended : (b : Bool) → code (both (one None (op.CaptureEnd (flag b))) (one None (store_of s))) (at_memory (capture ∷ es) [] ((pre ++ out) ∷ bufs) m) ≡ code (one None (store_of s)) (at_bufs (value (as_value b m.out) ∷ es) ((pre ++ out) ∷ bufs) m)
-      ended true = refl
-      ended false = refl
+  closed escaping s es pre bufs out m fit w = search (arith, rules, store_does s (as_value escaping m.out) None es ((pre ++ out) ∷ bufs) out, settled es pre bufs out, sized_of out)
 
   -- what a called routine printed
   printed_by : (g : Got Written) (es : List Entry) (pre : Text) (bufs : List (List ℕ)) (out : Text) (m : Memory) → Keeps p.globals g → Kept out m
       → Does None Sized (at_memory es pre bufs) (of_written None g es m.locals (pre ++ out) bufs) (bind g (λ w. gives (record m { globals = w.globals; out = m.out ++ w.text })))
-  printed_by (gives w) es pre bufs out m fit h =
-      (ap (λ t. does (record { entries = es; locals = m.locals; globals = w.globals; buffers = t ∷ bufs })) (append_assoc pre out w.text ∙ ap (λ t. pre ++ (t ++ w.text)) (sym h.text)), record { locals = h.locals; globals = fit })
-  printed_by (fails e None) es pre bufs out m fit h = refl
-  printed_by (fails e (Some s)) es pre bufs out m fit h = refl
-  printed_by deeper es pre bufs out m fit h = refl
+  printed_by a0 es pre bufs out m fit h = search (arith, rules, append_assoc)
 
   mutual
     pub stmt_does : (s : SlotStmt ℕ) (inside : Bool) (h : ℕ) (l : Option Loop) (es : List Entry) (pre : Text) (bufs : List (List ℕ)) (m : Memory) → StmtFits p count inside s → FrameAt inside h es l → Sized m
@@ -630,6 +571,4 @@ module _ (p : Program) (call : SCalls) (has : HasPool (lowered p) p.pool) (keep 
     pub body_does : (b : SBody ℕ) (inside : Bool) (h : ℕ) (l : Option Loop) (es : List Entry) (pre : Text) (bufs : List (List ℕ)) (m : Memory) → BodyFits p count inside b → FrameAt inside h es l → Sized m
         → Does None Sized (at_memory es pre bufs) (code (body_asm b h) (at_memory es pre bufs m)) (MeansBody b l m)
     body_does slots.end inside h l es pre bufs m fit fr w = (refl, w)
-    body_does (slots.stmt s rest) inside h l es pre bufs m fit fr w =
-        then_does None Sized (at_memory es pre bufs) Sized (at_memory es pre bufs) (code (stmt_asm s h) (at_memory es pre bufs m)) (MeansStmt s l m) (code (body_asm rest h)) (MeansBody rest l)
-        (stmt_does s inside h l es pre bufs m fit.0 fr w) (λ n w1. body_does rest inside h l es pre bufs n fit.1 fr w1)
+    body_does (slots.stmt s rest) inside h l es pre bufs m fit fr w = search (arith, rules, then_does, stmt_does s inside h l es pre bufs m fit.0 fr w, body_does rest inside h l es pre bufs)

@@ -1,12 +1,12 @@
 -- Tests whether the entries of expressions are few enough.
-use Rattle.std.proofs.Common.{◌≡◌, ℕ, ◌+◌, ◌-◌, max, ◌<◌, ◌≤◌, true, false, ◌&&◌, List, length, drop, get_or, Option, Some, None, if◌then◌else◌, sym, ap, ◌∙◌, arith}
+use Rattle.std.proofs.Common.{◌≡◌, ℕ, ◌+◌, ◌-◌, max, ◌<◌, ◌≤◌, true, ◌&&◌, List, length, drop, get_or, if◌then◌else◌, arith, rules}
 use Rattle.std.specs.Prelude.{nat_le}
 use Rattle.std.specs.Option.{is_some}
 use Rattle.std.proofs.lemmas.Bool.Decides.{nat_tests}
 use Rattle.jt_resolved.specs.Slots as slots
 use Rattle.jt_resolved.specs.Slots.{SlotExpr, none}
 use Rattle.jt_resolved.specs.Size.{expr_height, row_height}
-use Rattle.jt_resolved.specs.View.{entry_front, expr_view, row_view}
+use Rattle.jt_resolved.specs.View.{expr_view, row_view}
 use Rattle.jt_resolved.proofs.ExpressionViews.{Entry, row_left}
 
 -- both are few enough where the greater one is
@@ -15,22 +15,12 @@ both_low a b c = grind (arith, nat_tests)
 
 -- a value is one entry
 pub height_some : (e : SlotExpr ℕ) → 1 ≤ expr_height e
-height_some (slots.pooled i) = omega arith
-height_some (slots.variable s) = omega arith
-height_some (slots.field f) = omega arith
-height_some slots.absent = omega arith
-height_some (slots.made k es) = omega arith
-height_some (slots.conjunction a b) = omega arith
-height_some (slots.disjunction a b) = omega arith
 height_some (slots.choice c a b) = omega (arith, height_some c)
-height_some (slots.invoke u escaping es) = omega arith
+height_some a0 = omega arith
 
 -- one expression in front of a row
 item_low : (h r left : ℕ) → nat_le h left ≡ true → 1 ≤ h → nat_le (max h (1 + r)) left ≡ nat_le r (left - 1)
 item_low h r left low some = grind (arith, nat_tests)
-
-high : (h r left : ℕ) → nat_le h left ≡ false → nat_le (max h r) left ≡ false
-high h r left e = grind (arith, nat_tests)
 
 aside_low : (h r left : ℕ) → nat_le h left ≡ true → nat_le (max h r) left ≡ nat_le r left
 aside_low h r left low = grind (arith, nat_tests)
@@ -40,11 +30,7 @@ abbrev pub Left : List Entry → ℕ → ℕ → ℕ → Type 0
 Left es room i left = nat_le (row_height (row_view es none)) room ≡ nat_le (row_height (row_view (drop i es) none)) left
 
 pub row_more : (es : List Entry) (room i left next : ℕ) (e : Entry) → i < length es → e ≡ get_or es i e → nat_le (expr_height (expr_view e.1)) left ≡ true → next ≡ (if is_some e.0 then left else left - 1) → Left es room i left → Left es room (i + 1) next
-row_more es room i left next e lt is low stays l = l ∙ ap (λ r. nat_le (row_height r) left) (row_left es i e lt is) ∙ by e.0 ∙ ap (λ n. nat_le (row_height (row_view (drop (i + 1) es) none)) n) (sym stays)
-  where
-    by : (k : Option ℕ) → nat_le (row_height (entry_front k (expr_view e.1) (row_view (drop (i + 1) es) none))) left ≡ nat_le (row_height (row_view (drop (i + 1) es) none)) (if is_some k then left else left - 1)
-    by None = item_low (expr_height (expr_view e.1)) (row_height (row_view (drop (i + 1) es) none)) left low (height_some (expr_view e.1))
-    by (Some n) = aside_low (expr_height (expr_view e.1)) (row_height (row_view (drop (i + 1) es) none)) left low
+row_more es room i left next e lt is low stays l = search (arith, rules, row_left es i e lt is, item_low (expr_height (expr_view e.1)) (row_height (row_view (drop (i + 1) es) none)) left low (height_some (expr_view e.1)), height_some (expr_view e.1), aside_low (expr_height (expr_view e.1)) (row_height (row_view (drop (i + 1) es) none)) left low)
 
 pub some_left : (e : SlotExpr ℕ) (left : ℕ) → nat_le (expr_height e) left ≡ true → 1 ≤ left
 some_left e left low = let some = height_some e in grind (arith, nat_tests)

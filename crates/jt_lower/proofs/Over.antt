@@ -1,24 +1,16 @@
 -- A run without a budget, with the places of a table, has one end; where the image tells the same places, it is the code's own run.
-use Rattle.std.proofs.Common.{◌≡◌, ◌≢◌, ℕ, zero, suc, ◌≤◌, Option, Some, None, refl, sym, ap, ◌∙◌, arith, ⊎_elim, rules}
+use Rattle.std.proofs.Common.{◌≡◌, ◌≢◌, ℕ, zero, suc, ◌≤◌, Option, Some, refl, sym, ◌∙◌, arith, ⊎_elim, rules}
 use Rattle.std.proofs.lemmas.Bool.{cases_lt}
 use Rattle.jt_image.specs.declared.instruction.Instruction.{Instruction}
 use Rattle.jt_image.specs.Code.{Section, Code}
 use Rattle.jt_image.specs.Config.{Machine}
-use Rattle.jt_image.specs.Step.{Action, goes_on, ends, faulty, wrong, action, fetch}
+use Rattle.jt_image.specs.Step.{fetch}
 use Rattle.jt_image.specs.Places.{place_at}
-use Rattle.jt_image.specs.FreeRun.{Free, Going, on_action, exec_at, exec}
-use Rattle.jt_value.specs.Place.{Place}
+use Rattle.jt_image.specs.FreeRun.{Free, Going, exec_at, exec}
 use Rattle.jt_lower.proofs.Placed.{Table, placed_at, placed_exec}
 
 longer_at : (k : Code) (table : Table) (q : Option (Section × Instruction)) (m : Machine) (go go' : Machine → Free) (o : Free) → ((m : Machine) → go m ≡ o → go' m ≡ o) → placed_at k table q m go ≡ o → placed_at k table q m go' ≡ o
-longer_at k table None m go go' o h e = e
-longer_at k table (Some (u, i)) m go go' o h e = through (action k u i m) e
-  where
-    place : Option Place
-    place = table m.unit m.point
-
-    through : (a : Action) → on_action place a go ≡ o → on_action place a go' ≡ o
-    through a e' = search (arith, rules)
+longer_at k table a2 m go go' o h e = search (arith, rules)
 
 -- a run that is over stays so with more instructions
 pub longer : (k : Code) (table : Table) (a b : ℕ) (m : Machine) (o : Free) → o ≢ Going → a ≤ b → placed_exec k table a m ≡ o → placed_exec k table b m ≡ o
@@ -39,14 +31,7 @@ Tells k table = (u p : ℕ) (x : Section × Instruction) → fetch k u p ≡ Som
 
 told_at : (k : Code) (table : Table) (q : Option (Section × Instruction)) (m : Machine) (go go' : Machine → Free) → ((x : Section × Instruction) → q ≡ Some x → place_at k m.unit m.point ≡ table m.unit m.point)
     → ((m : Machine) → go m ≡ go' m) → placed_at k table q m go ≡ exec_at k q m go'
-told_at k table None m go go' t h = refl
-told_at k table (Some (u, i)) m go go' t h = ap (λ q. on_action q (action k u i m) go) (sym (t (u, i) refl)) ∙ through (action k u i m)
-  where
-    through : (a : Action) → on_action (place_at k m.unit m.point) a go ≡ on_action (place_at k m.unit m.point) a go'
-    through (goes_on m' d) = h m'
-    through (ends t') = refl
-    through (faulty f) = refl
-    through wrong = refl
+told_at k table a2 m go go' t h = search (arith, rules)
 
 -- it is the run of the code itself
 pub told_same : (k : Code) (table : Table) → Tells k table → (n : ℕ) (m : Machine) → placed_exec k table n m ≡ exec k n m

@@ -1,5 +1,5 @@
 -- Instructions put behind others, and jumps that are written when their target is known.
-use Rattle.std.proofs.Common.{◌≡◌, ℕ, ◌+◌, ◌<◌, ◌≤◌, ◌^◌, false, List, [], ◌∷◌, ◌++◌, length, map, refl, sym, ap, ◌∙◌, subst, arith, Option, None, append_assoc, append-nil, length-append}
+use Rattle.std.proofs.Common.{◌≡◌, ℕ, ◌+◌, ◌<◌, ◌^◌, false, List, [], ◌∷◌, ◌++◌, length, map, refl, sym, ap, ◌∙◌, subst, arith, Option, None, append_assoc, append-nil, length-append, rules}
 use Rattle.std.specs.Prelude.{slice_set}
 use Rattle.std.specs.List.{AllByRecursion}
 use Rattle.std.proofs.Math.Seq.{set-append_seam}
@@ -34,12 +34,7 @@ pub emitted_len : (c d : List Instr) (a : Asm) → Emitted c a d → length d �
 emitted_len c d a e = omega (arith, ap length e, length-append c (W (flat a (length c))), len_wired (flat a (length c)))
 
 pub emitted_then : (c0 c1 c2 : List Instr) (a b : Asm) → Emitted c0 a c1 → Emitted c1 b c2 → Emitted c0 (both a b) c2
-emitted_then c0 c1 c2 a b e f =
-    let n = length c0 in
-    let fa = flat a n in
-    let fb = flat b (n + length fa) in
-    let at : length c1 ≡ n + length fa = emitted_len c0 c1 a e in
-    f ∙ ap (λ k. c1 ++ W (flat b k)) at ∙ ap (λ l. l ++ W fb) e ∙ append_assoc c0 (W fa) (W fb) ∙ ap (λ l. c0 ++ l) (sym (map-append wire_of fa fb))
+emitted_then c0 c1 c2 a b e f = search (arith, rules, emitted_len, append_assoc, map-append)
 
 -- a choice, the second side of which comes last
 choose_opened : (c1 c2 c3 c4 c5 z : List Instr) (a x : Asm) (n m t : ℕ) → Emitted c1 (alone (op.JumpIfFalse 0)) c2 → Emitted c2 a c3 → Emitted c3 (alone (op.Jump 0)) c4 → n ≡ length c1 → m ≡ length c3 → t ≡ length c4
@@ -89,68 +84,24 @@ all_back [] js h = h
 all_back (i ∷ is) js h = all_back is js h.1
 
 place_first : (m n : ℕ) (a b : Asm) → HasPlace m n (both a b) → HasPlace m n a
-place_first m n a b h =
-    let fa = flat a n in
-    let fb = flat b (n + length fa) in
-    record { len = omega (arith, h.len, length-append fa fb); fields = all_front fa fb h.fields }
+place_first m n a b h = search (arith, rules, length-append, all_front)
 
 place_second : (m n : ℕ) (a b : Asm) → HasPlace m n (both a b) → HasPlace m (n + length (flat a n)) b
-place_second m n a b h =
-    let fa = flat a n in
-    let fb = flat b (n + length fa) in
-    record { len = omega (arith, h.len, length-append fa fb); fields = all_back fa fb h.fields }
+place_second m n a b h = search (arith, rules, length-append, all_back)
 
 place_taken : (m n : ℕ) (a b : Asm) → HasPlace m n (choose a b) → HasPlace m (n + 1) a
-place_taken m n a b h =
-    let ca = flat a (n + 1) in
-    let q = n + 1 + length ca + 1 in
-    let cb = flat b q in
-    let last = op.Jump (q + length cb) ∷ cb in
-    record { len = omega (arith, h.len, length-append ca last); fields = all_front ca last h.fields.1 }
+place_taken m n a b h = search (arith, rules, length-append, all_front)
 
 place_other : (m n : ℕ) (a b : Asm) → HasPlace m n (choose a b) → HasPlace m (n + 1 + length (flat a (n + 1)) + 1) b
-place_other m n a b h =
-    let ca = flat a (n + 1) in
-    let q = n + 1 + length ca + 1 in
-    let cb = flat b q in
-    let last = op.Jump (q + length cb) ∷ cb in
-    record { len = omega (arith, h.len, length-append ca last); fields = (all_back ca last h.fields.1).1 }
+place_other m n a b h = search (arith, rules, length-append, all_back)
 
 -- what is done for a true value, the test of which was written last
 when_opened : (c1 c2 c3 new : List Instr) (a : Asm) (choice : ℕ) → choice ≡ length c1 → Emitted c1 (alone (op.JumpIfFalse 0)) c2 → Emitted c2 a c3 → new ≡ slice_set c3 choice (wire_of (op.JumpIfFalse (length c3))) → Emitted c1 (when a) new
-when_opened c1 c2 c3 new a choice at jumps ea ends =
-    let p = length c1 in
-    let ca = flat a (p + 1) in
-    let q = p + 1 + length ca in
-    let x0 : Instr = wire_of (op.JumpIfFalse 0) in
-    let x : Instr = wire_of (op.JumpIfFalse q) in
-    let l2 : length c2 ≡ p + 1 = emitted_len c1 c2 (alone (op.JumpIfFalse 0)) jumps in
-    let f3 : c3 ≡ c2 ++ W ca = ea ∙ ap (λ i. c2 ++ W (flat a i)) l2 in
-    let l3 : length c3 ≡ q = omega (arith, l2, ap length f3, length-append c2 (W ca), len_wired ca) in
-    let s3 : c3 ≡ c1 ++ x0 ∷ W ca = f3 ∙ ap (λ l. l ++ W ca) jumps ∙ append_assoc c1 (x0 ∷ []) (W ca) in
-    ends ∙ ap (λ n. slice_set c3 n (wire_of (op.JumpIfFalse (length c3)))) at ∙ ap (λ n. slice_set c3 p (wire_of (op.JumpIfFalse n))) l3 ∙ ap (λ l. slice_set l p x) s3 ∙ set-append_seam c1 x0 (W ca) x
+when_opened c1 c2 c3 new a choice at jumps ea ends = search (arith, rules, emitted_len, length-append, len_wired, append_assoc, set-append_seam)
 
 -- turns, the test of which was written last
 turns_opened : (c1 c2 c3 c4 new : List Instr) (a : Asm) (top : ℕ) → top ≡ length c1 → Emitted c1 (alone (op.LoopNext 0)) c2 → Emitted c2 a c3 → Emitted c3 (alone (op.Jump top)) c4 → new ≡ slice_set c4 top (wire_of (op.LoopNext (length c4))) → Emitted c1 (each a) new
-turns_opened c1 c2 c3 c4 new a top at jumps ea back ends =
-    let p = length c1 in
-    let ca = flat a (p + 1) in
-    let q = p + 1 + length ca + 1 in
-    let x0 : Instr = wire_of (op.LoopNext 0) in
-    let x : Instr = wire_of (op.LoopNext q) in
-    let y : Instr = wire_of (op.Jump p) in
-    let l2 : length c2 ≡ p + 1 = emitted_len c1 c2 (alone (op.LoopNext 0)) jumps in
-    let f3 : c3 ≡ c2 ++ W ca = ea ∙ ap (λ i. c2 ++ W (flat a i)) l2 in
-    let l3 : length c3 + 1 ≡ q = omega (arith, l2, ap length f3, length-append c2 (W ca), len_wired ca) in
-    let l4 : length c4 ≡ q = emitted_len c3 c4 (alone (op.Jump top)) back ∙ l3 in
-    let s4 : c4 ≡ c1 ++ x0 ∷ (W ca ++ y ∷ []) =
-    back ∙ ap (λ n. c3 ++ wire_of (op.Jump n) ∷ []) at ∙ ap (λ l. l ++ y ∷ []) f3 ∙ ap (λ l. (l ++ W ca) ++ y ∷ []) jumps ∙ ap (λ l. l ++ y ∷ []) (append_assoc c1 (x0 ∷ []) (W ca)) ∙ append_assoc c1 (x0 ∷ W ca) (y ∷ []) in
-    ends
-    ∙ ap (λ n. slice_set c4 n (wire_of (op.LoopNext (length c4)))) at
-    ∙ ap (λ n. slice_set c4 p (wire_of (op.LoopNext n))) l4
-    ∙ ap (λ l. slice_set l p x) s4
-    ∙ set-append_seam c1 x0 (W ca ++ y ∷ []) x
-    ∙ ap (λ l. c1 ++ x ∷ l) (sym (map-append wire_of ca (op.Jump p ∷ [])))
+turns_opened c1 c2 c3 c4 new a top at jumps ea back ends = search (arith, rules, emitted_len, length-append, len_wired, append_assoc, set-append_seam, map-append)
 
 -- ---- place for what choices and loops do
 
@@ -158,20 +109,13 @@ place_when : (m n : ℕ) (a : Asm) → HasPlace m n (when a) → HasPlace m (n +
 place_when m n a h = record { len = omega (arith, h.len); fields = h.fields.1 }
 
 place_turn : (m n : ℕ) (a : Asm) → HasPlace m n (each a) → HasPlace m (n + 1) a
-place_turn m n a h =
-    let ca = flat a (n + 1) in
-    record { len = omega (arith, h.len, length-append ca (op.Jump n ∷ [])); fields = all_front ca (op.Jump n ∷ []) h.fields.1 }
+place_turn m n a h = search (arith, rules, length-append, all_front)
 
 -- ---- places
 
 -- those of two parts, the second one behind a jump
 tags_parted : (q1 q2 q3 q4 q5 qa qb : List (Option Place)) → q2 ≡ q1 ++ None ∷ [] → q3 ≡ q2 ++ qa → q4 ≡ q3 ++ None ∷ [] → q5 ≡ q4 ++ qb → q5 ≡ q1 ++ None ∷ (qa ++ None ∷ qb)
-tags_parted q1 q2 q3 q4 q5 qa qb e2 e3 e4 e5 =
-    e5
-    ∙ ap (λ l. l ++ qb) (e4 ∙ ap (λ l. l ++ None ∷ []) (e3 ∙ ap (λ l. l ++ qa) e2))
-    ∙ append_assoc ((q1 ++ None ∷ []) ++ qa) (None ∷ []) qb
-    ∙ append_assoc (q1 ++ None ∷ []) qa (None ∷ qb)
-    ∙ append_assoc q1 (None ∷ []) (qa ++ None ∷ qb)
+tags_parted q1 q2 q3 q4 q5 qa qb e2 e3 e4 e5 = search (arith, rules, append_assoc)
 
 -- ---- instructions behind others, as far as there is place
 
@@ -190,17 +134,7 @@ module _ (templates : List Text) where
   puts_nothing c = record { limit = refl; kept = λ h. h; emitted = λ h. emitted_nothing c.code.items; tagged = λ h. sym (append-nil (tags c)); place = λ h k. k }
 
   pub puts_then : (c0 c1 c2 : Emitter) (a b : Asm) → Puts templates c0 a c1 → Puts templates c1 b c2 → Puts templates c0 (both a b) c2
-  puts_then c0 c1 c2 a b p q =
-      let n = length c0.code.items in
-      record {
-        limit = q.limit ∙ p.limit;
-        kept = λ h. p.kept (q.kept h);
-        emitted = λ h. emitted_then c0.code.items c1.code.items c2.code.items a b (p.emitted (q.kept h)) (q.emitted h);
-        tagged = λ h. q.tagged h ∙ ap (λ l. l ++ places b) (p.tagged (q.kept h)) ∙ append_assoc (tags c0) (places a) (places b);
-        place = λ h k.
-            let k1 = p.place (place_first c0.limit n a b h) k in
-            q.place (place_at c1 c0.limit (n + length (flat a n)) b p.limit (puts_len c0 c1 a p k1) (place_second c0.limit n a b h)) k1;
-      }
+  puts_then c0 c1 c2 a b p q = search (arith, rules, emitted_then c0.code.items c1.code.items c2.code.items a b, append_assoc, place_first c0.limit, place_at c1 c0.limit, puts_len c0 c1 a p, place_second c0.limit)
 
   -- the same instructions behind another Asm
   pub puts_as : (c d : Emitter) (a b : Asm) → a ≡ b → Puts templates c b d → Puts templates c a d
@@ -315,13 +249,4 @@ module _ (templates : List Text) where
   puts_last c d a p = puts_then c d d a nil p (puts_nothing d)
 
   pub puts_first : (c d : Emitter) (a : Asm) → Puts templates c (both a nil) d → Puts templates c a d
-  puts_first c d a p =
-      let n = length c.code.items in
-      let same : flat (both a nil) n ≡ flat a n = append-nil (flat a n) in
-      record {
-        limit = p.limit;
-        kept = p.kept;
-        emitted = λ h. p.emitted h ∙ ap (λ is. c.code.items ++ W is) same;
-        tagged = λ h. p.tagged h ∙ ap (λ l. tags c ++ l) (append-nil (places a));
-        place = λ h k. p.place (record { len = subst (λ is. n + length is ≤ c.limit) (sym same) h.len; fields = subst (AllByRecursion IsInstruction) (sym same) h.fields }) k;
-      }
+  puts_first c d a p = search (arith, rules, append-nil)

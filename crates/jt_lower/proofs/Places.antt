@@ -1,14 +1,13 @@
 -- Each fault of a program has the place of a tag.
-use Rattle.std.proofs.Common.{ℕ, suc, Bool, true, false, if◌then◌else◌, List, [], ◌∷◌, ◌++◌, Option, Some, None, arith, rules}
-use Rattle.jt_value.specs.Tree as tree
+use Rattle.std.proofs.Common.{ℕ, suc, Bool, true, false, if◌then◌else◌, List, [], ◌∷◌, Option, Some, None, arith, rules}
 use Rattle.jt_value.specs.Tree.{Tree}
 use Rattle.jt_value.specs.Place.{Place}
-use Rattle.jt_evaluation.specs.Got.{Got, gives, fails, deeper, bind, checked, at}
+use Rattle.jt_evaluation.specs.Got.{Got, gives, fails, deeper, bind, at}
 use Rattle.jt_evaluation.specs.Filters.{Filters}
 use Rattle.jt_evaluation.specs.Values.{as_value}
-use Rattle.jt_evaluation.specs.Loops.{Loop, items_of_value}
+use Rattle.jt_evaluation.specs.Loops.{Loop}
 use Rattle.jt_resolved.specs.Slots as slots
-use Rattle.jt_resolved.specs.Slots.{SlotExpr, SRow, Targets, SlotStmt, SBody, Program, Memory, Valued, Listed, SCalls, store, take, sturns, sgone_over, in_front, svalue, svalues, skept, smeaning, smeanings}
+use Rattle.jt_resolved.specs.Slots.{SRow, Targets, SlotStmt, SBody, Program, Memory, SCalls, store, sturns, sgone_over, in_front, svalues, smeaning, smeanings}
 use Rattle.jt_lower.specs.Fits.{IsBare, StmtFits, BodyFits}
 
 abbrev pub HasPlace : {A : Type 0} → Got A → Type 0
@@ -32,17 +31,13 @@ if_has false g h w v = v
 
 module _ (filters : Filters) (constant : ℕ → Tree) (call : SCalls) (calls : CallsPlaced call) (p : Program) (count : ℕ) where
   row_has : (r : SRow ℕ) (l : Option Loop) (m : Memory) → IsBare r → HasPlace (svalues filters constant call r l m)
-  row_has slots.none l m b = tt
   row_has (slots.item (slots.pooled i) r) l m b = bind_has (svalues filters constant call r l m) (λ rs. gives (in_front (constant i) rs)) (row_has r l m b) (λ x. tt)
   row_has (slots.item (slots.variable s) r) l m b = bind_has (svalues filters constant call r l m) (λ rs. gives (in_front (slots.load s m) rs)) (row_has r l m b) (λ x. tt)
-  row_has (slots.item e r) l m b = absurd b
-  row_has (slots.aside i e r) l m b = absurd b
+  row_has a0 l m b = search (arith, rules)
 
   turns_has : (means : Option Loop → Memory → Got Memory) → ((l : Option Loop) (m : Memory) → HasPlace (means l m)) → (xs : Targets) (tag : Place) (all : List Tree) (i : ℕ) (vs : List Tree) (m : Memory) → HasPlace (sturns means xs tag all i vs m)
   turns_has means h xs tag all i [] m = tt
-  turns_has means h xs tag all i (v ∷ vs) m =
-      bind_has (at tag (take xs v m)) (λ n. bind (means (Some (record { items = all; before = i })) n) (sturns means xs tag all (suc i) vs)) (at_has tag (take xs v m))
-      (λ n. bind_has (means (Some (record { items = all; before = i })) n) (sturns means xs tag all (suc i) vs) (h (Some (record { items = all; before = i })) n) (turns_has means h xs tag all (suc i) vs))
+  turns_has means h xs tag all i (v ∷ vs) m = search (arith, rules, bind_has, at_has, turns_has means h xs tag all (suc i) vs)
 
   over_has : (means : Option Loop → Memory → Got Memory) (other : Memory → Got Memory) → ((l : Option Loop) (m : Memory) → HasPlace (means l m)) → ((m : Memory) → HasPlace (other m)) → (xs : Targets) (tag : Place) (vs : List Tree) (m : Memory) → HasPlace (sgone_over means other xs tag vs m)
   over_has means other h g xs tag [] m = g m
@@ -53,17 +48,11 @@ module _ (filters : Filters) (constant : ℕ → Tree) (call : SCalls) (calls : 
     stmt_has (slots.put_pooled i) inside l m f = tt
     stmt_has (slots.print tag escaping e) inside l m f = at_has tag _
     stmt_has (slots.assign tag xs e) inside l m f = at_has tag _
-    stmt_has (slots.if_else tag c a b) inside l m f =
-        bind_has (at tag (svalue filters constant call c l m)) (λ r. if tree.truth r.value then smeanings filters constant call a l r.memory else smeanings filters constant call b l r.memory) (at_has tag _)
-        (λ r. if_has (tree.truth r.value) (smeanings filters constant call a l r.memory) (smeanings filters constant call b l r.memory) (body_has a inside l r.memory f.1) (body_has b inside l r.memory f.2))
-    stmt_has (slots.for_each tag xs e c body other) inside l m f =
-        bind_has (at tag (bind (svalue filters constant call e l m) (λ r. bind (checked (items_of_value r.value)) (λ vs. skept filters constant call c xs vs r.memory)))) (λ r. sgone_over (smeanings filters constant call body) (smeanings filters constant call other l) xs tag r.values r.memory) (at_has tag _)
-        (λ r. over_has (smeanings filters constant call body) (smeanings filters constant call other l) (λ k n. body_has body true k n f.3) (λ n. body_has other inside l n f.4) xs tag r.values r.memory)
+    stmt_has (slots.if_else tag c a b) inside l m f = search (arith, rules, bind_has, at_has, if_has, body_has a inside l, body_has b inside l)
+    stmt_has (slots.for_each tag xs e c body other) inside l m f = search (arith, rules, bind_has, at_has, over_has, body_has body true, body_has other inside l)
     stmt_has (slots.capture escaping s body) inside l m f =
         bind_has (smeanings filters constant call body l (record m { out = [] })) (λ n. gives (store s (as_value escaping n.out) (record n { out = m.out }))) (body_has body inside l (record m { out = [] }) f.1) (λ n. tt)
-    stmt_has (slots.run u r) inside l m f =
-        bind_has (svalues filters constant call r l m) (λ y. bind (call u y.values y.memory.globals) (λ w. gives (record y.memory { globals = w.globals; out = y.memory.out ++ w.text }))) (row_has r l m f.2)
-        (λ y. bind_has (call u y.values y.memory.globals) (λ w. gives (record y.memory { globals = w.globals; out = y.memory.out ++ w.text })) (calls u y.values y.memory.globals) (λ w. tt))
+    stmt_has (slots.run u r) inside l m f = search (arith, rules, bind_has, row_has)
 
     pub body_has : (b : SBody ℕ) (inside : Bool) (l : Option Loop) (m : Memory) → BodyFits p count inside b → HasPlace (smeanings filters constant call b l m)
     body_has slots.end inside l m f = tt

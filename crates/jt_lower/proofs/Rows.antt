@@ -1,6 +1,6 @@
 -- The code of rows, put behind other code expression by expression.
-use Rattle.std.proofs.Common.{◌≡◌, ℕ, suc, ◌+◌, ◌/◌, ◌<◌, ◌≤◌, ◌^◌, zero, Bool, true, false, List, length, drop, get_or, Option, Some, None, refl, sym, ap, ◌∙◌, subst, arith}
-use Rattle.std.specs.Prelude.{min, nat_lt}
+use Rattle.std.proofs.Common.{◌≡◌, ℕ, suc, ◌+◌, ◌/◌, ◌<◌, ◌≤◌, zero, List, length, drop, get_or, Option, Some, None, sym, ap, ◌∙◌, subst, arith, rules}
+use Rattle.std.specs.Prelude.{min}
 use Rattle.std.proofs.lemmas.List.{at_drop_all}
 use Rattle.std.proofs.lemmas.Bool.Decides.{nat_tests}
 use Rattle.jt_value.specs.Place.{Place}
@@ -22,11 +22,7 @@ halved (suc zero) = omega arith
 halved (suc (suc n)) = omega (arith, halved n)
 
 pub stands_raised : (n m h : ℕ) → m ≡ min (n + 1) 18446744073709551615 → StandsFor n h → StandsFor m (suc h)
-stands_raised n m h same s = through (nat_lt n (2 ^ 32)) refl
-  where
-    through : (b : Bool) → nat_lt n (2 ^ 32) ≡ b → StandsFor m (suc h)
-    through true e = let lt : n < 2 ^ 32 = grind (arith, nat_tests, e) in let is : n ≡ h = s.same lt in record { same = λ k. omega (arith, is, same, k, lt); above = λ k. omega (arith, is, same, k, lt) }
-    through false e = let le : 2 ^ 32 ≤ n = grind (arith, nat_tests, e) in let is : 2 ^ 32 ≤ h = s.above le in record { same = λ k. absurd (omega (arith, same, k, le)); above = λ k. omega (arith, is) }
+stands_raised n m h same s = search (arith, rules, nat_tests)
 
 -- the row stands behind the old code when what is left of it stands behind the new one
 pub record Leaves (ts : List Text) (o : Option Place) (old : Emitter) (all : Asm) (now : Emitter) (left : List Entry) (top : ℕ) : Type 0 where
@@ -44,15 +40,7 @@ row_ends ts o es i old now all top le l =
 -- one value more
 pub row_item : (ts : List Text) (o : Option Place) (es : List Entry) (i : ℕ) (e : Entry) (old now new : Emitter) (all : Asm) (top raised : ℕ) → i < length es → e ≡ get_or es i e → e.0 ≡ None → raised ≡ min (top + 1) 18446744073709551615
     → ((h : ℕ) → StandsFor top h → Puts ts now (expr_asm o (expr_view e.1) h) new) → Leaves ts o old all now (drop i es) top → Leaves ts o old all new (drop (i + 1) es) raised
-row_item ts o es i e old now new all top raised lt is none_kept same p l =
-    let rest = row_view (drop (i + 1) es) none in
-    let x = expr_view e.1 in
-    let left : row_view (drop i es) none ≡ slots.item x rest = row_left es i e lt is ∙ ap (λ k. entry_front k x rest) none_kept in
-    record {
-      height = suc l.height;
-      stands = stands_raised top raised l.height same l.stands;
-      puts = λ final q. l.puts final (subst (λ r. Puts ts now (row_asm o r l.height) final) (sym left) (puts_then ts now new final (expr_asm o x l.height) (row_asm o rest (suc l.height)) (p l.height l.stands) q));
-    }
+row_item ts o es i e old now new all top raised lt is none_kept same p l = search (arith, rules, row_left es i e lt is, stands_raised top raised l.height same l.stands, puts_then ts now new)
 
 -- one more that is kept aside
 pub row_aside : (ts : List Text) (o : Option Place) (es : List Entry) (i : ℕ) (e : Entry) (old now mid new : Emitter) (all : Asm) (top : ℕ) (n : ℕ) → i < length es → e ≡ get_or es i e → e.0 ≡ Some n

@@ -1,5 +1,5 @@
 -- The code of a program is as long as its size says.
-use Rattle.std.proofs.Common.{◌≡◌, ℕ, suc, ◌+◌, List, [], ◌∷◌, length, map, Option, Some, None, refl, ◌∙◌, arith, length-append}
+use Rattle.std.proofs.Common.{◌≡◌, ℕ, suc, ◌+◌, List, [], ◌∷◌, length, map, Option, Some, None, refl, ◌∙◌, arith, length-append, rules}
 use Rattle.jt_image.specs.declared.instruction.Instruction.TheVariants as op
 use Rattle.jt_image.specs.IsCode.{total_len}
 use Rattle.jt_value.specs.Place.{Place}
@@ -19,31 +19,20 @@ asm_size (each a) = asm_size a + 2
 asm_size (invoke o u) = 1
 
 pub flat_size : (a : Asm) (n : ℕ) → length (flat a n) ≡ asm_size a
-flat_size nil n = refl
-flat_size (one o i) n = refl
 flat_size (both a b) n = length-append (flat a n) (flat b (n + length (flat a n))) ∙ omega (arith, flat_size a n, flat_size b (n + length (flat a n)))
-flat_size (choose a b) n =
-    let ca = flat a (n + 1) in
-    let q = n + 1 + length ca + 1 in
-    let cb = flat b q in
-    omega (arith, flat_size a (n + 1), flat_size b q, length-append ca (op.Jump (q + length cb) ∷ cb))
+flat_size (choose a b) n = search (arith, rules, flat_size a (n + 1), flat_size b, length-append)
 flat_size (when a) n = omega (arith, flat_size a (n + 1))
-flat_size (each a) n =
-    let ca = flat a (n + 1) in
-    omega (arith, flat_size a (n + 1), length-append ca (op.Jump n ∷ []))
-flat_size (invoke o u) n = refl
+flat_size (each a) n = search (arith, rules, flat_size a (n + 1), length-append)
+flat_size a0 n = refl
 
 mutual
   expr_sized : (e : SlotExpr ℕ) (o : Option Place) (h : ℕ) → asm_size (expr_asm o e h) ≡ expr_size e
-  expr_sized (slots.pooled i) o h = refl
-  expr_sized (slots.variable s) o h = refl
-  expr_sized (slots.field f) o h = refl
-  expr_sized slots.absent o h = refl
   expr_sized (slots.made k r) o h = omega (arith, row_sized r o h)
   expr_sized (slots.conjunction a b) o h = omega (arith, expr_sized a o h, expr_sized b o h)
   expr_sized (slots.disjunction a b) o h = omega (arith, expr_sized a o h, expr_sized b o h)
   expr_sized (slots.choice c a b) o h = omega (arith, expr_sized c o h, expr_sized a o h, expr_sized b o h)
   expr_sized (slots.invoke u escaping r) o h = omega (arith, row_sized r o (suc h))
+  expr_sized a0 o h = refl
 
   row_sized : (r : SRow ℕ) (o : Option Place) (h : ℕ) → asm_size (row_asm o r h) ≡ row_size r
   row_sized slots.none o h = refl

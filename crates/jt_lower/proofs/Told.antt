@@ -1,5 +1,5 @@
 -- What a loop tells of its turn, in images and in meanings.
-use Rattle.std.proofs.Common.{◌≡◌, ℕ, zero, suc, ◌+◌, ◌-◌, ◌≤◌, Bool, true, false, if◌then◌else◌, List, ◌∷◌, length, Option, Some, Ok, Err, refl, sym, ap, ◌∙◌, arith, rules}
+use Rattle.std.proofs.Common.{◌≡◌, ℕ, zero, suc, ◌+◌, ◌-◌, ◌≤◌, Bool, false, if◌then◌else◌, List, ◌∷◌, length, Option, Some, Ok, Err, refl, ap, arith, rules}
 use Rattle.std.specs.Prelude.{pos, negsuc, ◌-ℤ◌, not, nat_lt, ◌==◌}
 use Rattle.std.proofs.lemmas.Bool.Decides.{nat_tests}
 use Rattle.jt_value.specs.Tree as tree
@@ -7,13 +7,12 @@ use Rattle.jt_value.specs.Tree.{Tree, Items, no_items, item}
 use Rattle.jt_value.specs.declared.fault.Fault.TheVariants as faults
 use Rattle.jt_ops.specs.Arithmetic.{as_number}
 use Rattle.jt_image.specs.declared.loop_field.LoopField.{LoopField}
-use Rattle.jt_image.specs.declared.loop_field.LoopField.TheVariants as of_loop
 use Rattle.jt_image.specs.Config.{Frame}
 use Rattle.jt_image.specs.Loops as image
 use Rattle.jt_image.specs.Loops.{trees_of, field_id, field_of, told}
 use Rattle.jt_evaluation.specs.Got.{checked}
 use Rattle.jt_evaluation.specs.Loops as loops
-use Rattle.jt_evaluation.specs.Loops.{Field, Loop, items_listed, tree_at, tree_before, field_at}
+use Rattle.jt_evaluation.specs.Loops.{Field, Loop, items_listed, field_at}
 use Rattle.jt_lower.specs.Lower.{told_as}
 
 -- the items of a value
@@ -56,6 +55,4 @@ told_at : (x : Field) (items : List Tree) (kept : List Tree) (b : ℕ) → suc b
 told_at x items kept b h = search (arith, rules, counted_same, less, first_same)
 
 pub told_same : (x : Field) (f : Frame) (l : Option Loop) → IsTurn f l → checked (told (told_as x) f) ≡ loops.loop_field x l
-told_same x f l t =
-    ap (λ n. checked (told (told_as x) (record { items = f.items; position = n; kept = f.kept }))) t.position
-    ∙ ap checked (told_at x f.items f.kept t.before t.within) ∙ ap (loops.loop_field x) (sym t.loop)
+told_same x f l t = search (arith, rules, told_at x f.items f.kept t.before t.within)

@@ -1,8 +1,8 @@
 -- Code whose jumps stand in pairs is typed, and so is a program's.
 use Rattle.std.proofs.Common.{◌≡◌, ℕ, zero, suc, ◌+◌, ◌<◌, ◌≤◌, List, [], ◌∷◌, ◌++◌, length, Option, Some, None, Result, Ok, Bool, true, false, refl, sym, ap, ◌∙◌, subst, arith, append_assoc, length-append, rules}
-use Rattle.std.specs.Prelude.{slice_get, nat_lt, IsTrue, ◌&&◌, ◌==◌}
+use Rattle.std.specs.Prelude.{slice_get, nat_lt, IsTrue, ◌&&◌}
 use Rattle.std.specs.List.{AllByRecursion}
-use Rattle.std.specs.Option.{is_some, option_map}
+use Rattle.std.specs.Option.{option_map}
 use Rattle.std.proofs.Math.Seq.{get_or-append_seam}
 use Rattle.std.proofs.lemmas.Option.{slice_get-get_or, slice_get-map, slice_get_within}
 use Rattle.std.proofs.lemmas.List.{length-map}
@@ -15,8 +15,8 @@ use Rattle.jt_image.specs.declared.kind.Kind.TheVariants as kind
 use Rattle.jt_image.specs.declared.kind.Flaw.TheVariants as flaw
 use Rattle.jt_image.specs.declared.kind.Flaw.{Flaw}
 use Rattle.jt_image.specs.Code.{Section, Code, is_text}
-use Rattle.jt_image.specs.Effect.{Shape, Leads, require, pops_many, pushes, makes, goes_on, on_frame, calls, effect, effect_of}
-use Rattle.jt_image.specs.Ids.{operands_of, filter_of, accepts, takes}
+use Rattle.jt_image.specs.Effect.{Shape, Leads, require, pops_many, pushes, makes, goes_on, effect, effect_of}
+use Rattle.jt_image.specs.Ids.{filter_of, accepts}
 use Rattle.jt_image.specs.Loops.{field_id}
 use Rattle.jt_image.specs.Typed.{Equal, HasSame, IsTypedUnit, IsTyped, max_entries}
 use Rattle.jt_value.specs.Place.{Place}
@@ -73,13 +73,7 @@ module _ (k : Code) (count : ℕ) where
 
   has_shapes : (is pre : List Shape) → HasShapes (pre ++ is) (length pre) is
   has_shapes [] pre = tt
-  has_shapes (i ∷ is) pre =
-      let inside : length pre < length (pre ++ i ∷ is) = omega (arith, length-append pre (i ∷ is)) in
-      let here = slice_get-get_or (pre ++ i ∷ is) (length pre) i inside ∙ ap Some (get_or-append_seam pre i is i) in
-      let n : length (pre ++ i ∷ []) ≡ length pre + 1 = omega (arith, length-append pre (i ∷ [])) in
-      let rest = has_shapes is (pre ++ i ∷ []) in
-      let rest' = subst (λ l. HasShapes l (length (pre ++ i ∷ [])) is) (append_assoc pre (i ∷ []) is) rest in
-      (here, subst (λ m. HasShapes (pre ++ i ∷ is) m is) n rest')
+  has_shapes (i ∷ is) pre = search (arith, rules, length-append pre (i ∷ is), slice_get-get_or (pre ++ i ∷ is) (length pre) i, get_or-append_seam pre i is i, length-append pre (i ∷ []), has_shapes is (pre ++ i ∷ []), append_assoc pre (i ∷ []) is)
 
   module _ (u : Section) (locals : u.locals ≡ count) where
     -- an instruction is in order at a place
@@ -227,15 +221,10 @@ raise true h e S f = f
 -- a form needs an entry, and a row one for each of its values
 mutual
   some_height : (e : SlotExpr ℕ) → 1 ≤ expr_height e
-  some_height (slots.pooled i) = omega arith
-  some_height (slots.variable s) = omega arith
-  some_height (slots.field x) = omega arith
-  some_height slots.absent = omega arith
-  some_height (slots.made h r) = omega arith
   some_height (slots.conjunction a b) = omega (arith, some_height a)
   some_height (slots.disjunction a b) = omega (arith, some_height a)
   some_height (slots.choice c a b) = omega (arith, some_height c)
-  some_height (slots.invoke u escaping r) = omega arith
+  some_height a0 = omega arith
 
   row_room : (r : SRow ℕ) → row_count r ≤ row_height r
   row_room slots.none = omega arith
@@ -284,14 +273,10 @@ module _ (p : Program) (count : ℕ) where
 
   -- a field of the loop so many entries below the top
   gets : (x : LoopField) (h : ℕ) (S : Shape) → slice_get S h ≡ Some kind.Frame → Plainly (op.LoopGet (field_id x) h) S (kind.Value ∷ S)
-  gets x h S f u q l room =
-      ap (λ y. require (is_some y) flaw.BadIndex (on_frame (slice_get S h) (goes_on u q (kind.Value ∷ S)))) (has_field x)
-      ∙ ap (λ y. on_frame y (goes_on u q (kind.Value ∷ S))) f ∙ goes u q (kind.Value ∷ S) room
+  gets x h S f u q l room = search (arith, rules, has_field, goes)
 
   call_types : (v n : ℕ) (S : Shape) → TakesRow p.routines v n → Plainly (op.Call v) (pushes n S) S
-  call_types v n S x u q l room =
-      ap (λ o. calls u q o (pushes n S)) (slice_get-map unit_of p.routines v ∙ ap (option_map unit_of) x.is)
-      ∙ ap (λ i. pops_many i (pushes n S) (λ r. goes_on u q r)) x.parameters ∙ unstacked n S (λ r. goes_on u q r) ∙ goes u q S room
+  call_types v n S x u q l room = search (arith, rules, slice_get-map, unstacked, goes)
 
   closes : (escaping : Bool) (S : Shape) → Plainly (op.CaptureEnd (flag escaping)) (kind.Capture ∷ S) (kind.Value ∷ S)
   closes true S u q l room = goes u q (kind.Value ∷ S) room
@@ -303,11 +288,7 @@ module _ (p : Program) (count : ℕ) where
 
   stores_types : (ss : List (Option Slot)) (o : Option Place) (S : Shape) → SlotsFit p count ss → length S + length ss ≤ max_entries → Leading (stores_asm o ss) (pushes (length ss) S) S
   stores_types [] o S f le = refl
-  stores_types (s ∷ ss) o S f le = (
-    kind.Value ∷ S,
-    subst (λ T. Leading (stores_asm o ss) T (kind.Value ∷ S)) (stack_on (length ss) S) (stores_types ss o (kind.Value ∷ S) f.1 (omega arith)),
-    (omega arith, stores_if s S f.0),
-  )
+  stores_types (s ∷ ss) o S f le = search (arith, rules, stack_on (length ss) S, stores_types ss o, stores_if s S f.0)
 
   take_types : (xs : Targets) (o : Option Place) (S : Shape) → TargetsFit p count xs → length S + targets_height xs ≤ max_entries → Leading (take_asm o xs) (kind.Value ∷ S) S
   take_types (slots.one s) o S f le = (omega arith, stores s S f)

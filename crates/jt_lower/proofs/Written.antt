@@ -1,24 +1,20 @@
 -- Where an image's tables have place for a program, the fields of each instruction have place for what it holds.
-use Rattle.std.proofs.Common.{◌≡◌, ℕ, zero, suc, ◌+◌, ◌<◌, ◌≤◌, ◌^◌, Bool, true, false, if◌then◌else◌, List, [], ◌∷◌, length, map, Option, Some, None, refl, sym, ap, ◌∙◌, arith, rules}
+use Rattle.std.proofs.Common.{◌≡◌, ℕ, zero, suc, ◌+◌, ◌<◌, ◌≤◌, ◌^◌, Bool, true, false, List, [], ◌∷◌, length, map, Option, Some, None, refl, arith, rules}
 use Rattle.std.proofs.lemmas.List.{length-map}
 use Rattle.std.specs.Prelude.{slice_get, ◌==◌, IsTrue}
 use Rattle.std.specs.List.{find, AllByRecursion}
 use Rattle.std.proofs.lemmas.Option.{slice_get_within}
 use Rattle.std.proofs.lemmas.Bool.Decides.{nat_tests}
 use Rattle.jt_ids.specs.declared.op_id.OpId.{OpId}
-use Rattle.jt_ids.specs.declared.op_id.OpId.TheVariants as operators
 use Rattle.jt_ids.specs.declared.test_id.TestId.{TestId}
-use Rattle.jt_ids.specs.declared.test_id.TestId.TheVariants as tests
 use Rattle.jt_ids.specs.OpTable.{op_id}
 use Rattle.jt_ids.specs.TestTable.{test_id}
 use Rattle.jt_ids.specs.declared.filter_id.FilterId.{FilterId}
-use Rattle.jt_ids.specs.declared.filter_id.FilterId.TheVariants as filters
 use Rattle.jt_ids.specs.FilterTable as table
 use Rattle.jt_ids.specs.FilterTable.{filter_id}
 use Rattle.jt_filter_meaning.specs.FilterIds.{filter_of, accepts}
 use Rattle.jt_image.specs.declared.instruction.Instruction.TheVariants as op
 use Rattle.jt_image.specs.declared.loop_field.LoopField.{LoopField}
-use Rattle.jt_image.specs.declared.loop_field.LoopField.TheVariants as of_loop
 use Rattle.jt_image.specs.Loops.{field_id}
 use Rattle.jt_image.specs.Code.{Section}
 use Rattle.jt_image.specs.IsCode.{IsInstruction, total_len, max_locals, max_instructions}
@@ -28,7 +24,7 @@ use Rattle.jt_value.specs.Place.{Place}
 use Rattle.jt_resolved.specs.Slots as slots
 use Rattle.jt_resolved.specs.Slots.{Slot, local, global, Maker, SlotExpr, SRow, Targets, SlotStmt, SBody, Routine, Program}
 use Rattle.jt_resolved.specs.Size.{row_count, targets_height, expr_height, row_height, condition_height, stmt_height, body_height}
-use Rattle.jt_constants.specs.Merged.{new_places, moved_unit}
+use Rattle.jt_constants.specs.Merged.{moved_unit}
 use Rattle.jt_constants.proofs.Sizes.{units_len, units_room}
 use Rattle.jt_lower.specs.Asm.{Asm, nil, one, both, choose, when, each, invoke, flat}
 use Rattle.jt_lower.specs.Lower.{half, flag, maker, told_as, load_of, store_of, store_if_of, expr_asm, row_asm, stores_asm, take_asm, kept_asm, stmt_asm, body_asm, unit_of, constant_of, lowered, compiled}
@@ -48,23 +44,11 @@ Plain (each a) = Plain a
 Plain (invoke o u) = u < 2 ^ 32
 
 flat_fits : (a : Asm) (p : ℕ) → Plain a → p + asm_size a < 2 ^ 32 → AllByRecursion IsInstruction (flat a p)
-flat_fits nil p h room = tt
-flat_fits (one o i) p h room = (h, tt)
-flat_fits (both a b) p h room =
-    let q = p + length (flat a p) in
-    all_append IsInstruction (flat a p) (flat b q) (flat_fits a p h.0 (omega (arith, room))) (flat_fits b q h.1 (omega (arith, room, flat_size a p)))
-flat_fits (choose a b) p h room =
-    let ca = flat a (p + 1) in
-    let q = p + 1 + length ca + 1 in
-    let cb = flat b q in
-    let len = flat_size a (p + 1) in
-    (omega (arith, room, len), all_append IsInstruction ca (op.Jump (q + length cb) ∷ cb) (flat_fits a (p + 1) h.0 (omega (arith, room))) (omega (arith, room, len, flat_size b q), flat_fits b q h.1 (omega (arith, room, len))))
+flat_fits (both a b) p h room = search (arith, rules, all_append, flat_fits a p h.0 (omega (arith, room)), flat_fits b, flat_size)
+flat_fits (choose a b) p h room = search (arith, rules, flat_size, all_append, flat_fits a (p + 1) h.0 (omega (arith, room)), flat_fits b)
 flat_fits (when a) p h room = (omega (arith, room, flat_size a (p + 1)), flat_fits a (p + 1) h (omega (arith, room)))
-flat_fits (each a) p h room =
-    let ca = flat a (p + 1) in
-    let len = flat_size a (p + 1) in
-    (omega (arith, room, len), all_append IsInstruction ca (op.Jump p ∷ []) (flat_fits a (p + 1) h (omega (arith, room))) (omega (arith, room), tt))
-flat_fits (invoke o u) p h room = (h, tt)
+flat_fits (each a) p h room = search (arith, rules, flat_size, all_append, flat_fits a (p + 1) h (omega (arith, room)))
+flat_fits a0 p h room = search (arith, rules)
 
 -- ---- ids
 
@@ -86,11 +70,7 @@ filter_fits x = search (arith, rules)
 
 found_passes : {A : Type 0} (p : A → Bool) (xs : List A) (x : A) → find p xs ≡ Some x → p x ≡ true
 found_passes p [] x e = absurd cc
-found_passes p (y ∷ ys) x e = through (p y) refl (found_passes p ys x) e
-  where
-    through : (b : Bool) → p y ≡ b → (find p ys ≡ Some x → p x ≡ true) → (if b then Some y else find p ys) ≡ Some x → p x ≡ true
-    through true is more same = (let it : y ≡ x = cc in ap p (sym it) ∙ is)
-    through false is more same = more same
+found_passes p (y ∷ ys) x e = search (arith, rules, found_passes p ys x)
 
 -- an id that a filter has
 accepted_fits : (f n : ℕ) → IsTrue (accepts (filter_of f) n) → f < 2 ^ 8
@@ -173,12 +153,7 @@ module _ (p : Program) (locals : ℕ) (pool : length p.pool ≤ 2 ^ 32) (globals
     stmt_plain inside (slots.assign q xs e) h f low = (expr_plain inside e (Some q) h f.1 (omega (arith, low)), take_plain xs (Some q) f.0 (omega (arith, low)))
     stmt_plain inside (slots.if_else q c a b) h f low =
         (expr_plain inside c (Some q) h f.0 (omega (arith, low)), (body_plain inside a h f.1 (omega (arith, low)), body_plain inside b h f.2 (omega (arith, low))))
-    stmt_plain inside (slots.for_each q xs e c body other) h f low =
-        let o = Some q in
-        let takes = take_plain xs o f.0 (omega (arith, low)) in (
-          (expr_plain inside e o h f.1 (omega (arith, low)), (tt, kept_plain c xs o f.0 (omega (arith, low)) f.2 (omega (arith, low)))),
-          (((item_plain o, takes), body_plain true body 0 f.3 (omega (arith, low))), (tt, body_plain inside other h f.4 (omega (arith, low)))),
-        )
+    stmt_plain inside (slots.for_each q xs e c body other) h f low = search (arith, rules, take_plain, expr_plain, kept_plain, item_plain, body_plain true body 0 f.3 (omega (arith, low)), body_plain inside other h f.4 (omega (arith, low)))
     stmt_plain inside (slots.capture escaping s body) h f low = (tt, (body_plain inside body (suc h) f.1 (omega (arith, low)), (flag_fits escaping, store_plain s f.0)))
     stmt_plain inside (slots.run u es) h f low = (row_plain inside es None h f.1 low, called_plain u (row_count es) f.0)
 
@@ -210,11 +185,7 @@ locals_before places (u ∷ us) h = (h.0, locals_before places us h.1)
 
 -- before constants have their places in the table
 pub lowered_written : (p : Program) → ProgramFits p → p.globals < 2 ^ 16 → length p.pool ≤ 2 ^ 32 → KeepsLimits (compiled p) → AllByRecursion Written (map unit_of p.routines)
-lowered_written p fit globals pool limits =
-    let places = new_places (lowered p).constants in
-    let us = map unit_of p.routines in
-    let units : length p.routines ≤ 2 ^ 32 = omega (arith, limits.units, length-map us (moved_unit places), length-map p.routines unit_of) in
-    routines_written p pool (omega (arith, globals)) units p.routines fit.routines (locals_before places us limits.locals) (omega (arith, limits.instructions, units_len places us))
+lowered_written p fit globals pool limits = search (arith, rules, length-map, routines_written, locals_before, units_len)
 
 pub program_written : (p : Program) → ProgramFits p → p.globals < 2 ^ 16 → length p.pool ≤ 2 ^ 32 → KeepsLimits (compiled p) → AllByRecursion Written (compiled p).units
 program_written p fit globals pool limits = units_room (lowered p).constants (omega (arith, pool, length-map p.pool constant_of)) (map unit_of p.routines) (lowered_written p fit globals pool limits)

@@ -15,7 +15,8 @@ use Rattle.jt_resolved.specs.Slots.{Written, SCalls}
 
 pub data Asm : Type 0 where
   nil : Asm
-  -- an instruction that neither jumps nor calls, and the place of the tag that a fault of it is met in
+  -- an instruction that neither jumps nor calls, and the place of the tag that a fault of it is met
+  -- in
   one : Option Place → Instruction → Asm
   both : Asm → Asm → Asm
   -- takes a value, and does the first if it is true, and else the second
@@ -91,7 +92,11 @@ of_plain o broken = bad
 
 -- the next turn of the loop at the top, where it has an item left, and else the state as it is
 abbrev pub next_turn : State → (State → Ran) → Ran
-next_turn m body = on_frame m.entries bad (λ f es. if nat_lt f.position (length f.items) then body (with_entries m (frame (advanced f) ∷ es)) else does m)
+next_turn m body =
+    on_frame m.entries bad (λ f es.
+    if nat_lt f.position (length f.items)
+    then body (with_entries m (frame (advanced f) ∷ es))
+    else does m)
 
 -- at most so many turns
 abbrev pub turns : (State → Ran) → ℕ → State → Ran
@@ -102,9 +107,13 @@ turns body (suc k) m = next_turn m (λ n. and_then (body n) (turns body k))
 abbrev pub turns_left : List Entry → ℕ
 turns_left es = on_frame es 0 (λ f fs. length f.items - f.position)
 
--- what a call gives goes behind the text of the innermost buffer; a fault that has no place gets that of the call
-abbrev pub of_written : Option Place → Got Written → List Entry → List Tree → Text → List (List ℕ) → Ran
-of_written o (gives w) es ls out bufs = does (record { entries = es; locals = ls; globals = w.globals; buffers = (out ++ w.text) ∷ bufs })
+-- what a call gives goes behind the text of the innermost buffer; a fault that has no place gets
+-- that of the call
+abbrev pub of_written : Option Place → Got Written → List Entry → List Tree → Text → List (List ℕ)
+    → Ran
+of_written o (gives w) es ls out bufs =
+    does
+    (record { entries = es; locals = ls; globals = w.globals; buffers = (out ++ w.text) ∷ bufs })
 of_written o (fails e q) es ls out bufs = stops e (place_or q o)
 of_written o deeper es ls out bufs = too_deep
 
@@ -116,14 +125,21 @@ into_buffers o g es ls (out ∷ bufs) = of_written o g es ls out bufs
 abbrev pub called : Option Place → Code → SCalls → ℕ → Option Section → State → Ran
 called o k call u None m = bad
 called o k call u (Some v) m =
-    on_values v.parameters [] m.entries bad (λ ts es. if length m.globals == k.globals then into_buffers o (call u ts m.globals) es m.locals m.buffers else bad)
+    on_values v.parameters [] m.entries bad (λ ts es.
+    if length m.globals == k.globals
+    then into_buffers o (call u ts m.globals) es m.locals m.buffers
+    else bad)
 
 -- no points, no budget; the tables are those of a code, and what calls do is given
 abbrev pub run : Code → SCalls → Asm → State → Ran
 run k call nil m = does m
 run k call (one o i) m = of_plain o (plain k i m)
 run k call (both a b) m = and_then (run k call a m) (run k call b)
-run k call (choose a b) m = on_value m.entries bad (λ t es. if truth t then run k call a (with_entries m es) else run k call b (with_entries m es))
-run k call (when a) m = on_value m.entries bad (λ t es. if truth t then run k call a (with_entries m es) else does (with_entries m es))
+run k call (choose a b) m =
+    on_value m.entries bad (λ t es.
+    if truth t then run k call a (with_entries m es) else run k call b (with_entries m es))
+run k call (when a) m =
+    on_value m.entries bad
+    (λ t es. if truth t then run k call a (with_entries m es) else does (with_entries m es))
 run k call (each a) m = turns (run k call a) (turns_left m.entries) m
 run k call (invoke o u) m = called o k call u (slice_get k.units u) m

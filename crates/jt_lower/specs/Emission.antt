@@ -1,4 +1,5 @@
--- Instructions that are put behind others with the places of their tags, and jumps that are written when their target is known.
+-- Instructions that are put behind others with the places of their tags, and jumps that are written
+-- when their target is known.
 use Rattle.std.specs.Prelude.{◌≡◌, ℕ, ◌+◌, ◌<◌, ◌≤◌, ◌^◌, false, List, ◌++◌, length, map, Option, Some, None, option_map, slice_set}
 use Rattle.std.specs.List.{AllByRecursion}
 use Rattle.jt_image.specs.declared.instruction.Instruction.{Instruction}
@@ -29,18 +30,22 @@ Given (Some x) i = x ≡ i
 abbrev pub Emitted : List Instr → Asm → List Instr → Type 0
 Emitted old a new = new ≡ old ++ map wire_of (flat a (length old))
 
--- where there may be so many instructions, there is place for these behind n others, and their fields for what they hold
+-- where there may be so many instructions, there is place for these behind n others, and their
+-- fields for what they hold
 pub record HasPlace (limit n : ℕ) (a : Asm) : Type 0 where
   pub len : n + length (flat a n) ≤ limit
   pub fields : AllByRecursion IsInstruction (flat a n)
 
--- These are put behind the others with their places where nothing overflows, and nothing does where there is place.
+-- These are put behind the others with their places where nothing overflows, and nothing does where
+-- there is place.
 pub record Puts (templates : List Text) (old : Emitter) (a : Asm) (new : Emitter) : Type 0 where
   pub limit : new.limit ≡ old.limit
   pub kept : new.overflowed ≡ false → old.overflowed ≡ false
   pub emitted : new.overflowed ≡ false → Emitted old.code.items a new.code.items
-  pub tagged : new.overflowed ≡ false → places_view templates new.places.items ≡ places_view templates old.places.items ++ places a
-  pub place : HasPlace old.limit (length old.code.items) a → old.overflowed ≡ false → new.overflowed ≡ false
+  pub tagged : new.overflowed ≡ false
+      → places_view templates new.places.items ≡ places_view templates old.places.items ++ places a
+  pub place : HasPlace old.limit (length old.code.items) a → old.overflowed ≡ false
+      → new.overflowed ≡ false
 
 -- a jump behind the others, at this point; it has no place
 pub record Reserves (old : Emitter) (jump : Instruction) (point : ℕ) (new : Emitter) : Type 0 where

@@ -1,5 +1,5 @@
--- What a program must keep so that its code does what it means: each number is in its table, each row has as many values as what
--- takes it, and fields of loops stand in loops.
+-- What a program must keep so that its code does what it means: each number is in its table, each
+-- row has as many values as what takes it, and fields of loops stand in loops.
 use Rattle.std.specs.Prelude.{◌≡◌, ℕ, ◌<◌, ◌≤◌, Bool, true, false, IsTrue, List, [], ◌∷◌, length, Option, Some, None, slice_get}
 use Rattle.jt_value.specs.Tree as tree
 use Rattle.jt_value.specs.Tree.{Tree}
@@ -27,7 +27,8 @@ pub record TakesRow (rs : List (Routine ℕ)) (u : ℕ) (n : ℕ) : Type 0 where
   pub is : slice_get rs u ≡ Some routine
   pub parameters : routine.parameters ≡ n
 
--- constants and variables alone: nothing of the row fails, so that each fault of a statement is met in a tag
+-- constants and variables alone: nothing of the row fails, so that each fault of a statement is met
+-- in a tag
 abbrev pub IsBare : {K : Type 0} → SRow K → Type 0
 IsBare slots.none = Unit {0}
 IsBare (slots.item (slots.pooled i) es) = IsBare es
@@ -52,7 +53,8 @@ module _ (p : Program) (locals : ℕ) where
     ExprFits inside (slots.conjunction a b) = ExprFits inside a × ExprFits inside b
     ExprFits inside (slots.disjunction a b) = ExprFits inside a × ExprFits inside b
     ExprFits inside (slots.choice c a b) = ExprFits inside c × ExprFits inside a × ExprFits inside b
-    ExprFits inside (slots.invoke u escaping es) = TakesRow p.routines u (row_count es) × RowFits inside es
+    ExprFits inside (slots.invoke u escaping es) =
+        TakesRow p.routines u (row_count es) × RowFits inside es
 
     pub RowFits : Bool → SRow ℕ → Type 0
     RowFits inside slots.none = Unit {0}
@@ -85,10 +87,17 @@ module _ (p : Program) (locals : ℕ) where
     StmtFits inside (slots.put_pooled i) = TextFits i
     StmtFits inside (slots.print q escaping e) = ExprFits inside e
     StmtFits inside (slots.assign q xs e) = TargetsFit xs × ExprFits inside e
-    StmtFits inside (slots.if_else q c a b) = ExprFits inside c × BodyFits inside a × BodyFits inside b
-    StmtFits inside (slots.for_each q xs e c body other) = TargetsFit xs × ExprFits inside e × ConditionFits c × BodyFits true body × BodyFits inside other
+    StmtFits inside (slots.if_else q c a b) =
+        ExprFits inside c × BodyFits inside a × BodyFits inside b
+    StmtFits inside (slots.for_each q xs e c body other) =
+        TargetsFit xs
+        × ExprFits inside e
+        × ConditionFits c
+        × BodyFits true body
+        × BodyFits inside other
     StmtFits inside (slots.capture escaping s body) = SlotFits s × BodyFits inside body
-    StmtFits inside (slots.run u es) = TakesRow p.routines u (row_count es) × RowFits inside es × IsBare es
+    StmtFits inside (slots.run u es) =
+        TakesRow p.routines u (row_count es) × RowFits inside es × IsBare es
 
     pub BodyFits : Bool → SBody ℕ → Type 0
     BodyFits inside slots.end = Unit {0}

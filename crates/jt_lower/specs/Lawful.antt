@@ -1,4 +1,5 @@
--- What resolving must keep beside what each operation takes, before constants have their places in the pool: then the program fits.
+-- What resolving must keep beside what each operation takes, before constants have their places in
+-- the pool: then the program fits.
 use Rattle.std.specs.Prelude.{◌≡◌, ℕ, ◌<◌, ◌≤◌, false, List, [], ◌∷◌, ◌++◌, length, Option, Some, None, slice_get}
 use Rattle.std.specs.List.{AllByRecursion}
 use Rattle.jt_value.specs.Tree as tree
@@ -6,7 +7,7 @@ use Rattle.jt_value.specs.Tree.{Tree}
 use Rattle.jt_image.specs.Typed.{max_entries}
 use Rattle.jt_trees.specs.Expressions.{Text}
 use Rattle.jt_resolved.specs.Slots as slots
-use Rattle.jt_resolved.specs.Slots.{Slot, local, global, Maker, SlotExpr, SRow, Targets, SlotStmt, SBody, Routine, Program}
+use Rattle.jt_resolved.specs.Slots.{Slot, local, global, SlotExpr, SRow, Targets, SlotStmt, SBody, Routine, Program}
 use Rattle.jt_evaluation.specs.TheFilters.{the_filters}
 use Rattle.jt_resolved.specs.Takes.{BodyTakes}
 use Rattle.jt_resolved.specs.Locals.{body_locals}
@@ -14,8 +15,8 @@ use Rattle.jt_resolved.specs.Pool.{Constant, own, known, routines_values, placed
 use Rattle.jt_resolved.specs.Size.{body_height}
 use Rattle.jt_lower.specs.Fits.{IsBare, IsPooled}
 
--- Under so many values in front of the pool, and so many globals. Locals need no law: a routine has as many as its body
--- uses.
+-- Under so many values in front of the pool, and so many globals. Locals need no law: a routine has
+-- as many as its body uses.
 module _ (front globals : ℕ) where
   abbrev pub ConstantLawful : Constant → Type 0
   ConstantLawful (own v) = IsPooled v
@@ -69,7 +70,8 @@ module _ (front globals : ℕ) where
     StmtLawful (slots.print q escaping e) = ExprLawful e
     StmtLawful (slots.assign q xs e) = TargetsLawful xs × ExprLawful e
     StmtLawful (slots.if_else q c a b) = ExprLawful c × BodyLawful a × BodyLawful b
-    StmtLawful (slots.for_each q xs e c body other) = TargetsLawful xs × ExprLawful e × ConditionLawful c × BodyLawful body × BodyLawful other
+    StmtLawful (slots.for_each q xs e c body other) =
+        TargetsLawful xs × ExprLawful e × ConditionLawful c × BodyLawful body × BodyLawful other
     StmtLawful (slots.capture escaping s body) = SlotLawful s × BodyLawful body
     StmtLawful (slots.run u es) = RowLawful es × IsBare es
 
@@ -84,14 +86,23 @@ pub record RoutineLawful (front globals : ℕ) (r : Routine Constant) : Type 0 w
 
 -- the program of routines, with these values in front of the pool
 abbrev pub program_with : List Text → ℕ → List Tree → List (Routine Constant) → Program
-program_with names globals front rs = record { names = names; globals = globals; pool = front ++ routines_values rs; routines = placed_routines rs (length front) }
+program_with names globals front rs =
+    record {
+      names = names;
+      globals = globals;
+      pool = front ++ routines_values rs;
+      routines = placed_routines rs (length front);
+    }
 
 pub record AreLawful (names : List Text) (globals : ℕ) (front : List Tree) (rs : List (Routine Constant)) : Type 0 where
   pub few : length names ≤ globals
   pub pooled : AllByRecursion IsPooled front
   pub routines : AllByRecursion (RoutineLawful (length front) globals) rs
   -- each operation and call gets as many values as it takes, and fields stand in loops
-  pub takes : AllByRecursion (λ (r : Routine ℕ). BodyTakes the_filters (program_with names globals front rs).routines false r.body) (program_with names globals front rs).routines
+  pub takes :
+      AllByRecursion (λ (r : Routine ℕ).
+      BodyTakes the_filters (program_with names globals front rs).routines false r.body)
+      (program_with names globals front rs).routines
   pub entry : Routine Constant
   pub is_entry : slice_get rs 0 ≡ Some entry
 

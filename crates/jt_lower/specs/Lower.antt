@@ -61,7 +61,8 @@ abbrev pub store_of : Slot → Instruction
 store_of (local i) = op.Store i
 store_of (global i) = op.GStore i
 
--- Each has the place of its tag, which a fault of it gets, and the entries above the innermost loop of its routine.
+-- Each has the place of its tag, which a fault of it gets, and the entries above the innermost loop
+-- of its routine.
 abbrev mutual
   pub expr_asm : Option Place → SlotExpr ℕ → ℕ → Asm
   expr_asm o (slots.pooled i) h = one o (op.Const i)
@@ -70,15 +71,23 @@ abbrev mutual
   expr_asm o slots.absent h = nil
   expr_asm o (slots.made k es) h = both (row_asm o es h) (one o (maker k (row_count es)))
   -- the right operand in place of the left one
-  expr_asm o (slots.conjunction a b) h = both (expr_asm o a h) (both (one o op.Dup) (choose (both (one o op.Drop) (expr_asm o b h)) nil))
-  expr_asm o (slots.disjunction a b) h = both (expr_asm o a h) (both (one o op.Dup) (choose nil (both (one o op.Drop) (expr_asm o b h))))
-  expr_asm o (slots.choice c a b) h = both (expr_asm o c h) (choose (expr_asm o a h) (expr_asm o b h))
-  expr_asm o (slots.invoke u escaping es) h = both (one o op.CaptureBegin) (both (row_asm o es (suc h)) (both (invoke o u) (one o (op.CaptureEnd (flag escaping)))))
+  expr_asm o (slots.conjunction a b) h =
+      both (expr_asm o a h)
+      (both (one o op.Dup) (choose (both (one o op.Drop) (expr_asm o b h)) nil))
+  expr_asm o (slots.disjunction a b) h =
+      both (expr_asm o a h)
+      (both (one o op.Dup) (choose nil (both (one o op.Drop) (expr_asm o b h))))
+  expr_asm o (slots.choice c a b) h =
+      both (expr_asm o c h) (choose (expr_asm o a h) (expr_asm o b h))
+  expr_asm o (slots.invoke u escaping es) h =
+      both (one o op.CaptureBegin)
+      (both (row_asm o es (suc h)) (both (invoke o u) (one o (op.CaptureEnd (flag escaping)))))
 
   pub row_asm : Option Place → SRow ℕ → ℕ → Asm
   row_asm o slots.none h = nil
   row_asm o (slots.item e es) h = both (expr_asm o e h) (row_asm o es (suc h))
-  row_asm o (slots.aside i e es) h = both (expr_asm o e h) (both (one o (op.Store i)) (row_asm o es h))
+  row_asm o (slots.aside i e es) h =
+      both (expr_asm o e h) (both (one o (op.Store i)) (row_asm o es h))
 
 -- a value into a slot, or into none
 abbrev pub store_if_of : Option Slot → Instruction
@@ -105,17 +114,25 @@ over_asm o xs body other = both (each (turn_asm o xs body)) (both (one o op.Loop
 -- the items for which the condition holds, in place of all
 abbrev pub kept_asm : Option Place → Targets → Option (SlotExpr ℕ) → Asm
 kept_asm o xs None = nil
-kept_asm o xs (Some c) = both (each (turn_asm o xs (both (expr_asm o c 0) (one o (op.LoopKeep 0))))) (one o op.LoopRewind)
+kept_asm o xs (Some c) =
+    both (each (turn_asm o xs (both (expr_asm o c 0) (one o (op.LoopKeep 0)))))
+    (one o op.LoopRewind)
 
 abbrev mutual
   pub stmt_asm : SlotStmt ℕ → ℕ → Asm
   stmt_asm (slots.put_pooled i) h = one None (op.Data i)
-  stmt_asm (slots.print p escaping e) h = both (expr_asm (Some p) e h) (one (Some p) (op.Emit (flag escaping)))
+  stmt_asm (slots.print p escaping e) h =
+      both (expr_asm (Some p) e h) (one (Some p) (op.Emit (flag escaping)))
   stmt_asm (slots.assign p xs e) h = both (expr_asm (Some p) e h) (take_asm (Some p) xs)
-  stmt_asm (slots.if_else p c a b) h = both (expr_asm (Some p) c h) (choose (body_asm a h) (body_asm b h))
+  stmt_asm (slots.if_else p c a b) h =
+      both (expr_asm (Some p) c h) (choose (body_asm a h) (body_asm b h))
   stmt_asm (slots.for_each p xs e c body other) h =
-      both (both (expr_asm (Some p) e h) (both (one (Some p) op.LoopStart) (kept_asm (Some p) xs c))) (over_asm (Some p) xs (body_asm body 0) (body_asm other h))
-  stmt_asm (slots.capture escaping s body) h = both (one None op.CaptureBegin) (both (body_asm body (suc h)) (both (one None (op.CaptureEnd (flag escaping))) (one None (store_of s))))
+      both
+      (both (expr_asm (Some p) e h) (both (one (Some p) op.LoopStart) (kept_asm (Some p) xs c)))
+      (over_asm (Some p) xs (body_asm body 0) (body_asm other h))
+  stmt_asm (slots.capture escaping s body) h =
+      both (one None op.CaptureBegin) (both (body_asm body (suc h))
+      (both (one None (op.CaptureEnd (flag escaping))) (one None (store_of s))))
   stmt_asm (slots.run u es) h = both (row_asm None es h) (invoke None u)
 
   pub body_asm : SBody ℕ → ℕ → Asm
@@ -124,7 +141,13 @@ abbrev mutual
 
 -- a routine's unit: its body, and Return
 abbrev pub unit_of : Routine ℕ → Section
-unit_of r = record { parameters = r.parameters; kind = 0; locals = r.locals; code = flat (body_asm r.body 0) 0 ++ op.Return ∷ [] }
+unit_of r =
+    record {
+      parameters = r.parameters;
+      kind = 0;
+      locals = r.locals;
+      code = flat (body_asm r.body 0) 0 ++ op.Return ∷ [];
+    }
 
 -- each name with its slot
 abbrev pub numbered : ℕ → List Text → List Name

@@ -1,4 +1,5 @@
-//! The instructions of a unit while it is written, and jumps that are written when their target is known.
+//! The instructions of a unit while it is written, and jumps that are written when their target is
+//! known.
 
 ghost use Rattle.std.specs.Prelude.{◌≤◌, length};
 
@@ -16,7 +17,8 @@ pub struct Emitter {
     pub places: Vec<Option<Place>>,
     /// How many there may be.
     pub limit: usize,
-    /// Whether there would be more, or some instruction holds more than its fields have place for: then the code means nothing.
+    /// Whether there would be more, or some instruction holds more than its fields have place for:
+    /// then the code means nothing.
     pub overflowed: bool,
     pub ghost within: { length code.items ≤ limit },
 }
@@ -43,7 +45,8 @@ impl Emitter {
         }
     }
 
-    /// Puts an instruction of a tag behind the others; none stands for one that its fields have no place for.
+    /// Puts an instruction of a tag behind the others; none stands for one that its fields have no
+    /// place for.
     pub fn put(
         &mut self,
         tag: Option<Place>,
@@ -102,7 +105,8 @@ impl Emitter {
         }
     }
 
-    /// Puts a test behind the others that goes past what a true value does, once that is known; gives its point.
+    /// Puts a test behind the others that goes past what a true value does, once that is known;
+    /// gives its point.
     pub fn begin_choice(&mut self) -> Result<usize, AllocError>
         ensures { IfOk result (λ choice. Reserves self.old (op.JumpIfFalse 0) choice self.new) }
     {
@@ -110,7 +114,8 @@ impl Emitter {
         Ok(choice)
     }
 
-    /// Puts the jump out of a branch behind the others, and lets the test in front of the branch go behind it.
+    /// Puts the jump out of a branch behind the others, and lets the test in front of the branch go
+    /// behind it.
     pub fn end_branch(&mut self, choice: usize) -> Result<usize, AllocError>
         ensures { IfOk result (λ last. Ends self.old choice last self.new) }
     {
@@ -128,7 +133,8 @@ impl Emitter {
         self.patch(last, past);
     }
 
-    /// Lets the test at this point go behind all instructions: what it tests for stands there alone.
+    /// Lets the test at this point go behind all instructions: what it tests for stands there
+    /// alone.
     pub fn end_when(&mut self, choice: usize)
         ensures { Patches self.old choice (op.JumpIfFalse (length self.old.code.items)) self.new }
     {

@@ -15,7 +15,8 @@ use jt_image::Instruction;
 use jt_resolved::{Place, Slot, SlotExpr};
 use std::alloc::AllocError;
 
-/// Puts the code of an expression of a tag behind the others, with so many entries above the innermost loop.
+/// Puts the code of an expression of a tag behind the others, with so many entries above the
+/// innermost loop.
 #[cycle(expressions)]
 pub fn emit_expression(
     code: &mut Emitter,
@@ -68,7 +69,8 @@ pub fn emit_expression(
     }
 }
 
-/// Puts the code of `and` behind the others: the left value, and the right one in its place where that is true.
+/// Puts the code of `and` behind the others: the left value, and the right one in its place where
+/// that is true.
 #[cycle(expressions)]
 fn emit_conjunction(
     code: &mut Emitter,
@@ -92,7 +94,8 @@ fn emit_conjunction(
     Ok(())
 }
 
-/// Puts the code of `or` behind the others: the left value, and the right one in its place where that is false.
+/// Puts the code of `or` behind the others: the left value, and the right one in its place where
+/// that is false.
 #[cycle(expressions)]
 fn emit_disjunction(
     code: &mut Emitter,

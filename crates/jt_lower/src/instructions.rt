@@ -1,12 +1,11 @@
 //! Instructions by what they hold: none where their fields have no place for it.
 
-ghost use Rattle.std.specs.Prelude.{◌≡◌, ◌≤◌, ◌^◌, MatchOption};
+ghost use Rattle.std.specs.Prelude.{◌≡◌, ◌≤◌, ◌^◌, MatchOption, ℕ};
 ghost use Rattle.jt_image.specs.Loops.{field_id};
 ghost use Rattle.jt_image.specs.declared.instruction.Instruction.TheVariants as op;
 ghost use Rattle.jt_resolved.specs.View.{slot_view, field_view, maker_view};
 ghost use Rattle.jt_lower.specs.Lower.{maker, told_as, flag, load_of, store_of};
 ghost use Rattle.jt_lower.specs.Emission.{Given, StandsFor};
-ghost use Rattle.std.specs.Prelude.{ℕ};
 
 use jt_image::{Instruction, LoopField};
 use jt_resolved::{Field, Maker, Slot};

@@ -9,17 +9,16 @@ use Rattle.jt_trees.specs.Expressions.{Text}
 use Rattle.jt_trees.specs.Texts.{ascending}
 use Rattle.jt_meaning.specs.Env.{Env, read, bound, all_bound}
 use Rattle.jt_evaluation.specs.Values.{value_in}
-use Rattle.jt_chains.specs.Chain.{Home, a_chain, a_library, same_home}
+use Rattle.jt_chains.specs.Chain.{Home, a_chain, a_library}
 use Rattle.jt_chains.specs.Uses.{own_names}
 use Rattle.jt_chains.specs.Includes.{included}
 use Rattle.jt_evaluation.specs.Loops.{tree_at}
 use Rattle.jt_rules.specs.World.{World}
 use Rattle.jt_resolved.specs.Slots.{Slot, local, global, Memory, load, put_at, store}
-use Rattle.jt_meaning.specs.Layout.{Table, slot_in, globals_from, names_in, names, first_slot, globals}
+use Rattle.jt_meaning.specs.Layout.{Table, slot_in, globals_from, names_in, names, first_slot, globals, scopes}
 use Rattle.jt_meaning.specs.Resolve.{bound_table}
 use Rattle.jt_meaning.specs.Expressions.{seen_by}
 use Rattle.jt_meaning.proofs.Reading.{same_text, is_same, no_both, read_bound, IsInner, inner_bound, inner_globals, held, put_elsewhere}
-use Rattle.jt_meaning.specs.Layout.{scopes}
 use Rattle.jt_meaning.proofs.Among.{Among, AllAmong}
 
 -- ---- what stays: the first locals, and the first globals
@@ -35,10 +34,7 @@ pub kept_then : {b g : ℕ} {m n o : Memory} → Kept b g m n → Kept b g n o �
 kept_then u v = record { locals = λ i l. v.locals i l ∙ u.locals i l; globals = λ i l. v.globals i l ∙ u.globals i l }
 
 pub kept_less : {b g c d : ℕ} {m n : Memory} → c ≤ b → d ≤ g → Kept b g m n → Kept c d m n
-kept_less {b = b} {g = g} {c = c} {d = d} p q u = record {
-  locals = λ i l. u.locals i (let e : i < b = omega (arith, p, l) in e);
-  globals = λ i l. u.globals i (let e : i < g = omega (arith, q, l) in e);
-}
+kept_less {b = b} {g = g} {c = c} {d = d} p q u = search (arith, rules)
 
 -- the output does not count
 pub kept_out : {b g : ℕ} {m n : Memory} (o : Memory) → o.locals ≡ n.locals → o.globals ≡ n.globals → Kept b g m n → Kept b g m o
@@ -72,19 +68,8 @@ held_kept {b = b} k (v ∷ vs) p u h = (u.locals k (let e : k < b = omega (arith
 
 -- a name's global is one of the range
 pub global_slot : (n : ℕ) (ns : List Text) (x : Text) (i : ℕ) → slot_in x (globals_from n ns) ≡ Some (global i) → (n ≤ i) × (i < n + length ns)
-global_slot n [] x i e = absurd (nothing e)
-  where
-    nothing : {A : Type 0} {y : A} → None ≡ Some y → ⊥
-    nothing q = cc
-global_slot n (y ∷ ys) x i e = through (bytes_eq y x) e (λ e'. global_slot (suc n) ys x i e')
-  where
-    here : Some (global n) ≡ Some (global i) → n ≡ i
-    here q = cc
-
-    through : (b : Bool) → (if b then Some (global n) else slot_in x (globals_from (suc n) ys)) ≡ Some (global i)
-        → (slot_in x (globals_from (suc n) ys) ≡ Some (global i) → (suc n ≤ i) × (i < suc n + length ys)) → (n ≤ i) × (i < n + length (y ∷ ys))
-    through true q f = let e : n ≡ i = here q in (omega (arith, e), omega (arith, e))
-    through false q f = let r = f q in let p = r.0 in let l = r.1 in (omega (arith, p), omega (arith, l))
+global_slot n [] x i e = search (arith, rules)
+global_slot n (y ∷ ys) x i e = search (arith, rules, global_slot (suc n) ys x i)
 
 -- each name of the range has one
 pub global_given : (n : ℕ) (ns : List Text) (x : Text) → Among x ns → (i : ℕ) × (slot_in x (globals_from n ns) ≡ Some (global i))
@@ -99,22 +84,8 @@ global_given n (y ∷ ys) x h = through (bytes_eq y x) refl h (λ h'. global_giv
 
 -- different names have different ones
 pub globals_apart : (n : ℕ) (ns : List Text) (x y : Text) (s : Slot) → slot_in x (globals_from n ns) ≡ Some s → slot_in y (globals_from n ns) ≡ Some s → x ≡ y
-globals_apart n [] x y s e f = absurd (nothing e)
-  where
-    nothing : {A : Type 0} {z : A} → None ≡ Some z → ⊥
-    nothing q = cc
-globals_apart n (z ∷ zs) x y s e f = through (bytes_eq z x) (bytes_eq z y) refl refl e f (λ e' f'. globals_apart (suc n) zs x y s e' f')
-  where
-    first : Some (global n) ≡ Some s → s ≡ global n
-    first q = cc
-
-    clash : (w : Text) → s ≡ global n → slot_in w (globals_from (suc n) zs) ≡ Some s → ⊥
-    clash w q r = let g = global_slot (suc n) zs w n (subst (λ t. slot_in w (globals_from (suc n) zs) ≡ Some t) q r) in let p = g.0 in omega (arith, p)
-
-    through : (b c : Bool) → bytes_eq z x ≡ b → bytes_eq z y ≡ c → (if b then Some (global n) else slot_in x (globals_from (suc n) zs)) ≡ Some s
-        → (if c then Some (global n) else slot_in y (globals_from (suc n) zs)) ≡ Some s
-        → (slot_in x (globals_from (suc n) zs) ≡ Some s → slot_in y (globals_from (suc n) zs) ≡ Some s → x ≡ y) → x ≡ y
-    through b c p q e f r = search (arith, rules, same_text, clash, first)
+globals_apart n [] x y s e f = search (arith, rules)
+globals_apart n (z ∷ zs) x y s e f = search (arith, rules, globals_apart (suc n) zs x y s, global_slot, same_text)
 
 -- what the slot of a global holds
 abbrev pub global_held : Option Slot → List Tree → Tree
@@ -124,12 +95,7 @@ global_held (Some (global i)) ts = tree_at ts i
 
 pub global_reads : (n : ℕ) (ns : List Text) (x : Text) (m : Memory) → held (slot_in x (globals_from n ns)) m ≡ global_held (slot_in x (globals_from n ns)) m.globals
 global_reads n [] x m = refl
-global_reads n (y ∷ ys) x m = through (bytes_eq y x) (global_reads (suc n) ys x m)
-  where
-    through : (b : Bool) → held (slot_in x (globals_from (suc n) ys)) m ≡ global_held (slot_in x (globals_from (suc n) ys)) m.globals
-        → held (if b then Some (global n) else slot_in x (globals_from (suc n) ys)) m ≡ global_held (if b then Some (global n) else slot_in x (globals_from (suc n) ys)) m.globals
-    through true e = refl
-    through false e = e
+global_reads n (y ∷ ys) x m = search (arith, rules, global_reads (suc n) ys x m, held)
 
 -- ---- agreement
 
@@ -169,11 +135,7 @@ module _ (world : World) (order : List Home) where
     where
       by : (hs : List Home) → names_in world hs (a_library n) ≡ []
       by [] = refl
-      by (k ∷ ks) = through (same_home k (a_library n)) (by ks)
-        where
-          through : (b : Bool) → names_in world ks (a_library n) ≡ [] → (if b then [] else names_in world ks (a_library n)) ≡ []
-          through true e = refl
-          through false e = e
+      by (k ∷ ks) = search (arith, rules, by ks)
 
   pub library_agrees : (n : Text) (ts : List Tree) → GlobalsAgree (a_library n) [] ts
   library_agrees n ts x i = ap (λ xs. global_held (slot_in x (globals_from (first_slot world order (a_library n)) xs)) ts) (sym (names_library n))
@@ -195,18 +157,10 @@ module _ (world : World) (order : List Home) where
 
   -- globals that are kept hold what they held
   pub global_kept : (h : Home) {k : ℕ} {m n : Memory} → Kept k (limit h) m n → (x : Text) → global_held (slot_in x (globals world order h)) n.globals ≡ global_held (slot_in x (globals world order h)) m.globals
-  global_kept h {m = m} {n = n} u x = by (slot_in x (globals world order h)) refl
-    where
-      by : (o : Option Slot) → slot_in x (globals world order h) ≡ o → global_held o n.globals ≡ global_held o m.globals
-      by None e = refl
-      by (Some (local i)) e = refl
-      by (Some (global i)) e = u.globals i (global_slot (first_slot world order h) (names world order h) x i e).1
+  global_kept h {m = m} {n = n} u x = search (arith, rules, global_slot)
 
   pub agrees_kept : {h : Home} {table : Table} {k : ℕ} {env : Env} {m n : Memory} → Fits h table k → Agrees h table env m → Kept k (limit h) m n → Agrees h table env n
-  agrees_kept {h = h} fits a u = record {
-    names = λ x i. a.names x i ∙ sym (held_kept_in fits u x);
-    globals = λ x i. a.globals x i ∙ sym (global_kept h u x);
-  }
+  agrees_kept {h = h} fits a u = search (arith, rules, held_kept_in, global_kept)
 
   -- a local of its own for one name more
   pub fits_one : {h : Home} {table : Table} {k : ℕ} (x : Text) → Among x (scopes world order h) → Fits h table k → Fits h ((x, local k) ∷ table) (suc k)
@@ -233,10 +187,7 @@ module _ (world : World) (order : List Home) where
 
       part : (y z : Text) (s : Slot) (b c : Bool) → bytes_eq x y ≡ b → bytes_eq x z ≡ c
           → (if b then Some (local k) else slot_in y table) ≡ Some s → (if c then Some (local k) else slot_in z table) ≡ Some s → y ≡ z
-      part y z s true true p q e f = sym (same_text x y p) ∙ same_text x z q
-      part y z s true false p q e f = absurd (clash z s (first e) f)
-      part y z s false true p q e f = absurd (clash y s (first f) e)
-      part y z s false false p q e f = fits.apart y z s e f
+      part y z s a3 a4 p q e f = search (arith, rules, same_text, clash, first)
 
       around : (y : Text) (b : Bool) → bytes_eq x y ≡ b → (Among y (scopes world order h) → ⊥) → slot_in y table ≡ slot_in y (globals world order h) → (if b then Some (local k) else slot_in y table) ≡ slot_in y (globals world order h)
       around y true p n e = absurd (n (subst (λ z. Among z (scopes world order h)) (same_text x y p) bound_in))
@@ -252,22 +203,11 @@ module _ (world : World) (order : List Home) where
 
   -- a name that is bound in the innermost scope, where its local holds the value
   pub bind_held : {h : Home} {table : Table} {env : Env} {n : Memory} (x : Text) (v : Tree) (k : ℕ) → IsInner env → tree_at n.locals k ≡ v → Agrees h table env n → Agrees h ((x, local k) ∷ table) (bound env x v) n
-  bind_held {h = h} {table = table} {env = env} {n = n} x v k inner e a = record {
-    names = λ y i. read_bound env x y v ∙ through y (bytes_eq x y) (a.names y i);
-    globals = λ y i. ap (λ g. value_in g y) (inner_globals env x v inner) ∙ a.globals y i;
-  }
-    where
-      through : (y : Text) (b : Bool) → read env y ≡ held (slot_in y table) n → (if b then v else read env y) ≡ held (if b then Some (local k) else slot_in y table) n
-      through y true r = sym e
-      through y false r = r
+  bind_held {h = h} {table = table} {env = env} {n = n} x v k inner e a = search (arith, rules, read_bound, inner_globals, held)
 
   -- a name that gets a local with what it reads anyway
   pub copy_held : {h : Home} {table : Table} {env : Env} {n : Memory} (x : Text) (k : ℕ) → tree_at n.locals k ≡ read env x → Agrees h table env n → Agrees h ((x, local k) ∷ table) env n
-  copy_held {h = h} {table = table} {env = env} {n = n} x k e a = record { names = λ y i. through y (bytes_eq x y) refl (a.names y i); globals = a.globals }
-    where
-      through : (y : Text) (b : Bool) → bytes_eq x y ≡ b → read env y ≡ held (slot_in y table) n → read env y ≡ held (if b then Some (local k) else slot_in y table) n
-      through y true q r = ap (λ z. read env z) (sym (same_text x y q)) ∙ sym e
-      through y false q r = r
+  copy_held {h = h} {table = table} {env = env} {n = n} x k e a = search (arith, rules, held, same_text)
 
   -- names that are bound one after the other, where a row of locals holds their values
   pub pairs_held : {h : Home} {env : Env} {n : Memory} (table : Table) (k : ℕ) (bs : Pairs) → IsInner env → Held n.locals k (map (λ b. b.1) bs) → Agrees h table env n → Agrees h (bound_table (map (λ b. b.0) bs) k table) (all_bound env bs) n

@@ -1,10 +1,7 @@
 -- Names among others.
-use Rattle.std.proofs.Common.{◌≡◌, Bool, true, false, if◌then◌else◌, List, [], ◌∷◌, ◌++◌, refl, ◌⊎◌, inl, inr}
-use Rattle.std.specs.Bool.{Decides}
+use Rattle.std.proofs.Common.{◌≡◌, true, List, [], ◌∷◌, refl, ◌⊎◌, inl, arith, rules}
 use Rattle.std.specs.Str.{bytes_eq}
 use Rattle.std.proofs.lemmas.Slice.Eq.{bytes_eq-Decides}
-use Rattle.std.specs.Ordering.{nat_cmp, is_lt}
-use Rattle.std.specs.Cmp.Lexicographic.{slice_cmp}
 use Rattle.jt_trees.specs.Expressions.{Text}
 use Rattle.jt_trees.specs.Texts.{inserted, all_inserted, ascending}
 
@@ -18,39 +15,17 @@ abbrev pub AllAmong : List Text → List Text → Type 0
 AllAmong [] ns = Unit {0}
 AllAmong (x ∷ xs) ns = Among x ns × AllAmong xs ns
 
-among_front : (xs ys ns : List Text) → AllAmong (xs ++ ys) ns → AllAmong xs ns
-among_front [] ys ns h = tt
-among_front (x ∷ xs) ys ns h = (h.0, among_front xs ys ns h.1)
-
-among_back : (xs ys ns : List Text) → AllAmong (xs ++ ys) ns → AllAmong ys ns
-among_back [] ys ns h = h
-among_back (x ∷ xs) ys ns h = among_back xs ys ns h.1
-
-surely : (b : Bool) (P : Type 0) → Decides b P → P → b ≡ true
-surely b P d h = d.1 h
-
-same_text : (x y : Text) → bytes_eq x y ≡ true → x ≡ y
+pub same_text : (x y : Text) → bytes_eq x y ≡ true → x ≡ y
 same_text x y e = (bytes_eq-Decides x y).0 e
 
 -- a text that is put among others is there, and so are the others
 inserted_there : (x : Text) (ns : List Text) → Among x (inserted x ns)
 inserted_there x [] = inl refl
-inserted_there x (y ∷ ys) = through (bytes_eq y x) (is_lt (slice_cmp nat_cmp x y)) refl (inserted_there x ys)
-  where
-    through : (b c : Bool) → bytes_eq y x ≡ b → Among x (inserted x ys) → Among x (if b then y ∷ ys else if c then x ∷ y ∷ ys else y ∷ inserted x ys)
-    through true c e h = inl (same_text y x e)
-    through false true e h = inl refl
-    through false false e h = inr h
+inserted_there x (y ∷ ys) = search (arith, rules, inserted_there x ys, same_text)
 
 inserted_keeps : (x z : Text) (ns : List Text) → Among z ns → Among z (inserted x ns)
 inserted_keeps x z [] h = absurd h
-inserted_keeps x z (y ∷ ys) h = through (bytes_eq y x) (is_lt (slice_cmp nat_cmp x y)) h (inserted_keeps x z ys)
-  where
-    through : (b c : Bool) → Among z (y ∷ ys) → (Among z ys → Among z (inserted x ys)) → Among z (if b then y ∷ ys else if c then x ∷ y ∷ ys else y ∷ inserted x ys)
-    through true c k f = k
-    through false true k f = inr k
-    through false false (inl e) f = inl e
-    through false false (inr k) f = inr (f k)
+inserted_keeps x z (y ∷ ys) h = search (arith, rules, inserted_keeps x z ys)
 
 -- texts that are put among others are there, and so are the others
 all_keep : (xs : List Text) (z : Text) (ns : List Text) → Among z ns → Among z (all_inserted xs ns)

@@ -1,5 +1,5 @@
 -- Targets and scopes: what is bound by names is stored in slots.
-use Rattle.std.proofs.Common.{◌≡◌, ℕ, suc, ◌<◌, ◌≤◌, Bool, true, false, if◌then◌else◌, List, [], ◌∷◌, map, Option, Some, None, refl, sym, ap, ◌∙◌, subst, arith, inl, inr, rules}
+use Rattle.std.proofs.Common.{◌≡◌, ℕ, suc, ◌≤◌, Bool, true, false, if◌then◌else◌, List, [], ◌∷◌, map, Option, Some, None, refl, sym, ap, ◌∙◌, subst, arith, inl, inr, rules}
 use Rattle.std.specs.Prelude.{◌||◌}
 use Rattle.std.specs.Str.{bytes_eq}
 use Rattle.jt_value.specs.Tree.{Tree}
@@ -32,13 +32,7 @@ each_taken : (g : ℕ) (xs : List Text) (vs : List Tree) (k : ℕ) (m : Memory) 
 each_taken g [] [] k m = both (record { names = refl; values = tt; kept = kept_same k g m; out = refl })
 each_taken g [] (v ∷ vs) k m = fault
 each_taken g (x ∷ xs) [] k m = fault
-each_taken g (x ∷ xs) (v ∷ vs) k m =
-    bind_both (each_taken g xs vs (suc k) m) (λ s n w. both (record {
-      names = ap (λ ys. x ∷ ys) w.names;
-      values = (put_here k v n.locals, held_put n.locals k (suc k) v (map (λ p. p.1) s) (let e : k < suc k = omega arith in e) w.values);
-      kept = kept_then (kept_less (let e : k ≤ suc k = omega arith in e) (let e : g ≤ g = omega arith in e) w.kept) (kept_store k g k v n (let e : k ≤ k = omega arith in e));
-      out = w.out;
-    }))
+each_taken g (x ∷ xs) (v ∷ vs) k m = search (arith, rules, bind_both, each_taken g xs vs (suc k) m, both, put_here k v, held_put, kept_then, kept_less, kept_store k g k v)
 
 several_taken : (g : ℕ) (xs : List Text) (v : Tree) (k : ℕ) (m : Memory) → Both (Taken k g m xs) (bind (checked (items_of_value v)) (each_target xs)) (bind (checked (items_of_value v)) (λ vs. store_each (fresh k xs) vs m))
 several_taken g xs v k m = bind_both (checked_both (items_of_value v)) (λ vs ws e. by_right (ap (λ z. store_each (fresh k xs) z m) e) (each_taken g xs vs k m))
@@ -56,51 +50,27 @@ reads_all (b ∷ bs) e f y r = reads_all bs (bound e b.0 b.1) (bound f b.0 b.1) 
 
 reads_bound : (bs : Pairs) (e f : Env) (x : Text) → Among x (map (λ b. b.0) bs) → read (all_bound e bs) x ≡ read (all_bound f bs) x
 reads_bound [] e f x i = absurd i
-reads_bound (b ∷ bs) e f x (inl p) =
-    reads_all bs (bound e b.0 b.1) (bound f b.0 b.1) x (read_bound e b.0 x b.1 ∙ here (bytes_eq b.0 x) (is_same b.0 x p) ∙ sym (read_bound f b.0 x b.1))
-  where
-    here : (c : Bool) → c ≡ true → (if c then b.1 else read e x) ≡ (if c then b.1 else read f x)
-    here true q = refl
-    here false q = absurd (no_both q refl)
+reads_bound (b ∷ bs) e f x (inl p) = search (arith, rules, reads_all, read_bound, is_same, no_both)
 reads_bound (b ∷ bs) e f x (inr i) = reads_bound bs (bound e b.0 b.1) (bound f b.0 b.1) x i
 
 reads_not : (bs : Pairs) (e : Env) (x : Text) → (Among x (map (λ b. b.0) bs) → ⊥) → read (all_bound e bs) x ≡ read e x
 reads_not [] e x n = refl
-reads_not (b ∷ bs) e x n = reads_not bs (bound e b.0 b.1) x (λ i. n (inr i)) ∙ read_bound e b.0 x b.1 ∙ elsewhere (bytes_eq b.0 x) refl
-  where
-    elsewhere : (c : Bool) → bytes_eq b.0 x ≡ c → (if c then b.1 else read e x) ≡ read e x
-    elsewhere true q = absurd (n (inl (same_text b.0 x q)))
-    elsewhere false q = refl
+reads_not (b ∷ bs) e x n = search (arith, rules, reads_not bs (bound e b.0 b.1) x (λ i. n (inr i)), read_bound, same_text)
 
 among_is : (x : Text) (xs : List Text) → among x xs ≡ true → Among x xs
 among_is x [] e = absurd (no_both e refl)
-among_is x (y ∷ ys) e = through (bytes_eq y x) refl e (λ f. among_is x ys f)
-  where
-    through : (b : Bool) → bytes_eq y x ≡ b → (b || among x ys) ≡ true → (among x ys ≡ true → Among x ys) → Among x (y ∷ ys)
-    through true p q f = inl (same_text y x p)
-    through false p q f = inr (f q)
+among_is x (y ∷ ys) e = search (arith, rules, among_is x ys, same_text)
 
 pub among_has : (x : Text) (xs : List Text) → Among x xs → among x xs ≡ true
 among_has x [] i = absurd i
 among_has x (y ∷ ys) (inl p) = ap (λ b. b || among x ys) (is_same y x p)
-among_has x (y ∷ ys) (inr i) = ap (λ b. bytes_eq y x || b) (among_has x ys i) ∙ or_true (bytes_eq y x)
-  where
-    or_true : (b : Bool) → (b || true) ≡ true
-    or_true true = refl
-    or_true false = refl
+among_has x (y ∷ ys) (inr i) = search (arith, rules, among_has x ys i)
 
 -- ---- slots that are there
 
 slot_there : (x : Text) (table : Table) (s : Slot) → slot_in x table ≡ Some s → slot_of x table ≡ s
-slot_there x [] s e = absurd (nothing e)
-  where
-    nothing : None ≡ Some s → ⊥
-    nothing q = cc
-slot_there x (b ∷ bs) s e = through (bytes_eq b.0 x) e (λ f. slot_there x bs s f)
-  where
-    through : (c : Bool) → (if c then Some b.1 else slot_in x bs) ≡ Some s → (slot_in x bs ≡ Some s → slot_of x bs ≡ s) → (if c then b.1 else slot_of x bs) ≡ s
-    through true q f = cc
-    through false q f = f q
+slot_there x [] s e = search (arith, rules)
+slot_there x (b ∷ bs) s e = search (arith, rules, slot_there x bs s)
 
 load_here : (s : Slot) (v : Tree) (m : Memory) → load s (store s v m) ≡ v
 load_here (local i) v m = put_here i v m.locals
@@ -129,11 +99,7 @@ module _ (world : World) (order : List Home) (h : Home) (table : Table) (k : ℕ
   set_more x v xs s n inS inN w = through (among x xs) refl
     where
       shadowed : Among x xs → (env : Env) (y : Text) → read (all_bound (bound env x v) s) y ≡ read (all_bound env s) y
-      shadowed i env y = which (bytes_eq x y) refl
-        where
-          which : (b : Bool) → bytes_eq x y ≡ b → read (all_bound (bound env x v) s) y ≡ read (all_bound env s) y
-          which true e = reads_bound s (bound env x v) env y (subst (λ zs. Among y zs) (sym w.names) (subst (λ z. Among z xs) (same_text x y e) i))
-          which false e = reads_all s (bound env x v) env y (read_bound env x y v ∙ ap (λ b. if b then v else read env y) e)
+      shadowed i env y = search (arith, rules, reads_bound, same_text, reads_all, read_bound)
 
       slotted : (t : Slot) × (slot_in x table ≡ Some t)
       slotted = there x inS inN
@@ -146,11 +112,7 @@ module _ (world : World) (order : List Home) (h : Home) (table : Table) (k : ℕ
           not_there j = no_both (among_has x xs (subst (λ zs. Among x zs) w.names j)) f
 
           which : (b : Bool) → bytes_eq x y ≡ b → read (all_bound (bound env x v) s) y ≡ held (slot_in y table) (store t v n)
-          which true c =
-              let p = same_text x y c in
-              ap (λ z. read (all_bound (bound env x v) s) z) (sym p)
-              ∙ reads_not s (bound env x v) x not_there ∙ read_bound env x x v ∙ ap (λ b. if b then v else read env x) (same_is x) ∙ sym (load_here t v n) ∙ sym (ap (λ o. held o (store t v n)) e)
-              ∙ ap (λ z. held (slot_in z table) (store t v n)) p
+          which true c = search (arith, rules, same_text, reads_not, not_there, read_bound, same_is, load_here, held)
           which false c =
               reads_all s (bound env x v) env y (read_bound env x y v ∙ ap (λ b. if b then v else read env y) c)
               ∙ w.reads env a y i ∙ elsewhere (slot_in y table) refl
@@ -160,25 +122,10 @@ module _ (world : World) (order : List Home) (h : Home) (table : Table) (k : ℕ
               elsewhere (Some z) d = sym (load_elsewhere t z v n (λ r. no_both (is_same x y (fits.apart x y t e (d ∙ ap Some (sym r)))) c))
 
       at_slot : (o : Option Slot) → slot_in x table ≡ o → among x xs ≡ false → Set (x ∷ xs) ((x, v) ∷ s) (store_if o v n)
-      at_slot None e f = absurd (nothing (sym e ∙ slotted.1))
-        where
-          nothing : None ≡ Some slotted.0 → ⊥
-          nothing q = cc
-      at_slot (Some t) e f = record {
-        names = ap (λ ys. x ∷ ys) w.names;
-        reads = λ env a y i. set_here t e f env a y i;
-        touched = next x t v n inS inN e w.touched;
-        out = store_out t v n ∙ w.out;
-      }
+      at_slot a0 e f = search (arith, rules, slotted, set_here, store_out)
 
       through : (b : Bool) → among x xs ≡ b → Set (x ∷ xs) ((x, v) ∷ s) (store_if (if b then None else slot_in x table) v n)
-      through true e = record {
-        names = ap (λ ys. x ∷ ys) w.names;
-        reads = λ env a y i. shadowed (among_is x xs e) env y ∙ w.reads env a y i;
-        touched = w.touched;
-        out = w.out;
-      }
-      through false e = at_slot (slot_in x table) refl e
+      through a0 e = search (arith, rules, shadowed, among_is, at_slot)
 
   nothing_set : Set [] [] m
   nothing_set = record { names = refl; reads = λ env a y i. a y i; touched = first; out = refl }
@@ -195,9 +142,7 @@ module _ (world : World) (order : List Home) (h : Home) (table : Table) (k : ℕ
 
   -- one name
   pub one_set : (x : Text) (v : Tree) → Among x S → Among x (read_names world order h) → Set (x ∷ []) ((x, v) ∷ []) (store (slot_of x table) v m)
-  one_set x v inS inN =
-      let s = there x inS inN in
-      subst (λ n. Set (x ∷ []) ((x, v) ∷ []) n) (ap (λ o. store_if o v m) s.1 ∙ ap (λ t. store t v m) (sym (slot_there x table s.0 s.1))) (set_more x v [] [] m inS inN nothing_set)
+  one_set x v inS inN = search (arith, rules, slot_there x, set_more x v [] [], nothing_set)
 
   pub all_set : (xs : List Text) (v : Tree) → AllAmong xs S → AllAmong xs (read_names world order h) → Both (Set xs) (targets xs v) (take (set_targets table xs) v m)
   all_set [] v a b = several_set [] v a b

@@ -1,5 +1,5 @@
 -- Two computations that go the same way: both give related results, or have the same fault, or call deeper.
-use Rattle.std.proofs.Common.{◌≡◌, Bool, true, false, if◌then◌else◌, Option, Some, None, refl, sym, subst, arith, rules}
+use Rattle.std.proofs.Common.{◌≡◌, Bool, true, false, if◌then◌else◌, Option, refl, sym, subst, arith, rules}
 use Rattle.std.specs.Prelude.{Result, Ok, Err}
 use Rattle.jt_value.specs.declared.fault.Fault.{Fault}
 use Rattle.jt_value.specs.Place.{Place}

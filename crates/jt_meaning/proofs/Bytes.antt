@@ -1,28 +1,25 @@
 -- The texts of what is resolved have no more bytes than those of the source.
 use Rattle.std.proofs.Common.{◌≡◌, ℕ, zero, suc, ◌+◌, ◌≤◌, Bool, true, false, if◌then◌else◌, List, [], ◌∷◌, ◌++◌, length, Option, Some, None, arith, refl, rules}
-use Rattle.std.specs.Option.{is_none}
 use Rattle.std.specs.List.{AllByRecursion}
 use Rattle.std.specs.Prelude.{pos}
 use Rattle.jt_value.specs.Tree as tree
 use Rattle.jt_ids.specs.declared.op_id.OpId.TheVariants as op
 use Rattle.jt_ids.specs.declared.test_id.TestId.{TestId}
-use Rattle.jt_trees.specs.Expressions as written
-use Rattle.jt_trees.specs.Expressions.{Expr, Literal, constant, name, group, list_of, map_of, attribute, item, call, filter, test, unary, binary, when, choice, Exprs, no_exprs, expr, Pairs, no_pairs, pair, weight, literal_weight, operator_weight, is_weight, enclosed, perhaps_enclosed, exprs_weight, pairs_weight, Text}
-use Rattle.jt_meaning.specs.Operators.{Form, operation, negation, conjunction, disjunction, form}
+use Rattle.jt_trees.specs.Expressions.{Expr, Literal, constant, name, group, list_of, map_of, attribute, item, call, filter, test, unary, binary, when, choice, Exprs, no_exprs, expr, Pairs, no_pairs, pair, Text}
+use Rattle.jt_meaning.specs.Operators.{Form, form}
 use Rattle.jt_value.specs.Place.{Place}
-use Rattle.jt_evaluation.specs.Tests.{test_named}
 use Rattle.jt_chains.specs.Uses.{count, keywords, set_in}
-use Rattle.jt_trees.specs.Statements.{Parameter, Filtering, Stmt, data_of, print, choose, for_each, set, set_block, with_values, filter_block, autoescape, macro, include, import_as, import_from, extends, block, Body, end, stmt, Branches, no_branches, branch}
+use Rattle.jt_trees.specs.Statements.{Parameter, Filtering, Stmt, choose, for_each, set_block, with_values, filter_block, autoescape, block, Body, end, stmt, Branches, no_branches, branch}
 use Rattle.jt_chains.specs.Chain.{Home, a_chain, given, Callee, a_macro, a_range, a_super, a_block, a_cycle, no_callee, callee, is_loop}
 use Rattle.jt_evaluation.specs.Loops.{Field, index0, field_named}
-use Rattle.jt_evaluation.specs.Filters.{default_value, some_given}
+use Rattle.jt_evaluation.specs.Filters.{default_value}
 use Rattle.jt_rules.specs.World.{World}
 use Rattle.jt_meaning.specs.Expressions.{filter_parameters}
 use Rattle.jt_meaning.specs.Layout.{Table, slot_in, names, numbered_of, globals, block_parameters, default_place, first_slot, unit, of_chain}
 use Rattle.jt_resolved.specs.Slots as slots
-use Rattle.jt_resolved.specs.Slots.{Slot, local, SlotExpr, SRow, Targets, one, several, SBody, variable, run}
+use Rattle.jt_resolved.specs.Slots.{Slot, SlotExpr, SRow, SBody, run}
 use Rattle.jt_resolved.specs.Pool.{Constant, own, known, expr_values, row_values, condition_values, stmt_values, body_values}
-use Rattle.jt_meaning.specs.Resolve.{value_or, turned_round, tested_by, filtered_by, in_form, field_from, followed, locals_from, fresh_targets, set_targets, filled, filled_some, first_locals, reads, handed_on, Part, Spot, place, grown, bound_all, copied, scoped, next_given, first_body, invoked_body, invoked_super, invoked, resolved, resolved_row, resolved_asides, resolved_entries, resolved_condition, resolved_filters, resolved_values, placed_body, resolved_stmt, resolved_body, resolved_choice, left_out}
+use Rattle.jt_meaning.specs.Resolve.{value_or, turned_round, tested_by, filtered_by, in_form, field_from, followed, locals_from, filled, filled_some, first_locals, reads, handed_on, Part, Spot, place, grown, bound_all, copied, scoped, first_body, invoked_body, invoked_super, invoked, resolved, resolved_row, resolved_asides, resolved_entries, resolved_condition, resolved_filters, resolved_values, placed_body, resolved_stmt, resolved_body, resolved_choice, left_out}
 use Rattle.jt_meaning.specs.Bytes.{value_bytes}
 use Rattle.jt_evaluation.specs.Values.{literal}
 use Rattle.jt_trees.specs.Sizes.{literal_bytes, expr_bytes, exprs_bytes, pairs_bytes, condition_bytes, filtering_bytes, stmt_bytes, body_bytes, branch_bytes}
@@ -98,13 +95,7 @@ Bare ps = AllByRecursion (λ p. value_bytes (default_value p.default) ≡ 0) ps
 some_count : (ps : List Parameter) (n : ℕ) (xs : List Text) (ks : Table) → Bare ps → row_count (filled_some ps n xs ks) ≡ 0
 some_count [] n xs ks k = refl
 some_count (p ∷ ps) (suc n) xs ks k = some_count ps n xs ks k.1
-some_count (p ∷ ps) zero xs ks k = through (some_given (p ∷ ps) xs) (some_count ps zero xs ks k.1)
-  where
-    through : (b : Bool) → row_count (filled_some ps zero xs ks) ≡ 0 → row_count (if b then slots.item (value_or (slot_in p.name ks) (own (default_value p.default))) (filled_some ps zero xs ks) else slots.none) ≡ 0
-    through true h =
-        let d = k.0 in
-        omega (arith, h, d, own_count (slot_in p.name ks) (default_value p.default), bytes_append (expr_values (value_or (slot_in p.name ks) (own (default_value p.default)))) (row_values (filled_some ps zero xs ks)))
-    through false h = refl
+some_count (p ∷ ps) zero xs ks k = search (arith, rules, some_count ps zero xs ks k.1, own_count, bytes_append)
 
 first_count : (n : ℕ) (xs : List Text) → row_count (first_locals n xs) ≡ 0
 first_count n [] = refl
@@ -141,10 +132,7 @@ module _ (world : World) (order : List Home) where
   body_counted h on (Some i) es k = omega (arith, k)
 
   super_counted : (sp : Spot) (p : Option Part) → expr_count (invoked_super world order sp p) ≤ 0
-  super_counted sp None = omega arith
-  super_counted sp (Some p) =
-      let xs = block_parameters world order sp.home p.name in
-      body_counted sp.home sp.escaping (next_given p.behind) (first_locals 0 xs) (first_count 0 xs)
+  super_counted sp a1 = search (arith, rules, body_counted, first_count)
 
   invoked_counted : (c : Callee) (sp : Spot) (row asides : SRow Constant → SRow Constant) (n : ℕ) (ks : Table) (w v : ℕ) → Front w row → Front v asides
       → expr_count (invoked world order c sp row asides n ks) ≤ w + v
@@ -186,36 +174,13 @@ module _ (world : World) (order : List Home) where
           invoked_counted (callee world.sources (given world.sources sp.home) f) sp (resolved_row world order ts sp) (resolved_asides world order ps sp) (count ts) (locals_from sp.free (keywords ps))
               (exprs_bytes ts) (pairs_bytes ps) (λ b. row_counted ts sp k b) (λ b. omega (arith, asides_counted ps sp k b)),
         )
-    counted (filter a x ts ps) sp k =
-        let f = world.filters.named x ts ps in
-        let rest = filled_some (filter_parameters world.filters f) (count ts) (keywords ps) (locals_from sp.free (keywords ps)) in
-        let row = resolved_row world order ts sp (resolved_asides world order ps sp rest) in
-        omega (
-          arith,
-          filtered_count f sp.escaping (slots.item (resolved world order a sp) row),
-          bytes_append (expr_values (resolved world order a sp)) (row_values row),
-          counted a sp k,
-          row_counted ts sp k (resolved_asides world order ps sp rest),
-          asides_counted ps sp k rest,
-          some_count (filter_parameters world.filters f) (count ts) (keywords ps) (locals_from sp.free (keywords ps)) (filter_bare f k),
-        )
-    counted (test a n x ts ps) sp k =
-        let row = resolved_row world order ts sp slots.none in
-        let es = slots.item (resolved world order a sp) row in
-        omega (arith, turned_count n (tested_by (test_named x) es), tested_count (test_named x) es, bytes_append (expr_values (resolved world order a sp)) (row_values row), counted a sp k, row_counted ts sp k slots.none)
+    counted (filter a x ts ps) sp k = search (arith, rules, filtered_count, bytes_append, counted a sp k, row_counted ts sp k, asides_counted ps sp k, some_count, filter_bare)
+    counted (test a n x ts ps) sp k = search (arith, rules, turned_count, tested_count, bytes_append, counted a sp k, row_counted ts sp k)
     counted (unary u a) sp k = omega (arith, counted a sp k, single_count (resolved world order a sp))
     counted (binary b x y) sp k = omega (arith, form_count (form sp.escaping b) (resolved world order x sp) (resolved world order y sp), counted x sp k, counted y sp k)
     counted (when c a) sp k =
         omega (arith, counted c sp k, counted a sp k, bytes_append (expr_values (resolved world order c sp)) (expr_values (resolved world order a sp) ++ []), bytes_append (expr_values (resolved world order a sp)) [])
-    counted (choice c a b) sp k =
-        omega (
-          arith,
-          counted c sp k,
-          counted a sp k,
-          counted b sp k,
-          bytes_append (expr_values (resolved world order c sp)) (expr_values (resolved world order a sp) ++ expr_values (resolved world order b sp)),
-          bytes_append (expr_values (resolved world order a sp)) (expr_values (resolved world order b sp)),
-        )
+    counted (choice c a b) sp k = search (arith, rules, counted c sp k, counted a sp k, counted b sp k, bytes_append)
 
     pub row_counted : (ts : Exprs) (sp : Spot) → Three → (b : SRow Constant) → row_count (resolved_row world order ts sp b) ≤ exprs_bytes ts + row_count b
     row_counted no_exprs sp k b = omega arith
@@ -237,29 +202,14 @@ module _ (world : World) (order : List Home) where
 
   filters_counted : (fs : List Filtering) (sp : Spot) (e : SlotExpr Constant) → Three → expr_count (resolved_filters world order fs sp e) ≤ expr_count e + filtering_bytes fs
   filters_counted [] sp e k = omega arith
-  filters_counted (f ∷ fs) sp e k =
-      let i = world.filters.named f.name f.arguments f.keywords in
-      let rest = filled_some (filter_parameters world.filters i) (count f.arguments) (keywords f.keywords) (locals_from sp.free (keywords f.keywords)) in
-      let row = resolved_row world order f.arguments sp (resolved_asides world order f.keywords sp rest) in
-      omega (
-        arith,
-        filters_counted fs sp (filtered_by i sp.escaping (slots.item e row)) k,
-        filtered_count i sp.escaping (slots.item e row),
-        bytes_append (expr_values e) (row_values row),
-        row_counted f.arguments sp k (resolved_asides world order f.keywords sp rest),
-        asides_counted f.keywords sp k rest,
-        some_count (filter_parameters world.filters i) (count f.arguments) (keywords f.keywords) (locals_from sp.free (keywords f.keywords)) (filter_bare i k),
-      )
+  filters_counted (f ∷ fs) sp e k = search (arith, rules, filters_counted fs sp, filtered_count, bytes_append, row_counted, asides_counted, some_count, filter_bare)
 
   values_counted : (ps : Pairs) (sp : Spot) (line : ℕ) (b : SBody Constant) → Three → body_count (resolved_values world order ps sp line b) ≤ pairs_bytes ps + body_count b
   values_counted no_pairs sp line b k = omega arith
   values_counted (pair x e ps) sp line b k = omega (arith, counted e sp k, values_counted ps (grown sp) line b k, bytes_append (expr_values (resolved world order e sp)) (body_values (resolved_values world order ps (grown sp) line b)))
 
   placed_counted : (sp : Spot) (i : Option ℕ) (x : Text) (t : Table) → body_count (placed_body world order sp i x t) ≡ 0
-  placed_counted sp None x t = refl
-  placed_counted sp (Some i) x t =
-      let xs = block_parameters world order sp.home x in
-      omega (arith, reads_count t xs, bytes_append (row_values (reads t xs)) [])
+  placed_counted sp a1 x t = search (arith, rules, reads_count, bytes_append)
 
   include_counted : (sp : Spot) (line : ℕ) (n : Text) (missing c : Bool) (b : Bool)
       → body_count (if b then left_out sp line missing else followed (handed_on (place sp line) (if c then sp.table else []) (first_slot world order (a_chain n)) (names world order (a_chain n))) (slots.stmt (run (unit world order (of_chain n)) slots.none) slots.end)) ≡ 0
@@ -270,46 +220,18 @@ module _ (world : World) (order : List Home) where
 
   mutual
     pub stmt_counted : (s : Stmt) (sp : Spot) → Three → body_count (resolved_stmt world order s sp) ≤ stmt_bytes s
-    stmt_counted (data_of t) sp k = omega arith
-    stmt_counted (print line e) sp k = omega (arith, counted e sp k, alone_count (slots.print (place sp line) sp.escaping (resolved world order e sp)))
     stmt_counted (choose bs other) sp k = omega (arith, choice_counted bs sp k (resolved_body world order other sp), all_counted other sp k)
-    stmt_counted (for_each line xs e c body other) sp k =
-        let inner = bound_all xs sp in
-        let b = scoped (set_in body) inner (resolved_body world order body) in
-        let d = resolved_body world order other sp in
-        let i = resolved_condition world order c inner in
-        let v = resolved world order e sp in
-        omega (
-          arith,
-          alone_count (slots.for_each (place sp line) (fresh_targets sp.free xs) v i b d),
-          bytes_append (expr_values v) (condition_values i ++ (body_values b ++ body_values d)),
-          bytes_append (condition_values i) (body_values b ++ body_values d),
-          bytes_append (body_values b) (body_values d),
-          counted e sp k,
-          condition_counted c inner k,
-          scope_counted body inner (all_counted body (bound_all (set_in body) inner) k),
-          all_counted other sp k,
-        )
-    stmt_counted (set line xs e) sp k = omega (arith, counted e sp k, alone_count (slots.assign (place sp line) (set_targets sp.table xs) (resolved world order e sp)))
+    stmt_counted (for_each line xs e c body other) sp k = search (arith, rules, alone_count, bytes_append, counted, condition_counted, scope_counted, all_counted body, all_counted other sp k)
     stmt_counted (set_block line x body) sp k =
         omega (arith, scope_counted body sp (all_counted body (bound_all (set_in body) sp) k), bytes_append (body_values (scoped (set_in body) sp (resolved_body world order body))) [])
-    stmt_counted (with_values line ps body) sp k =
-        let inner = bound_all (keywords ps) sp in
-        omega (arith, values_counted ps sp line (scoped (set_in body) inner (resolved_body world order body)) k, scope_counted body inner (all_counted body (bound_all (set_in body) inner) k))
-    stmt_counted (filter_block line fs body) sp k =
-        let b = scoped (set_in body) (grown sp) (resolved_body world order body) in
-        let v = resolved_filters world order fs (grown sp) (variable (local sp.free)) in
-        omega (arith, scope_counted body (grown sp) (all_counted body (bound_all (set_in body) (grown sp)) k), filters_counted fs (grown sp) (variable (local sp.free)) k, bytes_append (body_values b) (expr_values v ++ []), bytes_append (expr_values v) [])
+    stmt_counted (with_values line ps body) sp k = search (arith, rules, values_counted, scope_counted, all_counted body)
+    stmt_counted (filter_block line fs body) sp k = search (arith, rules, scope_counted, all_counted body (bound_all (set_in body) (grown sp)) k, filters_counted, bytes_append)
     stmt_counted (autoescape line on body) sp k =
         let inner = record sp { escaping = on } in
         omega (arith, scope_counted body inner (all_counted body (bound_all (set_in body) inner) k))
-    stmt_counted (macro line x ps body) sp k = omega arith
-    stmt_counted (include line n missing with_context) sp k = omega (arith, include_counted sp line n missing with_context (is_none (world.sources n)))
-    stmt_counted (import_as line n new) sp k = omega arith
-    stmt_counted (import_from line n news) sp k = omega arith
-    stmt_counted (extends line n) sp k = omega arith
     stmt_counted (block line x is required body) sp k =
         omega (arith, placed_counted sp (first_body (numbered_of world sp.home x)) x (if is then sp.table else globals world order sp.home))
+    stmt_counted a0 sp k = search (arith, rules, counted, alone_count, include_counted)
 
     pub all_counted : (b : Body) (sp : Spot) → Three → body_count (resolved_body world order b sp) ≤ body_bytes b
     all_counted end sp k = omega arith
@@ -317,8 +239,4 @@ module _ (world : World) (order : List Home) where
 
     choice_counted : (bs : Branches) (sp : Spot) → Three → (other : SBody Constant) → body_count (resolved_choice world order bs sp other) ≤ branch_bytes bs + body_count other
     choice_counted no_branches sp k other = omega arith
-    choice_counted (branch line c body rest) sp k other =
-        let v = resolved world order c sp in
-        let b = resolved_body world order body sp in
-        let d = resolved_choice world order rest sp other in
-        omega (arith, counted c sp k, all_counted body sp k, choice_counted rest sp k other, bytes_append (expr_values v) (body_values b ++ body_values d), bytes_append (body_values b) (body_values d), alone_count (slots.if_else (place sp line) v b d))
+    choice_counted (branch line c body rest) sp k other = search (arith, rules, counted, all_counted body sp k, choice_counted rest sp k other, bytes_append, alone_count)

@@ -1,5 +1,5 @@
 -- When a spot, an environment and a memory fit together; and what is asked of calls.
-use Rattle.std.proofs.Common.{◌≡◌, ℕ, suc, ◌+◌, ◌<◌, ◌≤◌, true, List, [], ◌∷◌, ◌++◌, length, map, Option, Some, None, sym, ◌∙◌, arith, ◌⊎◌}
+use Rattle.std.proofs.Common.{◌≡◌, ℕ, suc, ◌+◌, ◌<◌, ◌≤◌, true, List, [], ◌∷◌, ◌++◌, length, map, Option, Some, None, sym, ◌∙◌, arith, ◌⊎◌, rules}
 use Rattle.std.specs.Prelude.{IsTrue}
 use Rattle.std.specs.Option.{is_none}
 use Rattle.jt_value.specs.Tree.{Tree}
@@ -14,7 +14,7 @@ use Rattle.jt_evaluation.specs.Loops.{Loop, tree_at}
 use Rattle.jt_rules.specs.World.{World}
 use Rattle.jt_meaning.specs.Around.{Placement, Around, Called, the_macro, the_block, the_chain, Calls}
 use Rattle.jt_resolved.specs.Slots.{Memory, Valued, Listed, Written, SCalls}
-use Rattle.jt_meaning.specs.Layout.{Table, slot_in, Key, of_chain, of_macro, of_body, names, first_slot, globals, block_parameters, is_scoped, numbered_of, unit, default_place}
+use Rattle.jt_meaning.specs.Layout.{slot_in, of_chain, of_macro, of_body, names, first_slot, globals, block_parameters, numbered_of, unit, default_place}
 use Rattle.jt_meaning.specs.Programs.{pool}
 use Rattle.jt_meaning.specs.Resolve.{Spot, Part, grown}
 use Rattle.jt_meaning.proofs.Both.{Both}
@@ -64,11 +64,7 @@ module _ (world : World) (order : List Home) where
   globals_kept h gs u a x i = a x i ∙ sym (global_kept world order h u x)
 
   sees_kept : {h : Home} {x : Text} {env : Env} {vs : List Tree} {k : ℕ} {m n : Memory} → Kept k (limit world order h) m n → Sees h x env vs m.globals → Sees h x env vs n.globals
-  sees_kept {h = h} {env = env} u s = record {
-    arguments = s.arguments;
-    globals = globals_kept h env.globals u s.globals;
-    others = λ y i n. s.others y i n ∙ sym (global_kept world order h u y);
-  }
+  sees_kept {h = h} {env = env} u s = search (arith, rules, globals_kept, global_kept)
 
   pub part_kept : (h : Home) (p : Option Part) (q : Option Placement) (k : ℕ) (m n : Memory) → Kept k (limit world order h) m n → PartHolds h p q k m → PartHolds h p q k n
   part_kept h None None k m n u t = t
@@ -83,16 +79,7 @@ module _ (world : World) (order : List Home) where
   }
 
   pub part_more : (h : Home) (p : Option Part) (q : Option Placement) (k j : ℕ) (m : Memory) → k ≤ j → PartHolds h p q k m → PartHolds h p q j m
-  part_more h None None k j m l t = t
-  part_more h None (Some q) k j m l t = t
-  part_more h (Some p) None k j m l t = t
-  part_more h (Some p) (Some q) k j m l t = record {
-    behind = t.behind;
-    tail = t.tail;
-    room = let r = t.room in let e : length (map (read q.env) (block_parameters world order h p.name)) ≤ j = omega (arith, r, l) in e;
-    parameters = t.parameters;
-    sees = t.sees;
-  }
+  part_more h a1 a2 k j m l t = search (arith, rules)
 
   pub record Good (sp : Spot) (q : Option Placement) (env : Env) (m : Memory) : Type 0 where
     pub known : Known sp.home
@@ -101,12 +88,7 @@ module _ (world : World) (order : List Home) where
     pub part : PartHolds sp.home sp.part q sp.free m
 
   pub good_kept : {sp : Spot} {q : Option Placement} {env : Env} {m n : Memory} → Good sp q env m → Kept sp.free (limit world order sp.home) m n → Good sp q env n
-  good_kept {sp = sp} {q = q} {env = env} {m = m} {n = n} g u = record {
-    known = g.known;
-    fits = g.fits;
-    agrees = agrees_kept world order g.fits g.agrees u;
-    part = part_kept sp.home sp.part q sp.free m n u g.part;
-  }
+  good_kept {sp = sp} {q = q} {env = env} {m = m} {n = n} g u = search (arith, rules, agrees_kept, part_kept)
 
   -- one local more holds something
   pub good_grown : {sp : Spot} {q : Option Placement} {env : Env} {m : Memory} → Good sp q env m → Good (grown sp) q env m

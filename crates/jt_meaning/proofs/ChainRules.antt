@@ -95,9 +95,7 @@ module _ (sources : Sources) (escaping : Bool) (entry h : Home) (reached : Reach
       (not_so (length (way sources escaping h) == suc max_templates) (λ e. kept.too_long (inl (h, reached, both_true (length (way sources escaping h) == suc max_templates) (not (repeated (way sources escaping h))) e (ap not once)))))
 
   whole : is_whole sources escaping h ≡ true
-  whole =
-      both_true (not (repeated (way sources escaping h))) (nat_lt (length (way sources escaping h)) (suc max_templates) && not (list_any is_missing (way sources escaping h))) (ap not once)
-      (both_true (nat_lt (length (way sources escaping h)) (suc max_templates)) (not (list_any is_missing (way sources escaping h))) short (ap not on_way))
+  whole = search (arith, rules, both_true, once, short, on_way)
 
   abbrev lacks : BlockBody → Bool
   lacks b = lacks_super (bodies sources escaping h b.name)

@@ -6,21 +6,20 @@ use Rattle.jt_value.specs.Tree as tree
 use Rattle.jt_ids.specs.declared.op_id.OpId.TheVariants as op
 use Rattle.jt_ids.specs.declared.test_id.TestId.{TestId}
 use Rattle.jt_trees.specs.Expressions.{Expr, constant, name, group, list_of, map_of, attribute, item, call, filter, test, unary, binary, when, choice, Exprs, no_exprs, expr, Pairs, no_pairs, pair, weight, enclosed, exprs_weight, pairs_weight, Text}
-use Rattle.jt_meaning.specs.Operators.{Form, operation, negation, conjunction, disjunction, form}
+use Rattle.jt_meaning.specs.Operators.{Form, form}
 use Rattle.jt_value.specs.Place.{Place}
-use Rattle.jt_evaluation.specs.Tests.{test_named}
-use Rattle.jt_chains.specs.Uses.{count, keywords, set_in}
-use Rattle.jt_trees.specs.Statements.{Parameter, Filtering, Stmt, data_of, print, choose, for_each, set, set_block, with_values, filter_block, autoescape, macro, include, import_as, import_from, extends, block, Body, end, stmt, Branches, no_branches, branch, condition_weight, filtering_weight}
-use Rattle.jt_chains.specs.Chain.{Home, a_chain, given, Callee, a_macro, a_range, a_super, a_block, a_cycle, no_callee, callee, is_loop}
+use Rattle.jt_chains.specs.Uses.{keywords, set_in}
+use Rattle.jt_trees.specs.Statements.{Parameter, Filtering, Stmt, choose, for_each, set_block, with_values, filter_block, autoescape, macro, include, import_as, import_from, extends, block, Body, end, stmt, Branches, no_branches, branch, condition_weight, filtering_weight}
+use Rattle.jt_chains.specs.Chain.{Home, a_chain, Callee, a_macro, a_range, a_super, a_block, a_cycle, no_callee, is_loop}
 use Rattle.jt_evaluation.specs.Loops.{Field, index0, field_named}
 use Rattle.jt_evaluation.specs.Filters.{default_value, some_given}
 use Rattle.jt_rules.specs.World.{World}
 use Rattle.jt_meaning.specs.Expressions.{filter_parameters}
 use Rattle.jt_meaning.specs.Layout.{Table, slot_in, names, numbered_of, globals, block_parameters, default_place, first_slot, unit, of_chain}
 use Rattle.jt_resolved.specs.Slots as slots
-use Rattle.jt_resolved.specs.Slots.{Slot, local, SlotExpr, SRow, Targets, one, several, SBody, variable, run}
+use Rattle.jt_resolved.specs.Slots.{Slot, local, SlotExpr, SRow, SBody, variable, run}
 use Rattle.jt_resolved.specs.Pool.{Constant, own, known, expr_values, row_values, condition_values, stmt_values, body_values}
-use Rattle.jt_meaning.specs.Resolve.{value_or, turned_round, tested_by, filtered_by, in_form, field_from, followed, locals_from, fresh_targets, set_targets, filled, filled_some, first_locals, reads, handed_on, Part, Spot, place, grown, bound_all, copied, scoped, next_given, first_body, invoked_body, invoked_super, invoked, resolved, resolved_row, resolved_asides, resolved_entries, resolved_condition, resolved_filters, resolved_values, placed_body, resolved_stmt, resolved_body, resolved_choice, left_out}
+use Rattle.jt_meaning.specs.Resolve.{value_or, turned_round, tested_by, filtered_by, in_form, field_from, followed, fresh_targets, filled, filled_some, first_locals, reads, handed_on, Part, Spot, place, grown, bound_all, copied, scoped, first_body, invoked_body, invoked_super, invoked, resolved, resolved_row, resolved_asides, resolved_entries, resolved_condition, resolved_filters, resolved_values, placed_body, resolved_stmt, resolved_body, resolved_choice, left_out}
 use Rattle.jt_meaning.specs.Measure.{stmt_own, body_own, branch_own}
 use Rattle.jt_meaning.proofs.Sizing.{expr_some, is_some_weight}
 
@@ -68,10 +67,7 @@ filtered_count None b es = omega arith
 filtered_count (Some f) b es = omega arith
 
 form_count : (f : Form) (a b : SlotExpr Constant) → expr_count (in_form f a b) ≤ expr_count a + expr_count b
-form_count (operation o) a b = omega (arith, pair_count a b)
-form_count (negation o) a b = omega (arith, pair_count a b, single_count (slots.made (slots.operator o) (slots.item a (slots.item b slots.none))))
-form_count conjunction a b = omega (arith, length-append (expr_values a) (expr_values b))
-form_count disjunction a b = omega (arith, length-append (expr_values a) (expr_values b))
+form_count a0 a b = search (arith, rules, pair_count, single_count, length-append)
 
 filled_count : (ps : List Parameter) (n d : ℕ) (ks : Table) → row_count (filled ps n d ks) ≡ 0
 filled_count [] n d ks = refl
@@ -86,12 +82,7 @@ none_given (p ∷ ps) = none_given ps
 some_count : (ps : List Parameter) (n : ℕ) (xs : List Text) (ks : Table) → row_count (filled_some ps n xs ks) ≤ length ps
 some_count [] n xs ks = omega arith
 some_count (p ∷ ps) (suc n) xs ks = omega (arith, some_count ps n xs ks)
-some_count (p ∷ ps) zero xs ks = through (some_given (p ∷ ps) xs) (some_count ps zero xs ks)
-  where
-    through : (b : Bool) → row_count (filled_some ps zero xs ks) ≤ length ps → row_count (if b then slots.item (value_or (slot_in p.name ks) (own (default_value p.default))) (filled_some ps zero xs ks) else slots.none) ≤ suc (length ps)
-    through true h =
-        omega (arith, h, own_count (slot_in p.name ks) (default_value p.default), length-append (expr_values (value_or (slot_in p.name ks) (own (default_value p.default)))) (row_values (filled_some ps zero xs ks)))
-    through false h = omega arith
+some_count (p ∷ ps) zero xs ks = search (arith, rules, some_count ps zero xs ks, own_count, length-append)
 
 none_count : (ps : List Parameter) (n : ℕ) (ks : Table) → row_count (filled_some ps n [] ks) ≡ 0
 none_count [] n ks = refl
@@ -138,10 +129,7 @@ module _ (world : World) (order : List Home) where
   body_counted h on (Some i) es k = omega (arith, k)
 
   super_counted : (sp : Spot) (p : Option Part) → expr_count (invoked_super world order sp p) ≤ 1
-  super_counted sp None = omega arith
-  super_counted sp (Some p) =
-      let xs = block_parameters world order sp.home p.name in
-      body_counted sp.home sp.escaping (next_given p.behind) (first_locals 0 xs) (first_count 0 xs)
+  super_counted sp a1 = search (arith, rules, body_counted, first_count)
 
   invoked_counted : (c : Callee) (sp : Spot) (row asides : SRow Constant → SRow Constant) (n : ℕ) (ks : Table) (w v : ℕ) → Front w row → Front v asides
       → expr_count (invoked world order c sp row asides n ks) ≤ enclosed (w + v)
@@ -177,42 +165,14 @@ module _ (world : World) (order : List Home) where
         either_count (is_loop a) (field_from (field_named x)) (slots.made (slots.operator op.Item) (slots.item (resolved world order a sp) (slots.item (slots.pooled (own (tree.text x))) slots.none)))
         (2 + weight a) (omega (arith, field_count (field_named x))) (omega (arith, counted a sp k, pair_count (resolved world order a sp) (slots.pooled (own (tree.text x)))))
     counted (item a b) sp k = omega (arith, counted a sp k, counted b sp k, pair_count (resolved world order a sp) (resolved world order b sp))
-    counted (call f ts ps) sp k =
-        omega (
-          arith,
-          invoked_counted (callee world.sources (given world.sources sp.home) f) sp (resolved_row world order ts sp) (resolved_asides world order ps sp) (count ts) (locals_from sp.free (keywords ps))
-              (exprs_weight ts) (pairs_weight 2 ps) (λ b. row_counted ts sp k b) (λ b. omega (arith, asides_counted ps sp k b)),
-        )
-    counted (filter a x ts ps) sp k =
-        let f = world.filters.named x ts ps in
-        let rest = filled_some (filter_parameters world.filters f) (count ts) (keywords ps) (locals_from sp.free (keywords ps)) in
-        let row = resolved_row world order ts sp (resolved_asides world order ps sp rest) in
-        omega (
-          arith,
-          filtered_count f sp.escaping (slots.item (resolved world order a sp) row),
-          length-append (expr_values (resolved world order a sp)) (row_values row),
-          counted a sp k,
-          row_counted ts sp k (resolved_asides world order ps sp rest),
-          asides_counted ps sp k rest,
-          few_count (filter_parameters world.filters f) (count ts) (keywords ps) (locals_from sp.free (keywords ps)) (filter_few f k),
-        )
-    counted (test a n x ts ps) sp k =
-        let row = resolved_row world order ts sp slots.none in
-        let es = slots.item (resolved world order a sp) row in
-        omega (arith, turned_count n (tested_by (test_named x) es), tested_count (test_named x) es, length-append (expr_values (resolved world order a sp)) (row_values row), counted a sp k, row_counted ts sp k slots.none, is_some_weight n)
+    counted (call f ts ps) sp k = search (arith, rules, invoked_counted, row_counted ts sp k, asides_counted ps sp k)
+    counted (filter a x ts ps) sp k = search (arith, rules, filtered_count, length-append, counted a sp k, row_counted ts sp k, asides_counted ps sp k, few_count, filter_few)
+    counted (test a n x ts ps) sp k = search (arith, rules, turned_count, tested_count, length-append, counted a sp k, row_counted ts sp k, is_some_weight)
     counted (unary u a) sp k = omega (arith, counted a sp k, single_count (resolved world order a sp))
     counted (binary b x y) sp k = omega (arith, form_count (form sp.escaping b) (resolved world order x sp) (resolved world order y sp), counted x sp k, counted y sp k)
     counted (when c a) sp k =
         omega (arith, counted c sp k, counted a sp k, length-append (expr_values (resolved world order c sp)) (expr_values (resolved world order a sp) ++ []), length-append (expr_values (resolved world order a sp)) [])
-    counted (choice c a b) sp k =
-        omega (
-          arith,
-          counted c sp k,
-          counted a sp k,
-          counted b sp k,
-          length-append (expr_values (resolved world order c sp)) (expr_values (resolved world order a sp) ++ expr_values (resolved world order b sp)),
-          length-append (expr_values (resolved world order a sp)) (expr_values (resolved world order b sp)),
-        )
+    counted (choice c a b) sp k = search (arith, rules, counted c sp k, counted a sp k, counted b sp k, length-append)
 
     pub row_counted : (ts : Exprs) (sp : Spot) → Three → (b : SRow Constant) → row_count (resolved_row world order ts sp b) ≤ exprs_weight ts + row_count b
     row_counted no_exprs sp k b = omega arith
@@ -234,29 +194,14 @@ module _ (world : World) (order : List Home) where
 
   filters_counted : (fs : List Filtering) (sp : Spot) (e : SlotExpr Constant) → Three → expr_count (resolved_filters world order fs sp e) ≤ expr_count e + filtering_weight fs
   filters_counted [] sp e k = omega arith
-  filters_counted (f ∷ fs) sp e k =
-      let i = world.filters.named f.name f.arguments f.keywords in
-      let rest = filled_some (filter_parameters world.filters i) (count f.arguments) (keywords f.keywords) (locals_from sp.free (keywords f.keywords)) in
-      let row = resolved_row world order f.arguments sp (resolved_asides world order f.keywords sp rest) in
-      omega (
-        arith,
-        filters_counted fs sp (filtered_by i sp.escaping (slots.item e row)) k,
-        filtered_count i sp.escaping (slots.item e row),
-        length-append (expr_values e) (row_values row),
-        row_counted f.arguments sp k (resolved_asides world order f.keywords sp rest),
-        asides_counted f.keywords sp k rest,
-        few_count (filter_parameters world.filters i) (count f.arguments) (keywords f.keywords) (locals_from sp.free (keywords f.keywords)) (filter_few i k),
-      )
+  filters_counted (f ∷ fs) sp e k = search (arith, rules, filters_counted fs sp, filtered_count, length-append, row_counted, asides_counted, few_count, filter_few)
 
   values_counted : (ps : Pairs) (sp : Spot) (line : ℕ) (b : SBody Constant) → Three → body_count (resolved_values world order ps sp line b) ≤ pairs_weight 2 ps + body_count b
   values_counted no_pairs sp line b k = omega arith
   values_counted (pair x e ps) sp line b k = omega (arith, counted e sp k, values_counted ps (grown sp) line b k, length-append (expr_values (resolved world order e sp)) (body_values (resolved_values world order ps (grown sp) line b)))
 
   placed_counted : (sp : Spot) (i : Option ℕ) (x : Text) (t : Table) → body_count (placed_body world order sp i x t) ≡ 0
-  placed_counted sp None x t = refl
-  placed_counted sp (Some i) x t =
-      let xs = block_parameters world order sp.home x in
-      omega (arith, reads_count t xs, length-append (row_values (reads t xs)) [])
+  placed_counted sp a1 x t = search (arith, rules, reads_count, length-append)
 
   include_counted : (sp : Spot) (line : ℕ) (n : Text) (missing c : Bool) (b : Bool)
       → body_count (if b then left_out sp line missing else followed (handed_on (place sp line) (if c then sp.table else []) (first_slot world order (a_chain n)) (names world order (a_chain n))) (slots.stmt (run (unit world order (of_chain n)) slots.none) slots.end)) ≡ 0
@@ -267,8 +212,6 @@ module _ (world : World) (order : List Home) where
 
   mutual
     pub stmt_counted : (s : Stmt) (sp : Spot) → Three → body_count (resolved_stmt world order s sp) ≤ stmt_own s
-    stmt_counted (data_of t) sp k = omega arith
-    stmt_counted (print line e) sp k = omega (arith, counted e sp k, alone_count (slots.print (place sp line) sp.escaping (resolved world order e sp)))
     stmt_counted (choose bs other) sp k = omega (arith, choice_counted bs sp k (resolved_body world order other sp), all_counted other sp k)
     stmt_counted (for_each line xs e c body other) sp k =
         let inner = bound_all xs sp in
@@ -287,7 +230,6 @@ module _ (world : World) (order : List Home) where
           scope_counted body inner (all_counted body (bound_all (set_in body) inner) k),
           all_counted other sp k,
         )
-    stmt_counted (set line xs e) sp k = omega (arith, counted e sp k, alone_count (slots.assign (place sp line) (set_targets sp.table xs) (resolved world order e sp)))
     stmt_counted (set_block line x body) sp k =
         omega (arith, scope_counted body sp (all_counted body (bound_all (set_in body) sp) k), length-append (body_values (scoped (set_in body) sp (resolved_body world order body))) [])
     stmt_counted (with_values line ps body) sp k =
@@ -307,6 +249,7 @@ module _ (world : World) (order : List Home) where
     stmt_counted (extends line n) sp k = omega arith
     stmt_counted (block line x is required body) sp k =
         omega (arith, placed_counted sp (first_body (numbered_of world sp.home x)) x (if is then sp.table else globals world order sp.home))
+    stmt_counted a0 sp k = search (arith, rules, counted, alone_count, include_counted)
 
     pub all_counted : (b : Body) (sp : Spot) → Three → body_count (resolved_body world order b sp) ≤ body_own b
     all_counted end sp k = omega arith
@@ -314,8 +257,4 @@ module _ (world : World) (order : List Home) where
 
     choice_counted : (bs : Branches) (sp : Spot) → Three → (other : SBody Constant) → body_count (resolved_choice world order bs sp other) ≤ branch_own bs + body_count other
     choice_counted no_branches sp k other = omega arith
-    choice_counted (branch line c body rest) sp k other =
-        let v = resolved world order c sp in
-        let b = resolved_body world order body sp in
-        let d = resolved_choice world order rest sp other in
-        omega (arith, counted c sp k, all_counted body sp k, choice_counted rest sp k other, length-append (expr_values v) (body_values b ++ body_values d), length-append (body_values b) (body_values d), alone_count (slots.if_else (place sp line) v b d))
+    choice_counted (branch line c body rest) sp k other = search (arith, rules, counted, all_counted body sp k, choice_counted rest sp k other, length-append, alone_count)

@@ -4,8 +4,8 @@ use Rattle.std.specs.Prelude.{not, ◌||◌, flat_map, Contains, slice_index_or}
 use Rattle.std.specs.List.{AllByRecursion}
 use Rattle.std.specs.Option.{option_or}
 use Rattle.std.specs.declared.cmp.Ordering.{Ordering}
-use Rattle.std.specs.declared.cmp.Ordering.TheVariants.{Less, Equal, Greater}
-use Rattle.std.specs.Ordering.{nat_cmp, is_lt, is_eq, ordering_reverse}
+use Rattle.std.specs.declared.cmp.Ordering.TheVariants.{Less}
+use Rattle.std.specs.Ordering.{nat_cmp, is_lt}
 use Rattle.std.specs.Cmp.Lexicographic.{slice_cmp}
 use Rattle.std.specs.Str.{bytes_eq}
 use Rattle.std.proofs.lemmas.Cmp.{nat_list_cmp_total}
@@ -13,20 +13,19 @@ use Rattle.std.proofs.lemmas.Map.Text.{is_eq-slice_cmp}
 use Rattle.jt_trees.specs.Texts.{among, repeated, inserted, all_inserted, ascending}
 use Rattle.jt_trees.specs.Expressions.{Text}
 use Rattle.jt_trees.specs.Statements.{Parameter, data_of, print, choose, for_each, set, set_block, with_values, filter_block, autoescape, macro, include, import_as, import_from, extends, block, Body, end, stmt}
-use Rattle.jt_chains.specs.Chain.{Home, a_chain, a_library, same_home, listed, Template, templates, MacroBody, macros_in, macros}
-use Rattle.jt_chains.specs.Includes.{included, InOrder}
+use Rattle.jt_chains.specs.Chain.{Home, a_library, same_home, listed, Template, templates, MacroBody, macros_in, macros}
+use Rattle.jt_chains.specs.Includes.{InOrder}
 use Rattle.jt_chains.specs.Weights.{NamesFew}
-use Rattle.jt_chains.specs.Uses.{stmt_names, body_names, own_names, scope_names_in, scope_names}
+use Rattle.jt_chains.specs.Uses.{stmt_names, body_names, own_names, scope_names}
 use Rattle.jt_chains.specs.View.{Seen, sources_of}
 use Rattle.jt_evaluation.specs.TheFilters.{the_filters, filter_of, parameters_of, with_defaults, defaults}
 use Rattle.jt_ids.specs.declared.filter_id.FilterId.{FilterId}
 use Rattle.jt_ids.specs.FilterTable.{argument_names}
 use Rattle.jt_rules.specs.World.{World, world_of}
-use Rattle.jt_rules.specs.Walk.{Within, parameter_names, body_broken, stmt_broken, macro_broken, read_alone, all_used, unless, templates_broken, chains_broken}
+use Rattle.jt_rules.specs.Walk.{Within, parameter_names, body_broken, stmt_broken, macro_broken, unless, templates_broken, chains_broken}
 use Rattle.jt_rules.specs.declared.error.ScopeError.{ScopeError}
-use Rattle.jt_rules.specs.declared.error.ScopeError.TheVariants as error
 use Rattle.jt_meaning.specs.Ascends.{IsBefore, Above, Ascends}
-use Rattle.jt_meaning.specs.Layout.{in_globals, names_in, names}
+use Rattle.jt_meaning.specs.Layout.{names_in, names}
 use Rattle.jt_meaning.proofs.Givens.{given_all}
 use Rattle.jt_meaning.proofs.Ordering.{libraries_stand}
 use Rattle.jt_meaning.specs.Measure.{HasFewNames, IsFew, AreFew}
@@ -38,33 +37,14 @@ use Rattle.jt_meaning.proofs.Free.{all_append}
 -- ---- names in order ascend strictly
 
 behind : (x y : Text) → bytes_eq y x ≡ false → is_lt (slice_cmp nat_cmp x y) ≡ false → IsBefore y x
-behind x y e l = through (slice_cmp nat_cmp x y) l (nat_list_cmp_total.antisymm y x)
-  where
-    through : (o : Ordering) → is_lt o ≡ false → slice_cmp nat_cmp y x ≡ ordering_reverse o → IsBefore y x
-    through Less l r = absurd cc
-    through Equal l r = absurd (never (sym (ap is_eq r) ∙ is_eq-slice_cmp y x ∙ e))
-      where
-        never : true ≡ false → ⊥
-        never q = cc
-    through Greater l r = ap is_lt r
+behind x y e l = search (arith, rules, nat_list_cmp_total, is_eq-slice_cmp y x)
 
 inserted_above : (x z : Text) (ns : List Text) → IsBefore z x → Above z ns → Above z (inserted x ns)
 inserted_above x z [] l h = (l, tt)
-inserted_above x z (y ∷ ys) l h = through (bytes_eq y x) (is_lt (slice_cmp nat_cmp x y)) refl refl (λ g. inserted_above x y ys g h.1)
-  where
-    through : (b c : Bool) → bytes_eq y x ≡ b → is_lt (slice_cmp nat_cmp x y) ≡ c → (IsBefore y x → Above y (inserted x ys)) → Above z (if b then y ∷ ys else if c then x ∷ y ∷ ys else y ∷ inserted x ys)
-    through true c e f g = h
-    through false true e f g = (l, (f, h.1))
-    through false false e f g = (h.0, g (behind x y e f))
+inserted_above x z (y ∷ ys) l h = search (arith, rules, inserted_above x y ys, behind)
 
 inserted_ascends : (x : Text) (ns : List Text) → Ascends ns → Ascends (inserted x ns)
-inserted_ascends x [] h = tt
-inserted_ascends x (y ∷ ys) h = through (bytes_eq y x) (is_lt (slice_cmp nat_cmp x y)) refl refl
-  where
-    through : (b c : Bool) → bytes_eq y x ≡ b → is_lt (slice_cmp nat_cmp x y) ≡ c → Ascends (if b then y ∷ ys else if c then x ∷ y ∷ ys else y ∷ inserted x ys)
-    through true c e f = h
-    through false true e f = (f, h)
-    through false false e f = inserted_above x y ys (behind x y e f) h
+inserted_ascends x a1 h = search (arith, rules, inserted_above, behind)
 
 all_ascend : (xs ns : List Text) → Ascends ns → Ascends (all_inserted xs ns)
 all_ascend [] ns h = h
@@ -75,35 +55,22 @@ ascending_ascends xs = all_ascend xs [] tt
 
 pub names_ascend : (world : World) (hs : List Home) (h : Home) → Ascends (names_in world hs h)
 names_ascend world [] h = tt
-names_ascend world (k ∷ ks) h = through (same_home k h) (names_ascend world ks h)
-  where
-    kept : (g : Home) (xs : List Text) → Ascends xs → Ascends (in_globals g xs)
-    kept (a_chain n) xs a = a
-    kept (a_library n) xs a = tt
-
-    through : (b : Bool) → Ascends (names_in world ks h) → Ascends (if b then in_globals h (ascending (own_names world.sources h ++ flat_map (names_in world ks) (included world.sources h))) else names_in world ks h)
-    through true e = kept h _ (ascending_ascends (own_names world.sources h ++ flat_map (names_in world ks) (included world.sources h)))
-    through false e = e
+names_ascend world (k ∷ ks) h = search (arith, rules, names_ascend world ks h, ascending_ascends)
 
 -- ---- texts that differ, all among others, are no more than those
 
-abbrev Differs : List Text → Type 0
+abbrev pub Differs : List Text → Type 0
 Differs [] = Unit {0}
 Differs (x ∷ xs) = (Among x xs → ⊥) × Differs xs
 
-less_is : (o : Ordering) → is_lt o ≡ true → o ≡ Less
+pub less_is : (o : Ordering) → is_lt o ≡ true → o ≡ Less
 less_is o e = search (arith, rules)
 
-before_trans : (x y z : Text) → IsBefore x y → IsBefore y z → IsBefore x z
+pub before_trans : (x y z : Text) → IsBefore x y → IsBefore y z → IsBefore x z
 before_trans x y z a b = ap is_lt (nat_list_cmp_total.trans x y z (less_is (slice_cmp nat_cmp x y) a) (less_is (slice_cmp nat_cmp y z) b))
 
 never_before : (x : Text) → IsBefore x x → ⊥
-never_before x a = through (slice_cmp nat_cmp x x) (less_is (slice_cmp nat_cmp x x) a) (nat_list_cmp_total.antisymm x x)
-  where
-    through : (o : Ordering) → o ≡ Less → o ≡ ordering_reverse o → ⊥
-    through Less e r = cc
-    through Equal e r = cc
-    through Greater e r = cc
+never_before x a = search (arith, rules, less_is, nat_list_cmp_total)
 
 above_all : (z : Text) (ns : List Text) → Above z ns → (x : Text) → Among x ns → IsBefore z x
 above_all z [] h x i = absurd i
@@ -114,7 +81,7 @@ above_differs : (z : Text) (ns : List Text) → Above z ns → (Among z ns → �
 above_differs z [] h = (λ i. i, tt)
 above_differs z (y ∷ ys) h = (λ i. never_before z (above_all z (y ∷ ys) h z i), above_differs y ys h.1)
 
-ascends_differs : (ns : List Text) → Ascends ns → Differs ns
+pub ascends_differs : (ns : List Text) → Ascends ns → Differs ns
 ascends_differs [] h = tt
 ascends_differs (y ∷ ys) h = above_differs y ys h
 
@@ -143,7 +110,7 @@ removed_keeps x z (y ∷ ys) d i = through (bytes_eq y x) refl i (removed_keeps 
     through false e (inl p) r = inl p
     through false e (inr k) r = inr (r k)
 
-no_more : (xs ns : List Text) → Differs xs → AllAmong xs ns → length xs ≤ length ns
+pub no_more : (xs ns : List Text) → Differs xs → AllAmong xs ns → length xs ≤ length ns
 no_more [] ns d a = omega arith
 no_more (x ∷ xs) ns d a =
     let r = no_more xs (removed x ns) d.1 (all_among xs (removed x ns) (λ z i. removed_keeps x z ns (λ e. d.0 (subst (λ w. Among w xs) (sym e) i)) (each_among xs ns a.1 z i))) in
@@ -176,62 +143,30 @@ flat_from g (m ∷ ms) ns h = both_among (g m) (flat_map g ms) ns (h m) (flat_fr
 
 pub names_from : (world : World) (ns : List Text) (hs : List Home) → AllByRecursion (λ h. AllAmong (own_names world.sources h) ns) hs → (h : Home) → AllAmong (names_in world hs h) ns
 names_from world ns [] a h = tt
-names_from world ns (k ∷ ks) a h = through (same_home k h) refl (λ m. names_from world ns ks a.1 m)
-  where
-    kept : (g : Home) (xs : List Text) → AllAmong xs ns → AllAmong (in_globals g xs) ns
-    kept (a_chain n) xs b = b
-    kept (a_library n) xs b = tt
-
-    through : (b : Bool) → same_home k h ≡ b → ((m : Home) → AllAmong (names_in world ks m) ns)
-        → AllAmong (if b then in_globals h (ascending (own_names world.sources h ++ flat_map (names_in world ks) (included world.sources h))) else names_in world ks h) ns
-    through true e r =
-        kept h _ (ascending_among (own_names world.sources h ++ flat_map (names_in world ks) (included world.sources h)) ns
-        (both_among (own_names world.sources h) (flat_map (names_in world ks) (included world.sources h)) ns (subst (λ z. AllAmong (own_names world.sources z) ns) (home_same k h e) a.0)
-        (flat_from (names_in world ks) (included world.sources h) ns r)))
-    through false e r = r h
+names_from world ns (k ∷ ks) a h = search (arith, rules, names_from world ns ks a.1, ascending_among, both_among, home_same, flat_from)
 
 -- ---- macros have parameters that differ
 
 none_first : (a b : Option ScopeError) → option_or a b ≡ None → a ≡ None
-none_first None b e = refl
-none_first (Some x) b e = absurd (some_none e)
-  where
-    some_none : Some x ≡ None → ⊥
-    some_none q = cc
+none_first a0 b e = search (arith, rules)
 
 none_second : (a b : Option ScopeError) → option_or a b ≡ None → b ≡ None
-none_second None b e = e
-none_second (Some x) b e = absurd (some_none e)
-  where
-    some_none : Some x ≡ None → ⊥
-    some_none q = cc
+none_second a0 b e = search (arith, rules)
 
 unless_none : (b : Bool) → unless (not b) ≡ None → b ≡ false
-unless_none true e = absurd (some_none e)
-  where
-    some_none : Some error.BadArguments ≡ None → ⊥
-    some_none q = cc
-unless_none false e = refl
+unless_none a0 e = search (arith, rules)
 
 repeated_differs : (xs : List Text) → repeated xs ≡ false → Differs xs
 repeated_differs [] e = tt
 repeated_differs (x ∷ xs) e = let p = or_false (among x xs) e in (λ i. no_both (is_among xs i) p.0, repeated_differs xs p.1)
   where
     or_false : (b : Bool) {c : Bool} → (b || c) ≡ false → (b ≡ false) × (c ≡ false)
-    or_false true e = absurd (never e)
-      where
-        never : true ≡ false → ⊥
-        never q = cc
-    or_false false e = (refl, e)
+    or_false a0 e = search (arith, rules)
 
     is_among : (ys : List Text) → Among x ys → among x ys ≡ true
     is_among [] i = absurd i
     is_among (y ∷ ys) (inl p) = ap (λ b. b || among x ys) (is_same y x p)
-    is_among (y ∷ ys) (inr i) = later (bytes_eq y x) (is_among ys i)
-      where
-        later : (b : Bool) → among x ys ≡ true → (b || among x ys) ≡ true
-        later true r = refl
-        later false r = r
+    is_among (y ∷ ys) (inr i) = search (arith, rules, is_among ys i)
 
 module _ (world : World) (h : Home) where
   abbrev at_top : Within
@@ -241,15 +176,11 @@ module _ (world : World) (h : Home) where
   OneEach m = repeated (parameter_names m.parameters) ≡ false
 
   macro_named : (x : Text) (ps : List Parameter) → macro_broken world h x ps ≡ None → repeated (parameter_names ps) ≡ false
-  macro_named x ps e =
-      unless_none (repeated (parameter_names ps))
-      (none_first (unless (not (repeated (parameter_names ps)))) _ (none_second (all_used world h (parameter_names ps)) _ (none_second (read_alone x) _ e)))
+  macro_named x ps e = search (arith, rules, unless_none, none_first, none_second)
 
   macros_named : (t : Text) (c : Body) → body_broken world h c at_top ≡ None → AllByRecursion OneEach (macros_in t c)
   macros_named t end e = tt
-  macros_named t (stmt (macro line x ps body) rest) e =
-      let s = none_first (stmt_broken world h (macro line x ps body) at_top) (body_broken world h rest at_top) e in
-      (macro_named x ps (none_first (macro_broken world h x ps) (body_broken world h body at_top) s), macros_named t rest (none_second (stmt_broken world h (macro line x ps body) at_top) (body_broken world h rest at_top) e))
+  macros_named t (stmt (macro line x ps body) rest) e = search (arith, rules, none_first, macro_named, macros_named t rest, none_second)
   macros_named t (stmt (data_of d) rest) e = macros_named t rest (none_second (stmt_broken world h (data_of d) at_top) (body_broken world h rest at_top) e)
   macros_named t (stmt (print line x) rest) e = macros_named t rest (none_second (stmt_broken world h (print line x) at_top) (body_broken world h rest at_top) e)
   macros_named t (stmt (choose bs other) rest) e = macros_named t rest (none_second (stmt_broken world h (choose bs other) at_top) (body_broken world h rest at_top) e)
@@ -278,9 +209,7 @@ module _ (world : World) (h : Home) where
 
     body_few : (t : Text) (c : Body) → AllAmong (body_names c) ns → AllByRecursion OneEach (macros_in t c) → AllByRecursion Few (macros_in t c)
     body_few t end a o = tt
-    body_few t (stmt (macro line x ps body) rest) a o =
-        let b = among_front (map (λ p. p.name) ps ++ body_names body) (body_names rest) ns a in
-        (named_few (record { name = x; template = t; parameters = ps; body = body }) o.0 (among_front (map (λ p. p.name) ps) (body_names body) ns b), body_few t rest (among_back (map (λ p. p.name) ps ++ body_names body) (body_names rest) ns a) o.1)
+    body_few t (stmt (macro line x ps body) rest) a o = search (arith, rules, among_front, named_few, body_few t rest, among_back)
     body_few t (stmt (data_of d) rest) a o = body_few t rest a o
     body_few t (stmt (print line x) rest) a o = body_few t rest (among_back (stmt_names (print line x)) (body_names rest) ns a) o
     body_few t (stmt (choose bs other) rest) a o = body_few t rest (among_back (stmt_names (choose bs other)) (body_names rest) ns a) o
@@ -298,11 +227,7 @@ module _ (world : World) (h : Home) where
 
     macros_few : (ts : List Template) → AllAmong (flat_map (λ t. body_names t.body) ts) ns → templates_broken world h ts ≡ None → AllByRecursion Few (flat_map (λ t. macros_in t.name t.body) ts)
     macros_few [] a e = tt
-    macros_few (t ∷ ts) a e =
-        let here = none_first (option_or (body_broken world h t.body at_top) _) (templates_broken world h ts) e in
-        all_append Few (macros_in t.name t.body) (flat_map (λ u. macros_in u.name u.body) ts)
-        (body_few t.name t.body (among_front (body_names t.body) (flat_map (λ u. body_names u.body) ts) ns a) (macros_named t.name t.body (none_first (body_broken world h t.body at_top) _ here)))
-        (macros_few ts (among_back (body_names t.body) (flat_map (λ u. body_names u.body) ts) ns a) (none_second (option_or (body_broken world h t.body at_top) _) (templates_broken world h ts) e))
+    macros_few (t ∷ ts) a e = search (arith, rules, none_first, all_append, body_few, among_front, macros_named, macros_few ts, among_back, none_second)
 
 -- ---- filters
 
@@ -328,14 +253,7 @@ filters_few n = through (filter_of n)
 homes_few : (c : Seen) (ns : List Text) → length ns ≤ 200 → (hs : List Home) → AllByRecursion (λ h. AllAmong (own_names (sources_of c) h) ns) hs → chains_broken (world_of c) hs ≡ None
     → (h : Home) → listed h hs ≡ true → AllByRecursion (λ m. length m.parameters ≤ 200) (macros (sources_of c) h)
 homes_few c ns l [] a e h i = absurd (no_both i refl)
-homes_few c ns l (k ∷ ks) a e h i = through (same_home k h) refl i (λ j. homes_few c ns l ks a.1 (none_second (templates_broken (world_of c) k (templates (sources_of c) k)) (chains_broken (world_of c) ks) e) h j)
-  where
-    here : AllByRecursion (λ m. length m.parameters ≤ 200) (macros (sources_of c) k)
-    here = macros_few (world_of c) k ns l (templates (sources_of c) k) a.0 (none_first (templates_broken (world_of c) k (templates (sources_of c) k)) (chains_broken (world_of c) ks) e)
-
-    through : (b : Bool) → same_home k h ≡ b → (b || listed h ks) ≡ true → (listed h ks ≡ true → AllByRecursion (λ m. length m.parameters ≤ 200) (macros (sources_of c) h)) → AllByRecursion (λ m. length m.parameters ≤ 200) (macros (sources_of c) h)
-    through true p q f = subst (λ z. AllByRecursion (λ m. length m.parameters ≤ 200) (macros (sources_of c) z)) (home_same k h p) here
-    through false p q f = f q
+homes_few c ns l (k ∷ ks) a e h i = search (arith, rules, homes_few c ns l ks a.1 (none_second (templates_broken (world_of c) k (templates (sources_of c) k)) (chains_broken (world_of c) ks) e) h, none_second, macros_few, none_first, home_same)
 
 chains_few : (c : Seen) → InOrder (sources_of c) c.order → ((h : Home) → listed h c.order ≡ true → AllByRecursion (λ m. length m.parameters ≤ 200) (macros (sources_of c) h)) → ((k : Home) → HasFewNames (world_of c) c.order k)
     → (hs : List Home) → ((h : Home) → listed h hs ≡ true → listed h c.order ≡ true) → AllByRecursion (IsFew (world_of c) c.order) hs
@@ -369,17 +287,7 @@ few_by c o n e =
 
     own_of : (k : Home) (hs : List Home) → listed k hs ≡ true → AllByRecursion (λ h. AllAmong (own_names (sources_of c) h) n.names) hs → AllAmong (own_names (sources_of c) k) n.names
     own_of k [] e a = absurd (no_both e refl)
-    own_of k (h ∷ hs) e a = through (same_home h k) refl e (λ f. own_of k hs f a.1)
-      where
-        through : (b : Bool) → same_home h k ≡ b → (b || listed k hs) ≡ true → (listed k hs ≡ true → AllAmong (own_names (sources_of c) k) n.names) → AllAmong (own_names (sources_of c) k) n.names
-        through true p e f = subst (λ z. AllAmong (own_names (sources_of c) z) n.names) (home_same h k p) a.0
-        through false p e f = f e
+    own_of k (h ∷ hs) e a = search (arith, rules, own_of k hs, home_same)
 
     scopes_few : (k : Home) (b : Bool) → listed k c.order ≡ b → length (if b then scope_names (sources_of c) k else []) ≤ 200
-    scopes_few k true p =
-        let bs = flat_map (λ t. scope_names_in t.body) (templates (sources_of c) k) in
-        let a = ascending_among bs n.names (templates_bind (templates (sources_of c) k) n.names (own_of k c.order p (all_own c.order n.all))) in
-        let l = no_more (ascending bs) n.names (ascends_differs (ascending bs) (ascending_ascends bs)) a in
-        let f = n.few in
-        omega (arith, l, f)
-    scopes_few k false p = omega arith
+    scopes_few k a1 p = search (arith, rules, ascending_among, templates_bind, own_of, all_own, no_more, ascends_differs, ascending_ascends)

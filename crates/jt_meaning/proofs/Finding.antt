@@ -1,5 +1,5 @@
 -- The routine that a key finds.
-use Rattle.std.proofs.Common.{◌≡◌, ℕ, suc, ◌≤◌, Bool, true, false, if◌then◌else◌, List, [], ◌∷◌, ◌++◌, map, Option, Some, None, refl, sym, ap, ◌∙◌, subst, arith}
+use Rattle.std.proofs.Common.{◌≡◌, ℕ, suc, ◌≤◌, Bool, true, false, if◌then◌else◌, List, [], ◌∷◌, ◌++◌, map, Option, Some, None, refl, sym, ap, ◌∙◌, subst, arith, rules}
 use Rattle.std.proofs.lemmas.List.{map-append}
 use Rattle.std.specs.Prelude.{◌&&◌, ◌||◌, ◌==◌, flat_map, filter, slice_get}
 use Rattle.std.specs.Str.{bytes_eq}
@@ -20,12 +20,7 @@ assoc k (p ∷ ps) = if same_key p.0 k then Some p.1 else assoc k ps
 
 place_finds : {A : Type 0} (k : Key) (ps : List (Key × A)) → slice_get (map (λ p. p.1) ps) (place_of k (map (λ p. p.0) ps)) ≡ assoc k ps
 place_finds k [] = refl
-place_finds k (p ∷ ps) = through (same_key p.0 k) (place_finds k ps)
-  where
-    through : (b : Bool) → slice_get (map (λ q. q.1) ps) (place_of k (map (λ q. q.0) ps)) ≡ assoc k ps
-        → slice_get (p.1 ∷ map (λ q. q.1) ps) (if b then 0 else suc (place_of k (map (λ q. q.0) ps))) ≡ (if b then Some p.1 else assoc k ps)
-    through true e = refl
-    through false e = e
+place_finds k (p ∷ ps) = search (arith, rules, place_finds k ps)
 
 -- a list of keys without this one is passed over
 abbrev Passes : {A : Type 0} → Key → List (Key × A) → Type 0
@@ -41,15 +36,8 @@ passes_append k [] qs m n = n
 passes_append k (p ∷ ps) qs m n = (m.0, passes_append k ps qs m.1 n)
 
 found_front : {A : Type 0} (k : Key) (ps qs : List (Key × A)) (a : A) → assoc k ps ≡ Some a → assoc k (ps ++ qs) ≡ Some a
-found_front k [] qs a e = absurd (nothing e)
-  where
-    nothing : None ≡ Some a → ⊥
-    nothing q = cc
-found_front k (p ∷ ps) qs a e = through (same_key p.0 k) e (λ f. found_front k ps qs a f)
-  where
-    through : (b : Bool) → (if b then Some p.1 else assoc k ps) ≡ Some a → (assoc k ps ≡ Some a → assoc k (ps ++ qs) ≡ Some a) → (if b then Some p.1 else assoc k (ps ++ qs)) ≡ Some a
-    through true e f = e
-    through false e f = f e
+found_front k [] qs a e = search (arith, rules)
+found_front k (p ∷ ps) qs a e = search (arith, rules, found_front k ps qs a)
 
 module _ (world : World) (order : List Home) where
   abbrev bodies_keyed : Home → List (ℕ × BlockBody) → List (Key × Routine Constant)
@@ -91,20 +79,10 @@ module _ (world : World) (order : List Home) where
   entry_routines_are (a_library n) = refl
 
   chain_keys_are : (h : Home) → map (λ p. p.0) (keyed h) ≡ chain_keys world h
-  chain_keys_are h =
-      map-append (λ p. p.0) (entry_keyed h) (macros_keyed h (macros world.sources h) ++ bodies_keyed h (numbered_bodies world h))
-      ∙ ap (λ ks. ks ++ map (λ p. p.0) (macros_keyed h (macros world.sources h) ++ bodies_keyed h (numbered_bodies world h))) (entry_keys_are h)
-      ∙ ap (λ ks. entry_keys world h ++ ks) (map-append (λ p. p.0) (macros_keyed h (macros world.sources h)) (bodies_keyed h (numbered_bodies world h))
-      ∙ ap (λ ks. ks ++ map (λ p. p.0) (bodies_keyed h (numbered_bodies world h))) (macro_keys h (macros world.sources h))
-      ∙ ap (λ ks. map (λ m. of_macro h m.name) (macros world.sources h) ++ ks) (body_keys h (numbered_bodies world h)))
+  chain_keys_are h = search (arith, rules, map-append, entry_keys_are, macro_keys, body_keys)
 
   chain_routines_are : (h : Home) → map (λ p. p.1) (keyed h) ≡ chain_routines world order h
-  chain_routines_are h =
-      map-append (λ p. p.1) (entry_keyed h) (macros_keyed h (macros world.sources h) ++ bodies_keyed h (numbered_bodies world h))
-      ∙ ap (λ rs. rs ++ map (λ p. p.1) (macros_keyed h (macros world.sources h) ++ bodies_keyed h (numbered_bodies world h))) (entry_routines_are h)
-      ∙ ap (λ rs. entry_routines world order h ++ rs) (map-append (λ p. p.1) (macros_keyed h (macros world.sources h)) (bodies_keyed h (numbered_bodies world h))
-      ∙ ap (λ rs. rs ++ map (λ p. p.1) (bodies_keyed h (numbered_bodies world h))) (macro_routines_are h (macros world.sources h))
-      ∙ ap (λ rs. map (macro_routine world order h) (macros world.sources h) ++ rs) (body_routines_are h (numbered_bodies world h)))
+  chain_routines_are h = search (arith, rules, map-append, entry_routines_are, macro_routines_are, body_routines_are)
 
   all_keys_are : (hs : List Home) → map (λ p. p.0) (flat_map keyed hs) ≡ flat_map (chain_keys world) hs
   all_keys_are [] = refl
@@ -155,12 +133,7 @@ module _ (world : World) (order : List Home) where
 
   chain_found : (n : Text) (hs : List Home) → listed (a_chain n) hs ≡ true → assoc (of_chain n) (flat_map keyed hs) ≡ Some (chain_routine world order n)
   chain_found n [] e = absurd (no_both e refl)
-  chain_found n (a_library m ∷ gs) e = rest (a_library m) gs ∙ chain_found n gs e
-    where
-      rest : (g : Home) (hs : List Home) → assoc (of_chain n) ((macros_keyed g (macros world.sources g) ++ bodies_keyed g (numbered_bodies world g)) ++ flat_map keyed hs) ≡ assoc (of_chain n) (flat_map keyed hs)
-      rest g hs =
-          passed (of_chain n) (macros_keyed g (macros world.sources g) ++ bodies_keyed g (numbered_bodies world g)) (flat_map keyed hs)
-          (passes_append (of_chain n) (macros_keyed g (macros world.sources g)) (bodies_keyed g (numbered_bodies world g)) (macros_no_chain g n (macros world.sources g)) (bodies_no_chain g n (numbered_bodies world g)))
+  chain_found n (a_library m ∷ gs) e = search (arith, rules, chain_found n gs e, passed, passes_append, macros_no_chain, bodies_no_chain)
   chain_found n (a_chain m ∷ gs) e = through (bytes_eq m n) refl e (λ f. chain_found n gs f)
     where
       g : Home
@@ -177,10 +150,7 @@ module _ (world : World) (order : List Home) where
       through false p e f = rest ∙ f e
 
   macro_found_in : (h : Home) (x : Text) (b : MacroBody) (ms : List MacroBody) → macro_of x ms ≡ Some b → assoc (of_macro h x) (macros_keyed h ms) ≡ Some (macro_routine world order h b)
-  macro_found_in h x b [] e = absurd (nothing e)
-    where
-      nothing : None ≡ Some b → ⊥
-      nothing q = cc
+  macro_found_in h x b [] e = search (arith, rules)
   macro_found_in h x b (m ∷ ms) e = ap (λ c. if c && bytes_eq m.name x then Some (macro_routine world order h m) else assoc (of_macro h x) (macros_keyed h ms)) (home_is h) ∙ through (bytes_eq m.name x) e (λ f. macro_found_in h x b ms f)
     where
       is_it : Some m ≡ Some b → m ≡ b
@@ -216,14 +186,8 @@ module _ (world : World) (order : List Home) where
 
   -- the places go up
   place_reached : (n : ℕ) (xs : List BlockBody) (pre post : List (ℕ × BlockBody)) (i : ℕ) (c : BlockBody) → counted_from n xs ≡ pre ++ ((i, c) ∷ post) → n ≤ i
-  place_reached n [] [] post i c e = absurd (nothing e)
-    where
-      nothing : [] ≡ (i, c) ∷ post → ⊥
-      nothing q = cc
-  place_reached n [] (p ∷ pre) post i c e = absurd (nothing e)
-    where
-      nothing : [] ≡ p ∷ (pre ++ ((i, c) ∷ post)) → ⊥
-      nothing q = cc
+  place_reached n [] [] post i c e = search (arith, rules)
+  place_reached n [] (p ∷ pre) post i c e = search (arith, rules)
   place_reached n (x ∷ xs) [] post i c e = let f : n ≡ i = ap (λ p. p.0) (head_of e) in omega (arith, f)
   place_reached n (x ∷ xs) (p ∷ pre) post i c e = let f = place_reached (suc n) xs pre post i c (tail_of e) in omega (arith, f)
 
@@ -231,33 +195,14 @@ module _ (world : World) (order : List Home) where
   same_number n = (Decides-eqb n n).1 refl
 
   differ : (n i : ℕ) → suc n ≤ i → (n == i) ≡ false
-  differ n i l = through (n == i) refl
-    where
-      through : (b : Bool) → (n == i) ≡ b → b ≡ false
-      through true e = absurd (let f : n ≡ i = (Decides-eqb n i).0 e in omega (arith, l, f))
-      through false e = refl
+  differ n i l = search (arith, rules)
 
   body_found_in : (h : Home) (n : ℕ) (xs : List BlockBody) (pre post : List (ℕ × BlockBody)) (i : ℕ) (c : BlockBody) → counted_from n xs ≡ pre ++ ((i, c) ∷ post)
       → assoc (of_body h i) (bodies_keyed h (counted_from n xs)) ≡ Some (body_routine world order h c (filter (λ d. bytes_eq d.1.name c.name) post))
-  body_found_in h n [] [] post i c e = absurd (nothing e)
-    where
-      nothing : [] ≡ (i, c) ∷ post → ⊥
-      nothing q = cc
-  body_found_in h n [] (p ∷ pre) post i c e = absurd (nothing e)
-    where
-      nothing : [] ≡ p ∷ (pre ++ ((i, c) ∷ post)) → ⊥
-      nothing q = cc
-  body_found_in h n (x ∷ xs) [] post i c e =
-      let head : (n, x) ≡ (i, c) = head_of e in
-      let number : n ≡ i = ap (λ p. p.0) head in
-      ap (λ b. if b && (n == i) then Some (body_routine world order h x (filter (λ d. bytes_eq d.1.name x.name) (counted_from (suc n) xs))) else assoc (of_body h i) (bodies_keyed h (counted_from (suc n) xs))) (home_is h)
-      ∙ ap (λ b. if b then Some (body_routine world order h x (filter (λ d. bytes_eq d.1.name x.name) (counted_from (suc n) xs))) else assoc (of_body h i) (bodies_keyed h (counted_from (suc n) xs))) (ap (λ j. n == j) (sym number) ∙ same_number n)
-      ∙ ap (λ z. Some (body_routine world order h z (filter (λ d. bytes_eq d.1.name z.name) (counted_from (suc n) xs)))) (ap (λ p. p.1) head)
-      ∙ ap (λ ps. Some (body_routine world order h c (filter (λ d. bytes_eq d.1.name c.name) ps))) (tail_of e)
-  body_found_in h n (x ∷ xs) (p ∷ pre) post i c e =
-      ap (λ b. if b && (n == i) then Some (body_routine world order h x (filter (λ d. bytes_eq d.1.name x.name) (counted_from (suc n) xs))) else assoc (of_body h i) (bodies_keyed h (counted_from (suc n) xs))) (home_is h)
-      ∙ ap (λ b. if b then Some (body_routine world order h x (filter (λ d. bytes_eq d.1.name x.name) (counted_from (suc n) xs))) else assoc (of_body h i) (bodies_keyed h (counted_from (suc n) xs))) (differ n i (place_reached (suc n) xs pre post i c (tail_of e)))
-      ∙ body_found_in h (suc n) xs pre post i c (tail_of e)
+  body_found_in h n [] [] post i c e = search (arith, rules)
+  body_found_in h n [] (p ∷ pre) post i c e = search (arith, rules)
+  body_found_in h n (x ∷ xs) [] post i c e = search (arith, rules, head_of, home_is, same_number, tail_of)
+  body_found_in h n (x ∷ xs) (p ∷ pre) post i c e = search (arith, rules, home_is, differ, place_reached, tail_of, body_found_in h (suc n) xs pre post i c (tail_of e))
 
   body_found : (h : Home) (pre post : List (ℕ × BlockBody)) (i : ℕ) (c : BlockBody) (hs : List Home) → listed h hs ≡ true → numbered_bodies world h ≡ pre ++ ((i, c) ∷ post)
       → assoc (of_body h i) (flat_map keyed hs) ≡ Some (body_routine world order h c (filter (λ d. bytes_eq d.1.name c.name) post))
@@ -271,23 +216,13 @@ module _ (world : World) (order : List Home) where
           (found_front (of_body h i) (entry_keyed h ++ (macros_keyed h (macros world.sources h) ++ bodies_keyed h (numbered_bodies world h))) (flat_map keyed gs) (body_routine world order h c (filter (λ d. bytes_eq d.1.name c.name) post))
           (passed (of_body h i) (entry_keyed h) (macros_keyed h (macros world.sources h) ++ bodies_keyed h (numbered_bodies world h)) (entry_no_body h h i)
           ∙ passed (of_body h i) (macros_keyed h (macros world.sources h)) (bodies_keyed h (numbered_bodies world h)) (macros_no_body h h i (macros world.sources h)) ∙ body_found_in h 0 (all_bodies world.sources world.escaping h) pre post i c m))
-      through false p e f =
-          passed (of_body h i) (entry_keyed g ++ (macros_keyed g (macros world.sources g) ++ bodies_keyed g (numbered_bodies world g))) (flat_map keyed gs)
-          (passes_append (of_body h i) (entry_keyed g) (macros_keyed g (macros world.sources g) ++ bodies_keyed g (numbered_bodies world g)) (entry_no_body g h i)
-          (passes_append (of_body h i) (macros_keyed g (macros world.sources g)) (bodies_keyed g (numbered_bodies world g)) (macros_no_body g h i (macros world.sources g)) (bodies_pass g h i (numbered_bodies world g) p)))
-          ∙ f e
+      through false p e f = search (arith, rules, passed, passes_append, entry_no_body, macros_no_body, bodies_pass)
 
   -- a body among those of a block, and what is behind it
   split_by : (p : (ℕ × BlockBody) → Bool) (bs before behind : List (ℕ × BlockBody)) (c : ℕ × BlockBody) → filter p bs ≡ before ++ (c ∷ behind)
       → (pre post : List (ℕ × BlockBody)) × (bs ≡ pre ++ (c ∷ post)) × (filter p post ≡ behind) × (p c ≡ true)
-  split_by p [] [] behind c e = absurd (nothing e)
-    where
-      nothing : [] ≡ c ∷ behind → ⊥
-      nothing q = cc
-  split_by p [] (b ∷ before) behind c e = absurd (nothing e)
-    where
-      nothing : [] ≡ b ∷ (before ++ (c ∷ behind)) → ⊥
-      nothing q = cc
+  split_by p [] [] behind c e = search (arith, rules)
+  split_by p [] (b ∷ before) behind c e = search (arith, rules)
   split_by p (x ∷ xs) before behind c e = through (p x) refl e (λ before' f. split_by p xs before' behind c f)
     where
       more : (pre post : List (ℕ × BlockBody)) × (xs ≡ pre ++ (c ∷ post)) × (filter p post ≡ behind) × (p c ≡ true)
@@ -312,23 +247,11 @@ module _ (world : World) (order : List Home) where
   chain_is n e = unit_finds (of_chain n) (chain_routine world order n) (chain_found n order e)
 
   pub macro_named : (x : Text) (b : MacroBody) (ms : List MacroBody) → macro_of x ms ≡ Some b → b.name ≡ x
-  macro_named x b [] e = absurd (nothing e)
-    where
-      nothing : None ≡ Some b → ⊥
-      nothing q = cc
-  macro_named x b (m ∷ ms) e = through (bytes_eq m.name x) refl e (λ f. macro_named x b ms f)
-    where
-      is_it : Some m ≡ Some b → m ≡ b
-      is_it q = cc
-
-      through : (c : Bool) → bytes_eq m.name x ≡ c → (if c then Some m else macro_of x ms) ≡ Some b → (macro_of x ms ≡ Some b → b.name ≡ x) → b.name ≡ x
-      through true p e f = ap (λ z. z.name) (sym (is_it e)) ∙ same_text m.name x p
-      through false p e f = f e
+  macro_named x b [] e = search (arith, rules)
+  macro_named x b (m ∷ ms) e = search (arith, rules, macro_named x b ms, same_text)
 
   pub macro_is : (h : Home) (x : Text) (b : MacroBody) → listed h order ≡ true → macro_of x (macros world.sources h) ≡ Some b → slice_get (routines world order) (unit world order (of_macro h b.name)) ≡ Some (macro_routine world order h b)
-  macro_is h x b e m =
-      let n = macro_named x b (macros world.sources h) m in
-      unit_finds (of_macro h b.name) (macro_routine world order h b) (macro_found h b.name b order e (ap (λ z. macro_of z (macros world.sources h)) n ∙ m))
+  macro_is h x b e m = search (arith, rules, macro_named x b, unit_finds (of_macro h b.name), macro_found h b.name b)
 
   pub body_is : (h : Home) (x : Text) (i : ℕ) (c : BlockBody) (before behind : List (ℕ × BlockBody)) → listed h order ≡ true → numbered_of world h x ≡ before ++ ((i, c) ∷ behind)
       → (slice_get (routines world order) (unit world order (of_body h i)) ≡ Some (body_routine world order h c behind)) × (c.name ≡ x)

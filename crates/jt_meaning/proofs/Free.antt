@@ -1,12 +1,9 @@
 -- What each body weighs without the names that are bound in it, each with the token behind it: these pay for the parameters that a call loads, and
 -- for the values that several targets take.
-use Rattle.std.proofs.Common.{◌≡◌, ℕ, suc, ◌+◌, ◌*◌, ◌≤◌, Bool, true, false, if◌then◌else◌, List, [], ◌∷◌, ◌++◌, length, arith, refl, length-append}
+use Rattle.std.proofs.Common.{◌≡◌, ℕ, suc, ◌+◌, ◌*◌, ◌≤◌, Bool, List, [], ◌∷◌, ◌++◌, length, arith, refl, length-append, rules}
 use Rattle.std.proofs.lemmas.List.{length-map}
 use Rattle.std.specs.Prelude.{flat_map, map}
 use Rattle.std.specs.List.{AllByRecursion}
-use Rattle.std.specs.Ordering.{nat_cmp, is_lt}
-use Rattle.std.specs.Cmp.Lexicographic.{slice_cmp}
-use Rattle.std.specs.Str.{bytes_eq}
 use Rattle.jt_trees.specs.Expressions.{Pairs, no_pairs, pair, weight, pairs_weight, Text}
 use Rattle.jt_trees.specs.Texts.{inserted, all_inserted, ascending}
 use Rattle.jt_trees.specs.Statements.{Parameter, parameters_weight, condition_weight, filtering_weight, Stmt, data_of, print, choose, for_each, set, set_block, with_values, filter_block, autoescape, macro, include, import_as, import_from, extends, block, stmt_weight, stmt_bound, Body, end, stmt, body_weight, body_bound, Branches, no_branches, branch, branch_weight, branch_bound, pairs_count}
@@ -52,21 +49,15 @@ parameters_bound (p ∷ ps) = omega (arith, parameters_bound ps)
 
 mutual
   stmt_paid : (s : Stmt) → stmt_free s + 2 * stmt_bound s ≤ stmt_weight s
-  stmt_paid (data_of t) = omega arith
-  stmt_paid (print line e) = omega arith
   stmt_paid (choose bs other) = omega (arith, branch_paid bs, body_paid other)
   stmt_paid (for_each line xs e c body other) = omega (arith, body_paid body, body_paid other)
-  stmt_paid (set line xs e) = omega arith
   stmt_paid (set_block line x body) = omega (arith, body_paid body)
   stmt_paid (with_values line ps body) = omega (arith, pairs_bound ps, body_paid body)
   stmt_paid (filter_block line fs body) = omega (arith, body_paid body)
   stmt_paid (autoescape line on body) = omega (arith, body_paid body)
   stmt_paid (macro line x ps body) = omega (arith, parameters_bound ps, body_paid body)
-  stmt_paid (include line n ignore_missing with_context) = omega arith
-  stmt_paid (import_as line n new) = omega arith
-  stmt_paid (import_from line n news) = omega arith
-  stmt_paid (extends line n) = omega arith
   stmt_paid (block line x scoped required body) = omega (arith, body_paid body)
+  stmt_paid a0 = omega arith
 
   pub body_paid : (b : Body) → body_free b + 2 * body_bound b ≤ body_weight b
   body_paid end = omega arith
@@ -119,9 +110,7 @@ both_macros w n v m z k p q e l bs cs b c =
 module _ (t : Text) where
   mutual
     stmt_blocks : (s : Stmt) (on : Bool) → AllPaid (stmt_weight s) (stmt_bound s) (blocks_of t s on)
-    stmt_blocks (block line x scoped required body) on =
-        let p = body_paid body in
-        (record { free = omega (arith, p); bound = omega arith }, all_more (body_weight body) (body_bound body) (11 + body_weight body) (body_bound body) (omega arith) (omega arith) (blocks_in t body on) (body_blocks body on))
+    stmt_blocks (block line x scoped required body) on = search (arith, rules, body_paid, all_more, body_blocks body on)
     stmt_blocks (choose bs other) on =
         both_paid (branch_weight bs) (branch_bound bs) (body_weight other) (body_bound other) (5 + branch_weight bs + body_weight other) (branch_bound bs + body_bound other) (omega (arith, branch_paid bs)) (omega (arith, body_paid other)) (omega arith) (omega arith)
         (blocks_under t bs on) (blocks_in t other on) (branch_blocks bs on) (body_blocks other on)
@@ -129,14 +118,10 @@ module _ (t : Text) where
         both_paid (body_weight body) (body_bound body) (body_weight other) (body_bound other) (10 + 2 * length xs + weight e + condition_weight c + body_weight body + body_weight other) (length xs + body_bound body + body_bound other)
         (omega (arith, body_paid body)) (omega (arith, body_paid other)) (omega arith) (omega arith) (blocks_in t body on) (blocks_in t other on) (body_blocks body on) (body_blocks other on)
     stmt_blocks (set_block line x body) on = all_more (body_weight body) (body_bound body) (11 + body_weight body) (1 + body_bound body) (omega arith) (omega arith) (blocks_in t body on) (body_blocks body on)
-    stmt_blocks (with_values line ps body) on =
-        let e = pairs_bound ps in
-        all_more (body_weight body) (body_bound body) (9 + pairs_weight 2 ps + body_weight body) (pairs_count ps + body_bound body) (omega arith) (omega (arith, e)) (blocks_in t body on) (body_blocks body on)
+    stmt_blocks (with_values line ps body) on = search (arith, rules, pairs_bound, all_more, body_blocks body on)
     stmt_blocks (filter_block line fs body) on = all_more (body_weight body) (body_bound body) (9 + filtering_weight fs + body_weight body) (body_bound body) (omega arith) (omega arith) (blocks_in t body on) (body_blocks body on)
     stmt_blocks (autoescape line now body) on = all_more (body_weight body) (body_bound body) (11 + body_weight body) (body_bound body) (omega arith) (omega arith) (blocks_in t body now) (body_blocks body now)
-    stmt_blocks (macro line x ps body) on =
-        let e = parameters_bound ps in
-        all_more (body_weight body) (body_bound body) (12 + parameters_weight ps + body_weight body) (length ps + body_bound body) (omega arith) (omega (arith, e)) (blocks_in t body on) (body_blocks body on)
+    stmt_blocks (macro line x ps body) on = search (arith, rules, parameters_bound, all_more, body_blocks body on)
     stmt_blocks (data_of d) on = tt
     stmt_blocks (print line e) on = tt
     stmt_blocks (set line xs e) on = tt
@@ -162,13 +147,7 @@ module _ (t : Text) where
 
   pub top_macros : (b : Body) → MacrosPaid (body_weight b) (body_bound b) (macros_in t b)
   top_macros end = tt
-  top_macros (stmt (macro line x ps body) rest) =
-      let p = body_paid body in
-      let e = parameters_bound ps in
-      let r = body_paid rest in (
-        record { body = record { free = omega (arith, p, e, r); bound = omega arith }; parameters = omega arith },
-        behind (macro line x ps body) rest (top_macros rest),
-      )
+  top_macros (stmt (macro line x ps body) rest) = search (arith, rules, body_paid body, parameters_bound ps, body_paid rest, behind (macro line x ps body) rest, top_macros rest)
   top_macros (stmt (data_of d) rest) = behind (data_of d) rest (top_macros rest)
   top_macros (stmt (print line e) rest) = behind (print line e) rest (top_macros rest)
   top_macros (stmt (choose bs other) rest) = behind (choose bs other) rest (top_macros rest)
@@ -224,13 +203,7 @@ mutual
   stmt_scopes (block line x scoped required body) = omega (arith, body_scopes body, length-append (set_in body) (scope_names_in body))
   stmt_scopes (macro line x ps body) =
       omega (arith, body_scopes body, length-map ps (λ (p : Parameter). p.name), length-append (map (λ (p : Parameter). p.name) ps) (set_in body ++ scope_names_in body), length-append (set_in body) (scope_names_in body))
-  stmt_scopes (set line xs e) = omega arith
-  stmt_scopes (data_of d) = omega arith
-  stmt_scopes (print line e) = omega arith
-  stmt_scopes (include line n i w) = omega arith
-  stmt_scopes (import_as line n new) = omega arith
-  stmt_scopes (import_from line n news) = omega arith
-  stmt_scopes (extends line n) = omega arith
+  stmt_scopes a0 = omega arith
 
   body_scopes : (b : Body) → length (set_in b) + length (scope_names_in b) ≤ body_bound b
   body_scopes end = omega arith
@@ -246,12 +219,7 @@ templates_scopes (t ∷ ts) = omega (arith, body_scopes t.body, templates_scopes
 
 inserted_len : (x : Text) (ns : List Text) → length (inserted x ns) ≤ suc (length ns)
 inserted_len x [] = omega arith
-inserted_len x (y ∷ ys) = through (bytes_eq y x) (is_lt (slice_cmp nat_cmp x y)) (inserted_len x ys)
-  where
-    through : (b c : Bool) → length (inserted x ys) ≤ suc (length ys) → length (if b then y ∷ ys else if c then x ∷ y ∷ ys else y ∷ inserted x ys) ≤ suc (length (y ∷ ys))
-    through true c h = omega arith
-    through false true h = omega arith
-    through false false h = omega (arith, h)
+inserted_len x (y ∷ ys) = search (arith, rules, inserted_len x ys)
 
 all_len : (xs ns : List Text) → length (all_inserted xs ns) ≤ length xs + length ns
 all_len [] ns = omega arith

@@ -1,12 +1,12 @@
 -- What the names of a chain are given to: its own macros, and those of the libraries that it imports.
-use Rattle.std.proofs.Common.{◌≡◌, Bool, true, false, if◌then◌else◌, List, [], ◌∷◌, ◌++◌, Option, Some, None, refl, sym, ap, ◌∙◌, subst, ◌⊎◌, inl, inr, arith, rules}
-use Rattle.std.specs.Prelude.{flat_map, filter, codes}
+use Rattle.std.proofs.Common.{◌≡◌, Bool, true, if◌then◌else◌, List, [], ◌∷◌, ◌++◌, Option, Some, None, refl, ap, ◌∙◌, ◌⊎◌, inl, inr, arith, rules}
+use Rattle.std.specs.Prelude.{flat_map, codes}
 use Rattle.std.specs.Option.{is_some}
 use Rattle.std.specs.List.{AllByRecursion}
 use Rattle.std.specs.Str.{bytes_eq}
 use Rattle.jt_trees.specs.Expressions.{Expr, name, attribute, Text}
 use Rattle.jt_trees.specs.Statements.{import_as, import_from, Body, end, stmt}
-use Rattle.jt_chains.specs.Chain.{Sources, Home, a_chain, a_library, Template, library_template, templates, MacroBody, macros_in, macros, macro_of, is_private, public_macro, Given, one_macro, library, own, given_from, all_given_from, imports_in, imports, given, given_to, libraries_in, libraries, a_macro, a_range, a_super, a_block, a_cycle, no_callee, named_alone, of_library, in_library, callee}
+use Rattle.jt_chains.specs.Chain.{Sources, Home, a_chain, a_library, Template, templates, MacroBody, macros, macro_of, public_macro, Given, one_macro, library, own, given_from, all_given_from, imports_in, imports, given, given_to, libraries_in, libraries, a_macro, a_block, a_cycle, no_callee, of_library, in_library, callee}
 use Rattle.jt_chains.specs.Includes.{with_source}
 use Rattle.jt_meaning.proofs.Reading.{no_both}
 use Rattle.jt_meaning.proofs.Among.{Among}
@@ -21,52 +21,21 @@ among_right x [] ys i = i
 among_right x (z ∷ zs) ys i = inr (among_right x zs ys i)
 
 public_found : (x : Text) (ms : List MacroBody) (m : MacroBody) → public_macro x ms ≡ Some m → macro_of x ms ≡ Some m
-public_found x ms m e = through (is_private x) e
-  where
-    nothing : None ≡ Some m → macro_of x ms ≡ Some m
-    nothing q = absurd (cc)
-
-    through : (b : Bool) → (if b then None else macro_of x ms) ≡ Some m → macro_of x ms ≡ Some m
-    through true q = nothing q
-    through false q = q
+public_found x ms m e = search (arith, rules)
 
 given_split : (x : Text) (fs gs : List (Text × Given)) (g : Given) → given_to x (fs ++ gs) ≡ Some g → (given_to x fs ≡ Some g) ⊎ (given_to x gs ≡ Some g)
 given_split x [] gs g e = inr e
-given_split x (f ∷ fs) gs g e = through (bytes_eq f.0 x) e (λ q. given_split x fs gs g q)
-  where
-    through : (b : Bool) → (if b then Some f.1 else given_to x (fs ++ gs)) ≡ Some g → (given_to x (fs ++ gs) ≡ Some g → (given_to x fs ≡ Some g) ⊎ (given_to x gs ≡ Some g))
-        → ((if b then Some f.1 else given_to x fs) ≡ Some g) ⊎ (given_to x gs ≡ Some g)
-    through true q r = inl q
-    through false q r = r q
+given_split x (f ∷ fs) gs g e = search (arith, rules, given_split x fs gs g)
 
 own_found : (h : Home) (x : Text) (ms : List MacroBody) (g : Given) → given_to x (own h ms) ≡ Some g → (m : MacroBody) × (g ≡ one_macro h m) × (macro_of x ms ≡ Some m)
-own_found h x [] g e = absurd (nothing e)
-  where
-    nothing : None ≡ Some g → ⊥
-    nothing q = cc
-own_found h x (m ∷ ms) g e = through (bytes_eq m.name x) e (λ q. own_found h x ms g q)
-  where
-    is_it : Some (one_macro h m) ≡ Some g → g ≡ one_macro h m
-    is_it q = cc
-
-    through : (b : Bool) → (if b then Some (one_macro h m) else given_to x (own h ms)) ≡ Some g → (given_to x (own h ms) ≡ Some g → (n : MacroBody) × (g ≡ one_macro h n) × (macro_of x ms ≡ Some n))
-        → (n : MacroBody) × (g ≡ one_macro h n) × ((if b then Some m else macro_of x ms) ≡ Some n)
-    through true q r = (m, is_it q, refl)
-    through false q r = r q
+own_found h x [] g e = search (arith, rules)
+own_found h x (m ∷ ms) g e = search (arith, rules, own_found h x ms g)
 
 module _ (sources : Sources) where
   pub source_there : (x : Text) (xs : List Text) → Among x xs → is_some (sources x) ≡ true → Among x (with_source sources xs)
   source_there x [] i e = absurd i
-  source_there x (y ∷ ys) (inl p) e = here (is_some (sources y)) (ap (λ z. is_some (sources z)) p ∙ e)
-    where
-      here : (b : Bool) → b ≡ true → Among x (if b then y ∷ filter (λ m. is_some (sources m)) ys else filter (λ m. is_some (sources m)) ys)
-      here true q = inl p
-      here false q = absurd (no_both q refl)
-  source_there x (y ∷ ys) (inr i) e = later (is_some (sources y)) (source_there x ys i e)
-    where
-      later : (b : Bool) → Among x (filter (λ m. is_some (sources m)) ys) → Among x (if b then y ∷ filter (λ m. is_some (sources m)) ys else filter (λ m. is_some (sources m)) ys)
-      later true j = inr j
-      later false j = j
+  source_there x (y ∷ ys) (inl p) e = search (arith, rules, no_both)
+  source_there x (y ∷ ys) (inr i) e = search (arith, rules, source_there x ys i e)
 
   -- what is a macro of one of these libraries, or one of them
   abbrev FromLibraries : List Text → Given → Type 0
@@ -95,54 +64,29 @@ module _ (sources : Sources) where
 
   all_from : (n : Text) (xs : List (Text × Text)) (ls : List Text) → Among n ls → AllFrom ls (all_given_from sources n xs)
   all_from n [] ls i = tt
-  all_from n (x ∷ xs) ls i =
-      let o = public_macro x.0 (macros sources (a_library n)) in
-      all_append ls (given_from n x.1 o) (all_given_from sources n xs) (from_all n x.1 x.0 ls i o refl) (all_from n xs ls i)
+  all_from n (x ∷ xs) ls i = search (arith, rules, all_append, from_all, all_from n xs ls i)
 
   imports_all : (c : Body) → AllFrom (libraries_in c) (imports_in sources c)
   imports_all end = tt
   imports_all (stmt (import_as line n x) rest) = (inl refl, all_more (libraries_in rest) (n ∷ libraries_in rest) (λ m i. inr i) (imports_in sources rest) (imports_all rest))
-  imports_all (stmt (import_from line n xs) rest) =
-      all_append (n ∷ libraries_in rest) (all_given_from sources n xs) (imports_in sources rest) (all_from n xs (n ∷ libraries_in rest) (inl refl))
-      (all_more (libraries_in rest) (n ∷ libraries_in rest) (λ m i. inr i) (imports_in sources rest) (imports_all rest))
+  imports_all (stmt (import_from line n xs) rest) = search (arith, rules, all_append (n ∷ libraries_in rest), all_from n xs (n ∷ libraries_in rest) (inl refl), all_more (libraries_in rest) (n ∷ libraries_in rest) (λ m i. inr i), imports_all rest)
   imports_all (stmt s rest) = imports_all rest
 
   templates_imports : (ts : List Template) → AllFrom (flat_map (λ t. libraries_in t.body) ts) (flat_map (λ t. imports_in sources t.body) ts)
   templates_imports [] = tt
-  templates_imports (t ∷ ts) =
-      let all = libraries_in t.body ++ flat_map (λ u. libraries_in u.body) ts in
-      all_append all (imports_in sources t.body) (flat_map (λ u. imports_in sources u.body) ts)
-      (all_more (libraries_in t.body) all (λ n i. among_left n (libraries_in t.body) (flat_map (λ u. libraries_in u.body) ts) i) (imports_in sources t.body) (imports_all t.body))
-      (all_more (flat_map (λ u. libraries_in u.body) ts) all (λ n i. among_right n (libraries_in t.body) (flat_map (λ u. libraries_in u.body) ts) i) (flat_map (λ u. imports_in sources u.body) ts) (templates_imports ts))
+  templates_imports (t ∷ ts) = search (arith, rules, all_append, all_more, among_left, imports_all, among_right, templates_imports ts)
 
   imports_from : (h : Home) → AllFrom (libraries sources h) (imports sources h)
   imports_from (a_chain n) = templates_imports (templates sources (a_chain n))
   imports_from (a_library n) = tt
 
   look_all : (x : Text) (ls : List Text) (gs : List (Text × Given)) (g : Given) → AllFrom ls gs → given_to x gs ≡ Some g → FromLibraries ls g
-  look_all x ls [] g a e = absurd (nothing e)
-    where
-      nothing : None ≡ Some g → ⊥
-      nothing q = cc
-  look_all x ls (f ∷ fs) g a e = through (bytes_eq f.0 x) e (λ q. look_all x ls fs g a.1 q)
-    where
-      is_it : Some f.1 ≡ Some g → f.1 ≡ g
-      is_it q = cc
-
-      through : (b : Bool) → (if b then Some f.1 else given_to x fs) ≡ Some g → (given_to x fs ≡ Some g → FromLibraries ls g) → FromLibraries ls g
-      through true q r = subst (λ z. FromLibraries ls z) (is_it q) a.0
-      through false q r = r q
+  look_all x ls [] g a e = search (arith, rules)
+  look_all x ls (f ∷ fs) g a e = search (arith, rules, look_all x ls fs g a.1)
 
   -- a library with a macro has a source
   some_source : (n y : Text) (b : MacroBody) → macro_of y (macros sources (a_library n)) ≡ Some b → is_some (sources n) ≡ true
-  some_source n y b e = by (sources n) refl e
-    where
-      nothing : None ≡ Some b → is_some (sources n) ≡ true
-      nothing q = absurd (cc)
-
-      by : (o : Option Body) → sources n ≡ o → macro_of y (flat_map (λ t. macros_in t.name t.body) (library_template n o)) ≡ Some b → is_some (sources n) ≡ true
-      by None p q = nothing q
-      by (Some c) p q = ap is_some p
+  some_source n y b e = search (arith, rules)
 
   -- where a macro that is called is at home: where the call stands, or in a library that is imported there
   abbrev pub LeadsTo : Home → Home → Type 0
@@ -176,18 +120,8 @@ module _ (sources : Sources) where
 
   module _ (P : MacroBody → Type 0) where
     macro_all : (x : Text) (b : MacroBody) (ms : List MacroBody) → AllByRecursion P ms → macro_of x ms ≡ Some b → P b
-    macro_all x b [] a e = absurd (nothing e)
-      where
-        nothing : None ≡ Some b → ⊥
-        nothing q = cc
-    macro_all x b (m ∷ ms) a e = through (bytes_eq m.name x) e (λ f. macro_all x b ms a.1 f)
-      where
-        is_it : Some m ≡ Some b → m ≡ b
-        is_it q = cc
-
-        through : (c : Bool) → (if c then Some m else macro_of x ms) ≡ Some b → (macro_of x ms ≡ Some b → P b) → P b
-        through true q f = subst P (is_it q) a.0
-        through false q f = f q
+    macro_all x b [] a e = search (arith, rules)
+    macro_all x b (m ∷ ms) a e = search (arith, rules, macro_all x b ms a.1)
 
     own_all : (h : Home) (ms : List MacroBody) → AllByRecursion P ms → AllByRecursion (λ g. GivenAll P g.1) (own h ms)
     own_all h [] a = tt
@@ -203,11 +137,7 @@ module _ (sources : Sources) where
 
     module _ (ls : List Text) (each : (n : Text) → Among n (with_source sources ls) → AllByRecursion P (macros sources (a_library n))) where
       of_library_all : (n : Text) → Among n ls → AllByRecursion P (macros sources (a_library n))
-      of_library_all n i = by (sources n) refl
-        where
-          by : (o : Option Body) → sources n ≡ o → AllByRecursion P (flat_map (λ t. macros_in t.name t.body) (library_template n (sources n)))
-          by None e = subst (λ z. AllByRecursion P (flat_map (λ t. macros_in t.name t.body) (library_template n z))) (sym e) tt
-          by (Some c) e = each n (source_there n ls i (ap is_some e))
+      of_library_all n i = search (arith, rules, source_there)
 
       one_from : (g : Given) → FromLibraries ls g → GivenAll P g
       one_from (one_macro k b) f = macro_all f.3.0 b (macros sources (a_library f.0)) (of_library_all f.0 f.2) f.3.1
@@ -233,15 +163,7 @@ module _ (sources : Sources) where
 
   -- a macro that is called, by what stands in front of the arguments
   pub called_macro : (h : Home) (f : Expr) (k : Home) (b : MacroBody) → callee sources (given sources h) f ≡ a_macro k b → Found h k b
-  called_macro h (name x) k b e = alone (given_to x (given sources h)) refl e
-    where
-      form : (p q : Bool) → (if p then a_range else if q then a_super else no_callee) ≡ a_macro k b → Found h k b
-      form true q r = absurd (cc)
-      form false true r = absurd (cc)
-      form false false r = absurd (cc)
-
-      alone : (o : Option Given) → given_to x (given sources h) ≡ o → named_alone sources o x ≡ a_macro k b → Found h k b
-      alone o p q = search (arith, rules, form, given_macro)
+  called_macro h (name x) k b e = search (arith, rules, given_macro)
   called_macro h (attribute (name of) x) k b e = form (bytes_eq of (codes "self")) (bytes_eq of (codes "loop")) (bytes_eq x (codes "cycle")) e
     where
       of_one : (n : Text) → Among n (libraries sources h) → (o : Option MacroBody) → public_macro x (macros sources (a_library n)) ≡ o → of_library sources n o ≡ a_macro k b → Found h k b

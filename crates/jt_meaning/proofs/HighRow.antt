@@ -5,7 +5,7 @@
 use Rattle.std.proofs.Common.{◌≡◌, ℕ, zero, suc, true, false, List, [], ◌∷◌, ◌++◌, length, refl}
 use Rattle.std.specs.Prelude.{map, codes}
 use Rattle.jt_trees.specs.Expressions as e
-use Rattle.jt_trees.specs.Expressions.{Expr, Exprs, no_exprs, expr, Text}
+use Rattle.jt_trees.specs.Expressions.{Exprs, no_exprs, expr, Text}
 use Rattle.jt_trees.specs.Statements.{Body, body_weight}
 use Rattle.jt_chains.specs.Chain.{a_chain}
 use Rattle.jt_rules.specs.World.{World}

@@ -1,5 +1,5 @@
 -- Calls mean the same by names and by slots, at each depth; and so do whole chains.
-use Rattle.std.proofs.Common.{◌≡◌, ℕ, zero, suc, ◌+◌, ◌<◌, ◌≤◌, Bool, true, false, if◌then◌else◌, List, [], ◌∷◌, ◌++◌, length, map, Option, Some, None, refl, sym, ap, ◌∙◌, subst, arith, append_assoc, ◌⊎◌, inl, inr}
+use Rattle.std.proofs.Common.{◌≡◌, ℕ, zero, suc, ◌+◌, ◌<◌, ◌≤◌, Bool, true, false, if◌then◌else◌, List, [], ◌∷◌, ◌++◌, length, map, Option, Some, None, refl, sym, ap, ◌∙◌, subst, arith, append_assoc, ◌⊎◌, inl, inr, rules}
 use Rattle.std.proofs.lemmas.List.{length-map}
 use Rattle.std.specs.Prelude.{◌||◌, flat_map, max, slice_get}
 use Rattle.std.specs.Str.{bytes_eq}
@@ -19,7 +19,7 @@ use Rattle.jt_meaning.specs.Around.{Placement, State, the_macro, the_block, the_
 use Rattle.jt_meaning.specs.Meaning.{is_set, meaning, meanings, sets, rendered, performed, calls_below, mean}
 use Rattle.jt_chains.specs.Uses.{stmt_names, body_names, set_in}
 use Rattle.jt_chains.specs.Includes.{needs_by, needs_in, InOrder}
-use Rattle.jt_meaning.specs.Layout.{Table, slot_in, globals_from, of_macro, of_body, names, first_slot, globals, block_parameters, is_scoped, unit, defaults_of, first_default, default_in, default_place}
+use Rattle.jt_meaning.specs.Layout.{Table, slot_in, globals_from, of_macro, of_body, names, first_slot, globals, block_parameters, is_scoped, unit, defaults_of, first_default, default_in, default_place, scopes}
 use Rattle.jt_resolved.specs.Pool.{Constant, constant_in, routines_values}
 use Rattle.jt_meaning.specs.Resolve.{followed, Spot, Part, bound_table, bound_all, scoped, resolved_stmt, resolved_body, resolved_sets, top_spot, resolved_chain, chain_routine, macro_routine, body_routine}
 use Rattle.jt_resolved.specs.Locals.{body_locals}
@@ -30,7 +30,6 @@ use Rattle.jt_meaning.proofs.Agreeing.{Kept, kept_same, kept_then, Held, global_
 use Rattle.jt_meaning.proofs.Calling.{Sees, Tail, Good, around_of, Wrote, CallsMean, DefaultsAt, DefaultsLaid, Laid, Included}
 use Rattle.jt_meaning.proofs.Stating.{set_among, in_among, Each, each_front, each_back, scoped_by, scoped_in, Proper, followed_same, Owns, of_top, of_scope, Here, scope_both, good_bound, inside_inner, stmt_same, body_same}
 use Rattle.jt_meaning.proofs.Finding.{chain_is, macro_named, macro_is, body_is}
-use Rattle.jt_meaning.specs.Layout.{scopes}
 use Rattle.jt_meaning.proofs.Scopes.{among_or_not}
 use Rattle.jt_meaning.proofs.Ordering.{Every, Belongs, libraries_stand, templates_belong, scopes_known, macro_belongs, body_belongs}
 use Rattle.jt_meaning.proofs.Among.{Among, AllAmong}
@@ -38,11 +37,9 @@ use Rattle.jt_meaning.proofs.Among.{Among, AllAmong}
 -- ---- locals at the start of a routine
 
 locals_at : (n : ℕ) (ts : List Tree) (i : ℕ) → i < n → tree_at (with_locals n ts) i ≡ tree_at ts i
-locals_at zero ts i l = absurd (omega (arith, l))
-locals_at (suc n) [] zero l = refl
 locals_at (suc n) [] (suc i) l = locals_at n [] i (let e : i < n = omega (arith, l) in e)
-locals_at (suc n) (t ∷ ts) zero l = refl
 locals_at (suc n) (t ∷ ts) (suc i) l = locals_at n ts i (let e : i < n = omega (arith, l) in e)
+locals_at a0 a1 a2 l = search (arith, rules)
 
 pub held_locals : (n : ℕ) (ts : List Tree) (k : ℕ) (vs : List Tree) → k + length vs ≤ n → Held ts k vs → Held (with_locals n ts) k vs
 held_locals n ts k [] l h = tt
@@ -136,37 +133,19 @@ module _ (world : World) (order : List Home) where
   in_range h k x (global i) e = let l = (global_slot (first_slot world order h) (names world order h) x i e).1 in l
 
   fits_top : (h : Home) → AllAmong (scopes world order h) (read_names world order h) → Fits world order h (globals world order h) 0
-  fits_top h few = record {
-    slotted = λ x s e. in_range h 0 x s e;
-    apart = λ x y s e f. globals_apart (first_slot world order h) (names world order h) x y s e f;
-    outer = λ x n. refl;
-    few = few;
-  }
+  fits_top h few = search (arith, rules, in_range, globals_apart)
 
   -- at the top of a template of the chain
   good_top : (h : Home) (t : Text) (gs : Pairs) (m : Memory) → listed h order ≡ true → AllAmong (scopes world order h) (read_names world order h) → GlobalsAgree world order h gs m.globals → Good world order (top_spot world order h t) None (top gs) m
-  good_top h t gs m e few a = record {
-    known = e;
-    fits = fits_top h few;
-    agrees = record { names = λ x i. a x i ∙ sym (global_reads (first_slot world order h) (names world order h) x m); globals = a };
-    part = tt;
-  }
+  good_top h t gs m e few a = search (arith, rules, fits_top, global_reads)
 
   -- names that are parameters read their locals, and the others what they read
   params_agree : (env : Env) (m : Memory) (xs : List Text) (k : ℕ) (table : Table) → Held m.locals k (map (read env) xs) → (y : Text) → (Among y xs ⊎ (read env y ≡ held (slot_in y table) m)) → read env y ≡ held (slot_in y (bound_table xs k table)) m
   params_agree env m [] k table h y (inl i) = absurd i
   params_agree env m [] k table h y (inr r) = r
-  params_agree env m (x ∷ xs) k table h y (inl (inl p)) = params_agree env m xs (suc k) ((x, local k) ∷ table) h.1 y (inr (here (bytes_eq x y) (is_same x y p)))
-    where
-      here : (b : Bool) → b ≡ true → read env y ≡ held (if b then Some (local k) else slot_in y table) m
-      here true e = ap (read env) (sym p) ∙ sym h.0
-      here false e = absurd (no_both e refl)
+  params_agree env m (x ∷ xs) k table h y (inl (inl p)) = search (arith, rules, params_agree env m xs (suc k) ((x, local k) ∷ table) h.1 y, is_same, held, no_both)
   params_agree env m (x ∷ xs) k table h y (inl (inr i)) = params_agree env m xs (suc k) ((x, local k) ∷ table) h.1 y (inl i)
-  params_agree env m (x ∷ xs) k table h y (inr r) = params_agree env m xs (suc k) ((x, local k) ∷ table) h.1 y (inr (here (bytes_eq x y) refl))
-    where
-      here : (b : Bool) → bytes_eq x y ≡ b → read env y ≡ held (if b then Some (local k) else slot_in y table) m
-      here true e = ap (read env) (sym (same_text x y e)) ∙ sym h.0
-      here false e = r
+  params_agree env m (x ∷ xs) k table h y (inr r) = search (arith, rules, params_agree env m xs (suc k) ((x, local k) ∷ table) h.1 y, held, same_text)
 
   left_max : (a b : ℕ) → a ≤ max a b
   left_max a b = omega arith
@@ -262,9 +241,7 @@ module _ (world : World) (order : List Home) where
           which : Sees world order h c.name env vs ts → (m : Memory) → m.globals ≡ ts → (y : Text) → Among y (read_names world order h)
               → Among y (block_parameters world order h c.name) ⊎ (Among y (block_parameters world order h c.name) → ⊥)
               → Among y (block_parameters world order h c.name) ⊎ (read env y ≡ held (slot_in y (globals world order h)) m)
-          which seen m g y j (inl i) = inl i
-          which seen m g y j (inr n) =
-              inr (seen.others y j n ∙ ap (global_held (slot_in y (globals world order h))) (sym g) ∙ sym (global_reads (first_slot world order h) (names world order h) y m))
+          which seen m g y j a5 = search (arith, rules, global_held, global_reads)
 
       -- ---- a chain from its first template on
 

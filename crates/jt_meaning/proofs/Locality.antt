@@ -2,27 +2,20 @@
 use Rattle.std.proofs.Common.{◌≡◌, ℕ, zero, suc, ◌+◌, max, ◌≤◌, Bool, true, false, if◌then◌else◌, List, [], ◌∷◌, length, Option, Some, None, arith, refl, length-append, rules}
 use Rattle.std.specs.Option.{is_none}
 use Rattle.std.specs.List.{AllByRecursion}
-use Rattle.std.specs.Str.{bytes_eq}
-use Rattle.jt_value.specs.Tree as tree
-use Rattle.jt_ids.specs.declared.op_id.OpId.TheVariants as op
 use Rattle.jt_ids.specs.declared.test_id.TestId.{TestId}
 use Rattle.jt_trees.specs.Expressions.{Expr, constant, name, group, list_of, map_of, attribute, item, call, filter, test, unary, binary, when, choice, Exprs, no_exprs, expr, Pairs, no_pairs, pair, weight, exprs_weight, pairs_weight, Text}
-use Rattle.jt_meaning.specs.Operators.{Form, operation, negation, conjunction, disjunction, form}
+use Rattle.jt_meaning.specs.Operators.{Form, form}
 use Rattle.jt_value.specs.Place.{Place}
-use Rattle.jt_evaluation.specs.Tests.{test_named}
-use Rattle.jt_chains.specs.Uses.{count, keywords, set_by, set_in, set_under}
+use Rattle.jt_chains.specs.Uses.{keywords, set_by, set_in, set_under}
 use Rattle.jt_trees.specs.Statements.{Parameter, Filtering, Stmt, data_of, print, choose, for_each, set, set_block, with_values, filter_block, autoescape, macro, include, import_as, import_from, extends, block, Body, end, stmt, Branches, no_branches, branch, condition_weight, filtering_weight}
-use Rattle.jt_chains.specs.Chain.{Home, a_chain, given, Callee, a_macro, a_range, a_super, a_block, a_cycle, no_callee, callee, is_loop}
-use Rattle.jt_evaluation.specs.Loops.{Field, field_named}
-use Rattle.jt_evaluation.specs.Filters.{default_value, some_given}
-use Rattle.jt_trees.specs.Texts.{among}
+use Rattle.jt_chains.specs.Chain.{Home, a_chain, Callee}
+use Rattle.jt_evaluation.specs.Loops.{Field}
 use Rattle.jt_rules.specs.World.{World}
-use Rattle.jt_meaning.specs.Expressions.{filter_parameters}
-use Rattle.jt_meaning.specs.Layout.{Table, slot_in, globals_from, names, numbered_of, globals, block_parameters, default_place, first_slot, unit, of_chain}
+use Rattle.jt_meaning.specs.Layout.{Table, slot_in, globals_from, names, numbered_of, globals, block_parameters, first_slot, unit, of_chain}
 use Rattle.jt_resolved.specs.Slots as slots
-use Rattle.jt_resolved.specs.Slots.{Slot, local, global, SlotExpr, SRow, Targets, one, several, SBody, variable, run}
-use Rattle.jt_resolved.specs.Pool.{Constant, own, known}
-use Rattle.jt_meaning.specs.Resolve.{value_or, turned_round, tested_by, filtered_by, in_form, field_from, followed, locals_from, fresh, fresh_targets, kept_slots, set_targets, filled, filled_some, first_locals, reads, handed_on, Part, Spot, place, grown, bound_table, bound_all, slot_of, copied, scoped, next_given, first_body, invoked_body, invoked_super, invoked, resolved, resolved_row, resolved_asides, resolved_entries, resolved_condition, resolved_filters, resolved_values, placed_body, resolved_stmt, resolved_body, resolved_choice, left_out}
+use Rattle.jt_resolved.specs.Slots.{Slot, local, SlotExpr, SRow, SBody, variable, run}
+use Rattle.jt_resolved.specs.Pool.{Constant, known}
+use Rattle.jt_meaning.specs.Resolve.{value_or, turned_round, tested_by, filtered_by, in_form, field_from, followed, locals_from, fresh, fresh_targets, kept_slots, set_targets, filled, filled_some, first_locals, reads, handed_on, Part, Spot, place, grown, bound_table, bound_all, slot_of, copied, scoped, first_body, invoked_body, invoked_super, invoked, resolved, resolved_row, resolved_asides, resolved_entries, resolved_condition, resolved_filters, resolved_values, placed_body, resolved_stmt, resolved_body, resolved_choice, left_out}
 use Rattle.jt_resolved.specs.Locals.{slot_locals, slots_locals, targets_locals, expr_locals, row_locals, condition_locals, body_locals}
 use Rattle.jt_meaning.specs.Measure.{stmt_own, body_own, branch_own}
 use Rattle.jt_meaning.proofs.Sizing.{is_some_weight}
@@ -33,21 +26,9 @@ names_few (pair k a ps) = omega (arith, names_few ps)
 
 mutual
   by_few : (s : Stmt) → length (set_by s) ≤ stmt_own s
-  by_few (data_of t) = omega arith
-  by_few (print line e) = omega arith
   by_few (choose bs other) = omega (arith, under_few bs, in_few other, length-append (set_under bs) (set_in other))
   by_few (for_each line xs e c body other) = omega (arith, in_few other)
-  by_few (set line xs e) = omega arith
-  by_few (set_block line x body) = omega arith
-  by_few (with_values line ps body) = omega arith
-  by_few (filter_block line fs body) = omega arith
-  by_few (autoescape line on body) = omega arith
-  by_few (macro line x ps body) = omega arith
-  by_few (include line m missing with_context) = omega arith
-  by_few (import_as line m new) = omega arith
-  by_few (import_from line m news) = omega arith
-  by_few (extends line m) = omega arith
-  by_few (block line x is required body) = omega arith
+  by_few a0 = omega arith
 
   pub in_few : (b : Body) → length (set_in b) ≤ body_own b
   in_few end = omega arith
@@ -68,19 +49,11 @@ module _ (n : ℕ) (some : 1 ≤ n) where
 
   slot_below : (t : Table) (x : Text) → Below t → SlotBelow (slot_in x t)
   slot_below [] x h = tt
-  slot_below (b ∷ bs) x h = through (bytes_eq b.0 x) (slot_below bs x h.1)
-    where
-      through : (c : Bool) → SlotBelow (slot_in x bs) → SlotBelow (if c then Some b.1 else slot_in x bs)
-      through true g = h.0
-      through false g = g
+  slot_below (b ∷ bs) x h = search (arith, rules, slot_below bs x h.1)
 
   of_below : (t : Table) (x : Text) → Below t → slot_locals (slot_of x t) ≤ n
   of_below [] x h = omega (arith, some)
-  of_below (b ∷ bs) x h = through (bytes_eq b.0 x) (of_below bs x h.1)
-    where
-      through : (c : Bool) → slot_locals (slot_of x bs) ≤ n → slot_locals (if c then b.1 else slot_of x bs) ≤ n
-      through true g = h.0
-      through false g = g
+  of_below (b ∷ bs) x h = search (arith, rules, of_below bs x h.1)
 
   value_local : (s : Option Slot) (k : Constant) → SlotBelow s → expr_locals (value_or s k) ≤ n
   value_local None k h = omega arith
@@ -129,11 +102,7 @@ module _ (n : ℕ) (some : 1 ≤ n) where
   some_local : (ps : List Parameter) (m : ℕ) (xs : List Text) (ks : Table) → Below ks → row_locals (filled_some ps m xs ks) ≤ n
   some_local [] m xs ks h = omega arith
   some_local (p ∷ ps) (suc m) xs ks h = some_local ps m xs ks h
-  some_local (p ∷ ps) zero xs ks h = through (some_given (p ∷ ps) xs) (some_local ps zero xs ks h)
-    where
-      through : (b : Bool) → row_locals (filled_some ps zero xs ks) ≤ n → row_locals (if b then slots.item (value_or (slot_in p.name ks) (own (default_value p.default))) (filled_some ps zero xs ks) else slots.none) ≤ n
-      through true g = omega (arith, g, value_local (slot_in p.name ks) (own (default_value p.default)) (slot_below ks p.name h))
-      through false g = omega arith
+  some_local (p ∷ ps) zero xs ks h = search (arith, rules, some_local ps zero xs ks h, value_local, slot_below)
 
   first_local : (m : ℕ) (xs : List Text) → m + length xs ≤ n → row_locals (first_locals m xs) ≤ n
   first_local m [] h = omega arith
@@ -152,15 +121,7 @@ module _ (n : ℕ) (some : 1 ≤ n) where
 
   kept_each : (t : Table) (xs : List Text) → Below t → slots_locals (kept_slots t xs) ≤ n
   kept_each t [] h = omega arith
-  kept_each t (x ∷ xs) h = through (among x xs) (slot_in x t) (slot_below t x h) (kept_each t xs h)
-    where
-      either : (s : Option Slot) → SlotBelow s → slots_locals (kept_slots t xs) ≤ n → slots_locals (s ∷ kept_slots t xs) ≤ n
-      either None g k = k
-      either (Some s) g k = omega (arith, g, k)
-
-      through : (b : Bool) (s : Option Slot) → SlotBelow s → slots_locals (kept_slots t xs) ≤ n → slots_locals ((if b then None else s) ∷ kept_slots t xs) ≤ n
-      through true s g k = k
-      through false s g k = either s g k
+  kept_each t (x ∷ xs) h = search (arith, rules, slot_below, kept_each t xs h)
 
   set_local : (t : Table) (xs : List Text) → Below t → targets_locals (set_targets t xs) ≤ n
   set_local t [] h = omega arith
@@ -188,10 +149,7 @@ module _ (n : ℕ) (some : 1 ≤ n) where
     body_localed h on (Some i) es k = k
 
     super_localed : (sp : Spot) (p : Option Part) → expr_locals (invoked_super world order sp p) ≤ n
-    super_localed sp None = omega arith
-    super_localed sp (Some p) =
-        let xs = block_parameters world order sp.home p.name in
-        body_localed sp.home sp.escaping (next_given p.behind) (first_locals 0 xs) (first_local 0 xs (omega (arith, few sp.home p.name)))
+    super_localed sp a1 = search (arith, rules, body_localed, first_local)
 
     invoked_localed : (c : Callee) (sp : Spot) (row asides : SRow Constant → SRow Constant) (m : ℕ) (ks : Table) → Below ks → Front row → Front asides → expr_locals (invoked world order c sp row asides m ks) ≤ n
     invoked_localed c sp row asides m ks h r a = search (arith, rules, filled_local, super_localed, body_localed, reads_local, globals_below)
@@ -203,28 +161,11 @@ module _ (n : ℕ) (some : 1 ≤ n) where
       localed (group a) sp t k = localed a sp t (omega (arith, k))
       localed (list_of ts) sp t k = row_localed ts sp t (omega (arith, k)) slots.none (omega arith)
       localed (map_of ps) sp t k = entries_localed ps sp t (omega (arith, k))
-      localed (attribute a x) sp t k =
-          either_local (is_loop a) (field_from (field_named x)) (slots.made (slots.operator op.Item) (slots.item (resolved world order a sp) (slots.item (slots.pooled (own (tree.text x))) slots.none)))
-          (omega (arith, field_local (field_named x))) (omega (arith, localed a sp t (omega (arith, k))))
+      localed (attribute a x) sp t k = search (arith, rules, either_local, field_local, localed a sp t (omega (arith, k)))
       localed (item a b) sp t k = omega (arith, localed a sp t (omega (arith, k)), localed b sp t (omega (arith, k)))
-      localed (call f ts ps) sp t k =
-          invoked_localed (callee world.sources (given world.sources sp.home) f) sp (resolved_row world order ts sp) (resolved_asides world order ps sp) (count ts) (locals_from sp.free (keywords ps))
-          (from_below sp.free (keywords ps) (omega (arith, k, names_few ps))) (λ b h. row_localed ts sp t (omega (arith, k)) b h) (λ b h. asides_localed ps sp t (omega (arith, k)) b h)
-      localed (filter a x ts ps) sp t k =
-          let f = world.filters.named x ts ps in
-          let ks = locals_from sp.free (keywords ps) in
-          let rest = filled_some (filter_parameters world.filters f) (count ts) (keywords ps) ks in
-          let row = resolved_row world order ts sp (resolved_asides world order ps sp rest) in
-          omega (
-            arith,
-            filtered_local f sp.escaping (slots.item (resolved world order a sp) row),
-            localed a sp t (omega (arith, k)),
-            row_localed ts sp t (omega (arith, k)) (resolved_asides world order ps sp rest)
-                (asides_localed ps sp t (omega (arith, k)) rest (some_local (filter_parameters world.filters f) (count ts) (keywords ps) ks (from_below sp.free (keywords ps) (omega (arith, k, names_few ps))))),
-          )
-      localed (test a m x ts ps) sp t k =
-          let es = slots.item (resolved world order a sp) (resolved_row world order ts sp slots.none) in
-          omega (arith, turned_local m (tested_by (test_named x) es), tested_local (test_named x) es, localed a sp t (omega (arith, k)), row_localed ts sp t (omega (arith, k, is_some_weight m)) slots.none (omega arith))
+      localed (call f ts ps) sp t k = search (arith, rules, invoked_localed, from_below, names_few, row_localed ts sp t (omega (arith, k)), asides_localed ps sp t (omega (arith, k)))
+      localed (filter a x ts ps) sp t k = search (arith, rules, filtered_local, localed a sp t (omega (arith, k)), row_localed ts sp t (omega (arith, k)), asides_localed ps sp t (omega (arith, k)), some_local, from_below, names_few)
+      localed (test a m x ts ps) sp t k = search (arith, rules, turned_local, tested_local, localed a sp t (omega (arith, k)), row_localed ts sp t (omega (arith, k, is_some_weight m)), is_some_weight)
       localed (unary u a) sp t k = omega (arith, localed a sp t (omega (arith, k)))
       localed (binary b x y) sp t k =
           omega (arith, form_local (form sp.escaping b) (resolved world order x sp) (resolved world order y sp), localed x sp t (omega (arith, k)), localed y sp t (omega (arith, k)))
@@ -251,18 +192,7 @@ module _ (n : ℕ) (some : 1 ≤ n) where
 
     filters_localed : (fs : List Filtering) (sp : Spot) (e : SlotExpr Constant) → Below sp.table → sp.free + filtering_weight fs ≤ n → expr_locals e ≤ n → expr_locals (resolved_filters world order fs sp e) ≤ n
     filters_localed [] sp e t k h = h
-    filters_localed (f ∷ fs) sp e t k h =
-        let i = world.filters.named f.name f.arguments f.keywords in
-        let ks = locals_from sp.free (keywords f.keywords) in
-        let rest = filled_some (filter_parameters world.filters i) (count f.arguments) (keywords f.keywords) ks in
-        let row = resolved_row world order f.arguments sp (resolved_asides world order f.keywords sp rest) in
-        filters_localed fs sp (filtered_by i sp.escaping (slots.item e row)) t (omega (arith, k)) (omega (
-          arith,
-          filtered_local i sp.escaping (slots.item e row),
-          h,
-          row_localed f.arguments sp t (omega (arith, k)) (resolved_asides world order f.keywords sp rest)
-              (asides_localed f.keywords sp t (omega (arith, k)) rest (some_local (filter_parameters world.filters i) (count f.arguments) (keywords f.keywords) ks (from_below sp.free (keywords f.keywords) (omega (arith, k, names_few f.keywords))))),
-        ))
+    filters_localed (f ∷ fs) sp e t k h = search (arith, rules, filters_localed fs sp, filtered_local, row_localed, asides_localed, some_local, from_below, names_few)
 
     values_localed : (ps : Pairs) (sp : Spot) (line : ℕ) (b : SBody Constant) → Below sp.table → sp.free + pairs_weight 2 ps ≤ n → body_locals b ≤ n → body_locals (resolved_values world order ps sp line b) ≤ n
     values_localed no_pairs sp line b t k h = h
@@ -291,19 +221,8 @@ module _ (n : ℕ) (some : 1 ≤ n) where
       pub stmt_localed : (s : Stmt) (sp : Spot) → Below sp.table → sp.free + stmt_own s ≤ n + length (set_by s) → body_locals (resolved_stmt world order s sp) ≤ n
       stmt_localed (data_of x) sp t k = omega arith
       stmt_localed (print line e) sp t k = omega (arith, localed e sp t (omega (arith, k)))
-      stmt_localed (choose bs other) sp t k =
-          let l = length-append (set_under bs) (set_in other) in
-          choice_localed bs sp t (omega (arith, k, l, in_few other)) (resolved_body world order other sp) (all_localed other sp t (omega (arith, k, l, under_few bs)))
-      stmt_localed (for_each line xs e c body other) sp t k =
-          let inner = bound_all xs sp in
-          omega (
-            arith,
-            fresh_local sp.free xs (omega (arith, k, in_few other)),
-            localed e sp t (omega (arith, k, in_few other)),
-            condition_localed c inner (bound_below xs sp.free sp.table (omega (arith, k, in_few other)) t) (omega (arith, k, in_few other)),
-            scope_localed body inner (bound_below xs sp.free sp.table (omega (arith, k, in_few other)) t) (omega (arith, k, in_few other)) (all_localed body (bound_all (set_in body) inner) (bound_below (set_in body) (sp.free + length xs) (bound_table xs sp.free sp.table) (omega (arith, k, in_few other, in_few body)) (bound_below xs sp.free sp.table (omega (arith, k, in_few other)) t)) (omega (arith, k, in_few other))),
-            all_localed other sp t (omega (arith, k)),
-          )
+      stmt_localed (choose bs other) sp t k = search (arith, rules, length-append, choice_localed bs sp t, in_few, all_localed other sp t, under_few)
+      stmt_localed (for_each line xs e c body other) sp t k = search (arith, rules, fresh_local sp.free xs (omega (arith, k, in_few other)), in_few other, localed e sp t (omega (arith, k, in_few other)), condition_localed c, bound_below xs sp.free sp.table (omega (arith, k, in_few other)) t, scope_localed body, all_localed body, bound_below (set_in body) (sp.free + length xs) (bound_table xs sp.free sp.table) (omega (arith, k, in_few other, in_few body)) (bound_below xs sp.free sp.table (omega (arith, k, in_few other)) t), in_few body, all_localed other sp t (omega (arith, k)))
       stmt_localed (set line xs e) sp t k = omega (arith, localed e sp t (omega (arith, k)), set_local sp.table xs t)
       stmt_localed (set_block line x body) sp t k = omega (arith, of_below sp.table x t, scope_localed body sp (t) (omega (arith, k)) (all_localed body (bound_all (set_in body) sp) (bound_below (set_in body) (sp.free) (sp.table) (omega (arith, k, in_few body)) (t)) (omega (arith, k))))
       stmt_localed (with_values line ps body) sp t k =
@@ -324,12 +243,8 @@ module _ (n : ℕ) (some : 1 ≤ n) where
 
       pub all_localed : (b : Body) (sp : Spot) → Below sp.table → sp.free + body_own b ≤ n + length (set_in b) → body_locals (resolved_body world order b sp) ≤ n
       all_localed end sp t k = omega arith
-      all_localed (stmt s rest) sp t k =
-          let l = length-append (set_by s) (set_in rest) in
-          omega (arith, stmt_localed s sp t (omega (arith, k, l, in_few rest)), all_localed rest sp t (omega (arith, k, l, by_few s)), followed_local (resolved_stmt world order s sp) (resolved_body world order rest sp))
+      all_localed (stmt s rest) sp t k = search (arith, rules, length-append, stmt_localed s sp t, in_few, all_localed rest sp t, by_few, followed_local)
 
       choice_localed : (bs : Branches) (sp : Spot) → Below sp.table → sp.free + branch_own bs ≤ n + length (set_under bs) → (other : SBody Constant) → body_locals other ≤ n → body_locals (resolved_choice world order bs sp other) ≤ n
       choice_localed no_branches sp t k other h = h
-      choice_localed (branch line c body rest) sp t k other h =
-          let l = length-append (set_in body) (set_under rest) in
-          omega (arith, localed c sp t (omega (arith, k, l, in_few body, under_few rest)), all_localed body sp t (omega (arith, k, l, under_few rest)), choice_localed rest sp t (omega (arith, k, l, in_few body)) other h)
+      choice_localed (branch line c body rest) sp t k other h = search (arith, rules, length-append, localed, in_few, under_few, all_localed body sp t, choice_localed rest sp t)

@@ -1,28 +1,22 @@
 -- What is resolved needs at most half as many entries as it has tokens, and besides as many as a call loads parameters.
 use Rattle.std.proofs.Common.{◌≡◌, ℕ, zero, suc, ◌+◌, ◌*◌, max, min, ◌≤◌, Bool, true, false, if◌then◌else◌, List, [], ◌∷◌, length, Option, Some, None, arith, refl, sym, subst, rules}
-use Rattle.std.specs.Option.{is_none}
 use Rattle.std.specs.List.{AllByRecursion}
-use Rattle.std.specs.Str.{bytes_eq}
-use Rattle.std.specs.Prelude.{codes}
-use Rattle.jt_value.specs.Tree as tree
-use Rattle.jt_ids.specs.declared.op_id.OpId.TheVariants as op
 use Rattle.jt_ids.specs.declared.test_id.TestId.{TestId}
 use Rattle.jt_trees.specs.Expressions.{Expr, constant, name, group, list_of, map_of, attribute, item, call, filter, test, unary, binary, when, choice, Exprs, no_exprs, expr, Pairs, no_pairs, pair, weight, enclosed, perhaps_enclosed, exprs_weight, pairs_weight, Text}
-use Rattle.jt_meaning.specs.Operators.{Form, operation, negation, conjunction, disjunction, form}
+use Rattle.jt_meaning.specs.Operators.{Form, form}
 use Rattle.jt_value.specs.Place.{Place}
-use Rattle.jt_evaluation.specs.Tests.{test_named}
 use Rattle.jt_chains.specs.Uses.{count, keywords, set_in}
-use Rattle.jt_trees.specs.Statements.{Parameter, Filtering, Stmt, data_of, print, choose, for_each, set, set_block, with_values, filter_block, autoescape, macro, include, import_as, import_from, extends, block, Body, end, stmt, Branches, no_branches, branch, condition_weight, filtering_weight, stmt_bound, body_bound, branch_bound}
-use Rattle.jt_chains.specs.Chain.{Sources, Home, a_chain, a_library, MacroBody, macros, macro_of, is_private, public_macro, Given, one_macro, library, given, given_to, Callee, a_macro, a_range, a_super, a_block, a_cycle, no_callee, named_alone, of_library, in_library, named_in, callee, is_loop}
-use Rattle.jt_evaluation.specs.Loops.{Field, field_named}
+use Rattle.jt_trees.specs.Statements.{Parameter, Filtering, Stmt, choose, for_each, set_block, with_values, filter_block, autoescape, block, Body, end, stmt, Branches, no_branches, branch, condition_weight, filtering_weight, stmt_bound, body_bound, branch_bound}
+use Rattle.jt_chains.specs.Chain.{Sources, Home, a_chain, MacroBody, macro_of, is_private, public_macro, Given, given, given_to, Callee, a_macro, a_range, a_super, a_block, a_cycle, no_callee, named_alone, of_library, in_library, named_in, callee}
+use Rattle.jt_evaluation.specs.Loops.{Field}
 use Rattle.jt_evaluation.specs.Filters.{default_value, some_given}
 use Rattle.jt_rules.specs.World.{World}
 use Rattle.jt_meaning.specs.Expressions.{filter_parameters}
 use Rattle.jt_meaning.specs.Layout.{Table, slot_in, names, numbered_of, globals, block_parameters, default_place, first_slot, unit, of_chain}
 use Rattle.jt_resolved.specs.Slots as slots
-use Rattle.jt_resolved.specs.Slots.{Slot, local, SlotExpr, SRow, Targets, one, several, SBody, variable, run}
+use Rattle.jt_resolved.specs.Slots.{Slot, local, SlotExpr, SRow, SBody, variable, run}
 use Rattle.jt_resolved.specs.Pool.{Constant, own, known}
-use Rattle.jt_meaning.specs.Resolve.{value_or, turned_round, tested_by, filtered_by, in_form, field_from, followed, locals_from, fresh_targets, set_targets, filled, filled_some, first_locals, reads, handed_on, Part, Spot, place, grown, bound_all, copied, scoped, next_given, first_body, invoked_body, invoked_super, invoked, resolved, resolved_row, resolved_asides, resolved_entries, resolved_condition, resolved_filters, resolved_values, placed_body, resolved_stmt, resolved_body, resolved_choice, left_out}
+use Rattle.jt_meaning.specs.Resolve.{value_or, turned_round, tested_by, filtered_by, in_form, field_from, followed, locals_from, fresh_targets, set_targets, filled, filled_some, first_locals, reads, handed_on, Part, Spot, place, grown, bound_all, copied, scoped, first_body, invoked_body, invoked_super, invoked, resolved, resolved_row, resolved_asides, resolved_entries, resolved_condition, resolved_filters, resolved_values, placed_body, resolved_stmt, resolved_body, resolved_choice, left_out}
 use Rattle.jt_resolved.specs.Size.{targets_height, expr_height, row_height, condition_height, body_height}
 use Rattle.jt_meaning.specs.Measure.{GivenFew, HasAtMost}
 use Rattle.jt_meaning.proofs.Free.{stmt_free, body_free, branch_free}
@@ -70,11 +64,7 @@ none_given (p ∷ ps) = none_given ps
 some_low : (ps : List Parameter) (n : ℕ) (xs : List Text) (ks : Table) → row_height (filled_some ps n xs ks) ≤ length ps
 some_low [] n xs ks = omega arith
 some_low (p ∷ ps) (suc n) xs ks = omega (arith, some_low ps n xs ks)
-some_low (p ∷ ps) zero xs ks = through (some_given (p ∷ ps) xs) (some_low ps zero xs ks)
-  where
-    through : (b : Bool) → row_height (filled_some ps zero xs ks) ≤ length ps → row_height (if b then slots.item (value_or (slot_in p.name ks) (own (default_value p.default))) (filled_some ps zero xs ks) else slots.none) ≤ suc (length ps)
-    through true h = omega (arith, h, value_low (slot_in p.name ks) (own (default_value p.default)))
-    through false h = omega arith
+some_low (p ∷ ps) zero xs ks = search (arith, rules, some_low ps zero xs ks, value_low)
 
 none_low : (ps : List Parameter) (n : ℕ) (ks : Table) → row_height (filled_some ps n [] ks) ≡ 0
 none_low [] n ks = refl
@@ -128,32 +118,15 @@ module _ (q : ℕ) where
   AllGivenLow sources gs = AllByRecursion (λ g. GivenFew sources q g.1) gs
 
   given_low : (sources : Sources) (gs : List (Text × Given)) (x : Text) → AllGivenLow sources gs → CalleeLow q 1 (named_alone sources (given_to x gs) x)
-  given_low sources [] x h = by_range (bytes_eq x (codes "range")) (bytes_eq x (codes "super"))
-    where
-      by_range : (a b : Bool) → CalleeLow q 1 (if a then a_range else if b then a_super else no_callee)
-      by_range true b = tt
-      by_range false true = tt
-      by_range false false = tt
-  given_low sources (g ∷ gs) x h = through (bytes_eq g.0 x) (given_low sources gs x h.1)
-    where
-      one : (o : Given) → GivenFew sources q o → CalleeLow q 1 (named_alone sources (Some o) x)
-      one (one_macro k m) f = f
-      one (library n) f = tt
-
-      through : (b : Bool) → CalleeLow q 1 (named_alone sources (given_to x gs) x) → CalleeLow q 1 (named_alone sources (if b then Some g.1 else given_to x gs) x)
-      through true r = one g.1 h.0
-      through false r = r
+  given_low sources [] x h = search (arith, rules)
+  given_low sources (g ∷ gs) x h = search (arith, rules, given_low sources gs x h.1)
 
   of_low : (sources : Sources) (n x : Text) (ms : List MacroBody) → AllByRecursion (λ m. length m.parameters ≤ q) ms → CalleeLow q 3 (of_library sources n (public_macro x ms))
   of_low sources n x ms h = by (is_private x) (looked ms h)
     where
       looked : (ns : List MacroBody) → AllByRecursion (λ m. length m.parameters ≤ q) ns → CalleeLow q 3 (of_library sources n (macro_of x ns))
       looked [] f = tt
-      looked (m ∷ ns) f = through (bytes_eq m.name x) (looked ns f.1)
-        where
-          through : (b : Bool) → CalleeLow q 3 (of_library sources n (macro_of x ns)) → CalleeLow q 3 (of_library sources n (if b then Some m else macro_of x ns))
-          through true r = f.0
-          through false r = r
+      looked (m ∷ ns) f = search (arith, rules, looked ns f.1)
 
       by : (b : Bool) → CalleeLow q 3 (of_library sources n (macro_of x ms)) → CalleeLow q 3 (of_library sources n (if b then None else macro_of x ms))
       by true r = tt
@@ -161,24 +134,10 @@ module _ (q : ℕ) where
 
   library_low : (sources : Sources) (gs : List (Text × Given)) (of x : Text) → AllGivenLow sources gs → CalleeLow q 3 (in_library sources (given_to of gs) x)
   library_low sources [] of x h = tt
-  library_low sources (g ∷ gs) of x h = through (bytes_eq g.0 of) (library_low sources gs of x h.1)
-    where
-      one : (o : Given) → GivenFew sources q o → CalleeLow q 3 (in_library sources (Some o) x)
-      one (one_macro k m) f = tt
-      one (library n) f = of_low sources n x (macros sources (a_library n)) f
-
-      through : (b : Bool) → CalleeLow q 3 (in_library sources (given_to of gs) x) → CalleeLow q 3 (in_library sources (if b then Some g.1 else given_to of gs) x)
-      through true r = one g.1 h.0
-      through false r = r
+  library_low sources (g ∷ gs) of x h = search (arith, rules, library_low sources gs of x h.1, of_low sources)
 
   in_low : (sources : Sources) (gs : List (Text × Given)) (of x : Text) → AllGivenLow sources gs → CalleeLow q 3 (named_in sources (given_to of gs) of x)
-  in_low sources gs of x h = through (bytes_eq of (codes "self")) (bytes_eq of (codes "loop")) (bytes_eq x (codes "cycle"))
-    where
-      through : (a b c : Bool) → CalleeLow q 3 (if a then a_block x else if b then (if c then a_cycle else no_callee) else in_library sources (given_to of gs) x)
-      through true b c = tt
-      through false true true = omega arith
-      through false true false = tt
-      through false false c = library_low sources gs of x h
+  in_low sources gs of x h = search (arith, rules, library_low)
 
   callee_low : (sources : Sources) (ms : List (Text × Given)) (e : Expr) → AllGivenLow sources ms → CalleeLow q (weight e) (callee sources ms e)
   callee_low sources ms e h = search (arith, rules, given_low, in_low)
@@ -189,10 +148,7 @@ module _ (world : World) (order : List Home) (q : ℕ) where
   body_low h on (Some i) es k = omega (arith, k)
 
   super_low : (sp : Spot) (p : Option Part) → ((x : Text) → length (block_parameters world order sp.home x) ≤ q) → expr_height (invoked_super world order sp p) ≤ 1 + q
-  super_low sp None k = omega arith
-  super_low sp (Some p) k =
-      let xs = block_parameters world order sp.home p.name in
-      body_low sp.home sp.escaping (next_given p.behind) (first_locals 0 xs) (omega (arith, first_low 0 xs, k p.name))
+  super_low sp a1 k = search (arith, rules, body_low, first_low)
 
   -- rows in front of others
   abbrev RowLow : ℕ → (SRow Constant → SRow Constant) → Type 0
@@ -237,28 +193,13 @@ module _ (world : World) (order : List Home) (q : ℕ) where
     resolved_low (group a) sp k = omega (arith, resolved_low a sp k)
     resolved_low (list_of ts) sp k = omega (arith, row_low ts sp k slots.none (2 * q) (omega arith) (omega arith))
     resolved_low (map_of ps) sp k = omega (arith, entries_low ps sp k)
-    resolved_low (attribute a x) sp k =
-        either_low (is_loop a) (field_from (field_named x)) (slots.made (slots.operator op.Item) (slots.item (resolved world order a sp) (slots.item (slots.pooled (own (tree.text x))) slots.none)))
-        (2 + weight a + 1 + 2 * q) (omega (arith, field_low (field_named x))) (omega (arith, resolved_low a sp k, expr_some a))
+    resolved_low (attribute a x) sp k = search (arith, rules, either_low, field_low, resolved_low a sp k, expr_some)
     resolved_low (item a b) sp k = omega (arith, resolved_low a sp k, resolved_low b sp k, expr_some a)
     resolved_low (call f ts ps) sp k =
         invoked_low (callee world.sources (given world.sources sp.home) f) sp (resolved_row world order ts sp) (resolved_asides world order ps sp) (count ts) (locals_from sp.free (keywords ps))
         (weight f) (exprs_weight ts) (pairs_weight 2 ps) (expr_some f) (callee_low q world.sources (given world.sources sp.home) f k.macros) k.blocks (λ b z. row_low ts sp k b z) (λ b. asides_low ps sp k b)
-    resolved_low (filter a x ts ps) sp k =
-        let f = world.filters.named x ts ps in
-        let rest = filled_some (filter_parameters world.filters f) (count ts) (keywords ps) (locals_from sp.free (keywords ps)) in
-        let es = slots.item (resolved world order a sp) (resolved_row world order ts sp (resolved_asides world order ps sp rest)) in
-        omega (
-          arith,
-          filtered_low f sp.escaping es,
-          resolved_low a sp k,
-          expr_some a,
-          filter_row ts ps (resolved_row world order ts sp) (resolved_asides world order ps sp) rest (λ b z. row_low ts sp k b z) (λ b. asides_low ps sp k b)
-              (few_low (filter_parameters world.filters f) (count ts) (keywords ps) (locals_from sp.free (keywords ps)) (filter_few f k.filters)),
-        )
-    resolved_low (test a n x ts ps) sp k =
-        let es = slots.item (resolved world order a sp) (resolved_row world order ts sp slots.none) in
-        omega (arith, turned_low n (tested_by (test_named x) es), tested_low (test_named x) es, resolved_low a sp k, row_low ts sp k slots.none (2 * q) (omega arith) (omega arith), is_some_weight n, expr_some a)
+    resolved_low (filter a x ts ps) sp k = search (arith, rules, filtered_low, resolved_low a sp k, expr_some, filter_row, row_low ts sp k, asides_low ps sp k, few_low, filter_few)
+    resolved_low (test a n x ts ps) sp k = search (arith, rules, turned_low, tested_low, resolved_low a sp k, row_low ts sp k, is_some_weight, expr_some)
     resolved_low (unary u a) sp k = omega (arith, resolved_low a sp k, expr_some a)
     resolved_low (binary b x y) sp k =
         omega (arith, form_low (form sp.escaping b) (resolved world order x sp) (resolved world order y sp), resolved_low x sp k, resolved_low y sp k, operator_some b, expr_some x, expr_some y)
@@ -316,29 +257,16 @@ module _ (world : World) (order : List Home) (q : ℕ) where
 
   mutual
     pub stmt_low : (s : Stmt) (sp : Spot) → HasAtMost world order q sp.home → stmt_bound s ≤ q → 2 * body_height (resolved_stmt world order s sp) ≤ stmt_free s + 2 * q
-    stmt_low (data_of t) sp k g = omega arith
-    stmt_low (print line e) sp k g = omega (arith, resolved_low e sp k)
     stmt_low (choose bs other) sp k g = omega (arith, choice_low bs sp k (omega (arith, g)) (resolved_body world order other sp), all_low other sp k (omega (arith, g)))
-    stmt_low (for_each line xs e c body other) sp k g =
-        let inner = bound_all xs sp in
-        omega (arith, g, fresh_low sp.free xs, resolved_low e sp k, condition_low c inner k, scope_low body inner (all_low body (bound_all (set_in body) inner) k (omega (arith, g))), all_low other sp k (omega (arith, g)))
-    stmt_low (set line xs e) sp k g = omega (arith, g, set_low sp.table xs, resolved_low e sp k)
+    stmt_low (for_each line xs e c body other) sp k g = search (arith, rules, fresh_low, resolved_low, condition_low, scope_low, all_low body, all_low other sp k (omega (arith, g)))
     stmt_low (set_block line x body) sp k g = omega (arith, scope_low body sp (all_low body (bound_all (set_in body) sp) k (omega (arith, g))))
-    stmt_low (with_values line ps body) sp k g =
-        let inner = bound_all (keywords ps) sp in
-        omega (arith, values_low ps sp line (scoped (set_in body) inner (resolved_body world order body)) k, scope_low body inner (all_low body (bound_all (set_in body) inner) k (omega (arith, g))))
+    stmt_low (with_values line ps body) sp k g = search (arith, rules, values_low, scope_low, all_low body)
     stmt_low (filter_block line fs body) sp k g =
         omega (arith, scope_low body (grown sp) (all_low body (bound_all (set_in body) (grown sp)) k (omega (arith, g))), filters_low fs (grown sp) (variable (local sp.free)) k)
-    stmt_low (autoescape line on body) sp k g =
-        let inner = record sp { escaping = on } in
-        omega (arith, scope_low body inner (all_low body (bound_all (set_in body) inner) k (omega (arith, g))))
-    stmt_low (macro line x ps body) sp k g = omega arith
-    stmt_low (include line n missing with_context) sp k g = omega (arith, include_low sp line n missing with_context (is_none (world.sources n)))
-    stmt_low (import_as line n new) sp k g = omega arith
-    stmt_low (import_from line n news) sp k g = omega arith
-    stmt_low (extends line n) sp k g = omega arith
+    stmt_low (autoescape line on body) sp k g = search (arith, rules, scope_low, all_low body)
     stmt_low (block line x is required body) sp k g =
         omega (arith, placed_low sp (first_body (numbered_of world sp.home x)) x (if is then sp.table else globals world order sp.home) (k.blocks x))
+    stmt_low a0 sp k g = search (arith, rules, resolved_low, set_low, include_low)
 
     pub all_low : (b : Body) (sp : Spot) → HasAtMost world order q sp.home → body_bound b ≤ q → 2 * body_height (resolved_body world order b sp) ≤ body_free b + 2 * q
     all_low end sp k g = omega arith

@@ -16,7 +16,7 @@ use Rattle.jt_meaning.specs.Layout.{slot_in, globals_from, names, first_in, firs
 use Rattle.jt_resolved.specs.Pool.{constant_in, routines_values, placed_routines}
 use Rattle.jt_meaning.specs.Programs.{routines, pool, count_globals, program}
 use Rattle.jt_chains.specs.Includes.{InOrder}
-use Rattle.jt_meaning.proofs.Both.{Both, both, fault, deep}
+use Rattle.jt_meaning.proofs.Both.{Both}
 use Rattle.jt_meaning.proofs.Reading.{same_text, home_is}
 use Rattle.jt_meaning.proofs.Agreeing.{Held, global_given, global_held, GlobalsAgree}
 use Rattle.jt_meaning.proofs.Calling.{Wrote}

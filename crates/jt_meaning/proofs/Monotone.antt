@@ -10,16 +10,16 @@ use Rattle.jt_trees.specs.Expressions as written
 use Rattle.jt_trees.specs.Expressions.{Expr, constant, name, group, list_of, map_of, attribute, item, unary, binary, when, choice, Exprs, no_exprs, expr, no_pairs, pair, Text}
 use Rattle.jt_value.specs.Place.{Place}
 use Rattle.jt_evaluation.specs.Got.{Got, gives, fails, deeper, bind, at}
-use Rattle.jt_meaning.specs.Operators.{Form, operation, negation, conjunction, disjunction, form}
+use Rattle.jt_meaning.specs.Operators.{Form, form}
 use Rattle.jt_meaning.specs.Expressions.{asked, turned, either, combined, filtered, block_text, super_text, called, value, values, named_values}
 use Rattle.jt_evaluation.specs.Tests.{test_named}
 use Rattle.jt_trees.specs.Statements.{Filtering, Stmt, data_of, print, choose, for_each, set, set_block, with_values, filter_block, autoescape, macro, include, import_as, import_from, extends, block, Body, end, stmt, Branches, no_branches, branch}
 use Rattle.jt_meaning.specs.Env.{Env, inside, top}
-use Rattle.jt_chains.specs.Chain.{Home, a_chain, Template, templates, BlockBody, bodies, from_given, given, Callee, a_macro, a_range, a_super, a_block, a_cycle, no_callee, callee, is_loop}
+use Rattle.jt_chains.specs.Chain.{Home, Template, BlockBody, bodies, from_given, given, Callee, a_macro, a_range, a_super, a_block, a_cycle, no_callee, callee, is_loop}
 use Rattle.jt_evaluation.specs.Loops.{Loop}
 use Rattle.jt_evaluation.specs.Filters.{Filters}
 use Rattle.jt_rules.specs.World.{World}
-use Rattle.jt_meaning.specs.Around.{Placement, Around, State, Called, the_macro, the_block, the_chain, Calls, tag}
+use Rattle.jt_meaning.specs.Around.{Placement, Around, State, Called, the_chain, Calls, tag}
 use Rattle.jt_meaning.specs.Laws.{Stays}
 use Rattle.jt_meaning.specs.Meaning.{turns, gone_over, outside, is_set, kept, through, meaning, meanings, chosen, sets, rendered, performed, calls_below, mean}
 

@@ -1,5 +1,5 @@
 -- What follows from the order of chains: names, slots, and what the bodies of a chain hold.
-use Rattle.std.proofs.Common.{◌≡◌, ℕ, ◌+◌, ◌≤◌, Bool, true, false, if◌then◌else◌, List, [], ◌∷◌, ◌++◌, length, map, Option, Some, None, refl, sym, ap, ◌∙◌, subst, arith, ◌⊎◌, inl, inr}
+use Rattle.std.proofs.Common.{◌≡◌, ℕ, ◌+◌, ◌≤◌, Bool, true, false, if◌then◌else◌, List, [], ◌∷◌, ◌++◌, length, map, Option, Some, None, refl, sym, ap, ◌∙◌, subst, arith, ◌⊎◌, inl, inr, rules}
 use Rattle.std.specs.Prelude.{not, ◌&&◌, ◌||◌, flat_map}
 use Rattle.std.specs.Option.{is_some, is_none}
 use Rattle.std.specs.List.{list_any}
@@ -9,19 +9,17 @@ use Rattle.jt_trees.specs.Expressions.{Text}
 use Rattle.jt_trees.specs.Statements.{Stmt, data_of, print, choose, for_each, set, set_block, with_values, filter_block, autoescape, macro, include, import_as, import_from, extends, block, Body, end, stmt, Branches, no_branches, branch}
 use Rattle.jt_chains.specs.Chain.{Home, a_chain, a_library, same_home, listed, Template, templates, BlockBody, blocks_of, blocks_in, blocks_under, all_bodies, MacroBody, macros_in, macros, macro_of, libraries}
 use Rattle.jt_rules.specs.World.{World}
-use Rattle.jt_chains.specs.Uses.{keywords, expr_names, pair_names, condition_names, filtering_names, stmt_names, body_names, branch_names, own_names}
+use Rattle.jt_chains.specs.Uses.{keywords, pair_names, filtering_names, stmt_names, body_names, branch_names, own_names, set_in, scope_names_in, scope_names}
 use Rattle.jt_chains.specs.Includes.{needs_by, needs_in, needs_under, with_source, included, AllIn, InOrder}
-use Rattle.jt_meaning.specs.Layout.{in_globals, names_in, names, first_in, first_slot, is_scoped, defaults_of, first_default, shared, default_in, default_place, numbered_bodies, counted_from}
+use Rattle.jt_meaning.specs.Layout.{in_globals, names_in, names, first_in, first_slot, is_scoped, numbered_bodies, scopes}
 use Rattle.jt_meaning.proofs.Reading.{same_is, home_same, home_is, no_both, among_front, among_back, each_among}
 use Rattle.jt_meaning.proofs.Valuing.{counted_are}
 use Rattle.jt_meaning.proofs.Agreeing.{limit, read_names}
 use Rattle.jt_meaning.proofs.Calling.{Known, Behind, Hands, Included}
 use Rattle.jt_meaning.proofs.Givens.{source_there}
-use Rattle.jt_chains.specs.Uses.{set_in, scope_names_in, scope_names}
 use Rattle.jt_meaning.proofs.Scopes.{names_of, scopes_bound, templates_bind, ascending_among}
 use Rattle.jt_meaning.proofs.Stating.{Each, each_front, each_back, Scoping, a_tag, a_name, named, scoped_by, scoped_in, scoped_under, Proper, names_proper, behind_proper}
 use Rattle.jt_meaning.proofs.Among.{Among, AllAmong, all_ascending}
-use Rattle.jt_meaning.specs.Layout.{scopes}
 
 or_right : (a : Bool) {b : Bool} → b ≡ true → (a || b) ≡ true
 or_right true e = refl
@@ -95,11 +93,7 @@ Says bs x = list_any (λ b. b.scoped && bytes_eq b.name x) bs ≡ true
 
 says_left : (bs cs : List BlockBody) (x : Text) → Says bs x → Says (bs ++ cs) x
 says_left [] cs x e = absurd (no_both e refl)
-says_left (b ∷ bs) cs x e = through (b.scoped && bytes_eq b.name x) e (λ f. says_left bs cs x f)
-  where
-    through : (c : Bool) → (c || list_any (λ d. d.scoped && bytes_eq d.name x) bs) ≡ true → (Says bs x → Says (bs ++ cs) x) → (c || list_any (λ d. d.scoped && bytes_eq d.name x) (bs ++ cs)) ≡ true
-    through true e f = refl
-    through false e f = f e
+says_left (b ∷ bs) cs x e = search (arith, rules, says_left bs cs x)
 
 says_right : (bs cs : List BlockBody) (x : Text) → Says cs x → Says (bs ++ cs) x
 says_right [] cs x e = e
@@ -186,13 +180,7 @@ module _ (world : World) where
   -- what stands behind a place keeps the order, and none before it comes again
   behind_order : (pre qs : List Home) → InOrder world.sources (pre ++ qs) → InOrder world.sources qs × ((m : Home) → listed m qs ≡ true → NotIn m pre)
   behind_order [] qs o = (o, λ m e. tt)
-  behind_order (k ∷ pre) qs o =
-      let r = behind_order pre qs o.1.1 in
-      (r.0, λ m e. (differs m (same_home k m) refl (listed_append m pre qs e), r.1 m e))
-    where
-      differs : (m : Home) (b : Bool) → same_home k m ≡ b → listed m (pre ++ qs) ≡ true → b ≡ false
-      differs m true p e = absurd (not_true (listed k (pre ++ qs)) o.0 (ap (λ z. listed z (pre ++ qs)) (home_same k m p) ∙ e))
-      differs m false p e = refl
+  behind_order (k ∷ pre) qs o = search (arith, rules, behind_order pre qs o.1.1, listed_append, not_true, home_same)
 
   abbrev kept_names : List Home → Home → List Text
   kept_names ks h = in_globals h (ascending (own_names world.sources h ++ flat_map (names_in world ks) (included world.sources h)))
@@ -362,32 +350,16 @@ module _ (world : World) where
       )
 
       belongs_back : (s : Stmt) (rest : Body) → Belongs (stmt s rest) → Belongs rest
-      belongs_back s rest b = record {
-        names = among_back (stmt_names s) (body_names rest) all_names b.names;
-        included = each_back (Included world order h) (needs_by true s) (needs_in true rest) b.included;
-        scoped = each_back (Proper world order h) (scoped_by s) (scoped_in rest) b.scoped;
-      }
+      belongs_back s rest b = search (arith, rules, among_back, each_back, scoped_by, scoped_in)
 
       template_bodies : (ts : List Template) → AllAmong (flat_map (λ t. body_names t.body) ts) all_names → Each (Included world order h) (flat_map (λ t. needs_in true t.body) ts)
           → Each (Proper world order h) (flat_map (λ t. scoped_in t.body) ts) → Every (λ t. Belongs t.body) ts
       template_bodies [] a b c = tt
-      template_bodies (t ∷ ts) a b c = (
-        record {
-          names = among_front (body_names t.body) (flat_map (λ u. body_names u.body) ts) all_names a;
-          included = each_front (Included world order h) (needs_in true t.body) (flat_map (λ u. needs_in true u.body) ts) b;
-          scoped = each_front (Proper world order h) (scoped_in t.body) (flat_map (λ u. scoped_in u.body) ts) c;
-        },
-        template_bodies ts (among_back (body_names t.body) (flat_map (λ u. body_names u.body) ts) all_names a)
-            (each_back (Included world order h) (needs_in true t.body) (flat_map (λ u. needs_in true u.body) ts) b)
-            (each_back (Proper world order h) (scoped_in t.body) (flat_map (λ u. scoped_in u.body) ts) c),
-      )
+      template_bodies (t ∷ ts) a b c = search (arith, rules, among_front, each_front, scoped_in, template_bodies ts, among_back, each_back)
 
       -- the templates of the chain
       pub templates_belong : Every (λ t. Belongs t.body) (templates world.sources h)
-      templates_belong =
-          template_bodies (templates world.sources h) (own_read h at.1 names_are)
-          (each_included (flat_map (λ t. needs_in true t.body) (templates world.sources h)) (λ x i. i))
-          (scoped_templates world order h known)
+      templates_belong = search (arith, rules, template_bodies, own_read, at, names_are, each_included, scoped_templates)
 
       -- the names that scopes bind are among those that are read or bound
       pub scopes_known : AllAmong (scopes world order h) (read_names world order h)
@@ -413,10 +385,7 @@ module _ (world : World) where
       all_macro_bodies (t ∷ ts) b = every_append OwnedMacro (macros_in t.name t.body) (flat_map (λ u. macros_in u.name u.body) ts) (macro_bodies t.name t.body b.0) (all_macro_bodies ts b.1)
 
       macro_among : (x : Text) (m : MacroBody) (ms : List MacroBody) → Every OwnedMacro ms → macro_of x ms ≡ Some m → OwnedMacro m
-      macro_among x m [] b e = absurd (nothing e)
-        where
-          nothing : None ≡ Some m → ⊥
-          nothing q = cc
+      macro_among x m [] b e = search (arith, rules)
       macro_among x m (n ∷ ns) b e = through (bytes_eq n.name x) e (λ f. macro_among x m ns b.1 f)
         where
           is_it : Some n ≡ Some m → n ≡ m
@@ -438,34 +407,8 @@ module _ (world : World) where
           stmt_blocks : (s : Stmt) (on : Bool) → StmtBelongs s → InBelongs (blocks_of t s on)
           stmt_blocks (block line x true required body) on b = let o = owned body b.0 b.1 b.2.1 in (o, body_blocks body on o.belongs)
           stmt_blocks (block line x false required body) on b = let o = owned body b.0 b.1 b.2 in (o, body_blocks body on o.belongs)
-          stmt_blocks (choose bs other) on b =
-              every_append (λ b. Owned b.body) (blocks_under t bs on) (blocks_in t other on)
-              (branch_blocks bs on (
-                among_front (branch_names bs) (body_names other) all_names b.0,
-                each_front (Included world order h) (needs_under true bs) (needs_in true other) b.1,
-                each_front (Proper world order h) (scoped_under bs) (scoped_in other) b.2,
-              ))
-              (body_blocks other on (record {
-                names = among_back (branch_names bs) (body_names other) all_names b.0;
-                included = each_back (Included world order h) (needs_under true bs) (needs_in true other) b.1;
-                scoped = each_back (Proper world order h) (scoped_under bs) (scoped_in other) b.2;
-              }))
-          stmt_blocks (for_each line xs e c body other) on b =
-              let b1 = among_back (expr_names e) (xs ++ (condition_names c ++ (body_names body ++ body_names other))) all_names b.0 in
-              let b2 = among_back xs (condition_names c ++ (body_names body ++ body_names other)) all_names b1 in
-              let b3 = among_back (condition_names c) (body_names body ++ body_names other) all_names b2 in
-              let d = behind_proper world order h (set_in body) (scoped_in body ++ scoped_in other) (behind_proper world order h xs (named (set_in body) ++ (scoped_in body ++ scoped_in other)) b.2) in
-              every_append (λ b. Owned b.body) (blocks_in t body on) (blocks_in t other on)
-              (body_blocks body on (record {
-                names = among_front (body_names body) (body_names other) all_names b3;
-                included = each_front (Included world order h) (needs_in true body) (needs_in true other) b.1;
-                scoped = each_front (Proper world order h) (scoped_in body) (scoped_in other) d;
-              }))
-              (body_blocks other on (record {
-                names = among_back (body_names body) (body_names other) all_names b3;
-                included = each_back (Included world order h) (needs_in true body) (needs_in true other) b.1;
-                scoped = each_back (Proper world order h) (scoped_in body) (scoped_in other) d;
-              }))
+          stmt_blocks (choose bs other) on b = search (arith, rules, every_append, branch_blocks bs on, among_front, each_front, scoped_under, scoped_in, body_blocks other on, among_back, each_back)
+          stmt_blocks (for_each line xs e c body other) on b = search (arith, rules, among_back, behind_proper, scoped_in, named, every_append, body_blocks body on, among_front, each_front, body_blocks other on, each_back)
           stmt_blocks (set_block line x body) on b = body_blocks body on (owned body b.0.1 b.1 b.2).belongs
           stmt_blocks (with_values line ps body) on b =
               body_blocks body on (owned body (among_back (keywords ps) (body_names body) all_names (among_back (pair_names ps) (keywords ps ++ body_names body) all_names b.0)) b.1 (behind_proper world order h (keywords ps) (named (set_in body) ++ scoped_in body) b.2)).belongs
@@ -487,19 +430,7 @@ module _ (world : World) where
 
           branch_blocks : (bs : Branches) (on : Bool) → BranchesBelong bs → InBelongs (blocks_under t bs on)
           branch_blocks no_branches on b = tt
-          branch_blocks (branch line c body rest) on b =
-              let b1 = among_back (expr_names c) (body_names body ++ branch_names rest) all_names b.0 in
-              every_append (λ b. Owned b.body) (blocks_in t body on) (blocks_under t rest on)
-              (body_blocks body on (record {
-                names = among_front (body_names body) (branch_names rest) all_names b1;
-                included = each_front (Included world order h) (needs_in true body) (needs_under true rest) b.1;
-                scoped = each_front (Proper world order h) (scoped_in body) (scoped_under rest) b.2;
-              }))
-              (branch_blocks rest on (
-                among_back (body_names body) (branch_names rest) all_names b1,
-                each_back (Included world order h) (needs_in true body) (needs_under true rest) b.1,
-                each_back (Proper world order h) (scoped_in body) (scoped_under rest) b.2,
-              ))
+          branch_blocks (branch line c body rest) on b = search (arith, rules, among_back, every_append, body_blocks body on, among_front, each_front, scoped_in, scoped_under, branch_blocks rest on, each_back)
 
       pub all_block_bodies : (on : Bool) (ts : List Template) → Every (λ t. Belongs t.body) ts → InBelongs (flat_map (λ t. blocks_in t.name t.body on) ts)
       all_block_bodies on [] b = tt

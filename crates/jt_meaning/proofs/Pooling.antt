@@ -1,12 +1,12 @@
 -- A tree with places in the pool means what it means with its values.
-use Rattle.std.proofs.Common.{◌≡◌, ℕ, zero, suc, ◌+◌, Bool, true, false, if◌then◌else◌, List, [], ◌∷◌, ◌++◌, length, Option, Some, None, refl, ap, ◌∙◌, subst, arith}
+use Rattle.std.proofs.Common.{◌≡◌, ℕ, zero, suc, ◌+◌, Bool, true, false, if◌then◌else◌, List, [], ◌∷◌, ◌++◌, length, Option, Some, None, refl, ap, ◌∙◌, subst, arith, rules}
 use Rattle.std.specs.Prelude.{slice_get}
 use Rattle.jt_value.specs.Tree as tree
 use Rattle.jt_value.specs.Tree.{Tree}
 use Rattle.jt_value.specs.Place.{Place}
 use Rattle.jt_evaluation.specs.Got.{Got, gives, bind, checked, at}
 use Rattle.jt_evaluation.specs.Values.{shown, bytes_of, as_value}
-use Rattle.jt_resolved.specs.Slots.{with_locals, SlotExpr, pooled, variable, field, absent, made, conjunction, disjunction, choice, invoke, SRow, none, item, aside, Targets, SlotStmt, put_pooled, print, assign, if_else, for_each, capture, run, SBody, end, stmt, Routine, Memory, Valued, Listed, SCalls, take, store, local, make, valued, in_front, svalue, svalues, skept, sturns, sgone_over, smeaning, smeanings, sperformed, scalls}
+use Rattle.jt_resolved.specs.Slots.{with_locals, SlotExpr, pooled, variable, field, absent, made, conjunction, disjunction, choice, invoke, SRow, none, item, aside, Targets, SlotStmt, put_pooled, print, assign, if_else, for_each, capture, run, SBody, end, stmt, Routine, Memory, Valued, Listed, SCalls, take, store, make, valued, svalue, svalues, skept, sturns, sgone_over, smeaning, smeanings, sperformed, scalls}
 use Rattle.jt_evaluation.specs.Loops.{Loop, items_of_value, tree_at}
 use Rattle.jt_evaluation.specs.Filters.{Filters}
 use Rattle.jt_resolved.specs.Pool.{Constant, own, known, constant_in, constant_values, expr_values, row_values, condition_values, stmt_values, body_values, routines_values, placed, placed_expr, placed_row, placed_condition, placed_stmt, placed_body, placed_routines}
@@ -54,54 +54,24 @@ module _ (fs : Filters) (pool : List Tree) (call call' : SCalls) (same : (u : �
     expr_placed (field f) n l m h = refl
     expr_placed absent n l m h = refl
     expr_placed (made k es) n l m h = ap (λ g. bind g (λ r. bind (checked (make fs k r.values)) (valued r.memory))) (row_placed es n l m h)
-    expr_placed (conjunction a b) n l m h =
-        then_same (by_place (placed_expr a n) l m) (by_value a l m) (λ r. if tree.truth r.value then by_place (placed_expr b (n + length (expr_values a))) l r.memory else gives r) (λ r. if tree.truth r.value then by_value b l r.memory else gives r)
-        (expr_placed a n l m (held_front pool n (expr_values a) (expr_values b) h))
-        (λ r. if_same (tree.truth r.value) (by_place (placed_expr b (n + length (expr_values a))) l r.memory) (gives r) (by_value b l r.memory) (gives r) (expr_placed b (n + length (expr_values a)) l r.memory (held_back pool n (expr_values a) (expr_values b) h)) refl)
-    expr_placed (disjunction a b) n l m h =
-        then_same (by_place (placed_expr a n) l m) (by_value a l m) (λ r. if tree.truth r.value then gives r else by_place (placed_expr b (n + length (expr_values a))) l r.memory) (λ r. if tree.truth r.value then gives r else by_value b l r.memory)
-        (expr_placed a n l m (held_front pool n (expr_values a) (expr_values b) h))
-        (λ r. if_same (tree.truth r.value) (gives r) (by_place (placed_expr b (n + length (expr_values a))) l r.memory) (gives r) (by_value b l r.memory) refl (expr_placed b (n + length (expr_values a)) l r.memory (held_back pool n (expr_values a) (expr_values b) h)))
-    expr_placed (choice c a b) n l m h =
-        let rest = held_back pool n (expr_values c) (expr_values a ++ expr_values b) h in
-        then_same (by_place (placed_expr c n) l m) (by_value c l m)
-        (λ r. if tree.truth r.value then by_place (placed_expr a (n + length (expr_values c))) l r.memory else by_place (placed_expr b (n + length (expr_values c) + length (expr_values a))) l r.memory)
-        (λ r. if tree.truth r.value then by_value a l r.memory else by_value b l r.memory)
-        (expr_placed c n l m (held_front pool n (expr_values c) (expr_values a ++ expr_values b) h))
-        (λ r. if_same (tree.truth r.value) (by_place (placed_expr a (n + length (expr_values c))) l r.memory) (by_place (placed_expr b (n + length (expr_values c) + length (expr_values a))) l r.memory) (by_value a l r.memory) (by_value b l r.memory)
-        (expr_placed a (n + length (expr_values c)) l r.memory (held_front pool (n + length (expr_values c)) (expr_values a) (expr_values b) rest))
-        (expr_placed b (n + length (expr_values c) + length (expr_values a)) l r.memory (held_back pool (n + length (expr_values c)) (expr_values a) (expr_values b) rest)))
-    expr_placed (invoke u on es) n l m h =
-        then_same (row_by_place (placed_row es n) l m) (row_by_value es l m)
-        (λ r. bind (call' u r.values r.memory.globals) (λ w. valued (record r.memory { globals = w.globals }) (as_value on w.text))) (λ r. bind (call u r.values r.memory.globals) (λ w. valued (record r.memory { globals = w.globals }) (as_value on w.text)))
-        (row_placed es n l m h) (λ r. ap (λ g. bind g (λ w. valued (record r.memory { globals = w.globals }) (as_value on w.text))) (same u r.values r.memory.globals))
+    expr_placed (conjunction a b) n l m h = search (arith, rules, then_same, expr_placed a n l m, held_front, if_same, expr_placed b (n + length (expr_values a)) l, held_back)
+    expr_placed (disjunction a b) n l m h = search (arith, rules, then_same, expr_placed a n l m, held_front, if_same, expr_placed b (n + length (expr_values a)) l, held_back)
+    expr_placed (choice c a b) n l m h = search (arith, rules, held_back, then_same, expr_placed c n l m, held_front, if_same, expr_placed a (n + length (expr_values c)) l, expr_placed b (n + length (expr_values c) + length (expr_values a)) l)
+    expr_placed (invoke u on es) n l m h = search (arith, rules, then_same, row_placed es n l m h)
 
     row_placed : (es : SRow Constant) (n : ℕ) (l : Option Loop) (m : Memory) → Held pool n (row_values es) → row_by_place (placed_row es n) l m ≡ row_by_value es l m
     row_placed none n l m h = refl
-    row_placed (item e es) n l m h =
-        then_same (by_place (placed_expr e n) l m) (by_value e l m) (λ r. bind (row_by_place (placed_row es (n + length (expr_values e))) l r.memory) (λ rs. gives (in_front r.value rs))) (λ r. bind (row_by_value es l r.memory) (λ rs. gives (in_front r.value rs)))
-        (expr_placed e n l m (held_front pool n (expr_values e) (row_values es) h))
-        (λ r. ap (λ g. bind g (λ rs. gives (in_front r.value rs))) (row_placed es (n + length (expr_values e)) l r.memory (held_back pool n (expr_values e) (row_values es) h)))
-    row_placed (aside i e es) n l m h =
-        then_same (by_place (placed_expr e n) l m) (by_value e l m) (λ r. row_by_place (placed_row es (n + length (expr_values e))) l (store (local i) r.value r.memory)) (λ r. row_by_value es l (store (local i) r.value r.memory))
-        (expr_placed e n l m (held_front pool n (expr_values e) (row_values es) h))
-        (λ r. row_placed es (n + length (expr_values e)) l (store (local i) r.value r.memory) (held_back pool n (expr_values e) (row_values es) h))
+    row_placed (item e es) n l m h = search (arith, rules, then_same, expr_placed e n l m, held_front, row_placed es (n + length (expr_values e)) l, held_back)
+    row_placed (aside i e es) n l m h = search (arith, rules, then_same, expr_placed e n l m, held_front, row_placed es (n + length (expr_values e)) l, held_back)
 
   kept_placed : (c : Option (SlotExpr Constant)) (n : ℕ) (xs : Targets) (vs : List Tree) (m : Memory) → Held pool n (condition_values c) → skept fs (tree_at pool) call' (placed_condition c n) xs vs m ≡ skept fs (constant_in pool) call c xs vs m
   kept_placed None n xs vs m h = refl
   kept_placed (Some c) n xs [] m h = refl
-  kept_placed (Some c) n xs (v ∷ vs) m h =
-      bind_ext (take xs v m) (λ o. bind (by_place (placed_expr c n) None o) (λ r. bind (skept fs (tree_at pool) call' (placed_condition (Some c) n) xs vs r.memory) (λ rest. gives (if tree.truth r.value then in_front v rest else rest))))
-      (λ o. bind (by_value c None o) (λ r. bind (skept fs (constant_in pool) call (Some c) xs vs r.memory) (λ rest. gives (if tree.truth r.value then in_front v rest else rest))))
-      (λ o. then_same (by_place (placed_expr c n) None o) (by_value c None o) (λ r. bind (skept fs (tree_at pool) call' (placed_condition (Some c) n) xs vs r.memory) (λ rest. gives (if tree.truth r.value then in_front v rest else rest)))
-      (λ r. bind (skept fs (constant_in pool) call (Some c) xs vs r.memory) (λ rest. gives (if tree.truth r.value then in_front v rest else rest)))
-      (expr_placed c n None o h) (λ r. ap (λ g. bind g (λ rest. gives (if tree.truth r.value then in_front v rest else rest))) (kept_placed (Some c) n xs vs r.memory h)))
+  kept_placed (Some c) n xs (v ∷ vs) m h = search (arith, rules, bind_ext, then_same, expr_placed, kept_placed (Some c) n xs vs)
 
   turns_same : (f k : Option Loop → Memory → Got Memory) → ((l : Option Loop) (m : Memory) → f l m ≡ k l m) → (xs : Targets) (p : Place) (all : List Tree) (i : ℕ) (vs : List Tree) (m : Memory) → sturns f xs p all i vs m ≡ sturns k xs p all i vs m
   turns_same f k d xs p all i [] m = refl
-  turns_same f k d xs p all i (v ∷ vs) m =
-      bind_ext (at p (take xs v m)) (λ n. bind (f (Some (record { items = all; before = i })) n) (sturns f xs p all (suc i) vs)) (λ n. bind (k (Some (record { items = all; before = i })) n) (sturns k xs p all (suc i) vs))
-      (λ n. then_same (f (Some (record { items = all; before = i })) n) (k (Some (record { items = all; before = i })) n) (sturns f xs p all (suc i) vs) (sturns k xs p all (suc i) vs) (d (Some (record { items = all; before = i })) n) (λ o. turns_same f k d xs p all (suc i) vs o))
+  turns_same f k d xs p all i (v ∷ vs) m = search (arith, rules, bind_ext, then_same, turns_same f k d xs p all (suc i) vs)
 
   gone_same : (f k : Option Loop → Memory → Got Memory) → ((l : Option Loop) (m : Memory) → f l m ≡ k l m) → (g h : Memory → Got Memory) → ((m : Memory) → g m ≡ h m) → (xs : Targets) (p : Place) (vs : List Tree) (m : Memory) → sgone_over f g xs p vs m ≡ sgone_over k h xs p vs m
   gone_same f k d g h e xs p [] m = e m
@@ -144,16 +114,11 @@ module _ (fs : Filters) (pool : List Tree) (call call' : SCalls) (same : (u : �
         (λ r. gone_same (λ l' m'. body_by_place (placed_body body n2) l' m') (λ l' m'. body_by_value body l' m') (λ l' m'. body_placed body n2 l' m' (held_front pool n2 (body_values body) (body_values other) h2))
         (λ m'. body_by_place (placed_body other n3) l m') (λ m'. body_by_value other l m') (λ m'. body_placed other n3 l m' (held_back pool n2 (body_values body) (body_values other) h2)) xs p r.values r.memory)
     stmt_placed (capture on s body) n l m h = ap (λ g. bind g (λ o. gives (store s (as_value on o.out) (record o { out = m.out })))) (body_placed body n l (record m { out = [] }) h)
-    stmt_placed (run u es) n l m h =
-        then_same (row_by_place (placed_row es n) l m) (row_by_value es l m)
-        (λ r. bind (call' u r.values r.memory.globals) (λ w. gives (record r.memory { globals = w.globals; out = r.memory.out ++ w.text }))) (λ r. bind (call u r.values r.memory.globals) (λ w. gives (record r.memory { globals = w.globals; out = r.memory.out ++ w.text })))
-        (row_placed es n l m h) (λ r. ap (λ g. bind g (λ w. gives (record r.memory { globals = w.globals; out = r.memory.out ++ w.text }))) (same u r.values r.memory.globals))
+    stmt_placed (run u es) n l m h = search (arith, rules, then_same, row_placed)
 
     pub body_placed : (b : SBody Constant) (n : ℕ) (l : Option Loop) (m : Memory) → Held pool n (body_values b) → body_by_place (placed_body b n) l m ≡ body_by_value b l m
     body_placed end n l m h = refl
-    body_placed (stmt s rest) n l m h =
-        then_same (smeaning fs (tree_at pool) call' (placed_stmt s n) l m) (smeaning fs (constant_in pool) call s l m) (λ o. body_by_place (placed_body rest (n + length (stmt_values s))) l o) (λ o. body_by_value rest l o)
-        (stmt_placed s n l m (held_front pool n (stmt_values s) (body_values rest) h)) (λ o. body_placed rest (n + length (stmt_values s)) l o (held_back pool n (stmt_values s) (body_values rest) h))
+    body_placed (stmt s rest) n l m h = search (arith, rules, then_same, stmt_placed s n l m, held_front, body_placed rest (n + length (stmt_values s)) l, held_back)
 
   -- a routine of a list
   pub routine_placed : (rs : List (Routine Constant)) (n u : ℕ) (ts gs : List Tree) → Held pool n (routines_values rs)

@@ -14,11 +14,9 @@ use Rattle.jt_evaluation.specs.Values.{value_in}
 use Rattle.jt_evaluation.specs.Loops.{tree_at}
 use Rattle.jt_resolved.specs.Slots.{Slot, Memory, load, put_at}
 use Rattle.jt_meaning.proofs.Among.{Among, AllAmong}
+pub use Rattle.jt_meaning.proofs.Among.{same_text}
 
 -- ---- texts
-
-pub same_text : (x y : Text) → bytes_eq x y ≡ true → x ≡ y
-same_text x y e = (bytes_eq-Decides x y).0 e
 
 surely : (b : Bool) (P : Type 0) → Decides b P → P → b ≡ true
 surely b P d h = d.1 h
@@ -67,17 +65,10 @@ put_here zero v (t ∷ ts) = refl
 put_here (suc i) v [] = put_here i v []
 put_here (suc i) v (t ∷ ts) = put_here i v ts
 
-nothing_at : (i : ℕ) → tree_at [] i ≡ tree.undefined
-nothing_at i = refl
-
 pub put_elsewhere : (i j : ℕ) (v : Tree) (ts : List Tree) → (i ≡ j → ⊥) → tree_at (put_at i v ts) j ≡ tree_at ts j
-put_elsewhere zero zero v ts n = absurd (n refl)
-put_elsewhere zero (suc j) v [] n = refl
-put_elsewhere zero (suc j) v (t ∷ ts) n = refl
-put_elsewhere (suc i) zero v [] n = refl
-put_elsewhere (suc i) zero v (t ∷ ts) n = refl
 put_elsewhere (suc i) (suc j) v [] n = put_elsewhere i j v [] (λ e. n (ap suc e))
 put_elsewhere (suc i) (suc j) v (t ∷ ts) n = put_elsewhere i j v ts (λ e. n (ap suc e))
+put_elsewhere a0 a1 v a3 n = search (arith, rules)
 
 -- ---- environments
 
@@ -97,31 +88,20 @@ abbrev pub IsInner : Env → Type 0
 IsInner env = (s : Pairs) × (ss : List Pairs) × (env.scopes ≡ s ∷ ss)
 
 inner_bound_in : (ss : List Pairs) (globals : Pairs) (x : Text) (v : Tree) → IsInner (record { scopes = ss; globals = globals }) → IsInner (bound (record { scopes = ss; globals = globals }) x v)
-inner_bound_in [] globals x v (s, ss', e) = absurd (nonempty e)
-  where
-    nonempty : {A : Type 0} {x : A} {xs : List A} → [] ≡ x ∷ xs → ⊥
-    nonempty q = cc
+inner_bound_in [] globals x v (s, ss', e) = search (arith, rules)
 inner_bound_in (s ∷ ss) globals x v i = ((x, v) ∷ s, ss, refl)
 
 pub inner_bound : (env : Env) (x : Text) (v : Tree) → IsInner env → IsInner (bound env x v)
 inner_bound env x v i = inner_bound_in env.scopes env.globals x v i
 
 inner_globals_in : (ss : List Pairs) (globals : Pairs) (x : Text) (v : Tree) → IsInner (record { scopes = ss; globals = globals }) → (bound (record { scopes = ss; globals = globals }) x v).globals ≡ globals
-inner_globals_in [] globals x v (s, ss', e) = absurd (nonempty e)
-  where
-    nonempty : {A : Type 0} {x : A} {xs : List A} → [] ≡ x ∷ xs → ⊥
-    nonempty q = cc
-inner_globals_in (s ∷ ss) globals x v i = refl
+inner_globals_in a0 globals x v a4 = search (arith, rules)
 
 pub inner_globals : (env : Env) (x : Text) (v : Tree) → IsInner env → (bound env x v).globals ≡ env.globals
 inner_globals env x v i = inner_globals_in env.scopes env.globals x v i
 
 top_bound_in : (ss : List Pairs) (globals : Pairs) (x : Text) (v : Tree) → ss ≡ [] → (bound (record { scopes = ss; globals = globals }) x v).scopes ≡ []
-top_bound_in [] globals x v e = refl
-top_bound_in (s ∷ ss) globals x v e = absurd (nonempty e)
-  where
-    nonempty : s ∷ ss ≡ [] → ⊥
-    nonempty q = cc
+top_bound_in a0 globals x v e = search (arith, rules)
 
 pub top_bound : (env : Env) (x : Text) (v : Tree) → env.scopes ≡ [] → (bound env x v).scopes ≡ []
 top_bound env x v e = top_bound_in env.scopes env.globals x v e

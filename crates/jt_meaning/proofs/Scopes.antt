@@ -1,14 +1,11 @@
 -- The names that scopes bind, and the blocks whose tags say `scoped`, in the order of the tree.
-use Rattle.std.proofs.Common.{◌≡◌, Bool, true, false, if◌then◌else◌, List, [], ◌∷◌, ◌++◌, map, refl, sym, ap, ◌∙◌, subst, ◌⊎◌, inl, inr}
+use Rattle.std.proofs.Common.{◌≡◌, true, false, List, [], ◌∷◌, ◌++◌, map, refl, sym, ap, ◌∙◌, subst, ◌⊎◌, inl, inr, arith, rules}
 use Rattle.std.specs.Prelude.{flat_map}
-use Rattle.std.specs.Ordering.{nat_cmp, is_lt}
-use Rattle.std.specs.Cmp.Lexicographic.{slice_cmp}
-use Rattle.std.specs.Str.{bytes_eq}
 use Rattle.jt_trees.specs.Texts.{inserted, all_inserted, ascending}
 use Rattle.jt_trees.specs.Expressions.{Text}
-use Rattle.jt_trees.specs.Statements.{Stmt, data_of, print, choose, for_each, set, set_block, with_values, filter_block, autoescape, macro, include, import_as, import_from, extends, block, Body, end, stmt, Branches, no_branches, branch}
+use Rattle.jt_trees.specs.Statements.{Stmt, choose, for_each, set_block, with_values, filter_block, autoescape, macro, block, Body, end, stmt, Branches, no_branches, branch}
 use Rattle.jt_chains.specs.Chain.{Home, Template, templates}
-use Rattle.jt_chains.specs.Uses.{keywords, expr_names, pair_names, condition_names, filtering_names, stmt_names, body_names, branch_names, set_in, scope_names_by, scope_names_in, scope_names_under, scope_names}
+use Rattle.jt_chains.specs.Uses.{keywords, filtering_names, stmt_names, body_names, branch_names, set_in, scope_names_by, scope_names_in, scope_names_under, scope_names}
 use Rattle.jt_rules.specs.World.{World}
 use Rattle.jt_meaning.proofs.Among.{Among, AllAmong, all_ascending}
 use Rattle.jt_meaning.proofs.Reading.{same_text, is_same, no_both, among_front, among_back, each_among}
@@ -35,22 +32,13 @@ mutual
   stmt_scopes (block line x true required body) = scope_scopes body
   stmt_scopes (block line x false required body) = scope_scopes body
   stmt_scopes (choose bs other) = names_append (scoped_under bs) (scoped_in other) ∙ ap (λ ys. ys ++ names_of (scoped_in other)) (branches_scopes bs) ∙ ap (λ ys. scope_names_under bs ++ ys) (body_scopes other)
-  stmt_scopes (for_each line xs e c body other) =
-      names_behind xs (named (set_in body) ++ (scoped_in body ++ scoped_in other))
-      ∙ ap (λ ys. xs ++ ys) (names_behind (set_in body) (scoped_in body ++ scoped_in other)
-      ∙ ap (λ ys. set_in body ++ ys) (names_append (scoped_in body) (scoped_in other) ∙ ap (λ ys. ys ++ names_of (scoped_in other)) (body_scopes body) ∙ ap (λ ys. scope_names_in body ++ ys) (body_scopes other)))
+  stmt_scopes (for_each line xs e c body other) = search (arith, rules, names_behind, named, scoped_in, names_append, body_scopes body, body_scopes other)
   stmt_scopes (set_block line x body) = scope_scopes body
   stmt_scopes (with_values line ps body) = names_behind (keywords ps) (named (set_in body) ++ scoped_in body) ∙ ap (λ ys. keywords ps ++ ys) (scope_scopes body)
   stmt_scopes (filter_block line fs body) = scope_scopes body
   stmt_scopes (autoescape line on body) = scope_scopes body
   stmt_scopes (macro line x ps body) = names_behind (map (λ p. p.name) ps) (named (set_in body) ++ scoped_in body) ∙ ap (λ ys. map (λ p. p.name) ps ++ ys) (scope_scopes body)
-  stmt_scopes (data_of d) = refl
-  stmt_scopes (print line e) = refl
-  stmt_scopes (set line xs e) = refl
-  stmt_scopes (include line n i w) = refl
-  stmt_scopes (import_as line n new) = refl
-  stmt_scopes (import_from line n news) = refl
-  stmt_scopes (extends line n) = refl
+  stmt_scopes a0 = refl
 
   scope_scopes : (body : Body) → names_of (named (set_in body) ++ scoped_in body) ≡ set_in body ++ scope_names_in body
   scope_scopes end = refl
@@ -80,28 +68,14 @@ mutual
   stmt_binds : (s : Stmt) (ns : List Text) → AllAmong (stmt_names s) ns → AllAmong (scope_names_by s) ns
   stmt_binds (block line x scoped required body) ns a = scope_binds body ns a
   stmt_binds (choose bs other) ns a = among_both (scope_names_under bs) (scope_names_in other) ns (branches_bind bs ns (among_front (branch_names bs) (body_names other) ns a)) (body_binds other ns (among_back (branch_names bs) (body_names other) ns a))
-  stmt_binds (for_each line xs e c body other) ns a =
-      let b = among_back (expr_names e) (xs ++ (condition_names c ++ (body_names body ++ body_names other))) ns a in
-      let d = among_back (condition_names c) (body_names body ++ body_names other) ns (among_back xs (condition_names c ++ (body_names body ++ body_names other)) ns b) in
-      let inner = among_front (body_names body) (body_names other) ns d in
-      among_both xs (set_in body ++ (scope_names_in body ++ scope_names_in other)) ns (among_front xs (condition_names c ++ (body_names body ++ body_names other)) ns b)
-      (among_both (set_in body) (scope_names_in body ++ scope_names_in other) ns (in_among body ns inner)
-      (among_both (scope_names_in body) (scope_names_in other) ns (body_binds body ns inner) (body_binds other ns (among_back (body_names body) (body_names other) ns d))))
+  stmt_binds (for_each line xs e c body other) ns a = search (arith, rules, among_back, among_front, among_both, in_among, body_binds body ns, body_binds other ns)
   stmt_binds (set_block line x body) ns a = scope_binds body ns a.1
-  stmt_binds (with_values line ps body) ns a =
-      let b = among_back (pair_names ps) (keywords ps ++ body_names body) ns a in
-      among_both (keywords ps) (set_in body ++ scope_names_in body) ns (among_front (keywords ps) (body_names body) ns b) (scope_binds body ns (among_back (keywords ps) (body_names body) ns b))
+  stmt_binds (with_values line ps body) ns a = search (arith, rules, among_back, among_both, among_front, scope_binds body ns)
   stmt_binds (filter_block line fs body) ns a = scope_binds body ns (among_front (body_names body) (filtering_names fs) ns a)
   stmt_binds (autoescape line on body) ns a = scope_binds body ns a
   stmt_binds (macro line x ps body) ns a =
       among_both (map (λ p. p.name) ps) (set_in body ++ scope_names_in body) ns (among_front (map (λ p. p.name) ps) (body_names body) ns a) (scope_binds body ns (among_back (map (λ p. p.name) ps) (body_names body) ns a))
-  stmt_binds (data_of d) ns a = tt
-  stmt_binds (print line e) ns a = tt
-  stmt_binds (set line xs e) ns a = tt
-  stmt_binds (include line n i w) ns a = tt
-  stmt_binds (import_as line n new) ns a = tt
-  stmt_binds (import_from line n news) ns a = tt
-  stmt_binds (extends line n) ns a = tt
+  stmt_binds a0 ns a = tt
 
   scope_binds : (body : Body) (ns : List Text) → AllAmong (body_names body) ns → AllAmong (set_in body ++ scope_names_in body) ns
   scope_binds end ns a = tt
@@ -115,9 +89,7 @@ mutual
 
   branches_bind : (bs : Branches) (ns : List Text) → AllAmong (branch_names bs) ns → AllAmong (scope_names_under bs) ns
   branches_bind no_branches ns a = tt
-  branches_bind (branch line c body rest) ns a =
-      let b = among_back (expr_names c) (body_names body ++ branch_names rest) ns a in
-      among_both (scope_names_in body) (scope_names_under rest) ns (body_binds body ns (among_front (body_names body) (branch_names rest) ns b)) (branches_bind rest ns (among_back (body_names body) (branch_names rest) ns b))
+  branches_bind (branch line c body rest) ns a = search (arith, rules, among_back, among_both, body_binds body ns, among_front, branches_bind rest ns)
 
 pub templates_bind : (ts : List Template) (ns : List Text) → AllAmong (flat_map (λ t. body_names t.body) ts) ns → AllAmong (flat_map (λ t. scope_names_in t.body) ts) ns
 templates_bind [] ns a = tt
@@ -129,37 +101,14 @@ templates_bind (t ∷ ts) ns a =
 inserted_from : (x z : Text) (ns : List Text) → Among z (inserted x ns) → (x ≡ z) ⊎ Among z ns
 inserted_from x z [] (inl e) = inl e
 inserted_from x z [] (inr i) = absurd i
-inserted_from x z (y ∷ ys) i = through (bytes_eq y x) (is_lt (slice_cmp nat_cmp x y)) i (inserted_from x z ys)
-  where
-    through : (b c : Bool) → Among z (if b then y ∷ ys else if c then x ∷ y ∷ ys else y ∷ inserted x ys) → (Among z (inserted x ys) → (x ≡ z) ⊎ Among z ys) → (x ≡ z) ⊎ Among z (y ∷ ys)
-    through true c i f = inr i
-    through false true (inl e) f = inl e
-    through false true (inr i) f = inr i
-    through false false (inl e) f = inr (inl e)
-    through false false (inr i) f = later (f i)
-      where
-        later : (x ≡ z) ⊎ Among z ys → (x ≡ z) ⊎ Among z (y ∷ ys)
-        later (inl e) = inl e
-        later (inr i) = inr (inr i)
+inserted_from x z (y ∷ ys) i = search (arith, rules, inserted_from x z ys)
 
 all_from : (xs : List Text) (z : Text) (ns : List Text) → Among z (all_inserted xs ns) → Among z xs ⊎ Among z ns
 all_from [] z ns i = inr i
-all_from (x ∷ xs) z ns i = through (all_from xs z (inserted x ns) i)
-  where
-    back : (x ≡ z) ⊎ Among z ns → Among z (x ∷ xs) ⊎ Among z ns
-    back (inl e) = inl (inl e)
-    back (inr i) = inr i
-
-    through : Among z xs ⊎ Among z (inserted x ns) → Among z (x ∷ xs) ⊎ Among z ns
-    through (inl i) = inl (inr i)
-    through (inr i) = back (inserted_from x z ns i)
+all_from (x ∷ xs) z ns i = search (arith, rules, all_from xs z (inserted x ns) i, inserted_from)
 
 pub ascending_from : (xs : List Text) (z : Text) → Among z (ascending xs) → Among z xs
-ascending_from xs z i = through (all_from xs z [] i)
-  where
-    through : Among z xs ⊎ Among z [] → Among z xs
-    through (inl i) = i
-    through (inr i) = absurd i
+ascending_from xs z i = search (arith, rules, all_from xs z [] i)
 
 pub all_among : (ys zs : List Text) → ((y : Text) → Among y ys → Among y zs) → AllAmong ys zs
 all_among [] zs f = tt
@@ -171,13 +120,4 @@ ascending_among xs ns a = all_among (ascending xs) ns (λ y i. each_among xs ns 
 -- a name is among others or not
 pub among_or_not : (x : Text) (xs : List Text) → Among x xs ⊎ (Among x xs → ⊥)
 among_or_not x [] = inr (λ i. i)
-among_or_not x (y ∷ ys) = through (bytes_eq y x) refl (among_or_not x ys)
-  where
-    through : (b : Bool) → bytes_eq y x ≡ b → Among x ys ⊎ (Among x ys → ⊥) → Among x (y ∷ ys) ⊎ (Among x (y ∷ ys) → ⊥)
-    through true e r = inl (inl (same_text y x e))
-    through false e (inl i) = inl (inr i)
-    through false e (inr n) = inr (λ i. neither i)
-      where
-        neither : Among x (y ∷ ys) → ⊥
-        neither (inl p) = no_both (is_same y x p) e
-        neither (inr i) = n i
+among_or_not x (y ∷ ys) = search (arith, rules, among_or_not x ys, same_text y x, no_both, is_same y x)

@@ -1,11 +1,10 @@
 -- The routines of a program get as many values as they take.
-use Rattle.std.proofs.Common.{◌≡◌, ℕ, suc, Bool, true, false, ◌&&◌, if◌then◌else◌, List, [], ◌∷◌, ◌++◌, map, Option, Some, None, refl, sym, ap, ◌∙◌, append_assoc, inl, inr}
+use Rattle.std.proofs.Common.{◌≡◌, ℕ, suc, Bool, true, false, ◌&&◌, if◌then◌else◌, List, [], ◌∷◌, ◌++◌, map, Option, Some, None, refl, sym, ap, ◌∙◌, append_assoc, arith, rules}
 use Rattle.std.specs.Prelude.{◌||◌, flat_map, filter}
-use Rattle.std.specs.Option.{option_or}
 use Rattle.std.specs.List.{AllByRecursion}
 use Rattle.std.specs.Str.{bytes_eq}
 use Rattle.jt_trees.specs.Expressions.{Text}
-use Rattle.jt_trees.specs.Statements.{Stmt, data_of, print, choose, for_each, set, set_block, with_values, filter_block, autoescape, macro, include, import_as, import_from, extends, block, Body, end, stmt, Branches, no_branches, branch}
+use Rattle.jt_trees.specs.Statements.{Stmt, choose, for_each, set_block, with_values, filter_block, autoescape, macro, block, Body, end, stmt, Branches, no_branches, branch}
 use Rattle.jt_chains.specs.Chain.{Home, a_chain, a_library, same_home, listed, Template, templates, BlockBody, blocks_of, blocks_in, blocks_under, all_bodies, bodies, from_given, MacroBody, macros_in, macros}
 use Rattle.jt_rules.specs.World.{World}
 use Rattle.jt_chains.specs.Uses.{keywords, set_in}
@@ -20,13 +19,12 @@ use Rattle.jt_meaning.specs.Layout.{counted_from, numbered_bodies, numbered_of, 
 use Rattle.jt_resolved.specs.Pool.{Constant}
 use Rattle.jt_meaning.specs.Resolve.{Spot, top_spot, place, bound_all, next_given, followed, resolved_stmt, resolved_body, resolved_sets, resolved_chain, macro_routine, body_routine}
 use Rattle.jt_meaning.specs.Programs.{body_routines, entry_routines, chain_routines}
-use Rattle.jt_rules.specs.Walk.{Within, used, all_used, broken, pairs_broken, condition_broken, filtering_broken, macro_broken, stmt_broken, body_broken, branches_broken, templates_broken, chains_broken}
+use Rattle.jt_rules.specs.Walk.{Within, used, all_used, pairs_broken, filtering_broken, macro_broken, stmt_broken, body_broken, branches_broken, templates_broken, chains_broken}
 use Rattle.jt_meaning.proofs.Calling.{Included, Tail}
 use Rattle.jt_meaning.proofs.Reading.{same_is, home_is, no_both}
 use Rattle.jt_meaning.proofs.Stating.{Each, each_front, each_back}
 use Rattle.jt_meaning.proofs.Ordering.{Every, every_append, Belongs, Owned, OwnedMacro, libraries_stand, templates_belong, all_macro_bodies, all_block_bodies}
 use Rattle.jt_meaning.proofs.Taking.{none_first, none_second, rs, HasBody, Stands}
-use Rattle.jt_meaning.proofs.Givens.{LeadsTo}
 use Rattle.jt_meaning.proofs.Valuing.{numbered_are}
 use Rattle.jt_meaning.proofs.WithoutSuper.{body_without}
 use Rattle.jt_meaning.proofs.ChainRules.{lacks_at, not_called, needed_there, bodies_behind}
@@ -41,16 +39,8 @@ in_block = record { in_loop = false; in_block = true }
 
 -- a list that has such a member is not empty when it is filtered
 never_empty : (x : Text) (pre : List BlockBody) (b : BlockBody) (bs : List BlockBody) → bytes_eq b.name x ≡ true → filter (λ c. bytes_eq c.name x) (pre ++ (b ∷ bs)) ≡ [] → ⊥
-never_empty x [] b bs same e = kept (bytes_eq b.name x) same e
-  where
-    kept : (c : Bool) → c ≡ true → (if c then b ∷ filter (λ d. bytes_eq d.name x) bs else filter (λ d. bytes_eq d.name x) bs) ≡ [] → ⊥
-    kept true s q = cc
-    kept false s q = no_both s refl
-never_empty x (p ∷ pre) b bs same e = through (bytes_eq p.name x) e (λ q. never_empty x pre b bs same q)
-  where
-    through : (c : Bool) → (if c then p ∷ filter (λ d. bytes_eq d.name x) (pre ++ (b ∷ bs)) else filter (λ d. bytes_eq d.name x) (pre ++ (b ∷ bs))) ≡ [] → (filter (λ d. bytes_eq d.name x) (pre ++ (b ∷ bs)) ≡ [] → ⊥) → ⊥
-    through true q r = cc
-    through false q r = r q
+never_empty x [] b bs same e = search (arith, rules, no_both)
+never_empty x (p ∷ pre) b bs same e = search (arith, rules, never_empty x pre b bs same)
 
 module _ (world : World) (order : List Home) (h : Home) where
   -- each block that stands in the chain has a body there
@@ -62,17 +52,11 @@ module _ (world : World) (order : List Home) (h : Home) where
 
   bodied_behind : (pre bs : List BlockBody) → all_bodies world.sources world.escaping h ≡ pre ++ bs → Bodied bs
   bodied_behind pre [] e = tt
-  bodied_behind pre (b ∷ bs) e = (
-    λ none. never_empty b.name pre b bs (same_is b.name) (sym (ap (filter (λ c. bytes_eq c.name b.name)) e) ∙ none),
-    bodied_behind (pre ++ (b ∷ [])) bs (e ∙ sym (append_assoc pre (b ∷ []) bs)),
-  )
+  bodied_behind pre (b ∷ bs) e = search (arith, rules, never_empty, same_is, bodied_behind (pre ++ (b ∷ [])) bs (e ∙ sym (append_assoc pre (b ∷ []) bs)), append_assoc)
 
   templates_bodied : (ts : List Template) → Bodied (flat_map (λ t. blocks_in t.name t.body world.escaping) ts) → Every (λ t. Bodied (blocks_in t.name t.body world.escaping)) ts
   templates_bodied [] d = tt
-  templates_bodied (t ∷ ts) d = (
-    each_front IsBodied (blocks_in t.name t.body world.escaping) (flat_map (λ u. blocks_in u.name u.body world.escaping) ts) d,
-    templates_bodied ts (each_back IsBodied (blocks_in t.name t.body world.escaping) (flat_map (λ u. blocks_in u.name u.body world.escaping) ts) d),
-  )
+  templates_bodied (t ∷ ts) d = search (arith, rules, each_front, templates_bodied ts, each_back)
 
   -- names that have sources
   abbrev Sourced : List Text → Type 0
@@ -91,20 +75,7 @@ module _ (world : World) (order : List Home) (h : Home) where
 
   macros_fine : (t : Text) (c : Body) (w : Within) → Fine w t world.escaping c → Every FineMacro (macros_in t c)
   macros_fine t end w f = tt
-  macros_fine t (stmt (macro line x ps body) rest) w f = (
-    (
-      none_second (macro_broken world h x ps) (body_broken world h body at_top) (none_first (stmt_broken world h (macro line x ps body) w) (body_broken world h rest w) f.0),
-      f.1.0,
-      each_front IsBodied (blocks_in t body world.escaping) (blocks_in t rest world.escaping) f.2,
-      each_front IsSourced (needs_in false body) (needs_in false rest) f.3,
-    ),
-    macros_fine t rest w (
-      none_second (stmt_broken world h (macro line x ps body) w) (body_broken world h rest w) f.0,
-      f.1.1,
-      each_back IsBodied (blocks_in t body world.escaping) (blocks_in t rest world.escaping) f.2,
-      each_back IsSourced (needs_in false body) (needs_in false rest) f.3,
-    ),
-  )
+  macros_fine t (stmt (macro line x ps body) rest) w f = search (arith, rules, none_second, none_first, each_front, macros_fine t rest w, each_back)
   macros_fine t (stmt s rest) w f =
       macros_fine t rest w (
         none_second (stmt_broken world h s w) (body_broken world h rest w) f.0,
@@ -123,51 +94,29 @@ module _ (world : World) (order : List Home) (h : Home) where
     mutual
       stmt_fine : (s : Stmt) (on : Bool) (w : Within) → stmt_broken world h s w ≡ None → StmtKnown world.filters s → Bodied (blocks_of t s on) → Sourced (needs_by false s) → AllFine (blocks_of t s on)
       stmt_fine (block line x scoped required body) on w e k d m = ((e, k, d.1, m), body_fine body on in_block e k d.1 m)
-      stmt_fine (choose bs other) on w e k d m =
-          every_append FineBlock (blocks_under t bs on) (blocks_in t other on)
-          (branches_fine bs on w (none_first (branches_broken world h bs w) (body_broken world h other w) e) k.0 (each_front IsBodied (blocks_under t bs on) (blocks_in t other on) d) (each_front IsSourced (needs_under false bs) (needs_in false other) m))
-          (body_fine other on w (none_second (branches_broken world h bs w) (body_broken world h other w) e) k.1 (each_back IsBodied (blocks_under t bs on) (blocks_in t other on) d) (each_back IsSourced (needs_under false bs) (needs_in false other) m))
-      stmt_fine (for_each line xs a c body other) on w e k d m =
-          let e3 = none_second (condition_broken world h c w) _ (none_second (all_used world h xs) _ (none_second (broken world h a w) _ e)) in
-          every_append FineBlock (blocks_in t body on) (blocks_in t other on)
-          (body_fine body on (record w { in_loop = true }) (none_first (body_broken world h body (record w { in_loop = true })) (body_broken world h other w) e3) k.2 (each_front IsBodied (blocks_in t body on) (blocks_in t other on) d) (each_front IsSourced (needs_in false body) (needs_in false other) m))
-          (body_fine other on w (none_second (body_broken world h body (record w { in_loop = true })) (body_broken world h other w) e3) k.3 (each_back IsBodied (blocks_in t body on) (blocks_in t other on) d) (each_back IsSourced (needs_in false body) (needs_in false other) m))
+      stmt_fine (choose bs other) on w e k d m = search (arith, rules, every_append, branches_fine bs on w, none_first, each_front, body_fine other on w, none_second, each_back)
+      stmt_fine (for_each line xs a c body other) on w e k d m = search (arith, rules, none_second, every_append, body_fine body on, none_first, each_front, body_fine other on w, each_back)
       stmt_fine (set_block line x body) on w e k d m = body_fine body on w (none_second (used world h x) (body_broken world h body w) e) k d m
       stmt_fine (with_values line ps body) on w e k d m = body_fine body on w (none_second (all_used world h (keywords ps)) (body_broken world h body w) (none_second (pairs_broken world h ps w) _ e)) k.1 d m
       stmt_fine (filter_block line fs body) on w e k d m = body_fine body on w (none_second (filtering_broken world h fs w) (body_broken world h body w) e) k.1 d m
       stmt_fine (autoescape line now body) on w e k d m = body_fine body now w e k d m
       stmt_fine (macro line x ps body) on w e k d m = body_fine body on at_top (none_second (macro_broken world h x ps) (body_broken world h body at_top) e) k d m
-      stmt_fine (data_of s) on w e k d m = tt
-      stmt_fine (print line a) on w e k d m = tt
-      stmt_fine (set line xs a) on w e k d m = tt
-      stmt_fine (include line n i c) on w e k d m = tt
-      stmt_fine (import_as line n new) on w e k d m = tt
-      stmt_fine (import_from line n news) on w e k d m = tt
-      stmt_fine (extends line n) on w e k d m = tt
+      stmt_fine a0 on w e k d m = tt
 
       body_fine : (c : Body) (on : Bool) (w : Within) → body_broken world h c w ≡ None → BodyKnown world.filters c → Bodied (blocks_in t c on) → Sourced (needs_in false c) → AllFine (blocks_in t c on)
       body_fine end on w e k d m = tt
-      body_fine (stmt s rest) on w e k d m =
-          every_append FineBlock (blocks_of t s on) (blocks_in t rest on) (stmt_fine s on w (none_first (stmt_broken world h s w) (body_broken world h rest w) e) k.0 (each_front IsBodied (blocks_of t s on) (blocks_in t rest on) d) (each_front IsSourced (needs_by false s) (needs_in false rest) m))
-          (body_fine rest on w (none_second (stmt_broken world h s w) (body_broken world h rest w) e) k.1 (each_back IsBodied (blocks_of t s on) (blocks_in t rest on) d) (each_back IsSourced (needs_by false s) (needs_in false rest) m))
+      body_fine (stmt s rest) on w e k d m = search (arith, rules, every_append, stmt_fine s on w, none_first, each_front, body_fine rest on w, none_second, each_back)
 
       branches_fine : (bs : Branches) (on : Bool) (w : Within) → branches_broken world h bs w ≡ None → BranchesKnown world.filters bs → Bodied (blocks_under t bs on) → Sourced (needs_under false bs) → AllFine (blocks_under t bs on)
       branches_fine no_branches on w e k d m = tt
-      branches_fine (branch line c body rest) on w e k d m =
-          every_append FineBlock (blocks_in t body on) (blocks_under t rest on)
-          (body_fine body on w (none_second (broken world h c w) (body_broken world h body w) (none_first (option_or (broken world h c w) (body_broken world h body w)) (branches_broken world h rest w) e)) k.1 (each_front IsBodied (blocks_in t body on) (blocks_under t rest on) d) (each_front IsSourced (needs_in false body) (needs_under false rest) m))
-          (branches_fine rest on w (none_second (option_or (broken world h c w) (body_broken world h body w)) (branches_broken world h rest w) e) k.2 (each_back IsBodied (blocks_in t body on) (blocks_under t rest on) d) (each_back IsSourced (needs_in false body) (needs_under false rest) m))
+      branches_fine (branch line c body rest) on w e k d m = search (arith, rules, every_append, body_fine body on w, none_second, none_first, each_front, branches_fine rest on w, each_back)
 
   abbrev FineTemplate : Template → Type 0
   FineTemplate t = Fine at_top t.name world.escaping t.body
 
   templates_fine : (ts : List Template) → templates_broken world h ts ≡ None → TemplatesKnown world.filters ts → Every (λ t. Bodied (blocks_in t.name t.body world.escaping)) ts → Sourced (flat_map (λ t. needs_in false t.body) ts) → Every FineTemplate ts
   templates_fine [] e k d m = tt
-  templates_fine (t ∷ ts) e k d m =
-      let rest : List Text = flat_map (λ u. needs_in false u.body) ts in (
-        (none_first (body_broken world h t.body at_top) _ (none_first _ (templates_broken world h ts) e), k.0, d.0, each_front IsSourced (needs_in false t.body) rest m),
-        templates_fine ts (none_second _ (templates_broken world h ts) e) k.1 d.1 (each_back IsSourced (needs_in false t.body) rest m),
-      )
+  templates_fine (t ∷ ts) e k d m = search (arith, rules, none_first, each_front, templates_fine ts, none_second, each_back)
 
   all_macros_fine : (ts : List Template) → Every FineTemplate ts → Every FineMacro (flat_map (λ t. macros_in t.name t.body) ts)
   all_macros_fine [] f = tt
@@ -182,11 +131,7 @@ module _ (world : World) (order : List Home) (h : Home) where
 
 module _ (world : World) (order : List Home) (ordered : InOrder world.sources order) (h : Home) (known : listed h order ≡ true) where
   stands : Stands world order h
-  stands = (known, λ k l. led k l)
-    where
-      led : (k : Home) → LeadsTo world.sources h k → listed k order ≡ true
-      led k (inl e) = ap (λ z. listed z order) e ∙ known
-      led k (inr r) = ap (λ z. listed z order) r.1 ∙ (libraries_stand world order ordered h known r.0 r.2).known
+  stands = search (arith, rules, libraries_stand)
 
   abbrev Serves : Routine Constant → Type 0
   Serves r = BodyTakes world.filters (rs world order) false r.body
@@ -226,11 +171,7 @@ module _ (world : World) (order : List Home) (ordered : InOrder world.sources or
 
   filter_behind : (p : (ℕ × BlockBody) → Bool) (pre : List (ℕ × BlockBody)) (b : ℕ × BlockBody) (bs : List (ℕ × BlockBody)) → p b ≡ true → filter p (pre ++ (b ∷ bs)) ≡ filter p pre ++ (b ∷ filter p bs)
   filter_behind p [] b bs e = ap (λ c. if c then b ∷ filter p bs else filter p bs) e
-  filter_behind p (x ∷ pre) b bs e = through (p x) (filter_behind p pre b bs e)
-    where
-      through : (c : Bool) → filter p (pre ++ (b ∷ bs)) ≡ filter p pre ++ (b ∷ filter p bs) → (if c then x ∷ filter p (pre ++ (b ∷ bs)) else filter p (pre ++ (b ∷ bs))) ≡ (if c then x ∷ filter p pre else filter p pre) ++ (b ∷ filter p bs)
-      through true f = ap (λ zs. x ∷ zs) f
-      through false f = f
+  filter_behind p (x ∷ pre) b bs e = search (arith, rules, filter_behind p pre b bs e)
 
   -- a block's body: where none is behind it to go on with, it does not call `super()`
   block_takes : (c : BlockBody) (behind : List (ℕ × BlockBody)) → Tail world order h c.name behind → (calls_super c.body && is_empty (from_given (map (λ d. d.1) behind))) ≡ false → FineBlock world order h c → Owned world order ordered h known c.body

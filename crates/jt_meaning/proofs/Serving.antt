@@ -1,24 +1,23 @@
 -- Where the rules are kept and each test and filter is known, each routine of a program gets as many values as it takes.
-use Rattle.std.proofs.Common.{◌≡◌, ℕ, suc, ◌+◌, Bool, true, false, if◌then◌else◌, List, [], ◌∷◌, ◌++◌, length, Option, Some, None, refl, sym, ap, ◌∙◌, subst, inl, inr}
-use Rattle.std.specs.Option.{option_or, is_none}
+use Rattle.std.proofs.Common.{◌≡◌, ℕ, suc, Bool, true, false, if◌then◌else◌, List, [], ◌∷◌, ◌++◌, length, Option, Some, None, refl, sym, ap, ◌∙◌, subst, arith, rules}
+use Rattle.std.specs.Option.{is_none}
 use Rattle.jt_trees.specs.Expressions as written
 use Rattle.jt_trees.specs.Expressions.{Expr, Text}
 use Rattle.jt_value.specs.Place.{Place}
-use Rattle.jt_chains.specs.Uses.{count, keywords, set_in}
+use Rattle.jt_chains.specs.Uses.{set_in}
 use Rattle.jt_trees.specs.Statements.{Filtering, Stmt, data_of, print, choose, for_each, set, set_block, with_values, filter_block, autoescape, macro, include, import_as, import_from, extends, block, Body, end, stmt, Branches, no_branches, branch}
-use Rattle.jt_chains.specs.Chain.{Home, a_chain, BlockBody, blocks_of, blocks_in, blocks_under}
+use Rattle.jt_chains.specs.Chain.{Home, BlockBody, blocks_of, blocks_in, blocks_under}
 use Rattle.jt_rules.specs.World.{World}
-use Rattle.jt_meaning.specs.Expressions.{filter_parameters}
 use Rattle.jt_chains.specs.Includes.{needs_by, needs_in, needs_under}
 use Rattle.jt_resolved.specs.Slots as slots
-use Rattle.jt_resolved.specs.Slots.{Slot, local, global, one, SlotExpr, SBody, none, assign, capture, run, Routine}
+use Rattle.jt_resolved.specs.Slots.{SlotExpr, SBody}
 use Rattle.jt_resolved.specs.Size.{row_count}
 use Rattle.jt_resolved.specs.Takes.{HasParameters, ConditionTakes, BodyTakes}
-use Rattle.jt_rules.specs.Known.{ExprKnown, ConditionKnown, FilteringKnown, StmtKnown, BodyKnown, BranchesKnown}
-use Rattle.jt_meaning.specs.Layout.{Table, slot_in, of_chain, block_parameters, globals, numbered_of, unit, names, first_slot}
+use Rattle.jt_rules.specs.Known.{ConditionKnown, FilteringKnown, StmtKnown, BodyKnown, BranchesKnown}
+use Rattle.jt_meaning.specs.Layout.{Table, slot_in, block_parameters, globals, numbered_of}
 use Rattle.jt_resolved.specs.Pool.{Constant, known}
-use Rattle.jt_meaning.specs.Resolve.{followed, alone, reads, handed_on, filled_some, locals_from, Spot, place, left_out, grown, bound_all, copied, scoped, first_body, resolved_row, resolved_asides, resolved_condition, resolved_filters, resolved_values, placed_body, resolved_stmt, resolved_body, resolved_choice}
-use Rattle.jt_rules.specs.Walk.{Within, filter_broken, all_used, used, broken, row_broken, pairs_broken, condition_broken, filtering_broken, stmt_broken, body_broken, branches_broken}
+use Rattle.jt_meaning.specs.Resolve.{followed, reads, handed_on, Spot, place, grown, bound_all, copied, scoped, first_body, resolved_condition, resolved_filters, resolved_values, placed_body, resolved_stmt, resolved_body, resolved_choice}
+use Rattle.jt_rules.specs.Walk.{Within, all_used, used, broken, pairs_broken, condition_broken, filtering_broken, stmt_broken, body_broken, branches_broken}
 use Rattle.jt_meaning.proofs.Calling.{Included}
 use Rattle.jt_meaning.proofs.Stating.{Each, each_front, each_back}
 use Rattle.jt_meaning.proofs.Finding.{chain_is, body_is}
@@ -55,18 +54,7 @@ module _ (world : World) (order : List Home) where
   filters_take : (w : Within) (fs : List Filtering) (sp : Spot) (e : SlotExpr Constant) → Stands world order sp.home → PartTail world order w.in_block sp.home sp.part → filtering_broken world sp.home fs w ≡ None → FilteringKnown world.filters fs → ETakes world order w.in_loop e
       → ETakes world order w.in_loop (resolved_filters world order fs sp e)
   filters_take w [] sp e k t h f r = r
-  filters_take w (g ∷ fs) sp e k t h f r =
-      let h1 = none_second (filter_broken world.filters (world.filters.named g.name g.arguments g.keywords) g.arguments g.keywords) _ h in
-      let h2 = none_second (row_broken world sp.home g.arguments w) _ h1 in
-      let rest = filled_some (filter_parameters world.filters (world.filters.named g.name g.arguments g.keywords)) (count g.arguments) (keywords g.keywords) (locals_from sp.free (keywords g.keywords)) in
-      filters_take w fs sp _ k t (none_second (pairs_broken world sp.home g.keywords w) _ h2) f.3
-      (filtered_takes world order w.in_loop (world.filters.named g.name g.arguments g.keywords) sp.escaping g.arguments g.keywords (slots.item e (resolved_row world order g.arguments sp (resolved_asides world order g.keywords sp rest))) f.0
-      (none_first (filter_broken world.filters (world.filters.named g.name g.arguments g.keywords) g.arguments g.keywords) _ h)
-      (ap suc (row_counts world order g.arguments sp (resolved_asides world order g.keywords sp rest) ∙ ap (λ n. count g.arguments + n) (aside_counts world order g.keywords sp rest) ∙ some_count (filter_parameters world.filters (world.filters.named g.name g.arguments g.keywords)) (count g.arguments) (keywords g.keywords) (locals_from sp.free (keywords g.keywords)))) (
-        r,
-        row_takes world order w g.arguments sp k t (none_first (row_broken world sp.home g.arguments w) _ h1) f.1 (resolved_asides world order g.keywords sp rest)
-            (asides_take world order w g.keywords sp k t (none_first (pairs_broken world sp.home g.keywords w) _ h2) f.2 rest (some_takes world order w.in_loop (filter_parameters world.filters (world.filters.named g.name g.arguments g.keywords)) (count g.arguments) (keywords g.keywords) (locals_from sp.free (keywords g.keywords)))),
-      ))
+  filters_take w (g ∷ fs) sp e k t h f r = search (arith, rules, none_second, filters_take w fs sp, filtered_takes, none_first, row_counts, aside_counts, some_count, row_takes, asides_take, some_takes)
 
   values_take : (w : Within) (ps : written.Pairs) (sp : Spot) (line : ℕ) (behind : SBody Constant) → Stands world order sp.home → PartTail world order w.in_block sp.home sp.part → pairs_broken world sp.home ps w ≡ None → Rattle.jt_rules.specs.Known.PairsKnown world.filters ps → BTakes w.in_loop behind
       → BTakes w.in_loop (resolved_values world order ps sp line behind)
@@ -100,9 +88,7 @@ module _ (world : World) (order : List Home) where
     pub stmt_takes : (s : Stmt) (sp : Spot) (w : Within) → Stands world order sp.home → PartTail world order w.in_block sp.home sp.part → stmt_broken world sp.home s w ≡ None → StmtKnown world.filters s → Needed sp.home (needs_by true s) (needs_by false s) → Embodied sp.home (blocks_of sp.template s sp.escaping) → BTakes w.in_loop (resolved_stmt world order s sp)
     stmt_takes (data_of s) sp w e t h k n d = (tt, tt)
     stmt_takes (print line a) sp w e t h k n d = (expr_takes world order w a sp e t h k, tt)
-    stmt_takes (choose bs other) sp w e t h k n d =
-        choice_takes bs sp w (resolved_body world order other sp) e t (none_first (branches_broken world sp.home bs w) (body_broken world sp.home other w) h) k.0 (needed_front sp.home (needs_under true bs) (needs_in true other) (needs_under false bs) (needs_in false other) n) (each_front (λ b. HasBody world order sp.home b.name) (blocks_under sp.template bs sp.escaping) (blocks_in sp.template other sp.escaping) d)
-        (body_serves other sp w e t (none_second (branches_broken world sp.home bs w) (body_broken world sp.home other w) h) k.1 (needed_back sp.home (needs_under true bs) (needs_in true other) (needs_under false bs) (needs_in false other) n) (each_back (λ b. HasBody world order sp.home b.name) (blocks_under sp.template bs sp.escaping) (blocks_in sp.template other sp.escaping) d))
+    stmt_takes (choose bs other) sp w e t h k n d = search (arith, rules, choice_takes bs sp w, none_first, needed_front, each_front, body_serves other sp w e t, none_second, needed_back, each_back)
     stmt_takes (for_each line xs a c body other) sp w e t h k n d =
         let h1 = none_second (broken world sp.home a w) _ h in
         let h2 = none_second (all_used world sp.home xs) _ h1 in
@@ -119,37 +105,11 @@ module _ (world : World) (order : List Home) where
     stmt_takes (set line xs a) sp w e t h k n d = (expr_takes world order w a sp e t (none_first (broken world sp.home a w) _ h) k, tt)
     stmt_takes (set_block line x body) sp w e t h k n d =
         (copied_takes w.in_loop (place sp 1) sp.table sp.free (set_in body) (resolved_body world order body (bound_all (set_in body) sp)) (body_serves body (bound_all (set_in body) sp) w e t (none_second (used world sp.home x) _ h) k n d), tt)
-    stmt_takes (with_values line ps body) sp w e t h k n d =
-        let h1 = none_second (pairs_broken world sp.home ps w) _ h in
-        let in_it = bound_all (keywords ps) sp in
-        values_take w ps sp line (scoped (set_in body) in_it (resolved_body world order body)) e t (none_first (pairs_broken world sp.home ps w) _ h) k.0
-        (copied_takes w.in_loop (place sp 1) in_it.table in_it.free (set_in body) (resolved_body world order body (bound_all (set_in body) in_it)) (body_serves body (bound_all (set_in body) in_it) w e t (none_second (all_used world sp.home (keywords ps)) _ h1) k.1 n d))
-    stmt_takes (filter_block line fs body) sp w e t h k n d = (
-      copied_takes w.in_loop (place sp 1) sp.table (suc sp.free) (set_in body) (resolved_body world order body (bound_all (set_in body) (grown sp)))
-          (body_serves body (bound_all (set_in body) (grown sp)) w e t (none_second (filtering_broken world sp.home fs w) _ h) k.1 n d),
-      (filters_take w fs (grown sp) (slots.variable (local sp.free)) e t (none_first (filtering_broken world sp.home fs w) _ h) k.0 tt, tt),
-    )
-    stmt_takes (autoescape line on body) sp w e t h k n d =
-        let in_it : Spot = record sp { escaping = on } in
-        copied_takes w.in_loop (place sp 1) sp.table sp.free (set_in body) (resolved_body world order body (bound_all (set_in body) in_it)) (body_serves body (bound_all (set_in body) in_it) w e t h k n d)
+    stmt_takes (with_values line ps body) sp w e t h k n d = search (arith, rules, none_second, values_take, none_first, copied_takes, body_serves body)
+    stmt_takes (filter_block line fs body) sp w e t h k n d = search (arith, rules, copied_takes, body_serves body (bound_all (set_in body) (grown sp)) w e t, none_second, filters_take, none_first)
+    stmt_takes (autoescape line on body) sp w e t h k n d = search (arith, rules, copied_takes, body_serves body)
     stmt_takes (macro line x ps body) sp w e t h k n d = tt
-    stmt_takes (include line x ignore_missing with_context) sp w e t h k n d = including (is_none (world.sources x)) refl
-      where
-        missing : (i : Bool) → is_none (world.sources x) ≡ true → Each HasSource (needs_by false (include line x i with_context)) → BTakes w.in_loop (left_out sp line i)
-        missing true f s = tt
-        missing false f s = absurd (no_both f s.0)
-
-        including : (c : Bool) → is_none (world.sources x) ≡ c
-            → BTakes w.in_loop (if c then left_out sp line ignore_missing else followed (handed_on (place sp line) (if with_context then sp.table else []) (first_slot world order (a_chain x)) (names world order (a_chain x))) (alone (run (unit world order (of_chain x)) none)))
-        including true f = missing ignore_missing f n.1
-        including false f = by_source n.0.0
-          where
-            by_source : Included world order sp.home x → BTakes w.in_loop (followed (handed_on (place sp line) (if with_context then sp.table else []) (first_slot world order (a_chain x)) (names world order (a_chain x))) (alone (run (unit world order (of_chain x)) none)))
-            by_source (inl g) = absurd (no_both g f)
-            by_source (inr g) =
-                followed_takes w.in_loop (handed_on (place sp line) (if with_context then sp.table else []) (first_slot world order (a_chain x)) (names world order (a_chain x))) (alone (run (unit world order (of_chain x)) none))
-                (handed_takes w.in_loop (place sp line) (if with_context then sp.table else []) (first_slot world order (a_chain x)) (names world order (a_chain x)))
-                ((subst (λ z. HasParameters z 0) (sym (chain_is world order x g.known)) refl, tt), tt)
+    stmt_takes (include line x ignore_missing with_context) sp w e t h k n d = search (arith, rules, no_both, followed_takes, handed_takes, chain_is)
     stmt_takes (import_as line x new) sp w e t h k n d = tt
     stmt_takes (import_from line x news) sp w e t h k n d = tt
     stmt_takes (extends line x) sp w e t h k n d = tt
@@ -157,20 +117,9 @@ module _ (world : World) (order : List Home) where
 
     pub body_serves : (c : Body) (sp : Spot) (w : Within) → Stands world order sp.home → PartTail world order w.in_block sp.home sp.part → body_broken world sp.home c w ≡ None → BodyKnown world.filters c → Needed sp.home (needs_in true c) (needs_in false c) → Embodied sp.home (blocks_in sp.template c sp.escaping) → BTakes w.in_loop (resolved_body world order c sp)
     body_serves end sp w e t h k n d = tt
-    body_serves (stmt s rest) sp w e t h k n d =
-        followed_takes w.in_loop (resolved_stmt world order s sp) (resolved_body world order rest sp)
-        (stmt_takes s sp w e t (none_first (stmt_broken world sp.home s w) (body_broken world sp.home rest w) h) k.0 (needed_front sp.home (needs_by true s) (needs_in true rest) (needs_by false s) (needs_in false rest) n) (each_front (λ b. HasBody world order sp.home b.name) (blocks_of sp.template s sp.escaping) (blocks_in sp.template rest sp.escaping) d))
-        (body_serves rest sp w e t (none_second (stmt_broken world sp.home s w) (body_broken world sp.home rest w) h) k.1 (needed_back sp.home (needs_by true s) (needs_in true rest) (needs_by false s) (needs_in false rest) n) (each_back (λ b. HasBody world order sp.home b.name) (blocks_of sp.template s sp.escaping) (blocks_in sp.template rest sp.escaping) d))
+    body_serves (stmt s rest) sp w e t h k n d = search (arith, rules, followed_takes, stmt_takes s sp w e t, none_first, needed_front, each_front, body_serves rest sp w e t, none_second, needed_back, each_back)
 
     pub choice_takes : (bs : Branches) (sp : Spot) (w : Within) (other : SBody Constant) → Stands world order sp.home → PartTail world order w.in_block sp.home sp.part → branches_broken world sp.home bs w ≡ None → BranchesKnown world.filters bs → Needed sp.home (needs_under true bs) (needs_under false bs) → Embodied sp.home (blocks_under sp.template bs sp.escaping)
         → BTakes w.in_loop other → BTakes w.in_loop (resolved_choice world order bs sp other)
     choice_takes no_branches sp w other e t h k n d r = r
-    choice_takes (branch line c body rest) sp w other e t h k n d r =
-        let h1 = none_first (option_or (broken world sp.home c w) (body_broken world sp.home body w)) (branches_broken world sp.home rest w) h in (
-          (
-            expr_takes world order w c sp e t (none_first (broken world sp.home c w) (body_broken world sp.home body w) h1) k.0,
-            body_serves body sp w e t (none_second (broken world sp.home c w) (body_broken world sp.home body w) h1) k.1 (needed_front sp.home (needs_in true body) (needs_under true rest) (needs_in false body) (needs_under false rest) n) (each_front (λ b. HasBody world order sp.home b.name) (blocks_in sp.template body sp.escaping) (blocks_under sp.template rest sp.escaping) d),
-            choice_takes rest sp w other e t (none_second (option_or (broken world sp.home c w) (body_broken world sp.home body w)) (branches_broken world sp.home rest w) h) k.2 (needed_back sp.home (needs_in true body) (needs_under true rest) (needs_in false body) (needs_under false rest) n) (each_back (λ b. HasBody world order sp.home b.name) (blocks_in sp.template body sp.escaping) (blocks_under sp.template rest sp.escaping) d) r,
-          ),
-          tt,
-        )
+    choice_takes (branch line c body rest) sp w other e t h k n d r = search (arith, rules, none_first, expr_takes, body_serves body sp w e t, none_second, needed_front, each_front, choice_takes rest sp w other e t, needed_back, each_back)

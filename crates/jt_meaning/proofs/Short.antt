@@ -8,19 +8,18 @@ use Rattle.jt_trees.specs.Expressions as written
 use Rattle.jt_trees.specs.Expressions.{Expr, constant, name, group, list_of, map_of, attribute, item, call, test, unary, binary, when, choice, Exprs, no_exprs, expr, Pairs, no_pairs, pair, Text}
 use Rattle.jt_trees.specs.Sizes.{expr_bytes, exprs_bytes, pairs_bytes, texts_bytes, condition_bytes, filtering_bytes, default_bytes, parameters_bytes, stmt_bytes, body_bytes, branch_bytes}
 use Rattle.jt_trees.specs.Statements.{Parameter, Filtering, Stmt, data_of, print, choose, for_each, set, set_block, with_values, filter_block, autoescape, macro, include, import_as, import_from, extends, block, Body, end, stmt, Branches, no_branches, branch}
-use Rattle.jt_chains.specs.Chain.{Home, a_chain, a_library, Template, templates, BlockBody, blocks_of, blocks_in, blocks_under, all_bodies, MacroBody, macros_in, macros, is_loop}
+use Rattle.jt_chains.specs.Chain.{Home, a_chain, a_library, Template, templates, BlockBody, blocks_of, blocks_in, blocks_under, MacroBody, macros_in, macros}
 use Rattle.jt_chains.specs.Uses.{keywords, set_in, expr_names, row_names, pair_names, condition_names, filtering_names, stmt_names, body_names, branch_names, own_names}
 use Rattle.jt_evaluation.specs.Filters.{default_value}
 use Rattle.jt_resolved.specs.Slots as slots
 use Rattle.jt_resolved.specs.Slots.{SBody, Routine}
 use Rattle.jt_resolved.specs.Pool.{Constant, stmt_values, body_values, routines_values}
 use Rattle.jt_ids.specs.declared.filter_id.FilterId.{FilterId}
-use Rattle.jt_ids.specs.declared.filter_id.FilterId.TheVariants as filter_id
 use Rattle.jt_chains.specs.View.{Seen, sources_of}
 use Rattle.jt_evaluation.specs.TheFilters.{the_filters, filter_of, filter_parameters, parameters_of}
 use Rattle.jt_rules.specs.World.{World, world_of}
 use Rattle.jt_meaning.specs.Bytes.{value_bytes, IsShort}
-use Rattle.jt_meaning.specs.Layout.{names, counted_from, numbered_bodies, block_parameters, defaults_of}
+use Rattle.jt_meaning.specs.Layout.{names, counted_from, block_parameters, defaults_of}
 use Rattle.jt_meaning.specs.Meaning.{is_set}
 use Rattle.jt_meaning.specs.Programs.{program, routines, entry_routines, chain_routines, body_routines}
 use Rattle.jt_meaning.specs.Resolve.{followed, Part, bound_all, resolved_stmt, resolved_body, resolved_sets, top_spot, resolved_chain, scoped, macro_routine}
@@ -64,13 +63,7 @@ module _ (t : Text) (n : ℕ) where
     stmt_blocks (filter_block line fs body) on h = body_blocks body on (omega (arith, h))
     stmt_blocks (autoescape line now body) on h = body_blocks body now (omega (arith, h))
     stmt_blocks (macro line x ps body) on h = body_blocks body on (omega (arith, h))
-    stmt_blocks (data_of d) on h = tt
-    stmt_blocks (print line e) on h = tt
-    stmt_blocks (set line xs e) on h = tt
-    stmt_blocks (include line m i w) on h = tt
-    stmt_blocks (import_as line m new) on h = tt
-    stmt_blocks (import_from line m news) on h = tt
-    stmt_blocks (extends line m) on h = tt
+    stmt_blocks a0 on h = tt
 
     body_blocks : (b : Body) (on : Bool) → body_bytes b ≤ n → BlocksShort n (blocks_in t b on)
     body_blocks end on h = tt
@@ -165,12 +158,7 @@ module _ (world : World) (order : List Home) (n : ℕ) (k : Three world order) (
   entry_short (a_library m) c = tt
 
   in_chain : TemplatesShort n (templates world.sources h) → Shorts n (routines_values (chain_routines world order h))
-  in_chain g =
-      let ts = templates world.sources h in
-      let ms = map (macro_routine world order h) (macros world.sources h) in
-      let bs = body_routines world order h (numbered_bodies world h) in
-      values_append n (entry_routines world order h) (ms ++ bs) (entry_short h (chain_short ts g))
-      (values_append n ms bs (macros_short (macros world.sources h) (chain_macros n ts g)) (blocks_short 0 (all_bodies world.sources world.escaping h) (chain_blocks n world.escaping ts g)))
+  in_chain g = search (arith, rules, values_append, entry_short, chain_short, macros_short, chain_macros, blocks_short, chain_blocks)
 
 -- ---- the defaults of macros
 
@@ -202,11 +190,7 @@ module _ (n : ℕ) where
     expr_short (group a) h = expr_short a h
     expr_short (list_of ts) h = row_short ts h
     expr_short (map_of ps) h = pairs_short ps h
-    expr_short (attribute a k) h = through (is_loop a) (expr_short a (omega (arith, h)))
-      where
-        through : (b : Bool) → Names n (expr_names a) → Names n (if b then [] else expr_names a)
-        through true r = tt
-        through false r = r
+    expr_short (attribute a k) h = search (arith, rules, expr_short a (omega (arith, h)))
     expr_short (item a b) h = names_append n (expr_names a) (expr_names b) (expr_short a (omega (arith, h))) (expr_short b (omega (arith, h)))
     expr_short (call a ts ps) h = names_append n (row_names ts) (pair_names ps) (row_short ts (omega (arith, h))) (pairs_short ps (omega (arith, h)))
     expr_short (written.filter a x ts ps) h = names_append n (expr_names a) (row_names ts ++ pair_names ps) (expr_short a (omega (arith, h))) (names_append n (row_names ts) (pair_names ps) (row_short ts (omega (arith, h))) (pairs_short ps (omega (arith, h))))
@@ -249,10 +233,7 @@ module _ (n : ℕ) where
     stmt_short (data_of t) h = tt
     stmt_short (print line e) h = expr_short e h
     stmt_short (choose bs other) h = names_append n (branch_names bs) (body_names other) (branches_short bs (omega (arith, h))) (body_short other (omega (arith, h)))
-    stmt_short (for_each line xs e c body other) h =
-        names_append n (expr_names e) (xs ++ (condition_names c ++ (body_names body ++ body_names other))) (expr_short e (omega (arith, h)))
-        (names_append n xs (condition_names c ++ (body_names body ++ body_names other)) (texts_short xs (omega (arith, h)))
-        (names_append n (condition_names c) (body_names body ++ body_names other) (condition_short c (omega (arith, h))) (names_append n (body_names body) (body_names other) (body_short body (omega (arith, h))) (body_short other (omega (arith, h))))))
+    stmt_short (for_each line xs e c body other) h = search (arith, rules, names_append, expr_short e (omega (arith, h)), texts_short xs (omega (arith, h)), condition_short c (omega (arith, h)), body_short body (omega (arith, h)), body_short other (omega (arith, h)))
     stmt_short (set line xs e) h = names_append n (expr_names e) xs (expr_short e (omega (arith, h))) (texts_short xs (omega (arith, h)))
     stmt_short (set_block line x body) h = (omega (arith, h), body_short body (omega (arith, h)))
     stmt_short (with_values line ps body) h = names_append n (pair_names ps) (keywords ps ++ body_names body) (pairs_short ps (omega (arith, h))) (names_append n (keywords ps) (body_names body) (keys_short ps (omega (arith, h))) (body_short body (omega (arith, h))))

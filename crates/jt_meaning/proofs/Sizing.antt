@@ -2,34 +2,24 @@
 use Rattle.std.proofs.Common.{◌≡◌, ℕ, zero, suc, ◌+◌, ◌*◌, min, ◌≤◌, Bool, true, false, if◌then◌else◌, List, [], ◌∷◌, length, Option, Some, None, arith, refl, length-append, rules}
 use Rattle.std.specs.Option.{is_none}
 use Rattle.std.specs.List.{AllByRecursion}
-use Rattle.std.specs.Str.{bytes_eq}
-use Rattle.std.specs.Prelude.{codes}
-use Rattle.jt_value.specs.Tree as tree
-use Rattle.jt_ids.specs.declared.op_id.OpId.TheVariants as op
 use Rattle.jt_ids.specs.declared.test_id.TestId.{TestId}
-use Rattle.jt_trees.specs.Expressions as written
-use Rattle.jt_trees.specs.Expressions.{Expr, Literal, constant, name, group, list_of, map_of, attribute, item, call, filter, test, unary, binary, when, choice, Exprs, no_exprs, expr, Pairs, no_pairs, pair, weight, literal_weight, operator_weight, is_weight, enclosed, perhaps_enclosed, exprs_weight, pairs_weight, Text}
+use Rattle.jt_trees.specs.Expressions.{Expr, Literal, constant, name, group, list_of, map_of, attribute, item, call, filter, test, unary, binary, when, choice, Exprs, no_exprs, expr, Pairs, no_pairs, pair, weight, literal_weight, operator_weight, is_weight, enclosed, exprs_weight, pairs_weight, Text}
 use Rattle.jt_trees.specs.declared.expression.BinaryOperator.{BinaryOperator}
-use Rattle.jt_trees.specs.declared.expression.BinaryOperator.TheVariants as o
-use Rattle.jt_meaning.specs.Operators.{Form, operation, negation, conjunction, disjunction, form}
+use Rattle.jt_meaning.specs.Operators.{Form, form}
 use Rattle.jt_value.specs.Place.{Place}
-use Rattle.jt_evaluation.specs.Tests.{test_named}
-use Rattle.jt_chains.specs.Uses.{count, keywords, set_by, set_in, set_under}
+use Rattle.jt_chains.specs.Uses.{keywords, set_by, set_in, set_under}
 use Rattle.jt_trees.specs.Statements.{Parameter, Filtering, Stmt, data_of, print, choose, for_each, set, set_block, with_values, filter_block, autoescape, macro, include, import_as, import_from, extends, block, Body, end, stmt, Branches, no_branches, branch, condition_weight, filtering_weight}
-use Rattle.jt_chains.specs.Chain.{Sources, Home, a_chain, a_library, MacroBody, macros, macro_of, is_private, public_macro, Given, one_macro, library, given, given_to, Callee, a_macro, a_range, a_super, a_block, a_cycle, no_callee, named_alone, of_library, in_library, named_in, callee, is_loop}
-use Rattle.jt_evaluation.specs.Loops.{Field, field_named}
-use Rattle.jt_evaluation.specs.Filters.{default_value, some_given}
+use Rattle.jt_chains.specs.Chain.{Sources, Home, a_chain, MacroBody, macro_of, is_private, public_macro, Given, given_to, Callee, a_macro, named_alone, of_library, in_library, named_in, callee}
+use Rattle.jt_evaluation.specs.Loops.{Field}
 use Rattle.jt_rules.specs.World.{World}
 use Rattle.jt_meaning.specs.Expressions.{filter_parameters}
-use Rattle.jt_meaning.specs.Layout.{Table, slot_in, names, numbered_of, globals, block_parameters, is_scoped, default_place, first_slot, unit, of_chain}
+use Rattle.jt_meaning.specs.Layout.{Table, slot_in, names, numbered_of, globals, block_parameters, first_slot, unit, of_chain}
 use Rattle.jt_resolved.specs.Slots as slots
-use Rattle.jt_resolved.specs.Slots.{Slot, local, SlotExpr, SRow, Targets, one, several, SBody, variable, run}
-use Rattle.jt_resolved.specs.Pool.{Constant, own, known}
-use Rattle.jt_meaning.specs.Resolve.{value_or, turned_round, tested_by, filtered_by, in_form, field_from, followed, locals_from, fresh, fresh_targets, kept_slots, set_targets, filled, filled_some, first_locals, reads, handed_on, Part, Spot, place, grown, bound_all, copied, scoped, next_given, first_body, invoked_body, invoked_super, invoked, resolved, resolved_row, resolved_asides, resolved_entries, resolved_condition, resolved_filters, resolved_values, placed_body, resolved_stmt, resolved_body, resolved_choice, left_out}
+use Rattle.jt_resolved.specs.Slots.{Slot, local, SlotExpr, SRow, Targets, SBody, variable, run}
+use Rattle.jt_resolved.specs.Pool.{Constant, known}
+use Rattle.jt_meaning.specs.Resolve.{value_or, turned_round, tested_by, filtered_by, in_form, field_from, followed, fresh, fresh_targets, kept_slots, set_targets, filled, filled_some, first_locals, reads, handed_on, Part, Spot, place, grown, bound_all, copied, scoped, first_body, invoked_body, invoked_super, invoked, resolved, resolved_row, resolved_asides, resolved_entries, resolved_condition, resolved_filters, resolved_values, placed_body, resolved_stmt, resolved_body, resolved_choice, left_out}
 use Rattle.jt_resolved.specs.Size.{targets_size, expr_size, row_size, condition_size, body_size}
-use Rattle.jt_meaning.specs.Measure.{stmt_own, body_own, branch_own, GivenFew, IsFew}
-use Rattle.jt_meaning.specs.Layout.{scopes}
-use Rattle.jt_meaning.specs.Measure.{HasFewNames}
+use Rattle.jt_meaning.specs.Measure.{stmt_own, body_own, branch_own, GivenFew, IsFew, HasFewNames}
 
 -- ---- weights have tokens
 
@@ -96,11 +86,7 @@ filled_size (p ∷ ps) zero d ks = omega (arith, value_size (slot_in p.name ks) 
 some_size : (ps : List Parameter) (n : ℕ) (xs : List Text) (ks : Table) → row_size (filled_some ps n xs ks) ≤ length ps
 some_size [] n xs ks = omega arith
 some_size (p ∷ ps) (suc n) xs ks = omega (arith, some_size ps n xs ks)
-some_size (p ∷ ps) zero xs ks = through (some_given (p ∷ ps) xs) (some_size ps zero xs ks)
-  where
-    through : (b : Bool) → row_size (filled_some ps zero xs ks) ≤ length ps → row_size (if b then slots.item (value_or (slot_in p.name ks) (own (default_value p.default))) (filled_some ps zero xs ks) else slots.none) ≤ suc (length ps)
-    through true h = omega (arith, h, value_size (slot_in p.name ks) (own (default_value p.default)))
-    through false h = omega arith
+some_size (p ∷ ps) zero xs ks = search (arith, rules, some_size ps zero xs ks, value_size)
 
 first_size : (n : ℕ) (xs : List Text) → row_size (first_locals n xs) ≡ length xs
 first_size n [] = refl
@@ -146,32 +132,15 @@ abbrev AllGivenFew : Sources → List (Text × Given) → Type 0
 AllGivenFew sources gs = AllByRecursion (λ g. GivenFew sources 200 g.1) gs
 
 given_few : (sources : Sources) (gs : List (Text × Given)) (x : Text) → AllGivenFew sources gs → CalleeFew (named_alone sources (given_to x gs) x)
-given_few sources [] x h = by_range (bytes_eq x (codes "range")) (bytes_eq x (codes "super"))
-  where
-    by_range : (a b : Bool) → CalleeFew (if a then a_range else if b then a_super else no_callee)
-    by_range true b = tt
-    by_range false true = tt
-    by_range false false = tt
-given_few sources (g ∷ gs) x h = through (bytes_eq g.0 x) (given_few sources gs x h.1)
-  where
-    one : (o : Given) → GivenFew sources 200 o → CalleeFew (named_alone sources (Some o) x)
-    one (one_macro k m) f = f
-    one (library n) f = tt
-
-    through : (b : Bool) → CalleeFew (named_alone sources (given_to x gs) x) → CalleeFew (named_alone sources (if b then Some g.1 else given_to x gs) x)
-    through true r = one g.1 h.0
-    through false r = r
+given_few sources [] x h = search (arith, rules)
+given_few sources (g ∷ gs) x h = search (arith, rules, given_few sources gs x h.1)
 
 of_few : (sources : Sources) (n x : Text) (ms : List MacroBody) → AllByRecursion (λ m. length m.parameters ≤ 200) ms → CalleeFew (of_library sources n (public_macro x ms))
 of_few sources n x ms h = by (is_private x) (looked ms h)
   where
     looked : (ns : List MacroBody) → AllByRecursion (λ m. length m.parameters ≤ 200) ns → CalleeFew (of_library sources n (macro_of x ns))
     looked [] f = tt
-    looked (m ∷ ns) f = through (bytes_eq m.name x) (looked ns f.1)
-      where
-        through : (b : Bool) → CalleeFew (of_library sources n (macro_of x ns)) → CalleeFew (of_library sources n (if b then Some m else macro_of x ns))
-        through true r = f.0
-        through false r = r
+    looked (m ∷ ns) f = search (arith, rules, looked ns f.1)
 
     by : (b : Bool) → CalleeFew (of_library sources n (macro_of x ms)) → CalleeFew (of_library sources n (if b then None else macro_of x ms))
     by true r = tt
@@ -179,24 +148,10 @@ of_few sources n x ms h = by (is_private x) (looked ms h)
 
 library_few : (sources : Sources) (gs : List (Text × Given)) (of x : Text) → AllGivenFew sources gs → CalleeFew (in_library sources (given_to of gs) x)
 library_few sources [] of x h = tt
-library_few sources (g ∷ gs) of x h = through (bytes_eq g.0 of) (library_few sources gs of x h.1)
-  where
-    one : (o : Given) → GivenFew sources 200 o → CalleeFew (in_library sources (Some o) x)
-    one (one_macro k m) f = tt
-    one (library n) f = of_few sources n x (macros sources (a_library n)) f
-
-    through : (b : Bool) → CalleeFew (in_library sources (given_to of gs) x) → CalleeFew (in_library sources (if b then Some g.1 else given_to of gs) x)
-    through true r = one g.1 h.0
-    through false r = r
+library_few sources (g ∷ gs) of x h = search (arith, rules, library_few sources gs of x h.1, of_few sources)
 
 in_few : (sources : Sources) (gs : List (Text × Given)) (of x : Text) → AllGivenFew sources gs → CalleeFew (named_in sources (given_to of gs) of x)
-in_few sources gs of x h = through (bytes_eq of (codes "self")) (bytes_eq of (codes "loop")) (bytes_eq x (codes "cycle"))
-  where
-    through : (a b c : Bool) → CalleeFew (if a then a_block x else if b then (if c then a_cycle else no_callee) else in_library sources (given_to of gs) x)
-    through true b c = tt
-    through false true true = tt
-    through false true false = tt
-    through false false c = library_few sources gs of x h
+in_few sources gs of x h = search (arith, rules, library_few)
 
 pub callee_few : (sources : Sources) (ms : List (Text × Given)) (e : Expr) → AllGivenFew sources ms → CalleeFew (callee sources ms e)
 callee_few sources ms e h = search (arith, rules, given_few, in_few)
@@ -207,21 +162,14 @@ Front w f = (b : SRow Constant) → row_size (f b) + 100 * min 1 w ≤ 100 * w +
 
 module _ (world : World) (order : List Home) where
   pub parameters_few : (h : Home) (x : Text) → HasFewNames world order h → length (block_parameters world order h x) ≤ 200
-  parameters_few h x k = through (is_scoped world h x)
-    where
-      through : (b : Bool) → length (if b then scopes world order h else []) ≤ 200
-      through true = k.1
-      through false = omega arith
+  parameters_few h x k = search (arith, rules)
 
   body_sized : (h : Home) (on : Bool) (i : Option ℕ) (es : SRow Constant) → row_size es ≤ 200 → expr_size (invoked_body world order h on i es) ≤ 203
   body_sized h on None es k = omega arith
   body_sized h on (Some i) es k = omega (arith, k)
 
   super_sized : (sp : Spot) (p : Option Part) → HasFewNames world order sp.home → expr_size (invoked_super world order sp p) ≤ 203
-  super_sized sp None k = omega arith
-  super_sized sp (Some p) k =
-      let xs = block_parameters world order sp.home p.name in
-      body_sized sp.home sp.escaping (next_given p.behind) (first_locals 0 xs) (omega (arith, first_size 0 xs, parameters_few sp.home p.name k))
+  super_sized sp a1 k = search (arith, rules, body_sized, first_size, parameters_few)
 
   invoked_sized : (c : Callee) (sp : Spot) (row asides : SRow Constant → SRow Constant) (n : ℕ) (ks : Table) (w v : ℕ) → CalleeFew c → HasFewNames world order sp.home → Front w row → Front v asides
       → expr_size (invoked world order c sp row asides n ks) ≤ 100 * (1 + enclosed (w + v))
@@ -238,33 +186,11 @@ module _ (world : World) (order : List Home) where
     resolved_sized (group a) sp k = omega (arith, resolved_sized a sp k)
     resolved_sized (list_of ts) sp k = omega (arith, row_sized ts sp k slots.none)
     resolved_sized (map_of ps) sp k = omega (arith, entries_sized ps sp k)
-    resolved_sized (attribute a x) sp k =
-        either_size (is_loop a) (field_from (field_named x)) (slots.made (slots.operator op.Item) (slots.item (resolved world order a sp) (slots.item (slots.pooled (own (tree.text x))) slots.none)))
-        (100 * (2 + weight a)) (omega (arith, field_size (field_named x))) (omega (arith, resolved_sized a sp k))
+    resolved_sized (attribute a x) sp k = search (arith, rules, either_size, field_size, resolved_sized a sp k)
     resolved_sized (item a b) sp k = omega (arith, resolved_sized a sp k, resolved_sized b sp k)
-    resolved_sized (call f ts ps) sp k =
-        omega (
-          arith,
-          expr_some f,
-          invoked_sized (callee world.sources (given world.sources sp.home) f) sp (resolved_row world order ts sp) (resolved_asides world order ps sp) (count ts) (locals_from sp.free (keywords ps))
-              (exprs_weight ts) (pairs_weight 2 ps) (callee_few world.sources (given world.sources sp.home) f k.macros) (k.names sp.home) (λ b. row_sized ts sp k b) (λ b. asides_sized ps sp k b),
-        )
-    resolved_sized (filter a x ts ps) sp k =
-        let f = world.filters.named x ts ps in
-        let rest = filled_some (filter_parameters world.filters f) (count ts) (keywords ps) (locals_from sp.free (keywords ps)) in
-        let es = slots.item (resolved world order a sp) (resolved_row world order ts sp (resolved_asides world order ps sp rest)) in
-        omega (
-          arith,
-          filtered_size f sp.escaping es,
-          resolved_sized a sp k,
-          row_sized ts sp k (resolved_asides world order ps sp rest),
-          asides_sized ps sp k rest,
-          some_size (filter_parameters world.filters f) (count ts) (keywords ps) (locals_from sp.free (keywords ps)),
-          filter_few f k.filters,
-        )
-    resolved_sized (test a n x ts ps) sp k =
-        let es = slots.item (resolved world order a sp) (resolved_row world order ts sp slots.none) in
-        omega (arith, turned_size n (tested_by (test_named x) es), tested_size (test_named x) es, resolved_sized a sp k, row_sized ts sp k slots.none, is_some_weight n)
+    resolved_sized (call f ts ps) sp k = search (arith, rules, expr_some, invoked_sized, callee_few, row_sized ts sp k, asides_sized ps sp k)
+    resolved_sized (filter a x ts ps) sp k = search (arith, rules, filtered_size, resolved_sized a sp k, row_sized ts sp k, asides_sized ps sp k, some_size, filter_few)
+    resolved_sized (test a n x ts ps) sp k = search (arith, rules, turned_size, tested_size, resolved_sized a sp k, row_sized ts sp k, is_some_weight)
     resolved_sized (unary u a) sp k = omega (arith, resolved_sized a sp k)
     resolved_sized (binary b x y) sp k =
         omega (arith, form_size (form sp.escaping b) (resolved world order x sp) (resolved world order y sp), resolved_sized x sp k, resolved_sized y sp k, operator_some b)
@@ -291,19 +217,7 @@ module _ (world : World) (order : List Home) where
 
   filters_sized : (fs : List Filtering) (sp : Spot) (e : SlotExpr Constant) → IsFew world order sp.home → expr_size (resolved_filters world order fs sp e) ≤ expr_size e + 100 * filtering_weight fs
   filters_sized [] sp e k = omega arith
-  filters_sized (f ∷ fs) sp e k =
-      let i = world.filters.named f.name f.arguments f.keywords in
-      let rest = filled_some (filter_parameters world.filters i) (count f.arguments) (keywords f.keywords) (locals_from sp.free (keywords f.keywords)) in
-      let es = slots.item e (resolved_row world order f.arguments sp (resolved_asides world order f.keywords sp rest)) in
-      omega (
-        arith,
-        filters_sized fs sp (filtered_by i sp.escaping es) k,
-        filtered_size i sp.escaping es,
-        row_sized f.arguments sp k (resolved_asides world order f.keywords sp rest),
-        asides_sized f.keywords sp k rest,
-        some_size (filter_parameters world.filters i) (count f.arguments) (keywords f.keywords) (locals_from sp.free (keywords f.keywords)),
-        filter_few i k.filters,
-      )
+  filters_sized (f ∷ fs) sp e k = search (arith, rules, filters_sized fs sp, filtered_size, row_sized, asides_sized, some_size, filter_few)
 
   values_sized : (ps : Pairs) (sp : Spot) (line : ℕ) (b : SBody Constant) → IsFew world order sp.home → body_size (resolved_values world order ps sp line b) ≤ 100 * pairs_weight 2 ps + body_size b
   values_sized no_pairs sp line b k = omega arith
@@ -334,9 +248,7 @@ module _ (world : World) (order : List Home) where
         omega (arith, fresh_size sp.free xs, resolved_sized e sp k, condition_sized (fresh_targets sp.free xs) c inner (length xs) k (fresh_size sp.free xs), scope_sized body inner (all_sized body (bound_all (set_in body) inner) k), all_sized other sp k)
     stmt_sized (set line xs e) sp k = omega (arith, set_size sp.table xs, resolved_sized e sp k)
     stmt_sized (set_block line x body) sp k = omega (arith, scope_sized body sp (all_sized body (bound_all (set_in body) sp) k))
-    stmt_sized (with_values line ps body) sp k =
-        let b = scoped (set_in body) (bound_all (keywords ps) sp) (resolved_body world order body) in
-        omega (arith, values_sized ps sp line b k, scope_sized body (bound_all (keywords ps) sp) (all_sized body (bound_all (set_in body) (bound_all (keywords ps) sp)) k))
+    stmt_sized (with_values line ps body) sp k = search (arith, rules, values_sized, scope_sized, all_sized body (bound_all (set_in body) (bound_all (keywords ps) sp)) k)
     stmt_sized (filter_block line fs body) sp k = omega (arith, scope_sized body (grown sp) (all_sized body (bound_all (set_in body) (grown sp)) k), filters_sized fs (grown sp) (variable (local sp.free)) k)
     stmt_sized (autoescape line on body) sp k = omega (arith, scope_sized body (record sp { escaping = on }) (all_sized body (bound_all (set_in body) (record sp { escaping = on })) k))
     stmt_sized (macro line x ps body) sp k = omega arith

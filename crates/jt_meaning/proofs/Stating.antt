@@ -1,6 +1,5 @@
 -- A statement means the same by names and by slots, where calls do.
 use Rattle.std.proofs.Common.{◌≡◌, ℕ, suc, ◌+◌, ◌<◌, ◌≤◌, Bool, true, false, if◌then◌else◌, List, [], ◌∷◌, ◌++◌, length, map, Option, Some, None, refl, sym, ap, ◌∙◌, subst, arith, inl, inr, rules}
-use Rattle.std.specs.Option.{is_none}
 use Rattle.std.specs.Prelude.{unwrap_or}
 use Rattle.std.specs.Str.{bytes_eq}
 use Rattle.jt_value.specs.Tree as tree
@@ -19,21 +18,20 @@ use Rattle.jt_rules.specs.World.{World}
 use Rattle.jt_meaning.specs.Around.{Placement, State, the_chain, Calls}
 use Rattle.jt_chains.specs.Uses.{keywords, expr_names, row_names, pair_names, condition_names, filtering_names, stmt_names, body_names, branch_names, set_by, set_in, set_under}
 use Rattle.jt_meaning.specs.Expressions.{block_text, value, named_values}
-use Rattle.jt_meaning.specs.Meaning.{put, within, captured, turns, gone_over, without_source, kept, through, meaning, meanings, chosen}
+use Rattle.jt_meaning.specs.Meaning.{put, within, captured, turns, gone_over, kept, through, meaning, meanings, chosen}
 use Rattle.jt_chains.specs.Includes.{needs_by, needs_in, needs_under}
 use Rattle.jt_resolved.specs.Slots as slots
-use Rattle.jt_resolved.specs.Slots.{Slot, local, global, Targets, one, several, SlotExpr, SlotStmt, SBody, none, assign, capture, run, Memory, Valued, Listed, Written, SCalls, load, put_at, store, store_if, take, in_front, sturns, sgone_over, svalue, svalues, skept, smeaning, smeanings}
-use Rattle.jt_meaning.specs.Layout.{Table, slot_in, globals_from, of_chain, of_body, names, first_slot, globals, block_parameters, is_scoped, numbered_of, unit}
+use Rattle.jt_resolved.specs.Slots.{Slot, local, global, one, SlotExpr, SlotStmt, SBody, none, assign, capture, run, Memory, Valued, Listed, Written, SCalls, store, take, in_front, sturns, sgone_over, svalue, skept, smeaning, smeanings}
+use Rattle.jt_meaning.specs.Layout.{Table, slot_in, globals_from, of_chain, of_body, names, first_slot, globals, block_parameters, is_scoped, numbered_of, unit, scopes}
 use Rattle.jt_meaning.specs.Programs.{pool}
 use Rattle.jt_resolved.specs.Pool.{Constant, constant_in}
-use Rattle.jt_meaning.specs.Resolve.{followed, alone, fresh_targets, slot_of, set_targets, reads, handed_on, Spot, Part, place, left_out, grown, bound_table, bound_all, copied, scoped, first_body, resolved, resolved_condition, resolved_filters, resolved_values, placed_body, resolved_stmt, resolved_body, resolved_choice}
+use Rattle.jt_meaning.specs.Resolve.{followed, alone, fresh_targets, slot_of, set_targets, reads, handed_on, Spot, Part, place, grown, bound_table, bound_all, copied, scoped, first_body, resolved, resolved_condition, resolved_filters, resolved_values, placed_body, resolved_stmt, resolved_body, resolved_choice}
 use Rattle.jt_meaning.proofs.Both.{Both, both, bind_both, at_both, if_both, weaken, left_both, right_both, at_bind, bind_gives, bind_assoc, bind_ext, by_left, by_right, checked_both, same_both, deep}
 use Rattle.jt_meaning.proofs.Reading.{among_front, among_back, same_text, is_same, no_both, IsInner, all_inner, all_globals, all_top, read_top, held, put_here}
 use Rattle.jt_meaning.proofs.Agreeing.{Kept, kept_same, kept_then, kept_less, kept_out, kept_store, kept_global, Held, global_slot, global_given, global_held, global_reads, limit, read_names, Fits, Agrees, agrees_kept, pairs_held, copies_held, fits_all, InLocals, in_locals}
 use Rattle.jt_meaning.proofs.Calling.{Evaluated, Rowed, Sees, PartHolds, part_kept, part_more, Good, good_kept, good_grown, around_of, Wrote, CallsMean, Laid, Hands, Included}
 use Rattle.jt_meaning.proofs.Valuing.{numbered_are, value_same, filter_both, read_gives, reads_give, reads_are}
 use Rattle.jt_meaning.proofs.Binding.{taken, Set, one_set, all_set}
-use Rattle.jt_meaning.specs.Layout.{scopes}
 use Rattle.jt_meaning.proofs.Among.{Among, AllAmong}
 
 -- ---- names
@@ -56,11 +54,7 @@ mutual
   set_among (set_block line x body) ns a = (a.0, tt)
   set_among (choose bs other) ns a =
       among_both (set_under bs) (set_in other) ns (under_among bs ns (among_front (branch_names bs) (body_names other) ns a)) (in_among other ns (among_back (branch_names bs) (body_names other) ns a))
-  set_among (for_each line xs e c body other) ns a =
-      let b = among_back (expr_names e) (xs ++ (condition_names c ++ (body_names body ++ body_names other))) ns a in
-      let d = among_back xs (condition_names c ++ (body_names body ++ body_names other)) ns b in
-      let f = among_back (condition_names c) (body_names body ++ body_names other) ns d in
-      in_among other ns (among_back (body_names body) (body_names other) ns f)
+  set_among (for_each line xs e c body other) ns a = search (arith, rules, among_back, in_among other ns)
   set_among (data_of t) ns a = tt
   set_among (print line e) ns a = tt
   set_among (with_values line ps body) ns a = tt
@@ -80,9 +74,7 @@ mutual
 
   under_among : (bs : Branches) (ns : List Text) → AllAmong (branch_names bs) ns → AllAmong (set_under bs) ns
   under_among no_branches ns a = tt
-  under_among (branch line c body rest) ns a =
-      let b = among_back (expr_names c) (body_names body ++ branch_names rest) ns a in
-      among_both (set_in body) (set_under rest) ns (in_among body ns (among_front (body_names body) (branch_names rest) ns b)) (under_among rest ns (among_back (body_names body) (branch_names rest) ns b))
+  under_among (branch line c body rest) ns a = search (arith, rules, among_back, among_both, in_among body ns, among_front, under_among rest ns)
 
 -- ---- the blocks whose tags say `scoped`, and the names that scopes bind, as often as they stand there
 
@@ -143,12 +135,7 @@ behind_proper world order h xs ys e = each_back (Proper world order h) (named xs
 -- all names that can be read are seen by an include
 look_append : (x : Text) (s t : Pairs) → unwrap_or (look x (s ++ t)) tree.undefined ≡ unwrap_or (look x s) (value_in t x)
 look_append x [] t = refl
-look_append x (b ∷ s) t = through (bytes_eq b.0 x) (look_append x s t)
-  where
-    through : (c : Bool) → unwrap_or (look x (s ++ t)) tree.undefined ≡ unwrap_or (look x s) (value_in t x)
-        → unwrap_or (if c then Some b.1 else look x (s ++ t)) tree.undefined ≡ unwrap_or (if c then Some b.1 else look x s) (value_in t x)
-    through true e = refl
-    through false e = e
+look_append x (b ∷ s) t = search (arith, rules, look_append x s t)
 
 seen_reads : (ss : List Pairs) (gs : Pairs) (x : Text) → value_in (seen_in ss gs) x ≡ first_of ss gs x
 seen_reads [] gs x = refl
@@ -227,9 +214,7 @@ module _ (world : World) (order : List Home) (calls : Calls) (scall : SCalls) (m
 
   copied_same : (p : Place) (table : Table) (k : ℕ) (xs : List Text) (behind : SBody Constant) (l : Option Loop) (q : Option Placement) (m : Memory) → sbody (copied p table k xs behind) l m ≡ sbody behind l (copies table k xs m)
   copied_same p table k [] behind l q m = refl
-  copied_same p table k (x ∷ xs) behind l q m =
-      ap (λ g. bind (at p (bind g (λ r. gives (store (local k) r.value r.memory)))) (λ n. sbody (copied p table (suc k) xs behind) l n)) (read_gives world order calls scall mean laid l q (slot_in x table) m)
-      ∙ copied_same p table (suc k) xs behind l q (store (local k) (held (slot_in x table) m) m)
+  copied_same p table k (x ∷ xs) behind l q m = search (arith, rules, read_gives, copied_same p table (suc k) xs behind l q (store (local k) (held (slot_in x table) m) m), held)
 
   record Copied (h : Home) (k : ℕ) (vs : List Tree) (m n : Memory) : Type 0 where
     pub kept : Kept k (limit world order h) m n
@@ -302,12 +287,7 @@ module _ (world : World) (order : List Home) (calls : Calls) (scall : SCalls) (m
   -- ---- names that are set
 
   part_top : (h : Home) (p : Option Part) (q : Option Placement) (k : ℕ) (m n : Memory) → p ≡ None → PartHolds world order h p q k m → PartHolds world order h p q k n
-  part_top h None None k m n e t = tt
-  part_top h None (Some q) k m n e t = t
-  part_top h (Some p) q k m n e t = absurd (nothing e)
-    where
-      nothing : Some p ≡ None → ⊥
-      nothing r = cc
+  part_top h a1 a2 k m n e t = search (arith, rules)
 
   inside_some : {s t : Slot} → Some s ≡ Some t → s ≡ t
   inside_some q = cc
@@ -377,11 +357,7 @@ module _ (world : World) (order : List Home) (calls : Calls) (scall : SCalls) (m
   -- ---- loops
 
   rowed_if : (sp : Spot) (m : Memory) (v : Tree) (b c : Tree) → c ≡ b → (rest : List Tree) (rs : Listed) → Rowed sp.free (lim sp) m rest rs → Both (Rowed sp.free (lim sp) m) (gives (if tree.truth b then v ∷ rest else rest)) (gives (if tree.truth c then in_front v rs else rs))
-  rowed_if sp m v b c e rest rs w = by_right (ap (λ z. gives (if tree.truth z then in_front v rs else rs)) e) (which (tree.truth b))
-    where
-      which : (t : Bool) → Both (Rowed sp.free (lim sp) m) (gives (if t then v ∷ rest else rest)) (gives (if t then in_front v rs else rs))
-      which true = both (record { values = ap (λ ys. v ∷ ys) w.values; kept = w.kept; out = w.out })
-      which false = both w
+  rowed_if sp m v b c e rest rs w = search (arith, rules, by_right, both)
 
   kept_both : (l : Option Loop) (q : Option Placement) (c : Option Expr) (xs : List Text) (sp : Spot) (env : Env) (vs : List Tree) (m : Memory) → AllAmong xs (bound_names sp) → Good world order sp q env m → AllAmong (condition_names c) (ns sp)
       → Both (Rowed sp.free (lim sp) m) (kept world calls c xs (around_of world order sp l q) env vs) (skept world.filters constants scall (resolved_condition world order c (bound_all xs sp)) (fresh_targets sp.free xs) vs m)
@@ -541,9 +517,7 @@ module _ (world : World) (order : List Home) (calls : Calls) (scall : SCalls) (m
 
   handed_same : (p : Place) (table : Table) (k : ℕ) (xs : List Text) (l : Option Loop) (q : Option Placement) (m : Memory) → sbody (handed_on p table k xs) l m ≡ gives (handed table k xs m)
   handed_same p table k [] l q m = refl
-  handed_same p table k (x ∷ xs) l q m =
-      ap (λ g. bind (at p (bind g (λ r. gives (store (global k) r.value r.memory)))) (λ n. sbody (handed_on p table (suc k) xs) l n)) (read_gives world order calls scall mean laid l q (slot_in x table) m)
-      ∙ handed_same p table (suc k) xs l q (store (global k) (held (slot_in x table) m) m)
+  handed_same p table k (x ∷ xs) l q m = search (arith, rules, read_gives, handed_same p table (suc k) xs l q (store (global k) (held (slot_in x table) m) m), held)
 
   record HandedOn (c d k : ℕ) (xs : List Text) (f : Text → Tree) (m n : Memory) : Type 0 where
     pub kept : Kept c d m n
@@ -691,22 +665,7 @@ module _ (world : World) (order : List Home) (calls : Calls) (scall : SCalls) (m
         (scope_both body sp' l q (inside [] st.env) st.out m (record { known = g.known; fits = g.fits; agrees = g.agrees; part = g.part }) (inside_inner st.env []) h.out i (names_proper world order sp.home (set_in body) (scoped_in body) d)
         (λ b' j' S' st' n' h' o'. body_same body (bound_all (set_in body) sp') l q b' j' S' st' n' h' i o' n (behind_proper world order sp.home (set_in body) (scoped_in body) d))))
     stmt_same (macro line x ps body) sp l q b j S st m h i o n d = both (record { here = h; kept = kept_same b j m })
-    stmt_same (include line k ignore_missing with_context) sp l q b j S st m h i o n d =
-        including (is_none (world.sources k)) refl
-      where
-        missing : (i : Bool) → Both (After sp q b j S m) (without_source i st) (sbody (left_out sp line i) l m)
-        missing true = both (record { here = h; kept = kept_same b j m })
-        missing false = by_right (alone_same (slots.print (place sp line) sp.escaping slots.absent) l m) deep
-
-        including : (c : Bool) → is_none (world.sources k) ≡ c → Both (After sp q b j S m) (if c then without_source ignore_missing st else bind (calls (the_chain k (if with_context then seen st.env else []))) (λ s. gives (put st s)))
-            (sbody (if c then left_out sp line ignore_missing else followed (handed_on (place sp line) (if with_context then sp.table else []) (first_slot world order (a_chain k)) (names world order (a_chain k))) (alone (run (unit world order (of_chain k)) none))) l m)
-        including true e = missing ignore_missing
-        including false e = by_source n.0
-          where
-            by_source : Included world order sp.home k → Both (After sp q b j S m) (bind (calls (the_chain k (if with_context then seen st.env else []))) (λ s. gives (put st s)))
-                (sbody (followed (handed_on (place sp line) (if with_context then sp.table else []) (first_slot world order (a_chain k)) (names world order (a_chain k))) (alone (run (unit world order (of_chain k)) none))) l m)
-            by_source (inl f) = absurd (no_both f e)
-            by_source (inr f) = include_both k with_context sp l q b j S st m line h f
+    stmt_same (include line k ignore_missing with_context) sp l q b j S st m h i o n d = search (arith, rules, both, kept_same, by_right, alone_same, deep, no_both, include_both)
     stmt_same (import_as line x new) sp l q b j S st m h i o n d = both (record { here = h; kept = kept_same b j m })
     stmt_same (import_from line x news) sp l q b j S st m h i o n d = both (record { here = h; kept = kept_same b j m })
     stmt_same (extends line x) sp l q b j S st m h i o n d = both (record { here = h; kept = kept_same b j m })

@@ -6,29 +6,25 @@ use Rattle.std.proofs.lemmas.Bool.Decides.{nat_tests}
 use Rattle.jt_ids.specs.declared.op_id.OpId.TheVariants as op
 use Rattle.jt_ids.specs.declared.test_id.TestId.{TestId}
 use Rattle.jt_ids.specs.OpTable.{op_operands}
-use Rattle.jt_ids.specs.TestTable.{test_values}
 use Rattle.jt_trees.specs.declared.expression.UnaryOperator.{UnaryOperator}
-use Rattle.jt_trees.specs.declared.expression.UnaryOperator.TheVariants as u
 use Rattle.jt_trees.specs.declared.expression.BinaryOperator.{BinaryOperator}
-use Rattle.jt_trees.specs.declared.expression.BinaryOperator.TheVariants as o
 use Rattle.jt_value.specs.Tree as tree
 use Rattle.jt_trees.specs.Expressions as written
 use Rattle.jt_trees.specs.Expressions.{Expr, constant, name, group, list_of, attribute, item, unary, binary, when, choice, Exprs, no_exprs, expr, no_pairs, pair, Text}
 use Rattle.jt_meaning.specs.Operators.{unary_operation, Form, operation, negation, conjunction, disjunction, form, range_of}
-use Rattle.jt_evaluation.specs.Tests.{test_named}
 use Rattle.jt_chains.specs.Uses.{count, keywords}
-use Rattle.jt_rules.specs.Walk.{no_keywords, unless, test_broken, Within, refused, fits, reached, filter_fits, filter_broken, call_broken, broken, called_broken, row_broken, pairs_broken}
+use Rattle.jt_rules.specs.Walk.{unless, test_broken, Within, refused, fits, reached, filter_broken, call_broken, broken, row_broken, pairs_broken}
 use Rattle.jt_resolved.specs.Takes.{InPairs, HasParameters, ExprTakes, RowTakes}
 use Rattle.jt_rules.specs.declared.error.ScopeError.{ScopeError}
 use Rattle.jt_rules.specs.declared.error.ScopeError.TheVariants as error
 use Rattle.jt_trees.specs.Statements.{Parameter}
-use Rattle.jt_chains.specs.Chain.{Home, listed, BlockBody, bodies, from_given, MacroBody, given, Callee, a_macro, a_range, a_super, a_block, a_cycle, no_callee, callee, is_loop}
+use Rattle.jt_chains.specs.Chain.{Home, listed, BlockBody, bodies, from_given, MacroBody, Callee, a_macro, a_range, a_super, a_block, a_cycle, no_callee, is_loop}
 use Rattle.jt_evaluation.specs.Loops.{Field, field_named}
-use Rattle.jt_evaluation.specs.Filters.{Filters, some_given}
+use Rattle.jt_evaluation.specs.Filters.{some_given}
 use Rattle.jt_rules.specs.World.{World}
 use Rattle.jt_meaning.specs.Expressions.{filter_parameters}
 use Rattle.jt_resolved.specs.Slots as slots
-use Rattle.jt_resolved.specs.Slots.{Slot, operator, a_list, made, SlotExpr, SRow, none, Routine}
+use Rattle.jt_resolved.specs.Slots.{Slot, SlotExpr, SRow, none, Routine}
 use Rattle.jt_resolved.specs.Size.{row_count}
 use Rattle.jt_rules.specs.Known.{IsThere, ExprKnown, RowKnown, PairsKnown}
 use Rattle.jt_meaning.specs.Layout.{Table, slot_in, block_parameters, globals, numbered_of, default_place}
@@ -36,7 +32,6 @@ use Rattle.jt_resolved.specs.Pool.{Constant, own, known}
 use Rattle.jt_meaning.specs.Resolve.{value_or, operation_of, turned_round, tested_by, filtered_by, in_form, field_from, locals_from, filled, filled_some, first_locals, reads, Spot, Part, grown, next_given, first_body, invoked_body, invoked_super, invoked, resolved, resolved_row, resolved_asides, resolved_entries}
 use Rattle.jt_meaning.specs.Programs.{routines}
 use Rattle.jt_meaning.proofs.Calling.{Tail}
-use Rattle.jt_trees.specs.Texts.{among}
 use Rattle.jt_meaning.proofs.Givens.{LeadsTo, Found, called_macro}
 use Rattle.jt_meaning.proofs.Valuing.{GivenBy, given_by, numbered_are}
 use Rattle.jt_meaning.proofs.Reading.{no_both}
@@ -83,14 +78,7 @@ unary_one : (p : UnaryOperator) → op_operands (unary_operation p) ≡ 1
 unary_one p = search (arith, rules)
 
 range_takes : (n : ℕ) → nat_lt 0 n ≡ true → nat_lt n 4 ≡ true → op_operands (range_of n) ≡ n
-range_takes zero h k = absurd (cc)
-range_takes (suc zero) h k = refl
-range_takes (suc (suc zero)) h k = refl
-range_takes (suc (suc (suc zero))) h k = refl
-range_takes (suc (suc (suc (suc n)))) h k = absurd (never (suc (suc (suc (suc n)))) (omega arith) k)
-  where
-    never : (m : ℕ) → 4 ≤ m → nat_lt m 4 ≡ true → ⊥
-    never m le e = grind (arith, nat_tests)
+range_takes a0 h k = search (arith, rules, nat_tests)
 
 same_number : (m n : ℕ) → (m == n) ≡ true → m ≡ n
 same_number m n h = grind (arith, nat_tests, h)
@@ -115,22 +103,12 @@ or_false false b e = e
 
 some_zero : (ps : List Parameter) (xs : List Text) (table : Table) → row_count (filled_some ps zero xs table) ≡ reached ps xs
 some_zero [] xs table = refl
-some_zero (p ∷ ps) xs table = through (some_given (p ∷ ps) xs) (some_zero ps xs table)
-  where
-    through : (b : Bool) → row_count (filled_some ps zero xs table) ≡ reached ps xs
-        → row_count (if b then slots.item (value_or (slot_in p.name table) (own (Rattle.jt_evaluation.specs.Filters.default_value p.default))) (filled_some ps zero xs table) else none) ≡ (if b then suc (reached ps xs) else 0)
-    through true e = ap suc e
-    through false e = refl
+some_zero (p ∷ ps) xs table = search (arith, rules, some_zero ps xs table)
 
 pub some_count : (ps : List Parameter) (n : ℕ) (xs : List Text) (table : Table) → n + row_count (filled_some ps n xs table) ≡ max n (reached ps xs)
 some_count [] n xs table = omega arith
 some_count (p ∷ ps) zero xs table = let e = some_zero (p ∷ ps) xs table in omega (arith, e)
-some_count (p ∷ ps) (suc n) xs table = through (some_given (p ∷ ps) xs) refl (some_count ps n xs table)
-  where
-    through : (b : Bool) → some_given (p ∷ ps) xs ≡ b → n + row_count (filled_some ps n xs table) ≡ max n (reached ps xs)
-        → suc n + row_count (filled_some ps n xs table) ≡ max (suc n) (if b then suc (reached ps xs) else 0)
-    through true f e = omega (arith, e)
-    through false f e = let z = none_reached ps xs (or_false (among p.name xs) (some_given ps xs) f) in omega (arith, e, z)
+some_count (p ∷ ps) (suc n) xs table = search (arith, rules, some_count ps n xs table, none_reached, or_false)
 
 module _ (world : World) (order : List Home) where
   abbrev pub rs : List (Routine Constant)
@@ -154,14 +132,7 @@ module _ (world : World) (order : List Home) where
   pub some_takes : (l : Bool) (ps : List Parameter) (n : ℕ) (xs : List Text) (table : Table) → RTakes l (filled_some ps n xs table)
   some_takes l [] n xs table = tt
   some_takes l (p ∷ ps) (suc n) xs table = some_takes l ps n xs table
-  some_takes l (p ∷ ps) zero xs table = through (some_given (p ∷ ps) xs) (some_takes l ps zero xs table)
-    where
-      d : Constant
-      d = own (Rattle.jt_evaluation.specs.Filters.default_value p.default)
-
-      through : (b : Bool) → RTakes l (filled_some ps zero xs table) → RTakes l (if b then slots.item (value_or (slot_in p.name table) d) (filled_some ps zero xs table) else none)
-      through true e = (slot_takes l (slot_in p.name table) d, e)
-      through false e = tt
+  some_takes l (p ∷ ps) zero xs table = search (arith, rules, some_takes l ps zero xs table, slot_takes)
 
   pub reads_take : (l : Bool) (table : Table) (xs : List Text) → RTakes l (reads table xs)
   reads_take l table [] = tt
@@ -187,16 +158,10 @@ module _ (world : World) (order : List Home) where
   turned_takes l true e h = (refl, (h, tt))
 
   tested_takes : (l : Bool) (t : Option TestId) (ts : Exprs) (ps : written.Pairs) (es : SRow Constant) → IsThere t → test_broken t ts ps ≡ None → row_count es ≡ suc (count ts) → RTakes l es → ETakes l (tested_by t es)
-  tested_takes l None ts ps es k h c r = absurd k
-  tested_takes l (Some t) ts ps es k h c r =
-      let right = right_arguments ((suc (count ts) == test_values t) && no_keywords ps) h in
-      (sym (same_number (suc (count ts)) (test_values t) (both_first (suc (count ts) == test_values t) (no_keywords ps) right)) ∙ sym c, r)
+  tested_takes l a1 ts ps es k h c r = search (arith, rules, right_arguments, same_number, both_first)
 
   pub filtered_takes : (l : Bool) (f : Option ℕ) (on : Bool) (ts : Exprs) (ps : written.Pairs) (es : SRow Constant) → IsThere f → filter_broken world.filters f ts ps ≡ None → row_count es ≡ suc (max (count ts) (reached (filter_parameters world.filters f) (keywords ps))) → RTakes l es → ETakes l (filtered_by f on es)
-  filtered_takes l None on ts ps es k h c r = absurd k
-  filtered_takes l (Some f) on ts ps es k h c r =
-      let fit = both_first (filter_fits world.filters f (count ts) (keywords ps)) (world.filters.inside f ts ps) (right_arguments (filter_fits world.filters f (count ts) (keywords ps) && world.filters.inside f ts ps) h) in
-      (ap (world.filters.takes f) c ∙ both_first (world.filters.takes f (suc (max (count ts) (reached (world.filters.parameters f) (keywords ps))))) _ fit, r)
+  filtered_takes l a1 on ts ps es k h c r = search (arith, rules, both_first, right_arguments)
 
   -- a home stands in the order, with those that its macros come from
   abbrev pub Stands : Home → Type 0
@@ -246,10 +211,7 @@ module _ (world : World) (order : List Home) where
 
   attribute_takes : (w : Within) (b : Bool) (k : Text) (r : Option ScopeError) (e : SlotExpr Constant) → (if b then refused (not (w.in_loop && is_some (field_named k))) error.LoopOutside else r) ≡ None → (r ≡ None → ETakes w.in_loop e)
       → ETakes w.in_loop (if b then field_from (field_named k) else operation_of op.Item e (slots.pooled (own (tree.text k))))
-  attribute_takes w true k r e h f =
-      let both = not_false (w.in_loop && is_some (field_named k)) (not_refused (not (w.in_loop && is_some (field_named k))) error.LoopOutside h) in
-      fields_take w.in_loop (field_named k) (both_second w.in_loop (is_some (field_named k)) both) (both_first w.in_loop (is_some (field_named k)) both)
-  attribute_takes w false k r e h f = (refl, (f h, (tt, tt)))
+  attribute_takes w a1 k r e h f = search (arith, rules, not_false, not_refused, fields_take, both_second, both_first)
 
   pub row_counts : (ts : Exprs) (sp : Spot) (behind : SRow Constant) → row_count (resolved_row world order ts sp behind) ≡ count ts + row_count behind
   row_counts no_exprs sp behind = omega arith
@@ -283,11 +245,7 @@ module _ (world : World) (order : List Home) where
       names_count : (qs : List Parameter) → length (map (λ p. p.name) qs) ≡ length qs
       names_count [] = refl
       names_count (q ∷ qs) = ap suc (names_count qs)
-  call_takes a_range sp w f ts ps e t named h rows asides =
-      let right = right_arguments (nat_lt 0 (count ts) && (nat_lt (count ts) 4 && no_keywords ps)) h in
-      let rest = both_second (nat_lt 0 (count ts)) (nat_lt (count ts) 4 && no_keywords ps) right in
-      let n = row_counts ts sp none in
-      (range_takes (count ts) (both_first (nat_lt 0 (count ts)) (nat_lt (count ts) 4 && no_keywords ps) right) (both_first (nat_lt (count ts) 4) (no_keywords ps) rest) ∙ (let m : count ts ≡ row_count (resolved_row world order ts sp none) = omega (arith, n) in m), rows none tt)
+  call_takes a_range sp w f ts ps e t named h rows asides = search (arith, rules, right_arguments, both_second, row_counts, range_takes, both_first)
   call_takes a_super sp w f ts ps e t named h rows asides = super_takes sp.part t
     where
       inside : w.in_block ≡ true
@@ -321,42 +279,14 @@ module _ (world : World) (order : List Home) where
       expr_takes (written.map_of ps) sp e t h k = (entries_pair ps sp, entries_take ps sp e t h k)
       expr_takes (attribute a x) sp e t h k = attribute_takes w (is_loop a) x (broken world sp.home a w) (resolved world order a sp) h (λ g. expr_takes a sp e t g k)
       expr_takes (item a b) sp e t h k = (refl, (expr_takes a sp e t (none_first (broken world sp.home a w) (broken world sp.home b w) h) k.0, (expr_takes b sp e t (none_second (broken world sp.home a w) (broken world sp.home b w) h) k.1, tt)))
-      expr_takes (written.call f ts ps) sp e t h k =
-          let h1 = none_second (called_broken world sp.home f w) _ h in
-          let h2 = none_second (call_broken world sp.home (callee world.sources (given world.sources sp.home) f) w f ts ps) _ h1 in
-          call_takes (callee world.sources (given world.sources sp.home) f) sp w f ts ps e t (λ j b c. called_macro world.sources sp.home f j b c) (none_first (call_broken world sp.home (callee world.sources (given world.sources sp.home) f) w f ts ps) _ h1)
-          (λ behind r. row_takes ts sp e t (none_first (row_broken world sp.home ts w) (pairs_broken world sp.home ps w) h2) k.0 behind r) (λ behind r. asides_take ps sp e t (none_second (row_broken world sp.home ts w) (pairs_broken world sp.home ps w) h2) k.1 behind r)
-      expr_takes (written.filter a x ts ps) sp e t h k =
-          let h1 = none_second (filter_broken world.filters (world.filters.named x ts ps) ts ps) _ h in
-          let h2 = none_second (broken world sp.home a w) _ h1 in
-          let rest = filled_some (filter_parameters world.filters (world.filters.named x ts ps)) (count ts) (keywords ps) (locals_from sp.free (keywords ps)) in
-          filtered_takes w.in_loop (world.filters.named x ts ps) sp.escaping ts ps (slots.item (resolved world order a sp) (resolved_row world order ts sp (resolved_asides world order ps sp rest))) k.0
-          (none_first (filter_broken world.filters (world.filters.named x ts ps) ts ps) _ h)
-          (ap suc (row_counts ts sp (resolved_asides world order ps sp rest) ∙ ap (λ n. count ts + n) (aside_counts ps sp rest) ∙ some_count (filter_parameters world.filters (world.filters.named x ts ps)) (count ts) (keywords ps) (locals_from sp.free (keywords ps)))) (
-            expr_takes a sp e t (none_first (broken world sp.home a w) _ h1) k.1,
-            row_takes ts sp e t (none_first (row_broken world sp.home ts w) (pairs_broken world sp.home ps w) h2) k.2 (resolved_asides world order ps sp rest)
-                (asides_take ps sp e t (none_second (row_broken world sp.home ts w) (pairs_broken world sp.home ps w) h2) k.3 rest (some_takes w.in_loop (filter_parameters world.filters (world.filters.named x ts ps)) (count ts) (keywords ps) (locals_from sp.free (keywords ps)))),
-          )
-      expr_takes (written.test a n x ts ps) sp e t h k =
-          let h1 = none_second (test_broken (test_named x) ts ps) _ h in
-          let h2 = none_second (broken world sp.home a w) _ h1 in
-          let c = row_counts ts sp none in
-          turned_takes w.in_loop n (tested_by (test_named x) (slots.item (resolved world order a sp) (resolved_row world order ts sp none)))
-          (tested_takes w.in_loop (test_named x) ts ps (slots.item (resolved world order a sp) (resolved_row world order ts sp none)) k.0 (none_first (test_broken (test_named x) ts ps) _ h)
-          (let d : suc (row_count (resolved_row world order ts sp none)) ≡ suc (count ts) = omega (arith, c) in d)
-          (expr_takes a sp e t (none_first (broken world sp.home a w) _ h1) k.1, row_takes ts sp e t (none_first (row_broken world sp.home ts w) (pairs_broken world sp.home ps w) h2) k.2 none tt))
+      expr_takes (written.call f ts ps) sp e t h k = search (arith, rules, none_second, call_takes, called_macro, none_first, row_takes ts sp e t, asides_take ps sp e t)
+      expr_takes (written.filter a x ts ps) sp e t h k = search (arith, rules, none_second, filtered_takes, none_first, row_counts, aside_counts, some_count, expr_takes a sp e t, row_takes ts sp e t, asides_take ps sp e t, some_takes)
+      expr_takes (written.test a n x ts ps) sp e t h k = search (arith, rules, none_second, row_counts, turned_takes, tested_takes, none_first, expr_takes a sp e t, row_takes ts sp e t)
       expr_takes (unary p a) sp e t h k = (unary_one p, (expr_takes a sp e t h k, tt))
-      expr_takes (binary p a b) sp e t h k =
-          form_takes w.in_loop (form sp.escaping p) (resolved world order a sp) (resolved world order b sp) (form_two sp.escaping p)
-          (expr_takes a sp e t (none_first (broken world sp.home a w) (broken world sp.home b w) h) k.0) (expr_takes b sp e t (none_second (broken world sp.home a w) (broken world sp.home b w) h) k.1)
+      expr_takes (binary p a b) sp e t h k = search (arith, rules, form_takes, form_two, expr_takes a sp e t, none_first, expr_takes b sp e t, none_second)
       expr_takes (when c a) sp e t h k =
           (expr_takes c sp e t (none_first (broken world sp.home c w) (broken world sp.home a w) h) k.0, expr_takes a sp e t (none_second (broken world sp.home c w) (broken world sp.home a w) h) k.1, tt)
-      expr_takes (choice c a b) sp e t h k =
-          let rest = none_second (broken world sp.home c w) (option_or (broken world sp.home a w) (broken world sp.home b w)) h in (
-            expr_takes c sp e t (none_first (broken world sp.home c w) (option_or (broken world sp.home a w) (broken world sp.home b w)) h) k.0,
-            expr_takes a sp e t (none_first (broken world sp.home a w) (broken world sp.home b w) rest) k.1,
-            expr_takes b sp e t (none_second (broken world sp.home a w) (broken world sp.home b w) rest) k.2,
-          )
+      expr_takes (choice c a b) sp e t h k = search (arith, rules, none_second, expr_takes c sp e t, none_first, expr_takes a sp e t, expr_takes b sp e t)
 
       pub row_takes : (ts : Exprs) (sp : Spot) → Stands sp.home → PartTail w.in_block sp.home sp.part → row_broken world sp.home ts w ≡ None → RowKnown world.filters ts → (behind : SRow Constant) → RTakes w.in_loop behind → RTakes w.in_loop (resolved_row world order ts sp behind)
       row_takes no_exprs sp e t h k behind r = r

@@ -18,8 +18,8 @@ use Rattle.jt_ops.specs.Ranges.{ranged}
 use Rattle.jt_ops.specs.Making.{listed, mapped}
 use Rattle.jt_trees.specs.Expressions as written
 use Rattle.jt_trees.specs.Expressions.{Expr, constant, name, group, list_of, map_of, attribute, item, unary, binary, when, choice, Exprs, no_exprs, expr, no_pairs, pair, Text}
-use Rattle.jt_evaluation.specs.Got.{Got, gives, fails, deeper, bind, checked}
-use Rattle.jt_meaning.specs.Operators.{unary_operation, Form, operation, negation, conjunction, disjunction, form, range_of}
+use Rattle.jt_evaluation.specs.Got.{Got, gives, bind, checked}
+use Rattle.jt_meaning.specs.Operators.{unary_operation, Form, operation, negation, conjunction, disjunction, range_of}
 use Rattle.jt_evaluation.specs.Tests.{test_named}
 use Rattle.jt_evaluation.specs.Values.{literal, as_value}
 use Rattle.jt_meaning.specs.Expressions.{operated, asked, turned, either, combined, filtered, filter_parameters, entries_of, field_of, cycled, block_text, super_text, seen_by, valued_text, called, value, values, named_values}
@@ -28,12 +28,12 @@ use Rattle.jt_trees.specs.Statements.{Parameter}
 use Rattle.jt_meaning.specs.Env.{Env, read, top}
 use Rattle.jt_chains.specs.Chain.{Home, a_library, BlockBody, bodies, all_bodies, from_given, MacroBody, given, Callee, a_macro, a_range, a_super, a_block, a_cycle, no_callee, callee, is_loop}
 use Rattle.jt_evaluation.specs.Loops.{Loop, Field, index0, field_named, loop_field}
-use Rattle.jt_evaluation.specs.Filters.{Filters, default_value, parameters, some_given, by_name, arguments}
+use Rattle.jt_evaluation.specs.Filters.{Filters, parameters, by_name, arguments}
 use Rattle.jt_rules.specs.World.{World}
 use Rattle.jt_meaning.specs.Around.{Placement, the_macro, the_block, Calls}
 use Rattle.jt_resolved.specs.Slots as slots
 use Rattle.jt_resolved.specs.Slots.{Slot, local, Maker, operator, a_list, a_map, SlotExpr, made, SRow, none, Memory, Valued, Listed, Written, SCalls, load, store, make, valued, in_front, svalue, svalues}
-use Rattle.jt_meaning.specs.Layout.{Table, slot_in, first_slot, of_macro, of_body, names, globals, block_parameters, is_scoped, numbered_of, numbered_bodies, counted_from, unit, default_place}
+use Rattle.jt_meaning.specs.Layout.{Table, slot_in, first_slot, of_macro, of_body, names, globals, block_parameters, is_scoped, numbered_of, numbered_bodies, counted_from, unit, default_place, scopes}
 use Rattle.jt_meaning.specs.Programs.{pool}
 use Rattle.jt_resolved.specs.Pool.{Constant, own, known, constant_in}
 use Rattle.jt_meaning.specs.Resolve.{no_value, value_or, read_from, operation_of, turned_round, tested_by, filtered_by, in_form, field_from, locals_from, filled, filled_some, first_locals, reads, Spot, Part, grown, next_given, first_body, invoked_body, invoked_super, invoked, resolved, resolved_row, resolved_asides, resolved_entries}
@@ -42,7 +42,6 @@ use Rattle.jt_meaning.proofs.Reading.{among_front, among_back, held, put_here}
 use Rattle.jt_meaning.proofs.Agreeing.{Kept, kept_same, kept_then, kept_less, kept_store, Held, limit, global_reads, read_names, GlobalsAgree, library_agrees, seen_agree}
 use Rattle.jt_meaning.proofs.Givens.{LeadsTo, Found, called_macro}
 use Rattle.jt_meaning.proofs.Calling.{Evaluated, Rowed, Known, Sees, Tail, PartHolds, Good, good_kept, good_grown, around_of, Wrote, CallsMean, DefaultsAt, Laid}
-use Rattle.jt_meaning.specs.Layout.{scopes}
 use Rattle.jt_meaning.proofs.Among.{Among, AllAmong}
 
 -- ---- rows of values
@@ -91,11 +90,7 @@ KeywordsHeld table ks m = (x : Text) → Looked (look x ks) (slot_in x table) m
 
 keywords_held : (m : Memory) (k : ℕ) (ks : Pairs) → Held m.locals k (map (λ p. p.1) ks) → KeywordsHeld (locals_from k (map (λ p. p.0) ks)) ks m
 keywords_held m k [] h x = tt
-keywords_held m k (p ∷ ps) h x = through (bytes_eq p.0 x) (keywords_held m (suc k) ps h.1 x)
-  where
-    through : (b : Bool) → Looked (look x ps) (slot_in x (locals_from (suc k) (map (λ q. q.0) ps))) m → Looked (if b then Some p.1 else look x ps) (if b then Some (local k) else slot_in x (locals_from (suc k) (map (λ q. q.0) ps))) m
-    through true l = h.0
-    through false l = l
+keywords_held m k (p ∷ ps) h x = search (arith, rules, keywords_held m (suc k) ps h.1 x)
 
 parameter_names : (ps : List Parameter) (vs : List Tree) (ks : Pairs) → map (λ p. p.0) (parameters ps vs ks) ≡ map (λ p. p.name) ps
 parameter_names [] vs ks = refl
@@ -110,17 +105,10 @@ counted_are n (x ∷ xs) = ap (λ ys. x ∷ ys) (counted_are (suc n) xs)
 
 filter_map : (p : BlockBody → Bool) (bs : List (ℕ × BlockBody)) → map (λ c. c.1) (filter (λ c. p c.1) bs) ≡ filter p (map (λ c. c.1) bs)
 filter_map p [] = refl
-filter_map p (b ∷ bs) = through (p b.1) (filter_map p bs)
-  where
-    through : (c : Bool) → map (λ d. d.1) (filter (λ d. p d.1) bs) ≡ filter p (map (λ d. d.1) bs)
-        → map (λ d. d.1) (if c then b ∷ filter (λ d. p d.1) bs else filter (λ d. p d.1) bs) ≡ (if c then b.1 ∷ filter p (map (λ d. d.1) bs) else filter p (map (λ d. d.1) bs))
-    through true e = ap (λ ys. b.1 ∷ ys) e
-    through false e = e
+filter_map p (b ∷ bs) = search (arith, rules, filter_map p bs)
 
 pub numbered_are : (world : World) (h : Home) (x : Text) → bodies world.sources world.escaping h x ≡ map (λ c. c.1) (numbered_of world h x)
-numbered_are world h x =
-    ap (λ bs. filter (λ b. bytes_eq b.name x) bs) (sym (counted_are 0 (all_bodies world.sources world.escaping h)))
-    ∙ sym (filter_map (λ b. bytes_eq b.name x) (numbered_bodies world h))
+numbered_are world h x = search (arith, rules, counted_are 0 (all_bodies world.sources world.escaping h), filter_map (λ b. bytes_eq b.name x) (numbered_bodies world h))
 
 -- what `super()` goes on with has the place that resolving finds
 abbrev pub GivenBy : List (ℕ × BlockBody) → List BlockBody → Option ℕ → Type 0
@@ -180,16 +168,7 @@ module _ (world : World) (order : List Home) (calls : Calls) (scall : SCalls) (m
   two_after : (g : Got Valued) (h : Memory → Got Valued) (f : List Tree → Memory → Got Valued)
       → bind (bind g (λ r. bind (bind (h r.memory) (λ s. gives (in_front s.value (record { values = []; memory = s.memory })))) (λ rs. gives (in_front r.value rs)))) (λ r. f r.values r.memory)
       ≡ bind g (λ r. bind (h r.memory) (λ s. f (r.value ∷ s.value ∷ []) s.memory))
-  two_after (gives r) h f = second (h r.memory)
-    where
-      second : (k : Got Valued)
-          → bind (bind (bind k (λ s. gives (in_front s.value (record { values = []; memory = s.memory })))) (λ rs. gives (in_front r.value rs))) (λ q. f q.values q.memory)
-          ≡ bind k (λ s. f (r.value ∷ s.value ∷ []) s.memory)
-      second (gives s) = refl
-      second (fails e p) = refl
-      second deeper = refl
-  two_after (fails e p) h f = refl
-  two_after deeper h f = refl
+  two_after a0 h f = search (arith, rules)
 
   on_two : (o : OpId) (e k : SlotExpr Constant) (m : Memory)
       → seen (operation_of o e k) m ≡ bind (seen e m) (λ r. bind (seen k r.memory) (λ s. bind (operated o (r.value ∷ s.value ∷ [])) (valued s.memory)))
@@ -197,9 +176,7 @@ module _ (world : World) (order : List Home) (calls : Calls) (scall : SCalls) (m
 
   -- a result over a memory that was kept
   done : {b g : ℕ} {m n : Memory} (r : Got Tree) → Kept b g m n → n.out ≡ m.out → Both (Evaluated b g m) r (bind r (valued n))
-  done (gives v) u o = both (record { value = refl; kept = u; out = o })
-  done (fails e p) u o = fault
-  done deeper u o = deep
+  done a0 u o = search (arith, rules, both, fault, deep)
 
   done_as : {b g : ℕ} {m n : Memory} (r s : Result Tree Fault) → r ≡ s → Kept b g m n → n.out ≡ m.out → Both (Evaluated b g m) (checked r) (bind (checked s) (valued n))
   done_as r s e u o = by_left (ap checked e) (done (checked s) u o)
@@ -284,18 +261,7 @@ module _ (world : World) (order : List Home) (calls : Calls) (scall : SCalls) (m
   named_gives : (ps : List Parameter) (xs : List Text) (table : Table) (ks : Pairs) (m : Memory) → KeywordsHeld table ks m
       → seen_row (filled_some ps zero xs table) m ≡ gives (record { values = by_name ps xs ks; memory = m })
   named_gives [] xs table ks m k = refl
-  named_gives (p ∷ ps) xs table ks m k = through (some_given (p ∷ ps) xs) (named_gives ps xs table ks m k)
-    where
-      d : Constant
-      d = own (default_value p.default)
-
-      through : (b : Bool) → seen_row (filled_some ps zero xs table) m ≡ gives (record { values = by_name ps xs ks; memory = m })
-          → seen_row (if b then slots.item (value_or (slot_in p.name table) d) (filled_some ps zero xs table) else none) m
-          ≡ gives (record { values = (if b then unwrap_or (look p.name ks) (default_value p.default) ∷ by_name ps xs ks else []); memory = m })
-      through false e = refl
-      through true e =
-          item_gives (value_or (slot_in p.name table) d) (filled_some ps zero xs table) m (unwrap_or (look p.name ks) (default_value p.default)) (by_name ps xs ks)
-          (value_looked (look p.name ks) (slot_in p.name table) d m (k p.name)) e
+  named_gives (p ∷ ps) xs table ks m k = search (arith, rules, named_gives ps xs table ks m k, item_gives, value_looked)
 
   some_gives : (ps : List Parameter) (vs : List Tree) (xs : List Text) (table : Table) (ks : Pairs) (m : Memory) → KeywordsHeld table ks m
       → (ws : List Tree) × (seen_row (filled_some ps (length vs) xs table) m ≡ gives (record { values = ws; memory = m })) × (arguments ps vs xs ks ≡ vs ++ ws)
@@ -331,11 +297,7 @@ module _ (world : World) (order : List Home) (calls : Calls) (scall : SCalls) (m
   -- a text by names, and what a routine writes over a memory that was kept
   text_both : {m : Memory} (sp : Spot) (on : Bool) (g : Got Text) (w : Got Written) (n : Memory) → Kept sp.free (end sp) m n → n.out ≡ m.out → Both (Wrote world order (end sp) n.globals) g w
       → Both (Evaluated sp.free (end sp) m) (valued_text on g) (bind w (λ x. valued (record n { globals = x.globals }) (as_value on x.text)))
-  text_both {m = m} sp on g w n u o c = bind_both c (λ s x y. both (record {
-    value = ap (as_value on) y.text;
-    kept = kept_then u (record { locals = λ i z. refl; globals = y.globals });
-    out = o;
-  }))
+  text_both {m = m} sp on g w n u o c = search (arith, rules, bind_both, both, kept_then)
 
   -- a body of a block as a value
   body_both : {m : Memory} (sp : Spot) (on : Bool) (cs : List BlockBody) (o : Option ℕ) (env : Env) (es : SRow Constant) (x : Text) (bs : List (ℕ × BlockBody)) (vs : List Tree)
@@ -384,31 +346,12 @@ module _ (world : World) (order : List Home) (calls : Calls) (scall : SCalls) (m
   filled_end : {m n : Memory} (b : MacroBody) (sp : Spot) (vs : List Tree) (c : ℕ) → length vs ≡ c → (kw : List Text) (ks : Pairs) → map (λ p. p.0) ks ≡ kw → Held n.locals sp.free (map (λ p. p.1) ks)
       → (d : ℕ) → DefaultsAt world order d b.parameters → Kept sp.free (end sp) m n → n.out ≡ m.out
       → Both (λ p r. Passed sp m b p (prefixed vs r)) (gives (parameters b.parameters vs ks)) (seen_row (filled b.parameters c d (locals_from sp.free kw)) n)
-  filled_end {m = m} {n = n} b sp vs c len kw ks nm h d ds u o =
-      let r = filled_gives b.parameters vs d (locals_from sp.free (map (λ p. p.0) ks)) ks n (keywords_held n sp.free ks h) ds in
-      let e = subst (λ z. seen_row (filled b.parameters z d (locals_from sp.free (map (λ p. p.0) ks))) n ≡ gives (record { values = r.0; memory = n })) len r.1 in
-      let f = subst (λ z. seen_row (filled b.parameters c d (locals_from sp.free z)) n ≡ gives (record { values = r.0; memory = n })) nm e in
-      let row : Listed = record { values = r.0; memory = n } in
-      by_right f (both (record {
-        names = parameter_names b.parameters vs ks;
-        values = subst (λ z. Held z 0 (map (λ q. q.1) (parameters b.parameters vs ks))) (sym (prefixed_values vs row)) (front_held (map (λ q. q.1) (parameters b.parameters vs ks)) (vs ++ r.0) r.2);
-        kept = subst (λ z. Kept sp.free (end sp) m z) (sym (prefixed_memory vs row)) u;
-        out = ap (λ z. z.out) (prefixed_memory vs row) ∙ o;
-      }))
+  filled_end {m = m} {n = n} b sp vs c len kw ks nm h d ds u o = search (arith, rules, filled_gives b.parameters vs d (locals_from sp.free (map (λ p. p.0) ks)) ks n (keywords_held n sp.free ks h) ds, keywords_held n sp.free ks h, by_right, both, parameter_names b.parameters vs ks, prefixed_values vs, front_held (map (λ q. q.1) (parameters b.parameters vs ks)), prefixed_memory vs)
 
   pub arguments_end : {m n : Memory} (ps : List Parameter) (sp : Spot) (v w : Tree) → w ≡ v → (vs : List Tree) (c : ℕ) → length vs ≡ c → (kw : List Text) (ks : Pairs) → map (λ p. p.0) ks ≡ kw
       → Held n.locals sp.free (map (λ p. p.1) ks) → Kept sp.free (end sp) m n → n.out ≡ m.out
       → Both (λ x r. Rowed sp.free (end sp) m x (in_front w (prefixed vs r))) (gives (v ∷ arguments ps vs kw ks)) (seen_row (filled_some ps c kw (locals_from sp.free kw)) n)
-  arguments_end {m = m} {n = n} ps sp v w e vs c len kw ks nm h u o =
-      let r = some_gives ps vs kw (locals_from sp.free (map (λ p. p.0) ks)) ks n (keywords_held n sp.free ks h) in
-      let e1 = subst (λ z. seen_row (filled_some ps z kw (locals_from sp.free (map (λ p. p.0) ks))) n ≡ gives (record { values = r.0; memory = n })) len r.1 in
-      let f = subst (λ z. seen_row (filled_some ps c kw (locals_from sp.free z)) n ≡ gives (record { values = r.0; memory = n })) nm e1 in
-      let row : Listed = record { values = r.0; memory = n } in
-      by_right f (both (record {
-        values = ap (λ t. t ∷ (prefixed vs row).values) e ∙ ap (λ ts. v ∷ ts) (prefixed_values vs row ∙ sym r.2);
-        kept = subst (λ z. Kept sp.free (end sp) m z) (sym (prefixed_memory vs row)) u;
-        out = ap (λ z. z.out) (prefixed_memory vs row) ∙ o;
-      }))
+  arguments_end {m = m} {n = n} ps sp v w e vs c len kw ks nm h u o = search (arith, rules, some_gives ps vs kw (locals_from sp.free (map (λ p. p.0) ks)) ks n (keywords_held n sp.free ks h), keywords_held n sp.free ks h, by_right, both, prefixed_values vs, prefixed_memory vs)
 
   -- `loop.cycle(..)`
   cycle_both : {m : Memory} (sp : Spot) (n : ℕ) (h : Got (List Tree)) (es : SRow Constant) → Both (Counted sp m n) h (seen_row es m)
@@ -504,9 +447,7 @@ module _ (world : World) (order : List Home) (calls : Calls) (scall : SCalls) (m
       ∙ sym (bind_assoc (seen (resolved world order e sp) m) (λ r. bind (seen_row (resolved_row world order ts sp none) r.memory) (λ s. gives (in_front r.value s))) (λ t. bind (seen_row behind t.memory) (λ s. gives (prefixed t.values s))))
     where
       inner : (v : Tree) (vs : List Tree) (k : Got Listed) → bind (bind k (λ s. gives (prefixed vs s))) (λ s. gives (in_front v s)) ≡ bind k (λ s. gives (in_front v (prefixed vs s)))
-      inner v vs (gives s) = refl
-      inner v vs (fails e' p) = refl
-      inner v vs deeper = refl
+      inner v vs a2 = search (arith, rules)
 
       turn : (v : Tree) (g : Got Listed)
           → bind (bind g (λ t. bind (seen_row behind t.memory) (λ s. gives (prefixed t.values s)))) (λ s. gives (in_front v s))
@@ -589,17 +530,11 @@ module _ (world : World) (order : List Home) (calls : Calls) (scall : SCalls) (m
         (bind_both (value_same e sp env m g front) (λ v r w. bind_both (values_same ts sp env r.memory (good_kept world order g w.kept) back) (λ vs s z.
         both (record { values = ap (λ y. y ∷ s.values) w.value ∙ ap (λ ys. v ∷ ys) z.0.values; kept = kept_then w.kept z.0.kept; out = z.0.out ∙ w.out })))))
     value_same (unary o e) sp env m g i = one_both (unary_operation o) (resolved world order e sp) (value_same e sp env m g i)
-    value_same (binary o e k) sp env m g i =
-        form_both (form sp.escaping o) (resolved world order e sp) (resolved world order k sp) (value_same e sp env m g (among_front (expr_names e) (expr_names k) (ns sp) i))
-        (λ n u o. value_same k sp env n (good_kept world order g u) (among_back (expr_names e) (expr_names k) (ns sp) i))
+    value_same (binary o e k) sp env m g i = search (arith, rules, form_both, value_same e sp env m g, among_front, value_same k sp env, good_kept, among_back)
     value_same (when c e) sp env m g i =
         choice_both (resolved world order c sp) (resolved world order e sp) no_value (value_same c sp env m g (among_front (expr_names c) (expr_names e) (ns sp) i))
         (λ n u o. value_same e sp env n (good_kept world order g u) (among_back (expr_names c) (expr_names e) (ns sp) i)) (λ n u o. given_both sp tree.undefined)
-    value_same (choice c e k) sp env m g i =
-        let back = among_back (expr_names c) (expr_names e ++ expr_names k) (ns sp) i in
-        choice_both (resolved world order c sp) (resolved world order e sp) (resolved world order k sp) (value_same c sp env m g (among_front (expr_names c) (expr_names e ++ expr_names k) (ns sp) i))
-        (λ n u o. value_same e sp env n (good_kept world order g u) (among_front (expr_names e) (expr_names k) (ns sp) back))
-        (λ n u o. value_same k sp env n (good_kept world order g u) (among_back (expr_names e) (expr_names k) (ns sp) back))
+    value_same (choice c e k) sp env m g i = search (arith, rules, among_back, choice_both, value_same c sp env m g, among_front, value_same e sp env, good_kept, value_same k sp env)
 
     pub values_same : (ts : Exprs) (sp : Spot) (env : Env) (m : Memory) → Good world order sp q env m → AllAmong (row_names ts) (ns sp)
         → Both (Counted sp m (count ts)) (values world calls ts (around_of world order sp l q) env) (seen_row (resolved_row world order ts sp none) m)

@@ -1,5 +1,5 @@
 -- A program is as small as the weight of its chains says: each body is a part of one unit.
-use Rattle.std.proofs.Common.{◌≡◌, ℕ, suc, ◌+◌, ◌*◌, max, ◌≤◌, Bool, true, false, ◌||◌, if◌then◌else◌, List, [], ◌∷◌, ◌++◌, length, Option, Some, None, arith, refl, ap, subst, length-append}
+use Rattle.std.proofs.Common.{◌≡◌, ℕ, suc, ◌+◌, ◌*◌, max, ◌≤◌, Bool, true, false, ◌||◌, if◌then◌else◌, List, [], ◌∷◌, ◌++◌, length, Option, Some, None, arith, refl, subst, length-append, rules}
 use Rattle.std.proofs.lemmas.List.{length-map}
 use Rattle.std.specs.Prelude.{flat_map, filter, map}
 use Rattle.std.specs.List.{AllByRecursion}
@@ -10,8 +10,8 @@ use Rattle.jt_chains.specs.Chain.{Sources, Home, a_chain, a_library, same_home, 
 use Rattle.jt_evaluation.specs.Filters.{default_value}
 use Rattle.jt_rules.specs.World.{World}
 use Rattle.jt_meaning.specs.Meaning.{is_set}
-use Rattle.jt_chains.specs.Uses.{set_in}
-use Rattle.jt_meaning.specs.Layout.{first_slot, names, block_parameters, counted_from, numbered_bodies, shared, defaults_of}
+use Rattle.jt_chains.specs.Uses.{set_in, scope_names}
+use Rattle.jt_meaning.specs.Layout.{first_slot, names, block_parameters, counted_from, numbered_bodies, shared, defaults_of, scopes, is_scoped}
 use Rattle.jt_resolved.specs.Slots as slots
 use Rattle.jt_resolved.specs.Slots.{SlotExpr, SRow, SlotStmt, SBody, Routine}
 use Rattle.jt_resolved.specs.Pool.{Constant, expr_values, condition_values, stmt_values, body_values, routines_values, placed_expr, placed_row, placed_condition, placed_stmt, placed_body, placed_routines}
@@ -26,10 +26,7 @@ use Rattle.jt_meaning.proofs.Locality.{Below, globals_below, bound_below, scope_
 use Rattle.jt_meaning.proofs.Locality as locality
 use Rattle.jt_meaning.proofs.Constants.{followed_count, stmt_counted, all_counted, scope_counted}
 use Rattle.jt_meaning.proofs.Lowness.{followed_low, stmt_low, all_low, scope_low}
-use Rattle.jt_meaning.specs.Layout.{scopes}
-use Rattle.jt_meaning.specs.Layout.{is_scoped}
 use Rattle.jt_meaning.proofs.Free.{stmt_free, body_free, AllPaid, MacrosPaid, all_more, macros_more, body_paid, templates_bound, templates_pay, chain_blocks, chain_macros, scopes_few}
-use Rattle.jt_chains.specs.Uses.{scope_names}
 use Rattle.jt_chains.specs.Includes.{InOrder}
 use Rattle.jt_meaning.proofs.Reading.{home_same, home_is, no_both}
 use Rattle.jt_meaning.proofs.Givens.{given_all, all_own}
@@ -60,21 +57,15 @@ parameters_weigh (p ∷ ps) = omega (arith, parameters_weigh ps)
 module _ (t : Text) where
   mutual
     stmt_once : (s : Stmt) (on : Bool) → stmt_own s + bodies_own (blocks_of t s on) ≤ stmt_weight s
-    stmt_once (data_of x) on = omega arith
-    stmt_once (print line e) on = omega arith
     stmt_once (choose bs other) on = omega (arith, bodies_append (blocks_under t bs on) (blocks_in t other on), branch_once bs on, body_once other on)
     stmt_once (for_each line xs e c body other) on = omega (arith, bodies_append (blocks_in t body on) (blocks_in t other on), body_once body on, body_once other on)
-    stmt_once (set line xs e) on = omega arith
     stmt_once (set_block line x body) on = omega (arith, body_once body on)
     stmt_once (with_values line ps body) on = omega (arith, body_once body on)
     stmt_once (filter_block line fs body) on = omega (arith, body_once body on)
     stmt_once (autoescape line now body) on = omega (arith, body_once body now)
     stmt_once (macro line x ps body) on = omega (arith, body_once body on)
-    stmt_once (include line n missing with_context) on = omega arith
-    stmt_once (import_as line n new) on = omega arith
-    stmt_once (import_from line n news) on = omega arith
-    stmt_once (extends line n) on = omega arith
     stmt_once (block line x is required body) on = omega (arith, body_once body on)
+    stmt_once a0 on = omega arith
 
     body_once : (b : Body) (on : Bool) → body_own b + bodies_own (blocks_in t b on) ≤ body_weight b
     body_once end on = omega arith
@@ -109,14 +100,7 @@ templates_own (t ∷ ts) = body_own t.body + templates_own ts
 
 chain_once : (on : Bool) (ts : List Template) → templates_own ts + bodies_own (flat_map (λ t. blocks_in t.name t.body on) ts) + macros_own (flat_map (λ t. macros_in t.name t.body) ts) ≤ templates_weight ts
 chain_once on [] = omega arith
-chain_once on (t ∷ ts) =
-    omega (
-      arith,
-      top_once t.name t.body on,
-      chain_once on ts,
-      bodies_append (blocks_in t.name t.body on) (flat_map (λ t. blocks_in t.name t.body on) ts),
-      macros_append (macros_in t.name t.body) (flat_map (λ t. macros_in t.name t.body) ts),
-    )
+chain_once on (t ∷ ts) = search (arith, rules, top_once, chain_once on ts, bodies_append, macros_append)
 
 -- ---- the instructions of a chain's routines
 
@@ -128,12 +112,7 @@ module _ (world : World) (order : List Home) (h : Home) where
   module _ (k : IsFew world order h) where
     sets_sized : (b : Body) (t : Text) → body_size (resolved_sets world order b (top_spot world order h t)) ≤ 100 * body_own b
     sets_sized end t = omega arith
-    sets_sized (stmt s rest) t = through (is_set s) (sets_sized rest t)
-      where
-        through : (b : Bool) → body_size (resolved_sets world order rest (top_spot world order h t)) ≤ 100 * body_own rest
-            → body_size (if b then followed (resolved_stmt world order s (top_spot world order h t)) (resolved_sets world order rest (top_spot world order h t)) else resolved_sets world order rest (top_spot world order h t)) ≤ 100 * (stmt_own s + body_own rest)
-        through true g = omega (arith, g, stmt_sized world order s (top_spot world order h t) k, followed_size (resolved_stmt world order s (top_spot world order h t)) (resolved_sets world order rest (top_spot world order h t)))
-        through false g = omega (arith, g)
+    sets_sized (stmt s rest) t = search (arith, rules, sets_sized rest t, stmt_sized, followed_size)
 
     chain_sized : (ts : List Template) → body_size (resolved_chain world order h ts) ≤ 100 * templates_own ts
     chain_sized [] = omega arith
@@ -143,49 +122,29 @@ module _ (world : World) (order : List Home) (h : Home) where
 
     macros_sized : (ms : List MacroBody) → routines_size (map (macro_routine world order h) ms) ≤ 100 * macros_own ms
     macros_sized [] = omega arith
-    macros_sized (m ∷ ms) =
-        let sp = bound_all (map (λ p. p.name) m.parameters) (top_spot world order h m.template) in
-        omega (arith, macros_sized ms, scope_sized world order m.body sp (all_sized world order m.body (bound_all (set_in m.body) sp) k))
+    macros_sized (m ∷ ms) = search (arith, rules, macros_sized ms, scope_sized, all_sized)
 
     blocks_sized : (n : ℕ) (bs : List BlockBody) → routines_size (body_routines world order h (counted_from n bs)) ≤ 100 * bodies_own bs
     blocks_sized n [] = omega arith
-    blocks_sized n (b ∷ bs) =
-        let part : Part = record { name = b.name; behind = filter (λ c. bytes_eq c.1.name b.name) (counted_from (suc n) bs) } in
-        let sp = bound_all (block_parameters world order h b.name) (record (top_spot world order h b.template) { escaping = b.escaping; part = Some part }) in
-        omega (arith, blocks_sized (suc n) bs, scope_sized world order b.body sp (all_sized world order b.body (bound_all (set_in b.body) sp) k))
+    blocks_sized n (b ∷ bs) = search (arith, rules, blocks_sized (suc n) bs, scope_sized, all_sized)
 
     entry_sized : (g : Home) → body_size (resolved_chain world order g (templates world.sources g)) ≤ 100 * templates_own (templates world.sources g) → routines_size (entry_routines world order g) ≤ 100 * templates_own (templates world.sources g) + 1
     entry_sized (a_chain n) c = omega (arith, c)
     entry_sized (a_library n) c = omega arith
 
     all_in_chain : routines_size (chain_routines world order h) ≤ 100 * templates_weight (templates world.sources h) + 1
-    all_in_chain =
-        let ts = templates world.sources h in
-        omega (
-          arith,
-          chain_once world.escaping ts,
-          entry_sized h (chain_sized ts),
-          macros_sized (macros world.sources h),
-          blocks_sized 0 (all_bodies world.sources world.escaping h),
-          routines_append (entry_routines world order h) (map (macro_routine world order h) (macros world.sources h) ++ body_routines world order h (numbered_bodies world h)),
-          routines_append (map (macro_routine world order h) (macros world.sources h)) (body_routines world order h (numbered_bodies world h)),
-        )
+    all_in_chain = search (arith, rules, chain_once, entry_sized, chain_sized, macros_sized, blocks_sized, routines_append)
 
 -- ---- places in the pool change no size and no height
 
 mutual
   expr_placed : (e : SlotExpr Constant) (n : ℕ) → (expr_size (placed_expr e n) ≡ expr_size e) × (expr_height (placed_expr e n) ≡ expr_height e)
-  expr_placed (slots.pooled c) n = (refl, refl)
-  expr_placed (slots.variable s) n = (refl, refl)
-  expr_placed (slots.field f) n = (refl, refl)
-  expr_placed slots.absent n = (refl, refl)
   expr_placed (slots.made m es) n = let a = row_placed es n in (omega (arith, a.0), omega (arith, a.1))
   expr_placed (slots.conjunction x y) n = let a = expr_placed x n in let b = expr_placed y (n + length (expr_values x)) in (omega (arith, a.0, b.0), omega (arith, a.1, b.1))
   expr_placed (slots.disjunction x y) n = let a = expr_placed x n in let b = expr_placed y (n + length (expr_values x)) in (omega (arith, a.0, b.0), omega (arith, a.1, b.1))
-  expr_placed (slots.choice c x y) n =
-      let a = expr_placed c n in let b = expr_placed x (n + length (expr_values c)) in let d = expr_placed y (n + length (expr_values c) + length (expr_values x)) in
-      (omega (arith, a.0, b.0, d.0), omega (arith, a.1, b.1, d.1))
+  expr_placed (slots.choice c x y) n = search (arith, rules, expr_placed c n, expr_placed x (n + length (expr_values c)), expr_placed y (n + length (expr_values c) + length (expr_values x)))
   expr_placed (slots.invoke u on es) n = let a = row_placed es n in (omega (arith, a.0), omega (arith, a.1))
+  expr_placed a0 n = (refl, refl)
 
   row_placed : (es : SRow Constant) (n : ℕ) → (row_size (placed_row es n) ≡ row_size es) × (row_height (placed_row es n) ≡ row_height es)
   row_placed slots.none n = (refl, refl)
@@ -201,15 +160,8 @@ mutual
   stmt_placed (slots.put_pooled c) n = (refl, refl)
   stmt_placed (slots.print p on e) n = let a = expr_placed e n in (omega (arith, a.0), a.1)
   stmt_placed (slots.assign p xs e) n = let a = expr_placed e n in (omega (arith, a.0), omega (arith, a.1))
-  stmt_placed (slots.if_else p c x y) n =
-      let a = expr_placed c n in let b = body_placed x (n + length (expr_values c)) in let d = body_placed y (n + length (expr_values c) + length (body_values x)) in
-      (omega (arith, a.0, b.0, d.0), omega (arith, a.1, b.1, d.1))
-  stmt_placed (slots.for_each p xs e c body other) n =
-      let a = expr_placed e n in
-      let b = condition_placed xs c (n + length (expr_values e)) in
-      let d = body_placed body (n + length (expr_values e) + length (condition_values c)) in
-      let f = body_placed other (n + length (expr_values e) + length (condition_values c) + length (body_values body)) in
-      (omega (arith, a.0, b.0, d.0, f.0), omega (arith, a.1, b.1, d.1, f.1))
+  stmt_placed (slots.if_else p c x y) n = search (arith, rules, expr_placed, body_placed x (n + length (expr_values c)), body_placed y (n + length (expr_values c) + length (body_values x)))
+  stmt_placed (slots.for_each p xs e c body other) n = search (arith, rules, expr_placed e n, condition_placed xs c (n + length (expr_values e)), body_placed body (n + length (expr_values e) + length (condition_values c)), body_placed other (n + length (expr_values e) + length (condition_values c) + length (body_values body)))
   stmt_placed (slots.capture on s body) n = let a = body_placed body n in (omega (arith, a.0), omega (arith, a.1))
   stmt_placed (slots.run u es) n = let a = row_placed es n in (omega (arith, a.0), a.1)
 
@@ -234,10 +186,6 @@ low_append : (w : ℕ) (a b : List (Routine Constant)) → AllByRecursion (Low w
 low_append w [] b h g = g
 low_append w (r ∷ a) b h g = (h.0, low_append w a b h.1 g)
 
-low_more : (w v : ℕ) → w ≤ v → (a : List (Routine Constant)) → AllByRecursion (Low w) a → AllByRecursion (Low v) a
-low_more w v e [] h = tt
-low_more w v e (r ∷ a) h = (omega (arith, e, h.0), low_more w v e a h.1)
-
 module _ (world : World) (order : List Home) (h : Home) (q : ℕ) (k : HasAtMost world order q h) where
   sets_low : (b : Body) (t : Text) → body_bound b ≤ q → 2 * body_height (resolved_sets world order b (top_spot world order h t)) ≤ body_free b + 2 * q
   sets_low end t g = omega arith
@@ -253,9 +201,7 @@ module _ (world : World) (order : List Home) (h : Home) (q : ℕ) (k : HasAtMost
   chain_low : (w : ℕ) (ts : List Template) → AllByRecursion (λ t. (body_free t.body + 2 * q ≤ w) × (body_bound t.body ≤ q)) ts → 2 * body_height (resolved_chain world order h ts) ≤ w
   chain_low w [] g = omega arith
   chain_low w (t ∷ []) g = let f = g.0.0 in omega (arith, f, all_low world order q t.body (top_spot world order h t.name) k g.0.1)
-  chain_low w (t ∷ (u ∷ us)) g =
-      let f = g.0.0 in
-      omega (arith, f, chain_low w (u ∷ us) g.1, sets_low t.body t.name g.0.1, followed_low (resolved_sets world order t.body (top_spot world order h t.name)) (resolved_chain world order h (u ∷ us)))
+  chain_low w (t ∷ (u ∷ us)) g = search (arith, rules, chain_low w (u ∷ us) g.1, sets_low, followed_low)
 
   blocks_low : (w n : ℕ) (bs : List BlockBody) → AllPaid w q bs → AllByRecursion (Low (max 2 w)) (body_routines world order h (counted_from n bs))
   blocks_low w n [] g = tt
@@ -275,10 +221,7 @@ module _ (world : World) (order : List Home) (h : Home) (q : ℕ) (k : HasAtMost
 -- each template of a chain, beside the names that all of them bind
 templates_each : (w n : ℕ) (ts : List Template) → templates_weight ts + 2 * n ≤ w + 2 * templates_bound ts → templates_bound ts ≤ n → AllByRecursion (λ t. (body_free t.body + 2 * n ≤ w) × (body_bound t.body ≤ n)) ts
 templates_each w n [] e l = tt
-templates_each w n (t ∷ ts) e l =
-    let p = body_paid t.body in
-    let r = templates_pay ts in
-    ((omega (arith, p, r, e), omega (arith, l)), templates_each w n ts (omega (arith, p, e)) (omega (arith, l)))
+templates_each w n (t ∷ ts) e l = search (arith, rules, body_paid t.body, templates_pay ts, templates_each w n ts)
 
 macros_few : (w n : ℕ) (ms : List MacroBody) → MacrosPaid w n ms → AllByRecursion (λ m. length m.parameters ≤ n) ms
 macros_few w n [] p = tt
@@ -321,9 +264,7 @@ module _ (world : World) (order : List Home) (ordered : InOrder world.sources or
   q = chains_bound world.sources order
 
   home_macros : (h : Home) → listed h order ≡ true → MacrosPaid w q (macros world.sources h)
-  home_macros h known =
-      let p = is_part world.sources order h known in
-      macros_more (templates_weight (templates world.sources h)) (templates_bound (templates world.sources h)) w q p.bound p.paid (macros world.sources h) (chain_macros (templates world.sources h))
+  home_macros h known = search (arith, rules, is_part, macros_more, templates_bound, chain_macros)
 
   at_most : (h : Home) → listed h order ≡ true → HasAtMost world order q h
   at_most h known = record {
@@ -361,12 +302,7 @@ module _ (world : World) (order : List Home) (ordered : InOrder world.sources or
 
   chains_low : (hs : List Home) → ((h : Home) → listed h hs ≡ true → listed h order ≡ true) → AllByRecursion (Low (max 2 w)) (flat_map (chain_routines world order) hs)
   chains_low [] i = tt
-  chains_low (h ∷ hs) i =
-      low_append (max 2 w) (chain_routines world order h) (flat_map (chain_routines world order) hs) (low_in_chain h (i h (ap (λ b. b || listed h hs) (home_is h)))) (chains_low hs (λ g j. i g (later g (same_home h g) j)))
-    where
-      later : (g : Home) (b : Bool) → listed g hs ≡ true → (b || listed g hs) ≡ true
-      later g true j = refl
-      later g false j = j
+  chains_low (h ∷ hs) i = search (arith, rules, low_append, low_in_chain, home_is, chains_low hs)
 
 -- ---- all chains
 
@@ -385,12 +321,7 @@ values_append (r ∷ a) b = omega (arith, values_append a b, length-append (body
 module _ (world : World) (order : List Home) (h : Home) (k : (f : ℕ) → length (world.filters.parameters f) ≤ 3) where
   sets_counted : (b : Body) (t : Text) → length (body_values (resolved_sets world order b (top_spot world order h t))) ≤ body_own b
   sets_counted end t = omega arith
-  sets_counted (stmt s rest) t = through (is_set s) (sets_counted rest t)
-    where
-      through : (b : Bool) → length (body_values (resolved_sets world order rest (top_spot world order h t))) ≤ body_own rest
-          → length (body_values (if b then followed (resolved_stmt world order s (top_spot world order h t)) (resolved_sets world order rest (top_spot world order h t)) else resolved_sets world order rest (top_spot world order h t))) ≤ stmt_own s + body_own rest
-      through true g = omega (arith, g, stmt_counted world order s (top_spot world order h t) k, followed_count (resolved_stmt world order s (top_spot world order h t)) (resolved_sets world order rest (top_spot world order h t)))
-      through false g = omega (arith, g)
+  sets_counted (stmt s rest) t = search (arith, rules, sets_counted rest t, stmt_counted, followed_count)
 
   chain_counted : (ts : List Template) → length (body_values (resolved_chain world order h ts)) ≤ templates_own ts
   chain_counted [] = omega arith
@@ -425,19 +356,7 @@ module _ (world : World) (order : List Home) (h : Home) (k : (f : ℕ) → lengt
   entry_counted (a_library n) c = omega arith
 
   counted_in_chain : length (routines_values (chain_routines world order h)) + length (defaults_of (macros world.sources h)) ≤ templates_weight (templates world.sources h)
-  counted_in_chain =
-      let ts = templates world.sources h in
-      let a = map (macro_routine world order h) (macros world.sources h) in
-      let b = body_routines world order h (numbered_bodies world h) in
-      omega (
-        arith,
-        chain_once world.escaping ts,
-        entry_counted h (chain_counted ts),
-        macros_counted (macros world.sources h),
-        blocks_counted 0 (all_bodies world.sources world.escaping h),
-        values_append a b,
-        values_append (entry_routines world order h) (a ++ b),
-      )
+  counted_in_chain = search (arith, rules, chain_once, entry_counted, chain_counted, macros_counted, blocks_counted, values_append)
 
   -- a unit a chain, a macro and a body
   macros_number : (ms : List MacroBody) → length (map (macro_routine world order h) ms) ≤ macros_own ms
@@ -453,28 +372,12 @@ module _ (world : World) (order : List Home) (h : Home) (k : (f : ℕ) → lengt
   entry_number (a_library n) = omega arith
 
   units_in_chain : length (chain_routines world order h) ≤ templates_weight (templates world.sources h) + 1
-  units_in_chain =
-      omega (
-        arith,
-        chain_once world.escaping (templates world.sources h),
-        macros_number (macros world.sources h),
-        bodies_number 0 (all_bodies world.sources world.escaping h),
-        entry_number h,
-        length-append (entry_routines world order h) (map (macro_routine world order h) (macros world.sources h) ++ body_routines world order h (numbered_bodies world h)),
-        length-append (map (macro_routine world order h) (macros world.sources h)) (body_routines world order h (numbered_bodies world h)),
-      )
+  units_in_chain = search (arith, rules, chain_once, macros_number, bodies_number, entry_number, length-append)
 
 chains_counted : (world : World) (order hs : List Home) (k : (f : ℕ) → length (world.filters.parameters f) ≤ 3)
     → length (routines_values (flat_map (chain_routines world order) hs)) + length (flat_map (λ h. defaults_of (macros world.sources h)) hs) ≤ chains_weight world.sources hs
 chains_counted world order [] k = omega arith
-chains_counted world order (h ∷ hs) k =
-    omega (
-      arith,
-      chains_counted world order hs k,
-      counted_in_chain world order h k,
-      values_append (chain_routines world order h) (flat_map (chain_routines world order) hs),
-      length-append (defaults_of (macros world.sources h)) (flat_map (λ h. defaults_of (macros world.sources h)) hs),
-    )
+chains_counted world order (h ∷ hs) k = search (arith, rules, chains_counted world order hs k, counted_in_chain, values_append, length-append)
 
 units_counted : (world : World) (order hs : List Home) (k : (f : ℕ) → length (world.filters.parameters f) ≤ 3) → length (flat_map (chain_routines world order) hs) ≤ chains_weight world.sources hs + length hs
 units_counted world order [] k = omega arith

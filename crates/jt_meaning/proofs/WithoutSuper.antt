@@ -5,7 +5,7 @@ use Rattle.std.specs.Option.{option_or, is_some}
 use Rattle.std.specs.Str.{bytes_eq}
 use Rattle.jt_trees.specs.Expressions as written
 use Rattle.jt_trees.specs.Expressions.{Expr, constant, name, group, list_of, attribute, item, unary, binary, when, choice, Exprs, no_exprs, expr, no_pairs, pair, Text}
-use Rattle.jt_chains.specs.Chain.{Home, a_library, MacroBody, macros, public_macro, Given, one_macro, library, given, given_to, Callee, a_range, a_super, a_block, a_cycle, no_callee, named_alone, of_library, in_library, callee, is_loop}
+use Rattle.jt_chains.specs.Chain.{Home, MacroBody, Given, given, Callee, a_range, a_super, a_block, a_cycle, no_callee, named_alone, of_library, in_library, callee, is_loop}
 use Rattle.jt_chains.specs.Supers.{is_super, has_super, row_super, pairs_super, condition_super, filtering_super, stmt_super, calls_super, branches_super}
 use Rattle.jt_trees.specs.Statements.{Filtering, Stmt, data_of, print, choose, for_each, set, set_block, with_values, filter_block, autoescape, macro, include, import_as, import_from, extends, block, Body, end, stmt, Branches, no_branches, branch}
 use Rattle.jt_evaluation.specs.Loops.{field_named}
@@ -94,9 +94,7 @@ module _ (world : World) (h : Home) where
     called_without (written.map_of ps) w s = pairs_without ps w s
     called_without (attribute a k) w s = expr_without a w s
     called_without (item a b) w s = both_parts _ _ _ _ (expr_without a w (left_false (has_super a) (has_super b) s)) (expr_without b w (right_false (has_super a) (has_super b) s))
-    called_without (written.call f ts ps) w s =
-        let s1 = right_false (is_super f) (has_super f || (row_super ts || pairs_super ps)) s in
-        three_parts _ _ _ _ _ _ (called_without f w (first_false (has_super f) (row_super ts) (pairs_super ps) s1)) (row_without ts w (second_false (has_super f) (row_super ts) (pairs_super ps) s1)) (pairs_without ps w (third_false (has_super f) (row_super ts) (pairs_super ps) s1))
+    called_without (written.call f ts ps) w s = search (arith, rules, right_false, three_parts, called_without f w, first_false, row_without ts w, second_false, pairs_without ps w, third_false)
     called_without (written.filter a x ts ps) w s = three_parts _ _ _ _ _ _ (expr_without a w (first_false (has_super a) (row_super ts) (pairs_super ps) s)) (row_without ts w (second_false (has_super a) (row_super ts) (pairs_super ps) s)) (pairs_without ps w (third_false (has_super a) (row_super ts) (pairs_super ps) s))
     called_without (written.test a n x ts ps) w s = three_parts _ _ _ _ _ _ (expr_without a w (first_false (has_super a) (row_super ts) (pairs_super ps) s)) (row_without ts w (second_false (has_super a) (row_super ts) (pairs_super ps) s)) (pairs_without ps w (third_false (has_super a) (row_super ts) (pairs_super ps) s))
     called_without (unary o a) w s = expr_without a w s
@@ -118,22 +116,14 @@ module _ (world : World) (h : Home) where
 
   filtering_without : (fs : List Filtering) (w : Within) → filtering_super fs ≡ false → filtering_broken world h fs w ≡ filtering_broken world h fs (out_of w)
   filtering_without [] w s = refl
-  filtering_without (f ∷ fs) w s =
-      let s1 = right_false (row_super f.arguments) (pairs_super f.keywords || filtering_super fs) s in
-      ap (option_or _) (both_parts _ _ _ _ (row_without f.arguments w (left_false (row_super f.arguments) (pairs_super f.keywords || filtering_super fs) s))
-      (both_parts _ _ _ _ (pairs_without f.keywords w (left_false (pairs_super f.keywords) (filtering_super fs) s1)) (filtering_without fs w (right_false (pairs_super f.keywords) (filtering_super fs) s1))))
+  filtering_without (f ∷ fs) w s = search (arith, rules, right_false, both_parts, row_without, left_false, pairs_without, filtering_without fs w)
 
   mutual
     stmt_without : (t : Stmt) (w : Within) → stmt_super t ≡ false → stmt_broken world h t w ≡ stmt_broken world h t (out_of w)
     stmt_without (data_of x) w s = refl
     stmt_without (print line e) w s = expr_without e w s
     stmt_without (choose bs other) w s = both_parts _ _ _ _ (branches_without bs w (left_false (branches_super bs) (calls_super other) s)) (body_without other w (right_false (branches_super bs) (calls_super other) s))
-    stmt_without (for_each line xs e c body other) w s =
-        let s1 = right_false (has_super e) (condition_super c || (calls_super body || calls_super other)) s in
-        let s2 = right_false (condition_super c) (calls_super body || calls_super other) s1 in
-        both_parts _ _ _ _ (expr_without e w (left_false (has_super e) (condition_super c || (calls_super body || calls_super other)) s))
-        (ap (option_or _) (both_parts _ _ _ _ (condition_without c w (left_false (condition_super c) (calls_super body || calls_super other) s1))
-        (both_parts _ _ _ _ (body_without body (record w { in_loop = true }) (left_false (calls_super body) (calls_super other) s2)) (body_without other w (right_false (calls_super body) (calls_super other) s2)))))
+    stmt_without (for_each line xs e c body other) w s = search (arith, rules, right_false, both_parts, expr_without, left_false, condition_without, body_without body, body_without other w)
     stmt_without (set line xs e) w s = ap (λ z. option_or z (all_used world h xs)) (expr_without e w s)
     stmt_without (set_block line x body) w s = ap (option_or _) (body_without body w s)
     stmt_without (with_values line ps body) w s =
@@ -154,7 +144,4 @@ module _ (world : World) (h : Home) where
 
     branches_without : (bs : Branches) (w : Within) → branches_super bs ≡ false → branches_broken world h bs w ≡ branches_broken world h bs (out_of w)
     branches_without no_branches w s = refl
-    branches_without (branch line c body rest) w s =
-        let s1 = right_false (has_super c) (calls_super body || branches_super rest) s in
-        both_parts _ _ _ _ (both_parts _ _ _ _ (expr_without c w (left_false (has_super c) (calls_super body || branches_super rest) s)) (body_without body w (left_false (calls_super body) (branches_super rest) s1)))
-        (branches_without rest w (right_false (calls_super body) (branches_super rest) s1))
+    branches_without (branch line c body rest) w s = search (arith, rules, right_false, both_parts, expr_without, left_false, body_without body w, branches_without rest w)

@@ -25,8 +25,8 @@ pub record State : Type 0 where
   pub env : Env
   pub out : Text
 
--- what is called: a macro of a chain or of a library with its parameters and the globals, a block's body and those behind it in an environment,
--- or another chain with its globals
+-- what is called: a macro of a chain or of a library with its parameters and the globals, a block's
+-- body and those behind it in an environment, or another chain with its globals
 pub data Called : Type 0 where
   the_macro : Home → MacroBody → Pairs → Pairs → Called
   the_block : Home → BlockBody → List BlockBody → Env → Called

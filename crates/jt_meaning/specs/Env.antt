@@ -1,4 +1,5 @@
--- Environments: scopes, the innermost first, over one map of globals. A map lists what was bound, the newest first.
+-- Environments: scopes, the innermost first, over one map of globals. A map lists what was bound,
+-- the newest first.
 use Rattle.std.specs.Prelude.{List, [], ◌∷◌, ◌++◌, unwrap_or}
 use Rattle.jt_value.specs.Tree.{Tree}
 use Rattle.jt_value.specs.Pairs.{Pairs, look}

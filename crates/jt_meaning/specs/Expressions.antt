@@ -26,13 +26,13 @@ use Rattle.jt_ops.specs.Operation as operators
 use Rattle.jt_ops.specs.Operation.{as_truth}
 use Rattle.jt_ops.specs.Testing.{tested}
 use Rattle.jt_chains.specs.Uses.{keywords}
-use Rattle.jt_evaluation.specs.Values.{literal, as_value}
 
 -- an operation on values
 abbrev pub operated : OpId → List Tree → Got Tree
 operated o vs = checked (operators.operation o vs)
 
--- a test of values; an unknown one has neither text nor fault at any depth: the parser knows each by its name
+-- a test of values; an unknown one has neither text nor fault at any depth: the parser knows each
+-- by its name
 abbrev pub asked : Option TestId → Got (List Tree) → Got Tree
 asked None g = deeper
 asked (Some t) g = bind g (λ vs. checked (as_truth (tested t vs)))
@@ -53,7 +53,8 @@ combined (negation o) g h = turned true (bind g (λ v. bind h (λ w. operated o 
 combined conjunction g h = bind g (λ v. if tree.truth v then h else gives v)
 combined disjunction g h = bind g (λ v. if tree.truth v then gives v else h)
 
--- a filter of values; an unknown one has neither text nor fault at any depth: the parser knows each by its name
+-- a filter of values; an unknown one has neither text nor fault at any depth: the parser knows each
+-- by its name
 abbrev pub filtered : Filters → Option ℕ → Bool → Got (List Tree) → Got Tree
 filtered fs None escaping g = deeper
 filtered fs (Some f) escaping g = bind g (λ vs. checked (fs.operation f escaping vs))
@@ -63,12 +64,14 @@ abbrev pub entries_of : Pairs → List Tree
 entries_of [] = []
 entries_of (b ∷ bs) = tree.text b.0 ∷ b.1 ∷ entries_of bs
 
--- a field of the innermost loop; an unknown one, and each outside a loop, has neither text nor fault at any depth: the rules refuse both
+-- a field of the innermost loop; an unknown one, and each outside a loop, has neither text nor
+-- fault at any depth: the rules refuse both
 abbrev pub field_of : Option Field → Option Loop → Got Tree
 field_of None l = deeper
 field_of (Some f) l = loop_field f l
 
--- `loop.cycle(..)`: the one at the turn's place, round and round; outside a loop it has neither text nor fault at any depth
+-- `loop.cycle(..)`: the one at the turn's place, round and round; outside a loop it has neither
+-- text nor fault at any depth
 abbrev pub cycled : Option Loop → List Tree → Got Tree
 cycled l vs =
     bind (loop_field index0 l) (λ i. bind (operated op.Remainder (i ∷ tree.number (pos (length vs)) ∷ [])) (λ k.
@@ -79,13 +82,14 @@ abbrev pub filter_parameters : Filters → Option ℕ → List Parameter
 filter_parameters fs None = []
 filter_parameters fs (Some f) = fs.parameters f
 
--- the text of a block in an environment: the first of these bodies; no body has neither text nor fault at any depth: the rules see to it that
--- there is one
+-- the text of a block in an environment: the first of these bodies; no body has neither text nor
+-- fault at any depth: the rules see to it that there is one
 abbrev pub block_text : Calls → Home → List BlockBody → Env → Got Text
 block_text calls home [] env = deeper
 block_text calls home (b ∷ bs) env = calls (the_block home b bs env)
 
--- what `super()` goes on with; outside a block it has neither text nor fault at any depth: the rules refuse it
+-- what `super()` goes on with; outside a block it has neither text nor fault at any depth: the
+-- rules refuse it
 abbrev pub super_text : Calls → Home → Option Placement → Got Text
 super_text calls home None = deeper
 super_text calls home (Some p) = block_text calls home (from_given p.behind) p.env
@@ -100,12 +104,19 @@ abbrev pub valued_text : Bool → Got Text → Got Tree
 valued_text escaping g = bind g (λ s. gives (as_value escaping s))
 
 module _ (world : World) (calls : Calls) where
-  -- a call, by what its arguments give; any other has neither text nor fault at any depth: it breaks the rules
+  -- a call, by what its arguments give; any other has neither text nor fault at any depth: it
+  -- breaks the rules
   abbrev pub called : Callee → Around → Env → Got (List Tree) → Got Pairs → Got Tree
-  called (a_macro h m) a env g k = bind g (λ vs. bind k (λ ks. valued_text a.escaping (calls (the_macro h m (parameters m.parameters vs ks) (seen_by h env.globals)))))
+  called (a_macro h m) a env g k =
+      bind g (λ vs.
+      bind k (λ ks.
+      valued_text a.escaping
+      (calls (the_macro h m (parameters m.parameters vs ks) (seen_by h env.globals)))))
   called a_range a env g h = bind g (λ vs. checked (ranged vs))
   called a_super a env g h = valued_text a.escaping (super_text calls a.home a.block)
-  called (a_block x) a env g h = valued_text a.escaping (block_text calls a.home (bodies world.sources world.escaping a.home x) (top env.globals))
+  called (a_block x) a env g h =
+      valued_text a.escaping
+      (block_text calls a.home (bodies world.sources world.escaping a.home x) (top env.globals))
   called a_cycle a env g h = bind g (cycled a.loop)
   called no_callee a env g h = deeper
 
@@ -119,12 +130,17 @@ module _ (world : World) (calls : Calls) where
     value (attribute e k) a env =
         if is_loop e then field_of (field_named k) a.loop
         else bind (value e a env) (λ v. operated op.Item (v ∷ tree.text k ∷ []))
-    value (item e k) a env = bind (value e a env) (λ v. bind (value k a env) (λ w. operated op.Item (v ∷ w ∷ [])))
-    value (call f ts ps) a env = called (callee world.sources (given world.sources a.home) f) a env (values ts a env) (named_values ps a env)
+    value (item e k) a env =
+        bind (value e a env) (λ v. bind (value k a env) (λ w. operated op.Item (v ∷ w ∷ [])))
+    value (call f ts ps) a env =
+        called (callee world.sources (given world.sources a.home) f) a env (values ts a env)
+        (named_values ps a env)
     value (filter e x ts ps) a env =
         filtered world.filters (world.filters.named x ts ps) a.escaping (bind (value e a env) (λ v. bind (values ts a env) (λ vs. bind (named_values ps a env) (λ ks.
         gives (v ∷ arguments (filter_parameters world.filters (world.filters.named x ts ps)) vs (keywords ps) ks)))))
-    value (test e n x ts ps) a env = turned n (asked (test_named x) (bind (value e a env) (λ v. bind (values ts a env) (λ vs. gives (v ∷ vs)))))
+    value (test e n x ts ps) a env =
+        turned n (asked (test_named x)
+        (bind (value e a env) (λ v. bind (values ts a env) (λ vs. gives (v ∷ vs)))))
     value (unary o e) a env = bind (value e a env) (λ v. operated (unary_operation o) (v ∷ []))
     value (binary o e f) a env = combined (form a.escaping o) (value e a env) (value f a env)
     value (when c e) a env = either (value c a env) (value e a env) (gives tree.undefined)
@@ -133,8 +149,10 @@ module _ (world : World) (calls : Calls) where
     -- from left to right
     pub values : Exprs → Around → Env → Got (List Tree)
     values no_exprs a env = gives []
-    values (expr e ts) a env = bind (value e a env) (λ v. bind (values ts a env) (λ vs. gives (v ∷ vs)))
+    values (expr e ts) a env =
+        bind (value e a env) (λ v. bind (values ts a env) (λ vs. gives (v ∷ vs)))
 
     pub named_values : trees.Pairs → Around → Env → Got Pairs
     named_values no_pairs a env = gives []
-    named_values (pair x e ps) a env = bind (value e a env) (λ v. bind (named_values ps a env) (λ bs. gives ((x, v) ∷ bs)))
+    named_values (pair x e ps) a env =
+        bind (value e a env) (λ v. bind (named_values ps a env) (λ bs. gives ((x, v) ∷ bs)))

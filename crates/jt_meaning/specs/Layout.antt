@@ -1,4 +1,5 @@
--- How the names, macros and bodies of chains and libraries are laid out in a program: slots of globals, routines, and values in front of the pool.
+-- How the names, macros and bodies of chains and libraries are laid out in a program: slots of
+-- globals, routines, and values in front of the pool.
 use Rattle.std.specs.Prelude.{ℕ, suc, ◌+◌, ◌==◌, ◌&&◌, Bool, false, List, [], ◌∷◌, ◌++◌, length, map, flat_map, filter, Option, Some, None, if◌then◌else◌}
 use Rattle.std.specs.List.{list_any}
 use Rattle.std.specs.Str.{bytes_eq}
@@ -31,7 +32,8 @@ abbrev pub counted_from : {A : Type 0} → ℕ → List A → List (ℕ × A)
 counted_from n [] = []
 counted_from n (x ∷ xs) = (n, x) ∷ counted_from (suc n) xs
 
--- what a routine is made of: a chain, a macro of a chain or a library, or a block's body by its place among all bodies of its chain
+-- what a routine is made of: a chain, a macro of a chain or a library, or a block's body by its
+-- place among all bodies of its chain
 pub data Key : Type 0 where
   of_chain : Text → Key
   of_macro : Home → Text → Key
@@ -62,11 +64,15 @@ first_default x [] = 0
 first_default x (m ∷ ms) = if bytes_eq m.name x then 0 else length m.parameters + first_default x ms
 
 module _ (world : World) where
-  -- the names of a chain, and of those that it includes: it hands them on. Each chain stands before those that it includes. A library has no
-  -- globals.
+  -- the names of a chain, and of those that it includes: it hands them on. Each chain stands before
+  -- those that it includes. A library has no globals.
   abbrev pub names_in : List Home → Home → List Text
   names_in [] h = []
-  names_in (k ∷ ks) h = if same_home k h then in_globals h (ascending (own_names world.sources h ++ flat_map (names_in ks) (included world.sources h))) else names_in ks h
+  names_in (k ∷ ks) h =
+      if same_home k h
+      then in_globals h (ascending
+      (own_names world.sources h ++ flat_map (names_in ks) (included world.sources h)))
+      else names_in ks h
 
   -- all bodies of a chain with their places, and those of one block
   abbrev pub numbered_bodies : Home → List (ℕ × BlockBody)
@@ -77,7 +83,8 @@ module _ (world : World) where
 
   -- whether a tag of the block says `scoped`
   abbrev pub is_scoped : Home → Text → Bool
-  is_scoped h x = list_any (λ b. b.scoped && bytes_eq b.name x) (all_bodies world.sources world.escaping h)
+  is_scoped h x =
+      list_any (λ b. b.scoped && bytes_eq b.name x) (all_bodies world.sources world.escaping h)
 
   -- a chain itself; a library is never rendered
   abbrev pub entry_keys : Home → List Key
@@ -86,7 +93,9 @@ module _ (world : World) where
 
   abbrev pub chain_keys : Home → List Key
   chain_keys h =
-      entry_keys h ++ (map (λ m. of_macro h m.name) (macros world.sources h) ++ map (λ b. of_body h b.0) (numbered_bodies h))
+      entry_keys h
+      ++ (map (λ m. of_macro h m.name) (macros world.sources h)
+      ++ map (λ b. of_body h b.0) (numbered_bodies h))
 
   module _ (order : List Home) where
     abbrev pub names : Home → List Text
@@ -107,8 +116,8 @@ module _ (world : World) where
     abbrev pub scopes : Home → List Text
     scopes h = if listed h order then scope_names world.sources h else []
 
-    -- where a tag of the block says `scoped`, its bodies have as parameters the names that the chain's scopes bind: a name that no scope binds
-    -- is a global at each tag
+    -- where a tag of the block says `scoped`, its bodies have as parameters the names that the
+    -- chain's scopes bind: a name that no scope binds is a global at each tag
     abbrev pub block_parameters : Home → Text → List Text
     block_parameters h x = if is_scoped h x then scopes h else []
 
@@ -124,7 +133,10 @@ module _ (world : World) where
 
     abbrev pub default_in : List Home → Home → Text → ℕ
     default_in [] h x = 0
-    default_in (k ∷ ks) h x = if same_home k h then first_default x (macros world.sources h) else length (defaults_of (macros world.sources k)) + default_in ks h x
+    default_in (k ∷ ks) h x =
+        if same_home k h
+        then first_default x (macros world.sources h)
+        else length (defaults_of (macros world.sources k)) + default_in ks h x
 
     -- the place of the first parameter's default
     abbrev pub default_place : Home → Text → ℕ

@@ -39,22 +39,28 @@ put st s = record st { out = st.out ++ s }
 
 -- in a new scope, that is left behind
 abbrev pub within : Pairs → (State → Got State) → State → Got State
-within s run st = bind (run (record st { env = inside s st.env })) (λ r. gives (record st { out = r.out }))
+within s run st =
+    bind (run (record st { env = inside s st.env })) (λ r. gives (record st { out = r.out }))
 
 -- in a new scope, its text as a value
 abbrev pub captured : Bool → (State → Got State) → Env → Got Tree
-captured escaping run env = bind (run (record { env = inside [] env; out = [] })) (λ r. gives (as_value escaping r.out))
+captured escaping run env =
+    bind (run (record { env = inside [] env; out = [] })) (λ r. gives (as_value escaping r.out))
 
 -- ---- loops
 
 -- the turns from one on, each in a scope of its own
-abbrev pub turns : (Option Loop → State → Got State) → List Text → Place → List Tree → ℕ → List Tree → State → Got State
+abbrev pub turns : (Option Loop → State → Got State) → List Text → Place → List Tree → ℕ → List Tree
+    → State → Got State
 turns run xs p all i [] st = gives st
 turns run xs p all i (v ∷ vs) st =
-    bind (at p (targets xs v)) (λ s. bind (within s (run (Some (record { items = all; before = i }))) st) (turns run xs p all (suc i) vs))
+    bind (at p (targets xs v)) (λ s.
+    bind (within s (run (Some (record { items = all; before = i }))) st)
+    (turns run xs p all (suc i) vs))
 
 -- the turns, or the else part where there is none
-abbrev pub gone_over : (Option Loop → State → Got State) → (State → Got State) → List Text → Place → List Tree → State → Got State
+abbrev pub gone_over : (Option Loop → State → Got State) → (State → Got State) → List Text → Place
+    → List Tree → State → Got State
 gone_over run other xs p [] st = other st
 gone_over run other xs p (v ∷ vs) st = turns run xs p (v ∷ vs) 0 (v ∷ vs) st
 
@@ -70,8 +76,8 @@ is_set s = false
 abbrev pub text_of : Got State → Got Text
 text_of g = bind g (λ st. gives st.out)
 
--- an include of a name without a source: with true it may be missing, and gives nothing; with false it has neither text nor fault at any depth:
--- the rules refuse it
+-- an include of a name without a source: with true it may be missing, and gives nothing; with false
+-- it has neither text nor fault at any depth: the rules refuse it
 abbrev pub without_source : Bool → State → Got State
 without_source true st = gives st
 without_source false st = deeper
@@ -95,26 +101,34 @@ module _ (world : World) (calls : Calls) where
   abbrev mutual
     pub meaning : Stmt → Around → State → Got State
     meaning (data_of s) a st = gives (put st s)
-    meaning (print line e) a st = at (tag a line) (bind (value world calls e a st.env) (λ v. bind (shown a.escaping v) (λ s. gives (put st s))))
+    meaning (print line e) a st =
+        at (tag a line) (bind (value world calls e a st.env)
+        (λ v. bind (shown a.escaping v) (λ s. gives (put st s))))
     meaning (choose bs other) a st = chosen bs a st (meanings other a)
     meaning (for_each line xs e c body other) a st =
         bind (at (tag a line) (bind (value world calls e a st.env) (λ v. bind (checked (items_of_value v)) (kept c xs a st.env)))) (λ vs.
         gone_over (λ l. meanings body (record a { loop = l })) (meanings other a) xs (tag a line) vs st)
     meaning (set line xs e) a st =
-        bind (at (tag a line) (bind (value world calls e a st.env) (targets xs))) (λ s. gives (record st { env = all_bound st.env s }))
+        bind (at (tag a line) (bind (value world calls e a st.env) (targets xs)))
+        (λ s. gives (record st { env = all_bound st.env s }))
     meaning (set_block line x body) a st =
-        bind (captured a.escaping (meanings body a) st.env) (λ v. gives (record st { env = all_bound st.env ((x, v) ∷ []) }))
+        bind (captured a.escaping (meanings body a) st.env)
+        (λ v. gives (record st { env = all_bound st.env ((x, v) ∷ []) }))
     meaning (with_values line ps body) a st =
-        bind (at (tag a line) (named_values world calls ps a st.env)) (λ bs. within bs (meanings body a) st)
+        bind (at (tag a line) (named_values world calls ps a st.env))
+        (λ bs. within bs (meanings body a) st)
     meaning (filter_block line fs body) a st =
         bind (captured a.escaping (meanings body a) st.env) (λ v.
         at (tag a line) (bind (through fs a st.env (gives v)) (λ w. bind (shown a.escaping w) (λ s. gives (put st s)))))
-    meaning (autoescape line on body) a st = within [] (meanings body (record a { escaping = on })) st
+    meaning (autoescape line on body) a st =
+        within [] (meanings body (record a { escaping = on })) st
     meaning (block line x scoped required body) a st =
-        bind (block_text calls a.home (bodies world.sources world.escaping a.home x) (if scoped then st.env else top st.env.globals)) (λ s. gives (put st s))
+        bind (block_text calls a.home (bodies world.sources world.escaping a.home x)
+        (if scoped then st.env else top st.env.globals)) (λ s. gives (put st s))
     meaning (include line n ignore_missing with_context) a st =
         if is_none (world.sources n) then without_source ignore_missing st
-        else bind (calls (the_chain n (if with_context then seen st.env else []))) (λ s. gives (put st s))
+        else bind (calls (the_chain n (if with_context then seen st.env else [])))
+        (λ s. gives (put st s))
     -- they give no text where they stand
     meaning (macro line x ps body) a st = gives st
     meaning (import_as line n x) a st = gives st
@@ -129,7 +143,8 @@ module _ (world : World) (calls : Calls) where
     pub chosen : Branches → Around → State → (State → Got State) → Got State
     chosen no_branches a st other = other st
     chosen (branch line c body rest) a st other =
-        bind (at (tag a line) (value world calls c a st.env)) (λ v. if tree.truth v then meanings body a st else chosen rest a st other)
+        bind (at (tag a line) (value world calls c a st.env))
+        (λ v. if tree.truth v then meanings body a st else chosen rest a st other)
 
   -- ---- chains
 
@@ -139,7 +154,8 @@ module _ (world : World) (calls : Calls) where
   sets (stmt s rest) a st = if is_set s then bind (meaning s a st) (sets rest a) else sets rest a st
 
   abbrev pub start : Home → Text → Around
-  start home t = record { home = home; template = t; escaping = world.escaping; loop = None; block = None }
+  start home t =
+      record { home = home; template = t; escaping = world.escaping; loop = None; block = None }
 
   -- the children's sets, the entry's first; then the root
   abbrev pub rendered : Home → List Template → State → Got State
@@ -147,12 +163,25 @@ module _ (world : World) (calls : Calls) where
   rendered home (t ∷ []) st = meanings t.body (start home t.name) st
   rendered home (t ∷ ts) st = bind (sets t.body (start home t.name) st) (rendered home ts)
 
-  -- a call that is carried out: the text of a macro's body, a block's body, a chain from its globals
+  -- a call that is carried out: the text of a macro's body, a block's body, a chain from its
+  -- globals
   abbrev pub performed : Called → Got Text
-  performed (the_macro home m s globals) = text_of (meanings m.body (start home m.template) (record { env = inside s (top globals); out = [] }))
+  performed (the_macro home m s globals) =
+      text_of (meanings m.body (start home m.template)
+      (record { env = inside s (top globals); out = [] }))
   performed (the_block home b bs env) =
-      text_of (meanings b.body (record { home = home; template = b.template; escaping = b.escaping; loop = None; block = Some (record { behind = bs; env = env }) }) (record { env = inside [] env; out = [] }))
-  performed (the_chain n globals) = text_of (rendered (a_chain n) (templates world.sources (a_chain n)) (record { env = top globals; out = [] }))
+      text_of (meanings b.body
+      (record {
+        home = home;
+        template = b.template;
+        escaping = b.escaping;
+        loop = None;
+        block = Some (record { behind = bs; env = env });
+      })
+      (record { env = inside [] env; out = [] }))
+  performed (the_chain n globals) =
+      text_of (rendered (a_chain n) (templates world.sources (a_chain n))
+      (record { env = top globals; out = [] }))
 
 -- calls at most n deep
 abbrev pub calls_below : World → ℕ → Calls

@@ -9,12 +9,15 @@ use Rattle.jt_resolved.specs.Slots.{Routine, Program}
 use Rattle.jt_resolved.specs.Pool.{Constant, routines_values, placed_routines}
 use Rattle.jt_meaning.specs.Resolve.{chain_routine, macro_routine, body_routine}
 
--- the chains and libraries in an order in which each stands before those that it leads to, the entry first
+-- the chains and libraries in an order in which each stands before those that it leads to, the
+-- entry first
 module _ (world : World) (order : List Home) where
   -- each body with those of its block behind it
   abbrev pub body_routines : Home → List (ℕ × BlockBody) → List (Routine Constant)
   body_routines h [] = []
-  body_routines h (b ∷ bs) = body_routine world order h b.1 (filter (λ c. bytes_eq c.1.name b.1.name) bs) ∷ body_routines h bs
+  body_routines h (b ∷ bs) =
+      body_routine world order h b.1 (filter (λ c. bytes_eq c.1.name b.1.name) bs)
+      ∷ body_routines h bs
 
   -- a chain itself; a library is never rendered
   abbrev pub entry_routines : Home → List (Routine Constant)
@@ -22,7 +25,10 @@ module _ (world : World) (order : List Home) where
   entry_routines (a_library n) = []
 
   abbrev pub chain_routines : Home → List (Routine Constant)
-  chain_routines h = entry_routines h ++ (map (macro_routine world order h) (macros world.sources h) ++ body_routines h (numbered_bodies world h))
+  chain_routines h =
+      entry_routines h
+      ++ (map (macro_routine world order h) (macros world.sources h)
+      ++ body_routines h (numbered_bodies world h))
 
   abbrev pub routines : List (Routine Constant)
   routines = flat_map chain_routines order

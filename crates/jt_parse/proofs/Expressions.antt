@@ -92,13 +92,10 @@ module _ (n line : ℕ) (ts : List Token) (body before : Body) (done : Branches)
 -- a refusal of an expression
 pub expression_refused : (limit line : ℕ) (ts : Tokens) (f : ExprError) → (◌≡◌ {A = Result Tree ExprError} (Err f) (Err fault.Syntax) → (t : Expr) → Spells whole t ts → ⊥)
     → (◌≡◌ {A = Result Tree ExprError} (Err f) (Err fault.TooDeep) → (t : Expr) → Spells whole t ts → limit < levels t)
-    → (◌≡◌ {A = Result Tree ExprError} (Err f) (Err fault.UnknownFilter) → ⊥) → (◌≡◌ {A = Result Tree ExprError} (Err f) (Err fault.UnknownTest) → ⊥)
     → GivesOnly expr_view (λ c. Spells whole c ts) levels limit (Err (refusal_at line f))
-expression_refused limit line ts fault.Syntax none deep filters tests = none refl
-expression_refused limit line ts fault.TooDeep none deep filters tests = deep refl
-expression_refused limit line ts fault.UnknownFilter none deep filters tests = filters refl
-expression_refused limit line ts fault.UnknownTest none deep filters tests = tests refl
-expression_refused limit line ts fault.NoMemory none deep filters tests = tt
+expression_refused limit line ts fault.Syntax none deep = none refl
+expression_refused limit line ts fault.TooDeep none deep = deep refl
+expression_refused limit line ts fault.NoMemory none deep = tt
 
 -- ---- the first tag of a statement
 
@@ -112,6 +109,4 @@ module _ (m line : ℕ) (w : List ℕ) (ts : Tokens) where
   pub head_refused : (f : ExprError) → ReadsHead line m w ts (Err f) [] → GivesOnly head_view (λ a. Says line a (word w ∷ ts)) head_levels (suc m) (Err (refusal_at line f))
   head_refused fault.Syntax g = λ b d. g b [] (whole_leads b d) refl
   head_refused fault.TooDeep g = λ b d. g b [] (whole_leads b d) refl
-  head_refused fault.UnknownFilter g = absurd g
-  head_refused fault.UnknownTest g = absurd g
   head_refused fault.NoMemory g = tt

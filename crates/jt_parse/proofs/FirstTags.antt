@@ -310,8 +310,6 @@ module _ (line m : ℕ) (ts : Tokens) where
           )
       captures (Err e.Syntax) g = λ h v l end. let p = captured h v l end in g p.0 p.1
       captures (Err e.TooDeep) g = absurd g
-      captures (Err e.UnknownFilter) g = g
-      captures (Err e.UnknownTest) g = g
       captures (Err e.NoMemory) g = tt
 
 -- ---- with a = e, b = f
@@ -756,8 +754,6 @@ module _ (line m : ℕ) (w : List ℕ) (ts : Tokens) where
   pub still_refused : (x : ExprError) (r u : Tokens) → ReadsHead line m w ts (Err x) r → ReadsHead line m w ts (Err x) u
   still_refused e.Syntax r u g = g
   still_refused e.TooDeep r u g = g
-  still_refused e.UnknownFilter r u g = g
-  still_refused e.UnknownTest r u g = g
   still_refused e.NoMemory r u g = tt
 
   pub tokens_left : (h : Read) (u z : Tokens) → ReadsHead line m w ts (Ok h) u → 0 < length u → ReadsHead line m w ts (Err e.Syntax) z

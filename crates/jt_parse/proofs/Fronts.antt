@@ -69,8 +69,6 @@ module _ {P R A C : Type 0} (show : P → A) (view : R → C) (One : A → Token
       → (x : ExprError) (r w : Tokens) → Reads show One EndsOne level m u (Err x) r → Reads view Form Ends height limit ts (Err x) w
   part_refused f e.Syntax r w g = λ c v l end. let q = f c v l end in g q.0 q.1 q.2 q.3
   part_refused f e.TooDeep r w g = λ c v l end. let q = f c v l end in q.4 (g q.0 q.1 q.2 q.3)
-  part_refused f e.UnknownFilter r w g = g
-  part_refused f e.UnknownTest r w g = g
   part_refused f e.NoMemory r w g = tt
 
 -- of a sign or a word, where whatever is the whole has it there
@@ -79,16 +77,12 @@ module _ {R C : Type 0} (view : R → C) (Form : C → Tokens → Type 0) (Ends 
       → (x : ExprError) (r w : Tokens) → TakesSign k u (Err x) r → Reads view Form Ends height limit ts (Err x) w
   sign_refused k f e.Syntax r w g = λ c v l end. let q = f c v l end in g q.0 q.1
   sign_refused k f e.TooDeep r w g = absurd g
-  sign_refused k f e.UnknownFilter r w g = g
-  sign_refused k f e.UnknownTest r w g = g
   sign_refused k f e.NoMemory r w g = tt
 
   pub word_refused : (x : Text) → ((c : C) (v : Tokens) → Leads Form c ts v → Ends v → (w : Tokens) × (u ≡ word x ∷ w))
       → (f : ExprError) (r w : Tokens) → TakesWord x u (Err f) r → Reads view Form Ends height limit ts (Err f) w
   word_refused x f e.Syntax r w g = λ c v l end. let q = f c v l end in g q.0 q.1
   word_refused x f e.TooDeep r w g = absurd g
-  word_refused x f e.UnknownFilter r w g = g
-  word_refused x f e.UnknownTest r w g = g
   word_refused x f e.NoMemory r w g = tt
 
 -- ---- names
@@ -115,8 +109,6 @@ name_read n x ts u e h is = (
 pub name_refused : (x : ExprError) (ts r w : Tokens) → TakesAName ts (Err x) r → NameRead ts (Err x) w
 name_refused e.Syntax ts r w g = λ b v l any. let p = leads_name b ts v l in g p.0 v p.1 p.2
 name_refused e.TooDeep ts r w g = absurd g
-name_refused e.UnknownFilter ts r w g = g
-name_refused e.UnknownTest ts r w g = g
 name_refused e.NoMemory ts r w g = tt
 
 -- what stands behind a name that is read

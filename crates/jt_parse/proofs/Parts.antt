@@ -398,8 +398,6 @@ module _ (ts : Tokens) where
     imported_done d w g (Ok p) is = imported_last (Ok d) w g p is
     imported_done d w g (Err e.Syntax) is = absurd is
     imported_done d w g (Err e.TooDeep) is = absurd is
-    imported_done d w g (Err e.UnknownFilter) is = absurd is
-    imported_done d w g (Err e.UnknownTest) is = absurd is
     imported_done d w g (Err e.NoMemory) is = tt
 
 -- ---- without context

@@ -76,8 +76,6 @@ module _ {P A R : Type 0} (show : P → A) (view : R → List A) (One : A → To
       by : (bs cs : List A) (v : Tokens) → Ends v → bs ≡ found ++ cs → Heads One k cs ts v → limit < most lev bs
       by bs cs v h is (alone a e l) = let p = g a v l (row.one_ends v h) in let q = over found bs cs [] a is e in omega (arith, p, q)
       by bs cs v h is (several a rest z e l m) = let p = g a (cut.sign k ∷ z) l (row.sign_ends z) in let q = over found bs cs rest a is e in omega (arith, p, q)
-  one_refused found ts u w f e.UnknownFilter g = g
-  one_refused found ts u w f e.UnknownTest g = g
   one_refused found ts u w f e.NoMemory g = tt
 
   tail_is : (w z : Tokens) → ◌≡◌ {A = Tokens} (cut.sign k ∷ w) (cut.sign k ∷ z) → w ≡ z
@@ -158,8 +156,6 @@ pub flat : {A R : Type 0} (view : R → List A) (Form : List A → Tokens → Ty
 flat view Form Ends ts (Ok a) w g = (g.0, omega arith, g.2)
 flat view Form Ends ts (Err e.Syntax) w g = g
 flat view Form Ends ts (Err e.TooDeep) w g = λ b v l end. let p = g b v l end in omega (arith, p, most_none b)
-flat view Form Ends ts (Err e.UnknownFilter) w g = g
-flat view Form Ends ts (Err e.UnknownTest) w g = g
 flat view Form Ends ts (Err e.NoMemory) w g = tt
 
 pub pushed : {A B : Type 0} (f : A → B) (xs ys : List A) (a : A) → ys ≡ xs ++ (a ∷ []) → map f ys ≡ map f xs ++ (f a ∷ [])

@@ -22,11 +22,15 @@ use Rattle.jt_parse.specs.declared.open_stmts.OpenKind.{OpenKind}
 use Rattle.jt_parse.specs.declared.open_stmts.OpenKind.TheVariants as k
 use Rattle.jt_parse.specs.declared.parser.Parser.{Parser}
 
--- The only thing of the form, within the levels. A refusal says that nothing is of the form, or all has more levels.
-abbrev pub GivesOnly : {A B : Type 0} → (A → B) → (B → Type 0) → (B → ℕ) → ℕ → Result A ParseError → Type 0
-GivesOnly {B = B} view Form height limit (Ok a) = Form (view a) × (height (view a) ≤ limit) × ((b : B) → Form b → b ≡ view a)
+-- The only thing of the form, within the levels. A refusal says that nothing is of the form, or all
+-- has more levels.
+abbrev pub GivesOnly : {A B : Type 0} → (A → B) → (B → Type 0) → (B → ℕ) → ℕ → Result A ParseError
+    → Type 0
+GivesOnly {B = B} view Form height limit (Ok a) =
+    Form (view a) × (height (view a) ≤ limit) × ((b : B) → Form b → b ≡ view a)
 GivesOnly {B = B} view Form height limit (Err (e.Syntax line)) = (b : B) → Form b → ⊥
-GivesOnly {B = B} view Form height limit (Err (e.TooDeep line)) = (b : B) → Form b → limit < height b
+GivesOnly {B = B} view Form height limit (Err (e.TooDeep line)) =
+    (b : B) → Form b → limit < height b
 GivesOnly view Form height limit (Err (e.UnknownFilter line)) = ⊥
 GivesOnly view Form height limit (Err (e.UnknownTest line)) = ⊥
 GivesOnly view Form height limit (Err e.NoMemory) = Unit {0}
@@ -41,10 +45,12 @@ Refuses O e.NoMemory = Unit {0}
 
 -- what is open, behind the statements before it
 abbrev pub open_stmt_by : Body → ℕ → OpenKind → OpenStmt
-open_stmt_by before line (k.Branch bs l c) = reading.in_branch before (branches_view bs.items) l (expr_view c)
+open_stmt_by before line (k.Branch bs l c) =
+    reading.in_branch before (branches_view bs.items) l (expr_view c)
 open_stmt_by before line (k.Else bs) = reading.in_else before (branches_view bs.items)
 open_stmt_by before line (k.Loop l) = reading.in_loop before line (loop_view l)
-open_stmt_by before line (k.LoopElse l body) = reading.in_loop_else before line (loop_view l) (body_view body.items)
+open_stmt_by before line (k.LoopElse l body) =
+    reading.in_loop_else before line (loop_view l) (body_view body.items)
 open_stmt_by before line (k.Opening o) = reading.in_opening before line (opening_view o)
 
 abbrev pub open_stmt_view : Open → OpenStmt
@@ -57,7 +63,8 @@ open_stmts_view fs = reverse (map open_stmt_view fs)
 abbrev pub state_view : Parser → State
 state_view p = state (body_view p.body.items) (open_stmts_view p.open_stmts.items)
 
-abbrev pub GivesState : (Result State Fault → Type 0) → Result (Unit {0}) ParseError → Parser → Type 0
+abbrev pub GivesState : (Result State Fault → Type 0) → Result (Unit {0}) ParseError → Parser
+    → Type 0
 GivesState O (Ok u) new = O (Ok (state_view new))
 GivesState O (Err f) new = Refuses O f
 
@@ -69,8 +76,6 @@ GivesBody O (Err f) = Refuses O f
 abbrev pub refusal_at : ℕ → ExprError → ParseError
 refusal_at line fault.Syntax = e.Syntax line
 refusal_at line fault.TooDeep = e.TooDeep line
-refusal_at line fault.UnknownFilter = e.UnknownFilter line
-refusal_at line fault.UnknownTest = e.UnknownTest line
 refusal_at line fault.NoMemory = e.NoMemory
 
 -- each name has a meaning, or the refusal is for the first tag with one that has none
@@ -95,7 +100,8 @@ GivesPositions placed (Err e.NoMemory) = ⊥
 abbrev pub IsMisplaced : (Result Body Fault → Type 0) → Type 0
 IsMisplaced O = (b : Body) × O (Ok b) × (is_placed b ≡ false)
 
--- what is read is placed, and has its first name without a meaning in a tag of this line, and such a one is to blame there
+-- what is read is placed, and has its first name without a meaning in a tag of this line, and such
+-- a one is to blame there
 abbrev pub Finds : (Result Body Fault → Type 0) → ℕ → Named → Type 0
 Finds O line x = (b : Body) × O (Ok b) × (is_placed b ≡ true) × (body_unknown b ≡ Some (line, x))
 
@@ -105,7 +111,8 @@ pub data IsNone (O : Result Body Fault → Type 0) : Type 0 where
   misplaced : IsMisplaced O → IsNone O
 
 abbrev pub GivesKnown : (Result Body Fault → Type 0) → Result Template ParseError → Type 0
-GivesKnown O (Ok t) = O (Ok (body_of t)) × (is_placed (body_of t) ≡ true) × (body_unknown (body_of t) ≡ None)
+GivesKnown O (Ok t) =
+    O (Ok (body_of t)) × (is_placed (body_of t) ≡ true) × (body_unknown (body_of t) ≡ None)
 GivesKnown O (Err (e.Syntax line)) = IsNone O
 GivesKnown O (Err (e.TooDeep line)) = O (Err deep)
 GivesKnown O (Err (e.UnknownFilter line)) = Finds O line named.Filter

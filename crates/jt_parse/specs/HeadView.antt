@@ -23,7 +23,12 @@ abbrev pub imported_view : String Global × String Global → Text × Text
 imported_view x = (string_bytes x.0, string_bytes x.1)
 
 abbrev pub loop_view : Loop → tags.Loop
-loop_view l = record { targets = names_view l.targets.items; over = expr_view l.over; condition = option_map expr_view l.condition }
+loop_view l =
+    record {
+      targets = names_view l.targets.items;
+      over = expr_view l.over;
+      condition = option_map expr_view l.condition;
+    }
 
 abbrev pub opening_view : Opening → tags.Opening
 opening_view (o.Text x) = tags.a_text (string_bytes x)

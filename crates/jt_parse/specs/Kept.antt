@@ -43,8 +43,8 @@ abbrev pub after_lf : Text → Text
 after_lf [] = []
 after_lf (c ∷ x) = if c == 10 then x else c ∷ x
 
--- what is behind the part that is removed at the left end: behind `-` all whitespace, and behind a block tag
--- without a mark one LF, if blocks are trimmed
+-- what is behind the part that is removed at the left end: behind `-` all whitespace, and behind a
+-- block tag without a mark one LF, if blocks are trimmed
 abbrev pub after_left : Options → Side → Text → Text
 after_left o (block_side m.Minus) d = after_space d
 after_left o (variable_side m.Minus) d = after_space d
@@ -78,8 +78,8 @@ is_start side = false
 abbrev pub blank_end : Bool → Text → Text
 blank_end start d = if ending_starts is_blank start d then ending is_blank d else []
 
--- the part that is removed at the right end: before `-` all whitespace; before a block tag without a mark the
--- spaces and tabs of its line, if lines are stripped and nothing else stands on it there
+-- the part that is removed at the right end: before `-` all whitespace; before a block tag without
+-- a mark the spaces and tabs of its line, if lines are stripped and nothing else stands on it there
 abbrev pub removed_right : Options → Bool → Side → Text → Text
 removed_right o start (block_side m.Minus) d = ending is_space d
 removed_right o start (variable_side m.Minus) d = ending is_space d
@@ -92,10 +92,11 @@ removed_right o start side d = []
 abbrev pub without_end : ℕ → Text → Text
 without_end n x = take (length x - n) x
 
--- What is left of a text between two sides. Both parts are found in the text as it stands; where they meet or
--- overlap, nothing is left.
+-- What is left of a text between two sides. Both parts are found in the text as it stands; where
+-- they meet or overlap, nothing is left.
 abbrev pub kept : Options → Side → Side → Text → Text
-kept o left right d = without_end (length (removed_right o (is_start left) right d)) (after_left o left d)
+kept o left right d =
+    without_end (length (removed_right o (is_start left) right d)) (after_left o left d)
 
 -- ---- pieces: what a tree is spelled by
 
@@ -116,18 +117,20 @@ abbrev pub side_ahead : List Read → Side
 side_ahead [] = nothing
 side_ahead (s ∷ ss) = side_before s.1
 
--- what a segment gives, between two sides, before other pieces; comments give nothing, and raw text stands between its
--- own two tags
+-- what a segment gives, between two sides, before other pieces; comments give nothing, and raw text
+-- stands between its own two tags
 abbrev pub with_segment : Options → Side → Side → Segment → List Piece → List Piece
 with_segment o left right (cut.data_of d) ps = with_text (kept o left right d) ps
 with_segment o left right (cut.tag k ms n ts) ps = tag k n ts ∷ ps
 with_segment o left right (cut.comment ms x) ps = ps
-with_segment o left right (cut.raw ms d ends) ps = with_text (kept o (block_side ms.closing) (block_side ends.opening) d) ps
+with_segment o left right (cut.raw ms d ends) ps =
+    with_text (kept o (block_side ms.closing) (block_side ends.opening) d) ps
 
 -- the pieces of segments behind this side
 abbrev pub pieces_from : Side → List Read → List Piece
 pieces_from left [] = []
-pieces_from left (s ∷ ss) = with_segment s.0 left (side_ahead ss) s.1 (pieces_from (side_behind s.1) ss)
+pieces_from left (s ∷ ss) =
+    with_segment s.0 left (side_ahead ss) s.1 (pieces_from (side_behind s.1) ss)
 
 -- the pieces of all segments of a source
 abbrev pub pieces : List Read → List Piece

@@ -5,8 +5,8 @@ use Rattle.jt_scan.specs.Cut.{is_space}
 use Rattle.jt_trees.specs.Expressions.{Text}
 use Rattle.jt_trees.specs.Statements.{Stmt, data_of, print, choose, for_each, set, set_block, with_values, filter_block, autoescape, macro, include, import_as, import_from, extends, block, Body, end, stmt, Branches, no_branches, branch}
 
--- where a statement stands: at the top of a template that extends another, at the top of one that doesn't, inside a
--- macro, or anywhere else
+-- where a statement stands: at the top of a template that extends another, at the top of one that
+-- doesn't, inside a macro, or anywhere else
 pub data Position : Type 0 where
   child_top : Position
   root_top : Position
@@ -44,14 +44,17 @@ abbrev pub is_blank_body : Body → Bool
 is_blank_body end = true
 is_blank_body (stmt s rest) = is_blank_stmt s && is_blank_body rest
 
--- Outside blocks a child has only text, `set`, blocks, macros and imports. Macros and imports stand at the top, no block stands
--- in a macro, a required block holds only whitespace, and `extends` stands nowhere here.
+-- Outside blocks a child has only text, `set`, blocks, macros and imports. Macros and imports stand
+-- at the top, no block stands in a macro, a required block holds only whitespace, and `extends`
+-- stands nowhere here.
 abbrev mutual
   pub stmt_placed : Position → Stmt → Bool
   stmt_placed p (data_of t) = true
   stmt_placed p (print line e) = not (is_child p)
-  stmt_placed p (choose bs other) = not (is_child p) && (branches_placed (within p) bs && body_placed (within p) other)
-  stmt_placed p (for_each line xs e c body other) = not (is_child p) && (body_placed (within p) body && body_placed (within p) other)
+  stmt_placed p (choose bs other) =
+      not (is_child p) && (branches_placed (within p) bs && body_placed (within p) other)
+  stmt_placed p (for_each line xs e c body other) =
+      not (is_child p) && (body_placed (within p) body && body_placed (within p) other)
   stmt_placed p (set line xs e) = true
   stmt_placed p (set_block line x body) = body_placed (within p) body
   stmt_placed p (with_values line ps body) = not (is_child p) && body_placed (within p) body
@@ -62,7 +65,8 @@ abbrev mutual
   stmt_placed p (import_as line n x) = is_top p
   stmt_placed p (import_from line n xs) = is_top p
   stmt_placed p (extends line n) = false
-  stmt_placed p (block line x scoped required body) = not (is_macro p) && ((not required || is_blank_body body) && body_placed (within p) body)
+  stmt_placed p (block line x scoped required body) =
+      not (is_macro p) && ((not required || is_blank_body body) && body_placed (within p) body)
 
   pub body_placed : Position → Body → Bool
   body_placed p end = true
@@ -76,5 +80,6 @@ abbrev mutual
 abbrev pub is_placed : Body → Bool
 is_placed end = true
 is_placed (stmt (extends line n) rest) = body_placed child_top rest
-is_placed (stmt (data_of t) rest) = if is_blank_text t then is_placed rest else body_placed root_top rest
+is_placed (stmt (data_of t) rest) =
+    if is_blank_text t then is_placed rest else body_placed root_top rest
 is_placed (stmt s rest) = stmt_placed root_top s && body_placed root_top rest

@@ -1,13 +1,16 @@
--- What only private clauses cite: what the readers of a tag's parts give: what jt_expr's `Reads` says, of the forms of Tags.
+-- What only private clauses cite: what the readers of a tag's parts give: what jt_expr's `Reads`
+-- says, of the forms of Tags.
 use Rattle.std.specs.Prelude.{◌≡◌, ℕ, max, Bool, false, List, [], ◌∷◌, suc, codes, encode_utf8_all, Option, Some, None, unwrap_or, Result, Ok, Err, String}
 use Rattle.std.specs.declared.alloc.Global.{Global}
 use Rattle.jt_scan.specs.declared.segment.Sign.{Sign}
 use Rattle.jt_scan.specs.declared.segment.Sign.TheVariants as s
 use Rattle.jt_scan.specs.Cut as cut
+use Rattle.jt_expr.specs.declared.cursor.Cursor.{Cursor}
 use Rattle.jt_expr.specs.declared.error.ExprError.{ExprError}
 use Rattle.jt_expr.specs.declared.error.ExprError.TheVariants as e
 use Rattle.jt_trees.specs.Expressions.{Expr, Literal, levels, exprs_levels, pairs_levels, Text}
 use Rattle.jt_expr.specs.Grammar.{Tokens, word, is_reserved}
+use Rattle.jt_expr.specs.Cursor.{ahead}
 use Rattle.jt_expr.specs.Promises.{Reads}
 use Rattle.jt_trees.specs.Statements.{Filtering}
 use Rattle.jt_parse.specs.Tags.{literal_token, without_words, Says, an_opening, a_text, head_levels}
@@ -19,8 +22,6 @@ abbrev pub TakesWord : List ℕ → Tokens → Result (Unit {0}) ExprError → T
 TakesWord w ts (Ok x) new = ts ≡ word w ∷ new
 TakesWord w ts (Err e.Syntax) new = (v : Tokens) → ts ≡ word w ∷ v → ⊥
 TakesWord w ts (Err e.TooDeep) new = ⊥
-TakesWord w ts (Err e.UnknownFilter) new = ⊥
-TakesWord w ts (Err e.UnknownTest) new = ⊥
 TakesWord w ts (Err e.NoMemory) new = ⊥
 
 -- ---- what stands behind a form
@@ -57,12 +58,17 @@ IsLiteral l x = (t : cut.Token) × (x ≡ t ∷ []) × (literal_token t ≡ Some
 -- of a parameter
 abbrev pub IsDefault : Option Literal → Tokens → Type 0
 IsDefault None x = x ≡ []
-IsDefault (Some l) x = (t : cut.Token) × (x ≡ cut.sign s.Assign ∷ t ∷ []) × (literal_token t ≡ Some l)
+IsDefault (Some l) x =
+    (t : cut.Token) × (x ≡ cut.sign s.Assign ∷ t ∷ []) × (literal_token t ≡ Some l)
 
 -- as b
 abbrev pub IsGiven : Option Text → Tokens → Type 0
 IsGiven None x = x ≡ []
-IsGiven (Some a) x = (n : List ℕ) × (x ≡ word (codes "as") ∷ cut.name n ∷ []) × (is_reserved n ≡ false) × (a ≡ encode_utf8_all n)
+IsGiven (Some a) x =
+    (n : List ℕ)
+    × (x ≡ word (codes "as") ∷ cut.name n ∷ [])
+    × (is_reserved n ≡ false)
+    × (a ≡ encode_utf8_all n)
 
 -- without context
 abbrev pub IsWithout : Bool → Tokens → Type 0
@@ -84,27 +90,43 @@ most level (a ∷ bs) = max (level a) (most level bs)
 -- ---- readers
 
 -- of a form without expressions
-abbrev pub ReadsFlat : {A B : Type 0} → (A → B) → (B → Tokens → Type 0) → (Tokens → Type 0) → Tokens → Result A ExprError → Tokens → Type 0
+abbrev pub ReadsFlat : {A B : Type 0} → (A → B) → (B → Tokens → Type 0) → (Tokens → Type 0) → Tokens
+    → Result A ExprError → Tokens → Type 0
 ReadsFlat view Form Ends ts result rest = Reads view Form Ends (λ b. 0) 0 ts result rest
 
--- of what stands behind the first word of a statement's tag, where expressions may have so many levels
+-- of what stands behind the first word of a statement's tag, where expressions may have so many
+-- levels
 abbrev pub ReadsHead : ℕ → ℕ → List ℕ → Tokens → Result Head ExprError → Tokens → Type 0
-ReadsHead line limit w ts result rest = Reads head_view (λ h x. Says line h (word w ∷ x)) NoToken head_levels (suc limit) ts result rest
+ReadsHead line limit w ts result rest =
+    Reads head_view (λ h x. Says line h (word w ∷ x)) NoToken head_levels (suc limit) ts result rest
+
+-- ---- the same of the tokens of a cursor
+
+abbrev pub TakesForm : {A B : Type 0} → (A → B) → (B → Tokens → Type 0) → (Tokens → Type 0)
+    → (B → ℕ) → ℕ → Cursor → Result A ExprError → Cursor → Type 0
+TakesForm view Form Ends height limit old result new =
+    Reads view Form Ends height limit (ahead old) result (ahead new)
+
+abbrev pub TakesFlat : {A B : Type 0} → (A → B) → (B → Tokens → Type 0) → (Tokens → Type 0) → Cursor
+    → Result A ExprError → Cursor → Type 0
+TakesFlat view Form Ends old result new = ReadsFlat view Form Ends (ahead old) result (ahead new)
+
+abbrev pub TakesHead : ℕ → ℕ → List ℕ → Cursor → Result Head ExprError → Cursor → Type 0
+TakesHead line limit w old result new = ReadsHead line limit w (ahead old) result (ahead new)
+
+-- ---- names
 
 -- the only one of the names, as that of a text that is captured
 abbrev pub GivesText : List Text → Result Head ExprError → Type 0
 GivesText names (Ok h) = (x : Text) × (names ≡ x ∷ []) × (head_view h ≡ an_opening (a_text x))
 GivesText names (Err e.Syntax) = (x : Text) → names ≡ x ∷ [] → ⊥
 GivesText names (Err e.TooDeep) = ⊥
-GivesText names (Err e.UnknownFilter) = ⊥
-GivesText names (Err e.UnknownTest) = ⊥
 GivesText names (Err e.NoMemory) = ⊥
 
 -- a macro with the name that is given to it, or else with its own
-abbrev pub GivesPair : Text → Option Text → Result (String Global × String Global) ExprError → Type 0
+abbrev pub GivesPair : Text → Option Text → Result (String Global × String Global) ExprError
+    → Type 0
 GivesPair name given (Ok p) = imported_view p ≡ (name, unwrap_or given name)
 GivesPair name given (Err e.Syntax) = ⊥
 GivesPair name given (Err e.TooDeep) = ⊥
-GivesPair name given (Err e.UnknownFilter) = ⊥
-GivesPair name given (Err e.UnknownTest) = ⊥
 GivesPair name given (Err e.NoMemory) = Unit {0}

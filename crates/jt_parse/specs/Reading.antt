@@ -1,5 +1,5 @@
--- What only private clauses cite: which state each piece leads to where statements are read one piece after the other. What tags spell is said by the relations of the
--- grammar.
+-- What only private clauses cite: which state each piece leads to where statements are read one
+-- piece after the other. What tags spell is said by the relations of the grammar.
 use Rattle.std.specs.Prelude.{◌≡◌, ℕ, suc, ◌+◌, ◌≤◌, ◌<◌, Bool, true, false, ◌&&◌, List, [], ◌∷◌, length, codes, encode_utf8_all, bytes_eq, if◌then◌else◌, Result, Ok, Err}
 use Rattle.std.specs.List.{list_any}
 use Rattle.jt_scan.specs.declared.segment.TagKind.TheVariants as kind
@@ -35,9 +35,9 @@ then_branches (branch line c body a) b = branch line c body (then_branches a b)
 abbrev pub then_branch : Branches → ℕ → Expr → Body → Branches
 then_branch a line c body = then_branches a (branch line c body no_branches)
 
--- A statement that is open: the statements before it; of an `if` its branches that are read, and the line and the condition
--- of the branch that is being read, or that it is the else part; of other statements the line and the first tag, and of a
--- loop in its else part also what is inside.
+-- A statement that is open: the statements before it; of an `if` its branches that are read, and
+-- the line and the condition of the branch that is being read, or that it is the else part; of
+-- other statements the line and the first tag, and of a loop in its else part also what is inside.
 pub data OpenStmt : Type 0 where
   in_branch : Body → Branches → ℕ → Expr → OpenStmt
   in_else : Body → Branches → OpenStmt
@@ -53,9 +53,12 @@ pub record State : Type 0 where
 abbrev pub state : Body → List OpenStmt → State
 state body open_stmts = record { body = body; open_stmts = open_stmts }
 
--- Behind the only thing of the form, of at most n levels. It is refused where nothing is of the form, or all has more levels.
-abbrev pub After : {B : Type 0} → (B → Type 0) → (B → ℕ) → ℕ → (B → State) → Result State Fault → Type 0
-After {B = B} Form height n next (Ok st) = (b : B) × Form b × (height b ≤ n) × ((c : B) → Form c → c ≡ b) × (st ≡ next b)
+-- Behind the only thing of the form, of at most n levels. It is refused where nothing is of the
+-- form, or all has more levels.
+abbrev pub After : {B : Type 0} → (B → Type 0) → (B → ℕ) → ℕ → (B → State) → Result State Fault
+    → Type 0
+After {B = B} Form height n next (Ok st) =
+    (b : B) × Form b × (height b ≤ n) × ((c : B) → Form c → c ≡ b) × (st ≡ next b)
 After {B = B} Form height n next (Err syntax) = (b : B) → Form b → ⊥
 After {B = B} Form height n next (Err deep) = (b : B) → Form b → n < height b
 
@@ -65,7 +68,9 @@ grown st s = state (then_one st.body s) st.open_stmts
 
 -- {{ e }}
 abbrev pub PrintTag : ℕ → ℕ → List Token → State → Result State Fault → Type 0
-PrintTag n line ts st = After (λ e. Spells expressions.whole e ts) (λ e. suc (length st.open_stmts) + levels e) n (λ e. grown st (print line e))
+PrintTag n line ts st =
+    After (λ e. Spells expressions.whole e ts) (λ e. suc (length st.open_stmts) + levels e) n
+    (λ e. grown st (print line e))
 
 -- behind the first tag of a statement
 abbrev pub headed : ℕ → Head → State → State
@@ -75,17 +80,21 @@ headed line (a_loop l) st = state end (in_loop st.body line l ∷ st.open_stmts)
 headed line (an_opening o) st = state end (in_opening st.body line o ∷ st.open_stmts)
 
 abbrev pub HeadTag : ℕ → ℕ → Text → List Token → State → Result State Fault → Type 0
-HeadTag n line x ts st = After (λ h. Says line h (word x ∷ ts)) (λ h. length st.open_stmts + head_levels h) n (λ h. headed line h st)
+HeadTag n line x ts st =
+    After (λ h. Says line h (word x ∷ ts)) (λ h. length st.open_stmts + head_levels h) n
+    (λ h. headed line h st)
 
 -- {% elif c %}
 abbrev pub ElifTag : ℕ → ℕ → List Token → Body → List OpenStmt → Result State Fault → Type 0
 ElifTag n line ts body (in_branch before done l c ∷ fs) o =
-    After (λ e. Spells expressions.whole e ts) (λ e. suc (length fs) + levels e) n (λ e. state end (in_branch before (then_branch done l c body) line e ∷ fs)) o
+    After (λ e. Spells expressions.whole e ts) (λ e. suc (length fs) + levels e) n
+    (λ e. state end (in_branch before (then_branch done l c body) line e ∷ fs)) o
 ElifTag n line ts body fs o = o ≡ Err syntax
 
 -- {% else %}
 abbrev pub else_by : Body → List OpenStmt → Result State Fault
-else_by body (in_branch before done l c ∷ fs) = Ok (state end (in_else before (then_branch done l c body) ∷ fs))
+else_by body (in_branch before done l c ∷ fs) =
+    Ok (state end (in_else before (then_branch done l c body) ∷ fs))
 else_by body (in_loop before l loop ∷ fs) = Ok (state end (in_loop_else before l loop body ∷ fs))
 else_by body fs = Err syntax
 
@@ -128,11 +137,16 @@ before (in_opening b l o) = b
 
 unfoldable pub end_tag : Text → List Token → Body → List OpenStmt → Result State Fault
 end_tag x ts body [] = Err syntax
-end_tag x ts body (f ∷ fs) = if ends_open_stmt x ts f then Ok (state (then_one (before f) (finished body f)) fs) else Err syntax
+end_tag x ts body (f ∷ fs) =
+    if ends_open_stmt x ts f
+    then Ok (state (then_one (before f) (finished body f)) fs)
+    else Err syntax
 
 abbrev pub end_words : List Text
 end_words =
-    codes "endif" ∷ codes "endfor" ∷ codes "endset" ∷ codes "endwith" ∷ codes "endfilter" ∷ codes "endautoescape" ∷ codes "endmacro" ∷ codes "endblock" ∷ []
+    codes "endif"
+    ∷ codes "endfor" ∷ codes "endset" ∷ codes "endwith" ∷ codes "endfilter" ∷ codes "endautoescape"
+    ∷ codes "endmacro" ∷ codes "endblock" ∷ []
 
 abbrev pub is_end_word : Text → Bool
 is_end_word x = list_any (bytes_eq x) end_words
@@ -168,8 +182,10 @@ Steps n st (kept.tag kind.Block line (t ∷ ts)) o = o ≡ Err syntax
 -- one piece after the other, up to the first that is refused
 pub data Runs (n : ℕ) : State → List Piece → Result State Fault → Type 0 where
   ended : {st : State} → Runs n st [] (Ok st)
-  refused : {st : State} {p : Piece} {ps : List Piece} {f : Fault} → Steps n st p (Err f) → Runs n st (p ∷ ps) (Err f)
-  went_on : {st next : State} {p : Piece} {ps : List Piece} {o : Result State Fault} → Steps n st p (Ok next) → Runs n next ps o → Runs n st (p ∷ ps) o
+  refused : {st : State} {p : Piece} {ps : List Piece} {f : Fault} → Steps n st p (Err f)
+      → Runs n st (p ∷ ps) (Err f)
+  went_on : {st next : State} {p : Piece} {ps : List Piece} {o : Result State Fault}
+      → Steps n st p (Ok next) → Runs n next ps o → Runs n st (p ∷ ps) o
 
 abbrev pub start : State
 start = state end []
@@ -178,4 +194,5 @@ start = state end []
 pub data Parsed (n : ℕ) (ps : List Piece) : Result Body Fault → Type 0 where
   whole : {b : Body} → Runs n start ps (Ok (state b [])) → Parsed n ps (Ok b)
   stopped : {f : Fault} → Runs n start ps (Err f) → Parsed n ps (Err f)
-  left_open : {b : Body} {f : OpenStmt} {fs : List OpenStmt} → Runs n start ps (Ok (state b (f ∷ fs))) → Parsed n ps (Err syntax)
+  left_open : {b : Body} {f : OpenStmt} {fs : List OpenStmt}
+      → Runs n start ps (Ok (state b (f ∷ fs))) → Parsed n ps (Err syntax)

@@ -13,10 +13,11 @@ use Rattle.jt_parse.specs.declared.error.ParseError.TheVariants as e
 abbrev pub max_levels : ℕ
 max_levels = 100
 
--- the tree that the pieces spell, within the levels, has its first name without a meaning in a tag of this line, and such
--- a one is to blame there
+-- the tree that the pieces spell, within the levels, has its first name without a meaning in a tag
+-- of this line, and such a one is to blame there
 abbrev pub HoldsUnknown : ℕ → Named → List Piece → Type 0
-HoldsUnknown line x ps = (b : Body) × Spelled b ps × (body_levels b ≤ max_levels) × (body_unknown b ≡ Some (line, x))
+HoldsUnknown line x ps =
+    (b : Body) × Spelled b ps × (body_levels b ≤ max_levels) × (body_unknown b ≡ Some (line, x))
 
 abbrev pub IsRefusal : ParseError → List Piece → Type 0
 -- no tree is spelled so

@@ -13,9 +13,11 @@ use Rattle.jt_trees.specs.Statements.{Parameter, Filtering, Stmt, Body, conditio
 -- ---- rows
 
 -- parts with a sign between them, one at least, and none behind the last
-pub data Separated {A : Type 0} (One : A → Tokens → Type 0) (k : Sign) : List A → Tokens → Type 0 where
+pub data Separated {A : Type 0} (One : A → Tokens → Type 0) (k : Sign) : List A → Tokens
+    → Type 0 where
   only : {a : A} {x : Tokens} → One a x → Separated One k (a ∷ []) x
-  also : {a : A} {bs : List A} {x y : Tokens} → One a x → Separated One k bs y → Separated One k (a ∷ bs) (x ++ (cut.sign k ∷ y))
+  also : {a : A} {bs : List A} {x y : Tokens} → One a x → Separated One k bs y
+      → Separated One k (a ∷ bs) (x ++ (cut.sign k ∷ y))
 
 -- a target of a loop or of `set`
 pub data IsName : Text → Tokens → Type 0 where
@@ -23,7 +25,8 @@ pub data IsName : Text → Tokens → Type 0 where
 
 -- a = e
 pub data IsValue : Text × Expr → Tokens → Type 0 where
-  a_value : {x : List ℕ} {e : Expr} {y : Tokens} → is_reserved x ≡ false → Spells whole e y → IsValue (encode_utf8_all x, e) (cut.name x ∷ cut.sign s.Assign ∷ y)
+  a_value : {x : List ℕ} {e : Expr} {y : Tokens} → is_reserved x ≡ false → Spells whole e y
+      → IsValue (encode_utf8_all x, e) (cut.name x ∷ cut.sign s.Assign ∷ y)
 
 abbrev pub pairs_of : List (Text × Expr) → Pairs
 pairs_of [] = no_pairs
@@ -31,12 +34,15 @@ pairs_of (p ∷ ps) = pair p.0 p.1 (pairs_of ps)
 
 pub data Values : Pairs → Tokens → Type 0 where
   no_values : Values no_pairs []
-  some_values : {vs : List (Text × Expr)} {x : Tokens} → Separated IsValue s.Comma vs x → Values (pairs_of vs) x
+  some_values : {vs : List (Text × Expr)} {x : Tokens} → Separated IsValue s.Comma vs x
+      → Values (pairs_of vs) x
 
 -- a filter with its arguments
 pub data IsFiltering : Filtering → Tokens → Type 0 where
-  a_filter : {x : List ℕ} {ts : Exprs} {ps : Pairs} {y : Tokens} → is_reserved x ≡ false → Arguments (ts, ps) y
-      → IsFiltering (record { name = encode_utf8_all x; arguments = ts; keywords = ps }) (cut.name x ∷ y)
+  a_filter : {x : List ℕ} {ts : Exprs} {ps : Pairs} {y : Tokens} → is_reserved x ≡ false
+      → Arguments (ts, ps) y
+      → IsFiltering (record { name = encode_utf8_all x; arguments = ts; keywords = ps })
+      (cut.name x ∷ y)
 
 -- a number, a text or a constant
 abbrev pub literal_token : Token → Option Literal
@@ -47,9 +53,12 @@ literal_token (cut.sign k) = None
 
 -- a parameter of a macro
 pub data IsParameter : Parameter → Tokens → Type 0 where
-  plain : {x : List ℕ} → is_reserved x ≡ false → IsParameter (record { name = encode_utf8_all x; default = None }) (cut.name x ∷ [])
-  with_default : {x : List ℕ} {l : Literal} {t : Token} → is_reserved x ≡ false → literal_token t ≡ Some l
-      → IsParameter (record { name = encode_utf8_all x; default = Some l }) (cut.name x ∷ cut.sign s.Assign ∷ t ∷ [])
+  plain : {x : List ℕ} → is_reserved x ≡ false
+      → IsParameter (record { name = encode_utf8_all x; default = None }) (cut.name x ∷ [])
+  with_default : {x : List ℕ} {l : Literal} {t : Token} → is_reserved x ≡ false
+      → literal_token t ≡ Some l
+      → IsParameter (record { name = encode_utf8_all x; default = Some l })
+      (cut.name x ∷ cut.sign s.Assign ∷ t ∷ [])
 
 abbrev pub has_default : Parameter → Bool
 has_default p = trees.is_given p.default
@@ -57,20 +66,25 @@ has_default p = trees.is_given p.default
 -- behind a parameter with a default each has one; the flag tells whether one stands before
 abbrev pub defaults_from : Bool → List Parameter → Bool
 defaults_from d [] = true
-defaults_from d (p ∷ ps) = if has_default p then defaults_from true ps else not d && defaults_from d ps
+defaults_from d (p ∷ ps) =
+    if has_default p then defaults_from true ps else not d && defaults_from d ps
 
 abbrev pub defaults_last : List Parameter → Bool
 defaults_last = defaults_from false
 
 -- a macro that is imported, with the name that is given to it: its own, if no other is said
 pub data IsImported : Text × Text → Tokens → Type 0 where
-  itself : {x : List ℕ} → is_reserved x ≡ false → IsImported (encode_utf8_all x, encode_utf8_all x) (cut.name x ∷ [])
-  renamed : {x y : List ℕ} → is_reserved x ≡ false → is_reserved y ≡ false → IsImported (encode_utf8_all x, encode_utf8_all y) (cut.name x ∷ word (codes "as") ∷ cut.name y ∷ [])
+  itself : {x : List ℕ} → is_reserved x ≡ false
+      → IsImported (encode_utf8_all x, encode_utf8_all x) (cut.name x ∷ [])
+  renamed : {x y : List ℕ} → is_reserved x ≡ false → is_reserved y ≡ false
+      → IsImported (encode_utf8_all x, encode_utf8_all y)
+      (cut.name x ∷ word (codes "as") ∷ cut.name y ∷ [])
 
 -- up to the closing parenthesis
 pub data Parameters : List Parameter → Tokens → Type 0 where
   no_parameters : Parameters [] (cut.sign s.RightParen ∷ [])
-  some_parameters : {ps : List Parameter} {x : Tokens} → Separated IsParameter s.Comma ps x → defaults_last ps ≡ true → Parameters ps (x ++ (cut.sign s.RightParen ∷ []))
+  some_parameters : {ps : List Parameter} {x : Tokens} → Separated IsParameter s.Comma ps x
+      → defaults_last ps ≡ true → Parameters ps (x ++ (cut.sign s.RightParen ∷ []))
 
 -- ---- heads
 
@@ -112,7 +126,8 @@ looped line l b other = trees.for_each line l.targets l.over l.condition b other
 
 pub data Condition : Option Expr → Tokens → Type 0 where
   no_condition : Condition None []
-  a_condition : {c : Expr} {x : Tokens} → Spells whole c x → Condition (Some c) (word (codes "if") ∷ x)
+  a_condition : {c : Expr} {x : Tokens} → Spells whole c x
+      → Condition (Some c) (word (codes "if") ∷ x)
 
 -- a word that may be there
 abbrev pub flag : Bool → List ℕ → Tokens
@@ -143,36 +158,53 @@ pub data Says (line : ℕ) : Head → Tokens → Type 0 where
   -- if c
   says_if : {c : Expr} {x : Tokens} → Spells whole c x → Says line (an_if c) (word (codes "if") ∷ x)
   -- for a, b in e if c
-  says_for : {ts : List Text} {e : Expr} {c : Option Expr} {x y z : Tokens} → Separated IsName s.Comma ts x → Spells disjunction e y → Condition c z
-      → Says line (a_loop (record { targets = ts; over = e; condition = c })) (word (codes "for") ∷ (x ++ (word (codes "in") ∷ (y ++ z))))
+  says_for : {ts : List Text} {e : Expr} {c : Option Expr} {x y z : Tokens}
+      → Separated IsName s.Comma ts x → Spells disjunction e y → Condition c z
+      → Says line (a_loop (record { targets = ts; over = e; condition = c }))
+      (word (codes "for") ∷ (x ++ (word (codes "in") ∷ (y ++ z))))
   -- set a, b = e
-  says_set : {ts : List Text} {e : Expr} {x y : Tokens} → Separated IsName s.Comma ts x → Spells whole e y
-      → Says line (a_statement (trees.set line ts e)) (word (codes "set") ∷ (x ++ (cut.sign s.Assign ∷ y)))
+  says_set : {ts : List Text} {e : Expr} {x y : Tokens} → Separated IsName s.Comma ts x
+      → Spells whole e y
+      → Says line (a_statement (trees.set line ts e))
+      (word (codes "set") ∷ (x ++ (cut.sign s.Assign ∷ y)))
   -- set a
-  says_text : {x : List ℕ} → is_reserved x ≡ false → Says line (an_opening (a_text (encode_utf8_all x))) (word (codes "set") ∷ cut.name x ∷ [])
+  says_text : {x : List ℕ} → is_reserved x ≡ false
+      → Says line (an_opening (a_text (encode_utf8_all x))) (word (codes "set") ∷ cut.name x ∷ [])
   -- with a = e, b = f
-  says_with : {ps : Pairs} {x : Tokens} → Values ps x → Says line (an_opening (values ps)) (word (codes "with") ∷ x)
+  says_with : {ps : Pairs} {x : Tokens} → Values ps x
+      → Says line (an_opening (values ps)) (word (codes "with") ∷ x)
   -- filter f(a)|g
-  says_filter : {fs : List Filtering} {x : Tokens} → Separated IsFiltering s.Pipe fs x → Says line (an_opening (filters fs)) (word (codes "filter") ∷ x)
+  says_filter : {fs : List Filtering} {x : Tokens} → Separated IsFiltering s.Pipe fs x
+      → Says line (an_opening (filters fs)) (word (codes "filter") ∷ x)
   -- autoescape true
-  says_autoescape : (on : Bool) → Says line (an_opening (escaping on)) (word (codes "autoescape") ∷ word (truth_word on) ∷ [])
+  says_autoescape : (on : Bool)
+      → Says line (an_opening (escaping on)) (word (codes "autoescape") ∷ word (truth_word on) ∷ [])
   -- macro f(a, b=1)
-  says_macro : {x : List ℕ} {ps : List Parameter} {y : Tokens} → is_reserved x ≡ false → Parameters ps y
-      → Says line (an_opening (a_macro (encode_utf8_all x) ps)) (word (codes "macro") ∷ cut.name x ∷ cut.sign s.LeftParen ∷ y)
+  says_macro : {x : List ℕ} {ps : List Parameter} {y : Tokens} → is_reserved x ≡ false
+      → Parameters ps y
+      → Says line (an_opening (a_macro (encode_utf8_all x) ps))
+      (word (codes "macro") ∷ cut.name x ∷ cut.sign s.LeftParen ∷ y)
   -- include "x" ignore missing without context
   says_include : {v : List ℕ} {context : Bool} {y : Tokens} (missing : Bool) → Context context y
-      → Says line (a_statement (trees.include line (encode_utf8_all v) missing context)) (word (codes "include") ∷ cut.text v ∷ (missing_words missing ++ y))
+      → Says line (a_statement (trees.include line (encode_utf8_all v) missing context))
+      (word (codes "include") ∷ cut.text v ∷ (missing_words missing ++ y))
   -- import "x" as f without context
   says_import : {v x : List ℕ} (said : Bool) → is_reserved x ≡ false
-      → Says line (a_statement (trees.import_as line (encode_utf8_all v) (encode_utf8_all x))) (word (codes "import") ∷ cut.text v ∷ word (codes "as") ∷ cut.name x ∷ without_words said)
+      → Says line (a_statement (trees.import_as line (encode_utf8_all v) (encode_utf8_all x)))
+      (word (codes "import") ∷ cut.text v ∷ word (codes "as") ∷ cut.name x ∷ without_words said)
   -- from "x" import a, b as c without context
-  says_from : {v : List ℕ} {xs : List (Text × Text)} {x : Tokens} (said : Bool) → Separated IsImported s.Comma xs x
-      → Says line (a_statement (trees.import_from line (encode_utf8_all v) xs)) (word (codes "from") ∷ cut.text v ∷ word (codes "import") ∷ (x ++ without_words said))
+  says_from : {v : List ℕ} {xs : List (Text × Text)} {x : Tokens} (said : Bool)
+      → Separated IsImported s.Comma xs x
+      → Says line (a_statement (trees.import_from line (encode_utf8_all v) xs))
+      (word (codes "from") ∷ cut.text v ∷ word (codes "import") ∷ (x ++ without_words said))
   -- extends "x"
-  says_extends : {v : List ℕ} → Says line (a_statement (trees.extends line (encode_utf8_all v))) (word (codes "extends") ∷ cut.text v ∷ [])
+  says_extends : {v : List ℕ}
+      → Says line (a_statement (trees.extends line (encode_utf8_all v)))
+      (word (codes "extends") ∷ cut.text v ∷ [])
   -- block b scoped required
   says_block : {x : List ℕ} (scoped required : Bool) → is_reserved x ≡ false
-      → Says line (an_opening (a_block (encode_utf8_all x) scoped required)) (word (codes "block") ∷ cut.name x ∷ (flag scoped (codes "scoped") ++ flag required (codes "required")))
+      → Says line (an_opening (a_block (encode_utf8_all x) scoped required)) (word (codes "block")
+      ∷ cut.name x ∷ (flag scoped (codes "scoped") ++ flag required (codes "required")))
 
 -- the word that ends a statement
 abbrev pub end_word : Opening → List ℕ
@@ -186,7 +218,9 @@ end_word (a_block x scoped required) = codes "endblock"
 -- the tokens of a tag end the statement; a block's name may be said again
 pub data Ends : Opening → Tokens → Type 0 where
   by_word : (o : Opening) → Ends o (word (end_word o) ∷ [])
-  by_name : {x : List ℕ} (scoped required : Bool) → Ends (a_block (encode_utf8_all x) scoped required) (word (codes "endblock") ∷ cut.name x ∷ [])
+  by_name : {x : List ℕ} (scoped required : Bool)
+      → Ends (a_block (encode_utf8_all x) scoped required)
+      (word (codes "endblock") ∷ cut.name x ∷ [])
 
 -- ---- levels
 

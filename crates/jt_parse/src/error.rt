@@ -10,7 +10,7 @@ pub enum ParseError {
     /// No tree is spelled so.
     #[error("P1 Syntax")]
     Syntax { line: u32 },
-    /// Statements and expressions lie more than [`MAX_LEVELS`](crate::MAX_LEVELS) deep.
+    /// Statements and expressions lie more than 100 deep.
     #[error("P2 TooDeep")]
     TooDeep { line: u32 },
     /// A filter has no meaning.

@@ -1,12 +1,11 @@
 //! The expression of a tag, and words.
 
-ghost use Rattle.std.specs.Prelude.{◌≡◌, ◌≤◌, ◌∷◌, suc, map, bytes_eq, encode_utf8_all, string_bytes, IfOk, IsTrue};
+ghost use Rattle.std.specs.Prelude.{◌≡◌, ◌∷◌, suc, map, bytes_eq, encode_utf8_all, string_bytes};
 ghost use Rattle.std.specs.Str.{chars};
 ghost use Rattle.jt_scan.specs.View.{token_view};
 ghost use Rattle.jt_trees.specs.Expressions.{levels as tree_levels};
 ghost use Rattle.jt_expr.specs.Grammar.{word as word_token, whole, Spells};
 ghost use Rattle.jt_trees.specs.ExpressionView.{expr_view};
-ghost use Rattle.jt_scan.specs.Words.{is_plain};
 ghost use Rattle.jt_parse.specs.Tags.{Says, head_levels};
 ghost use Rattle.jt_parse.specs.HeadView.{head_view};
 ghost use Rattle.jt_parse.specs.Gives.{GivesOnly, refusal_at};
@@ -17,7 +16,7 @@ use crate::tags::read_head;
 use jt_expr::ExprError;
 use jt_scan::Token;
 use jt_trees::Expr;
-use std::alloc::{AllocError, Global};
+use std::alloc::Global;
 
 /// The expression of a tag of the line, of at most so many levels.
 pub(crate) fn expression(
@@ -60,25 +59,8 @@ pub(crate) fn refused(line: u32, refusal: ExprError) -> ParseError
     match refusal {
         ExprError::Syntax => ParseError::Syntax { line },
         ExprError::TooDeep => ParseError::TooDeep { line },
-        ExprError::UnknownFilter => ParseError::UnknownFilter { line },
-        ExprError::UnknownTest => ParseError::UnknownTest { line },
         ExprError::NoMemory => ParseError::NoMemory,
     }
-}
-
-/// The bytes of a text, in memory of its own.
-pub(crate) fn copy_of(alloc: Global, text: &str) -> Result<String, AllocError>
-    ensures { IfOk result (λ s. string_bytes s ≡ encode_utf8_all (chars text.now)) }
-{
-    String::from_str(alloc, text)
-}
-
-/// Whether a word is the known one, of ASCII letters.
-pub(crate) fn is_word(word: &str, known: &str) -> bool
-    requires { IsTrue (is_plain known.now) }
-    ensures { result ≡ bytes_eq (chars word.now) known.now }
-{
-    word == known
 }
 
 /// Whether a word is the name.

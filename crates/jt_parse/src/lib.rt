@@ -19,4 +19,4 @@ pub use error::ParseError;
 pub use jt_trees::{
     BinaryOperator, Expr, Filtering, Literal, Parameter, Stmt, Template, UnaryOperator,
 };
-pub use parser::{MAX_LEVELS, parse};
+pub use parser::parse;

@@ -1,6 +1,6 @@
 //! Statements that are open.
 
-ghost use Rattle.std.specs.Prelude.{◌≡◌, ◌∷◌, [], List, map, bytes_eq, IfOk, IfErr, MatchOption};
+ghost use Rattle.std.specs.Prelude.{◌≡◌, ◌∷◌, [], List, map, bytes_eq, IfOk, MatchOption};
 ghost use Rattle.std.specs.Str.{chars};
 ghost use Rattle.jt_scan.specs.View.{token_view};
 ghost use Rattle.jt_trees.specs.ExpressionView.{expr_view};
@@ -10,14 +10,12 @@ ghost use Rattle.jt_parse.specs.Reading as reading;
 ghost use Rattle.jt_trees.specs.StatementView.{stmt_view, body_view, branches_view};
 ghost use Rattle.jt_parse.specs.HeadView.{loop_view, opening_view};
 ghost use Rattle.jt_parse.specs.Gives.{open_stmt_view, open_stmt_by, open_stmts_view};
-ghost use Rattle.jt_parse.specs.declared.error.ParseError.TheVariants as error;
 
-use crate::error::ParseError;
-use crate::expression::{is_name, is_word};
+use crate::expression::is_name;
 use crate::heads::{Loop, Opening};
-use jt_scan::Token;
+use jt_scan::{Token, is_word};
 use jt_trees::{Expr, Stmt};
-use std::alloc::Global;
+use std::alloc::{AllocError, Global};
 use std::mem;
 
 /// What is open.
@@ -46,10 +44,9 @@ pub struct OpenStmt {
 }
 
 /// One statement behind the others.
-pub(crate) fn push_statement(body: &mut Vec<Stmt>, statement: Stmt) -> Result<(), ParseError>
-    ensures pushed { IfOk result (λ u. body_view body.new.items
+pub(crate) fn push_statement(body: &mut Vec<Stmt>, statement: Stmt) -> Result<(), AllocError>
+    ensures { IfOk result (λ u. body_view body.new.items
         ≡ reading.then_one (body_view body.old.items) (stmt_view statement)) }
-    ensures refused { IfErr result (λ e. e ≡ error.NoMemory) }
 {
     body.push(statement)?;
     Ok(())
@@ -61,11 +58,10 @@ pub(crate) fn push_branch(
     line: u32,
     condition: Expr,
     body: Vec<Stmt>,
-) -> Result<(), ParseError>
-    ensures pushed { IfOk result (λ u. branches_view branches.new.items
+) -> Result<(), AllocError>
+    ensures { IfOk result (λ u. branches_view branches.new.items
         ≡ reading.then_branch (branches_view branches.old.items) line (expr_view condition)
         (body_view body.items)) }
-    ensures refused { IfErr result (λ e. e ≡ error.NoMemory) }
 {
     branches.push((line, condition, body))?;
     Ok(())
@@ -74,7 +70,9 @@ pub(crate) fn push_branch(
 /// Takes the innermost open_stmt.
 pub(crate) fn pop_open_stmt(open_stmts: &mut Vec<OpenStmt>) -> Option<OpenStmt>
     ensures { MatchOption result (open_stmts_view open_stmts.old.items ≡ [])
-        (λ f. open_stmts_view open_stmts.old.items ≡ open_stmt_view f ∷ open_stmts_view open_stmts.new.items) }
+        (λ f.
+        open_stmts_view open_stmts.old.items
+        ≡ open_stmt_view f ∷ open_stmts_view open_stmts.new.items) }
 {
     open_stmts.pop()
 }
@@ -83,10 +81,11 @@ pub(crate) fn pop_open_stmt(open_stmts: &mut Vec<OpenStmt>) -> Option<OpenStmt>
 pub(crate) fn push_open_stmt(
     open_stmts: &mut Vec<OpenStmt>,
     open_stmt: OpenStmt,
-) -> Result<(), ParseError>
-    ensures pushed { IfOk result
-        (λ u. open_stmts_view open_stmts.new.items ≡ open_stmt_view open_stmt ∷ open_stmts_view open_stmts.old.items) }
-    ensures refused { IfErr result (λ e. e ≡ error.NoMemory) }
+) -> Result<(), AllocError>
+    ensures { IfOk result
+        (λ u.
+        open_stmts_view open_stmts.new.items
+        ≡ open_stmt_view open_stmt ∷ open_stmts_view open_stmts.old.items) }
 {
     open_stmts.push(open_stmt)?;
     Ok(())
@@ -164,11 +163,10 @@ fn ended_branch(
     line: u32,
     condition: Expr,
     body: Vec<Stmt>,
-) -> Result<Stmt, ParseError>
-    ensures ended { IfOk result (λ s. stmt_view s
+) -> Result<Stmt, AllocError>
+    ensures { IfOk result (λ s. stmt_view s
         ≡ trees.choose (reading.then_branch (branches_view branches.items) line
         (expr_view condition) (body_view body.items)) trees.end) }
-    ensures refused { IfErr result (λ e. e ≡ error.NoMemory) }
 {
     let mut branches = branches;
     push_branch(&mut branches, line, condition, body)?;
@@ -176,10 +174,9 @@ fn ended_branch(
 }
 
 /// The statement that ends.
-fn finished(alloc: Global, line: u32, kind: OpenKind, body: Vec<Stmt>) -> Result<Stmt, ParseError>
-    ensures finished { (before : trees.Body) → IfOk result (λ s. stmt_view s
+fn finished(alloc: Global, line: u32, kind: OpenKind, body: Vec<Stmt>) -> Result<Stmt, AllocError>
+    ensures { (before : trees.Body) → IfOk result (λ s. stmt_view s
         ≡ reading.finished (body_view body.items) (open_stmt_by before line kind)) }
-    ensures refused { IfErr result (λ e. e ≡ error.NoMemory) }
 {
     match kind {
         OpenKind::Branch(branches, first, condition) => {
@@ -192,17 +189,16 @@ fn finished(alloc: Global, line: u32, kind: OpenKind, body: Vec<Stmt>) -> Result
     }
 }
 
-/// Ends a open_stmt, whose statements are given: they become those before it, with the one that ends
-/// behind them.
+/// Ends a open_stmt, whose statements are given: they become those before it, with the one that
+/// ends behind them.
 pub(crate) fn close_open_stmt(
     alloc: Global,
     open_stmt: OpenStmt,
     body: &mut Vec<Stmt>,
-) -> Result<(), ParseError>
-    ensures closed { IfOk result (λ u. body_view body.new.items
+) -> Result<(), AllocError>
+    ensures { IfOk result (λ u. body_view body.new.items
         ≡ reading.then_one (reading.before (open_stmt_view open_stmt))
         (reading.finished (body_view body.old.items) (open_stmt_view open_stmt))) }
-    ensures refused { IfErr result (λ e. e ≡ error.NoMemory) }
 {
     let OpenStmt { before, line, kind } = open_stmt;
     let inside = mem::replace(body, before);
@@ -255,7 +251,8 @@ fn is_end_of(opening: &Opening, word: &str) -> bool
 /// Whether the tag with this word ends the open_stmt.
 pub(crate) fn ends_open_stmt(open_stmt: &OpenStmt, word: &str, tokens: &[Token<'_>]) -> bool
     ensures { result
-        ≡ reading.ends_open_stmt (chars word.now) (map token_view tokens.now) (open_stmt_view open_stmt.now) }
+        ≡ reading.ends_open_stmt (chars word.now) (map token_view tokens.now)
+        (open_stmt_view open_stmt.now) }
 {
     match &open_stmt.kind {
         OpenKind::Branch(_, _, _) | OpenKind::Else(_) => is_word(word, "endif")

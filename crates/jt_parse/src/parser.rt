@@ -18,13 +18,13 @@ ghost use Rattle.jt_parse.specs.Reading as reading;
 ghost use Rattle.jt_trees.specs.StatementView.{body_of};
 ghost use Rattle.jt_parse.specs.View.{reads_of};
 ghost use Rattle.jt_parse.specs.HeadView.{head_view};
-ghost use Rattle.jt_parse.specs.SideView.{side_view, ahead_view};
+ghost use Rattle.jt_parse.specs.SideView.{side_view};
 ghost use Rattle.jt_parse.specs.Gives.{GivesState, GivesBody, GivesKnown, open_stmt_by, open_stmt_view, open_stmts_view, state_view};
 ghost use Rattle.jt_parse.specs.Refusals.{IsRefusal, max_levels};
 ghost use Rattle.jt_parse.specs.declared.error.ParseError.TheVariants as error;
 
 use crate::error::ParseError;
-use crate::expression::{copy_of, expression, head, is_word};
+use crate::expression::{expression, head};
 use crate::heads::Head;
 use crate::kept::{Side, kept, side_ahead, side_behind};
 use crate::names::check_body;
@@ -33,14 +33,14 @@ use crate::open_stmts::{
     push_open_stmt, push_statement, unclosed,
 };
 use crate::positions::check_positions;
-use jt_expr::expression_laws;
-use jt_scan::{Part, Segment, TagKind, Token};
+use jt_expr::{copy_of, expression_laws};
+use jt_scan::{Part, Segment, TagKind, Token, is_word};
 use jt_trees::{Stmt, Template};
-use std::alloc::Global;
+use std::alloc::{AllocError, Global};
 use std::mem;
 
 /// How many levels of statements and expressions a template may have.
-pub const MAX_LEVELS: usize = 100;
+const MAX_LEVELS: usize = 100;
 
 /// What is read so far.
 #[derive(Drop)]
@@ -87,21 +87,19 @@ impl Parser {
     }
 
     /// One open statement more.
-    fn open(&mut self, line: u32, kind: OpenKind) -> Result<(), ParseError>
-        ensures opened { IfOk result (λ u. state_view self.new
+    fn open(&mut self, line: u32, kind: OpenKind) -> Result<(), AllocError>
+        ensures { IfOk result (λ u. state_view self.new
             ≡ reading.state trees.end
             (open_stmt_by (state_view self.old).body line kind ∷ (state_view self.old).open_stmts)) }
-        ensures refused { IfErr result (λ e. e ≡ error.NoMemory) }
     {
         let before = mem::replace(&mut self.body, Vec::new(self.alloc));
         push_open_stmt(&mut self.open_stmts, OpenStmt { before, line, kind })
     }
 
     /// What follows the first tag of a statement.
-    fn headed(&mut self, line: u32, head: Head) -> Result<(), ParseError>
-        ensures headed { IfOk result (λ u.
+    fn headed(&mut self, line: u32, head: Head) -> Result<(), AllocError>
+        ensures { IfOk result (λ u.
             state_view self.new ≡ reading.headed line (head_view head) (state_view self.old)) }
-        ensures refused { IfErr result (λ e. e ≡ error.NoMemory) }
     {
         match head {
             Head::Statement(statement) => push_statement(&mut self.body, statement),
@@ -220,7 +218,7 @@ impl Parser {
             drop(open_stmt);
             return Err(ParseError::Syntax { line });
         }
-        close_open_stmt(self.alloc, open_stmt, &mut self.body)
+        Ok(close_open_stmt(self.alloc, open_stmt, &mut self.body)?)
     }
 
     /// A tag that ends a statement.
@@ -335,7 +333,7 @@ fn read_known(alloc: Global, segments: &[Segment<'_>]) -> Result<Template, Parse
 
 /// The tree that the segments spell, with what the whitespace rules leave of the text between tags,
 /// in which each filter and each test has a meaning. P1 Syntax, where no tree is spelled so, P2
-/// TooDeep, where each has more than [`MAX_LEVELS`] levels, P3 UnknownFilter or P4 UnknownTest,
+/// TooDeep, where each has more than 100 levels, P3 UnknownFilter or P4 UnknownTest,
 /// where the tree has a name without a meaning, or P5 NoMemory, where a growth was refused. The
 /// line is that of the tag in which the fault was found, and of a statement that is never closed
 /// its first tag's.

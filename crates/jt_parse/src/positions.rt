@@ -1,10 +1,11 @@
 //! Where statements may stand.
 
 ghost use Rattle.std.specs.Prelude.{◌≡◌, true, false};
+ghost use Rattle.std.specs.Result.{is_ok};
 ghost use Rattle.jt_scan.specs.Cut as cut;
 ghost use Rattle.jt_parse.specs.Positions as spec;
 ghost use Rattle.jt_parse.specs.Gives.{GivesPositions};
-ghost use Rattle.jt_trees.specs.StatementView.{stmt_view, body_view, branches_view};
+ghost use Rattle.jt_trees.specs.StatementView.{stmt_view, body_view};
 ghost use Rattle.jt_parse.specs.PositionView.{position_view};
 
 use crate::error::ParseError;
@@ -95,14 +96,11 @@ fn is_blank_body(body: &Vec<Stmt>) -> bool
     true
 }
 
-/// The answer, with the line of the tag where it is no.
-fn answer(allowed: bool, line: u32, found: &mut u32) -> bool
-    ensures { result ≡ allowed }
+/// The line of the tag, where it may not stand.
+fn allow(allowed: bool, line: u32) -> Result<(), u32>
+    ensures { is_ok result ≡ allowed }
 {
-    if !allowed {
-        *found = line;
-    }
-    allowed
+    if allowed { Ok(()) } else { Err(line) }
 }
 
 /// The line of the first of some branches.
@@ -113,46 +111,34 @@ fn first_line(branches: &Vec<(u32, Expr, Vec<Stmt>)>) -> u32 {
     }
 }
 
-/// Whether statements stand where they may; if not, `found` has the line of the first that does
-/// not.
+/// The line of the first statement that stands where it may not, if there is one.
 #[cycle(positions)]
-fn body_placed(body: &Vec<Stmt>, position: Position, found: &mut u32) -> bool
-    ensures { result ≡ spec.body_placed (position_view position) (body_view body.now.items) }
+fn body_placed(body: &Vec<Stmt>, position: Position) -> Result<(), u32>
+    ensures { is_ok result
+        ≡ spec.body_placed (position_view position) (body_view body.now.items) }
 {
     for statement in body {
-        if !statement_placed(statement, position, found) {
-            return false;
-        }
+        statement_placed(statement, position)?;
     }
-    true
+    Ok(())
 }
 
-/// The same of a statement.
+/// The same of a statement and those inside.
 #[cycle(positions)]
-fn statement_placed(statement: &Stmt, position: Position, found: &mut u32) -> bool
-    ensures { result ≡ spec.stmt_placed (position_view position) (stmt_view statement.now) }
+fn statement_placed(statement: &Stmt, position: Position) -> Result<(), u32>
+    ensures { is_ok result ≡ spec.stmt_placed (position_view position) (stmt_view statement.now) }
 {
     match statement {
-        Stmt::Data(_) | Stmt::Set { .. } => true,
-        Stmt::Print(line, _) | Stmt::Include { line, .. } => {
-            answer(!is_child(position), *line, found)
-        }
-        Stmt::Import { line, .. } | Stmt::From { line, .. } => answer(
-            is_top(position),
-            *line,
-            found,
-        ),
-        Stmt::Extends(line, _) => answer(false, *line, found),
+        Stmt::Data(_) | Stmt::Set { .. } => Ok(()),
+        Stmt::Print(line, _) | Stmt::Include { line, .. } => allow(!is_child(position), *line),
+        Stmt::Import { line, .. } | Stmt::From { line, .. } => allow(is_top(position), *line),
+        Stmt::Extends(line, _) => Err(*line),
         Stmt::If(branches, other) => {
-            if !answer(!is_child(position), first_line(branches), found) {
-                return false;
-            }
+            allow(!is_child(position), first_line(branches))?;
             for (_, _, body) in branches {
-                if !body_placed(body, within(position), found) {
-                    return false;
-                }
+                body_placed(body, within(position))?;
             }
-            body_placed(other, within(position), found)
+            body_placed(other, within(position))
         }
         Stmt::For {
             line,
@@ -160,18 +146,20 @@ fn statement_placed(statement: &Stmt, position: Position, found: &mut u32) -> bo
             other,
             ..
         } => {
-            answer(!is_child(position), *line, found)
-                && body_placed(body, within(position), found)
-                && body_placed(other, within(position), found)
+            allow(!is_child(position), *line)?;
+            body_placed(body, within(position))?;
+            body_placed(other, within(position))
         }
-        Stmt::SetBlock { body, .. } => body_placed(body, within(position), found),
+        Stmt::SetBlock { body, .. } => body_placed(body, within(position)),
         Stmt::With { line, body, .. }
         | Stmt::FilterBlock { line, body, .. }
         | Stmt::Autoescape { line, body, .. } => {
-            answer(!is_child(position), *line, found) && body_placed(body, within(position), found)
+            allow(!is_child(position), *line)?;
+            body_placed(body, within(position))
         }
         Stmt::Macro { line, body, .. } => {
-            answer(is_top(position), *line, found) && body_placed(body, Position::InMacro, found)
+            allow(is_top(position), *line)?;
+            body_placed(body, Position::InMacro)
         }
         Stmt::Block {
             line,
@@ -179,16 +167,16 @@ fn statement_placed(statement: &Stmt, position: Position, found: &mut u32) -> bo
             body,
             ..
         } => {
-            answer(!is_macro(position), *line, found)
-                && answer(!*required || is_blank_body(body), *line, found)
-                && body_placed(body, within(position), found)
+            allow(!is_macro(position), *line)?;
+            allow(!*required || is_blank_body(body), *line)?;
+            body_placed(body, within(position))
         }
     }
 }
 
-/// Whether the statements of a template stand where they may.
-fn template_placed(body: &Vec<Stmt>, found: &mut u32) -> bool
-    ensures { result ≡ spec.is_placed (body_view body.now.items) }
+/// The same of the statements of a template.
+fn template_placed(body: &Vec<Stmt>) -> Result<(), u32>
+    ensures { is_ok result ≡ spec.is_placed (body_view body.now.items) }
 {
     let mut position = None;
     for statement in body {
@@ -201,28 +189,20 @@ fn template_placed(body: &Vec<Stmt>, found: &mut u32) -> bool
             }
             (None, _) => {
                 position = Some(Position::RootTop);
-                if !statement_placed(statement, Position::RootTop, found) {
-                    return false;
-                }
+                statement_placed(statement, Position::RootTop)?;
             }
-            (Some(top), _) => {
-                if !statement_placed(statement, top, found) {
-                    return false;
-                }
-            }
+            (Some(top), _) => statement_placed(statement, top)?,
         }
     }
-    true
+    Ok(())
 }
 
 /// Refuses a template whose statements do not all stand where they may.
 pub(crate) fn check_positions(body: &Vec<Stmt>) -> Result<(), ParseError>
     ensures { GivesPositions (spec.is_placed (body_view body.now.items)) result }
 {
-    let mut line = 1;
-    if template_placed(body, &mut line) {
-        Ok(())
-    } else {
-        Err(ParseError::Syntax { line })
+    match template_placed(body) {
+        Ok(()) => Ok(()),
+        Err(line) => Err(ParseError::Syntax { line }),
     }
 }

@@ -6,21 +6,21 @@ ghost use Rattle.jt_scan.specs.View.{token_view};
 ghost use Rattle.jt_scan.specs.declared.segment.Sign.TheVariants as sign;
 ghost use Rattle.jt_trees.specs.Expressions.{levels as tree_levels};
 ghost use Rattle.jt_expr.specs.Grammar.{whole, Spells};
-ghost use Rattle.jt_expr.specs.Promises.{Reads, EndsAt, OpensNone, level_of_form};
+ghost use Rattle.jt_expr.specs.Promises.{EndsAt, OpensNone, level_of_form};
 ghost use Rattle.jt_trees.specs.ExpressionView.{expr_view, literal_view};
 ghost use Rattle.jt_expr.specs.Cursor.{ahead};
-ghost use Rattle.jt_expr.specs.Words.{letters_of};
+ghost use Rattle.jt_scan.specs.Words.{letters_of};
 ghost use Rattle.jt_trees.specs.Statements.{condition_levels};
 ghost use Rattle.jt_parse.specs.Tags.{Separated, IsName, IsValue, IsFiltering, IsParameter, IsImported};
 ghost use Rattle.jt_parse.specs.Tags.{Parameters, Condition, Context, missing_words, defaults_last};
 ghost use Rattle.jt_parse.specs.Readers as readers;
+ghost use Rattle.jt_parse.specs.Readers.{TakesForm, TakesFlat, TakesHead};
 ghost use Rattle.jt_trees.specs.StatementView.{is_ignored, are_seen, names_view, given_view, filtering_view, filterings_view, parameter_view, parameters_view};
 ghost use Rattle.jt_parse.specs.HeadView.{value_view, values_view, imported_view};
 
-use crate::expression::is_word;
 use crate::heads::{Head, Loop, Opening};
 use jt_expr::{Cursor, ExprError, Form, Part, Parts, arguments, copy_of, literal_of, read};
-use jt_scan::{Sign, Token, text_value};
+use jt_scan::{Sign, Token, is_word, text_value};
 use jt_trees::{Expr, Filtering, Literal, Missing, NamesAround, Parameter, Stmt};
 use std::alloc::Global;
 
@@ -37,8 +37,7 @@ fn expect_word(cursor: &mut Cursor<'_>, word: &str) -> Result<(), ExprError>
 
 /// A name.
 fn target(alloc: Global, cursor: &mut Cursor<'_>) -> Result<String, ExprError>
-    ensures { readers.ReadsFlat string_bytes IsName readers.Anything
-        (ahead cursor.old) result (ahead cursor.new) }
+    ensures { TakesFlat string_bytes IsName readers.Anything cursor.old result cursor.new }
 {
     let name = cursor.name()?;
     Ok(copy_of(alloc, name)?)
@@ -46,8 +45,8 @@ fn target(alloc: Global, cursor: &mut Cursor<'_>) -> Result<String, ExprError>
 
 /// `a, b`
 fn targets(alloc: Global, cursor: &mut Cursor<'_>) -> Result<Vec<String>, ExprError>
-    ensures { readers.ReadsFlat (λ v. names_view v.items) (Separated IsName sign.Comma)
-        (readers.NoSign sign.Comma) (ahead cursor.old) result (ahead cursor.new) }
+    ensures { TakesFlat (λ v. names_view v.items) (Separated IsName sign.Comma)
+        (readers.NoSign sign.Comma) cursor.old result cursor.new }
 {
     let mut found = Vec::new(alloc);
     for _turn in 0..cursor.left() {
@@ -67,8 +66,8 @@ fn expression(
     levels: u8,
     form: Form,
 ) -> Result<Expr, ExprError>
-    ensures { Reads expr_view (Spells (level_of_form form)) (EndsAt (level_of_form form))
-        tree_levels levels (ahead cursor.old) result (ahead cursor.new) }
+    ensures { TakesForm expr_view (Spells (level_of_form form)) (EndsAt (level_of_form form))
+        tree_levels levels cursor.old result cursor.new }
 {
     let Part { expr, .. } = read(alloc, cursor, levels, form)?;
     Ok(Box::into_inner(expr))
@@ -76,8 +75,8 @@ fn expression(
 
 /// `a = e`
 fn value(alloc: Global, cursor: &mut Cursor<'_>, levels: u8) -> Result<(String, Expr), ExprError>
-    ensures { Reads value_view IsValue (EndsAt whole) readers.value_levels levels
-        (ahead cursor.old) result (ahead cursor.new) }
+    ensures { TakesForm value_view IsValue (EndsAt whole) readers.value_levels levels cursor.old
+        result cursor.new }
 {
     let name = target(alloc, cursor)?;
     cursor.expect(Sign::Assign)?;
@@ -91,8 +90,8 @@ fn values(
     cursor: &mut Cursor<'_>,
     levels: u8,
 ) -> Result<Vec<(String, Expr)>, ExprError>
-    ensures { Reads (λ v. values_view v.items) (Separated IsValue sign.Comma) readers.NoToken
-        (readers.most readers.value_levels) levels (ahead cursor.old) result (ahead cursor.new) }
+    ensures { TakesForm (λ v. values_view v.items) (Separated IsValue sign.Comma) readers.NoToken
+        (readers.most readers.value_levels) levels cursor.old result cursor.new }
 {
     let mut found = Vec::new(alloc);
     for _turn in 0..cursor.left() {
@@ -107,8 +106,8 @@ fn values(
 
 /// `f(a)`
 fn filtering(alloc: Global, cursor: &mut Cursor<'_>, levels: u8) -> Result<Filtering, ExprError>
-    ensures { Reads filtering_view IsFiltering OpensNone readers.one_filtering_levels levels
-        (ahead cursor.old) result (ahead cursor.new) }
+    ensures { TakesForm filtering_view IsFiltering OpensNone readers.one_filtering_levels levels
+        cursor.old result cursor.new }
 {
     let name = target(alloc, cursor)?;
     let Parts { items, pairs, .. } = arguments(alloc, cursor, levels)?;
@@ -125,9 +124,9 @@ fn filterings(
     cursor: &mut Cursor<'_>,
     levels: u8,
 ) -> Result<Vec<Filtering>, ExprError>
-    ensures { Reads (λ v. filterings_view v.items) (Separated IsFiltering sign.Pipe) readers.NoToken
-        (readers.most readers.one_filtering_levels) levels
-        (ahead cursor.old) result (ahead cursor.new) }
+    ensures { TakesForm (λ v. filterings_view v.items) (Separated IsFiltering sign.Pipe)
+        readers.NoToken (readers.most readers.one_filtering_levels) levels cursor.old result
+        cursor.new }
 {
     let mut found = Vec::new(alloc);
     for _turn in 0..cursor.left() {
@@ -142,8 +141,8 @@ fn filterings(
 
 /// A number, a text or a constant.
 fn literal(alloc: Global, cursor: &mut Cursor<'_>) -> Result<Literal, ExprError>
-    ensures { readers.ReadsFlat literal_view readers.IsLiteral readers.Anything
-        (ahead cursor.old) result (ahead cursor.new) }
+    ensures { TakesFlat literal_view readers.IsLiteral readers.Anything cursor.old result
+        cursor.new }
 {
     match cursor.take() {
         Some(Token::Number(number)) => Ok(Literal::Number(number)),
@@ -158,8 +157,8 @@ fn literal(alloc: Global, cursor: &mut Cursor<'_>) -> Result<Literal, ExprError>
 
 /// A parameter's default, if it has one.
 fn default_of(alloc: Global, cursor: &mut Cursor<'_>) -> Result<Option<Literal>, ExprError>
-    ensures { readers.ReadsFlat (option_map literal_view) readers.IsDefault
-        (readers.NoSign sign.Assign) (ahead cursor.old) result (ahead cursor.new) }
+    ensures { TakesFlat (option_map literal_view) readers.IsDefault (readers.NoSign sign.Assign)
+        cursor.old result cursor.new }
 {
     if !cursor.eat(Sign::Assign) {
         return Ok(None);
@@ -170,8 +169,8 @@ fn default_of(alloc: Global, cursor: &mut Cursor<'_>) -> Result<Option<Literal>,
 
 /// `a`, or `a = 1`
 fn parameter(alloc: Global, cursor: &mut Cursor<'_>) -> Result<Parameter, ExprError>
-    ensures { readers.ReadsFlat parameter_view IsParameter (readers.NoSign sign.Assign)
-        (ahead cursor.old) result (ahead cursor.new) }
+    ensures { TakesFlat parameter_view IsParameter (readers.NoSign sign.Assign) cursor.old result
+        cursor.new }
 {
     let name = target(alloc, cursor)?;
     let default = default_of(alloc, cursor)?;
@@ -180,8 +179,8 @@ fn parameter(alloc: Global, cursor: &mut Cursor<'_>) -> Result<Parameter, ExprEr
 
 /// `a, b = 1`
 fn parameter_row(alloc: Global, cursor: &mut Cursor<'_>) -> Result<Vec<Parameter>, ExprError>
-    ensures { readers.ReadsFlat (λ v. parameters_view v.items) (Separated IsParameter sign.Comma)
-        readers.NoParameter (ahead cursor.old) result (ahead cursor.new) }
+    ensures { TakesFlat (λ v. parameters_view v.items) (Separated IsParameter sign.Comma)
+        readers.NoParameter cursor.old result cursor.new }
 {
     let mut found = Vec::new(alloc);
     for _turn in 0..cursor.left() {
@@ -211,8 +210,8 @@ fn defaults_are_last(parameters: &[Parameter]) -> bool
 
 /// The parameters of a macro, up to the closing parenthesis.
 fn parameters(alloc: Global, cursor: &mut Cursor<'_>) -> Result<Vec<Parameter>, ExprError>
-    ensures { readers.ReadsFlat (λ v. parameters_view v.items) Parameters readers.Anything
-        (ahead cursor.old) result (ahead cursor.new) }
+    ensures { TakesFlat (λ v. parameters_view v.items) Parameters readers.Anything cursor.old result
+        cursor.new }
 {
     if cursor.eat(Sign::RightParen) {
         return Ok(Vec::new(alloc));
@@ -227,8 +226,8 @@ fn parameters(alloc: Global, cursor: &mut Cursor<'_>) -> Result<Vec<Parameter>, 
 
 /// The condition of a loop, if it has one.
 fn condition(alloc: Global, cursor: &mut Cursor<'_>, levels: u8) -> Result<Option<Expr>, ExprError>
-    ensures { Reads (option_map expr_view) Condition readers.NoToken condition_levels levels
-        (ahead cursor.old) result (ahead cursor.new) }
+    ensures { TakesForm (option_map expr_view) Condition readers.NoToken condition_levels levels
+        cursor.old result cursor.new }
 {
     if !cursor.eat_word("if") {
         return Ok(None);
@@ -239,8 +238,7 @@ fn condition(alloc: Global, cursor: &mut Cursor<'_>, levels: u8) -> Result<Optio
 
 /// A text literal.
 fn text(alloc: Global, cursor: &mut Cursor<'_>) -> Result<String, ExprError>
-    ensures { readers.ReadsFlat string_bytes readers.IsText readers.Anything
-        (ahead cursor.old) result (ahead cursor.new) }
+    ensures { TakesFlat string_bytes readers.IsText readers.Anything cursor.old result cursor.new }
 {
     match cursor.take() {
         Some(Token::Text(raw)) => Ok(text_value(alloc, raw)?),
@@ -250,8 +248,8 @@ fn text(alloc: Global, cursor: &mut Cursor<'_>) -> Result<String, ExprError>
 
 /// `ignore missing`, or nothing.
 fn missing(cursor: &mut Cursor<'_>) -> Result<Missing, ExprError>
-    ensures { readers.ReadsFlat is_ignored (λ b x. x ≡ missing_words b)
-        (readers.NoWord (codes "ignore")) (ahead cursor.old) result (ahead cursor.new) }
+    ensures { TakesFlat is_ignored (λ b x. x ≡ missing_words b) (readers.NoWord (codes "ignore"))
+        cursor.old result cursor.new }
 {
     if !cursor.eat_word("ignore") {
         return Ok(Missing::Refused);
@@ -262,8 +260,7 @@ fn missing(cursor: &mut Cursor<'_>) -> Result<Missing, ExprError>
 
 /// `with context`, `without context`, or nothing.
 fn context(cursor: &mut Cursor<'_>) -> Result<NamesAround, ExprError>
-    ensures { readers.ReadsFlat are_seen Context readers.NoToken
-        (ahead cursor.old) result (ahead cursor.new) }
+    ensures { TakesFlat are_seen Context readers.NoToken cursor.old result cursor.new }
 {
     if cursor.eat_word("with") {
         expect_word(cursor, "context")?;
@@ -278,8 +275,7 @@ fn context(cursor: &mut Cursor<'_>) -> Result<NamesAround, ExprError>
 
 /// `if c`
 fn if_head(alloc: Global, cursor: &mut Cursor<'_>, levels: u8) -> Result<Head, ExprError>
-    ensures { (line : ℕ) → readers.ReadsHead line levels (codes "if")
-        (ahead cursor.old) result (ahead cursor.new) }
+    ensures { (line : ℕ) → TakesHead line levels (codes "if") cursor.old result cursor.new }
 {
     let condition = expression(alloc, cursor, levels, Form::Whole)?;
     Ok(Head::If(condition))
@@ -287,8 +283,7 @@ fn if_head(alloc: Global, cursor: &mut Cursor<'_>, levels: u8) -> Result<Head, E
 
 /// `for a, b in e if c`
 fn for_head(alloc: Global, cursor: &mut Cursor<'_>, levels: u8) -> Result<Head, ExprError>
-    ensures { (line : ℕ) → readers.ReadsHead line levels (codes "for")
-        (ahead cursor.old) result (ahead cursor.new) }
+    ensures { (line : ℕ) → TakesHead line levels (codes "for") cursor.old result cursor.new }
 {
     let targets = targets(alloc, cursor)?;
     expect_word(cursor, "in")?;
@@ -323,8 +318,7 @@ fn set_head(
     levels: u8,
     line: u32,
 ) -> Result<Head, ExprError>
-    ensures { readers.ReadsHead line levels (codes "set")
-        (ahead cursor.old) result (ahead cursor.new) }
+    ensures { TakesHead line levels (codes "set") cursor.old result cursor.new }
 {
     let targets = targets(alloc, cursor)?;
     if !cursor.eat(Sign::Assign) {
@@ -340,8 +334,7 @@ fn set_head(
 
 /// `with a = e, b = f`
 fn with_head(alloc: Global, cursor: &mut Cursor<'_>, levels: u8) -> Result<Head, ExprError>
-    ensures { (line : ℕ) → readers.ReadsHead line levels (codes "with")
-        (ahead cursor.old) result (ahead cursor.new) }
+    ensures { (line : ℕ) → TakesHead line levels (codes "with") cursor.old result cursor.new }
 {
     if cursor.left() == 0 {
         return Ok(Head::Opening(Opening::Values(Vec::new(alloc))));
@@ -352,8 +345,7 @@ fn with_head(alloc: Global, cursor: &mut Cursor<'_>, levels: u8) -> Result<Head,
 
 /// `filter f(a)|g`
 fn filter_head(alloc: Global, cursor: &mut Cursor<'_>, levels: u8) -> Result<Head, ExprError>
-    ensures { (line : ℕ) → readers.ReadsHead line levels (codes "filter")
-        (ahead cursor.old) result (ahead cursor.new) }
+    ensures { (line : ℕ) → TakesHead line levels (codes "filter") cursor.old result cursor.new }
 {
     let found = filterings(alloc, cursor, levels)?;
     Ok(Head::Opening(Opening::Filters(found)))
@@ -361,8 +353,8 @@ fn filter_head(alloc: Global, cursor: &mut Cursor<'_>, levels: u8) -> Result<Hea
 
 /// `autoescape true`, or `false`
 fn autoescape_head(cursor: &mut Cursor<'_>) -> Result<Head, ExprError>
-    ensures { (line limit : ℕ) → readers.ReadsHead line limit (codes "autoescape")
-        (ahead cursor.old) result (ahead cursor.new) }
+    ensures { (line limit : ℕ) → TakesHead line limit (codes "autoescape") cursor.old result
+        cursor.new }
 {
     if cursor.eat_word("true") {
         return Ok(Head::Opening(Opening::Escaping(true)));
@@ -375,8 +367,7 @@ fn autoescape_head(cursor: &mut Cursor<'_>) -> Result<Head, ExprError>
 
 /// `macro f(a, b=1)`
 fn macro_head(alloc: Global, cursor: &mut Cursor<'_>) -> Result<Head, ExprError>
-    ensures { (line limit : ℕ) → readers.ReadsHead line limit (codes "macro")
-        (ahead cursor.old) result (ahead cursor.new) }
+    ensures { (line limit : ℕ) → TakesHead line limit (codes "macro") cursor.old result cursor.new }
 {
     let name = target(alloc, cursor)?;
     cursor.expect(Sign::LeftParen)?;
@@ -386,8 +377,7 @@ fn macro_head(alloc: Global, cursor: &mut Cursor<'_>) -> Result<Head, ExprError>
 
 /// `include "x" ignore missing without context`
 fn include_head(alloc: Global, cursor: &mut Cursor<'_>, line: u32) -> Result<Head, ExprError>
-    ensures { (limit : ℕ) → readers.ReadsHead line limit (codes "include")
-        (ahead cursor.old) result (ahead cursor.new) }
+    ensures { (limit : ℕ) → TakesHead line limit (codes "include") cursor.old result cursor.new }
 {
     let name = text(alloc, cursor)?;
     let missing = missing(cursor)?;
@@ -402,8 +392,8 @@ fn include_head(alloc: Global, cursor: &mut Cursor<'_>, line: u32) -> Result<Hea
 
 /// The name behind `as`, if one is given.
 fn given(alloc: Global, cursor: &mut Cursor<'_>) -> Result<Option<String>, ExprError>
-    ensures { readers.ReadsFlat (option_map string_bytes) readers.IsGiven
-        (readers.NoWord (codes "as")) (ahead cursor.old) result (ahead cursor.new) }
+    ensures { TakesFlat (option_map string_bytes) readers.IsGiven (readers.NoWord (codes "as"))
+        cursor.old result cursor.new }
 {
     if !cursor.eat_word("as") {
         return Ok(None);
@@ -431,8 +421,8 @@ fn given_or(
 
 /// `a`, or `a as b`
 fn imported(alloc: Global, cursor: &mut Cursor<'_>) -> Result<(String, String), ExprError>
-    ensures { readers.ReadsFlat imported_view IsImported (readers.NoWord (codes "as"))
-        (ahead cursor.old) result (ahead cursor.new) }
+    ensures { TakesFlat imported_view IsImported (readers.NoWord (codes "as")) cursor.old result
+        cursor.new }
 {
     let name = target(alloc, cursor)?;
     let given = given(alloc, cursor)?;
@@ -441,8 +431,8 @@ fn imported(alloc: Global, cursor: &mut Cursor<'_>) -> Result<(String, String), 
 
 /// `a, b as c`
 fn imported_row(alloc: Global, cursor: &mut Cursor<'_>) -> Result<Vec<(String, String)>, ExprError>
-    ensures { readers.ReadsFlat (λ v. given_view v.items) (Separated IsImported sign.Comma)
-        readers.NoImported (ahead cursor.old) result (ahead cursor.new) }
+    ensures { TakesFlat (λ v. given_view v.items) (Separated IsImported sign.Comma)
+        readers.NoImported cursor.old result cursor.new }
 {
     let mut found = Vec::new(alloc);
     for _turn in 0..cursor.left() {
@@ -457,8 +447,8 @@ fn imported_row(alloc: Global, cursor: &mut Cursor<'_>) -> Result<Vec<(String, S
 
 /// Whether `without context` is said.
 fn without(cursor: &mut Cursor<'_>) -> Result<bool, ExprError>
-    ensures { readers.ReadsFlat (λ b. b) readers.IsWithout (readers.NoWord (codes "without"))
-        (ahead cursor.old) result (ahead cursor.new) }
+    ensures { TakesFlat (λ b. b) readers.IsWithout (readers.NoWord (codes "without")) cursor.old
+        result cursor.new }
 {
     if !cursor.eat_word("without") {
         return Ok(false);
@@ -469,8 +459,7 @@ fn without(cursor: &mut Cursor<'_>) -> Result<bool, ExprError>
 
 /// `import "x" as f without context`
 fn import_head(alloc: Global, cursor: &mut Cursor<'_>, line: u32) -> Result<Head, ExprError>
-    ensures { (limit : ℕ) → readers.ReadsHead line limit (codes "import")
-        (ahead cursor.old) result (ahead cursor.new) }
+    ensures { (limit : ℕ) → TakesHead line limit (codes "import") cursor.old result cursor.new }
 {
     let library = text(alloc, cursor)?;
     expect_word(cursor, "as")?;
@@ -485,8 +474,7 @@ fn import_head(alloc: Global, cursor: &mut Cursor<'_>, line: u32) -> Result<Head
 
 /// `from "x" import a, b as c without context`
 fn from_head(alloc: Global, cursor: &mut Cursor<'_>, line: u32) -> Result<Head, ExprError>
-    ensures { (limit : ℕ) → readers.ReadsHead line limit (codes "from")
-        (ahead cursor.old) result (ahead cursor.new) }
+    ensures { (limit : ℕ) → TakesHead line limit (codes "from") cursor.old result cursor.new }
 {
     let library = text(alloc, cursor)?;
     expect_word(cursor, "import")?;
@@ -501,8 +489,7 @@ fn from_head(alloc: Global, cursor: &mut Cursor<'_>, line: u32) -> Result<Head, 
 
 /// `extends "x"`
 fn extends_head(alloc: Global, cursor: &mut Cursor<'_>, line: u32) -> Result<Head, ExprError>
-    ensures { (limit : ℕ) → readers.ReadsHead line limit (codes "extends")
-        (ahead cursor.old) result (ahead cursor.new) }
+    ensures { (limit : ℕ) → TakesHead line limit (codes "extends") cursor.old result cursor.new }
 {
     let name = text(alloc, cursor)?;
     Ok(Head::Statement(Stmt::Extends(line, name)))
@@ -510,8 +497,7 @@ fn extends_head(alloc: Global, cursor: &mut Cursor<'_>, line: u32) -> Result<Hea
 
 /// `block b scoped required`
 fn block_head(alloc: Global, cursor: &mut Cursor<'_>) -> Result<Head, ExprError>
-    ensures { (line limit : ℕ) → readers.ReadsHead line limit (codes "block")
-        (ahead cursor.old) result (ahead cursor.new) }
+    ensures { (line limit : ℕ) → TakesHead line limit (codes "block") cursor.old result cursor.new }
 {
     let name = target(alloc, cursor)?;
     let scoped = cursor.eat_word("scoped");
@@ -531,8 +517,7 @@ fn head(
     line: u32,
     word: &str,
 ) -> Result<Head, ExprError>
-    ensures { readers.ReadsHead line levels (chars word.now)
-        (ahead cursor.old) result (ahead cursor.new) }
+    ensures { TakesHead line levels (chars word.now) cursor.old result cursor.new }
 {
     if is_word(word, "if") {
         if_head(alloc, cursor, levels)
@@ -573,7 +558,7 @@ pub(crate) fn read_head(
 ) -> Result<Head, ExprError>
     ensures { readers.ReadsHead line levels (chars word.now) (map token_view tokens.now) result [] }
 {
-    let mut cursor = Cursor { rest: tokens };
+    let mut cursor = Cursor::new(tokens);
     let found = head(alloc, &mut cursor, levels, line, word)?;
     if cursor.left() > 0 {
         drop(found);

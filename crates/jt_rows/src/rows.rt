@@ -1,7 +1,6 @@
 //! Rows as the lines of a text: the prover reads one text, so a row costs it nothing.
 
 use std::alloc::{AllocError, Global};
-use std::process::Abort;
 use std::test::Fail;
 
 /// A row's text with what its signs stand for: `∅` stands for no character.
@@ -19,9 +18,10 @@ pub fn unfolded(alloc: Global, row: &str) -> Result<String, AllocError> {
     Ok(text)
 }
 
-/// Checks rows `asked => wanted`, one a line, against what `answer` gives of each.
+/// Checks rows `asked => wanted`, one a line, against what `answer` gives of each: fails with the
+/// first row that has another answer, and with that answer.
 pub fn rows_hold<F: Fn(Global, &str) -> Result<String, Fail>>(
-    rt: &(impl Abort + AllocGlobal),
+    rt: &impl AllocGlobal,
     answer: F,
     rows: &str,
 ) -> Result<(), Fail>
@@ -30,7 +30,9 @@ pub fn rows_hold<F: Fn(Global, &str) -> Result<String, Fail>>(
     for row in rows.lines() {
         let (asked, wanted) = row.trim().split_once(" => ").ok_or("a row has no =>")?;
         let found = answer(rt.alloc(), asked)?;
-        assert_eq!(rt; found.as_str(), wanted, "{row}");
+        if found.as_str() != wanted {
+            return Err(Fail::from(format!(in rt.alloc(); "{row}, and not {found}")?));
+        }
     }
     Ok(())
 }

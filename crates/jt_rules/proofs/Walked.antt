@@ -1,5 +1,5 @@
 -- The walk finds a broken rule where there is one: what it answers is broken, and where it answers none no rule is.
-use Rattle.std.proofs.Common.{◌≡◌, refl, sym, ap, ◌∙◌, subst, arith, ℕ, ◌<◌, ◌≤◌, Bool, true, false, not, ◌&&◌, ◌||◌, if◌then◌else◌, List, [], ◌∷◌, ◌++◌, length, nat_lt, Option, Some, None}
+use Rattle.std.proofs.Common.{◌≡◌, refl, sym, ap, ◌∙◌, subst, arith, ℕ, ◌<◌, ◌≤◌, Bool, true, false, not, ◌&&◌, if◌then◌else◌, List, [], ◌∷◌, ◌++◌, length, nat_lt, Option, Some, None, rules}
 use Rattle.std.specs.Prelude.{◌⊎◌, codes, flat_map}
 use Rattle.std.specs.Option.{option_or, is_some}
 use Rattle.std.specs.Str.{bytes_eq}
@@ -8,16 +8,15 @@ use Rattle.std.proofs.lemmas.Slice.Eq.{bytes_eq-Decides}
 use mathlib.Core.Logic.{inl, inr}
 use Rattle.jt_trees.specs.Expressions as trees
 use Rattle.jt_trees.specs.Expressions.{Expr, constant, name, group, list_of, map_of, attribute, item, call, filter, test, unary, binary, when, choice, Exprs, no_exprs, expr, no_pairs, pair, Text}
-use Rattle.jt_trees.specs.Statements.{Parameter, Filtering, Stmt, data_of, print, choose, for_each, set, set_block, with_values, filter_block, autoescape, macro, include, import_as, import_from, extends, block, Body, end, stmt, Branches, no_branches, branch, body_bound}
+use Rattle.jt_trees.specs.Statements.{Parameter, Filtering, Stmt, choose, for_each, set_block, with_values, filter_block, autoescape, macro, block, Body, end, stmt, Branches, no_branches, branch, body_bound}
 use Rattle.jt_trees.specs.Texts.{repeated}
-use Rattle.jt_ids.specs.declared.test_id.TestId.{TestId}
 use Rattle.jt_chains.specs.Uses.{count, keywords}
-use Rattle.jt_chains.specs.Chain.{Home, a_library, Template, MacroBody, templates, bodies, macros, public_macro, Given, one_macro, library, given, given_to, Callee, a_macro, a_range, a_super, a_block, a_cycle, no_callee, named_alone, of_library, in_library, callee, is_loop}
+use Rattle.jt_chains.specs.Chain.{Home, Template, MacroBody, templates, bodies, Given, given, Callee, a_macro, a_range, a_super, a_block, a_cycle, no_callee, named_alone, of_library, in_library, callee, is_loop}
 use Rattle.jt_evaluation.specs.Loops.{Field, field_named}
 use Rattle.jt_evaluation.specs.Tests.{test_named}
 use Rattle.jt_rules.specs.Arguments.{callee_takes, test_takes, filter_takes, names_rightly}
 use Rattle.jt_rules.specs.Rules.{ForSome, IsOnlyCalled, MisusesLoop, LoopOutside, MacroAsValue, CannotBeCalled, NotCallable, BadArguments, TooManyParameters, BrokenIn, Broken, KeepsRules, Breaks, names_counted}
-use Rattle.jt_rules.specs.Spots.{Within, Use, reads, binds, asks_loop, calls, filters, tests, declares, names_import, Spot, at, bound, named_imports, parameter_names, is_called_by_name, expr_spots, row_spots, pair_spots, condition_spots, filtering_spots, outside, stmt_spots, body_spots, branch_spots, chain_spots}
+use Rattle.jt_rules.specs.Spots.{Within, Use, reads, binds, asks_loop, calls, filters, tests, declares, names_import, Spot, at, bound, named_imports, parameter_names, is_called_by_name, expr_spots, row_spots, pair_spots, condition_spots, filtering_spots, outside, stmt_spots, body_spots, branch_spots}
 use Rattle.jt_rules.specs.Walk.{read_alone, unless, test_broken, filter_broken, refused, is_macro, used, all_used, call_broken, broken, called_broken, row_broken, pairs_broken, condition_broken, filtering_broken, macro_broken, imports_broken, stmt_broken, body_broken, branches_broken, templates_broken, chains_broken}
 use Rattle.jt_rules.specs.World.{World}
 use Rattle.jt_rules.specs.declared.error.ScopeError.{ScopeError}
@@ -37,11 +36,7 @@ some_right P (x ∷ xs) ys h = inr (some_right P xs ys h)
 apart : {A : Type 0} (P : A → Type 0) (xs ys : List A) → ForSome P (xs ++ ys) → ForSome P xs ⊎ ForSome P ys
 apart P [] ys h = inr h
 apart P (x ∷ xs) ys (inl p) = inl (inl p)
-apart P (x ∷ xs) ys (inr h) = shifted (apart P xs ys h)
-  where
-    shifted : ForSome P xs ⊎ ForSome P ys → ForSome P (x ∷ xs) ⊎ ForSome P ys
-    shifted (inl a) = inl (inr a)
-    shifted (inr b) = inr b
+apart P (x ∷ xs) ys (inr h) = search (arith, rules, apart P xs ys h)
 
 some_as : {A : Type 0} (P Q : A → Type 0) → ((x : A) → P x → Q x) → (xs : List A) → ForSome P xs → ForSome Q xs
 some_as P Q f [] h = h
@@ -72,9 +67,7 @@ one_false true b e = inr e
 one_false false b e = inl refl
 
 not_both_true : (a b : Bool) → (a ≡ false) ⊎ (b ≡ false) → (a && b) ≡ false
-not_both_true true b (inl e) = differs e
-not_both_true true b (inr e) = e
-not_both_true false b e = refl
+not_both_true a0 b a2 = search (arith, rules, differs)
 
 module _ (world : World) (home : Home) where
   -- ---- names
@@ -87,26 +80,10 @@ module _ (world : World) (home : Home) where
   OfName m x rule = ⊥
 
   no_name : (x : Text) → bytes_eq x (codes "loop") ≡ false → bytes_eq x (codes "self") ≡ false → bytes_eq x (codes "super") ≡ false → bytes_eq x (codes "range") ≡ false → (m : Bool) → m ≡ false → (rule : ScopeError) → OfName m x rule → ⊥
-  no_name x e1 e2 e3 e4 m e5 error.LoopOutside h = other x (codes "loop") e1 h
-  no_name x e1 e2 e3 e4 m e5 error.MacroAsValue h = differs (sym h ∙ e5)
-  no_name x e1 e2 e3 e4 m e5 error.NotCallable (inl h) = other x (codes "self") e2 h
-  no_name x e1 e2 e3 e4 m e5 error.NotCallable (inr (inl h)) = other x (codes "super") e3 h
-  no_name x e1 e2 e3 e4 m e5 error.NotCallable (inr (inr h)) = other x (codes "range") e4 h
-  no_name x e1 e2 e3 e4 m e5 error.BadArguments h = h
-  no_name x e1 e2 e3 e4 m e5 error.TooManySlots h = h
-  no_name x e1 e2 e3 e4 m e5 error.NoMemory h = h
+  no_name x e1 e2 e3 e4 m e5 a7 a8 = search (arith, rules, other, differs)
 
   name_judged : (x : Text) (m : Bool) → Judged (option_or (read_alone x) (refused m error.MacroAsValue)) (OfName m x)
-  name_judged x m = by (bytes_eq x (codes "loop")) (bytes_eq x (codes "self")) (bytes_eq x (codes "super")) (bytes_eq x (codes "range")) m refl refl refl refl
-    where
-      by : (b1 b2 b3 b4 n : Bool) → bytes_eq x (codes "loop") ≡ b1 → bytes_eq x (codes "self") ≡ b2 → bytes_eq x (codes "super") ≡ b3 → bytes_eq x (codes "range") ≡ b4
-          → Judged (option_or (if b1 then Some error.LoopOutside else if b2 || (b3 || b4) then Some error.NotCallable else None) (refused n error.MacroAsValue)) (OfName n x)
-      by true b2 b3 b4 n e1 e2 e3 e4 = same x (codes "loop") e1
-      by false true b3 b4 n e1 e2 e3 e4 = inl (same x (codes "self") e2)
-      by false false true b4 n e1 e2 e3 e4 = inr (inl (same x (codes "super") e3))
-      by false false false true n e1 e2 e3 e4 = inr (inr (same x (codes "range") e4))
-      by false false false false true e1 e2 e3 e4 = refl
-      by false false false false false e1 e2 e3 e4 = no_name x e1 e2 e3 e4 false refl
+  name_judged x m = search (arith, rules, same, no_name)
 
   -- ---- calls
 
@@ -119,12 +96,7 @@ module _ (world : World) (home : Home) where
 
   -- no rule, where none of the three is broken
   no_call : (misuse : Type 0) (c : Callee) (w : Within) (ts : Exprs) (ps : trees.Pairs) → (misuse → ⊥) → (CannotBeCalled world home c w → ⊥) → callee_takes c ts ps ≡ true → (rule : ScopeError) → OfCall misuse c w ts ps rule → ⊥
-  no_call misuse c w ts ps n k t error.LoopOutside h = n h
-  no_call misuse c w ts ps n k t error.MacroAsValue h = h
-  no_call misuse c w ts ps n k t error.NotCallable h = k h
-  no_call misuse c w ts ps n k t error.BadArguments h = differs (sym t ∙ h)
-  no_call misuse c w ts ps n k t error.TooManySlots h = h
-  no_call misuse c w ts ps n k t error.NoMemory h = h
+  no_call misuse c w ts ps n k t a8 h = search (arith, rules, differs)
 
   is_called : Callee → Bool
   is_called a_cycle = true
@@ -167,12 +139,7 @@ module _ (world : World) (home : Home) where
 
   -- `loop.cycle` is misused where no loop is around
   cycle_judged : (misuse : Type 0) (w : Within) → (w.in_loop ≡ false → misuse) → (misuse → w.in_loop ≡ false) → (f : Expr) (ts : Exprs) (ps : trees.Pairs) → Judged (call_broken world home a_cycle w f ts ps) (OfCall misuse a_cycle w ts ps)
-  cycle_judged misuse w to back f ts ps = by w.in_loop (callee_takes a_cycle ts ps) refl refl
-    where
-      by : (i b : Bool) → w.in_loop ≡ i → callee_takes a_cycle ts ps ≡ b → Judged (option_or (refused (not i) error.LoopOutside) (unless b)) (OfCall misuse a_cycle w ts ps)
-      by false b ei e = to ei
-      by true true ei e = no_call misuse a_cycle w ts ps (λ h. differs (sym ei ∙ back h)) (λ h. h) e
-      by true false ei e = e
+  cycle_judged misuse w to back f ts ps = search (arith, rules, no_call, differs)
 
   abbrev Named : Expr → Within → Exprs → trees.Pairs → Type 0
   Named f w ts ps =
@@ -180,24 +147,10 @@ module _ (world : World) (home : Home) where
       (OfCall (MisusesLoop f w) (callee world.sources (given world.sources home) f) w ts ps)
 
   no_cycle_alone : (o : Option Given) (x : Text) → named_alone world.sources o x ≡ a_cycle → ⊥
-  no_cycle_alone (Some (one_macro h m)) x e = absurd (cc)
-  no_cycle_alone (Some (library n)) x e = absurd (cc)
-  no_cycle_alone None x e = by (bytes_eq x (codes "range")) (bytes_eq x (codes "super")) e
-    where
-      by : (b c : Bool) → (if b then a_range else if c then a_super else no_callee) ≡ a_cycle → ⊥
-      by true c h = absurd (cc)
-      by false true h = absurd (cc)
-      by false false h = absurd (cc)
+  no_cycle_alone a0 x e = search (arith, rules)
 
   name_called : (x : Text) (w : Within) (ts : Exprs) (ps : trees.Pairs) → Named (name x) w ts ps
-  name_called x w ts ps = by (bytes_eq x (codes "loop")) refl
-    where
-      c : Callee
-      c = named_alone world.sources (given_to x (given world.sources home)) x
-
-      by : (b : Bool) → bytes_eq x (codes "loop") ≡ b → Judged (option_or (refused b error.LoopOutside) (call_broken world home c w (name x) ts ps)) (OfCall (x ≡ codes "loop") c w ts ps)
-      by true e = same x (codes "loop") e
-      by false e = call_judged (x ≡ codes "loop") (other x (codes "loop") e) c (no_cycle_alone (given_to x (given world.sources home)) x) w (name x) ts ps
+  name_called x w ts ps = search (arith, rules, same, call_judged, other, no_cycle_alone)
 
   -- `self` is not `loop`
   not_both : {A : Type 0} (of : Text) → bytes_eq of (codes "self") ≡ true → bytes_eq of (codes "loop") ≡ true → A
@@ -208,32 +161,10 @@ module _ (world : World) (home : Home) where
   no_cycle_of n (Some m) e = absurd (cc)
 
   no_cycle_in : (o : Option Given) (x : Text) → in_library world.sources o x ≡ a_cycle → ⊥
-  no_cycle_in None x e = absurd (cc)
-  no_cycle_in (Some (one_macro h m)) x e = absurd (cc)
-  no_cycle_in (Some (library n)) x e = no_cycle_of n (public_macro x (macros world.sources (a_library n))) e
+  no_cycle_in a0 x e = search (arith, rules, no_cycle_of)
 
   field_called : (of k : Text) (w : Within) (ts : Exprs) (ps : trees.Pairs) → Named (attribute (name of) k) w ts ps
-  field_called of k w ts ps = by (bytes_eq of (codes "self")) (bytes_eq of (codes "loop")) (bytes_eq k (codes "cycle")) refl refl refl
-    where
-      f : Expr
-      f = attribute (name of) k
-
-      c : Callee
-      c = in_library world.sources (given_to of (given world.sources home)) k
-
-      in_a_loop : bytes_eq k (codes "cycle") ≡ true → MisusesLoop (attribute (name of) k) w → w.in_loop ≡ false
-      in_a_loop e (b, inl n) = absurd (n (same k (codes "cycle") e))
-      in_a_loop e (b, inr o) = o
-
-      by : (b1 b2 b3 : Bool) → bytes_eq of (codes "self") ≡ b1 → bytes_eq of (codes "loop") ≡ b2 → bytes_eq k (codes "cycle") ≡ b3
-          → Judged (option_or (refused (b2 && not b3) error.LoopOutside) (call_broken world home (if b1 then a_block k else if b2 then (if b3 then a_cycle else no_callee) else c) w (attribute (name of) k) ts ps))
-          (OfCall (MisusesLoop (attribute (name of) k) w) (if b1 then a_block k else if b2 then (if b3 then a_cycle else no_callee) else c) w ts ps)
-      by true true b3 e1 e2 e3 = not_both of e1 e2
-      by true false b3 e1 e2 e3 = call_judged (MisusesLoop (attribute (name of) k) w) (λ h. differs (sym h.0 ∙ e2)) (a_block k) (λ h. cc) w (attribute (name of) k) ts ps
-      by false false b3 e1 e2 e3 =
-          call_judged (MisusesLoop (attribute (name of) k) w) (λ h. differs (sym h.0 ∙ e2)) c (no_cycle_in (given_to of (given world.sources home)) k) w (attribute (name of) k) ts ps
-      by false true false e1 e2 e3 = (e2, inl (other k (codes "cycle") e3))
-      by false true true e1 e2 e3 = cycle_judged (MisusesLoop (attribute (name of) k) w) w (λ h. (e2, inr h)) (in_a_loop e3) (attribute (name of) k) ts ps
+  field_called of k w ts ps = search (arith, rules, same, not_both, call_judged, differs, no_cycle_in, other, cycle_judged)
 
   -- ---- places
 
@@ -254,55 +185,20 @@ module _ (world : World) (home : Home) where
   OfMacro x ps rule = ⊥
 
   only_arguments : (takes : Bool) (rule : ScopeError) → OfArguments takes rule → takes ≡ false
-  only_arguments takes error.BadArguments h = h
-  only_arguments takes error.LoopOutside h = absurd h
-  only_arguments takes error.MacroAsValue h = absurd h
-  only_arguments takes error.NotCallable h = absurd h
-  only_arguments takes error.TooManySlots h = absurd h
-  only_arguments takes error.NoMemory h = absurd h
+  only_arguments takes a1 h = search (arith, rules)
 
   field_judged : (k : Text) (w : Within) → Judged (refused (not (w.in_loop && is_some (field_named k))) error.LoopOutside) (OfField k w)
   field_judged k w = by w.in_loop (field_named k) refl refl
     where
       right : w.in_loop ≡ true → (f : Field) → field_named k ≡ Some f → (rule : ScopeError) → OfField k w rule → ⊥
-      right e f g error.LoopOutside (inl h) = differs (sym e ∙ h)
-      right e f g error.LoopOutside (inr h) = absurd (cc)
-      right e f g error.MacroAsValue h = h
-      right e f g error.NotCallable h = h
-      right e f g error.BadArguments h = h
-      right e f g error.TooManySlots h = h
-      right e f g error.NoMemory h = h
+      right e f g a3 a4 = search (arith, rules, differs)
 
       by : (b : Bool) (o : Option Field) → w.in_loop ≡ b → field_named k ≡ o → Judged (refused (not (b && is_some o)) error.LoopOutside) (OfField k w)
-      by false o e g = inl e
-      by true None e g = inr g
-      by true (Some f) e g = right e f g
+      by a0 a1 e g = search (arith, rules, right)
 
   macro_judged : (x : Text) (ps : List Parameter)
       → Judged (option_or (read_alone x) (option_or (unless (not (repeated (parameter_names ps)))) (refused (nat_lt 255 (length ps)) error.TooManySlots))) (OfMacro x ps)
-  macro_judged x ps = by (bytes_eq x (codes "loop")) (bytes_eq x (codes "self")) (bytes_eq x (codes "super")) (bytes_eq x (codes "range")) (repeated (parameter_names ps)) (nat_lt 255 (length ps)) refl refl refl refl refl refl
-    where
-      right : bytes_eq x (codes "loop") ≡ false → bytes_eq x (codes "self") ≡ false → bytes_eq x (codes "super") ≡ false → bytes_eq x (codes "range") ≡ false
-          → repeated (parameter_names ps) ≡ false → nat_lt 255 (length ps) ≡ false → (rule : ScopeError) → OfMacro x ps rule → ⊥
-      right e1 e2 e3 e4 e5 e6 error.LoopOutside h = other x (codes "loop") e1 h
-      right e1 e2 e3 e4 e5 e6 error.MacroAsValue h = h
-      right e1 e2 e3 e4 e5 e6 error.NotCallable (inl h) = other x (codes "self") e2 h
-      right e1 e2 e3 e4 e5 e6 error.NotCallable (inr (inl h)) = other x (codes "super") e3 h
-      right e1 e2 e3 e4 e5 e6 error.NotCallable (inr (inr h)) = other x (codes "range") e4 h
-      right e1 e2 e3 e4 e5 e6 error.BadArguments h = differs (sym h ∙ e5)
-      right e1 e2 e3 e4 e5 e6 error.TooManySlots h = absurd (grind (arith, nat_tests))
-      right e1 e2 e3 e4 e5 e6 error.NoMemory h = h
-
-      by : (b1 b2 b3 b4 r m : Bool) → bytes_eq x (codes "loop") ≡ b1 → bytes_eq x (codes "self") ≡ b2 → bytes_eq x (codes "super") ≡ b3 → bytes_eq x (codes "range") ≡ b4
-          → repeated (parameter_names ps) ≡ r → nat_lt 255 (length ps) ≡ m
-          → Judged (option_or (if b1 then Some error.LoopOutside else if b2 || (b3 || b4) then Some error.NotCallable else None) (option_or (unless (not r)) (refused m error.TooManySlots))) (OfMacro x ps)
-      by true b2 b3 b4 r m e1 e2 e3 e4 e5 e6 = same x (codes "loop") e1
-      by false true b3 b4 r m e1 e2 e3 e4 e5 e6 = inl (same x (codes "self") e2)
-      by false false true b4 r m e1 e2 e3 e4 e5 e6 = inr (inl (same x (codes "super") e3))
-      by false false false true r m e1 e2 e3 e4 e5 e6 = inr (inr (same x (codes "range") e4))
-      by false false false false true m e1 e2 e3 e4 e5 e6 = e5
-      by false false false false false true e1 e2 e3 e4 e5 e6 = grind (arith, nat_tests)
-      by false false false false false false e1 e2 e3 e4 e5 e6 = right e1 e2 e3 e4 e5 e6
+  macro_judged x ps = search (arith, rules, nat_lt, other, differs, nat_tests, same)
 
   -- a filter takes its arguments, and what they name is named rightly
   abbrev filter_right : Option ℕ → Exprs → trees.Pairs → Bool
@@ -340,10 +236,7 @@ module _ (world : World) (home : Home) where
 
   -- what is asked of the first places is asked before and behind the others
   around_others : (a b c : Option ScopeError) (xs ys : List Spot) → Tells (option_or a c) xs → Tells b ys → Tells (option_or a (option_or b c)) (xs ++ ys)
-  around_others None None None xs ys h k = in_turn None None xs ys h k
-  around_others None None (Some r) xs ys h k = some_left (Of r) xs ys h
-  around_others None (Some r) c xs ys h k = some_right (Of r) xs ys k
-  around_others (Some r) b c xs ys h k = some_left (Of r) xs ys h
+  around_others a0 a1 a2 xs ys h k = search (arith, rules, in_turn, some_left, some_right)
 
   grouped : (a b c : Option ScopeError) → option_or (option_or a b) c ≡ option_or a (option_or b c)
   grouped None b c = refl
@@ -364,9 +257,7 @@ module _ (world : World) (home : Home) where
   found_in_front (Some r) xs ys h = some_left (Of r) xs ys h
 
   found_in_turn : (a b : Option ScopeError) (xs ys : List Spot) → Found a xs → Tells b ys → Found (option_or a b) (xs ++ ys)
-  found_in_turn None None xs ys h k = tt
-  found_in_turn None (Some r) xs ys h k = some_right (Of r) xs ys k
-  found_in_turn (Some r) b xs ys h k = some_left (Of r) xs ys h
+  found_in_turn a0 a1 xs ys h k = search (arith, rules, some_right, some_left)
 
   found_behind : (o : Option ScopeError) (ws xs ys : List Spot) → Tells o xs → Found o ((ws ++ xs) ++ ys)
   found_behind None ws xs ys h = tt
@@ -383,26 +274,10 @@ module _ (world : World) (home : Home) where
   all_bound_told (x ∷ xs) w = in_turn (used world home x) (all_used world home xs) (at w (binds x)) (bound xs w) (bound_told x w) (all_bound_told xs w)
 
   filter_told : (x : Text) (ts : Exprs) (ps : trees.Pairs) (w : Within) → Tells (filter_broken world.filters (world.filters.named x ts ps) ts ps) (at w (filters x ts ps))
-  filter_told x ts ps w = by (world.filters.named x ts ps) refl
-    where
-      by : (o : Option ℕ) → world.filters.named x ts ps ≡ o → Tells (filter_broken world.filters o ts ps) (at w (filters x ts ps))
-      by None e = one None (filters x ts ps) w (λ rule h. differs (ap (λ o. filter_right o ts ps) (sym e) ∙ only_arguments (filter_right (world.filters.named x ts ps) ts ps) rule h))
-      by (Some f) e =
-          let is : filter_right (Some f) ts ps ≡ filter_right (world.filters.named x ts ps) ts ps = ap (λ o. filter_right o ts ps) (sym e) in
-          one (unless (filter_right (Some f) ts ps)) (filters x ts ps) w
-          (judged_unless (OfArguments (filter_right (world.filters.named x ts ps) ts ps)) (filter_right (Some f) ts ps) (λ g. sym is ∙ g)
-          (λ rule h. is ∙ only_arguments (filter_right (world.filters.named x ts ps) ts ps) rule h))
+  filter_told x ts ps w = search (arith, rules, one, differs, only_arguments, judged_unless)
 
   test_told : (x : Text) (ts : Exprs) (ps : trees.Pairs) (w : Within) → Tells (test_broken (test_named x) ts ps) (at w (tests x ts ps))
-  test_told x ts ps w = by (test_named x) refl
-    where
-      by : (o : Option TestId) → test_named x ≡ o → Tells (test_broken o ts ps) (at w (tests x ts ps))
-      by None e = one None (tests x ts ps) w (λ rule h. differs (ap (λ o. test_takes o ts ps) (sym e) ∙ only_arguments (test_takes (test_named x) ts ps) rule h))
-      by (Some t) e =
-          let right = test_takes (Some t) ts ps in
-          let is : right ≡ test_takes (test_named x) ts ps = ap (λ o. test_takes o ts ps) (sym e) in
-          one (unless right) (tests x ts ps) w
-          (judged_unless (OfArguments (test_takes (test_named x) ts ps)) right (λ g. sym is ∙ g) (λ rule h. is ∙ only_arguments (test_takes (test_named x) ts ps) rule h))
+  test_told x ts ps w = search (arith, rules, one, differs, only_arguments, judged_unless)
 
   field_told : (b : Bool) (k : Text) (w : Within) (o : Option ScopeError) (ss : List Spot) → Tells o ss
       → Tells (if b then refused (not (w.in_loop && is_some (field_named k))) error.LoopOutside else o) (if b then at w (asks_loop k) else ss)
@@ -427,9 +302,7 @@ module _ (world : World) (home : Home) where
   unnamed f w ts ps xs e (Some r) h = h
 
   head_told : (f : Expr) (w : Within) (ts : Exprs) (ps : trees.Pairs) → Found (called_broken world home f w) (called_spots f w ts ps) → Tells (head f w ts ps) (called_spots f w ts ps)
-  head_told (name x) w ts ps h = one (head (name x) w ts ps) (calls (name x) ts ps) w (name_called x w ts ps)
-  head_told (attribute (name of) k) w ts ps h = one (head (attribute (name of) k) w ts ps) (calls (attribute (name of) k) ts ps) w (field_called of k w ts ps)
-  head_told f w ts ps h = unnamed f w ts ps (expr_spots f w) refl (called_broken world home f w) h
+  head_told a0 w ts ps h = search (arith, rules, one, name_called, field_called, unnamed)
 
   call_told : (f : Expr) (w : Within) (ts : Exprs) (ps : trees.Pairs) (o : Option ScopeError) (ss : List Spot) → Found (called_broken world home f w) (called_spots f w ts ps) → Tells o ss
       → Tells (option_or (called_broken world home f w) (option_or (call_broken world home (callee world.sources (given world.sources home) f) w f ts ps) o)) (called_spots f w ts ps ++ ss)
@@ -438,20 +311,11 @@ module _ (world : World) (home : Home) where
       (in_turn (head f w ts ps) o (called_spots f w ts ps) ss (head_told f w ts ps h) k)
 
   name_found : (x : Text) (w : Within) (ts : Exprs) (ps : trees.Pairs) → Found (refused (bytes_eq x (codes "loop")) error.LoopOutside) (at w (calls (name x) ts ps))
-  name_found x w ts ps = by (bytes_eq x (codes "loop")) refl
-    where
-      by : (b : Bool) → bytes_eq x (codes "loop") ≡ b → Found (refused b error.LoopOutside) (at w (calls (name x) ts ps))
-      by true e = inl (same x (codes "loop") e)
-      by false e = tt
+  name_found x w ts ps = search (arith, rules, same)
 
   field_found : (of k : Text) (w : Within) (ts : Exprs) (ps : trees.Pairs)
       → Found (refused (bytes_eq of (codes "loop") && not (bytes_eq k (codes "cycle"))) error.LoopOutside) (at w (calls (attribute (name of) k) ts ps))
-  field_found of k w ts ps = by (bytes_eq of (codes "loop")) (bytes_eq k (codes "cycle")) refl refl
-    where
-      by : (b c : Bool) → bytes_eq of (codes "loop") ≡ b → bytes_eq k (codes "cycle") ≡ c → Found (refused (b && not c) error.LoopOutside) (at w (calls (attribute (name of) k) ts ps))
-      by true false e g = inl (e, inl (other k (codes "cycle") g))
-      by true true e g = tt
-      by false c e g = tt
+  field_found of k w ts ps = search (arith, rules, other)
 
   -- ---- expressions
 
@@ -464,25 +328,13 @@ module _ (world : World) (home : Home) where
     told (map_of ps) w = pairs_told ps w
     told (attribute a k) w = field_told (is_loop a) k w (broken world home a w) (expr_spots a w) (told a w)
     told (item a b) w = in_turn (broken world home a w) (broken world home b w) (expr_spots a w) (expr_spots b w) (told a w) (told b w)
-    told (call f ts ps) w =
-        call_told f w ts ps (option_or (row_broken world home ts w) (pairs_broken world home ps w)) (row_spots ts w ++ pair_spots ps w) (called_told f w ts ps)
-        (in_turn (row_broken world home ts w) (pairs_broken world home ps w) (row_spots ts w) (pair_spots ps w) (row_told ts w) (pairs_told ps w))
-    told (filter a x ts ps) w =
-        in_turn (filter_broken world.filters (world.filters.named x ts ps) ts ps) (option_or (broken world home a w) (option_or (row_broken world home ts w) (pairs_broken world home ps w)))
-        (at w (filters x ts ps)) (expr_spots a w ++ (row_spots ts w ++ pair_spots ps w)) (filter_told x ts ps w)
-        (in_turn (broken world home a w) (option_or (row_broken world home ts w) (pairs_broken world home ps w)) (expr_spots a w) (row_spots ts w ++ pair_spots ps w) (told a w)
-        (in_turn (row_broken world home ts w) (pairs_broken world home ps w) (row_spots ts w) (pair_spots ps w) (row_told ts w) (pairs_told ps w)))
-    told (test a n x ts ps) w =
-        in_turn (test_broken (test_named x) ts ps) (option_or (broken world home a w) (option_or (row_broken world home ts w) (pairs_broken world home ps w)))
-        (at w (tests x ts ps)) (expr_spots a w ++ (row_spots ts w ++ pair_spots ps w)) (test_told x ts ps w)
-        (in_turn (broken world home a w) (option_or (row_broken world home ts w) (pairs_broken world home ps w)) (expr_spots a w) (row_spots ts w ++ pair_spots ps w) (told a w)
-        (in_turn (row_broken world home ts w) (pairs_broken world home ps w) (row_spots ts w) (pair_spots ps w) (row_told ts w) (pairs_told ps w)))
+    told (call f ts ps) w = search (arith, rules, call_told, called_told f w ts ps, in_turn, row_told ts w, pairs_told ps w)
+    told (filter a x ts ps) w = search (arith, rules, in_turn, filter_told, told a w, row_told ts w, pairs_told ps w)
+    told (test a n x ts ps) w = search (arith, rules, in_turn, test_told, told a w, row_told ts w, pairs_told ps w)
     told (unary o a) w = told a w
     told (binary o a b) w = in_turn (broken world home a w) (broken world home b w) (expr_spots a w) (expr_spots b w) (told a w) (told b w)
     told (when c a) w = in_turn (broken world home c w) (broken world home a w) (expr_spots c w) (expr_spots a w) (told c w) (told a w)
-    told (choice c a b) w =
-        in_turn (broken world home c w) (option_or (broken world home a w) (broken world home b w)) (expr_spots c w) (expr_spots a w ++ expr_spots b w) (told c w)
-        (in_turn (broken world home a w) (broken world home b w) (expr_spots a w) (expr_spots b w) (told a w) (told b w))
+    told (choice c a b) w = search (arith, rules, in_turn, told c w, told a w, told b w)
 
     -- what is found in an expression that is called
     called_told : (f : Expr) (w : Within) (ts : Exprs) (ps : trees.Pairs) → Found (called_broken world home f w) (called_spots f w ts ps)
@@ -493,32 +345,14 @@ module _ (world : World) (home : Home) where
     called_told (map_of qs) w ts ps = found (pairs_broken world home qs w) (pair_spots qs w) (at w (calls (map_of qs) ts ps)) (pairs_told qs w)
     called_told (attribute (name of) k) w ts ps = field_found of k w ts ps
     called_told (attribute a k) w ts ps = found (broken world home a w) (expr_spots a w) (at w (calls (attribute a k) ts ps)) (told a w)
-    called_told (item a b) w ts ps =
-        found (option_or (broken world home a w) (broken world home b w)) (expr_spots a w ++ expr_spots b w) (at w (calls (item a b) ts ps))
-        (in_turn (broken world home a w) (broken world home b w) (expr_spots a w) (expr_spots b w) (told a w) (told b w))
-    called_told (call g us qs) w ts ps =
-        found_in_front (option_or (called_broken world home g w) (option_or (row_broken world home us w) (pairs_broken world home qs w))) (called_spots g w us qs ++ (row_spots us w ++ pair_spots qs w)) (at w (calls (call g us qs) ts ps))
-        (found_in_turn (called_broken world home g w) (option_or (row_broken world home us w) (pairs_broken world home qs w)) (called_spots g w us qs) (row_spots us w ++ pair_spots qs w) (called_told g w us qs)
-        (in_turn (row_broken world home us w) (pairs_broken world home qs w) (row_spots us w) (pair_spots qs w) (row_told us w) (pairs_told qs w)))
-    called_told (filter a x us qs) w ts ps =
-        found_behind (option_or (broken world home a w) (option_or (row_broken world home us w) (pairs_broken world home qs w))) (at w (filters x us qs)) (expr_spots a w ++ (row_spots us w ++ pair_spots qs w)) (at w (calls (filter a x us qs) ts ps))
-        (in_turn (broken world home a w) (option_or (row_broken world home us w) (pairs_broken world home qs w)) (expr_spots a w) (row_spots us w ++ pair_spots qs w) (told a w)
-        (in_turn (row_broken world home us w) (pairs_broken world home qs w) (row_spots us w) (pair_spots qs w) (row_told us w) (pairs_told qs w)))
-    called_told (test a n x us qs) w ts ps =
-        found_behind (option_or (broken world home a w) (option_or (row_broken world home us w) (pairs_broken world home qs w))) (at w (tests x us qs)) (expr_spots a w ++ (row_spots us w ++ pair_spots qs w)) (at w (calls (test a n x us qs) ts ps))
-        (in_turn (broken world home a w) (option_or (row_broken world home us w) (pairs_broken world home qs w)) (expr_spots a w) (row_spots us w ++ pair_spots qs w) (told a w)
-        (in_turn (row_broken world home us w) (pairs_broken world home qs w) (row_spots us w) (pair_spots qs w) (row_told us w) (pairs_told qs w)))
+    called_told (item a b) w ts ps = search (arith, rules, found, in_turn, told a w, told b w)
+    called_told (call g us qs) w ts ps = search (arith, rules, found_in_front, found_in_turn, called_told g w us qs, in_turn, row_told us w, pairs_told qs w)
+    called_told (filter a x us qs) w ts ps = search (arith, rules, found_behind, in_turn, told a w, row_told us w, pairs_told qs w)
+    called_told (test a n x us qs) w ts ps = search (arith, rules, found_behind, in_turn, told a w, row_told us w, pairs_told qs w)
     called_told (unary o a) w ts ps = found (broken world home a w) (expr_spots a w) (at w (calls (unary o a) ts ps)) (told a w)
-    called_told (binary o a b) w ts ps =
-        found (option_or (broken world home a w) (broken world home b w)) (expr_spots a w ++ expr_spots b w) (at w (calls (binary o a b) ts ps))
-        (in_turn (broken world home a w) (broken world home b w) (expr_spots a w) (expr_spots b w) (told a w) (told b w))
-    called_told (when c a) w ts ps =
-        found (option_or (broken world home c w) (broken world home a w)) (expr_spots c w ++ expr_spots a w) (at w (calls (when c a) ts ps))
-        (in_turn (broken world home c w) (broken world home a w) (expr_spots c w) (expr_spots a w) (told c w) (told a w))
-    called_told (choice c a b) w ts ps =
-        found (option_or (broken world home c w) (option_or (broken world home a w) (broken world home b w))) (expr_spots c w ++ (expr_spots a w ++ expr_spots b w)) (at w (calls (choice c a b) ts ps))
-        (in_turn (broken world home c w) (option_or (broken world home a w) (broken world home b w)) (expr_spots c w) (expr_spots a w ++ expr_spots b w) (told c w)
-        (in_turn (broken world home a w) (broken world home b w) (expr_spots a w) (expr_spots b w) (told a w) (told b w)))
+    called_told (binary o a b) w ts ps = search (arith, rules, found, in_turn, told a w, told b w)
+    called_told (when c a) w ts ps = search (arith, rules, found, in_turn, told c w, told a w)
+    called_told (choice c a b) w ts ps = search (arith, rules, found, in_turn, told c w, told a w, told b w)
 
     row_told : (ts : Exprs) (w : Within) → Tells (row_broken world home ts w) (row_spots ts w)
     row_told no_exprs w = nothing
@@ -536,12 +370,7 @@ module _ (world : World) (home : Home) where
 
   filtering_told : (fs : List Filtering) (w : Within) → Tells (filtering_broken world home fs w) (filtering_spots fs w)
   filtering_told [] w = nothing
-  filtering_told (f ∷ fs) w =
-      in_turn (filter_broken world.filters (world.filters.named f.name f.arguments f.keywords) f.arguments f.keywords)
-      (option_or (row_broken world home f.arguments w) (option_or (pairs_broken world home f.keywords w) (filtering_broken world home fs w)))
-      (at w (filters f.name f.arguments f.keywords)) (row_spots f.arguments w ++ (pair_spots f.keywords w ++ filtering_spots fs w)) (filter_told f.name f.arguments f.keywords w)
-      (in_turn (row_broken world home f.arguments w) (option_or (pairs_broken world home f.keywords w) (filtering_broken world home fs w)) (row_spots f.arguments w) (pair_spots f.keywords w ++ filtering_spots fs w) (row_told f.arguments w)
-      (in_turn (pairs_broken world home f.keywords w) (filtering_broken world home fs w) (pair_spots f.keywords w) (filtering_spots fs w) (pairs_told f.keywords w) (filtering_told fs w)))
+  filtering_told (f ∷ fs) w = search (arith, rules, in_turn, filter_told, row_told, pairs_told, filtering_told fs w)
 
   macro_told : (x : Text) (ps : List Parameter) (w : Within) → Tells (macro_broken world home x ps) (at w (declares x ps) ++ bound (parameter_names ps) w)
   macro_told x ps w =
@@ -551,11 +380,7 @@ module _ (world : World) (home : Home) where
       (all_bound_told (parameter_names ps) w)
 
   import_judged : (x : Text) → Judged (read_alone x) (OfName false x)
-  import_judged x = subst (λ (o : Option ScopeError). Judged o (OfName false x)) (or_none (read_alone x)) (name_judged x false)
-    where
-      or_none : (o : Option ScopeError) → option_or o None ≡ o
-      or_none None = refl
-      or_none (Some r) = refl
+  import_judged x = search (arith, rules, name_judged)
 
   imports_told : (xs : List (Text × Text)) (w : Within) → Tells (imports_broken world home xs) (named_imports xs w)
   imports_told [] w = nothing
@@ -564,32 +389,16 @@ module _ (world : World) (home : Home) where
 
   mutual
     stmt_told : (s : Stmt) (w : Within) → Tells (stmt_broken world home s w) (stmt_spots s w)
-    stmt_told (data_of t) w = nothing
-    stmt_told (print line e) w = told e w
     stmt_told (choose bs others) w = in_turn (branches_broken world home bs w) (body_broken world home others w) (branch_spots bs w) (body_spots others w) (branches_told bs w) (body_told others w)
-    stmt_told (for_each line xs e c body others) w =
-        let v : Within = record w { in_loop = true } in
-        let turns = option_or (body_broken world home body v) (body_broken world home others w) in
-        let rest = option_or (condition_broken world home c w) turns in
-        let turn_spots = body_spots body v ++ body_spots others w in
-        in_turn (broken world home e w) (option_or (all_used world home xs) rest) (expr_spots e w) (bound xs w ++ (condition_spots c w ++ turn_spots)) (told e w)
-        (in_turn (all_used world home xs) rest (bound xs w) (condition_spots c w ++ turn_spots) (all_bound_told xs w)
-        (in_turn (condition_broken world home c w) turns (condition_spots c w) turn_spots (condition_told c w)
-        (in_turn (body_broken world home body v) (body_broken world home others w) (body_spots body v) (body_spots others w) (body_told body v) (body_told others w))))
-    stmt_told (set line xs e) w = in_turn (broken world home e w) (all_used world home xs) (expr_spots e w) (bound xs w) (told e w) (all_bound_told xs w)
+    stmt_told (for_each line xs e c body others) w = search (arith, rules, in_turn, told, all_bound_told, condition_told, body_told body, body_told others w)
     stmt_told (set_block line x body) w = in_turn (used world home x) (body_broken world home body w) (at w (binds x)) (body_spots body w) (bound_told x w) (body_told body w)
-    stmt_told (with_values line ps body) w =
-        in_turn (pairs_broken world home ps w) (option_or (all_used world home (keywords ps)) (body_broken world home body w)) (pair_spots ps w) (bound (keywords ps) w ++ body_spots body w) (pairs_told ps w)
-        (in_turn (all_used world home (keywords ps)) (body_broken world home body w) (bound (keywords ps) w) (body_spots body w) (all_bound_told (keywords ps) w) (body_told body w))
+    stmt_told (with_values line ps body) w = search (arith, rules, in_turn, pairs_told, all_bound_told, body_told body w)
     stmt_told (filter_block line fs body) w = in_turn (filtering_broken world home fs w) (body_broken world home body w) (filtering_spots fs w) (body_spots body w) (filtering_told fs w) (body_told body w)
     stmt_told (autoescape line on body) w = body_told body w
     stmt_told (macro line x ps body) w =
         in_turn (macro_broken world home x ps) (body_broken world home body outside) (at w (declares x ps) ++ bound (parameter_names ps) w) (body_spots body outside) (macro_told x ps w) (body_told body outside)
-    stmt_told (include line n ignore_missing with_context) w = nothing
-    stmt_told (import_as line n x) w = one (read_alone x) (names_import x) w (import_judged x)
-    stmt_told (import_from line n xs) w = imports_told xs w
-    stmt_told (extends line n) w = nothing
     stmt_told (block line x scoped required body) w = body_told body (record { in_loop = false; in_block = true })
+    stmt_told a0 w = search (arith, rules, nothing, told, in_turn, all_bound_told, one, import_judged, imports_told)
 
     body_told : (b : Body) (w : Within) → Tells (body_broken world home b w) (body_spots b w)
     body_told end w = nothing
@@ -597,9 +406,7 @@ module _ (world : World) (home : Home) where
 
     branches_told : (bs : Branches) (w : Within) → Tells (branches_broken world home bs w) (branch_spots bs w)
     branches_told no_branches w = nothing
-    branches_told (branch line c body rest) w =
-        in_turn (option_or (broken world home c w) (body_broken world home body w)) (branches_broken world home rest w) (expr_spots c w ++ body_spots body w) (branch_spots rest w)
-        (in_turn (broken world home c w) (body_broken world home body w) (expr_spots c w) (body_spots body w) (told c w) (body_told body w)) (branches_told rest w)
+    branches_told (branch line c body rest) w = search (arith, rules, in_turn, told, body_told body w, branches_told rest w)
 
   -- ---- templates
 
@@ -612,12 +419,7 @@ module _ (world : World) (home : Home) where
   InTemplates ts rule = ForSome (Of rule) (flat_map (λ t. body_spots t.body outside) ts) ⊎ OfNumber ts rule
 
   later : (t : Template) (ts : List Template) (rule : ScopeError) → OfNumber ts rule → OfNumber (t ∷ ts) rule
-  later t ts error.LoopOutside h = h
-  later t ts error.MacroAsValue h = h
-  later t ts error.NotCallable h = h
-  later t ts error.BadArguments h = h
-  later t ts error.TooManySlots h = inr h
-  later t ts error.NoMemory h = h
+  later t ts a2 h = search (arith, rules)
 
   -- no number is passed, where neither the first template's nor another's is
   few : (t : Template) (ts : List Template) → nat_lt 4096 (body_bound t.body) ≡ false → ((rule : ScopeError) → OfNumber ts rule → ⊥) → (rule : ScopeError) → OfNumber (t ∷ ts) rule → ⊥
@@ -641,15 +443,7 @@ module _ (world : World) (home : Home) where
       neither rule (inr q) = few t ts e (λ r n. k r (inr n)) rule q
 
   templates_told : (ts : List Template) → Judged (templates_broken world home ts) (InTemplates ts)
-  templates_told [] = λ rule h. elim h [ inl p ↦ p | inr q ↦ of_none rule q ]
-    where
-      of_none : (rule : ScopeError) → OfNumber [] rule → ⊥
-      of_none error.LoopOutside h = h
-      of_none error.MacroAsValue h = h
-      of_none error.NotCallable h = h
-      of_none error.BadArguments h = h
-      of_none error.TooManySlots h = h
-      of_none error.NoMemory h = h
+  templates_told [] = search (arith, rules)
   templates_told (t ∷ ts) =
       template_told t ts (body_broken world home t.body outside) (templates_broken world home ts) (body_spots t.body outside) (nat_lt 4096 (body_bound t.body)) refl (body_told t.body outside) (templates_told ts)
 
@@ -664,14 +458,10 @@ module _ (world : World) (home : Home) where
   loop_back u w h = h
 
   macro_to : (u : Use) (w : Within) → At u w error.MacroAsValue → MacroAsValue world home u w
-  macro_to (reads x) w h = h
-  macro_to (names_import x) w h = absurd (differs (sym h))
-  macro_to u w h = h
+  macro_to a0 w h = search (arith, rules, differs)
 
   macro_back : (u : Use) (w : Within) → MacroAsValue world home u w → At u w error.MacroAsValue
-  macro_back (reads x) w h = h
-  macro_back (names_import x) w h = absurd h
-  macro_back u w h = h
+  macro_back a0 w h = search (arith, rules)
 
   called_to : (u : Use) (w : Within) → At u w error.NotCallable → NotCallable world home u w
   called_to (reads x) w h = h
@@ -710,77 +500,39 @@ module _ (world : World) (home : Home) where
   By P s = P s.use_made s.around
 
   broken_in : (rule : ScopeError) → InTemplates (templates world.sources home) rule → BrokenIn world home rule
-  broken_in error.LoopOutside (inl p) = some_as (Of error.LoopOutside) (By (LoopOutside world home)) (λ s. loop_to s.use_made s.around) (chain_spots world.sources home) p
-  broken_in error.LoopOutside (inr q) = absurd q
-  broken_in error.MacroAsValue (inl p) = some_as (Of error.MacroAsValue) (By (MacroAsValue world home)) (λ s. macro_to s.use_made s.around) (chain_spots world.sources home) p
-  broken_in error.MacroAsValue (inr q) = absurd q
-  broken_in error.NotCallable (inl p) = some_as (Of error.NotCallable) (By (NotCallable world home)) (λ s. called_to s.use_made s.around) (chain_spots world.sources home) p
-  broken_in error.NotCallable (inr q) = absurd q
-  broken_in error.BadArguments (inl p) = some_as (Of error.BadArguments) (By (BadArguments world home)) (λ s. arguments_to s.use_made s.around) (chain_spots world.sources home) p
-  broken_in error.BadArguments (inr q) = absurd q
-  broken_in error.TooManySlots (inl p) = inl (some_as (Of error.TooManySlots) (By (TooManyParameters world home)) (λ s. slots_to s.use_made s.around) (chain_spots world.sources home) p)
-  broken_in error.TooManySlots (inr q) = inr q
-  broken_in error.NoMemory (inl p) = no_memory (chain_spots world.sources home) p
-  broken_in error.NoMemory (inr q) = q
+  broken_in a0 a1 = search (arith, rules, some_as, loop_to, macro_to, called_to, arguments_to, slots_to, no_memory)
 
   in_templates : (rule : ScopeError) → BrokenIn world home rule → InTemplates (templates world.sources home) rule
-  in_templates error.LoopOutside h = inl (some_as (By (LoopOutside world home)) (Of error.LoopOutside) (λ s. loop_back s.use_made s.around) (chain_spots world.sources home) h)
-  in_templates error.MacroAsValue h = inl (some_as (By (MacroAsValue world home)) (Of error.MacroAsValue) (λ s. macro_back s.use_made s.around) (chain_spots world.sources home) h)
-  in_templates error.NotCallable h = inl (some_as (By (NotCallable world home)) (Of error.NotCallable) (λ s. called_back s.use_made s.around) (chain_spots world.sources home) h)
-  in_templates error.BadArguments h = inl (some_as (By (BadArguments world home)) (Of error.BadArguments) (λ s. arguments_back s.use_made s.around) (chain_spots world.sources home) h)
-  in_templates error.TooManySlots (inl h) = inl (some_as (By (TooManyParameters world home)) (Of error.TooManySlots) (λ s. slots_back s.use_made s.around) (chain_spots world.sources home) h)
-  in_templates error.TooManySlots (inr h) = inr h
-  in_templates error.NoMemory h = absurd h
+  in_templates a0 a1 = search (arith, rules, some_as, loop_back, macro_back, called_back, arguments_back, slots_back)
 
 -- ---- chains
 
 judged_or : (P Q : ScopeError → Type 0) (a b : Option ScopeError) → Judged a P → Judged b Q → Judged (option_or a b) (λ rule. P rule ⊎ Q rule)
-judged_or P Q None None h k = λ rule all. elim all [ inl p ↦ h rule p | inr q ↦ k rule q ]
-judged_or P Q None (Some r) h k = inr k
-judged_or P Q (Some r) b h k = inl h
+judged_or a0 a1 a2 a3 h k = search (arith, rules)
 
 abbrev InChain : World → ScopeError → Home → Type 0
 InChain world rule h = InTemplates world h (templates world.sources h) rule
 
 chains_told : (world : World) (order : List Home) → Judged (chains_broken world order) (λ rule. ForSome (InChain world rule) order)
 chains_told world [] = λ rule h. h
-chains_told world (h ∷ hs) =
-    judged_or (λ rule. InChain world rule h) (λ rule. ForSome (InChain world rule) hs) (templates_broken world h (templates world.sources h)) (chains_broken world hs)
-    (templates_told world h (templates world.sources h)) (chains_told world hs)
+chains_told world (h ∷ hs) = search (arith, rules, judged_or, templates_told, chains_told world hs)
 
 abbrev BrokenThere : World → ScopeError → Home → Type 0
 BrokenThere world rule h = BrokenIn world h rule
 
 broken_of : (world : World) (order : List Home) (rule : ScopeError) → ForSome (BrokenThere world rule) order → Broken rule world order
 broken_of world order error.LoopOutside h = h
-broken_of world order error.MacroAsValue h = h
-broken_of world order error.NotCallable h = h
-broken_of world order error.BadArguments h = h
-broken_of world order error.TooManySlots h = inl h
-broken_of world order error.NoMemory h = h
+broken_of world order a2 h = search (arith, rules)
 
 found_of : (world : World) (order : List Home) → names_counted world order ≤ 65535 → (rule : ScopeError) → Broken rule world order → ForSome (BrokenThere world rule) order
-found_of world order few error.LoopOutside h = h
-found_of world order few error.MacroAsValue h = h
-found_of world order few error.NotCallable h = h
-found_of world order few error.BadArguments h = h
-found_of world order few error.TooManySlots (inl h) = h
-found_of world order few error.TooManySlots (inr h) = absurd (omega (arith, few, h))
-found_of world order few error.NoMemory h = h
+found_of world order few a3 a4 = search (arith, rules, few)
 
 -- the rule that the walk answers is broken
 pub answered : (world : World) (order : List Home) (rule : ScopeError) → chains_broken world order ≡ Some rule → Broken rule world order
-answered world order rule e =
-    broken_of world order rule (some_as (InChain world rule) (BrokenThere world rule) (λ h. broken_in world h rule) order
-    (subst (λ (o : Option ScopeError). Judged o (λ r. ForSome (InChain world r) order)) e (chains_told world order)))
+answered world order rule e = search (arith, rules, broken_of world order rule, some_as, broken_in world, chains_told world order)
 
 pub broken_breaks : (world : World) (order : List Home) (rule : ScopeError) → Broken rule world order → Breaks rule world order
-broken_breaks world order error.LoopOutside h = h
-broken_breaks world order error.MacroAsValue h = h
-broken_breaks world order error.NotCallable h = h
-broken_breaks world order error.BadArguments h = h
-broken_breaks world order error.TooManySlots h = h
-broken_breaks world order error.NoMemory h = tt
+broken_breaks world order a2 h = search (arith, rules)
 
 -- where it answers none, and the names are few, no rule is broken
 pub keeps : (world : World) (order : List Home) → chains_broken world order ≡ None → names_counted world order ≤ 65535 → KeepsRules world order

@@ -16,9 +16,12 @@ abbrev pub no_keywords : trees.Pairs → Bool
 no_keywords no_pairs = true
 no_keywords (pair k a ps) = false
 
--- `n` arguments by place and these by name fit parameters: not too many, none twice, and each name is one of a parameter that is left
+-- `n` arguments by place and these by name fit parameters: not too many, none twice, and each name
+-- is one of a parameter that is left
 abbrev pub fits : List Parameter → ℕ → List Text → Bool
-fits ps n ks = not (nat_lt (length ps) n) && (not (repeated ks) && not (list_any (λ k. not (among k (map (λ p. p.name) (drop n ps)))) ks))
+fits ps n ks =
+    not (nat_lt (length ps) n)
+    && (not (repeated ks) && not (list_any (λ k. not (among k (map (λ p. p.name) (drop n ps)))) ks))
 
 -- what is called takes these arguments; where it can't be called at all, another rule is broken
 abbrev pub callee_takes : Callee → Exprs → trees.Pairs → Bool
@@ -29,7 +32,8 @@ callee_takes (a_block x) ts ps = (count ts == 0) && no_keywords ps
 callee_takes a_cycle ts ps = nat_lt 0 (count ts) && no_keywords ps
 callee_takes no_callee ts ps = true
 
--- a test takes its values, the tested one among them, and none by name; a test that there is not is the parser's matter
+-- a test takes its values, the tested one among them, and none by name; a test that there is not is
+-- the parser's matter
 abbrev pub test_takes : Option TestId → Exprs → trees.Pairs → Bool
 test_takes None ts ps = true
 test_takes (Some t) ts ps = (suc (count ts) == test_values t) && no_keywords ps
@@ -43,7 +47,8 @@ reached (p ∷ ps) ks = if some_given (p ∷ ps) ks then suc (reached ps ks) els
 abbrev pub is_filled : List Parameter → ℕ → List Text → Bool
 is_filled [] n ks = true
 is_filled (p ∷ ps) (suc n) ks = is_filled ps n ks
-is_filled (p ∷ ps) zero ks = not (some_given (p ∷ ps) ks) || ((among p.name ks || is_some p.default) && is_filled ps zero ks)
+is_filled (p ∷ ps) zero ks =
+    not (some_given (p ∷ ps) ks) || ((among p.name ks || is_some p.default) && is_filled ps zero ks)
 
 -- a filter takes its values, and by name only what it names
 abbrev pub filter_fits : Filters → ℕ → ℕ → List Text → Bool
@@ -56,8 +61,8 @@ abbrev pub filter_takes : Filters → Option ℕ → ℕ → List Text → Bool
 filter_takes fs None n ks = true
 filter_takes fs (Some f) n ks = filter_fits fs f n ks
 
--- what the arguments of a filter name is named rightly: the filters, tests and keys inside filters over items are text literals, and are
--- called with as many values as they take
+-- what the arguments of a filter name is named rightly: the filters, tests and keys inside filters
+-- over items are text literals, and are called with as many values as they take
 abbrev pub names_rightly : Filters → Option ℕ → Exprs → trees.Pairs → Bool
 names_rightly fs None ts ps = true
 names_rightly fs (Some f) ts ps = fs.inside f ts ps

@@ -23,8 +23,10 @@ module _ (fs : Filters) where
     ExprKnown (attribute a k) = ExprKnown a
     ExprKnown (item a b) = ExprKnown a × ExprKnown b
     ExprKnown (call a ts ps) = RowKnown ts × PairsKnown ps
-    ExprKnown (filter a x ts ps) = IsThere (fs.named x ts ps) × ExprKnown a × RowKnown ts × PairsKnown ps
-    ExprKnown (test a n x ts ps) = IsThere (test_named x) × ExprKnown a × RowKnown ts × PairsKnown ps
+    ExprKnown (filter a x ts ps) =
+        IsThere (fs.named x ts ps) × ExprKnown a × RowKnown ts × PairsKnown ps
+    ExprKnown (test a n x ts ps) =
+        IsThere (test_named x) × ExprKnown a × RowKnown ts × PairsKnown ps
     ExprKnown (unary o a) = ExprKnown a
     ExprKnown (binary o a b) = ExprKnown a × ExprKnown b
     ExprKnown (when c a) = ExprKnown c × ExprKnown a
@@ -44,14 +46,19 @@ module _ (fs : Filters) where
 
   abbrev pub FilteringKnown : List Filtering → Type 0
   FilteringKnown [] = Unit {0}
-  FilteringKnown (f ∷ fs') = IsThere (fs.named f.name f.arguments f.keywords) × RowKnown f.arguments × PairsKnown f.keywords × FilteringKnown fs'
+  FilteringKnown (f ∷ fs') =
+      IsThere (fs.named f.name f.arguments f.keywords)
+      × RowKnown f.arguments
+      × PairsKnown f.keywords
+      × FilteringKnown fs'
 
   abbrev mutual
     pub StmtKnown : Stmt → Type 0
     StmtKnown (data_of t) = Unit {0}
     StmtKnown (print line e) = ExprKnown e
     StmtKnown (choose bs other) = BranchesKnown bs × BodyKnown other
-    StmtKnown (for_each line xs e c body other) = ExprKnown e × ConditionKnown c × BodyKnown body × BodyKnown other
+    StmtKnown (for_each line xs e c body other) =
+        ExprKnown e × ConditionKnown c × BodyKnown body × BodyKnown other
     StmtKnown (set line xs e) = ExprKnown e
     StmtKnown (set_block line x body) = BodyKnown body
     StmtKnown (with_values line ps body) = PairsKnown ps × BodyKnown body
@@ -79,4 +86,5 @@ TemplatesKnown fs (t ∷ ts) = BodyKnown fs t.body × TemplatesKnown fs ts
 
 abbrev pub ChainsKnown : World → List Home → Type 0
 ChainsKnown world [] = Unit {0}
-ChainsKnown world (h ∷ hs) = TemplatesKnown world.filters (templates world.sources h) × ChainsKnown world hs
+ChainsKnown world (h ∷ hs) =
+    TemplatesKnown world.filters (templates world.sources h) × ChainsKnown world hs

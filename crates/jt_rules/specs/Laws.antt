@@ -7,4 +7,5 @@ use Rattle.jt_rules.specs.World.{World}
 
 pub record RulesLaws : Type 0 where
   -- the walk through the chains finds no broken rule
-  pub walked : (world : World) (order : List Home) → KeepsRules world order → chains_broken world order ≡ None
+  pub walked : (world : World) (order : List Home) → KeepsRules world order
+      → chains_broken world order ≡ None

@@ -1,4 +1,5 @@
--- The static rules of names and calls, one predicate each, of one place of a chain or of a library. They are lexical, so a tag that never runs counts.
+-- The static rules of names and calls, one predicate each, of one place of a chain or of a library.
+-- They are lexical, so a tag that never runs counts.
 use Rattle.std.specs.Prelude.{◌≡◌, ◌≢◌, ℕ, ◌+◌, ◌<◌, false, IsTrue, ◌⊎◌, List, [], ◌∷◌, length, codes, None}
 use Rattle.std.specs.Option.{is_some}
 use Rattle.jt_trees.specs.Expressions.{Expr, name, attribute, Text}
@@ -42,7 +43,8 @@ MisusesLoop (attribute a k) w = IsTrue (is_loop a) × ((k ≢ codes "cycle") ⊎
 MisusesLoop f w = ⊥
 
 module _ (world : World) (home : Home) where
-  -- V1: `loop` is read by itself, bound or misused in a call, or a field is read that it has not, or where no loop is around
+  -- V1: `loop` is read by itself, bound or misused in a call, or a field is read that it has not,
+  -- or where no loop is around
   abbrev pub LoopOutside : Use → Within → Type 0
   LoopOutside (reads x) w = x ≡ codes "loop"
   LoopOutside (binds x) w = x ≡ codes "loop"
@@ -58,7 +60,8 @@ module _ (world : World) (home : Home) where
   MacroAsValue (binds x) w = IsTrue (is_some (given_to x (given world.sources home)))
   MacroAsValue u w = ⊥
 
-  -- what can't be called: `super` outside a block, a block that there is not, and all that is no form of a call
+  -- what can't be called: `super` outside a block, a block that there is not, and all that is no
+  -- form of a call
   abbrev pub CannotBeCalled : Callee → Within → Type 0
   CannotBeCalled no_callee w = Unit {0}
   CannotBeCalled a_super w = w.in_block ≡ false
@@ -71,14 +74,18 @@ module _ (world : World) (home : Home) where
   NotCallable (binds x) w = IsOnlyCalled x
   NotCallable (declares x ps) w = IsOnlyCalled x
   NotCallable (names_import x) w = IsOnlyCalled x
-  NotCallable (calls f ts ps) w = CannotBeCalled (callee world.sources (given world.sources home) f) w
+  NotCallable (calls f ts ps) w =
+      CannotBeCalled (callee world.sources (given world.sources home) f) w
   NotCallable u w = ⊥
 
-  -- V4: arguments that are not taken, names inside a filter that are not named rightly, or a parameter that comes twice
+  -- V4: arguments that are not taken, names inside a filter that are not named rightly, or a
+  -- parameter that comes twice
   abbrev pub BadArguments : Use → Within → Type 0
-  BadArguments (calls f ts ps) w = callee_takes (callee world.sources (given world.sources home) f) ts ps ≡ false
+  BadArguments (calls f ts ps) w =
+      callee_takes (callee world.sources (given world.sources home) f) ts ps ≡ false
   BadArguments (filters x ts ps) w =
-      (filter_takes world.filters (world.filters.named x ts ps) (count ts) (keywords ps) ≡ false) ⊎ (names_rightly world.filters (world.filters.named x ts ps) ts ps ≡ false)
+      (filter_takes world.filters (world.filters.named x ts ps) (count ts) (keywords ps) ≡ false)
+      ⊎ (names_rightly world.filters (world.filters.named x ts ps) ts ps ≡ false)
   BadArguments (tests x ts ps) w = test_takes (test_named x) ts ps ≡ false
   BadArguments (declares x ps) w = IsTrue (repeated (parameter_names ps))
   BadArguments u w = ⊥
@@ -102,24 +109,32 @@ module _ (world : World) (home : Home) where
   BrokenIn error.MacroAsValue = Somewhere MacroAsValue
   BrokenIn error.NotCallable = Somewhere NotCallable
   BrokenIn error.BadArguments = Somewhere BadArguments
-  BrokenIn error.TooManySlots = Somewhere TooManyParameters ⊎ ForSome BindsTooMany (templates world.sources home)
+  BrokenIn error.TooManySlots =
+      Somewhere TooManyParameters ⊎ ForSome BindsTooMany (templates world.sources home)
   BrokenIn error.NoMemory = ⊥
 
 -- how many names these libraries read or bind
 abbrev pub libraries_counted : World → List Text → ℕ
 libraries_counted world [] = 0
-libraries_counted world (n ∷ ns) = length (ascending (own_names world.sources (a_library n))) + libraries_counted world ns
+libraries_counted world (n ∷ ns) =
+    length (ascending (own_names world.sources (a_library n))) + libraries_counted world ns
 
--- how many names the chains read or bind, once a chain, and beside them those of the libraries that the chain imports
+-- how many names the chains read or bind, once a chain, and beside them those of the libraries that
+-- the chain imports
 abbrev pub names_counted : World → List Home → ℕ
 names_counted world [] = 0
 names_counted world (a_chain n ∷ hs) =
-    length (ascending (own_names world.sources (a_chain n))) + libraries_counted world (ascending (libraries world.sources (a_chain n))) + names_counted world hs
+    length (ascending (own_names world.sources (a_chain n)))
+    + libraries_counted world (ascending (libraries world.sources (a_chain n)))
+    + names_counted world hs
 names_counted world (a_library n ∷ hs) = names_counted world hs
 
--- a rule is broken in one of the chains and libraries; V5, of all chains: they read or bind too many names
+-- a rule is broken in one of the chains and libraries; V5, of all chains: they read or bind too
+-- many names
 abbrev pub Broken : ScopeError → World → List Home → Type 0
-Broken error.TooManySlots world order = ForSome (λ h. BrokenIn world h error.TooManySlots) order ⊎ (max_names < names_counted world order)
+Broken error.TooManySlots world order =
+    ForSome (λ h. BrokenIn world h error.TooManySlots) order
+    ⊎ (max_names < names_counted world order)
 Broken rule world order = ForSome (λ h. BrokenIn world h rule) order
 
 -- no rule is broken

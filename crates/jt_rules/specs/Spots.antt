@@ -64,9 +64,12 @@ abbrev mutual
   expr_spots (attribute a k) w = if is_loop a then at w (asks_loop k) else expr_spots a w
   expr_spots (item a b) w = expr_spots a w ++ expr_spots b w
   expr_spots (call f ts ps) w =
-      ((if is_called_by_name f then [] else expr_spots f w) ++ at w (calls f ts ps)) ++ (row_spots ts w ++ pair_spots ps w)
-  expr_spots (filter a x ts ps) w = at w (filters x ts ps) ++ (expr_spots a w ++ (row_spots ts w ++ pair_spots ps w))
-  expr_spots (test a n x ts ps) w = at w (tests x ts ps) ++ (expr_spots a w ++ (row_spots ts w ++ pair_spots ps w))
+      ((if is_called_by_name f then [] else expr_spots f w) ++ at w (calls f ts ps))
+      ++ (row_spots ts w ++ pair_spots ps w)
+  expr_spots (filter a x ts ps) w =
+      at w (filters x ts ps) ++ (expr_spots a w ++ (row_spots ts w ++ pair_spots ps w))
+  expr_spots (test a n x ts ps) w =
+      at w (tests x ts ps) ++ (expr_spots a w ++ (row_spots ts w ++ pair_spots ps w))
   expr_spots (unary o a) w = expr_spots a w
   expr_spots (binary o a b) w = expr_spots a w ++ expr_spots b w
   expr_spots (when c a) w = expr_spots c w ++ expr_spots a w
@@ -87,7 +90,9 @@ condition_spots (Some c) w = expr_spots c (record w { in_loop = false })
 
 abbrev pub filtering_spots : List Filtering → Within → List Spot
 filtering_spots [] w = []
-filtering_spots (f ∷ fs) w = at w (filters f.name f.arguments f.keywords) ++ (row_spots f.arguments w ++ (pair_spots f.keywords w ++ filtering_spots fs w))
+filtering_spots (f ∷ fs) w =
+    at w (filters f.name f.arguments f.keywords)
+    ++ (row_spots f.arguments w ++ (pair_spots f.keywords w ++ filtering_spots fs w))
 
 -- neither a loop nor a block is around
 abbrev pub outside : Within
@@ -99,18 +104,24 @@ abbrev mutual
   stmt_spots (print line e) w = expr_spots e w
   stmt_spots (choose bs other) w = branch_spots bs w ++ body_spots other w
   stmt_spots (for_each line xs e c body other) w =
-      expr_spots e w ++ (bound xs w ++ (condition_spots c w ++ (body_spots body (record w { in_loop = true }) ++ body_spots other w)))
+      expr_spots e w
+      ++ (bound xs w
+      ++ (condition_spots c w
+      ++ (body_spots body (record w { in_loop = true }) ++ body_spots other w)))
   stmt_spots (set line xs e) w = expr_spots e w ++ bound xs w
   stmt_spots (set_block line x body) w = at w (binds x) ++ body_spots body w
-  stmt_spots (with_values line ps body) w = pair_spots ps w ++ (bound (keywords ps) w ++ body_spots body w)
+  stmt_spots (with_values line ps body) w =
+      pair_spots ps w ++ (bound (keywords ps) w ++ body_spots body w)
   stmt_spots (filter_block line fs body) w = filtering_spots fs w ++ body_spots body w
   stmt_spots (autoescape line on body) w = body_spots body w
-  stmt_spots (macro line x ps body) w = (at w (declares x ps) ++ bound (parameter_names ps) w) ++ body_spots body outside
+  stmt_spots (macro line x ps body) w =
+      (at w (declares x ps) ++ bound (parameter_names ps) w) ++ body_spots body outside
   stmt_spots (include line n ignore_missing with_context) w = []
   stmt_spots (import_as line n x) w = at w (names_import x)
   stmt_spots (import_from line n xs) w = named_imports xs w
   stmt_spots (extends line n) w = []
-  stmt_spots (block line x scoped required body) w = body_spots body (record { in_loop = false; in_block = true })
+  stmt_spots (block line x scoped required body) w =
+      body_spots body (record { in_loop = false; in_block = true })
 
   pub body_spots : Body → Within → List Spot
   body_spots end w = []
@@ -118,7 +129,8 @@ abbrev mutual
 
   pub branch_spots : Branches → Within → List Spot
   branch_spots no_branches w = []
-  branch_spots (branch line c body rest) w = (expr_spots c w ++ body_spots body w) ++ branch_spots rest w
+  branch_spots (branch line c body rest) w =
+      (expr_spots c w ++ body_spots body w) ++ branch_spots rest w
 
 -- all places of a chain's templates, or of a library's own
 abbrev pub chain_spots : Sources → Home → List Spot

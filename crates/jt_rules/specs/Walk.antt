@@ -1,5 +1,6 @@
--- The walk that finds the first broken rule, from left to right, as the code takes it. What the rules are stands in specs/Rules. One law, that of
--- specs/Laws, ties the walk to those predicates, for the proofs above; no public clause of what does something speaks of it.
+-- The walk that finds the first broken rule, from left to right, as the code takes it. What the
+-- rules are stands in specs/Rules. One law, that of specs/Laws, ties the walk to those predicates,
+-- for the proofs above; no public clause of what does something speaks of it.
 use Rattle.std.specs.Prelude.{ℕ, nat_lt, Bool, true, false, not, ◌&&◌, ◌||◌, List, [], ◌∷◌, length, codes, Option, Some, None, if◌then◌else◌}
 use Rattle.std.specs.Option.{option_or, is_some}
 use Rattle.std.specs.Str.{bytes_eq}
@@ -26,7 +27,9 @@ use Rattle.jt_trees.specs.Texts.{repeated}
 abbrev pub read_alone : Text → Option ScopeError
 read_alone x =
     if bytes_eq x (codes "loop") then Some error.LoopOutside
-    else if bytes_eq x (codes "self") || (bytes_eq x (codes "super") || bytes_eq x (codes "range")) then Some error.NotCallable
+    else
+    if bytes_eq x (codes "self") || (bytes_eq x (codes "super") || bytes_eq x (codes "range"))
+    then Some error.NotCallable
     else None
 
 -- what arguments break that ought to be right
@@ -43,7 +46,8 @@ test_broken (Some t) ts ps = unless (test_takes (Some t) ts ps)
 
 abbrev pub filter_broken : Filters → Option ℕ → Exprs → trees.Pairs → Option ScopeError
 filter_broken fs None ts ps = None
-filter_broken fs (Some f) ts ps = unless (filter_fits fs f (count ts) (keywords ps) && fs.inside f ts ps)
+filter_broken fs (Some f) ts ps =
+    unless (filter_fits fs f (count ts) (keywords ps) && fs.inside f ts ps)
 
 abbrev pub refused : Bool → ScopeError → Option ScopeError
 refused wrong e = if wrong then Some e else None
@@ -64,10 +68,14 @@ module _ (world : World) (home : Home) where
   abbrev pub call_broken : Callee → Within → Expr → Exprs → trees.Pairs → Option ScopeError
   call_broken (a_macro h m) w f ts ps = unless (callee_takes (a_macro h m) ts ps)
   call_broken a_range w f ts ps = range_broken ts ps
-  call_broken a_super w f ts ps = option_or (refused (not w.in_block) error.NotCallable) (unless (callee_takes a_super ts ps))
+  call_broken a_super w f ts ps =
+      option_or (refused (not w.in_block) error.NotCallable) (unless (callee_takes a_super ts ps))
   call_broken (a_block x) w f ts ps =
-      option_or (refused (nat_lt (length (bodies world.sources world.escaping home x)) 1) error.NotCallable) (unless (callee_takes (a_block x) ts ps))
-  call_broken a_cycle w f ts ps = option_or (refused (not w.in_loop) error.LoopOutside) (unless (callee_takes a_cycle ts ps))
+      option_or
+      (refused (nat_lt (length (bodies world.sources world.escaping home x)) 1) error.NotCallable)
+      (unless (callee_takes (a_block x) ts ps))
+  call_broken a_cycle w f ts ps =
+      option_or (refused (not w.in_loop) error.LoopOutside) (unless (callee_takes a_cycle ts ps))
   call_broken no_callee w f ts ps = Some error.NotCallable
 
   -- ---- the first rule that a tree breaks, by its forms
@@ -79,13 +87,21 @@ module _ (world : World) (home : Home) where
     broken (group a) w = broken a w
     broken (list_of ts) w = row_broken ts w
     broken (map_of ps) w = pairs_broken ps w
-    broken (attribute a k) w = if is_loop a then refused (not (w.in_loop && is_some (field_named k))) error.LoopOutside else broken a w
+    broken (attribute a k) w =
+        if is_loop a
+        then refused (not (w.in_loop && is_some (field_named k))) error.LoopOutside
+        else broken a w
     broken (item a b) w = option_or (broken a w) (broken b w)
     broken (call f ts ps) w =
-        option_or (called_broken f w) (option_or (call_broken (callee world.sources (given world.sources home) f) w f ts ps) (option_or (row_broken ts w) (pairs_broken ps w)))
+        option_or (called_broken f w)
+        (option_or (call_broken (callee world.sources (given world.sources home) f) w f ts ps)
+        (option_or (row_broken ts w) (pairs_broken ps w)))
     broken (filter a x ts ps) w =
-        option_or (filter_broken world.filters (world.filters.named x ts ps) ts ps) (option_or (broken a w) (option_or (row_broken ts w) (pairs_broken ps w)))
-    broken (test a n x ts ps) w = option_or (test_broken (test_named x) ts ps) (option_or (broken a w) (option_or (row_broken ts w) (pairs_broken ps w)))
+        option_or (filter_broken world.filters (world.filters.named x ts ps) ts ps)
+        (option_or (broken a w) (option_or (row_broken ts w) (pairs_broken ps w)))
+    broken (test a n x ts ps) w =
+        option_or (test_broken (test_named x) ts ps)
+        (option_or (broken a w) (option_or (row_broken ts w) (pairs_broken ps w)))
     broken (unary o a) w = broken a w
     broken (binary o a b) w = option_or (broken a w) (broken b w)
     broken (when c a) w = option_or (broken c w) (broken a w)
@@ -94,16 +110,20 @@ module _ (world : World) (home : Home) where
     -- what is called: the named forms are no values that are read
     pub called_broken : Expr → Within → Option ScopeError
     called_broken (name x) w = refused (bytes_eq x (codes "loop")) error.LoopOutside
-    called_broken (attribute (name of) k) w = refused (bytes_eq of (codes "loop") && not (bytes_eq k (codes "cycle"))) error.LoopOutside
+    called_broken (attribute (name of) k) w =
+        refused (bytes_eq of (codes "loop") && not (bytes_eq k (codes "cycle"))) error.LoopOutside
     called_broken (constant l) w = None
     called_broken (group a) w = broken a w
     called_broken (list_of ts) w = row_broken ts w
     called_broken (map_of ps) w = pairs_broken ps w
     called_broken (attribute a k) w = broken a w
     called_broken (item a b) w = option_or (broken a w) (broken b w)
-    called_broken (call f ts ps) w = option_or (called_broken f w) (option_or (row_broken ts w) (pairs_broken ps w))
-    called_broken (filter a x ts ps) w = option_or (broken a w) (option_or (row_broken ts w) (pairs_broken ps w))
-    called_broken (test a n x ts ps) w = option_or (broken a w) (option_or (row_broken ts w) (pairs_broken ps w))
+    called_broken (call f ts ps) w =
+        option_or (called_broken f w) (option_or (row_broken ts w) (pairs_broken ps w))
+    called_broken (filter a x ts ps) w =
+        option_or (broken a w) (option_or (row_broken ts w) (pairs_broken ps w))
+    called_broken (test a n x ts ps) w =
+        option_or (broken a w) (option_or (row_broken ts w) (pairs_broken ps w))
     called_broken (unary o a) w = broken a w
     called_broken (binary o a b) w = option_or (broken a w) (broken b w)
     called_broken (when c a) w = option_or (broken c w) (broken a w)
@@ -124,13 +144,18 @@ module _ (world : World) (home : Home) where
   abbrev pub filtering_broken : List Filtering → Within → Option ScopeError
   filtering_broken [] w = None
   filtering_broken (f ∷ fs) w =
-      option_or (filter_broken world.filters (world.filters.named f.name f.arguments f.keywords) f.arguments f.keywords)
-      (option_or (row_broken f.arguments w) (option_or (pairs_broken f.keywords w) (filtering_broken fs w)))
+      option_or
+      (filter_broken world.filters (world.filters.named f.name f.arguments f.keywords) f.arguments
+      f.keywords)
+      (option_or (row_broken f.arguments w)
+      (option_or (pairs_broken f.keywords w) (filtering_broken fs w)))
 
   -- a macro's own name and its parameters
   abbrev pub macro_broken : Text → List Parameter → Option ScopeError
   macro_broken x ps =
-      option_or (read_alone x) (option_or (all_used (parameter_names ps)) (option_or (unless (not (repeated (parameter_names ps)))) (refused (nat_lt max_parameters (length ps)) error.TooManySlots)))
+      option_or (read_alone x) (option_or (all_used (parameter_names ps))
+      (option_or (unless (not (repeated (parameter_names ps))))
+      (refused (nat_lt max_parameters (length ps)) error.TooManySlots)))
 
   -- the names that `from` gives
   abbrev pub imports_broken : List (Text × Text) → Option ScopeError
@@ -143,18 +168,24 @@ module _ (world : World) (home : Home) where
     stmt_broken (print line e) w = broken e w
     stmt_broken (choose bs other) w = option_or (branches_broken bs w) (body_broken other w)
     stmt_broken (for_each line xs e c body other) w =
-        option_or (broken e w) (option_or (all_used xs) (option_or (condition_broken c w) (option_or (body_broken body (record w { in_loop = true })) (body_broken other w))))
+        option_or (broken e w) (option_or (all_used xs) (option_or (condition_broken c w)
+        (option_or (body_broken body (record w { in_loop = true })) (body_broken other w))))
     stmt_broken (set line xs e) w = option_or (broken e w) (all_used xs)
     stmt_broken (set_block line x body) w = option_or (used x) (body_broken body w)
-    stmt_broken (with_values line ps body) w = option_or (pairs_broken ps w) (option_or (all_used (keywords ps)) (body_broken body w))
-    stmt_broken (filter_block line fs body) w = option_or (filtering_broken fs w) (body_broken body w)
+    stmt_broken (with_values line ps body) w =
+        option_or (pairs_broken ps w) (option_or (all_used (keywords ps)) (body_broken body w))
+    stmt_broken (filter_block line fs body) w =
+        option_or (filtering_broken fs w) (body_broken body w)
     stmt_broken (autoescape line on body) w = body_broken body w
-    stmt_broken (macro line x ps body) w = option_or (macro_broken x ps) (body_broken body (record { in_loop = false; in_block = false }))
+    stmt_broken (macro line x ps body) w =
+        option_or (macro_broken x ps)
+        (body_broken body (record { in_loop = false; in_block = false }))
     stmt_broken (include line n ignore_missing with_context) w = None
     stmt_broken (import_as line n x) w = read_alone x
     stmt_broken (import_from line n xs) w = imports_broken xs
     stmt_broken (extends line n) w = None
-    stmt_broken (block line x scoped required body) w = body_broken body (record { in_loop = false; in_block = true })
+    stmt_broken (block line x scoped required body) w =
+        body_broken body (record { in_loop = false; in_block = true })
 
     pub body_broken : Body → Within → Option ScopeError
     body_broken end w = None
@@ -162,15 +193,20 @@ module _ (world : World) (home : Home) where
 
     pub branches_broken : Branches → Within → Option ScopeError
     branches_broken no_branches w = None
-    branches_broken (branch line c body rest) w = option_or (option_or (broken c w) (body_broken body w)) (branches_broken rest w)
+    branches_broken (branch line c body rest) w =
+        option_or (option_or (broken c w) (body_broken body w)) (branches_broken rest w)
 
-  -- of the templates of a chain; a template binds so many names at most, counted as often as written
+  -- of the templates of a chain; a template binds so many names at most, counted as often as
+  -- written
   abbrev pub templates_broken : List Template → Option ScopeError
   templates_broken [] = None
   templates_broken (t ∷ ts) =
-      option_or (option_or (body_broken t.body (record { in_loop = false; in_block = false })) (refused (nat_lt max_bindings (body_bound t.body)) error.TooManySlots)) (templates_broken ts)
+      option_or (option_or (body_broken t.body (record { in_loop = false; in_block = false }))
+      (refused (nat_lt max_bindings (body_bound t.body)) error.TooManySlots))
+      (templates_broken ts)
 
 -- the first rule that the chains break
 abbrev pub chains_broken : World → List Home → Option ScopeError
 chains_broken world [] = None
-chains_broken world (h ∷ hs) = option_or (templates_broken world h (templates world.sources h)) (chains_broken world hs)
+chains_broken world (h ∷ hs) =
+    option_or (templates_broken world h (templates world.sources h)) (chains_broken world hs)

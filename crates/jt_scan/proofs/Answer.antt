@@ -1,10 +1,10 @@
 -- What the scanner's outcome says of a source's cut.
-use Rattle.std.proofs.Common.{◌≡◌, ℕ, ◌+◌, ◌≤◌, List, length, Result, Ok, Err, MatchResult, IfOk, IfErr, refl, arith, rules}
+use Rattle.std.proofs.Common.{◌≡◌, ℕ, ◌+◌, ◌≤◌, List, length, Result, Ok, Err, MatchResult, IfOk, IfErr, arith, rules}
 use Rattle.jt_scan.specs.declared.error.ScanError.{ScanError}
 use Rattle.jt_scan.specs.declared.error.ScanError.TheVariants as error
 use Rattle.jt_scan.specs.declared.segment.TagKind.{TagKind}
 use Rattle.jt_scan.specs.Cut.{Text, Segment, Cuts, no_more, more, IsCut, weight_of}
-use Rattle.jt_scan.specs.Refused.{IsBroken, no_closer, no_quote, bad_escape, too_large, no_token, behind_space, behind_token, IsFaulty, in_tag, no_endraw, in_comment, IsFaultOf, IsRefusal}
+use Rattle.jt_scan.specs.Refused.{IsBroken, no_closer, no_quote, bad_escape, too_large, no_token, behind_space, behind_token, IsFaulty, IsFaultOf, IsRefusal}
 use Rattle.jt_scan.specs.Scanning.{cut, IsGiven}
 use Rattle.jt_scan.proofs.CutLaws.{cut_found, cut_says, cut_refuses, FaultyAt}
 use Rattle.jt_scan.proofs.Weight.{weighs}

@@ -39,9 +39,7 @@ pub front_is : (t : List ℕ) (n : ℕ) → slice_range t 0 n ≡ take n t
 front_is t n = let e : n - 0 ≡ n = omega arith in rw e refl
 
 pub chars_before : (t r b : List ℕ) (n : ℕ) → IsUtf8 b → b ≡ slice_range t 0 n → drop n t ≡ r → chars t ≡ chars b ++ chars r
-chars_before t r b n u e d =
-    let f : b ≡ take n t = e ∙ front_is t n in
-    chars_parts t n (subst IsUtf8 f u) ∙ ap₂ (λ x y. chars x ++ chars y) (sym f) d
+chars_before t r b n u e d = search (arith, rules, front_is, chars_parts)
 
 -- ---- line ends
 
@@ -67,10 +65,7 @@ count_high (x ∷ xs) ys h =
     uncounted x (xs ++ ys) other ∙ count_high xs ys (λ k below. h (suc k) (omega arith))
 
 count_one : (c : ℕ) (ys : List ℕ) → count_by is_lf (encode c ++ ys) ≡ count_by is_lf (c ∷ ys)
-count_one c ys = elim (cases_lt c 128) [
-  | inl low ↦ ap (λ (z : List ℕ). count_by is_lf (z ++ ys)) (encode_ascii c low)
-  | inr big ↦ (let other : (c == 10) ≡ false = grind (arith, nat_tests) in count_high (encode c) ys (high c big) ∙ sym (uncounted c ys other))
-]
+count_one c ys = search (arith, rules, cases_lt, encode_ascii, nat_tests, count_high, high, uncounted)
 
 count_all : (cs : Text) → count_by is_lf (encodes cs) ≡ count_by is_lf cs
 count_all [] = refl
@@ -89,17 +84,10 @@ byte_char a c ys l h =
     char_from_byte (encode c ++ ys) ys c refl (omega (arith, h)) (omega (arith, length-append (encode c) ys, length-encode c, (len_utf8_bounds c).0)) ∙ h
 
 pair_then : (a b : ℕ) (cs : Text) → b < 128 → 0 < b → get_or (encodes cs) 0 0 ≡ b → begins a b (a ∷ cs) ≡ true
-pair_then a b [] l z h = absurd (omega (arith, h))
-pair_then a b (d ∷ cs) l z h =
-    let e : d ≡ b = byte_char b d (encodes cs) l h in
-    let s : (a == a) ≡ true = grind (arith, nat_tests) in let t : (d == b) ≡ true = grind (arith, nat_tests) in rw (s, t) refl
+pair_then a0 a1 a2 a3 a4 a5 = search (arith, rules, byte_char, nat_tests)
 
 pub pair_down : (a b : ℕ) (cs : Text) → a < 128 → b < 128 → 0 < a → 0 < b → get_or (encodes cs) 0 0 ≡ a → get_or (encodes cs) 1 0 ≡ b → begins a b cs ≡ true
-pair_down a b [] la lb za zb h g = absurd (omega (arith, h))
-pair_down a b (c ∷ cs) la lb za zb h g =
-    let e : c ≡ a = byte_char a c (encodes cs) la h in
-    let w : encode c ++ encodes cs ≡ a ∷ encodes cs = ap (λ k. encode k ++ encodes cs) e ∙ ap (λ z. z ++ encodes cs) (encode_ascii a la) in
-    subst (λ k. begins a b (k ∷ cs) ≡ true) (sym e) (pair_then a b cs lb zb (sym (ap (λ z. get_or z 1 0) w) ∙ g))
+pair_down a0 a1 a2 a3 a4 a5 a6 a7 a8 = search (arith, rules, byte_char, encode_ascii, pair_then)
 
 -- ---- the first place where a test holds
 
@@ -185,25 +173,13 @@ second_cases : (c : ℕ) → is_second c ≡ true → (c ≡ 123) ⊎ ((c ≡ 37
 second_cases c h = grind (arith, nat_tests)
 
 opens_up : (cs : Text) → opens cs ≡ true → OpensAt (encodes cs) 0
-opens_up cs h = elim (opens_cases cs h) [
-  | inl a ↦ (let p = pair_up 123 123 cs (omega arith) (omega arith) a in (p.0, rw p.1 refl))
-  | inr o ↦ elim o [
-    | inl a ↦ (let p = pair_up 123 37 cs (omega arith) (omega arith) a in (p.0, rw p.1 refl))
-    | inr a ↦ (let p = pair_up 123 35 cs (omega arith) (omega arith) a in (p.0, rw p.1 refl))
-  ]
-]
+opens_up cs h = search (arith, rules, opens_cases, pair_up)
 
 any_of : (a b c : Bool) → (a ≡ true) ⊎ ((b ≡ true) ⊎ (c ≡ true)) → (a || b || c) ≡ true
 any_of a b c h = search (arith, rules)
 
 opens_down : (cs : Text) → OpensAt (encodes cs) 0 → opens cs ≡ true
-opens_down cs p = any_of (begins 123 123 cs) (begins 123 37 cs) (begins 123 35 cs) (elim (second_cases (get_or (encodes cs) 1 0) p.1) [
-  | inl e ↦ inl (pair_down 123 123 cs (omega arith) (omega arith) (omega arith) (omega arith) p.0 e)
-  | inr o ↦ elim o [
-    | inl e ↦ inr (inl (pair_down 123 37 cs (omega arith) (omega arith) (omega arith) (omega arith) p.0 e))
-    | inr e ↦ inr (inr (pair_down 123 35 cs (omega arith) (omega arith) (omega arith) (omega arith) p.0 e))
-  ]
-])
+opens_down cs p = search (arith, rules, any_of, second_cases, pair_down)
 
 pub opens_tested : IsTested opens OpensAt
 opens_tested = record {
@@ -239,10 +215,7 @@ reads : (b : List ℕ) (k : ℕ) → PairAt 35 125 b k → (j : ℕ) → j < 2 �
 reads b k p x4 h = search (arith, rules)
 
 fits : (b : List ℕ) (k : ℕ) → get_or b (k + 1) 0 ≡ 125 → k + 2 ≤ length b
-fits b k h = elim (cases_lt (k + 1) (length b)) [
-  | inl low ↦ omega arith
-  | inr past ↦ absurd (omega (arith, past_end b (k + 1) past, h))
-]
+fits b k h = search (arith, rules, cases_lt, past_end)
 
 occurs : (b : List ℕ) (k : ℕ) → PairAt 35 125 b k → OccursAt b (35 ∷ 125 ∷ []) k
 occurs b k p = record { fits = fits b k p.1; reads = reads b k p }

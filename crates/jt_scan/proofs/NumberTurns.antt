@@ -1,5 +1,5 @@
 -- One turn of the loop over a number's digits.
-use Rattle.std.proofs.Common.{◌≡◌, ℕ, ◌+◌, ◌*◌, ◌-◌, ◌^◌, ◌<◌, ◌≤◌, ◌==◌, min, true, false, [], ◌∷◌, length, refl, sym, ap, subst, ◌∙◌, arith, inl, inr, Some, None}
+use Rattle.std.proofs.Common.{◌≡◌, ℕ, ◌+◌, ◌*◌, ◌-◌, ◌^◌, ◌<◌, ◌≤◌, ◌==◌, min, true, false, [], ◌∷◌, length, refl, sym, ap, subst, ◌∙◌, arith, inl, inr, Some, None, rules}
 use Rattle.std.proofs.lemmas.Bool.{cases_lt}
 use Rattle.std.proofs.Math.Nat.{le-mul_of_pos_right}
 use Rattle.jt_scan.specs.Literals.{Text, digit_value, goes_on, base_of, names_base}
@@ -40,9 +40,7 @@ pub digit_shrinks : (base d : ℕ) (rest more : Text) → next_digit base rest �
 digit_shrinks base d rest more h = (further base 0 d rest more h).2
 
 pub sum_ends : (base start m : ℕ) (x rest : Text) → IsSum base start x m rest → next_digit base rest ≡ None → IsCapped m (digits_at base start x).0 × (rest ≡ (digits_at base start x).1)
-sum_ends base start m x rest s h =
-    let e : (s.0, rest) ≡ digits_at base start x = sym (no_further base s.0 rest h) ∙ s.2 in
-    (s.1 ∙ ap (λ (p : ℕ × Text). min p.0 (2 ^ 64 - 1)) e, ap (λ (p : ℕ × Text). p.1) e)
+sum_ends base start m x rest s h = search (arith, rules, no_further)
 
 -- ---- the base
 

@@ -1,5 +1,5 @@
 -- Raw text, place by place, and the options of segments.
-use Rattle.std.proofs.Common.{◌≡◌, Bool, true, false, List, [], ◌∷◌, ◌++◌, refl, sym, ap, subst, ◌∙◌, append_assoc, append-nil}
+use Rattle.std.proofs.Common.{◌≡◌, Bool, true, false, List, [], ◌∷◌, ◌++◌, refl, sym, ap, subst, ◌∙◌, append_assoc, append-nil, arith, rules}
 use Rattle.jt_scan.specs.Cut.{Text, NoneBegins}
 use Rattle.jt_scan.specs.Scanning.{clear_run}
 use Rattle.jt_scan.proofs.Steps.{Stops, clear_of}
@@ -29,9 +29,7 @@ stops_there test [] h = tt
 stops_there test (c ∷ x) h = h
 
 pub clear_stops : (test : Text → Bool) (source d x : Text) → IsClearTo test source x → source ≡ d ++ x → Stops test x → clear_run test source ≡ (d, x)
-clear_stops test source d x i e s =
-    let same : i.0 ≡ d = cancel_end i.0 d x (sym i.1 ∙ e) in
-    ap (clear_run test) i.1 ∙ clear_of test i.0 x i.2 s ∙ ap (λ w. (w, x)) same
+clear_stops test source d x i e s = search (arith, rules, cancel_end, clear_of)
 
 pub clear_whole : (test : Text → Bool) (source x : Text) → IsClearTo test source x → x ≡ [] → clear_run test source ≡ (source, x)
 clear_whole test source x i e =

@@ -1,5 +1,5 @@
 -- Steps of outcomes, and runs of characters.
-use Rattle.std.proofs.Common.{◌≡◌, ℕ, ◌==◌, ◌&&◌, Bool, true, false, cond, [], ◌∷◌, ◌++◌, drop, refl, ap, sym, ◌∙◌, arith, Ok, Err, rules}
+use Rattle.std.proofs.Common.{◌≡◌, ℕ, ◌&&◌, Bool, true, false, cond, [], ◌∷◌, ◌++◌, drop, refl, ap, sym, ◌∙◌, arith, Ok, Err, rules}
 use Rattle.std.proofs.lemmas.Bool.Decides.{nat_tests}
 use Rattle.unicode_ident.specs.Ident.{is_xid_continue}
 use Rattle.jt_scan.specs.declared.error.ScanError.{ScanError}
@@ -27,10 +27,7 @@ both true b h = (refl, h)
 both false b h = cc
 
 pub begins_says : (a b c : ℕ) (cs : Text) → begins a b (c ∷ cs) ≡ true → (c ≡ a) × (cs ≡ b ∷ drop 1 cs)
-begins_says a b c [] h = cc
-begins_says a b c (d ∷ cs) h =
-    let q = both (c == a) (d == b) h in let e : d ≡ b = grind (arith, nat_tests) in
-    (grind (arith, nat_tests), ap (λ k. k ∷ cs) e)
+begins_says a0 a1 a2 a3 a4 = search (arith, rules, both, nat_tests)
 
 pub opener_says : (a b : ℕ) (x : Text) → begins a b x ≡ true → x ≡ a ∷ b ∷ drop 2 x
 opener_says a b x h = search (arith, rules, begins_says)

@@ -1,5 +1,5 @@
 -- What the tables of identifiers say of whitespace and of closers: they begin no name.
-use Rattle.std.proofs.Common.{◌≡◌, ℕ, ◌<◌, ◌||◌, ◌==◌, ◌&&◌, Bool, true, false, [], ◌∷◌, ◌++◌, refl, sym, ap, ap₂, subst, ◌∙◌, arith, Option, Some, rules}
+use Rattle.std.proofs.Common.{◌≡◌, ℕ, ◌<◌, ◌||◌, ◌==◌, ◌&&◌, Bool, true, false, [], ◌∷◌, ◌++◌, refl, sym, ap, subst, ◌∙◌, arith, Option, Some, rules}
 use Rattle.std.proofs.lemmas.Bool.Decides.{nat_tests}
 use Rattle.std.specs.Char.{is_ascii_alphabetic}
 use Rattle.unicode_ident.proofs.IdentLemmas.{is_xid_start-ascii}
@@ -82,9 +82,4 @@ behind_closes k mark y rest e = by (first_mark y) (behind_mark y) e
         (λ b q. cc)
 
 pub closer_says : (k : TagKind) (mark : Mark) (x rest : Text) → closer_at k x ≡ Some (mark, rest) → IsCloser k mark x rest
-closer_says k mark x rest e =
-    by_test (begins (closer k) 125 x) _ _ _ e
-    (λ b q. let p = some_parts q in
-    subst (λ a. IsCloser k a x rest) p.0 (may_absent k, opener_says (closer k) 125 x b ∙ ap (λ w. closer k ∷ 125 ∷ w) p.1))
-    (λ b q. let h = behind_closes k mark x rest q in
-    (h.1, marked x ∙ ap₂ (λ a w. mark_text a ++ w) h.0 h.2))
+closer_says k mark x rest e = search (arith, rules, by_test, some_parts, may_absent, opener_says, behind_closes, marked)

@@ -7,7 +7,6 @@ use Rattle.jt_scan.proofs.Steps.{by_test}
 use Rattle.jt_scan.proofs.Tables.{closer_says}
 use Rattle.jt_scan.specs.declared.segment.TagKind.TheVariants as kind
 use Rattle.jt_scan.specs.declared.segment.Mark.{Mark}
-use Rattle.jt_scan.specs.declared.segment.Mark.TheVariants as m
 use Rattle.jt_scan.specs.declared.segment.Marks.{Marks}
 
 closing_long : (k : TagKind) (mark : Mark) (rest : Text) → 2 + length rest ≤ length (closing_text k mark rest)

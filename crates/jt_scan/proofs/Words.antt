@@ -1,12 +1,12 @@
 -- Texts and their characters.
-use Rattle.std.proofs.Common.{◌≡◌, ℕ, zero, suc, ◌<◌, Bool, true, false, ◌&&◌, List, [], ◌∷◌, slice_index, refl, sym, ap, ◌∙◌, arith, chars, bytes_eq, encode_utf8_all, IsUtf8, IsAscii}
+use Rattle.std.proofs.Common.{◌≡◌, ℕ, zero, suc, ◌<◌, Bool, true, false, ◌&&◌, List, [], ◌∷◌, slice_index, refl, sym, ap, ◌∙◌, arith, chars, bytes_eq, encode_utf8_all, IsUtf8, if◌then◌else◌}
 use Rattle.std.specs.Bool.{one_answer}
 use lib.Utf8.{scalars}
 use Rattle.std.specs.Str.{is_utf8}
 use Rattle.std.proofs.lemmas.Bool.Decides.{nat_tests}
 use Rattle.std.proofs.lemmas.Slice.Eq.{bytes_eq-Decides}
 use Rattle.std.proofs.lemmas.Str.{chars-IsAscii, is_utf8-from_IsUtf8, IsUtf8-from_ascii}
-use Rattle.jt_scan.specs.Words.{is_plain}
+use Rattle.jt_scan.specs.Words.{is_plain, letters_of}
 
 both : (a b : Bool) → (a && b) ≡ true → (a ≡ true) × (b ≡ true)
 both true b e = (refl, e)
@@ -23,11 +23,20 @@ plain_ascii [] e i = omega arith
 plain_ascii (c ∷ cs) e zero = let b = (both _ (is_plain cs) e).0 in grind (arith, nat_tests)
 plain_ascii (c ∷ cs) e (suc i) = plain_ascii cs (both _ (is_plain cs) e).1 i
 
--- a text is a plain word where its characters are
-pub same_text : (t w : List ℕ) → IsUtf8 t → is_plain w ≡ true → bytes_eq t w ≡ bytes_eq (chars t) w
-same_text t w u p =
-    let a : IsAscii w = plain_ascii w p in
-    one_answer (bytes_eq t w) (bytes_eq (chars t) w) (bytes_eq-Decides t w) (
-      λ h. sym (spelled_again t u) ∙ ap encode_utf8_all ((bytes_eq-Decides (chars t) w).0 h) ∙ ap encode_utf8_all (sym (chars-IsAscii w a)) ∙ spelled_again w (IsUtf8-from_ascii w a),
-      λ h. (bytes_eq-Decides (chars t) w).1 (ap chars h ∙ chars-IsAscii w a),
+-- a word's letters are its characters
+letters_are_chars : (w : List ℕ) (b : Bool) → is_plain w ≡ b → (if b then w else chars w) ≡ chars w
+letters_are_chars w true e = sym (chars-IsAscii w (plain_ascii w e))
+letters_are_chars w false e = refl
+
+-- a text is a word where its characters are the word's letters
+pub same_word : (t w : List ℕ) → IsUtf8 t → IsUtf8 w → bytes_eq t w ≡ bytes_eq (chars t) (letters_of w)
+same_word t w u v =
+    let letters = letters_are_chars w (is_plain w) refl in
+    one_answer (bytes_eq t w) (bytes_eq (chars t) (letters_of w)) (bytes_eq-Decides t w) (
+      λ h. sym (spelled_again t u) ∙ ap encode_utf8_all ((bytes_eq-Decides (chars t) (letters_of w)).0 h ∙ letters) ∙ spelled_again w v,
+      λ h. (bytes_eq-Decides (chars t) (letters_of w)).1 (ap chars h ∙ sym letters),
     )
+
+-- the same of a plain word and its bytes
+pub same_text : (t w : List ℕ) → IsUtf8 t → is_plain w ≡ true → bytes_eq t w ≡ bytes_eq (chars t) w
+same_text t w u p = same_word t w u (IsUtf8-from_ascii w (plain_ascii w p)) ∙ ap (λ b. bytes_eq (chars t) (if b then w else chars w)) p

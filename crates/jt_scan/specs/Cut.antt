@@ -109,9 +109,12 @@ max_number = 9223372036854775807
 
 -- `Spelled t s rest`: the token's spelling, the longest that stands in front of the rest
 pub data Spelled : Token → Text → Text → Type 0 where
-  a_name : {c : ℕ} {x rest : Text} → starts_name c ≡ true → AllContinue x → NameEnds rest → Spelled (name (c ∷ x)) (c ∷ x) rest
-  a_number : {n : ℕ} {s rest : Text} → Numeral s n rest → n ≤ max_number → Spelled (number (pos n)) s rest
-  a_text : {quote : ℕ} {x v rest : Text} → is_quote quote ≡ true → Enclosed quote x → Means x v → Spelled (text v) (quote ∷ (x ++ (quote ∷ []))) rest
+  a_name : {c : ℕ} {x rest : Text} → starts_name c ≡ true → AllContinue x → NameEnds rest
+      → Spelled (name (c ∷ x)) (c ∷ x) rest
+  a_number : {n : ℕ} {s rest : Text} → Numeral s n rest → n ≤ max_number
+      → Spelled (number (pos n)) s rest
+  a_text : {quote : ℕ} {x v rest : Text} → is_quote quote ≡ true → Enclosed quote x → Means x v
+      → Spelled (text v) (quote ∷ (x ++ (quote ∷ []))) rest
   a_sign : {s : Sign} {rest : Text} → SignEnds s rest → Spelled (sign s) (sign_text s) rest
 
 -- ---- marks
@@ -129,7 +132,8 @@ mark_text m.Plus = 43 ∷ []
 abbrev pub is_mark : ℕ → Bool
 is_mark c = c == 45 || c == 43
 
--- the mark directly behind an opener, and what is behind it: `-` or `+` there is always the opening mark
+-- the mark directly behind an opener, and what is behind it: `-` or `+` there is always the opening
+-- mark
 abbrev pub first_mark : Text → Mark
 first_mark [] = m.Absent
 first_mark (c ∷ x) = mark_of c
@@ -179,11 +183,15 @@ begins a b (c ∷ d ∷ rest) = c == a && d == b
 abbrev pub marked_closer : TagKind → Mark → Text → Option (Mark × Text)
 marked_closer k m.Absent x = None
 marked_closer k m.Minus x = if begins (closer k) 125 x then Some (m.Minus, drop 2 x) else None
-marked_closer k m.Plus x = if may_close k m.Plus && begins (closer k) 125 x then Some (m.Plus, drop 2 x) else None
+marked_closer k m.Plus x =
+    if may_close k m.Plus && begins (closer k) 125 x then Some (m.Plus, drop 2 x) else None
 
 -- the mark of the closer in front, and what is behind it
 abbrev pub closer_at : TagKind → Text → Option (Mark × Text)
-closer_at k x = if begins (closer k) 125 x then Some (m.Absent, drop 2 x) else marked_closer k (first_mark x) (behind_mark x)
+closer_at k x =
+    if begins (closer k) 125 x
+    then Some (m.Absent, drop 2 x)
+    else marked_closer k (first_mark x) (behind_mark x)
 
 abbrev pub is_found : {A : Type 0} → Option A → Bool
 is_found None = false
@@ -200,12 +208,16 @@ braces depth (sign s.RightBrace) = depth - 1
 braces depth t = depth
 
 -- `Inside k depth ts mark x rest`: so many braces are open; x begins with the tokens ts, with any
--- whitespace between or none, and the tag's first closer where no brace is open, with its mark, and the
--- rest stands behind it
+-- whitespace between or none, and the tag's first closer where no brace is open, with its mark, and
+-- the rest stands behind it
 pub data Inside (k : TagKind) : ℕ → List Token → Mark → Text → Text → Type 0 where
-  closed : {mark : Mark} {rest : Text} → may_close k mark ≡ true → Inside k 0 [] mark (closing_text k mark rest) rest
-  space : {depth c : ℕ} {ts : List Token} {mark : Mark} {x rest : Text} → is_space c ≡ true → Inside k depth ts mark x rest → Inside k depth ts mark (c ∷ x) rest
-  token : {depth : ℕ} {t : Token} {ts : List Token} {mark : Mark} {s x rest : Text} → closes k depth (s ++ x) ≡ false → Spelled t s x → Inside k (braces depth t) ts mark x rest → Inside k depth (t ∷ ts) mark (s ++ x) rest
+  closed : {mark : Mark} {rest : Text} → may_close k mark ≡ true
+      → Inside k 0 [] mark (closing_text k mark rest) rest
+  space : {depth c : ℕ} {ts : List Token} {mark : Mark} {x rest : Text} → is_space c ≡ true
+      → Inside k depth ts mark x rest → Inside k depth ts mark (c ∷ x) rest
+  token : {depth : ℕ} {t : Token} {ts : List Token} {mark : Mark} {s x rest : Text}
+      → closes k depth (s ++ x) ≡ false → Spelled t s x → Inside k (braces depth t) ts mark x rest
+      → Inside k depth (t ∷ ts) mark (s ++ x) rest
 
 -- ---- segments
 
@@ -265,10 +277,12 @@ abbrev pub endraw_named : Mark → Option Text → Option (Marks × Text)
 endraw_named opening None = None
 endraw_named opening (Some x) = endraw_closed opening (closer_at kind.Block (after_space x))
 
--- the `endraw` tag in front: its marks, and what is behind it. Its one word may have whitespace on both sides.
+-- the `endraw` tag in front: its marks, and what is behind it. Its one word may have whitespace on
+-- both sides.
 unfoldable pub endraw_at : Text → Option (Marks × Text)
 endraw_at x =
-    if begins 123 37 x then endraw_named (first_mark (drop 2 x)) (after_word (codes "endraw") (after_space (behind_mark (drop 2 x))))
+    if begins 123 37 x then endraw_named (first_mark (drop 2 x))
+    (after_word (codes "endraw") (after_space (behind_mark (drop 2 x))))
     else None
 
 -- an `endraw` tag stands in front
@@ -290,21 +304,28 @@ line_at source x = 1 + lines source - lines x
 
 -- `IsSegment n s x rest`: x begins with the segment s, which a tag of line n may be, and the rest
 -- stands behind it. Data is never empty, and no opener begins in it, not even one that ends
--- behind it. A comment ends at the first `#}` behind its opener. Behind a `raw` tag all up to the first
--- `endraw` tag is text.
+-- behind it. A comment ends at the first `#}` behind its opener. Behind a `raw` tag all up to the
+-- first `endraw` tag is text.
 pub data IsSegment (n : ℕ) : Segment → Text → Text → Type 0 where
-  some_data : {c : ℕ} {d rest : Text} → NoneBegins opens (c ∷ d) rest → EndsData rest → IsSegment n (data_of (c ∷ d)) (c ∷ (d ++ rest)) rest
-  a_tag : {k : TagKind} {ts : List Token} {closing : Mark} {x rest : Text} → Inside k 0 ts closing (behind_mark x) rest → is_raw k ts ≡ false
+  some_data : {c : ℕ} {d rest : Text} → NoneBegins opens (c ∷ d) rest → EndsData rest
+      → IsSegment n (data_of (c ∷ d)) (c ∷ (d ++ rest)) rest
+  a_tag : {k : TagKind} {ts : List Token} {closing : Mark} {x rest : Text}
+      → Inside k 0 ts closing (behind_mark x) rest → is_raw k ts ≡ false
       → IsSegment n (tag k (marks (first_mark x) closing) n ts) (123 ∷ second k ∷ x) rest
-  a_comment : {x rest : Text} → NoneBegins ends_comment x (35 ∷ 125 ∷ rest) → IsSegment n (comment (comment_marks x) x) (123 ∷ 35 ∷ (x ++ (35 ∷ 125 ∷ rest))) rest
-  a_raw : {ts : List Token} {closing : Mark} {ends : Marks} {x d rest : Text} (y : Text) → Inside kind.Block 0 ts closing (behind_mark x) (d ++ y) → is_raw kind.Block ts ≡ true
-      → NoneBegins ends_raw d y → endraw_at y ≡ Some (ends, rest) → IsSegment n (raw (marks (first_mark x) closing) d ends) (123 ∷ 37 ∷ x) rest
+  a_comment : {x rest : Text} → NoneBegins ends_comment x (35 ∷ 125 ∷ rest)
+      → IsSegment n (comment (comment_marks x) x) (123 ∷ 35 ∷ (x ++ (35 ∷ 125 ∷ rest))) rest
+  a_raw : {ts : List Token} {closing : Mark} {ends : Marks} {x d rest : Text} (y : Text)
+      → Inside kind.Block 0 ts closing (behind_mark x) (d ++ y) → is_raw kind.Block ts ≡ true
+      → NoneBegins ends_raw d y
+      → endraw_at y ≡ Some (ends, rest)
+      → IsSegment n (raw (marks (first_mark x) closing) d ends) (123 ∷ 37 ∷ x) rest
 
 -- `Cuts source Ends ss x`: what is left of the source, x, is cut into the segments ss,
 -- up to a place where the fact `Ends` holds of the text behind it
 pub data Cuts (source : Text) (Ends : Text → Type 0) : List Segment → Text → Type 0 where
   no_more : {x : Text} → Ends x → Cuts source Ends [] x
-  more : {s : Segment} {ss : List Segment} {x rest : Text} → IsSegment (line_at source x) s x rest → Cuts source Ends ss rest → Cuts source Ends (s ∷ ss) x
+  more : {s : Segment} {ss : List Segment} {x rest : Text} → IsSegment (line_at source x) s x rest
+      → Cuts source Ends ss rest → Cuts source Ends (s ∷ ss) x
 
 -- the whole source is cut into the segments
 abbrev pub IsCut : List Segment → Text → Type 0
@@ -325,7 +346,8 @@ abbrev pub tokens_weight : List Token → ℕ
 tokens_weight [] = 0
 tokens_weight (t ∷ ts) = token_weight t + tokens_weight ts
 
--- a tag counts 4 for its delimiters and what its tokens do, data and raw text 1, and a comment nothing
+-- a tag counts 4 for its delimiters and what its tokens do, data and raw text 1, and a comment
+-- nothing
 abbrev pub weight : Segment → ℕ
 weight (data_of d) = 1
 weight (tag k ms n ts) = 4 + tokens_weight ts

@@ -8,7 +8,8 @@ Text = List ℕ
 
 -- ---- digits
 
--- the value of a digit: of `0` to `9`, and of `a` to `f` in either case; every other character has 16
+-- the value of a digit: of `0` to `9`, and of `a` to `f` in either case; every other character has
+-- 16
 unfoldable pub digit_value : ℕ → ℕ
 digit_value c =
     if nat_le 48 c && nat_le c 57 then c - 48
@@ -44,8 +45,10 @@ number_of base = number_from base 0
 -- behind the digits of n they make m
 pub data Digits (base : ℕ) : ℕ → Text → ℕ → Type 0 where
   no_digit : {n : ℕ} → Digits base n [] n
-  digit : {n c m : ℕ} {x : Text} → is_digit base c ≡ true → Digits base (n * base + digit_value c) x m → Digits base n (c ∷ x) m
-  spaced : {n c m : ℕ} {x : Text} → is_digit base c ≡ true → Digits base (n * base + digit_value c) x m → Digits base n (95 ∷ c ∷ x) m
+  digit : {n c m : ℕ} {x : Text} → is_digit base c ≡ true
+      → Digits base (n * base + digit_value c) x m → Digits base n (c ∷ x) m
+  spaced : {n c m : ℕ} {x : Text} → is_digit base c ≡ true
+      → Digits base (n * base + digit_value c) x m → Digits base n (95 ∷ c ∷ x) m
 
 -- a digit stands in front, with one underscore before it or none
 abbrev pub goes_on : ℕ → Text → Bool
@@ -67,10 +70,13 @@ names_base (c ∷ rest) = goes_on (base_of c) rest
 
 -- `Numeral s n rest`: s is the longest spelling of a number in front of the rest, and n the number
 pub data Numeral : Text → ℕ → Text → Type 0 where
-  decimal : {c n : ℕ} {x rest : Text} → is_digit 10 c ≡ true → (c == 48) ≡ false → Digits 10 (digit_value c) x n → goes_on 10 rest ≡ false → Numeral (c ∷ x) n rest
+  decimal : {c n : ℕ} {x rest : Text} → is_digit 10 c ≡ true → (c == 48) ≡ false
+      → Digits 10 (digit_value c) x n → goes_on 10 rest ≡ false → Numeral (c ∷ x) n rest
   -- `0` is the one digit of base 1
-  zeros : {n : ℕ} {x rest : Text} → Digits 1 0 x n → names_base (x ++ rest) ≡ false → goes_on 1 rest ≡ false → Numeral (48 ∷ x) n rest
-  based : {c n : ℕ} {x rest : Text} → goes_on (base_of c) x ≡ true → Digits (base_of c) 0 x n → goes_on (base_of c) rest ≡ false → Numeral (48 ∷ c ∷ x) n rest
+  zeros : {n : ℕ} {x rest : Text} → Digits 1 0 x n → names_base (x ++ rest) ≡ false
+      → goes_on 1 rest ≡ false → Numeral (48 ∷ x) n rest
+  based : {c n : ℕ} {x rest : Text} → goes_on (base_of c) x ≡ true → Digits (base_of c) 0 x n
+      → goes_on (base_of c) rest ≡ false → Numeral (48 ∷ c ∷ x) n rest
 
 -- ---- texts
 
@@ -81,14 +87,16 @@ is_quote c = c == 34 || c == 39
 -- what may stand between two quotes: the quote only behind a backslash
 pub data Enclosed (quote : ℕ) : Text → Type 0 where
   nothing : Enclosed quote []
-  plain : {c : ℕ} {x : Text} → (c == quote) ≡ false → (c == 92) ≡ false → Enclosed quote x → Enclosed quote (c ∷ x)
+  plain : {c : ℕ} {x : Text} → (c == quote) ≡ false → (c == 92) ≡ false → Enclosed quote x
+      → Enclosed quote (c ∷ x)
   escaped : {c : ℕ} {x : Text} → Enclosed quote x → Enclosed quote (92 ∷ c ∷ x)
 
 -- a text without the second quote, up to the end of the source
 pub data Unended (quote : ℕ) : Text → Type 0 where
   nothing : Unended quote []
   backslash : Unended quote (92 ∷ [])
-  plain : {c : ℕ} {x : Text} → (c == quote) ≡ false → (c == 92) ≡ false → Unended quote x → Unended quote (c ∷ x)
+  plain : {c : ℕ} {x : Text} → (c == quote) ≡ false → (c == 92) ≡ false → Unended quote x
+      → Unended quote (c ∷ x)
   escaped : {c : ℕ} {x : Text} → Unended quote x → Unended quote (92 ∷ c ∷ x)
 
 -- what a character means behind a backslash
@@ -132,16 +140,22 @@ pub data Means : Text → Text → Type 0 where
   dropped : {c : ℕ} {x v : Text} → escape c ≡ drops → Means x v → Means (92 ∷ c ∷ x) v
   given : {c d : ℕ} {x v : Text} → escape c ≡ gives d → Means x v → Means (92 ∷ c ∷ x) (d ∷ v)
   -- as many digits as stand there, up to three
-  by_octal : {c : ℕ} (s : Text) {x v : Text} → escape c ≡ octal → AllDigits 8 s → length s ≤ 2 → (length s ≡ 2) ⊎ (digit_first 8 x ≡ false) → Means x v → Means (92 ∷ c ∷ (s ++ x)) (number_of 8 (c ∷ s) ∷ v)
+  by_octal : {c : ℕ} (s : Text) {x v : Text} → escape c ≡ octal → AllDigits 8 s → length s ≤ 2
+      → (length s ≡ 2) ⊎ (digit_first 8 x ≡ false) → Means x v
+      → Means (92 ∷ c ∷ (s ++ x)) (number_of 8 (c ∷ s) ∷ v)
   -- the number is the code of a character
-  by_hexadecimal : {c n : ℕ} (s : Text) {x v : Text} → escape c ≡ hexadecimal n → AllDigits 16 s → length s ≡ n → scalar (number_of 16 s) ≡ true → Means x v → Means (92 ∷ c ∷ (s ++ x)) (number_of 16 s ∷ v)
+  by_hexadecimal : {c n : ℕ} (s : Text) {x v : Text} → escape c ≡ hexadecimal n → AllDigits 16 s
+      → length s ≡ n → scalar (number_of 16 s) ≡ true → Means x v
+      → Means (92 ∷ c ∷ (s ++ x)) (number_of 16 s ∷ v)
   stayed : {c : ℕ} {x v : Text} → escape c ≡ stays → Means x v → Means (92 ∷ c ∷ x) (92 ∷ c ∷ v)
 
 -- no escape begins with these characters behind a backslash
 pub data BadEscape : Text → Type 0 where
   refuses : {c : ℕ} {x : Text} → escape c ≡ refused → BadEscape (c ∷ x)
-  too_short : {c n : ℕ} (s x : Text) → escape c ≡ hexadecimal n → AllDigits 16 s → length s < n → digit_first 16 x ≡ false → BadEscape (c ∷ (s ++ x))
-  no_character : {c n : ℕ} (s x : Text) → escape c ≡ hexadecimal n → AllDigits 16 s → length s ≡ n → scalar (number_of 16 s) ≡ false → BadEscape (c ∷ (s ++ x))
+  too_short : {c n : ℕ} (s x : Text) → escape c ≡ hexadecimal n → AllDigits 16 s → length s < n
+      → digit_first 16 x ≡ false → BadEscape (c ∷ (s ++ x))
+  no_character : {c n : ℕ} (s x : Text) → escape c ≡ hexadecimal n → AllDigits 16 s → length s ≡ n
+      → scalar (number_of 16 s) ≡ false → BadEscape (c ∷ (s ++ x))
 
 -- behind a part with a meaning stands a bad escape
 abbrev pub HasBadEscape : Text → Type 0
@@ -153,11 +167,13 @@ HasBadEscape raw = (x v y : Text) × (raw ≡ x ++ (92 ∷ y)) × Means x v × B
 unfoldable pub some_digits : ℕ → ℕ → Text → Text × Text
 some_digits base zero x = ([], x)
 some_digits base (suc n) [] = ([], [])
-some_digits base (suc n) (c ∷ cs) = if is_digit base c then (let p = some_digits base n cs in (c ∷ p.0, p.1)) else ([], c ∷ cs)
+some_digits base (suc n) (c ∷ cs) =
+    if is_digit base c then (let p = some_digits base n cs in (c ∷ p.0, p.1)) else ([], c ∷ cs)
 
 -- the character of so many hexadecimal digits
 abbrev pub coded : ℕ → Text × Text → Option (Text × Text)
-coded n p = if length p.0 == n && scalar (number_of 16 p.0) then Some (number_of 16 p.0 ∷ [], p.1) else None
+coded n p =
+    if length p.0 == n && scalar (number_of 16 p.0) then Some (number_of 16 p.0 ∷ [], p.1) else None
 
 -- what an escape gives, and what is behind it; x is behind its first character, c
 abbrev pub escape_by : Escape → ℕ → Text → Option (Text × Text)

@@ -1,5 +1,9 @@
--- What the scanner's own clauses see of the parts of tokens. Private clauses and proofs alone cite it.
-use Rattle.std.specs.Prelude.{[], ◌∷◌}
+-- What the scanner's own clauses see of the parts of tokens. Private clauses and proofs alone cite
+-- it.
+use Rattle.std.specs.Prelude.{◌≡◌, ℕ, List, [], ◌∷◌, Option, Some, None, MatchOption, Result, Ok, MatchResult}
+use Rattle.std.specs.Str.{chars}
+use denote.Ref.{Bor}
+use Rattle.jt_scan.specs.declared.error.ScanError.{ScanError}
 use Rattle.jt_scan.specs.declared.tokens.Front.{Front}
 use Rattle.jt_scan.specs.declared.tokens.Front.TheVariants as f
 use Rattle.jt_scan.specs.declared.quotes.Escape.{Escape}
@@ -29,3 +33,16 @@ abbrev pub piece_text : Piece → Text
 piece_text p.Nothing = []
 piece_text (p.Character c) = c ∷ []
 piece_text (p.Pair c) = 92 ∷ c ∷ []
+
+-- what stands in front, with what is behind it, or nothing
+abbrev pub IsFound : {A B : Type 0} → (A → B) → Option (B × List ℕ) → Option (A × Bor (List ℕ))
+    → Type 0
+IsFound view found result =
+    MatchOption result (found ≡ None) (λ p. found ≡ Some (view p.0, chars p.1.now))
+
+-- the same of an outcome, or its refusal
+abbrev pub IsRead : {A B : Type 0} → (A → B) → scanning.Outcome B
+    → Result (A × Bor (List ℕ)) ScanError → Type 0
+IsRead view outcome result =
+    MatchResult result (λ p. outcome ≡ Ok (view p.0, chars p.1.now))
+    (λ e. scanning.IsGiven e outcome)

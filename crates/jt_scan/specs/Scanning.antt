@@ -122,7 +122,8 @@ longer c (Some p) = Some (c ∷ p.0, p.1)
 unfoldable pub enclosed_at : ℕ → Bool → Text → Option (Text × Text)
 enclosed_at quote b [] = None
 enclosed_at quote true (c ∷ cs) = longer c (enclosed_at quote false cs)
-enclosed_at quote false (c ∷ cs) = if c == quote then Some ([], cs) else longer c (enclosed_at quote (c == 92) cs)
+enclosed_at quote false (c ∷ cs) =
+    if c == quote then Some ([], cs) else longer c (enclosed_at quote (c == 92) cs)
 
 -- ---- a tag's inside
 
@@ -131,7 +132,8 @@ signed line None = Err (BadCharacter line)
 signed line (Some p) = Ok (sign p.0, p.1)
 
 abbrev pub numbered : ℕ → ℕ × Text → Outcome Token
-numbered line p = if nat_lt max_number p.0 then Err (NumberTooLarge line) else Ok (number (pos p.0), p.1)
+numbered line p =
+    if nat_lt max_number p.0 then Err (NumberTooLarge line) else Ok (number (pos p.0), p.1)
 
 abbrev pub meant : ℕ → Text × Text → Outcome Token
 meant line p = if (pieces 0 p.0).1 then Ok (text (unescaped p.0), p.1) else Err (BadEscape line)
@@ -179,7 +181,8 @@ abbrev pub then_inside : (ℕ → Text → Outcome Tokens) → ℕ → Front →
 then_inside f depth (closing mark) rest = Ok (([], mark), rest)
 then_inside f depth (spells t) rest = with_token t (f (braces depth t) rest)
 
--- the tokens up to the closer, and what is behind it; the number m bounds the turns, and each takes a character
+-- the tokens up to the closer, and what is behind it; the number m bounds the turns, and each takes
+-- a character
 unfoldable pub inside : TagKind → ℕ → ℕ → ℕ → Text → Outcome Tokens
 inside k line zero depth x = Err (UnclosedTag line)
 inside k line (suc n) depth [] = Err (UnclosedTag line)
@@ -202,7 +205,8 @@ tag_of k line ms ts rest = if is_raw k ts then raw_at line ms rest else Ok (tag 
 -- x stands behind an opener
 abbrev pub tag_at : TagKind → ℕ → Text → Outcome Segment
 tag_at k line x =
-    inside k line (length (behind_mark x) + 1) 0 (behind_mark x) >>= λ p rest. tag_of k line (marks (first_mark x) p.1) p.0 rest
+    inside k line (length (behind_mark x) + 1) 0 (behind_mark x)
+    >>= λ p rest. tag_of k line (marks (first_mark x) p.1) p.0 rest
 
 -- the comment in front of its end, if it has one
 abbrev pub ended_comment : ℕ → Text → Text → Outcome Segment
@@ -223,11 +227,13 @@ segment_at line x =
     else if begins 123 35 x then comment_at line (drop 2 x)
     else data_at (clear_run opens x)
 
-abbrev pub with_segment : Segment → Result (List Segment) ScanError → Result (List Segment) ScanError
+abbrev pub with_segment : Segment → Result (List Segment) ScanError
+    → Result (List Segment) ScanError
 with_segment s (Ok ss) = Ok (s ∷ ss)
 with_segment s (Err e) = Err e
 
-abbrev pub then_cut : Outcome Segment → (Text → Result (List Segment) ScanError) → Result (List Segment) ScanError
+abbrev pub then_cut : Outcome Segment → (Text → Result (List Segment) ScanError)
+    → Result (List Segment) ScanError
 then_cut (Ok p) f = with_segment p.0 (f p.1)
 then_cut (Err e) f = Err e
 
@@ -235,7 +241,8 @@ then_cut (Err e) f = Err e
 unfoldable pub cut : Text → ℕ → Text → Result (List Segment) ScanError
 cut source zero x = Err (UnclosedTag 0)
 cut source (suc m) [] = Ok []
-cut source (suc m) (c ∷ cs) = then_cut (segment_at (line_at source (c ∷ cs)) (c ∷ cs)) (cut source m)
+cut source (suc m) (c ∷ cs) =
+    then_cut (segment_at (line_at source (c ∷ cs)) (c ∷ cs)) (cut source m)
 
 -- a refusal is the outcome's, where it is not a want of memory
 abbrev pub IsGiven : {A : Type 0} → ScanError → Result A ScanError → Type 0

@@ -2,6 +2,7 @@
 
 ghost use Rattle.std.specs.Prelude.{◌≡◌, codes, Some, None, MatchOption};
 ghost use Rattle.std.specs.Str.{chars};
+ghost use Rattle.jt_scan.specs.PartView.{IsFound};
 ghost use Rattle.jt_scan.specs.Cut as cut;
 ghost use Rattle.jt_scan.specs.Scanning as spec;
 
@@ -24,8 +25,7 @@ fn behind_endraw(text: &str) -> Option<&str>
 /// The marks of the `endraw` tag in front, and what is behind the tag.
 #[tactic(auto, unfolding(crate::specs::Cut::endraw_at))]
 pub(crate) fn read_endraw(text: &str) -> Option<(Marks, &str)>
-    ensures { MatchOption result (cut.endraw_at (chars text.now) ≡ None)
-        (λ p. cut.endraw_at (chars text.now) ≡ Some (p.0, chars p.1.now)) }
+    ensures { IsFound (λ a. a) (cut.endraw_at (chars text.now)) result }
 {
     let inside = behind_pair(text, '{', '%')?;
     let (opening, more) = read_mark(inside);

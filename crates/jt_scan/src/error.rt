@@ -25,7 +25,7 @@ pub enum ScanError {
     /// A `raw` tag has no `endraw` tag behind it.
     #[error("S6 UnclosedRaw")]
     UnclosedRaw { line: u32 },
-    /// The text has more than [`MAX_SOURCE_LEN`](crate::MAX_SOURCE_LEN) bytes. The line is 1.
+    /// The text has more than 1048576 bytes. The line is 1.
     #[error("S7 SourceTooLong")]
     SourceTooLong { line: u32 },
     /// A growth was refused.

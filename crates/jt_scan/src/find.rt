@@ -1,6 +1,6 @@
 //! Where data and comments end, found by their bytes.
 
-ghost use Rattle.std.specs.Prelude.{◌≡◌, ◌≤◌, true, length, drop, slice_index, codes};
+ghost use Rattle.std.specs.Prelude.{◌≡◌, ◌≤◌, length, slice_index, codes};
 ghost use Rattle.std.specs.Str.{chars};
 ghost use Rattle.memchr.specs.Find.{FindsNeedle, IsFirst};
 ghost use Rattle.jt_scan.specs.Cut as cut;

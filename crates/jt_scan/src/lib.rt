@@ -24,5 +24,5 @@ pub use options::Options;
 pub use quotes::text_value;
 pub use scanner::scan;
 pub use segment::{Mark, Marks, Part, Segment, Sign, Tag, TagKind, Token};
-pub use source::{MAX_SOURCE_LEN, Source};
-pub use text::{behind_space, first};
+pub use source::Source;
+pub use text::{behind_space, first, is_word};

@@ -1,7 +1,8 @@
 //! Marks of tags, and the closers that have them.
 
-ghost use Rattle.std.specs.Prelude.{◌≡◌, false, true, Some, None, MatchOption};
+ghost use Rattle.std.specs.Prelude.{◌≡◌, Some, None};
 ghost use Rattle.std.specs.Str.{chars};
+ghost use Rattle.jt_scan.specs.PartView.{IsFound};
 ghost use Rattle.jt_scan.specs.Cut as cut;
 
 use crate::segment::{Mark, Marks, TagKind};
@@ -76,8 +77,7 @@ fn may_close(kind: TagKind, mark: Mark) -> bool
 
 /// The mark of the closer in front, and what is behind it.
 pub(crate) fn read_closer(text: &str, kind: TagKind) -> Option<(Mark, &str)>
-    ensures { MatchOption result (cut.closer_at kind (chars text.now) ≡ None)
-        (λ p. cut.closer_at kind (chars text.now) ≡ Some (p.0, chars p.1.now)) }
+    ensures { IsFound (λ a. a) (cut.closer_at kind (chars text.now)) result }
 {
     if let Some(rest) = behind_pair(text, closer(kind), '}') {
         return Some((Mark::Absent, rest));

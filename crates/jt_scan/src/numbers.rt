@@ -2,6 +2,7 @@
 
 ghost use Rattle.std.specs.Prelude.{◌≡◌, ◌+◌, ◌-◌, ◌*◌, ◌^◌, min, true, false, Some, None, MatchOption};
 ghost use Rattle.std.specs.Str.{chars};
+ghost use Rattle.jt_scan.specs.PartView.{IsFound};
 ghost use Rattle.jt_scan.specs.Literals as literal;
 ghost use Rattle.jt_scan.specs.Scanning as spec;
 
@@ -22,8 +23,7 @@ pub(crate) fn digit_value(c: char) -> u32
 
 /// The digit of the base in front, and what is behind it.
 pub(crate) fn plain_digit(text: &str, base: u32) -> Option<(u32, &str)>
-    ensures { MatchOption result (spec.plain_digit base (chars text.now) ≡ None)
-        (λ p. spec.plain_digit base (chars text.now) ≡ Some (p.0, chars p.1.now)) }
+    ensures { IsFound (λ a. a) (spec.plain_digit base (chars text.now)) result }
 {
     let (c, more) = first(text)?;
     let digit = digit_value(c);
@@ -37,8 +37,7 @@ pub(crate) fn plain_digit(text: &str, base: u32) -> Option<(u32, &str)>
 #[tactic(auto, unfolding(crate::specs::Scanning::next_digit))]
 /// The digit of the base in front, with one underscore before it or none, and what is behind it.
 fn next_digit(text: &str, base: u32) -> Option<(u32, &str)>
-    ensures { MatchOption result (spec.next_digit base (chars text.now) ≡ None)
-        (λ p. spec.next_digit base (chars text.now) ≡ Some (p.0, chars p.1.now)) }
+    ensures { IsFound (λ a. a) (spec.next_digit base (chars text.now)) result }
 {
     let (c, more) = first(text)?;
     let digit = digit_value(c);

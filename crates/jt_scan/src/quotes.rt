@@ -6,7 +6,7 @@ ghost use Rattle.std.specs.String.{string_bytes};
 ghost use lib.Utf8.{scalar};
 ghost use Rattle.jt_scan.specs.Literals as literal;
 ghost use Rattle.jt_scan.specs.Scanning as spec;
-ghost use Rattle.jt_scan.specs.PartView.{escape_view, piece_text};
+ghost use Rattle.jt_scan.specs.PartView.{escape_view, piece_text, IsFound};
 
 use crate::numbers::{digit_value, grown, plain_digit};
 use crate::text::{before, first};
@@ -53,8 +53,7 @@ fn is_bare(c: char, wanted: char, escaped: bool) -> bool
 /// What is in front of the second quote, and what is behind it. The character behind a backslash
 /// is none.
 pub(crate) fn split_quoted(text: &str, quote: char) -> Option<(&str, &str)>
-    ensures { MatchOption result (spec.enclosed_at quote false (chars text.now) ≡ None)
-        (λ p. spec.enclosed_at quote false (chars text.now) ≡ Some (chars p.0.now, chars p.1.now)) }
+    ensures { IsFound (λ a. chars a.now) (spec.enclosed_at quote false (chars text.now)) result }
 {
     let mut rest = text;
     let mut escaped = false;
@@ -126,9 +125,7 @@ fn character(code: u64) -> Option<char>
 
 /// The character of an octal escape, whose first digit is given, and what is behind it.
 fn read_octal(c: char, more: &str) -> Option<(Piece, &str)>
-    ensures { MatchOption result (literal.escape_by literal.octal c (chars more.now) ≡ None)
-        (λ p.
-        literal.escape_by literal.octal c (chars more.now) ≡ Some (piece_text p.0, chars p.1.now)) }
+    ensures { IsFound piece_text (literal.escape_by literal.octal c (chars more.now)) result }
 {
     let (_missing, code, rest) = some_digits(more, 8, 2, u64::from(digit_value(c)));
     Some((Piece::Character(character(code)?), rest))
@@ -136,9 +133,8 @@ fn read_octal(c: char, more: &str) -> Option<(Piece, &str)>
 
 /// The character of so many hexadecimal digits in front, and what is behind them.
 fn read_hexadecimal(text: &str, digits: usize) -> Option<(Piece, &str)>
-    ensures { let p = literal.some_digits 16 digits (chars text.now) in
-        MatchOption result (literal.coded digits p ≡ None)
-        (λ q. literal.coded digits p ≡ Some (piece_text q.0, chars q.1.now)) }
+    ensures { IsFound piece_text
+        (literal.coded digits (literal.some_digits 16 digits (chars text.now))) result }
 {
     let (missing, code, rest) = some_digits(text, 16, digits, 0);
     if missing > 0 {
@@ -149,8 +145,7 @@ fn read_hexadecimal(text: &str, digits: usize) -> Option<(Piece, &str)>
 
 /// What an escape stands for, and what is behind it. Its backslash is in front of the text.
 fn read_escape(text: &str) -> Option<(Piece, &str)>
-    ensures { MatchOption result (literal.escape_at (chars text.now) ≡ None)
-        (λ p. literal.escape_at (chars text.now) ≡ Some (piece_text p.0, chars p.1.now)) }
+    ensures { IsFound piece_text (literal.escape_at (chars text.now)) result }
 {
     let (c, more) = first(text)?;
     match escape_of(c) {
@@ -165,8 +160,7 @@ fn read_escape(text: &str) -> Option<(Piece, &str)>
 
 /// What the piece stands for whose first character is given, and what is behind it.
 fn read_piece(c: char, more: &str) -> Option<(Piece, &str)>
-    ensures { MatchOption result (literal.piece_at c (chars more.now) ≡ None)
-        (λ p. literal.piece_at c (chars more.now) ≡ Some (piece_text p.0, chars p.1.now)) }
+    ensures { IsFound piece_text (literal.piece_at c (chars more.now)) result }
 {
     if c == '\\' {
         read_escape(more)

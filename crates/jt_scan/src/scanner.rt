@@ -2,6 +2,7 @@
 
 ghost use Rattle.std.specs.Prelude.{◌≡◌, ◌≤◌, ◌<◌, ◌+◌, ◌++◌, ◌∷◌, [], Ok, List, length, map, MatchResult, IfOk, IfErr};
 ghost use Rattle.std.specs.Str.{chars};
+ghost use Rattle.jt_scan.specs.PartView.{IsRead};
 ghost use Rattle.jt_scan.specs.Cut as cut;
 ghost use Rattle.jt_scan.specs.Refused.{IsRefusal};
 ghost use Rattle.jt_scan.specs.Scanning as spec;
@@ -18,7 +19,7 @@ use crate::segment::{Marks, Part, Segment, Tag, TagKind, Token};
 use crate::source::Source;
 use crate::text::{before, behind_pair, is_word, lines};
 use crate::tokens::read_tokens;
-use std::alloc::Global;
+use std::alloc::{AllocError, Global};
 
 /// Whether the only token is the word `raw`.
 fn is_raw(kind: TagKind, tokens: &[Token<'_>]) -> bool
@@ -32,9 +33,7 @@ fn is_raw(kind: TagKind, tokens: &[Token<'_>]) -> bool
 
 /// The text behind a `raw` tag with its `endraw` tag, and what is behind that.
 fn read_raw(text: &str, marks: Marks, line: u32) -> Result<(Part<'_>, &str), ScanError>
-    ensures { MatchResult result
-        (λ p. spec.raw_at line marks (chars text.now) ≡ Ok (part_view p.0, chars p.1.now))
-        (λ e. spec.IsGiven e (spec.raw_at line marks (chars text.now))) }
+    ensures { IsRead part_view (spec.raw_at line marks (chars text.now)) result }
 {
     let (raw, end) = split_raw(text);
     match read_endraw(end) {
@@ -50,9 +49,7 @@ fn read_tag<'a>(
     kind: TagKind,
     line: u32,
 ) -> Result<(Part<'a>, &'a str), ScanError>
-    ensures { MatchResult result
-        (λ p. spec.tag_at kind line (chars text.now) ≡ Ok (part_view p.0, chars p.1.now))
-        (λ e. spec.IsGiven e (spec.tag_at kind line (chars text.now))) }
+    ensures { IsRead part_view (spec.tag_at kind line (chars text.now)) result }
 {
     let (opening, inside) = read_mark(text);
     let (tokens, closing, rest) = read_tokens(alloc, inside, kind, line)?;
@@ -73,9 +70,7 @@ fn read_tag<'a>(
 
 /// The comment whose opener is in front of the text, and what is behind it.
 fn read_comment<'a>(text: &'a str, line: u32) -> Result<(Part<'a>, &'a str), ScanError>
-    ensures { MatchResult result
-        (λ p. spec.comment_at line (chars text.now) ≡ Ok (part_view p.0, chars p.1.now))
-        (λ e. spec.IsGiven e (spec.comment_at line (chars text.now))) }
+    ensures { IsRead part_view (spec.comment_at line (chars text.now)) result }
 {
     let (comment, end) = split_comment(text);
     match behind_pair(end, '#', '}') {
@@ -86,9 +81,7 @@ fn read_comment<'a>(text: &'a str, line: u32) -> Result<(Part<'a>, &'a str), Sca
 
 /// The segment in front, and what is behind it.
 fn read_part<'a>(alloc: Global, text: &'a str, line: u32) -> Result<(Part<'a>, &'a str), ScanError>
-    ensures { MatchResult result
-        (λ p. spec.segment_at line (chars text.now) ≡ Ok (part_view p.0, chars p.1.now))
-        (λ e. spec.IsGiven e (spec.segment_at line (chars text.now))) }
+    ensures { IsRead part_view (spec.segment_at line (chars text.now)) result }
 {
     if let Some(inside) = behind_pair(text, '{', '{') {
         return read_tag(alloc, inside, TagKind::Variable, line);
@@ -108,12 +101,11 @@ fn push_segment<'a>(
     segments: &mut Vec<Segment<'a>>,
     options: Options,
     part: Part<'a>,
-) -> Result<(), ScanError>
+) -> Result<(), AllocError>
     requires { HaveOptions options segments.old.items }
     ensures cut { IfOk result (λ u.
         cut_of segments.new.items ≡ cut_of segments.old.items ++ (part_view part.entry ∷ [])) }
     ensures options { IfOk result (λ u. HaveOptions options segments.new.items) }
-    ensures refused { IfErr result (λ e. e ≡ error.NoMemory) }
 {
     segments.push(Segment { options, part })?;
     Ok(())
@@ -143,10 +135,11 @@ fn read_segments<'a>(
     Ok(segments)
 }
 
-/// The segments of a source: data, tags with their tokens, comments and raw text, all of them slices
-/// of the source, in its order, each with the source's options. A refusal has the line of the tag: the source ends inside it or
-/// inside a text of it, a character begins no token, an escape has no meaning, a number is above
-/// the greatest, or a `raw` tag has no `endraw` tag behind it. `NoMemory` has none.
+/// The segments of a source: data, tags with their tokens, comments and raw text, all of them
+/// slices of the source, in its order, each with the source's options. A refusal has the line of
+/// the tag: the source ends inside it or inside a text of it, a character begins no token, an
+/// escape has no meaning, a number is above the greatest, or a `raw` tag has no `endraw` tag behind
+/// it. `NoMemory` has none.
 pub fn scan(alloc: Global, source: &Source) -> Result<Vec<Segment<'_>>, ScanError>
     ensures cut { IfOk result (λ v. cut.IsCut (cut_of v.items) (chars source.now.text)) }
     ensures only { (ss : List cut.Segment) → cut.IsCut ss (chars source.now.text) →

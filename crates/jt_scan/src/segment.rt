@@ -119,7 +119,8 @@ pub enum Part<'a> {
     Tag(Tag<'a>),
     /// `{# .. #}`, with its marks and all that stands between the delimiters.
     Comment(Marks, &'a str),
-    /// `{% raw %} .. {% endraw %}`: the marks of the first tag, the text, and the marks of the last.
+    /// `{% raw %} .. {% endraw %}`: the marks of the first tag, the text, and the marks of the
+    /// last.
     Raw(Marks, &'a str, Marks),
 }
 

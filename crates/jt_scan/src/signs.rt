@@ -1,7 +1,8 @@
 //! Signs of a tag.
 
-ghost use Rattle.std.specs.Prelude.{◌≡◌, Some, None, MatchOption};
+ghost use Rattle.std.specs.Prelude.{◌≡◌, Some, None};
 ghost use Rattle.std.specs.Str.{chars};
+ghost use Rattle.jt_scan.specs.PartView.{IsFound};
 ghost use Rattle.jt_scan.specs.Scanning as spec;
 
 use crate::segment::Sign;
@@ -62,8 +63,7 @@ fn two_sign(c: char, d: char) -> Option<Sign>
 #[tactic(auto, unfolding(crate::specs::Scanning::sign_at))]
 /// The longest sign in front, and what is behind it.
 pub(crate) fn read_sign(text: &str) -> Option<(Sign, &str)>
-    ensures { MatchOption result (spec.sign_at (chars text.now) ≡ None)
-        (λ p. spec.sign_at (chars text.now) ≡ Some (p.0, chars p.1.now)) }
+    ensures { IsFound (λ a. a) (spec.sign_at (chars text.now)) result }
 {
     let (c, more) = first(text)?;
     if let Some((d, rest)) = first(more) {

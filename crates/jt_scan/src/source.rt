@@ -1,6 +1,6 @@
 //! The text of a template, ready to be scanned.
 
-ghost use Rattle.std.specs.Prelude.{◌≡◌, ◌+◌, ◌*◌, ◌<◌, ◌≤◌, ◌≢◌, length, MatchResult, Err, IfOk, false, [], ◌∷◌, ◌++◌};
+ghost use Rattle.std.specs.Prelude.{◌≡◌, ◌+◌, ◌<◌, ◌≤◌, length, MatchResult, Err, IfOk, false};
 ghost use Rattle.std.specs.String.{string_bytes};
 ghost use Rattle.jt_scan.specs.LineEnds.{normalized, lf_ends, without_first_lf, ends_with_lf, without_last_lf};
 ghost use Rattle.jt_scan.specs.SourceView.{max_source_len};
@@ -13,7 +13,7 @@ use std::alloc::{AllocError, Global};
 use std::marker::Model;
 
 /// The greatest length of a source, in bytes as it is given.
-pub const MAX_SOURCE_LEN: usize = 1_048_576;
+const MAX_SOURCE_LEN: usize = 1_048_576;
 
 /// The text of a template with LF as its only line end, and how it is read.
 #[derive(Debug, Drop)]
@@ -35,7 +35,7 @@ impl Model for Source {
 }
 
 impl Source {
-    /// The source of a template. A text of more than [`MAX_SOURCE_LEN`] bytes is refused. CR LF
+    /// The source of a template. A text of more than 1048576 bytes is refused. CR LF
     /// and CR become LF, and then one LF at the end is dropped, unless the options keep it.
     pub fn new(alloc: Global, text: &str, options: Options) -> Result<Source, ScanError>
         ensures long { max_source_len < length text.now → result ≡ Err (error.SourceTooLong 1) }

@@ -1,10 +1,10 @@
 //! Steps over a text, character by character.
 
-ghost use Rattle.std.specs.Prelude.{◌≡◌, ◌≤◌, ◌++◌, ◌∷◌, [], false, length, MatchOption, slice_index, bytes_eq, IsTrue};
+ghost use Rattle.std.specs.Prelude.{◌≡◌, ◌++◌, ◌∷◌, [], false, MatchOption, bytes_eq};
 ghost use Rattle.std.specs.Str.{chars};
 ghost use Rattle.jt_scan.specs.Cut as cut;
 ghost use Rattle.jt_scan.specs.Scanning as spec;
-ghost use Rattle.jt_scan.specs.Words.{is_plain};
+ghost use Rattle.jt_scan.specs.Words.{letters_of};
 
 use unicode_ident::{is_xid_continue, is_xid_start};
 
@@ -96,10 +96,9 @@ pub(crate) fn lines(text: &str) -> usize
     count
 }
 
-/// Whether a word is the known one, of ASCII letters.
-pub(crate) fn is_word(word: &str, known: &str) -> bool
-    requires { IsTrue (is_plain known.now) }
-    ensures { result ≡ bytes_eq (chars word.now) known.now }
+/// Whether a word is the known one.
+pub fn is_word(word: &str, known: &str) -> bool
+    ensures { result ≡ bytes_eq (chars word.now) (letters_of known.now) }
 {
     word == known
 }

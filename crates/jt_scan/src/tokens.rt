@@ -1,11 +1,11 @@
 //! The tokens of a tag.
 
-ghost use Rattle.std.specs.Prelude.{◌≡◌, ◌<◌, ◌+◌, ◌-◌, ◌^◌, false, Some, None, Ok, length, map, MatchOption, MatchResult};
+ghost use Rattle.std.specs.Prelude.{◌≡◌, ◌<◌, ◌+◌, ◌-◌, ◌^◌, false, Some, None, Ok, length, map, MatchResult};
 ghost use Rattle.std.specs.Str.{chars};
 ghost use Rattle.jt_scan.specs.Cut as cut;
 ghost use Rattle.jt_scan.specs.Scanning as spec;
 ghost use Rattle.jt_scan.specs.View.{token_view};
-ghost use Rattle.jt_scan.specs.PartView.{front_view};
+ghost use Rattle.jt_scan.specs.PartView.{front_view, IsFound, IsRead};
 
 use crate::error::ScanError;
 use crate::marks::read_closer;
@@ -26,9 +26,7 @@ pub enum Front<'a> {
 
 /// The number whose first digit is given, and what is behind it.
 fn number_token(c: char, more: &str, line: u32) -> Result<(Token<'_>, &str), ScanError>
-    ensures { MatchResult result (λ p.
-        spec.numbered line (spec.number_at c (chars more.now)) ≡ Ok (token_view p.0, chars p.1.now))
-        (λ e. spec.IsGiven e (spec.numbered line (spec.number_at c (chars more.now)))) }
+    ensures { IsRead token_view (spec.numbered line (spec.number_at c (chars more.now))) result }
 {
     let (number, rest) = read_number(c, more);
     let Ok(number) = i64::try_from(number) else {
@@ -39,10 +37,8 @@ fn number_token(c: char, more: &str, line: u32) -> Result<(Token<'_>, &str), Sca
 
 /// The text whose first quote is given, and what is behind it.
 fn text_token(quote: char, more: &str, line: u32) -> Result<(Token<'_>, &str), ScanError>
-    ensures { MatchResult result
-        (λ p. spec.quoted line (spec.enclosed_at quote false (chars more.now))
-        ≡ Ok (token_view p.0, chars p.1.now))
-        (λ e. spec.IsGiven e (spec.quoted line (spec.enclosed_at quote false (chars more.now)))) }
+    ensures { IsRead token_view (spec.quoted line (spec.enclosed_at quote false (chars more.now)))
+        result }
 {
     let Some((raw, rest)) = split_quoted(more, quote) else {
         return Err(ScanError::UnclosedText { line });
@@ -55,9 +51,7 @@ fn text_token(quote: char, more: &str, line: u32) -> Result<(Token<'_>, &str), S
 
 /// The token in front, and what is behind it.
 fn read_token(text: &str, line: u32) -> Result<(Token<'_>, &str), ScanError>
-    ensures { MatchResult result
-        (λ p. spec.token_at line (chars text.now) ≡ Ok (token_view p.0, chars p.1.now))
-        (λ e. spec.IsGiven e (spec.token_at line (chars text.now))) }
+    ensures { IsRead token_view (spec.token_at line (chars text.now)) result }
 {
     let Some((c, more)) = first(text) else {
         return Err(ScanError::UnclosedTag { line });
@@ -80,8 +74,7 @@ fn read_token(text: &str, line: u32) -> Result<(Token<'_>, &str), ScanError>
 
 /// The mark of the tag's closer, where it is in front and no brace is open, and what is behind it.
 fn counted_closer(text: &str, kind: TagKind, depth: usize) -> Option<(Mark, &str)>
-    ensures { MatchOption result (spec.counted kind depth (chars text.now) ≡ None)
-        (λ p. spec.counted kind depth (chars text.now) ≡ Some (p.0, chars p.1.now)) }
+    ensures { IsFound (λ a. a) (spec.counted kind depth (chars text.now)) result }
 {
     if depth == 0 {
         read_closer(text, kind)
@@ -97,9 +90,7 @@ fn read_front(
     depth: usize,
     line: u32,
 ) -> Result<(Front<'_>, &str), ScanError>
-    ensures { MatchResult result
-        (λ p. spec.front_at kind line depth (chars text.now) ≡ Ok (front_view p.0, chars p.1.now))
-        (λ e. spec.IsGiven e (spec.front_at kind line depth (chars text.now))) }
+    ensures { IsRead front_view (spec.front_at kind line depth (chars text.now)) result }
 {
     if let Some((mark, rest)) = counted_closer(text, kind, depth) {
         return Ok((Front::Closer(mark), rest));

@@ -1,4 +1,4 @@
-use Rattle.std.proofs.Common.{refl}
+use Rattle.std.proofs.Common.{refl, arith, rules}
 use Rattle.clap.specs.Words.{app_of}
 use Rattle.jt_args.specs.Grammar.{with_commands}
 use Rattle.jt_args.proofs.Adding.{command_added, commands_done}
@@ -13,6 +13,4 @@ loop-form-preserved c =
     c.loop-form-test.true c.in_ok-command.ensures c.in_ok-program.ensures c.loop-form.invariant
 
 pub returns : goal.returns
-returns c =
-    commands_done (with_commands (app_of c.args.program) c.args.forms.now) c.loop-form.program c.args.forms.now c.loop-form.form-index
-    c.loop-form.auto.form-index-end c.loop-form-test.false c.loop-form.invariant
+returns c = search (arith, rules, commands_done)

@@ -1,4 +1,4 @@
-use Rattle.std.proofs.Common.{◌≡◌, None, Some, codes, option_map, refl, rules, subst}
+use Rattle.std.proofs.Common.{◌≡◌, Some, codes, refl, rules, subst, arith}
 use Rattle.std.proofs.lemmas.Result.{IfErr-weaker}
 use Rattle.clap.specs.Words.{found_of, rows_of, subcommand_rows_of}
 use Rattle.jt_args.specs.Line.{ArePaired, HasNumbers}
@@ -19,13 +19,4 @@ returns-in-Some-turns-default-clause-err c =
     IfErr-weaker c.turns_job.result _ _ (λ e h. usage_weaker _ _ e (λ unpaired paired. unpaired (subst ArePaired is paired refl)) h) c.turns_job.ensures.err
 
 pub unreachable-unreachable : goal.unreachable-unreachable
-unreachable-unreachable c =
-    elim c.in_default.branch [
-      | in_default-via-in-Some+in_default w ↦
-          let name = w.in_default.field-0.0.now in
-          let same : option_map (λ p. p.0) (subcommand_rows_of c.args.matches.now) ≡ Some name = search rules in
-          no_other _ name same c.requires.known (search rules) (search rules) (search rules) (search rules) (search rules) (search rules)
-      | in_default-via-in_default w ↦
-          let same : option_map (λ p. p.0) (subcommand_rows_of c.args.matches.now) ≡ None = search rules in
-          no_name _ same c.requires.known
-    ]
+unreachable-unreachable c = search (arith, rules, no_other, no_name)

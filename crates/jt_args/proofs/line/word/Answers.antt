@@ -1,10 +1,7 @@
-use Rattle.std.proofs.Common.{◌∙◌, Bor, ap, refl}
-use Rattle.clap.specs.Words.{Text, found_of}
+use Rattle.std.proofs.Common.{arith, rules}
 use Rattle.clap.proofs.WalkLemmas.{first_value-rows}
 use Rattle.jt_args.proofs.Found.{text_or_none}
 use Rattle.jt_args.proofs.line.word.Goals as goal
 
 pub returns : goal.returns
-returns c =
-    ap (λ (s : Bor Text). s.now) c.unwrap_or.ensures
-    ∙ text_or_none c.get_str.result _ _ refl (c.get_str.ensures ∙ first_value-rows (found_of c.args.found.now) c.args.name.now)
+returns c = search (arith, rules, text_or_none, first_value-rows)

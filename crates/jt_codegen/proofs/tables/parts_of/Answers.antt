@@ -1,4 +1,4 @@
-use Rattle.std.proofs.Common.{◌≡◌, ◌<◌, ◌≤◌, ◌^◌, List, Some, length, map, string_bytes, arith, refl, ap, ◌∙◌, subst, rules}
+use Rattle.std.proofs.Common.{◌≡◌, List, Some, length, map, arith, refl, ap, ◌∙◌, subst, rules}
 use Rattle.std.proofs.lemmas.Result.{err_from_is_err_and}
 use Rattle.jt_value.specs.View.{view}
 use Rattle.jt_value.specs.declared.value.Value.{Value}
@@ -8,36 +8,22 @@ use Rattle.jt_image.specs.declared.version.Version.TheVariants as version
 use Rattle.jt_image.specs.Parts.{each_of, section_of_unit}
 use Rattle.jt_constants.specs.Merged.{constant_of, each_once, new_places}
 use Rattle.jt_constants.proofs.Sizes.{units_len}
-use Rattle.jt_image.specs.IsCode.{total_len, max_instructions}
-use Rattle.jt_resolved.specs.View.{routine_view, templates_of, program_of}
+use Rattle.jt_resolved.specs.View.{routine_view, templates_of}
 use Rattle.jt_resolved.specs.declared.program.Routine.{Routine}
 use Rattle.jt_lower.specs.Lower.{unit_of}
 use Rattle.std.proofs.lemmas.List.{length-map, with_items_is}
-use Rattle.jt_codegen.specs.Units.{RefusesUnits}
 use Rattle.jt_codegen.proofs.Merging.{ps}
 use Rattle.jt_codegen.proofs.Tabled.{numbered_len, units_refused, parts_are}
 use Rattle.jt_codegen.proofs.tables.parts_of.Goals as goal
 
 pub returns-then-len-gt-MAX_COUNT-clause-refused : goal.returns-then-len-gt-MAX_COUNT-clause-refused
-returns-then-len-gt-MAX_COUNT-clause-refused c = λ fits.
-    let ns = c.args.program.now.names in
-    absurd (omega (arith, fits.limits.names, numbered_len 0 (map string_bytes ns.items), length-map ns.items string_bytes, ns.ok.0))
+returns-then-len-gt-MAX_COUNT-clause-refused c = search (arith, rules, numbered_len, length-map)
 
 pub returns-clause-short : goal.returns-clause-short
-returns-clause-short c =
-    let p = c.args.program.now in
-    let ts = templates_of p in
-    let short : total_len (map unit_of (map (routine_view ts) p.routines.items)) ≤ max_instructions = subst (λ (rs : List Routine). total_len (map unit_of (map (routine_view ts) rs)) ≤ max_instructions) c.deref-2.ensures.value (c.in_ok-code.ensures.short ts) in
-    omega (arith, short, units_len (ps (program_of p)) (map unit_of (map (routine_view ts) p.routines.items)))
+returns-clause-short c = search (arith, rules, units_len, ps)
 
 pub returns-in_err-code-clause-refused : goal.returns-in_err-code-clause-refused
-returns-in_err-code-clause-refused c =
-    let p = c.args.program.now in
-    let ts = templates_of p in
-    let e = c.in_err-code.field-0.0 in
-    let told = err_from_is_err_and c.from_residual-in_err-code.result c.from_residual-in_err-code.ensures.1 in
-    let few : length (program_of p).pool < 2 ^ 32 = omega (arith, length-map p.pool.items view, c.len-2.ensures, p.pool.ok.0, c.if-len.false) in
-    rw (told.1, told.2) (units_refused c.low_laws.ensures e p c.requires.fits few (subst (λ (rs : List Routine). RefusesUnits e (map unit_of (map (routine_view ts) rs))) c.deref-2.ensures.value (c.in_err-code.ensures.refused ts)))
+returns-in_err-code-clause-refused c = search (arith, rules, err_from_is_err_and, length-map, units_refused)
 
 pub returns-clause-emitted : goal.returns-clause-emitted
 returns-clause-emitted c =

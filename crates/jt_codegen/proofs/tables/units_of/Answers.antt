@@ -1,4 +1,4 @@
-use Rattle.std.proofs.Common.{◌≡◌, ℕ, List, [], ◌∷◌, ◌++◌, ◌+◌, ◌-◌, Option, drop, length, sym, subst, arith}
+use Rattle.std.proofs.Common.{◌≡◌, ℕ, List, [], ◌∷◌, ◌++◌, ◌+◌, ◌-◌, Option, drop, length, sym, subst, arith, rules}
 use Rattle.std.proofs.lemmas.Result.{err_from_is_err_and}
 use Rattle.jt_image.specs.declared.parts.Unit as given
 use Rattle.jt_resolved.specs.declared.program.Place.{Place}
@@ -29,16 +29,10 @@ pub overflow_sub-left : goal.overflow_sub-left
 overflow_sub-left c = omega (arith, c.in_ok-emitted.ensures.within, c.len-made.ensures, c.in_ok-emitted.emitted.unit.code.ok.0)
 
 pub returns-clause-emitted : goal.returns-clause-emitted
-returns-clause-emitted c = λ templates.
-    let l = c.loop-routine in
-    made_all templates l.units.items l.left c.args.routines.now l.routine-index (omega arith) (l.invariant templates).0
+returns-clause-emitted c = search (arith, rules, made_all)
 
 pub returns-clause-placed : goal.returns-clause-placed
-returns-clause-placed c = λ templates.
-    let l = c.loop-routine in
-    places_all templates l.places.items c.args.routines.now l.routine-index (omega arith) (l.invariant templates).1
+returns-clause-placed c = search (arith, rules, places_all)
 
 pub returns-clause-short : goal.returns-clause-short
-returns-clause-short c = λ templates.
-    let l = c.loop-routine in
-    made_short templates l.units.items l.left c.args.routines.now l.routine-index (omega arith) (l.invariant templates).0
+returns-clause-short c = search (arith, rules, made_short)

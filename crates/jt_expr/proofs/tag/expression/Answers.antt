@@ -1,4 +1,4 @@
-use Rattle.jt_expr.proofs.Exact.{answer_spelled, answers_only, answers_alone, answers_syntax, answers_deep, answers_known}
+use Rattle.jt_expr.proofs.Exact.{answer_spelled, answers_only, answers_alone, answers_syntax, answers_deep}
 use Rattle.jt_expr.proofs.tag.expression.Goals as goal
 
 pub returns-clause-spelled : goal.returns-clause-spelled
@@ -15,6 +15,3 @@ returns-clause-syntax c = answers_syntax _ _ _ c.read_all.ensures
 
 pub returns-clause-deep : goal.returns-clause-deep
 returns-clause-deep c = answers_deep _ _ _ c.read_all.ensures
-
-pub returns-clause-others : goal.returns-clause-others
-returns-clause-others c = answers_known _ _ _ c.read_all.ensures

@@ -1,20 +1,15 @@
-use Rattle.std.proofs.Common.{◌≡◌, true, arith}
+use Rattle.std.proofs.Common.{◌≡◌, true, arith, rules}
 use Rattle.jt_image.specs.Code.{Code}
-use Rattle.jt_image.specs.View.{names_view, texts_view}
 use Rattle.jt_image.specs.Parts.{code_seen, KeepsLimits, Starts}
 use Rattle.jt_image.proofs.Assembled.{short_names, short_texts, entry_from, is_code}
 use Rattle.jt_image.proofs.assembling.check.Goals as goal
 use Rattle.jt_image.proofs.assembling.check.Goals.{then-named, else-named, then-starts, else-starts}
 
 pub names_are_in_order-requires : goal.names_are_in_order-requires
-names_are_in_order-requires c =
-    let limits = c.keeps_limits.ensures.kept.0 c.if-not-keeps_limits.false in
-    rw c.deref-3.ensures.value (short_names (names_view c.args.parts.now.names.items) limits.texts c.keeps_limits.ensures.utf8)
+names_are_in_order-requires c = search (arith, rules, short_names)
 
 pub places_are_in_order-requires : goal.places_are_in_order-requires
-places_are_in_order-requires c =
-    let limits = c.keeps_limits.ensures.kept.0 c.if-not-keeps_limits.false in
-    short_texts (texts_view c.args.parts.now.templates.items) limits.template_texts c.keeps_limits.ensures.templates
+places_are_in_order-requires c = search (arith, rules, short_texts)
 
 pub returns-clause-spelled : goal.returns-clause-spelled
 returns-clause-spelled c =

@@ -1,8 +1,7 @@
-use Rattle.std.proofs.Common.{◌≡◌, ℕ, ◌+◌, List, [], ◌∷◌, ◌++◌, take, true, refl, sym, ap, subst, ◌∙◌, String, Global}
+use Rattle.std.proofs.Common.{◌≡◌, ℕ, ◌+◌, [], ◌∷◌, ◌++◌, take, true, sym, ap, ◌∙◌, String, Global, arith, rules}
 use Rattle.std.proofs.lemmas.List.{take_all}
 use Rattle.jt_image.specs.View.{name_view, names_view}
 use Rattle.jt_image.specs.Parts.{IsShort}
-use Rattle.jt_image.proofs.Found.{AllGood}
 use Rattle.jt_image.proofs.Sound.{IsNamed}
 use Rattle.jt_image.proofs.ReaderParts.{IsTable-push}
 use Rattle.jt_image.proofs.Written.{each_fits}
@@ -38,6 +37,4 @@ names-preserved c =
     }
 
 pub returns : goal.returns
-returns c =
-    let all : AllGood (IsNamed c.args.globals) [] (names_view c.args.names.now) = subst (λ (ns : List (ℕ × String Global)). AllGood (IsNamed c.args.globals) [] (names_view ns)) (take_all c.names.index c.args.names.now c.names-test.false) c.names.invariant.named in
-    (λ _. in_order c.args.globals (names_view c.args.names.now) all, λ _. refl)
+returns c = search (arith, rules, take_all, in_order)

@@ -1,9 +1,8 @@
-use Rattle.std.proofs.Common.{◌≡◌, ◌+◌, List, [], ◌∷◌, ◌++◌, take, true, false, refl, sym, ap, subst, ◌∙◌, String, Global, string_bytes}
+use Rattle.std.proofs.Common.{◌≡◌, ◌+◌, [], ◌∷◌, ◌++◌, take, true, false, sym, ap, ◌∙◌, String, Global, string_bytes, arith, rules}
 use Rattle.std.proofs.lemmas.List.{take_all}
 use Rattle.jt_image.specs.View.{texts_view}
 use Rattle.jt_image.specs.Parts.{IsShortText}
 use Rattle.jt_image.specs.Reading.{may_follow_texts}
-use Rattle.jt_image.proofs.Found.{AllGood}
 use Rattle.jt_image.proofs.Behind.{IsNextText}
 use Rattle.jt_image.proofs.Written.{each_fits}
 use Rattle.jt_image.proofs.Passed.{seen_more, good_push, good_at}
@@ -34,6 +33,4 @@ templates-preserved c =
     rw e (good_push IsNextText [] before (string_bytes x) here c.templates.invariant)
 
 pub returns : goal.returns
-returns c =
-    let all : AllGood IsNextText [] (texts_view c.args.templates.now) = subst (λ (ts : List (String Global)). AllGood IsNextText [] (texts_view ts)) (take_all c.templates.index c.args.templates.now c.templates-test.false) c.templates.invariant in
-    (λ _. in_order_texts (texts_view c.args.templates.now) all, λ _. refl)
+returns c = search (arith, rules, take_all, in_order_texts)

@@ -1,4 +1,4 @@
-use Rattle.std.proofs.Common.{◌≡◌, ◌++◌, ◌∷◌, [], ◌-◌, ◌∙◌, ◌^◌, List, ℕ, sym, ap, arith, length}
+use Rattle.std.proofs.Common.{◌≡◌, ◌++◌, ◌∷◌, [], ◌-◌, ◌∙◌, ◌^◌, List, ℕ, sym, ap, arith, length, rules}
 use Rattle.std.specs.Int.{w16}
 use Rattle.std.proofs.lemmas.Result.{err_from_is_err_and}
 use Rattle.std.proofs.lemmas.List.{map_push}
@@ -11,9 +11,7 @@ use Rattle.jt_image.proofs.Standing.{number_last, template_step}
 use Rattle.jt_image.proofs.back.all_templates_at.Goals as goal
 
 pub returns-in_err-after-clause-gives : goal.returns-in_err-after-clause-gives
-returns-in_err-after-clause-gives c =
-    let p = err_from_is_err_and c.from_residual-in_err-after.result c.from_residual-in_err-after.ensures.1 in
-    rw (p.1, p.2) (ends template_at c.in_ok-count.count c.templates.counter (templates_in c.args.bytes.now c.templates.templates.items) c.templates.rest.now (all_templates_at c.args.front.now) c.in_err-after.field-0.0 c.templates-test.true (rw c.deref.ensures.value at c.in_err-after.ensures) c.templates.invariant.so_far)
+returns-in_err-after-clause-gives c = search (arith, rules, err_from_is_err_and, ends)
 
 pub templates-init : goal.templates-init
 unfolding all_templates_at

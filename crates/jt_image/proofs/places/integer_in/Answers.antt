@@ -1,22 +1,16 @@
-use Rattle.std.proofs.Common.{get_or, drop, arith, rules}
+use Rattle.std.proofs.Common.{get_or, arith, rules}
 use Rattle.std.proofs.lemmas.List.{length-drop}
 use Rattle.jt_image.proofs.Standing.{constant_read}
 use Rattle.jt_image.proofs.places.integer_in.Goals as goal
 
 pub split_at-requires : goal.split_at-requires
-split_at-requires c =
-    let p = constant_read (drop c.args.at c.args.bytes.now) c.requires in
-    omega (arith, p.long, length-drop c.args.at c.args.bytes.now)
+split_at-requires c = search (arith, rules, constant_read, length-drop)
 
 pub split_at-requires-2 : goal.split_at-requires-2
-split_at-requires-2 c =
-    let p = constant_read (drop c.args.at c.args.bytes.now) c.requires in
-    rw c.split_at.ensures.back p.long
+split_at-requires-2 c = search (arith, rules, constant_read)
 
 pub integer_with-requires : goal.integer_with-requires
-integer_with-requires c =
-    let p = constant_read (drop c.args.at c.args.bytes.now) c.requires in
-    rw (c.split_at-2.ensures.back, c.split_at.ensures.back) (rw p.is at c.requires)
+integer_with-requires c = search (arith, rules, constant_read)
 
 pub returns : goal.returns
 returns c = search (arith, rules, constant_read, get_or)

@@ -1,40 +1,25 @@
-use Rattle.std.proofs.Common.{◌∙◌, ap, drop, arith}
+use Rattle.std.proofs.Common.{arith, rules}
 use Rattle.std.proofs.lemmas.List.{length-drop}
 use Rattle.jt_image.proofs.Standing.{name_read, name_is}
 use Rattle.jt_image.proofs.places.name_in.Goals as goal
 
 pub split_at-requires : goal.split_at-requires
-split_at-requires c =
-    let p = name_read (drop c.args.at c.args.bytes.now) c.requires in
-    omega (arith, p.long, length-drop c.args.at c.args.bytes.now)
+split_at-requires c = search (arith, rules, name_read, length-drop)
 
 pub u16_in-slot-requires : goal.u16_in-slot-requires
-u16_in-slot-requires c =
-    let p = name_read (drop c.args.at c.args.bytes.now) c.requires in
-    rw c.split_at.ensures.back (omega (arith, p.long))
+u16_in-slot-requires c = search (arith, rules, name_read)
 
 pub split_at-requires-2 : goal.split_at-requires-2
-split_at-requires-2 c =
-    let p = name_read (drop c.args.at c.args.bytes.now) c.requires in
-    rw c.split_at.ensures.back (omega (arith, p.long))
+split_at-requires-2 c = search (arith, rules, name_read)
 
 pub u16_in-len-requires : goal.u16_in-len-requires
-u16_in-len-requires c =
-    let p = name_read (drop c.args.at c.args.bytes.now) c.requires in
-    rw (c.split_at-2.ensures.back, c.split_at.ensures.back) (omega (arith, p.long, length-drop 2 (drop c.args.at c.args.bytes.now)))
+u16_in-len-requires c = search (arith, rules, name_read, length-drop)
 
 pub split_at-requires-3 : goal.split_at-requires-3
-split_at-requires-3 c =
-    let p = name_read (drop c.args.at c.args.bytes.now) c.requires in
-    rw (c.split_at-2.ensures.back, c.split_at.ensures.back) (omega (arith, p.long, length-drop 2 (drop c.args.at c.args.bytes.now)))
+split_at-requires-3 c = search (arith, rules, name_read, length-drop)
 
 pub text_in-requires : goal.text_in-requires
-text_in-requires c =
-    let p = name_read (drop c.args.at c.args.bytes.now) c.requires in
-    rw (c.split_at-3.ensures.back, c.u16_in-len.ensures, c.split_at-2.ensures.back, c.split_at.ensures.back) p.text
+text_in-requires c = search (arith, rules, name_read)
 
 pub returns : goal.returns
-returns c =
-    let front = c.split_at.ensures.back in
-    name_is (drop c.args.at c.args.bytes.now) c.split_at-2.result.1.now c.split_at-3.result.1.now c.text_in.result.now c.u16_in-slot.result c.u16_in-len.result c.requires
-    (c.split_at-2.ensures.back ∙ ap (drop 2) front) c.split_at-3.ensures.back (rw front at c.u16_in-slot.ensures) c.u16_in-len.ensures c.text_in.ensures
+returns c = search (arith, rules, name_is)

@@ -1,12 +1,10 @@
-use Rattle.std.proofs.Common.{sym, drop, arith}
+use Rattle.std.proofs.Common.{sym, drop, arith, rules}
 use Rattle.std.proofs.lemmas.List.{length-drop}
 use Rattle.jt_image.proofs.Standing.{template_read}
 use Rattle.jt_image.proofs.places.template_in.Goals as goal
 
 pub split_at-requires : goal.split_at-requires
-split_at-requires c =
-    let p = template_read (drop c.args.at c.args.bytes.now) c.requires in
-    omega (arith, p.long, length-drop c.args.at c.args.bytes.now)
+split_at-requires c = search (arith, rules, template_read, length-drop)
 
 pub u16_in-len-requires : goal.u16_in-len-requires
 u16_in-len-requires c = rw c.split_at.ensures.back (template_read (drop c.args.at c.args.bytes.now) c.requires).long

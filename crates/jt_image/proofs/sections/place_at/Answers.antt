@@ -1,13 +1,11 @@
-use Rattle.std.proofs.Common.{List, ℕ, ap, ◌∙◌, length, arith}
+use Rattle.std.proofs.Common.{arith, rules}
 use Rattle.jt_image.specs.InPlace.{instructions_in}
 use Rattle.jt_image.proofs.Placed.{place_whole}
 use Rattle.jt_image.proofs.Standing.{instructions_last}
 use Rattle.jt_image.proofs.sections.place_at.Goals as goal
 
 pub returns-clause-there : goal.returns-clause-there
-returns-clause-there c =
-    let n = c.args.header.now.len in
-    (omega arith, ap (λ (b : List ℕ). length (instructions_in n b)) c.requires.last.are ∙ place_whole n c.args.front.now c.in_ok-rest.rest.now c.in_ok-rest.ensures)
+returns-clause-there c = search (arith, rules, place_whole)
 
 pub returns-clause-last : goal.returns-clause-last
 returns-clause-last c = instructions_last c.args.header.now.len c.args.bytes.now c.args.front.now (instructions_in c.args.header.now.len c.args.front.now) c.in_ok-rest.rest.now (λ i. omega (arith, c.type_inv.bytes i)) c.requires.last c.in_ok-rest.ensures

@@ -1,4 +1,4 @@
-use Rattle.std.proofs.Common.{◌≡◌, ◌+◌, ◌++◌, ◌∷◌, [], ◌∙◌, sym, arith}
+use Rattle.std.proofs.Common.{◌≡◌, ◌++◌, ◌∷◌, [], ◌∙◌, sym, arith, rules}
 use Rattle.std.proofs.lemmas.Result.{err_from_is_err_and}
 use Rattle.std.proofs.lemmas.List.{map_push}
 use Rattle.jt_image.specs.declared.units.Header as declared
@@ -11,9 +11,7 @@ use Rattle.jt_image.proofs.Counted.{unit_total-push, counted_push, total_front, 
 use Rattle.jt_image.proofs.sections.places_at.Goals as goal
 
 pub overflow_add-first : goal.overflow_add-first
-overflow_add-first c =
-    let d : declared.Header = record { parameters = 0; kind = 0; locals = 0; len = 0 } in
-    omega (arith, total_front c.args.headers.now c.places.header-index d c.places-test.true, total_below c.args.headers.now (c.places.header-index + 1))
+overflow_add-first c = search (arith, rules, total_front, total_below)
 
 pub returns-in_err-place-clause-gives : goal.returns-in_err-place-clause-gives
 returns-in_err-place-clause-gives c =

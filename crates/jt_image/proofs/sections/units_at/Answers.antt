@@ -1,6 +1,5 @@
-use Rattle.std.proofs.Common.{◌∙◌, ◌^◌, sym, arith}
+use Rattle.std.proofs.Common.{◌^◌, arith, rules}
 use Rattle.std.specs.Int.{w16}
-use Rattle.jt_image.specs.InPlace.{sections_in}
 use Rattle.jt_image.specs.HeaderView.{headers_view}
 use Rattle.jt_image.proofs.Found.{wide16}
 use Rattle.jt_image.proofs.Sound.{sections_total}
@@ -13,6 +12,4 @@ places_at-requires-clause-last c =
     headers_last c.in_ok-count.count c.args.bytes.now c.in_ok-count.rest.now (headers_view c.in_ok-headers.headers.items.items) c.in_ok-headers.rest.now (λ i. omega (arith, c.type_inv.bytes i)) count c.in_ok-headers.ensures.gives
 
 pub returns-clause-total : goal.returns-clause-total
-returns-clause-total c =
-    let e = rw c.deref.ensures.value at c.in_ok-items.ensures.gives in
-    c.in_ok-headers.ensures.total ∙ sym (sections_total (headers_view c.in_ok-headers.headers.items.items) c.in_ok-headers.rest.now c.in_ok-items.rest.now (sections_in c.args.bytes.now c.in_ok-items.items.items) e)
+returns-clause-total c = search (arith, rules, sections_total)

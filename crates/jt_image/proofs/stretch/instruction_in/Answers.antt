@@ -1,4 +1,4 @@
-use Rattle.std.proofs.Common.{◌*◌, ◌∙◌, Option, ap, sym, subst, arith}
+use Rattle.std.proofs.Common.{◌*◌, ◌∙◌, Option, ap, sym, subst, arith, rules}
 use Rattle.std.specs.Option.{IsSome}
 use Rattle.std.proofs.lemmas.List.{length-drop}
 use Rattle.jt_image.specs.declared.instruction.Instruction.{Instruction}
@@ -24,7 +24,4 @@ known-requires c =
     subst (λ (o : Option Instruction). IsSome o) (sym same) (is_there (instructions_in c.args.len c.args.code.now) c.args.point (omega (arith, c.requires)))
 
 pub returns : goal.returns
-returns c =
-    let here = placed c.args.len c.args.point c.args.code.now (λ i. omega (arith, c.type_inv.code i)) c.requires (omega arith) in
-    let same = ap instruction_of (c.fields_of.ensures ∙ ap fields_in c.split_at.ensures.back) ∙ here.1 in
-    sym c.known.ensures ∙ same
+returns c = search (arith, rules, placed)

@@ -1,4 +1,4 @@
-use Rattle.std.proofs.Common.{◌≡◌, ◌++◌, ◌∷◌, [], ◌-◌, ◌∙◌, ap, arith, length}
+use Rattle.std.proofs.Common.{◌≡◌, ◌++◌, ◌∷◌, [], ◌-◌, ◌∙◌, ap, arith, length, rules}
 use Rattle.std.proofs.lemmas.Result.{err_from_is_err_and}
 use Rattle.std.proofs.lemmas.List.{map_push}
 use Rattle.jt_image.specs.Code.{Name}
@@ -12,9 +12,7 @@ use Rattle.jt_image.proofs.Standing.{name_step}
 use Rattle.jt_image.proofs.tables.names_at.Goals as goal
 
 pub returns-in_err-name-clause-gives : goal.returns-in_err-name-clause-gives
-returns-in_err-name-clause-gives c =
-    let p = err_from_is_err_and c.from_residual-in_err-name.result c.from_residual-in_err-name.ensures.1 in
-    rw (p.1, p.2) (ends (name_at c.args.globals) c.args.count c.names.counter (names_in c.args.bytes.now c.names.names.items) c.names.rest.now (many_at (name_at c.args.globals) c.args.count [] c.args.front.now) c.in_err-name.field-0.0 c.names-test.true (rw c.deref-in-names.ensures.value at c.in_err-name.ensures.gives) c.names.invariant.so_far)
+returns-in_err-name-clause-gives c = search (arith, rules, err_from_is_err_and, ends)
 
 pub names-preserved : goal.names-preserved
 names-preserved c =

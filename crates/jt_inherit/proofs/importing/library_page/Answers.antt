@@ -1,18 +1,12 @@
-use Rattle.std.proofs.Common.{◌<◌, length, get_or, sym, ap, subst, ◌∙◌, rules, refl}
+use Rattle.std.proofs.Common.{◌<◌, length, get_or, ap, rules, refl, arith}
 use Rattle.jt_trees.specs.StatementView.{body_of}
-use Rattle.jt_trees.specs.Texts.{among}
 use Rattle.jt_chains.specs.Chain.{holds_macros}
-use Rattle.jt_chains.specs.Pages.{pages_view}
-use Rattle.jt_inherit.specs.Given.{IsGiven}
 use Rattle.jt_inherit.specs.Sets.{names_view}
 use Rattle.jt_inherit.proofs.Shelved.{unread, place_read, is_library_read, macros_there}
 use Rattle.jt_inherit.proofs.importing.library_page.Goals as goal
 
 pub returns-in_err-place : goal.returns-in_err-place
-returns-in_err-place c =
-    let ts = pages_view c.args.shelf.pages.now in
-    let n = c.args.library.now in
-    subst (IsGiven ts n) (sym c.from_residual.ensures) (unread ts n (ap (among n) (sym c.args.shelf.named.0) ∙ c.in_err-place.ensures))
+returns-in_err-place c = search (arith, rules, unread)
 
 pub bounds-shelf-place : goal.bounds-shelf-place
 bounds-shelf-place c = place_read c.args.shelf.pages.now (names_view c.args.shelf.names.now) c.args.shelf.named c.args.library.now c.in_ok-place.place c.in_ok-place.ensures

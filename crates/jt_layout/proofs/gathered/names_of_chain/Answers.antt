@@ -1,9 +1,8 @@
-use Rattle.std.proofs.Common.{◌≡◌, List, ◌+◌, drop, sym, ap, ◌∙◌, Vec, Global, not, get_or}
+use Rattle.std.proofs.Common.{◌≡◌, List, ◌+◌, drop, sym, ap, ◌∙◌, Vec, Global, not, get_or, ◌<◌, length, arith}
 use Rattle.std.proofs.lemmas.Result.{IfOk-weaker}
 use Rattle.std.specs.Prelude.{flat_map, filter}
 use Rattle.std.specs.Option.{is_some, is_none}
 use Rattle.std.proofs.lemmas.List.{at_drop_all, length-map}
-use Rattle.std.proofs.Common.{◌<◌, length, arith}
 use denote.Ref.{Bor}
 use Rattle.jt_trees.specs.Expressions.{Text}
 use Rattle.jt_trees.specs.Texts.{all_inserted}

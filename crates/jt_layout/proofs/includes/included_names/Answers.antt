@@ -1,4 +1,4 @@
-use Rattle.std.proofs.Common.{◌≡◌, true, List, [], ◌∷◌, ◌++◌, map, refl, sym, ap, ◌∙◌}
+use Rattle.std.proofs.Common.{◌≡◌, true, List, [], ◌∷◌, ◌++◌, map, refl, sym, ap, ◌∙◌, arith, rules}
 use Rattle.std.specs.Prelude.{flat_map}
 use Rattle.std.proofs.lemmas.List.{at_drop_all, append-nil}
 use Rattle.jt_trees.specs.Expressions.{Text}
@@ -20,10 +20,7 @@ seen ts [] = refl
 seen ts (y ∷ ls) = ap (λ l. names_of y ++ l) (seen ts ls)
 
 pub loop-layer-preserved : goal.loop-layer-preserved
-loop-layer-preserved c =
-    let l = c.loop-layer in
-    layer_turn names_of c.deref-layer-items.result.now l.layer-index c.layer-item.result (texts l.found.items) (texts c.add_included.new.found.items) c.loop-layer-test.true c.layer-item.is c.in_ok-add_included.ensures
-    ∙ l.invariant
+loop-layer-preserved c = search (arith, rules, layer_turn)
 
 pub returns : goal.returns
 returns c =

@@ -1,4 +1,4 @@
-use Rattle.std.proofs.Common.{◌≡◌, ℕ, ◌+◌, ◌<◌, ◌≤◌, [], ◌∷◌, length, get_or, sym, ap, subst, ◌∙◌, arith, refl, length-append, List, drop, string_bytes}
+use Rattle.std.proofs.Common.{◌≡◌, ℕ, ◌+◌, ◌<◌, ◌≤◌, [], ◌∷◌, length, get_or, sym, ap, subst, ◌∙◌, arith, length-append, List, drop, string_bytes, rules}
 use Rattle.std.specs.Prelude.{flat_map}
 use Rattle.std.proofs.lemmas.List.{at_drop_all, length-map}
 use Rattle.jt_chains.specs.Chain.{a_chain, listed, same_home}
@@ -30,14 +30,7 @@ lay_chain-requires c =
     }
 
 pub loop-home-init : goal.loop-home-init
-loop-home-init c =
-    let a = c.args.chain.now in
-    record {
-      stands = first_front (its_world a) (its_order a) _ refl refl refl;
-      left = λ x u. c.requires x;
-      all = ap length c.in_ok-homes.ensures.items;
-      each = λ i t lt e. absurd (omega (arith, lt, ap length c.in_ok-homes.ensures.items));
-    }
+loop-home-init c = search (arith, rules, first_front)
 
 pub loop-home-preserved : goal.loop-home-preserved
 loop-home-preserved c =

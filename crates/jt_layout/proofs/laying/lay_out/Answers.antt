@@ -1,4 +1,4 @@
-use Rattle.std.proofs.Common.{List, map, sym, ap, ◌∙◌, arith, string_bytes}
+use Rattle.std.proofs.Common.{List, map, sym, ap, ◌∙◌, arith, string_bytes, rules}
 use Rattle.std.proofs.lemmas.List.{length-map}
 use Rattle.jt_chains.specs.Chain.{a_chain, a_library}
 use Rattle.jt_chains.specs.Pages.{home_view}
@@ -12,9 +12,7 @@ use Rattle.jt_layout.proofs.Tables.{sources_laid}
 use Rattle.jt_layout.proofs.laying.lay_out.Goals as goal
 
 pub gather-requires : goal.gather-requires
-gather-requires c =
-    let names = ap texts c.deref-2.ensures.value ∙ c.in_ok-template_names.ensures ∙ ap (map (λ (p : Page). string_bytes p.name)) c.deref.ensures.value in
-    λ x. sources_laid c.args.chain.now.templates.items x _ (c.in_ok-sources.ensures x ∙ ap (first_of x 0) names)
+gather-requires c = search (arith, rules, string_bytes, sources_laid)
 
 pub lay_chains-requires : goal.lay_chains-requires
 lay_chains-requires c = λ x. c.in_ok-gathered.ensures x

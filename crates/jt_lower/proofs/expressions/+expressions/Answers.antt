@@ -1,9 +1,7 @@
-use Rattle.std.proofs.Common.{◌≡◌, suc, ◌+◌, refl, sym, ap, ◌∙◌, subst, arith}
+use Rattle.std.proofs.Common.{◌≡◌, suc, ◌+◌, refl, sym, ap, ◌∙◌, subst, arith, rules}
 use Rattle.std.specs.Prelude.{min}
-use Rattle.std.proofs.lemmas.Result.{IfOk-weaker}
 use Rattle.jt_image.specs.Loops.{field_id}
 use Rattle.jt_image.specs.declared.instruction.Instruction.TheVariants as op
-use Rattle.jt_resolved.specs.Slots as slots
 use Rattle.jt_resolved.specs.Slots.{none}
 use Rattle.jt_resolved.specs.Size.{row_count}
 use Rattle.jt_resolved.specs.View.{slot_view, field_view, maker_view, expr_view, row_view}
@@ -38,9 +36,7 @@ emit_expression-returns-in_ok-put-in-Field t c = λ ts h s.
     puts_as ts c.args.code.now c.put-in-Field.new.self (expr_asm o (expr_view c.args.expr.now) h) (one o i) (ap (λ x. expr_asm o x h) (ap expr_view c.in-Field.is ∙ view_Field f)) (c.in_ok-put-in-Field.ensures ts i (c.told_of.ensures h s))
 
 pub emit_expression-returns-in-Absent : goal.emit_expression-returns-in-Absent
-emit_expression-returns-in-Absent t c = λ ts h s.
-    let o = tag_view ts c.args.tag in
-    puts_as ts c.args.code.now c.args.code.now (expr_asm o (expr_view c.args.expr.now) h) nil (ap (λ x. expr_asm o x h) (ap expr_view c.in-Absent.is ∙ view_Absent)) (puts_nothing ts c.args.code.now)
+emit_expression-returns-in-Absent t c = search (arith, rules, puts_as, view_Absent, puts_nothing)
 
 -- ---- what holds others
 
@@ -57,26 +53,13 @@ emit_expression-returns-in_ok-put-in-Made t c = λ ts h s.
     (puts_then ts c.args.code.now c.emit_row.new.code c.put-in-Made.new.self (row_asm o es h) (one o i) (c.in_ok-emit_row-in-Made.ensures ts h s) (c.in_ok-put-in-Made.ensures ts i given))
 
 pub emit_expression-returns-in-Conjunction : goal.emit_expression-returns-in-Conjunction
-emit_expression-returns-in-Conjunction t c =
-    let l = c.deref-in-Conjunction.result.now in
-    let r = c.deref-in-Conjunction-2.result.now in
-    let seen = seen_conjunction c.args.expr.now c.in-Conjunction.left c.in-Conjunction.right l r c.in-Conjunction.is c.deref-in-Conjunction.ensures c.deref-in-Conjunction-2.ensures in
-    IfOk-weaker c.emit_conjunction.result _ _ (λ u g. λ ts h s. let o = tag_view ts c.args.tag in puts_as ts c.args.code.now c.emit_conjunction.new.code (expr_asm o (expr_view c.args.expr.now) h) (expr_asm o (slots.conjunction (expr_view l) (expr_view r)) h) (ap (λ x. expr_asm o x h) seen) (g ts h s)) c.emit_conjunction.ensures
+emit_expression-returns-in-Conjunction t c = search (arith, rules, seen_conjunction c.args.expr.now c.in-Conjunction.left c.in-Conjunction.right, puts_as)
 
 pub emit_expression-returns-in-Disjunction : goal.emit_expression-returns-in-Disjunction
-emit_expression-returns-in-Disjunction t c =
-    let l = c.deref-in-Disjunction.result.now in
-    let r = c.deref-in-Disjunction-2.result.now in
-    let seen = seen_disjunction c.args.expr.now c.in-Disjunction.left c.in-Disjunction.right l r c.in-Disjunction.is c.deref-in-Disjunction.ensures c.deref-in-Disjunction-2.ensures in
-    IfOk-weaker c.emit_disjunction.result _ _ (λ u g. λ ts h s. let o = tag_view ts c.args.tag in puts_as ts c.args.code.now c.emit_disjunction.new.code (expr_asm o (expr_view c.args.expr.now) h) (expr_asm o (slots.disjunction (expr_view l) (expr_view r)) h) (ap (λ x. expr_asm o x h) seen) (g ts h s)) c.emit_disjunction.ensures
+emit_expression-returns-in-Disjunction t c = search (arith, rules, seen_disjunction c.args.expr.now c.in-Disjunction.left c.in-Disjunction.right, puts_as)
 
 pub emit_expression-returns-in-Choice : goal.emit_expression-returns-in-Choice
-emit_expression-returns-in-Choice t c =
-    let w = c.deref-in-Choice.result.now in
-    let u = c.deref-in-Choice-2.result.now in
-    let v = c.deref-in-Choice-3.result.now in
-    let seen = seen_choice c.args.expr.now c.in-Choice.condition c.in-Choice.taken c.in-Choice.other w u v c.in-Choice.is c.deref-in-Choice.ensures c.deref-in-Choice-2.ensures c.deref-in-Choice-3.ensures in
-    IfOk-weaker c.emit_choice.result _ _ (λ z g. λ ts h s. let o = tag_view ts c.args.tag in puts_as ts c.args.code.now c.emit_choice.new.code (expr_asm o (expr_view c.args.expr.now) h) (expr_asm o (slots.choice (expr_view w) (expr_view u) (expr_view v)) h) (ap (λ x. expr_asm o x h) seen) (g ts h s)) c.emit_choice.ensures
+emit_expression-returns-in-Choice t c = search (arith, rules, seen_choice c.args.expr.now c.in-Choice.condition c.in-Choice.taken c.in-Choice.other, puts_as)
 
 pub emit_conjunction-returns : goal.emit_conjunction-returns
 emit_conjunction-returns t c = λ ts h s.

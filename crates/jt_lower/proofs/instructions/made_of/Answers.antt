@@ -1,6 +1,5 @@
-use Rattle.std.proofs.Common.{sym, ap, ◌∙◌, subst, arith}
+use Rattle.std.proofs.Common.{sym, ap, ◌∙◌, arith, rules}
 use Rattle.jt_image.specs.declared.instruction.Instruction.TheVariants as op
-use Rattle.jt_image.specs.IsCode.{IsInstruction}
 use Rattle.jt_resolved.specs.View.{maker_view}
 use Rattle.jt_lower.specs.Lower.{maker}
 use Rattle.jt_lower.proofs.Rows.{halved}
@@ -11,8 +10,4 @@ returns-in-Some-field c =
     ap op.MakeMap (c.in-Some-field.ensures ∙ sym (halved c.args.count)) ∙ ap (λ k. maker (maker_view k) c.args.count) (sym c.in-Map.is)
 
 pub returns-in-None-field : goal.returns-in-None-field
-returns-in-None-field c = λ fits.
-    let much = c.in-None-field.ensures in
-    let h = halved c.args.count in
-    let few = subst (λ k. IsInstruction (maker (maker_view k) c.args.count)) c.in-Map.is fits in
-    omega (arith, much, h, few)
+returns-in-None-field c = search (arith, rules, halved)

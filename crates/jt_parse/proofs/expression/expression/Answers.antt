@@ -13,4 +13,4 @@ returns-in-Ok c = (c.in-Ok.ensures.spelled.0, c.in-Ok.ensures.spelled.1, c.in-Ok
 pub returns-in-Err : goal.returns-in-Err
 returns-in-Err c =
     subst (λ x. GivesOnly expr_view (λ e. Spells whole e (map token_view c.args.tokens.now)) levels c.args.levels (Err x)) (sym c.refused.ensures)
-    (expression_refused c.args.levels c.args.line (map token_view c.args.tokens.now) c.in-Err.refusal c.in-Err.ensures.syntax c.in-Err.ensures.deep c.in-Err.ensures.others.0 c.in-Err.ensures.others.1)
+    (expression_refused c.args.levels c.args.line (map token_view c.args.tokens.now) c.in-Err.refusal c.in-Err.ensures.syntax c.in-Err.ensures.deep)

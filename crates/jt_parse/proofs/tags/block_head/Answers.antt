@@ -8,10 +8,7 @@ use Rattle.jt_parse.proofs.FirstTags.{block_unnamed, block_read}
 use Rattle.jt_parse.proofs.tags.block_head.Goals as goal
 
 pub returns-in_err-name : goal.returns-in_err-name
-returns-in_err-name c =
-    let q : (line limit : ℕ) → ReadsHead line limit (codes "block") (ahead c.args.cursor.now) (Err c.in_err-name.field-0.0) (ahead c.target.new.cursor) =
-    λ line limit. block_unnamed line limit (ahead c.args.cursor.now) _ _ _ c.in_err-name.ensures in
-    search rules
+returns-in_err-name c = let q = λ (line limit : ℕ). block_unnamed line limit (ahead c.args.cursor.now) _ _ (ahead c.target.new.cursor) c.in_err-name.ensures in search rules
 
 pub returns : goal.returns
 returns c = λ line limit.

@@ -15,11 +15,7 @@ returns-then-not-eat_word c =
     (no_condition_read c.args.levels (ahead c.args.cursor.now) (no_word (codes "if") _ _ c.eat_word.result c.eat_word.ensures.found c.eat_word.ensures.rest c.if-not-eat_word.true))
 
 pub returns-in_err-found : goal.returns-in_err-found
-returns-in_err-found c =
-    let q : Reads (option_map expr_view) Condition NoToken condition_levels c.args.levels (ahead c.args.cursor.now) (Err c.in_err-found.field-0.0) (ahead c.expression.new.cursor) =
-    condition_last c.args.levels (ahead c.args.cursor.now) (ahead c.eat_word.new.self) (word_taken (codes "if") _ _ c.eat_word.result c.eat_word.ensures.found c.eat_word.ensures.rest c.if-not-eat_word.false)
-    (Err c.in_err-found.field-0.0) _ c.in_err-found.ensures _ in
-    search rules
+returns-in_err-found c = let q = condition_last c.args.levels (ahead c.args.cursor.now) (ahead c.eat_word.new.self) (word_taken (codes "if") _ _ c.eat_word.result c.eat_word.ensures.found c.eat_word.ensures.rest c.if-not-eat_word.false) (Err c.in_err-found.field-0.0) _ c.in_err-found.ensures (ahead c.expression.new.cursor) in search rules
 
 pub returns : goal.returns
 returns c =

@@ -8,10 +8,7 @@ use Rattle.jt_parse.proofs.Parts.{default_last}
 use Rattle.jt_parse.proofs.tags.default_of.Goals as goal
 
 pub returns-in_err-default : goal.returns-in_err-default
-returns-in_err-default c =
-    let q : ReadsFlat (option_map literal_view) IsDefault (NoSign s.Assign) (ahead c.args.cursor.now) (Err c.in_err-default.field-0.0) (ahead c.literal.new.cursor) =
-    default_last (ahead c.args.cursor.now) (ahead c.eat.new.self) (sign_taken s.Assign _ _ c.eat.result c.eat.ensures.found c.eat.ensures.rest c.if-not-eat.false) (Err c.in_err-default.field-0.0) _ c.in_err-default.ensures _ in
-    search rules
+returns-in_err-default c = let q = default_last (ahead c.args.cursor.now) (ahead c.eat.new.self) (sign_taken s.Assign _ _ c.eat.result c.eat.ensures.found c.eat.ensures.rest c.if-not-eat.false) (Err c.in_err-default.field-0.0) _ c.in_err-default.ensures (ahead c.literal.new.cursor) in search rules
 
 pub returns : goal.returns
 returns c =

@@ -9,10 +9,7 @@ use Rattle.jt_trees.proofs.StatementViews.{view_Extends}
 use Rattle.jt_parse.proofs.tags.extends_head.Goals as goal
 
 pub returns-in_err-name : goal.returns-in_err-name
-returns-in_err-name c =
-    let q : (limit : ℕ) → ReadsHead c.args.line limit (codes "extends") (ahead c.args.cursor.now) (Err c.in_err-name.field-0.0) (ahead c.text.new.cursor) =
-    λ limit. extends_last c.args.line limit (ahead c.args.cursor.now) (Err c.in_err-name.field-0.0) _ c.in_err-name.ensures _ in
-    search rules
+returns-in_err-name c = let q = λ (limit : ℕ). extends_last c.args.line limit (ahead c.args.cursor.now) (Err c.in_err-name.field-0.0) _ c.in_err-name.ensures (ahead c.text.new.cursor) in search rules
 
 pub returns : goal.returns
 returns c = λ limit.

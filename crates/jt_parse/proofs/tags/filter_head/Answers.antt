@@ -7,10 +7,7 @@ use Rattle.jt_parse.proofs.FirstTags.{filter_last}
 use Rattle.jt_parse.proofs.tags.filter_head.Goals as goal
 
 pub returns-in_err-found : goal.returns-in_err-found
-returns-in_err-found c =
-    let q : (line : ℕ) → ReadsHead line c.args.levels (codes "filter") (ahead c.args.cursor.now) (Err c.in_err-found.field-0.0) (ahead c.filterings.new.cursor) =
-    λ line. filter_last line c.args.levels (ahead c.args.cursor.now) (Err c.in_err-found.field-0.0) _ c.in_err-found.ensures _ in
-    search rules
+returns-in_err-found c = let q = λ (line : ℕ). filter_last line c.args.levels (ahead c.args.cursor.now) (Err c.in_err-found.field-0.0) _ c.in_err-found.ensures (ahead c.filterings.new.cursor) in search rules
 
 pub returns : goal.returns
 returns c = λ line.

@@ -8,10 +8,7 @@ use Rattle.jt_parse.proofs.Parts.{filtering_unnamed, filtering_last}
 use Rattle.jt_parse.proofs.tags.filtering.Goals as goal
 
 pub returns-in_err-name : goal.returns-in_err-name
-returns-in_err-name c =
-    let q : Reads filtering_view IsFiltering OpensNone one_filtering_levels c.args.levels (ahead c.args.cursor.now) (Err c.in_err-name.field-0.0) (ahead c.target.new.cursor) =
-    filtering_unnamed c.args.levels (ahead c.args.cursor.now) _ _ _ c.in_err-name.ensures in
-    search rules
+returns-in_err-name c = let q = filtering_unnamed c.args.levels (ahead c.args.cursor.now) _ _ (ahead c.target.new.cursor) c.in_err-name.ensures in search rules
 
 pub returns-in_err-items : goal.returns-in_err-items
 returns-in_err-items c =

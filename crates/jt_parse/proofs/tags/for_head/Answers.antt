@@ -6,28 +6,16 @@ use Rattle.jt_parse.proofs.FirstTags.{for_unnamed, for_without_in, for_over_none
 use Rattle.jt_parse.proofs.tags.for_head.Goals as goal
 
 pub returns-in_err-targets : goal.returns-in_err-targets
-returns-in_err-targets c =
-    let q : (line : ℕ) → ReadsHead line c.args.levels (codes "for") (ahead c.args.cursor.now) (Err c.in_err-targets.field-0.0) (ahead c.targets.new.cursor) =
-    λ line. for_unnamed line c.args.levels (ahead c.args.cursor.now) _ _ _ c.in_err-targets.ensures in
-    search rules
+returns-in_err-targets c = let q = λ (line : ℕ). for_unnamed line c.args.levels (ahead c.args.cursor.now) _ _ (ahead c.targets.new.cursor) c.in_err-targets.ensures in search rules
 
 pub returns-in_err-expect_word : goal.returns-in_err-expect_word
-returns-in_err-expect_word c =
-    let q : (line : ℕ) → ReadsHead line c.args.levels (codes "for") (ahead c.args.cursor.now) (Err c.in_err-expect_word.field-0.0) (ahead c.expect_word.new.cursor) =
-    λ line. for_without_in line c.args.levels (ahead c.args.cursor.now) c.in_ok-targets.targets (ahead c.targets.new.cursor) c.in_ok-targets.ensures _ _ _ c.in_err-expect_word.ensures in
-    search rules
+returns-in_err-expect_word c = let q = λ (line : ℕ). for_without_in line c.args.levels (ahead c.args.cursor.now) c.in_ok-targets.targets (ahead c.targets.new.cursor) c.in_ok-targets.ensures _ _ (ahead c.expect_word.new.cursor) c.in_err-expect_word.ensures in search rules
 
 pub returns-in_err-over : goal.returns-in_err-over
-returns-in_err-over c =
-    let q : (line : ℕ) → ReadsHead line c.args.levels (codes "for") (ahead c.args.cursor.now) (Err c.in_err-over.field-0.0) (ahead c.expression.new.cursor) =
-    λ line. for_over_none line c.args.levels (ahead c.args.cursor.now) c.in_ok-targets.targets (ahead c.targets.new.cursor) c.in_ok-targets.ensures (ahead c.expect_word.new.cursor) c.in_ok-expect_word.ensures _ _ _ c.in_err-over.ensures in
-    search rules
+returns-in_err-over c = let q = λ (line : ℕ). for_over_none line c.args.levels (ahead c.args.cursor.now) c.in_ok-targets.targets (ahead c.targets.new.cursor) c.in_ok-targets.ensures (ahead c.expect_word.new.cursor) c.in_ok-expect_word.ensures _ _ (ahead c.expression.new.cursor) c.in_err-over.ensures in search rules
 
 pub returns-in_err-condition : goal.returns-in_err-condition
-returns-in_err-condition c =
-    let q : (line : ℕ) → ReadsHead line c.args.levels (codes "for") (ahead c.args.cursor.now) (Err c.in_err-condition.field-0.0) (ahead c.condition.new.cursor) =
-    λ line. for_last line c.args.levels (ahead c.args.cursor.now) c.in_ok-targets.targets (ahead c.targets.new.cursor) c.in_ok-targets.ensures (ahead c.expect_word.new.cursor) c.in_ok-expect_word.ensures c.in_ok-over.over (ahead c.expression.new.cursor) c.in_ok-over.ensures (Err c.in_err-condition.field-0.0) _ c.in_err-condition.ensures _ in
-    search rules
+returns-in_err-condition c = let q = λ (line : ℕ). for_last line c.args.levels (ahead c.args.cursor.now) c.in_ok-targets.targets (ahead c.targets.new.cursor) c.in_ok-targets.ensures (ahead c.expect_word.new.cursor) c.in_ok-expect_word.ensures c.in_ok-over.over (ahead c.expression.new.cursor) c.in_ok-over.ensures (Err c.in_err-condition.field-0.0) _ c.in_err-condition.ensures (ahead c.condition.new.cursor) in search rules
 
 pub returns : goal.returns
 returns c = λ line.

@@ -11,10 +11,7 @@ returns-then-not-eat_word c =
     (not_given (ahead c.args.cursor.now) (no_word (codes "as") _ _ c.eat_word.result c.eat_word.ensures.found c.eat_word.ensures.rest c.if-not-eat_word.true))
 
 pub returns-in_err-name : goal.returns-in_err-name
-returns-in_err-name c =
-    let q : ReadsFlat (option_map (string_bytes {Z = Global})) IsGiven (NoWord (codes "as")) (ahead c.args.cursor.now) (Err c.in_err-name.field-0.0) (ahead c.target.new.cursor) =
-    given_last (ahead c.args.cursor.now) (ahead c.eat_word.new.self) (word_taken (codes "as") _ _ c.eat_word.result c.eat_word.ensures.found c.eat_word.ensures.rest c.if-not-eat_word.false) (Err c.in_err-name.field-0.0) _ c.in_err-name.ensures _ in
-    search rules
+returns-in_err-name c = let q = given_last (ahead c.args.cursor.now) (ahead c.eat_word.new.self) (word_taken (codes "as") _ _ c.eat_word.result c.eat_word.ensures.found c.eat_word.ensures.rest c.if-not-eat_word.false) (Err c.in_err-name.field-0.0) _ c.in_err-name.ensures (ahead c.target.new.cursor) in search rules
 
 pub returns : goal.returns
 returns c =

@@ -6,10 +6,7 @@ use Rattle.jt_parse.proofs.FirstTags.{if_last}
 use Rattle.jt_parse.proofs.tags.if_head.Goals as goal
 
 pub returns-in_err-condition : goal.returns-in_err-condition
-returns-in_err-condition c =
-    let q : (line : ℕ) → ReadsHead line c.args.levels (codes "if") (ahead c.args.cursor.now) (Err c.in_err-condition.field-0.0) (ahead c.expression.new.cursor) =
-    λ line. if_last line c.args.levels (ahead c.args.cursor.now) (Err c.in_err-condition.field-0.0) _ c.in_err-condition.ensures _ in
-    search rules
+returns-in_err-condition c = let q = λ (line : ℕ). if_last line c.args.levels (ahead c.args.cursor.now) (Err c.in_err-condition.field-0.0) _ c.in_err-condition.ensures (ahead c.expression.new.cursor) in search rules
 
 pub returns : goal.returns
 returns c = λ line.

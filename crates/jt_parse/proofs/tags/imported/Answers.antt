@@ -7,16 +7,10 @@ use Rattle.jt_parse.proofs.Parts.{imported_unnamed, imported_last, imported_done
 use Rattle.jt_parse.proofs.tags.imported.Goals as goal
 
 pub returns-in_err-name : goal.returns-in_err-name
-returns-in_err-name c =
-    let q : ReadsFlat imported_view IsImported (NoWord (codes "as")) (ahead c.args.cursor.now) (Err c.in_err-name.field-0.0) (ahead c.target.new.cursor) =
-    imported_unnamed (ahead c.args.cursor.now) _ _ _ c.in_err-name.ensures in
-    search rules
+returns-in_err-name c = let q = imported_unnamed (ahead c.args.cursor.now) _ _ (ahead c.target.new.cursor) c.in_err-name.ensures in search rules
 
 pub returns-in_err-given : goal.returns-in_err-given
-returns-in_err-given c =
-    let q : ReadsFlat imported_view IsImported (NoWord (codes "as")) (ahead c.args.cursor.now) (Err c.in_err-given.field-0.0) (ahead c.given.new.cursor) =
-    imported_last (ahead c.args.cursor.now) c.in_ok-name.name (ahead c.target.new.cursor) c.in_ok-name.ensures (Err c.in_err-given.field-0.0) _ c.in_err-given.ensures _ in
-    search rules
+returns-in_err-given c = let q = imported_last (ahead c.args.cursor.now) c.in_ok-name.name (ahead c.target.new.cursor) c.in_ok-name.ensures (Err c.in_err-given.field-0.0) _ c.in_err-given.ensures (ahead c.given.new.cursor) in search rules
 
 pub returns : goal.returns
 returns c =

@@ -10,22 +10,13 @@ use Rattle.jt_trees.proofs.StatementViews.{view_Include}
 use Rattle.jt_parse.proofs.tags.include_head.Goals as goal
 
 pub returns-in_err-name : goal.returns-in_err-name
-returns-in_err-name c =
-    let q : (limit : ℕ) → ReadsHead c.args.line limit (codes "include") (ahead c.args.cursor.now) (Err c.in_err-name.field-0.0) (ahead c.text.new.cursor) =
-    λ limit. include_unnamed c.args.line limit (ahead c.args.cursor.now) _ _ _ c.in_err-name.ensures in
-    search rules
+returns-in_err-name c = let q = λ (limit : ℕ). include_unnamed c.args.line limit (ahead c.args.cursor.now) _ _ (ahead c.text.new.cursor) c.in_err-name.ensures in search rules
 
 pub returns-in_err-missing : goal.returns-in_err-missing
-returns-in_err-missing c =
-    let q : (limit : ℕ) → ReadsHead c.args.line limit (codes "include") (ahead c.args.cursor.now) (Err c.in_err-missing.field-0.0) (ahead c.missing.new.cursor) =
-    λ limit. include_ignoring c.args.line limit (ahead c.args.cursor.now) c.in_ok-name.name (ahead c.text.new.cursor) c.in_ok-name.ensures _ _ _ c.in_err-missing.ensures in
-    search rules
+returns-in_err-missing c = let q = λ (limit : ℕ). include_ignoring c.args.line limit (ahead c.args.cursor.now) c.in_ok-name.name (ahead c.text.new.cursor) c.in_ok-name.ensures _ _ (ahead c.missing.new.cursor) c.in_err-missing.ensures in search rules
 
 pub returns-in_err-names : goal.returns-in_err-names
-returns-in_err-names c =
-    let q : (limit : ℕ) → ReadsHead c.args.line limit (codes "include") (ahead c.args.cursor.now) (Err c.in_err-names.field-0.0) (ahead c.context.new.cursor) =
-    λ limit. include_last c.args.line limit (ahead c.args.cursor.now) c.in_ok-name.name (ahead c.text.new.cursor) c.in_ok-name.ensures (is_ignored c.in_ok-missing.missing) (ahead c.missing.new.cursor) c.in_ok-missing.ensures (Err c.in_err-names.field-0.0) _ c.in_err-names.ensures _ in
-    search rules
+returns-in_err-names c = let q = λ (limit : ℕ). include_last c.args.line limit (ahead c.args.cursor.now) c.in_ok-name.name (ahead c.text.new.cursor) c.in_ok-name.ensures (is_ignored c.in_ok-missing.missing) (ahead c.missing.new.cursor) c.in_ok-missing.ensures (Err c.in_err-names.field-0.0) _ c.in_err-names.ensures (ahead c.context.new.cursor) in search rules
 
 pub returns : goal.returns
 returns c = λ limit.

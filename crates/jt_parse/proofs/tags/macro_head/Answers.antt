@@ -7,22 +7,13 @@ use Rattle.jt_parse.proofs.FirstTags.{macro_unnamed, macro_unopened, macro_last}
 use Rattle.jt_parse.proofs.tags.macro_head.Goals as goal
 
 pub returns-in_err-name : goal.returns-in_err-name
-returns-in_err-name c =
-    let q : (line limit : ℕ) → ReadsHead line limit (codes "macro") (ahead c.args.cursor.now) (Err c.in_err-name.field-0.0) (ahead c.target.new.cursor) =
-    λ line limit. macro_unnamed line limit (ahead c.args.cursor.now) _ _ _ c.in_err-name.ensures in
-    search rules
+returns-in_err-name c = let q = λ (line limit : ℕ). macro_unnamed line limit (ahead c.args.cursor.now) _ _ (ahead c.target.new.cursor) c.in_err-name.ensures in search rules
 
 pub returns-in_err-expect : goal.returns-in_err-expect
-returns-in_err-expect c =
-    let q : (line limit : ℕ) → ReadsHead line limit (codes "macro") (ahead c.args.cursor.now) (Err c.in_err-expect.field-0.0) (ahead c.expect.new.self) =
-    λ line limit. macro_unopened line limit (ahead c.args.cursor.now) c.in_ok-name.name (ahead c.target.new.cursor) c.in_ok-name.ensures _ _ _ c.in_err-expect.ensures in
-    search rules
+returns-in_err-expect c = let q = λ (line limit : ℕ). macro_unopened line limit (ahead c.args.cursor.now) c.in_ok-name.name (ahead c.target.new.cursor) c.in_ok-name.ensures _ _ (ahead c.expect.new.self) c.in_err-expect.ensures in search rules
 
 pub returns-in_err-found : goal.returns-in_err-found
-returns-in_err-found c =
-    let q : (line limit : ℕ) → ReadsHead line limit (codes "macro") (ahead c.args.cursor.now) (Err c.in_err-found.field-0.0) (ahead c.parameters.new.cursor) =
-    λ line limit. macro_last line limit (ahead c.args.cursor.now) c.in_ok-name.name (ahead c.target.new.cursor) c.in_ok-name.ensures (ahead c.expect.new.self) c.in_ok-expect.ensures (Err c.in_err-found.field-0.0) _ c.in_err-found.ensures _ in
-    search rules
+returns-in_err-found c = let q = λ (line limit : ℕ). macro_last line limit (ahead c.args.cursor.now) c.in_ok-name.name (ahead c.target.new.cursor) c.in_ok-name.ensures (ahead c.expect.new.self) c.in_ok-expect.ensures (Err c.in_err-found.field-0.0) _ c.in_err-found.ensures (ahead c.parameters.new.cursor) in search rules
 
 pub returns : goal.returns
 returns c = λ line limit.

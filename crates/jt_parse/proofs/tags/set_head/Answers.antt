@@ -11,10 +11,7 @@ use Rattle.jt_trees.proofs.StatementViews.{view_Set}
 use Rattle.jt_parse.proofs.tags.set_head.Goals as goal
 
 pub returns-in_err-targets : goal.returns-in_err-targets
-returns-in_err-targets c =
-    let q : ReadsHead c.args.line c.args.levels (codes "set") (ahead c.args.cursor.now) (Err c.in_err-targets.field-0.0) (ahead c.targets.new.cursor) =
-    set_unnamed c.args.line c.args.levels (ahead c.args.cursor.now) _ _ _ c.in_err-targets.ensures in
-    search rules
+returns-in_err-targets c = let q = set_unnamed c.args.line c.args.levels (ahead c.args.cursor.now) _ _ (ahead c.targets.new.cursor) c.in_err-targets.ensures in search rules
 
 pub returns-then-not-eat : goal.returns-then-not-eat
 returns-then-not-eat c =
@@ -22,10 +19,7 @@ returns-then-not-eat c =
     (captures c.args.line c.args.levels (ahead c.args.cursor.now) c.in_ok-targets.targets (ahead c.targets.new.cursor) c.in_ok-targets.ensures (no_sign s.Assign _ _ c.eat.result c.eat.ensures.found c.eat.ensures.rest c.if-not-eat.true) c.only_name.result c.only_name.ensures)
 
 pub returns-in_err-value : goal.returns-in_err-value
-returns-in_err-value c =
-    let q : ReadsHead c.args.line c.args.levels (codes "set") (ahead c.args.cursor.now) (Err c.in_err-value.field-0.0) (ahead c.expression.new.cursor) =
-    set_last c.args.line c.args.levels (ahead c.args.cursor.now) c.in_ok-targets.targets (ahead c.targets.new.cursor) c.in_ok-targets.ensures (ahead c.eat.new.self) (sign_taken s.Assign _ _ c.eat.result c.eat.ensures.found c.eat.ensures.rest c.if-not-eat.false) (Err c.in_err-value.field-0.0) _ c.in_err-value.ensures _ in
-    search rules
+returns-in_err-value c = let q = set_last c.args.line c.args.levels (ahead c.args.cursor.now) c.in_ok-targets.targets (ahead c.targets.new.cursor) c.in_ok-targets.ensures (ahead c.eat.new.self) (sign_taken s.Assign _ _ c.eat.result c.eat.ensures.found c.eat.ensures.rest c.if-not-eat.false) (Err c.in_err-value.field-0.0) _ c.in_err-value.ensures (ahead c.expression.new.cursor) in search rules
 
 pub returns : goal.returns
 returns c =

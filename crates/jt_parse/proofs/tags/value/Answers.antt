@@ -9,22 +9,13 @@ use Rattle.jt_parse.proofs.Parts.{value_unnamed, value_unassigned, value_last}
 use Rattle.jt_parse.proofs.tags.value.Goals as goal
 
 pub returns-in_err-name : goal.returns-in_err-name
-returns-in_err-name c =
-    let q : Reads value_view IsValue (EndsAt whole) value_levels c.args.levels (ahead c.args.cursor.now) (Err c.in_err-name.field-0.0) (ahead c.target.new.cursor) =
-    value_unnamed c.args.levels (ahead c.args.cursor.now) _ _ _ c.in_err-name.ensures in
-    search rules
+returns-in_err-name c = let q = value_unnamed c.args.levels (ahead c.args.cursor.now) _ _ (ahead c.target.new.cursor) c.in_err-name.ensures in search rules
 
 pub returns-in_err-expect : goal.returns-in_err-expect
-returns-in_err-expect c =
-    let q : Reads value_view IsValue (EndsAt whole) value_levels c.args.levels (ahead c.args.cursor.now) (Err c.in_err-expect.field-0.0) (ahead c.expect.new.self) =
-    value_unassigned c.args.levels (ahead c.args.cursor.now) c.in_ok-name.name (ahead c.target.new.cursor) c.in_ok-name.ensures _ _ _ c.in_err-expect.ensures in
-    search rules
+returns-in_err-expect c = let q = value_unassigned c.args.levels (ahead c.args.cursor.now) c.in_ok-name.name (ahead c.target.new.cursor) c.in_ok-name.ensures _ _ (ahead c.expect.new.self) c.in_err-expect.ensures in search rules
 
 pub returns-in_err-value : goal.returns-in_err-value
-returns-in_err-value c =
-    let q : Reads value_view IsValue (EndsAt whole) value_levels c.args.levels (ahead c.args.cursor.now) (Err c.in_err-value.field-0.0) (ahead c.expression.new.cursor) =
-    value_last c.args.levels (ahead c.args.cursor.now) c.in_ok-name.name (ahead c.target.new.cursor) c.in_ok-name.ensures (ahead c.expect.new.self) c.in_ok-expect.ensures (Err c.in_err-value.field-0.0) _ c.in_err-value.ensures _ in
-    search rules
+returns-in_err-value c = let q = value_last c.args.levels (ahead c.args.cursor.now) c.in_ok-name.name (ahead c.target.new.cursor) c.in_ok-name.ensures (ahead c.expect.new.self) c.in_ok-expect.ensures (Err c.in_err-value.field-0.0) _ c.in_err-value.ensures (ahead c.expression.new.cursor) in search rules
 
 pub returns : goal.returns
 returns c =

@@ -13,10 +13,7 @@ returns-then-left-eq0 c = λ line.
     with_none line c.args.levels (ahead c.args.cursor.now) (h.Opening (o.Values c.new.result)) (ap (λ vs. an_opening (values (pairs_view vs))) c.new.ensures.items) (sym c.left.ensures ∙ c.if-left-eq0.true)
 
 pub returns-in_err-found : goal.returns-in_err-found
-returns-in_err-found c =
-    let q : (line : ℕ) → ReadsHead line c.args.levels (codes "with") (ahead c.args.cursor.now) (Err c.in_err-found.field-0.0) (ahead c.values.new.cursor) =
-    λ line. with_last line c.args.levels (ahead c.args.cursor.now) (omega arith) (Err c.in_err-found.field-0.0) _ c.in_err-found.ensures _ in
-    search rules
+returns-in_err-found c = let q = λ (line : ℕ). with_last line c.args.levels (ahead c.args.cursor.now) (omega arith) (Err c.in_err-found.field-0.0) _ c.in_err-found.ensures (ahead c.values.new.cursor) in search rules
 
 pub returns : goal.returns
 returns c = λ line.

@@ -1,7 +1,5 @@
-use Rattle.std.proofs.Common.{◌∙◌, ◌*◌, Option, Some, ap, sym, length, drop, arith}
+use Rattle.std.proofs.Common.{◌*◌, length, drop, arith, rules}
 use Rattle.std.proofs.lemmas.List.{length-drop}
-use Rattle.jt_image.specs.Code.{Spot}
-use Rattle.jt_image.specs.InPlace.{spot_in}
 use Rattle.jt_image.proofs.Found.{IsBytes-drop}
 use Rattle.jt_image.proofs.Placed.{spot_placed}
 use Rattle.jt_image.proofs.places.Places.spot_there.Goals as goal
@@ -25,7 +23,4 @@ spot_of-requires c =
     rw (c.split_at-2.ensures.back, c.split_at.ensures.back) (omega (arith, here.0, length-drop (6 * c.args.number) (drop p.spots c.args.bytes.now)))
 
 pub returns : goal.returns
-returns c =
-    let p = c.args.self.now in
-    let here = spot_placed (length p.templates.items) p.instructions c.args.number (drop p.spots c.args.bytes.now) c.requires.there.few (IsBytes-drop p.spots c.args.bytes.now (λ i. omega (arith, c.type_inv.bytes i))) c.requires.spots (omega arith) in
-    ap (λ (s : Spot). let o : Option Spot = Some s in o) (c.spot_of.ensures ∙ ap spot_in (c.split_at-2.ensures.back ∙ ap (drop (6 * c.args.number)) c.split_at.ensures.back)) ∙ sym here.1
+returns c = search (arith, rules, spot_placed)

@@ -35,5 +35,5 @@ returns c =
       fitting (length st.open_stmts) (suc c.in_ok-levels.levels) 100 (head_levels (head_view c.in_ok-head.head))
           (head_left c.depth.result (length st.open_stmts) 100 c.in_ok-levels.levels c.in_ok-levels.ensures.left.1 c.depth.ensures c.in_ok-levels.ensures.left.0) c.in_ok-head.ensures.1,
       c.in_ok-head.ensures.2,
-      c.in_ok-headed.ensures.headed,
+      c.in_ok-headed.ensures,
     )

@@ -36,5 +36,5 @@ returns c =
       fitting (suc (length st.open_stmts)) c.in_ok-levels.levels 100 (levels (expr_view c.in_ok-printed.printed))
           (one_left c.depth.result (length st.open_stmts) 100 c.in_ok-levels.levels c.in_ok-levels.ensures.left.1 c.depth.ensures c.in_ok-levels.ensures.left.0) c.in_ok-printed.ensures.1,
       c.in_ok-printed.ensures.2,
-      ap (λ b. state b st.open_stmts) (c.in_ok-push_statement.ensures.pushed ∙ ap (then_one st.body) (view_Print c.args.line c.in_ok-printed.printed)),
+      ap (λ b. state b st.open_stmts) (c.in_ok-push_statement.ensures ∙ ap (then_one st.body) (view_Print c.args.line c.in_ok-printed.printed)),
     )

@@ -15,4 +15,4 @@ returns c =
     let st = state_view c.args.self.now in
     let some : 0 < length c.args.text.now = grind (arith, nat_tests) in
     text_some 100 st _ c.args.text.now c.utf8.text some
-    (ap (λ b. state b st.open_stmts) (c.in_ok-push_statement.ensures.pushed ∙ ap (then_one st.body) (view_Data c.in_ok-copy.copy ∙ ap data_of c.in_ok-copy.ensures)))
+    (ap (λ b. state b st.open_stmts) (c.in_ok-push_statement.ensures ∙ ap (then_one st.body) (view_Data c.in_ok-copy.copy ∙ ap data_of c.in_ok-copy.ensures)))
