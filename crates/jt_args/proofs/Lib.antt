@@ -1,7 +1,0 @@
-mod Adding
-mod Checked
-mod Commands
-mod Found
-mod Passed
-mod Texts
-mod Pairing

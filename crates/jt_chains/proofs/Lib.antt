@@ -1,3 +1,0 @@
-pub mod Libraries
-pub mod Placed
-pub mod Tabled

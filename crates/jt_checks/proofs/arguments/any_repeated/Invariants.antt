@@ -1,8 +1,0 @@
-use Rattle.std.proofs.Common.{◌≡◌, drop}
-use Rattle.jt_checks.specs.Standing.{texts}
-use Rattle.jt_trees.specs.Texts.{repeated}
-use Rattle.jt_checks.proofs.Sets.{again}
-use Rattle.jt_checks.proofs.arguments.any_repeated.Given as goal
-
-abbrev pub invariant-loop-name : goal.invariant-loop-name
-invariant-loop-name l = again l.seen (texts (drop l.name-index l.names)) ≡ repeated (texts l.names)

@@ -1,3 +1,0 @@
-mod Members
-mod KeyOrder
-mod Turns

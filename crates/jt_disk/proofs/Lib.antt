@@ -1,2 +1,0 @@
-mod Images
-mod Names

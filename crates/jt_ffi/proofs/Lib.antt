@@ -1,2 +1,0 @@
-pub mod Shelving
-pub mod Untelling

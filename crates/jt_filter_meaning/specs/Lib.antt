@@ -1,9 +1,0 @@
-pub mod FilterIds
-pub mod Filtering
-pub mod Kinds
-pub mod Listing
-pub mod Mapping
-pub mod Numbers
-pub mod Ordering
-pub mod Single
-pub mod Texts

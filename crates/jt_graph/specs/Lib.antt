@@ -1,3 +1,0 @@
-pub mod Graph
-pub mod View
-pub mod Walks

@@ -1,8 +1,0 @@
--- What contracts see of a graph in memory.
-use Rattle.std.specs.Prelude.{ℕ, List, map}
-use Rattle.std.specs.declared.vec.Vec.{Vec}
-use Rattle.std.specs.declared.alloc.Global.{Global}
-use Rattle.jt_graph.specs.Graph.{Graph}
-
-abbrev pub graph_of : List (Vec ℕ Global) → Graph
-graph_of = map (λ v. v.items)

@@ -1,3 +1,0 @@
-pub mod FilterTable
-pub mod OpTable
-pub mod TestTable

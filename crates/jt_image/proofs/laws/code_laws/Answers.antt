@@ -1,5 +1,0 @@
-use Rattle.jt_image.proofs.Lawful.{lawful}
-use Rattle.jt_image.proofs.laws.code_laws.Goals as goal
-
-pub returns : goal.returns
-returns c = lawful

@@ -1,8 +1,0 @@
-use Rattle.std.proofs.Common.{◌^◌, arith}
-use Rattle.std.specs.Int.{w16}
-use Rattle.jt_image.proofs.Found.{wide16}
-use Rattle.jt_image.proofs.Standing.{number_last}
-use Rattle.jt_image.proofs.tables.all_constants_at.Goals as goal
-
-pub constants_at-requires-clause-last : goal.constants_at-requires-clause-last
-constants_at-requires-clause-last c = number_last w16 (2 ^ 16) wide16 c.args.bytes.now c.args.front.now c.in_ok-count.count c.in_ok-count.rest.now (λ i. omega (arith, c.type_inv.bytes i)) c.requires.last c.in_ok-count.ensures

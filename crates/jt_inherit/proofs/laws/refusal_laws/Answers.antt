@@ -1,5 +1,0 @@
-use Rattle.jt_inherit.proofs.Lasting.{laws_hold}
-use Rattle.jt_inherit.proofs.laws.refusal_laws.Goals as goal
-
-pub returns : goal.returns
-returns c = laws_hold

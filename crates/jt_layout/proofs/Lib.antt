@@ -1,9 +1,0 @@
-pub mod Bodied
-pub mod Called
-pub mod Firsts
-pub mod Fronts
-pub mod FirstGiven
-pub mod Homes
-pub mod Included
-pub mod Named
-pub mod Tables

@@ -1,7 +1,0 @@
-pub mod Asm
-pub mod Spots
-pub mod Lower
-pub mod Fits
-pub mod Lawful
-pub mod Emission
-pub mod Compiles

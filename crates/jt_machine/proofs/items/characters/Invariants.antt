@@ -1,8 +1,0 @@
-use Rattle.std.proofs.Common.{◌≡◌, length, map, take}
-use Rattle.std.specs.Str.{chars}
-use Rattle.jt_value.specs.View.{view}
-use Rattle.jt_machine.proofs.Steps.{character_of}
-use Rattle.jt_machine.proofs.items.characters.Given as goal
-
-abbrev pub invariant-characters : goal.invariant-characters
-invariant-characters l = map view l.items.items ≡ map character_of (take (length l.yielded) (chars l.text))

@@ -1,7 +1,0 @@
-use Rattle.std.proofs.Common.{◌≡◌, map, take}
-use Rattle.jt_value.specs.View.{view}
-use Rattle.jt_machine.proofs.Steps.{key_of}
-use Rattle.jt_machine.proofs.items.keys.Given as goal
-
-abbrev pub invariant-entries : goal.invariant-entries
-invariant-entries l = map view l.keys.items ≡ map key_of (take l.entry-index l.fn.entries)

@@ -1,8 +1,0 @@
-use Rattle.std.proofs.Common.{arith}
-use Rattle.jt_value.specs.Tree as tree
-use Rattle.jt_value.specs.View.{items_of}
-use Rattle.jt_machine.specs.Entries.{all_held}
-use Rattle.jt_machine.proofs.limits.list_limit.Goals as goal
-
-pub returns : goal.returns
-returns c = c.limit_by.ensures (tree.list (items_of (all_held c.args.entries.now))) (omega arith) (omega arith)

@@ -1,5 +1,0 @@
-use Rattle.jt_machine.proofs.Slicing.{laws}
-use Rattle.jt_machine.proofs.machine.session_laws.Goals as goal
-
-pub returns : goal.returns
-returns c = laws

@@ -1,8 +1,0 @@
-use Rattle.std.proofs.Common.{◌≡◌, ◌-◌, ◌^◌, min, take}
-use Rattle.jt_value.specs.Tree.{items_size}
-use Rattle.jt_value.specs.View.{items_of}
-use Rattle.jt_machine.specs.Entries.{all_held}
-use Rattle.jt_machine.proofs.measure.sizes.Given as goal
-
-abbrev pub invariant-entries : goal.invariant-entries
-invariant-entries l = l.total ≡ min (items_size (items_of (all_held (take l.entry-index l.entries)))) (2 ^ 64 - 1)

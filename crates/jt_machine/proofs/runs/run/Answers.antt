@@ -1,4 +1,0 @@
-use Rattle.jt_machine.proofs.runs.run.Goals as goal
-
-pub returns-clause-safe : goal.returns-clause-safe
-returns-clause-safe c = (c.code_laws.ensures.runs c.args.verified.now c.image.ensures.whole c.image.ensures.typed).safe

@@ -1,6 +1,0 @@
-pub mod Answering
-pub mod Finding
-pub mod Loops
-pub mod Numbers
-pub mod Pieces
-pub mod Places

@@ -1,5 +1,0 @@
-use Rattle.jt_trees.proofs.StatementViews.{view_If}
-use Rattle.jt_parse.proofs.open_stmts.if_statement.Goals as goal
-
-pub returns : goal.returns
-returns c = view_If c.args.branches c.args.other

@@ -1,7 +1,0 @@
-use Rattle.std.proofs.Common.{ap, ◌∙◌}
-use Rattle.jt_trees.specs.StatementView.{branches_view}
-use Rattle.jt_parse.proofs.Views.{branches-push}
-use Rattle.jt_parse.proofs.open_stmts.push_branch.Goals as goal
-
-pub returns-clause-pushed : goal.returns-clause-pushed
-returns-clause-pushed c = ap branches_view c.in_ok-push.ensures.items ∙ branches-push c.args.branches.now.items (c.args.line, c.args.condition, c.args.body)

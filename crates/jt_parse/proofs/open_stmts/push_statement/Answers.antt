@@ -1,7 +1,0 @@
-use Rattle.std.proofs.Common.{ap, ◌∙◌}
-use Rattle.jt_trees.specs.StatementView.{body_view}
-use Rattle.jt_parse.proofs.Views.{body-push}
-use Rattle.jt_parse.proofs.open_stmts.push_statement.Goals as goal
-
-pub returns-clause-pushed : goal.returns-clause-pushed
-returns-clause-pushed c = ap body_view c.in_ok-push.ensures.items ∙ body-push c.args.body.now.items c.args.statement

@@ -1,8 +1,0 @@
-use Rattle.std.proofs.Common.{◌≡◌, drop}
-use Rattle.jt_trees.specs.StatementView.{body_view}
-use Rattle.jt_parse.specs.Positions.{is_placed}
-use Rattle.jt_parse.proofs.Placing.{placed_by}
-use Rattle.jt_parse.proofs.positions.template_placed.Given as goal
-
-abbrev pub invariant-loop-statement : goal.invariant-loop-statement
-invariant-loop-statement l = is_placed (body_view l.statement-items) ≡ placed_by l.position (body_view (drop l.statement-index l.statement-items))

@@ -1,2 +1,0 @@
-pub mod ExpressionViews
-pub mod StatementViews

@@ -1,6 +1,0 @@
-use Rattle.std.proofs.Common.{◌∙◌}
-use Rattle.jt_scan.proofs.Words.{same_text}
-use Rattle.jt_scan.proofs.text.is_word.Goals as goal
-
-pub returns : goal.returns
-returns c = c.eq.ensures ∙ same_text c.args.word.now c.args.known.now c.utf8.word c.requires

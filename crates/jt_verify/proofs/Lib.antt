@@ -1,9 +1,0 @@
-pub mod Numbers
-pub mod Values
-pub mod Ways
-pub mod Nodes
-pub mod Growing
-pub mod Tables
-pub mod Following
-pub mod Refused
-pub mod Walking

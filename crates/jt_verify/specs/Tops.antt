@@ -1,9 +1,0 @@
--- The kinds that a shape holds.
-use Rattle.std.specs.Prelude.{List, [], reverse, Option, Some, None}
-use Rattle.jt_image.specs.declared.kind.Kind.{Kind}
-use Rattle.smallvec.specs.SmallVec.{SmallVec}
-
--- the entries are kept with the top last
-abbrev pub kinds : Option (SmallVec Kind) → List Kind
-kinds None = []
-kinds (Some entries) = reverse entries.items

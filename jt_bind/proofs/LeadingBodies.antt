@@ -1,0 +1,139 @@
+-- Statements that were put behind one another.
+use Rattle.std.proofs.Common.{◌≡◌, ℕ, ◌+◌, List, [], ◌∷◌, ◌++◌, length, map, refl, sym, ap, ◌∙◌, subst, Bool, Option, Vec, Global, append_assoc, append-nil, length-append, arith, rules}
+use Rattle.std.specs.Prelude.{option_map}
+use Rattle.std.proofs.lemmas.List.{map-append}
+use Rattle.jt_value.specs.Tree.{Tree}
+use Rattle.jt_value.specs.View.{view}
+use Rattle.jt_value.specs.declared.value.Value.{Value}
+use Rattle.jt_trees.specs.Expressions.{Text}
+use Rattle.jt_value.specs.Place.{Place}
+use Rattle.jt_resolved.specs.Pool.{Constant, own, expr_values, condition_values, stmt_values, body_values, placed_expr, placed_condition, placed_stmt, placed_body}
+use Rattle.jt_resolved.specs.Slots as slots
+use Rattle.jt_resolved.specs.Slots.{SlotExpr, SRow, SBody}
+use Rattle.jt_resolved.specs.View.{Front, slot_view, targets_view, place_view, expr_view, stmt_view, body_view, choice_view}
+use Rattle.jt_resolved.specs.declared.program.Place as code_place
+use Rattle.jt_resolved.specs.declared.program.Slot as code_slot
+use Rattle.jt_resolved.specs.declared.program.Targets as code_targets
+use Rattle.jt_resolved.specs.declared.program.SlotExpr as code
+use Rattle.jt_resolved.specs.declared.program.SlotStmt as code_stmt
+use Rattle.jt_resolved.specs.declared.program.SlotStmt.TheVariants as s
+use Rattle.jt_meaning.specs.Resolve.{followed, alone}
+use Rattle.jt_bind.specs.Scoped.{IsPlaced, RowLeads, BodyLeads}
+use Rattle.jt_bind.specs.Stated.{Branch, Led, IsBody, IsAsked, IsBranch, StandsFor, ChoiceLeads}
+use Rattle.jt_bind.proofs.LeadingRows.{grown_by}
+use Rattle.jt_resolved.proofs.ExpressionViews.{Entry}
+use Rattle.jt_resolved.proofs.StatementViews.{view_PutPooled, view_Print, view_Assign, view_If, view_For, view_Capture, view_Run, body_push, joined, choice_push}
+
+-- ---- bodies
+
+pub followed_end : (b : SBody Constant) → followed b slots.end ≡ b
+followed_end slots.end = refl
+followed_end (slots.stmt s rest) = ap (slots.stmt s) (followed_end rest)
+
+pub followed_again : (a b c : SBody Constant) → followed (followed a b) c ≡ followed a (followed b c)
+followed_again slots.end b c = refl
+followed_again (slots.stmt s rest) b c = ap (slots.stmt s) (followed_again rest b c)
+
+pub followed_values : (a b : SBody Constant) → body_values (followed a b) ≡ body_values a ++ body_values b
+followed_values slots.end b = refl
+followed_values (slots.stmt s rest) b = ap (λ l. stmt_values s ++ l) (followed_values rest b) ∙ sym (append_assoc (stmt_values s) (body_values rest) (body_values b))
+
+-- a value more in a pool
+pub value_push : (is ks : List Value) (x : Value) (v : Tree) → ks ≡ is ++ x ∷ [] → view x ≡ v → map view ks ≡ map view is ++ v ∷ []
+value_push is ks x v e f = ap (map view) e ∙ map-append view is (x ∷ []) ∙ ap (λ z. map view is ++ z ∷ []) f
+
+module _ (templates : List Text) where
+  abbrev Leads : SBody Constant → SBody Constant → List code_stmt.SlotStmt → List code_stmt.SlotStmt → List Tree → List Tree → Type 0
+  Leads = BodyLeads templates
+
+  -- ---- parts behind one another
+
+  pub lead_same : (whole : SBody Constant) (es : List code_stmt.SlotStmt) (p : List Tree) → Leads whole whole es es p p
+  lead_same whole es p = record { shown = refl; pooled = refl }
+
+  pub lead_both : (a b c : SBody Constant) (es fs gs : List code_stmt.SlotStmt) (p q r : List Tree) → Leads a b es fs p q → Leads b c fs gs q r → Leads a c es gs p r
+  lead_both a b c es fs gs p q r h g = record { shown = g.shown ∙ h.shown; pooled = g.pooled ∙ h.pooled }
+
+  -- the whole, or what is left, in another form
+  pub lead_of : (a b left : SBody Constant) (es fs : List code_stmt.SlotStmt) (p q : List Tree) → a ≡ b → Leads a left es fs p q → Leads b left es fs p q
+  lead_of a b left es fs p q h = let P : SBody Constant → Type 0 = λ z. BodyLeads templates z left es fs p q in subst P h
+
+  pub lead_left : (whole a b : SBody Constant) (es fs : List code_stmt.SlotStmt) (p q : List Tree) → a ≡ b → Leads whole a es fs p q → Leads whole b es fs p q
+  lead_left whole a b es fs p q h = let P : SBody Constant → Type 0 = λ z. BodyLeads templates whole z es fs p q in subst P h
+
+  pub led_nothing : (es : List code_stmt.SlotStmt) (p : List Tree) → Led templates slots.end es es p p
+  led_nothing es p = λ left. record { shown = refl; pooled = refl }
+
+  -- a body behind another
+  pub led_both : (a b : SBody Constant) (es fs gs : List code_stmt.SlotStmt) (p q r : List Tree) → Led templates a es fs p q → Led templates b fs gs q r → Led templates (followed a b) es gs p r
+  led_both a b es fs gs p q r h g = search (arith, rules, lead_both, lead_of, followed_again) steps 1000000
+
+  pub led_of : (a b : SBody Constant) (es fs : List code_stmt.SlotStmt) (p q : List Tree) → a ≡ b → Led templates a es fs p q → Led templates b es fs p q
+  led_of a b es fs p q e h = λ left. lead_of (followed a left) (followed b left) left es fs p q (ap (λ z. followed z left) e) (h left)
+
+  -- a body that began with nothing
+  pub led_begun : (whole : SBody Constant) (es fs gs : List code_stmt.SlotStmt) (p q : List Tree) → es ≡ gs → Led templates whole es fs p q → Led templates whole gs fs p q
+  led_begun whole es fs gs p q e h = λ left. let P : List code_stmt.SlotStmt → Type 0 = λ l. BodyLeads templates (followed whole left) left l fs p q in subst P e (h left)
+
+  -- ---- a whole body
+
+  pub body_shown : (w : SBody Constant) (es : List code_stmt.SlotStmt) (p q : List Tree) → IsBody templates w es p q → body_view templates es slots.end ≡ placed_body w (length p)
+  body_shown w es p q h = (h slots.end).shown ∙ ap (λ z. placed_body z (length p)) (followed_end w)
+
+  pub body_pooled : (w : SBody Constant) (es : List code_stmt.SlotStmt) (p q : List Tree) → IsBody templates w es p q → q ≡ p ++ body_values w
+  body_pooled w es p q h = sym (append-nil q) ∙ (h slots.end).pooled ∙ ap (λ z. p ++ body_values z) (followed_end w)
+
+  -- ---- a statement more
+
+  pub stmt_led : (c : slots.SlotStmt Constant) (x : code_stmt.SlotStmt) (ss ts : List code_stmt.SlotStmt) (p q : List Tree)
+      → ((behind : SBody ℕ) → stmt_view templates x behind ≡ slots.stmt (placed_stmt c (length p)) behind) → q ≡ p ++ stmt_values c → ts ≡ ss ++ x ∷ [] → Led templates (alone c) ss ts p q
+  stmt_led c x ss ts p q h f e = search (arith, rules, body_push, grown_by, append_assoc) steps 1000000
+
+  pub print_led : (at : code_place.Place) (pl : Place) (escaping : Bool) (c : SlotExpr Constant) (e : code.SlotExpr) (ss ts : List code_stmt.SlotStmt) (p q : List Tree) → place_view templates at ≡ pl → IsPlaced c (expr_view e) p q
+      → ts ≡ ss ++ s.Print at escaping e ∷ [] → Led templates (alone (slots.print pl escaping c)) ss ts p q
+  print_led at pl escaping c e ss ts p q f h = search (arith, rules, stmt_led, view_Print) steps 1000000
+
+  pub assign_led : (at : code_place.Place) (pl : Place) (xs : code_targets.Targets) (c : SlotExpr Constant) (e : code.SlotExpr) (ss ts : List code_stmt.SlotStmt) (p q : List Tree) → place_view templates at ≡ pl → IsPlaced c (expr_view e) p q
+      → ts ≡ ss ++ s.Assign at xs e ∷ [] → Led templates (alone (slots.assign pl (targets_view xs) c)) ss ts p q
+  assign_led at pl xs c e ss ts p q f h = search (arith, rules, stmt_led, view_Assign) steps 1000000
+
+  pub run_led : (u : ℕ) (es : SRow Constant) (row : Vec Entry Global) (ss ts : List code_stmt.SlotStmt) (p q : List Tree) → RowLeads es slots.none [] row.items p q
+      → ts ≡ ss ++ s.Run u row ∷ [] → Led templates (alone (slots.run u es)) ss ts p q
+  run_led u es row ss ts p q h =
+      stmt_led (slots.run u es) (s.Run u row) ss ts p q (λ behind. view_Run templates u row behind ∙ ap (λ z. slots.stmt (slots.run u z) behind) h.shown) (sym (append-nil q) ∙ h.pooled)
+
+  pub capture_led : (escaping : Bool) (x : code_slot.Slot) (w : SBody Constant) (body : Vec code_stmt.SlotStmt Global) (ss ts : List code_stmt.SlotStmt) (p q : List Tree) → IsBody templates w body.items p q
+      → ts ≡ ss ++ s.Capture escaping x body ∷ [] → Led templates (alone (slots.capture escaping (slot_view x) w)) ss ts p q
+  capture_led escaping x w body ss ts p q h = search (arith, rules, stmt_led, view_Capture, body_shown, body_pooled) steps 1000000
+
+  pub data_led : (v : Tree) (i : ℕ) (ss ts : List code_stmt.SlotStmt) (p q : List Tree) → i ≡ length p → q ≡ p ++ v ∷ [] → ts ≡ ss ++ s.PutPooled i ∷ [] → Led templates (alone (slots.put_pooled (own v))) ss ts p q
+  data_led v i ss ts p q e = stmt_led (slots.put_pooled (own v)) (s.PutPooled i) ss ts p q (λ behind. view_PutPooled templates i behind ∙ ap (λ n. slots.stmt (slots.put_pooled n) behind) e)
+
+  pub loop_led : (at : code_place.Place) (pl : Place) (xs : code_targets.Targets) (c : SlotExpr Constant) (e : code.SlotExpr) (k : Option (SlotExpr Constant)) (d : Option code.SlotExpr) (turn last : SBody Constant)
+      (body other : Vec code_stmt.SlotStmt Global) (ss ts : List code_stmt.SlotStmt) (p q r t v : List Tree) → place_view templates at ≡ pl → IsPlaced c (expr_view e) p q → IsAsked k d q r → IsBody templates turn body.items r t
+      → IsBody templates last other.items t v → ts ≡ ss ++ s.For at xs e d body other ∷ [] → Led templates (alone (slots.for_each pl (targets_view xs) c k turn last)) ss ts p v
+  loop_led at pl xs c e k d turn last body other ss ts p q r t v f h g b o = search (arith, rules, grown_by, body_pooled, stmt_led, view_For, body_shown, append_assoc) steps 1000000
+
+  -- ---- choices
+
+  -- the other part in another form
+  pub choice_other : (whole a b : SBody Constant) (bs : List Branch) (p q : List Tree) → a ≡ b → ChoiceLeads templates whole a bs p q → ChoiceLeads templates whole b bs p q
+  choice_other whole a b bs p q = let P : SBody Constant → Type 0 = λ z. ChoiceLeads templates whole z bs p q in subst P
+
+  -- no branch yet
+  pub choice_same : (whole : SBody Constant) (bs : List Branch) (p : List Tree) → bs ≡ [] → ChoiceLeads templates whole whole bs p p
+  choice_same whole bs p e = search (arith, rules) steps 1000000
+
+  -- a branch whose body is written in another form
+  pub branch_as : (pl : Place) (c : SlotExpr Constant) (a b : SBody Constant) (x : Branch) (p q : List Tree) → a ≡ b → IsBranch templates pl c a x p q → IsBranch templates pl c b x p q
+  branch_as pl c a b x p q = let P : SBody Constant → Type 0 = λ z. IsBranch templates pl c z x p q in subst P
+
+  -- a branch more
+  pub branch_led : (whole rest b : SBody Constant) (pl : Place) (c : SlotExpr Constant) (x : Branch) (bs cs : List Branch) (p q t : List Tree)
+      → ChoiceLeads templates whole (alone (slots.if_else pl c b rest)) bs p q → IsBranch templates pl c b x q t → cs ≡ bs ++ x ∷ [] → ChoiceLeads templates whole rest cs p t
+  branch_led whole rest b pl c x bs cs p q t so is w = search (arith, rules, grown_by, body_pooled, joined, body_shown, append-nil, length-append, choice_push, append_assoc) steps 1000000
+
+  -- all branches, and the else part
+  pub choice_led : (whole last : SBody Constant) (bs : Vec Branch Global) (other : Vec code_stmt.SlotStmt Global) (ss ts : List code_stmt.SlotStmt) (p q r : List Tree) → ChoiceLeads templates whole last bs.items p q → IsBody templates last other.items q r
+      → ts ≡ ss ++ s.If bs other ∷ [] → Led templates whole ss ts p r
+  choice_led whole last bs other ss ts p q r h g e = search (arith, rules, body_shown, grown_by, body_pooled, body_push, view_If, append_assoc, followed_values) steps 1000000

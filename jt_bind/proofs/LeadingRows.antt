@@ -1,0 +1,64 @@
+-- Expressions and rows that were put behind one another.
+use Rattle.std.proofs.Common.{◌≡◌, ℕ, ◌+◌, List, [], ◌∷◌, ◌++◌, length, sym, ap, ◌∙◌, subst, Bool, Some, None, append_assoc, append-nil, length-append, arith, rules}
+use Rattle.jt_value.specs.Tree.{Tree}
+use Rattle.jt_trees.specs.Expressions as trees
+use Rattle.jt_resolved.specs.Pool.{Constant, expr_values, row_values, placed_expr, placed_row}
+use Rattle.jt_resolved.specs.Slots as slots
+use Rattle.jt_resolved.specs.Slots.{SlotExpr, SRow, Maker}
+use Rattle.jt_resolved.specs.View.{expr_view, row_view}
+use Rattle.jt_resolved.specs.declared.program.SlotExpr as code
+use Rattle.jt_bind.specs.Scoped.{IsPlaced, RowLeads, expr_in}
+use Rattle.jt_bind.specs.Chains.{Chains}
+use Rattle.jt_bind.specs.declared.spot.Spot.{Spot}
+use Rattle.jt_resolved.proofs.ExpressionViews.{Entry, row_push}
+
+-- ---- expressions
+
+-- the length of a pool behind a part
+pub grown_by : (p xs q : List Tree) → q ≡ p ++ xs → length q ≡ length p + length xs
+grown_by p xs q e = ap length e ∙ length-append p xs
+
+-- the values of two parts
+pub both_pooled : (p xs ys q r : List Tree) → q ≡ p ++ xs → r ≡ q ++ ys → r ≡ p ++ (xs ++ ys)
+both_pooled p xs ys q r e f = f ∙ ap (λ l. l ++ ys) e ∙ append_assoc p xs ys
+
+pub conjunction_placed : (a b : SlotExpr Constant) (x y z : SlotExpr ℕ) (p q r : List Tree) → IsPlaced a x p q → IsPlaced b y q r → z ≡ slots.conjunction x y → IsPlaced (slots.conjunction a b) z p r
+conjunction_placed a b x y z p q r h g e = search (arith, rules, grown_by, both_pooled) steps 1000000
+
+pub disjunction_placed : (a b : SlotExpr Constant) (x y z : SlotExpr ℕ) (p q r : List Tree) → IsPlaced a x p q → IsPlaced b y q r → z ≡ slots.disjunction x y → IsPlaced (slots.disjunction a b) z p r
+disjunction_placed a b x y z p q r h g e = search (arith, rules, grown_by, both_pooled) steps 1000000
+
+-- ---- rows
+
+pub row_both : (a b c : SRow Constant) (es fs gs : List Entry) (p q r : List Tree) → RowLeads a b es fs p q → RowLeads b c fs gs q r → RowLeads a c es gs p r
+row_both a b c es fs gs p q r h g = record { shown = g.shown ∙ h.shown; pooled = g.pooled ∙ h.pooled }
+
+pub row_item : (c : SlotExpr Constant) (left : SRow Constant) (x : code.SlotExpr) (es fs : List Entry) (p q : List Tree) → IsPlaced c (expr_view x) p q → fs ≡ es ++ (None, x) ∷ [] → RowLeads (slots.item c left) left es fs p q
+row_item c left x es fs p q h e = search (arith, rules, row_push, grown_by, append_assoc) steps 1000000
+
+pub row_aside : (i : ℕ) (c : SlotExpr Constant) (left : SRow Constant) (x : code.SlotExpr) (es fs : List Entry) (p q : List Tree) → IsPlaced c (expr_view x) p q → fs ≡ es ++ (Some i, x) ∷ [] → RowLeads (slots.aside i c left) left es fs p q
+row_aside i c left x es fs p q h e = search (arith, rules, row_push, grown_by, append_assoc) steps 1000000
+
+-- a row of which all is done
+pub made_placed : (k : Maker) (whole : SRow Constant) (es : List Entry) (z : SlotExpr ℕ) (p q : List Tree) → RowLeads whole slots.none [] es p q → z ≡ slots.made k (row_view es slots.none) → IsPlaced (slots.made k whole) z p q
+made_placed k whole es z p q h e = record { shown = e ∙ ap (slots.made k) h.shown; pooled = sym (append-nil q) ∙ h.pooled }
+
+pub invoked_placed : (u : ℕ) (escaping : Bool) (whole : SRow Constant) (es : List Entry) (z : SlotExpr ℕ) (p q : List Tree) → RowLeads whole slots.none [] es p q → z ≡ slots.invoke u escaping (row_view es slots.none)
+    → IsPlaced (slots.invoke u escaping whole) z p q
+invoked_placed u escaping whole es z p q h e = record { shown = e ∙ ap (slots.invoke u escaping) h.shown; pooled = sym (append-nil q) ∙ h.pooled }
+
+-- ---- trees that are equal
+
+pub same_tree : (s : Chains) (spot : Spot) (x y : trees.Expr) (e : SlotExpr ℕ) (p q : List Tree) → x ≡ y → IsPlaced (expr_in s x spot) e p q → IsPlaced (expr_in s y spot) e p q
+same_tree s spot x y e p q h = let P : trees.Expr → Type 0 = λ z. IsPlaced (expr_in s z spot) e p q in subst P h
+
+-- a row that began with nothing
+pub begun : (whole left : SRow Constant) (es fs gs : List Entry) (p q : List Tree) → es ≡ gs → RowLeads whole left es fs p q → RowLeads whole left gs fs p q
+begun whole left es fs gs p q h = let P : List Entry → Type 0 = λ l. RowLeads whole left l fs p q in subst P h
+
+-- the whole, or what is left, in another form
+pub of_whole : (a b left : SRow Constant) (es fs : List Entry) (p q : List Tree) → a ≡ b → RowLeads a left es fs p q → RowLeads b left es fs p q
+of_whole a b left es fs p q h = let P : SRow Constant → Type 0 = λ z. RowLeads z left es fs p q in subst P h
+
+pub of_left : (whole a b : SRow Constant) (es fs : List Entry) (p q : List Tree) → a ≡ b → RowLeads whole a es fs p q → RowLeads whole b es fs p q
+of_left whole a b es fs p q h = let P : SRow Constant → Type 0 = λ z. RowLeads whole z es fs p q in subst P h

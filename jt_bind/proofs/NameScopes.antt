@@ -1,0 +1,26 @@
+-- Names in name_scopes, one behind the other.
+use Rattle.std.proofs.Common.{◌≡◌, ℕ, ◌+◌, ◌<◌, List, [], ◌∷◌, ◌++◌, length, map, take, get_or, refl, sym, ap, ◌∙◌, None, Global, arith, rules}
+use Rattle.std.specs.declared.rc.Rc.{Rc}
+use Rattle.std.proofs.lemmas.List.{take_more, map-append}
+use Rattle.jt_trees.specs.Expressions.{Text}
+use Rattle.jt_meaning.specs.Layout.{Table, slot_in}
+use Rattle.jt_meaning.specs.Resolve.{bound_table}
+use Rattle.jt_layout.specs.Names.{place_in}
+use Rattle.jt_names.specs.Names.{texts}
+use Rattle.jt_bind.specs.Scoped.{framed}
+use Rattle.jt_bind.specs.declared.name_scope.NameScope.{NameScope}
+use Rattle.jt_bind.proofs.Names.{found_or, bound_found}
+
+framed_push : (fs : List NameScope) (f : NameScope) (t : Table) → framed (fs ++ f ∷ []) t ≡ bound_table (texts f.names.items) f.first (framed fs t)
+framed_push [] f t = refl
+framed_push (g ∷ fs) f t = framed_push fs f (bound_table (texts g.names.items) g.first t)
+
+-- the name_scopes up to one of them
+framed_more : (rs : List (Rc NameScope Global)) (i : ℕ) (r : Rc NameScope Global) (t : Table) → i < length rs → framed (map (λ f. f.value) (take (i + 1) rs)) t
+    ≡ bound_table (texts (get_or rs i r).value.names.items) (get_or rs i r).value.first (framed (map (λ f. f.value) (take i rs)) t)
+framed_more rs i r t lt = search (arith, rules, take_more, map-append, get_or, framed_push) steps 1000000
+
+-- a name that the innermost of them has, or has not
+pub framed_found : (x : Text) (rs : List (Rc NameScope Global)) (i : ℕ) (f : NameScope) (r : Rc NameScope Global) (t : Table) → i < length rs → f ≡ (get_or rs i r).value
+    → slot_in x (framed (map (λ f. f.value) (take (i + 1) rs)) t) ≡ found_or (place_in f.index.places x) (slot_in x (framed (map (λ f. f.value) (take i rs)) t))
+framed_found x rs i f r t lt is = search (arith, rules, framed_more, bound_found, found_or) steps 1000000

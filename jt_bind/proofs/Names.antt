@@ -1,0 +1,46 @@
+-- Names with places.
+use Rattle.std.proofs.Common.{◌≡◌, ℕ, suc, ◌+◌, ◌<◌, Bool, true, false, List, [], ◌∷◌, length, drop, get_or, refl, sym, ap, ◌∙◌, Option, Some, None, if◌then◌else◌, add-one, arith, rules}
+use Rattle.std.proofs.lemmas.List.{drop_more}
+use Rattle.std.proofs.lemmas.Slice.Eq.{bytes_eq-Decides}
+use Rattle.std.specs.Str.{bytes_eq}
+use denote.Ref.{Bor}
+use Rattle.jt_trees.specs.Expressions.{Text}
+use Rattle.jt_evaluation.specs.Loops.{Field, field_among}
+use Rattle.jt_resolved.specs.Slots.{Slot, local}
+use Rattle.jt_meaning.specs.Layout.{Table, slot_in}
+use Rattle.jt_meaning.specs.Resolve.{bound_table}
+use Rattle.jt_names.specs.Names.{texts}
+use Rattle.jt_bind.specs.Names.{last_among}
+
+-- the local that was found, else another slot
+abbrev pub found_or : Option ℕ → Option Slot → Option Slot
+found_or None s = s
+found_or (Some i) s = Some (local i)
+
+-- names that are bound further inside
+pub bound_found : (x : Text) (xs : List Text) (n : ℕ) (f : Option ℕ) (s : Option Slot) (t : Table) → found_or f s ≡ slot_in x t → found_or (last_among x xs n f) s ≡ slot_in x (bound_table xs n t)
+bound_found x [] n f s t h = h
+bound_found x (y ∷ ys) n f s t h = search (arith, rules, bound_found x ys (suc n) (if bytes_eq y x then Some n else f) s ((y, local n) ∷ t)) steps 1000000
+
+-- what is left of names
+pub names_left : (ks : List (Bor Text)) (i : ℕ) (k : Bor Text) → i < length ks → k ≡ get_or ks i k → texts (drop i ks) ≡ k.now ∷ texts (drop (i + 1) ks)
+names_left ks i k lt is = ap texts (drop_more ks i k lt) ∙ ap (λ (z : Bor Text). z.now ∷ texts (drop (i + 1) ks)) (sym is)
+
+-- one name more gets its place
+pub placed_next : (ks : List (Bor Text)) (i : ℕ) (d : Bor Text) (x : Text) (n n' : ℕ) (f f' : Option ℕ) → i < length ks → n' ≡ n + 1 → f' ≡ (if bytes_eq (get_or ks i d).now x then Some n else f)
+    → last_among x (texts (drop (i + 1) ks)) n' f' ≡ last_among x (texts (drop i ks)) n f
+placed_next ks i d x n n' f f' lt e h = search (arith, rules, add-one, drop_more) steps 1000000
+
+-- ---- fields of loops
+
+abbrev pub Differ : Text → List (Text × Field) → Type 0
+Differ x [] = Unit {0}
+Differ x (f ∷ fs) = (x ≡ f.0 → ⊥) × Differ x fs
+
+different : (x k : Text) → (x ≡ k → ⊥) → bytes_eq k x ≡ false
+different x k n = search (arith, rules, bytes_eq-Decides) steps 1000000
+
+-- a name that is none of these fields'
+pub no_field : (x : Text) (fs : List (Text × Field)) → Differ x fs → field_among x fs ≡ None
+no_field x [] h = refl
+no_field x (f ∷ fs) h = ap (λ b. if b then Some f.1 else field_among x fs) (different x f.0 h.0) ∙ no_field x fs h.1

@@ -1,0 +1,121 @@
+-- What statements are resolved to, part by part.
+use Rattle.std.proofs.Common.{◌≡◌, ℕ, zero, suc, ◌+◌, ◌<◌, List, [], ◌∷◌, ◌++◌, length, map, drop, get_or, refl, sym, ap, ◌∙◌, subst, Option, None, Vec, Global, String, string_bytes, add-one, append_assoc, arith, rules}
+use Rattle.std.proofs.lemmas.List.{drop_more, map-append}
+use Rattle.std.specs.Prelude.{if◌then◌else◌, option_map}
+use denote.Ref.{Bor}
+use Rattle.jt_value.specs.Tree.{Tree}
+use Rattle.jt_trees.specs.Expressions as expressions
+use Rattle.jt_trees.specs.Expressions.{Pairs, no_pairs, pair, Text}
+use Rattle.jt_trees.specs.ExpressionView.{expr_view}
+use Rattle.jt_trees.specs.declared.expression.Expr.{Expr}
+use Rattle.jt_chains.specs.Chain.{Home}
+use Rattle.jt_chains.specs.Uses.{set_in}
+use Rattle.jt_rules.specs.World.{World}
+use Rattle.jt_trees.specs.Statements as trees
+use Rattle.jt_trees.specs.Texts.{among}
+use Rattle.jt_trees.specs.StatementView.{names_view, stmt_view, body_view, branches_view}
+use Rattle.jt_trees.specs.declared.statement.Stmt.{Stmt}
+use Rattle.jt_trees.specs.declared.statement.Stmt.TheVariants as v
+use Rattle.jt_value.specs.Place.{Place}
+use Rattle.jt_resolved.specs.Pool.{Constant}
+use Rattle.jt_resolved.specs.Slots as slots
+use Rattle.jt_resolved.specs.Slots.{Slot, SlotExpr, SBody, local, global, one, Targets}
+use Rattle.jt_resolved.specs.View.{slot_view}
+use Rattle.jt_resolved.specs.declared.program.SlotExpr as code
+use Rattle.jt_resolved.specs.declared.program.Slot as code_slot
+use Rattle.jt_resolved.specs.declared.program.SlotStmt.{SlotStmt}
+use Rattle.jt_meaning.specs.Layout.{Table, slot_in}
+use Rattle.jt_meaning.specs.Resolve.{Spot, read_from, followed, alone, copied, handed_on, resolved, resolved_values, resolved_body, resolved_condition, resolved_filters, grown, kept_slots, fresh_targets, bound_all, place}
+use Rattle.jt_names.specs.Names.{texts}
+use Rattle.jt_bind.specs.Chains.{Chains}
+use Rattle.jt_bind.specs.Names.{last_among}
+use Rattle.jt_bind.specs.declared.name_scope.NameScope.{NameScope}
+use Rattle.jt_bind.specs.declared.spot.Spot as code_spot
+use Rattle.jt_bind.specs.Scoped.{IsPlaced, BodyLeads, world_in, order_in, spot_in, templates_in, expr_in}
+use Rattle.jt_bind.specs.Stated.{Led, IsAsked, IsTurn, slot_if, line_in, stmt_in, body_in, choice_in, scoped_in, values_in}
+use Rattle.jt_bind.proofs.LeadingBodies.{led_of, lead_of, lead_both}
+use Rattle.jt_trees.proofs.Left.{Branch, names_left}
+use Rattle.jt_trees.proofs.StatementViews.{view_If, view_For}
+use Rattle.jt_bind.proofs.Kept.{slot_kept}
+
+-- ---- copies of names
+
+pub texts_next : (ks : List (Bor Text)) (i : ℕ) (d : Bor Text) → i < length ks → texts (drop i ks) ≡ (get_or ks i d).now ∷ texts (drop (i + 1) ks)
+texts_next ks i d lt = ap texts (drop_more ks i d lt)
+
+pub copied_followed : (pl : Place) (t : Table) (n : ℕ) (xs : List Text) (b left : SBody Constant) → followed (copied pl t n xs b) left ≡ copied pl t n xs (followed b left)
+copied_followed pl t n [] b left = refl
+copied_followed pl t n (x ∷ xs) b left = ap (slots.stmt (slots.assign pl (one (local n)) (read_from (slot_in x t)))) (copied_followed pl t (suc n) xs b left)
+
+module _ (templates : List Text) (pl : Place) (t : Table) (ks : List (Bor Text)) (i n n' : ℕ) where
+  -- one name more is copied into a local
+  pub copy_step : (d : Bor Text) (o : Option Slot) (e : SlotExpr ℕ) (ss ts : List SlotStmt) → o ≡ slot_in (get_or ks i d).now t → i < length ks → n' ≡ n + 1
+      → ((c : SlotExpr Constant) (p q : List Tree) → IsPlaced c e p q → Led templates (alone (slots.assign pl (one (local n)) c)) ss ts p q) → ((p : List Tree) → IsPlaced (read_from o) e p p)
+      → (behind : SBody Constant) (p : List Tree) → BodyLeads templates (copied pl t n (texts (drop i ks)) behind) (copied pl t n' (texts (drop (i + 1) ks)) behind) ss ts p p
+  copy_step d o e ss ts has lt more put reads behind p = search (arith, rules, get_or, lead_of, add-one, texts_next) steps 1000000
+
+  -- one name more is handed on to a global
+  pub hand_step : (d : Bor Text) (e : SlotExpr ℕ) (ss ts : List SlotStmt) → i < length ks → n' ≡ n + 1
+      → ((c : SlotExpr Constant) (p q : List Tree) → IsPlaced c e p q → Led templates (alone (slots.assign pl (one (global n)) c)) ss ts p q) → ((p : List Tree) → IsPlaced (read_from (slot_in (get_or ks i d).now t)) e p p)
+      → (left : SBody Constant) (p : List Tree) → BodyLeads templates (followed (handed_on pl t n (texts (drop i ks))) left) (followed (handed_on pl t n' (texts (drop (i + 1) ks))) left) ss ts p p
+  hand_step d e ss ts lt more put reads left p = search (arith, rules, get_or, lead_of, add-one, texts_next) steps 1000000
+
+-- ---- values of a `with`
+
+pub values_followed : (world : World) (order : List Home) (ps : Pairs) (sp : Spot) (line : ℕ) (b left : SBody Constant) → followed (resolved_values world order ps sp line b) left ≡ resolved_values world order ps sp line (followed b left)
+values_followed world order no_pairs sp line b left = refl
+values_followed world order (pair x e ps) sp line b left = ap (slots.stmt (slots.assign (place sp line) (one (local sp.free)) (resolved world order e sp))) (values_followed world order ps (grown sp) line b left)
+
+-- ---- trees that are equal
+
+pub stmt_as : (s : Chains) (spot : code_spot.Spot) (x y : trees.Stmt) (ss ts : List SlotStmt) (p q : List Tree) → x ≡ y → Led (templates_in s) (stmt_in s x spot) ss ts p q → Led (templates_in s) (stmt_in s y spot) ss ts p q
+stmt_as s spot x y ss ts p q e h = led_of (templates_in s) (stmt_in s x spot) (stmt_in s y spot) ss ts p q (ap (λ z. stmt_in s z spot) e) h
+
+module _ (s : Chains) (spot : code_spot.Spot) (x : Stmt) where
+  pub if_shown : (bs : Vec Branch Global) (other : Vec Stmt Global) (cs : List Branch) (us : List Stmt) → x ≡ v.If bs other → cs ≡ bs.items → us ≡ other.items
+      → choice_in s (branches_view cs) spot (body_in s (body_view us) spot) ≡ stmt_in s (stmt_view x) spot
+  if_shown bs other cs us is e f = search (arith, rules, view_If) steps 1000000
+
+  pub loop_shown : (line : ℕ) (xs : Vec (String Global) Global) (e : Expr) (k : Option Expr) (body other : Vec Stmt Global) (ns ms : List (String Global)) (us os : List Stmt) (tv : Targets)
+      → x ≡ v.For line xs e k body other → ns ≡ xs.items → ms ≡ xs.items → us ≡ body.items → os ≡ other.items → tv ≡ fresh_targets spot.free (names_view ms)
+      → alone (slots.for_each (line_in s spot line) tv (expr_in s (expr_view e) spot) (resolved_condition (world_in s) (order_in s) (option_map expr_view k) (bound_all (names_view ns) (spot_in s spot)))
+      (scoped_in s (body_view us) (bound_all (names_view ns) (spot_in s spot))) (body_in s (body_view os) spot)) ≡ stmt_in s (stmt_view x) spot
+  loop_shown line xs e k body other ns ms us os tv is f g h j taken = search (arith, rules, view_For) steps 1000000
+
+-- a filter tag: its text, and what its filters make of it
+pub filter_shown : (s : Chains) (spot : code_spot.Spot) (line : ℕ) (fs : List trees.Filtering) (b : trees.Body) (n : ℕ) → n ≡ spot.free + 1
+    → followed (alone (slots.capture spot.escaping (local spot.free) (scoped_in s b (spot_in s (record spot { free = n })))))
+    (alone (slots.print (line_in s spot line) spot.escaping (resolved_filters (world_in s) (order_in s) fs (spot_in s (record spot { free = n })) (slots.variable (local spot.free))))) ≡ stmt_in s (trees.filter_block line fs b) spot
+filter_shown s spot line fs b n e = search (arith, rules, add-one) steps 1000000
+
+-- values, and what is behind them
+pub values_led : (s : Chains) (spot : code_spot.Spot) (ps : Pairs) (line : ℕ) (w : SBody Constant) (es fs gs : List SlotStmt) (p q r : List Tree)
+    → ((behind : SBody Constant) → BodyLeads (templates_in s) (values_in s ps spot line behind) behind es fs p q) → Led (templates_in s) w fs gs q r → Led (templates_in s) (values_in s ps spot line w) es gs p r
+values_led s spot ps line w es fs gs p q r h g = search (arith, rules, lead_both, lead_of, values_followed) steps 1000000
+
+-- copies of what a scope sets, and its body
+pub scope_led : (s : Chains) (b : trees.Body) (sp : Spot) (spot : code_spot.Spot) (es fs gs : List SlotStmt) (p r : List Tree) → spot_in s spot ≡ bound_all (set_in b) sp
+    → ((behind : SBody Constant) → BodyLeads (templates_in s) (copied (place sp 1) sp.table sp.free (set_in b) behind) behind es fs p p) → Led (templates_in s) (body_in s b spot) fs gs p r → Led (templates_in s) (scoped_in s b sp) es gs p r
+scope_led s b sp spot es fs gs p r e h g = search (arith, rules, lead_both, lead_of, copied_followed) steps 1000000
+
+-- copies of names that are another list
+pub copies_as : (s : Chains) (sp : Spot) (xs : List Text) (b : trees.Body) (es fs : List SlotStmt) (p : List Tree) → xs ≡ set_in b
+    → ((behind : SBody Constant) → BodyLeads (templates_in s) (copied (place sp 1) sp.table sp.free xs behind) behind es fs p p) → (behind : SBody Constant) → BodyLeads (templates_in s) (copied (place sp 1) sp.table sp.free (set_in b) behind) behind es fs p p
+copies_as s sp xs b es fs p e h behind = lead_of (templates_in s) _ _ behind es fs p p (ap (λ z. copied (place sp 1) sp.table sp.free z behind) e) (h behind)
+
+-- the same body at a place that is another
+pub scoped_as : (s : Chains) (b : trees.Body) (sp sq : Spot) (es fs : List SlotStmt) (p q : List Tree) → sp ≡ sq → Led (templates_in s) (scoped_in s b sp) es fs p q → Led (templates_in s) (scoped_in s b sq) es fs p q
+scoped_as s b sp sq es fs p q e = led_of (templates_in s) (scoped_in s b sp) (scoped_in s b sq) es fs p q (ap (scoped_in s b) e)
+
+-- a loop's turn at a place that is another
+pub turn_as : (s : Chains) (b : trees.Body) (k : Option expressions.Expr) (sp sq : Spot) (d : Option code.SlotExpr) (ss : List SlotStmt) (p q r : List Tree) → sp ≡ sq → IsAsked (resolved_condition (world_in s) (order_in s) k sp) d p q → Led (templates_in s) (scoped_in s b sp) [] ss q r
+    → IsTurn s (resolved_condition (world_in s) (order_in s) k sq) (scoped_in s b sq) d ss p r
+turn_as s b k sp sq d ss p q r e h g = search (arith, rules, scoped_as) steps 1000000
+
+-- ---- slots of names that are set
+
+pub kept_step : (t : Table) (ks : List (String Global)) (i : ℕ) (k : String Global) (last : NameScope) (ss ts : List (Option code_slot.Slot)) (o : Option code_slot.Slot) {x : Text} → i < length ks → k ≡ get_or ks i k
+    → texts last.names.items ≡ names_view ks → last.first ≡ 0 → option_map slot_view o ≡ slot_if (last_among x (texts last.names.items) last.first None) i (slot_in x t) → x ≡ string_bytes k → ts ≡ ss ++ o ∷ []
+    → map (option_map slot_view) ss ++ kept_slots t (names_view (drop i ks)) ≡ kept_slots t (names_view ks)
+    → map (option_map slot_view) ts ++ kept_slots t (names_view (drop (i + 1) ks)) ≡ kept_slots t (names_view ks)
+kept_step t ks i k last ss ts o {x} lt is all first has same pushed so = search (arith, rules, string_bytes, names_left, slot_kept, map-append, append_assoc) steps 1000000

@@ -1,0 +1,7 @@
+use Rattle.std.proofs.Common.{◌∙◌, arith, rules}
+use Rattle.jt_bind.specs.Scoped.{spot_in}
+use Rattle.jt_bind.proofs.Stating.{kept_step}
+use Rattle.jt_bind.proofs.resolver.Resolver.kept_slots.Goals as goal
+
+pub loop-place-preserved : goal.loop-place-preserved
+loop-place-preserved c = search (arith, rules, kept_step) steps 1000000

@@ -1,0 +1,15 @@
+use Rattle.std.proofs.Common.{◌≡◌, Global, String, List, [], ◌∷◌, length, refl, ap, ◌∙◌, arith, rules}
+use Rattle.jt_trees.specs.StatementView.{names_view}
+use Rattle.jt_meaning.specs.Layout.{Table}
+use Rattle.jt_meaning.specs.Resolve.{kept_slots, set_targets}
+use Rattle.jt_resolved.specs.Slots.{several}
+use Rattle.jt_bind.specs.Scoped.{spot_in}
+use Rattle.jt_bind.proofs.resolver.Resolver.set_targets.Goals.{then-names-lt1, else-names-lt1+else-names-lt2}
+use Rattle.jt_bind.proofs.resolver.Resolver.set_targets.Goals as goal
+
+-- where not one name is set alone, each takes an item
+several_take : (t : Table) (ks : List (String Global)) → (length ks ≡ 1 → ⊥) → several (kept_slots t (names_view ks)) ≡ set_targets t (names_view ks)
+several_take t a1 n = search (arith, rules) steps 1000000
+
+pub returns : goal.returns
+returns c = search (arith, rules, several_take) steps 1000000

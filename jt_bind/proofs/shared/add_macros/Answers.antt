@@ -1,0 +1,7 @@
+use Rattle.std.proofs.Common.{◌++◌, ◌<◌, length, sym, ap, ◌∙◌, arith, rules}
+use Rattle.jt_bind.specs.Scoped.{values}
+use Rattle.jt_bind.proofs.SharedValues.{part_put, defaults_left}
+use Rattle.jt_bind.proofs.shared.add_macros.Goals as goal
+
+pub loop-entry-preserved : goal.loop-entry-preserved
+loop-entry-preserved c = search (arith, rules, part_put, defaults_left) steps 1000000

@@ -1,0 +1,122 @@
+-- What only private clauses cite: what the parts of a chain are resolved to where a resolver stands, and what is put behind others there.
+use Rattle.std.specs.Prelude.{ℕ, Bool, List, Option, Vec}
+use Rattle.std.specs.declared.alloc.Global.{Global}
+use Rattle.jt_value.specs.Tree.{Tree}
+use Rattle.jt_value.specs.Place as place
+use Rattle.jt_value.specs.declared.value.Value.{Value}
+use Rattle.jt_trees.specs.Expressions as expressions
+use Rattle.jt_trees.specs.Expressions.{Text}
+use Rattle.jt_trees.specs.Statements as trees
+use Rattle.jt_trees.specs.StatementView.{parameters_view}
+use Rattle.jt_chains.specs.Uses.{keywords}
+use Rattle.jt_resolved.specs.Pool.{Constant}
+use Rattle.jt_resolved.specs.Slots as slots
+use Rattle.jt_resolved.specs.Slots.{SBody, SRow}
+use Rattle.jt_resolved.specs.declared.program.SlotExpr.{SlotExpr}
+use Rattle.jt_resolved.specs.declared.program.SlotStmt.{SlotStmt}
+use Rattle.jt_meaning.specs.Layout.{Table}
+use Rattle.jt_meaning.specs.Resolve as resolve
+use Rattle.jt_meaning.specs.Resolve.{locals_from}
+use Rattle.jt_bind.specs.declared.callee.Signature.{Signature}
+use Rattle.jt_bind.specs.declared.resolver.Resolver.{Resolver}
+use Rattle.jt_bind.specs.Scoped.{values, IsAdded, RowLeads, world_in, order_in, spot_in, templates_in, expr_in, row_in, asides_in, entries_in, filtered_in}
+use Rattle.jt_bind.specs.Stated.{IsBody, Puts, BodyLed, line_in, stmt_in, body_in, scoped_in, layer_at, values_in, condition_in}
+
+-- a part of a row is put behind others, and its values at the end of a pool: what is left of it
+abbrev pub RowAdds : SRow Constant → SRow Constant → Vec (Option ℕ × SlotExpr) Global → Vec (Option ℕ × SlotExpr) Global → Vec Value Global → Vec Value Global → Type 0
+RowAdds whole left before after old new = RowLeads whole left before.items after.items (values old) (values new)
+
+module _ (r : Resolver) where
+  -- ---- where it stands
+
+  abbrev pub templates_of : List Text
+  templates_of = templates_in r.tables.now
+
+  abbrev pub spot_of : resolve.Spot
+  spot_of = spot_in r.tables.now r.spot
+
+  -- the slots of the names that are seen there
+  abbrev pub table_of : Table
+  table_of = (spot_in r.tables.now r.spot).table
+
+  -- the place of a tag
+  abbrev pub line_of : ℕ → place.Place
+  line_of line = line_in r.tables.now r.spot line
+
+  -- the locals that hold what is given by name
+  abbrev pub kept_of : expressions.Pairs → Table
+  kept_of ps = locals_from r.spot.free (keywords ps)
+
+  -- ---- expressions
+
+  abbrev pub expr_of : expressions.Expr → slots.SlotExpr Constant
+  expr_of t = expr_in r.tables.now t r.spot
+
+  -- what an expression is resolved to, with the values that it puts at the end of a pool
+  abbrev pub IsResolved : expressions.Expr → SlotExpr → Vec Value Global → Vec Value Global → Type 0
+  IsResolved t e old new = IsAdded (expr_of t) e old new
+
+  abbrev pub row_of : expressions.Exprs → SRow Constant → SRow Constant
+  row_of ts left = row_in r.tables.now ts r.spot left
+
+  abbrev pub asides_of : expressions.Pairs → SRow Constant → SRow Constant
+  asides_of ps left = asides_in r.tables.now ps r.spot left
+
+  -- what is given by place, and then what is given by name
+  abbrev pub given_of : expressions.Exprs → expressions.Pairs → SRow Constant → SRow Constant
+  given_of ts ps left = row_of ts (asides_of ps left)
+
+  abbrev pub entries_of : expressions.Pairs → SRow Constant
+  entries_of ps = entries_in r.tables.now ps r.spot
+
+  -- what a macro is called with
+  abbrev pub filled_of : Signature → expressions.Exprs → expressions.Pairs → ℕ → SRow Constant
+  filled_of s ts ps given = given_of ts ps (resolve.filled (parameters_view s.parameters.now) given s.first_default (kept_of ps))
+
+  abbrev pub filtered_of : Option ℕ → slots.SlotExpr Constant → expressions.Exprs → expressions.Pairs → slots.SlotExpr Constant
+  filtered_of f c ts ps = filtered_in r.tables.now f c ts ps r.spot
+
+  -- ---- statements
+
+  abbrev pub stmt_of : trees.Stmt → SBody Constant
+  stmt_of t = stmt_in r.tables.now t r.spot
+
+  abbrev pub body_of : trees.Body → SBody Constant
+  body_of b = body_in r.tables.now b r.spot
+
+  abbrev pub scoped_of : trees.Body → resolve.Spot → SBody Constant
+  scoped_of b sp = scoped_in r.tables.now b sp
+
+  -- names in a scope of their own, and what is resolved there
+  abbrev pub inside_of : List Text → resolve.Spot
+  inside_of xs = resolve.bound_all xs spot_of
+
+  abbrev pub condition_of : Option expressions.Expr → resolve.Spot → Option (slots.SlotExpr Constant)
+  condition_of k sp = condition_in r.tables.now k sp
+
+  -- a routine with these parameters
+  abbrev pub routine_of : List Text → trees.Body → slots.Routine Constant
+  routine_of xs b = resolve.resolved_routine (world_in r.tables.now) (order_in r.tables.now) xs b spot_of
+
+  -- a template of a chain: the root, or what another one sets
+  abbrev pub layer_of : trees.Body → Bool → SBody Constant
+  layer_of b is_root = layer_at r.tables.now spot_of b is_root
+
+  abbrev pub values_of : expressions.Pairs → ℕ → SBody Constant → SBody Constant
+  values_of ps line behind = values_in r.tables.now ps r.spot line behind
+
+  -- the statements of a body, and the values that they put at the end of a pool
+  abbrev pub BodyIs : SBody Constant → Vec SlotStmt Global → Vec Value Global → Vec Value Global → Type 0
+  BodyIs whole made old new = IsBody templates_of whole made.items (values old) (values new)
+
+  -- all of a body is put behind other statements, and its values at the end of a pool
+  abbrev pub BodyAdds : SBody Constant → Vec SlotStmt Global → Vec SlotStmt Global → Vec Value Global → Vec Value Global → Type 0
+  BodyAdds whole before after old new = BodyLed r.tables.now whole before after old new
+
+  -- so is what a statement is resolved to
+  abbrev pub StmtAdds : trees.Stmt → Vec SlotStmt Global → Vec SlotStmt Global → Vec Value Global → Vec Value Global → Type 0
+  StmtAdds t before after old new = BodyAdds (stmt_of t) before after old new
+
+  -- the same where the values are those of a pool
+  abbrev pub StmtLeads : trees.Stmt → Vec SlotStmt Global → Vec SlotStmt Global → List Tree → List Tree → Type 0
+  StmtLeads t before after p q = Puts r.tables.now (stmt_of t) before after p q

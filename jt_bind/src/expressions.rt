@@ -1,0 +1,435 @@
+//! Resolves expressions: names to slots, literals and keys to places of a pool.
+
+ghost use Rattle.std.specs.Prelude.{false, length, List, IfOk, Some};
+ghost use Rattle.jt_value.specs.Tree.{Tree};
+ghost use Rattle.jt_trees.specs.Expressions as trees;
+ghost use Rattle.jt_trees.specs.ExpressionView as written;
+ghost use Rattle.jt_ids.specs.FilterTable.{filter_id};
+ghost use Rattle.jt_meaning.specs.Operators as operators;
+ghost use Rattle.jt_meaning.specs.Resolve as resolve;
+ghost use Rattle.jt_ids.specs.declared.op_id.OpId.TheVariants as op;
+ghost use Rattle.jt_resolved.specs.Pool.{Constant};
+ghost use Rattle.jt_resolved.specs.Slots as slots;
+ghost use Rattle.jt_bind.specs.Resolving.{IsResolved, RowAdds, expr_of, row_of, asides_of, given_of, filled_of, entries_of, filtered_of};
+ghost use Rattle.jt_bind.specs.Scoped.{values, IsShown, IsAdded, turn_in};
+
+use crate::callee::{Callee, Signature};
+use crate::forms::{
+    chosen, form_of, formed, literal_value, on_one, on_two, range_of, turn_among, turned,
+    unary_operation,
+};
+use crate::lookup::{absent, no_value, reading};
+use crate::loops::{field_of, is_loop_name, told};
+use crate::pool::{add_text, add_value};
+use crate::resolver::{Arguments, Resolver};
+use crate::rows::row_of;
+use jt_evaluation::{filter_of, filter_parameters, test_of};
+use jt_ids::{FilterId, OpId};
+use jt_layout::more;
+use jt_resolved::{Maker, SlotExpr};
+use jt_trees::{BinaryOperator, Expr};
+use jt_value::{NoMemory, Value};
+
+impl<'t, 's, 'a> Resolver<'t, 's, 'a> {
+    /// Resolves an expression.
+    #[tactic(auto, using(jt_trees::proofs::ExpressionViews::view_List, jt_trees::proofs::ExpressionViews::view_Map, jt_trees::proofs::ExpressionViews::view_Attribute))]
+    #[cycle(expressions)]
+    pub(crate) fn resolve_expression(
+        &self,
+        expr: &Expr,
+        pool: &mut Vec<Value>,
+    ) -> Result<SlotExpr, NoMemory>
+        ensures { IfOk result (λ e. IsResolved self.now (written.expr_view expr.now) e
+            pool.old pool.new) }
+    {
+        match expr {
+            Expr::Constant(literal) => add_value(pool, literal_value(self.alloc, literal)?),
+            Expr::Name(name) => Ok(reading(self.slot(name.as_str()))),
+            Expr::Group(inside) => self.resolve_expression(inside, pool),
+            Expr::List(row) => self.resolve_list(row, pool),
+            Expr::Map(pairs) => self.resolve_map(pairs, pool),
+            Expr::Attribute(value, key) => self.resolve_attribute(value, key, pool),
+            Expr::Item(value, index) => self.resolve_item(value, index, pool),
+            Expr::Call {
+                callee: called,
+                arguments: row,
+                keywords: pairs,
+            } => self.resolve_call(called, Arguments { row, pairs }, pool),
+            Expr::Filter {
+                input: value,
+                name,
+                arguments: row,
+                keywords: pairs,
+            } => self.resolve_filter(value, name, Arguments { row, pairs }, pool),
+            Expr::Test {
+                value,
+                polarity,
+                name,
+                arguments: row,
+                ..
+            } => {
+                let test = self.resolve_test(value, name, row, pool)?;
+                turned(self.alloc, polarity.is_negated(), test)
+            }
+            Expr::Unary(operator, operand) => {
+                let value = self.resolve_expression(operand, pool)?;
+                on_one(self.alloc, unary_operation(*operator), value)
+            }
+            Expr::Binary {
+                operator,
+                left,
+                right,
+            } => self.resolve_binary(*operator, left, right, pool),
+            Expr::When { condition, value } => self.resolve_when(condition, value, pool),
+            Expr::Choice {
+                condition,
+                value,
+                other,
+            } => self.resolve_choice(condition, value, other, pool),
+        }
+    }
+
+    /// Resolves a list.
+    #[cycle(expressions)]
+    fn resolve_list(&self, row: &[Expr], pool: &mut Vec<Value>) -> Result<SlotExpr, NoMemory>
+        ensures { IfOk result (λ e. IsResolved self.now
+            (trees.list_of (written.exprs_view row.now)) e pool.old pool.new) }
+    {
+        let mut items = Vec::new(self.alloc);
+        self.resolve_row(row, &mut items, pool)?;
+        Ok(SlotExpr::Made(Maker::List, items))
+    }
+
+    /// Resolves a map.
+    #[cycle(expressions)]
+    fn resolve_map(
+        &self,
+        pairs: &[(String, Expr)],
+        pool: &mut Vec<Value>,
+    ) -> Result<SlotExpr, NoMemory>
+        ensures { IfOk result (λ e. IsResolved self.now
+            (trees.map_of (written.pairs_view pairs.now)) e pool.old pool.new) }
+    {
+        let mut entries = Vec::new(self.alloc);
+        self.resolve_entries(pairs, &mut entries, pool)?;
+        Ok(SlotExpr::Made(Maker::Map, entries))
+    }
+
+    /// Resolves an attribute, or what a loop tells.
+    #[cycle(expressions)]
+    fn resolve_attribute(
+        &self,
+        value: &Expr,
+        key: &str,
+        pool: &mut Vec<Value>,
+    ) -> Result<SlotExpr, NoMemory>
+        ensures { IfOk result (λ e. IsResolved self.now
+            (trees.attribute (written.expr_view value.now) key.now) e pool.old pool.new) }
+    {
+        if is_loop_name(value) {
+            return Ok(told(field_of(key)));
+        }
+        let whole = self.resolve_expression(value, pool)?;
+        let place = add_text(self.alloc, key, pool)?;
+        on_two(self.alloc, OpId::Item, whole, place)
+    }
+
+    /// Resolves an item.
+    #[cycle(expressions)]
+    fn resolve_item(
+        &self,
+        value: &Expr,
+        index: &Expr,
+        pool: &mut Vec<Value>,
+    ) -> Result<SlotExpr, NoMemory>
+        ensures { IfOk result (λ e. IsResolved self.now
+            (trees.item (written.expr_view value.now) (written.expr_view index.now)) e pool.old
+            pool.new) }
+    {
+        let whole = self.resolve_expression(value, pool)?;
+        let place = self.resolve_expression(index, pool)?;
+        on_two(self.alloc, OpId::Item, whole, place)
+    }
+
+    /// Resolves an operator between its operands.
+    #[cycle(expressions)]
+    fn resolve_binary(
+        &self,
+        operator: BinaryOperator,
+        left: &Expr,
+        right: &Expr,
+        pool: &mut Vec<Value>,
+    ) -> Result<SlotExpr, NoMemory>
+        ensures { IfOk result (λ e. IsResolved self.now
+            (trees.binary operator (written.expr_view left.now) (written.expr_view right.now)) e
+            pool.old pool.new) }
+    {
+        let first = self.resolve_expression(left, pool)?;
+        let second = self.resolve_expression(right, pool)?;
+        formed(
+            self.alloc,
+            form_of(self.spot.escaping, operator),
+            first,
+            second,
+        )
+    }
+
+    /// Resolves a choice without an other part.
+    #[cycle(expressions)]
+    fn resolve_when(
+        &self,
+        condition: &Expr,
+        value: &Expr,
+        pool: &mut Vec<Value>,
+    ) -> Result<SlotExpr, NoMemory>
+        ensures { IfOk result (λ e. IsResolved self.now
+            (trees.when (written.expr_view condition.now) (written.expr_view value.now)) e pool.old
+            pool.new) }
+    {
+        let asked = self.resolve_expression(condition, pool)?;
+        let first = self.resolve_expression(value, pool)?;
+        chosen(self.alloc, asked, first, no_value())
+    }
+
+    /// Resolves a choice.
+    #[cycle(expressions)]
+    fn resolve_choice(
+        &self,
+        condition: &Expr,
+        value: &Expr,
+        other: &Expr,
+        pool: &mut Vec<Value>,
+    ) -> Result<SlotExpr, NoMemory>
+        ensures { IfOk result (λ e. IsResolved self.now
+            (trees.choice (written.expr_view condition.now) (written.expr_view value.now)
+            (written.expr_view other.now)) e pool.old pool.new) }
+    {
+        let asked = self.resolve_expression(condition, pool)?;
+        let first = self.resolve_expression(value, pool)?;
+        let second = self.resolve_expression(other, pool)?;
+        chosen(self.alloc, asked, first, second)
+    }
+
+    /// Resolves a test that is not turned round.
+    #[cycle(expressions)]
+    fn resolve_test(
+        &self,
+        value: &Expr,
+        name: &str,
+        row: &[Expr],
+        pool: &mut Vec<Value>,
+    ) -> Result<SlotExpr, NoMemory>
+        ensures { IfOk result (λ e. (ps : trees.Pairs)
+            → IsResolved self.now (trees.test (written.expr_view value.now) false name.now
+            (written.exprs_view row.now) ps) e pool.old pool.new) }
+    {
+        match test_of(name) {
+            None => Ok(absent()),
+            Some(test) => {
+                let first = self.resolve_expression(value, pool)?;
+                let mut operands = row_of(self.alloc, first)?;
+                self.resolve_row(row, &mut operands, pool)?;
+                Ok(SlotExpr::Made(Maker::Test(test), operands))
+            }
+        }
+    }
+
+    /// Resolves a filter.
+    #[cycle(expressions)]
+    fn resolve_filter(
+        &self,
+        value: &Expr,
+        name: &str,
+        arguments: Arguments<'_>,
+        pool: &mut Vec<Value>,
+    ) -> Result<SlotExpr, NoMemory>
+        ensures { IfOk result (λ e. IsResolved self.now
+            (trees.filter (written.expr_view value.now) name.now
+            (written.exprs_view arguments.entry.row.now)
+            (written.pairs_view arguments.entry.pairs.now)) e pool.old pool.new) }
+    {
+        match filter_of(name, arguments.row, arguments.pairs) {
+            None => Ok(absent()),
+            Some(filter) => {
+                let first = self.resolve_expression(value, pool)?;
+                self.resolve_filtered(filter, first, arguments, pool)
+            }
+        }
+    }
+
+    /// Resolves a filter of what is resolved already.
+    #[cycle(expressions)]
+    pub(crate) fn resolve_filtered(
+        &self,
+        filter: FilterId,
+        value: SlotExpr,
+        arguments: Arguments<'_>,
+        pool: &mut Vec<Value>,
+    ) -> Result<SlotExpr, NoMemory>
+        ensures { IfOk result (λ e. (c : slots.SlotExpr Constant) (p : List Tree)
+            → IsShown c value p (values pool.old)
+            → IsShown (filtered_of self.now (Some (filter_id filter)) c
+            (written.exprs_view arguments.entry.row.now)
+            (written.pairs_view arguments.entry.pairs.now)) e p (values pool.new)) }
+    {
+        let mut given = row_of(self.alloc, value)?;
+        self.resolve_given(arguments, &mut given, pool)?;
+        let parameters = filter_parameters(self.alloc, filter)?;
+        self.fill_some(&parameters, arguments, &mut given, pool)?;
+        Ok(SlotExpr::Made(
+            Maker::Filter {
+                filter,
+                escaping: self.spot.escaping,
+            },
+            given,
+        ))
+    }
+
+    /// Resolves a call.
+    #[cycle(expressions)]
+    fn resolve_call(
+        &self,
+        called: &Expr,
+        arguments: Arguments<'_>,
+        pool: &mut Vec<Value>,
+    ) -> Result<SlotExpr, NoMemory>
+        ensures { IfOk result (λ e. IsResolved self.now
+            (trees.call (written.expr_view called.now) (written.exprs_view arguments.entry.row.now)
+            (written.pairs_view arguments.entry.pairs.now)) e pool.old pool.new) }
+    {
+        match self.tables.callee_of(&*called)? {
+            Callee::Macro(signature) => self.resolve_macro(signature, arguments, pool),
+            Callee::Range => self.resolve_range(arguments.row, pool),
+            Callee::Super => self.super_called(),
+            Callee::Block(name) => self.block_called(name),
+            Callee::Cycle => self.resolve_cycle(arguments.row, pool),
+            Callee::Unknown => Ok(absent()),
+        }
+    }
+
+    /// Resolves the call of a macro.
+    #[cycle(expressions)]
+    fn resolve_macro(
+        &self,
+        signature: Signature<'_>,
+        arguments: Arguments<'_>,
+        pool: &mut Vec<Value>,
+    ) -> Result<SlotExpr, NoMemory>
+        ensures { IfOk result (λ e. IsAdded (slots.invoke signature.entry.unit
+            self.now.spot.escaping (filled_of self.now signature.entry
+            (written.exprs_view arguments.entry.row.now) (written.pairs_view
+            arguments.entry.pairs.now) (length arguments.entry.row.now))) e pool.old pool.new) }
+    {
+        let mut given = Vec::new(self.alloc);
+        self.resolve_given(arguments, &mut given, pool)?;
+        self.fill(signature, arguments, &mut given)?;
+        let escaping = self.spot.escaping;
+        Ok(SlotExpr::Invoke {
+            routine: signature.unit,
+            escaping,
+            row: given,
+        })
+    }
+
+    /// Resolves a call of `range`.
+    #[cycle(expressions)]
+    fn resolve_range(&self, row: &[Expr], pool: &mut Vec<Value>) -> Result<SlotExpr, NoMemory>
+        ensures { IfOk result (λ e. IsAdded (slots.made
+            (slots.operator (operators.range_of (length row.now)))
+            (row_of self.now (written.exprs_view row.now) slots.none)) e pool.old pool.new) }
+    {
+        let mut operands = Vec::new(self.alloc);
+        self.resolve_row(row, &mut operands, pool)?;
+        Ok(SlotExpr::Made(Maker::Operator(range_of(row.len())), operands))
+    }
+
+    /// Resolves `loop.cycle`: the item of a list by the turn.
+    #[cycle(expressions)]
+    fn resolve_cycle(&self, row: &[Expr], pool: &mut Vec<Value>) -> Result<SlotExpr, NoMemory>
+        ensures { IfOk result (λ e. IsAdded (resolve.operation_of op.Item
+            (expr_of self.now (trees.list_of (written.exprs_view row.now)))
+            (turn_in (length row.now))) e pool.old pool.new) }
+    {
+        let items = self.resolve_list(row, pool)?;
+        let turn = turn_among(self.alloc, row.len(), pool)?;
+        on_two(self.alloc, OpId::Item, items, turn)
+    }
+
+    /// Resolves a row of expressions, behind others that are resolved.
+    #[cycle(expressions)]
+    pub(crate) fn resolve_row(
+        &self,
+        row: &[Expr],
+        done: &mut Vec<(Option<usize>, SlotExpr)>,
+        pool: &mut Vec<Value>,
+    ) -> Result<(), NoMemory>
+        ensures { IfOk result (λ u. (left : slots.SRow Constant)
+            → RowAdds (row_of self.now (written.exprs_view row.now) left) left done.old done.new pool.old
+            pool.new) }
+    {
+        for expr in row {
+            let next = self.resolve_expression(expr, pool)?;
+            done.push((None, next))?;
+        }
+        Ok(())
+    }
+
+    /// Resolves what is given by name, behind others that are resolved: each is kept aside in a local.
+    #[cycle(expressions)]
+    pub(crate) fn resolve_asides(
+        &self,
+        pairs: &[(String, Expr)],
+        done: &mut Vec<(Option<usize>, SlotExpr)>,
+        pool: &mut Vec<Value>,
+    ) -> Result<(), NoMemory>
+        ensures { IfOk result (λ u. (left : slots.SRow Constant)
+            → RowAdds (asides_of self.now (written.pairs_view pairs.now) left) left done.old done.new
+            pool.old pool.new) }
+    {
+        let mut spot = self.spot;
+        for (_, value) in pairs {
+            let here = Resolver { spot, ..*self };
+            let next = here.resolve_expression(value, pool)?;
+            done.push((Some(spot.free), next))?;
+            spot.free = more(spot.free, 1)?;
+        }
+        Ok(())
+    }
+
+    /// Resolves the arguments by place, and then those by name.
+    #[cycle(expressions)]
+    fn resolve_given(
+        &self,
+        arguments: Arguments<'_>,
+        done: &mut Vec<(Option<usize>, SlotExpr)>,
+        pool: &mut Vec<Value>,
+    ) -> Result<(), NoMemory>
+        ensures { IfOk result (λ u. (left : slots.SRow Constant)
+            → RowAdds (given_of self.now (written.exprs_view arguments.entry.row.now)
+            (written.pairs_view arguments.entry.pairs.now) left) left done.old done.new pool.old
+            pool.new) }
+    {
+        self.resolve_row(arguments.row, done, pool)?;
+        self.resolve_asides(arguments.pairs, done, pool)
+    }
+
+    /// Resolves keys and values in turn, behind others that are resolved.
+    #[cycle(expressions)]
+    fn resolve_entries(
+        &self,
+        pairs: &[(String, Expr)],
+        done: &mut Vec<(Option<usize>, SlotExpr)>,
+        pool: &mut Vec<Value>,
+    ) -> Result<(), NoMemory>
+        ensures { IfOk result (λ u. RowAdds (entries_of self.now (written.pairs_view pairs.now))
+            slots.none done.old done.new pool.old pool.new) }
+    {
+        for (key, value) in pairs {
+            let place = add_text(self.alloc, key.as_str(), pool)?;
+            done.push((None, place))?;
+            let next = self.resolve_expression(value, pool)?;
+            done.push((None, next))?;
+        }
+        Ok(())
+    }
+}

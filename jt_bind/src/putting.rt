@@ -1,0 +1,184 @@
+//! Puts resolved statements behind others.
+
+ghost use Rattle.std.specs.Prelude.{List, Option, [], IfOk};
+ghost use Rattle.jt_value.specs.Tree as tree;
+ghost use Rattle.jt_value.specs.Tree.{Tree};
+ghost use Rattle.jt_bind.specs.Chains.{Chains};
+ghost use Rattle.jt_meaning.specs.Resolve.{alone};
+ghost use Rattle.jt_bind.specs.Scoped.{values, IsShown, RowLeads, templates_in};
+ghost use Rattle.jt_trees.specs.Expressions.{Text};
+ghost use Rattle.jt_resolved.specs.Pool.{Constant, own};
+ghost use Rattle.jt_resolved.specs.Slots as slots;
+ghost use Rattle.jt_resolved.specs.Slots.{SBody, SRow};
+ghost use Rattle.jt_resolved.specs.View.{slot_view, targets_view};
+ghost use Rattle.jt_bind.specs.Stated.{Led, Puts, IsBody, IsAsked, ChoiceLeads, line_in};
+
+use crate::spot::Spot;
+use jt_resolved::{Place, Slot, SlotExpr, SlotStmt, Targets};
+use jt_value::{NoMemory, Value};
+use std::alloc::Global;
+
+/// Puts a text outside tags behind other statements.
+pub(crate) fn put_data(
+    alloc: Global,
+    text: &str,
+    done: &mut Vec<SlotStmt>,
+    pool: &mut Vec<Value>,
+) -> Result<(), NoMemory>
+    ensures { IfOk result (λ u. (templates : List Text)
+        → Led templates (alone (slots.put_pooled (own (tree.text text.now)))) done.old.items
+        done.new.items (values pool.old) (values pool.new)) }
+{
+    let place = pool.len();
+    pool.push(Value::text(alloc, text)?)?;
+    done.push(SlotStmt::PutPooled(place))?;
+    Ok(())
+}
+
+/// Puts what prints a value behind other statements.
+pub(crate) fn put_print(
+    spot: &Spot<'_, '_>,
+    line: u32,
+    value: SlotExpr,
+    done: &mut Vec<SlotStmt>,
+) -> Result<(), NoMemory>
+    ensures { IfOk result (λ u. (s : Chains) (c : slots.SlotExpr Constant) (p q : List Tree)
+        → IsShown c value p q
+        → Puts s (alone (slots.print (line_in s spot.now line) spot.now.escaping c)) done.old
+        done.new p q) }
+{
+    let place = Place {
+        template: spot.template,
+        line,
+    };
+    done.push(SlotStmt::Print {
+        place,
+        escaping: spot.escaping,
+        value,
+    })?;
+    Ok(())
+}
+
+/// Puts what takes a value behind other statements.
+pub(crate) fn put_assign(
+    spot: &Spot<'_, '_>,
+    line: u32,
+    targets: Targets,
+    value: SlotExpr,
+    done: &mut Vec<SlotStmt>,
+) -> Result<(), NoMemory>
+    ensures { IfOk result (λ u. (s : Chains) (c : slots.SlotExpr Constant) (p q : List Tree)
+        → IsShown c value p q
+        → Puts s (alone (slots.assign (line_in s spot.now line) (targets_view targets) c)) done.old
+        done.new p q) }
+{
+    let place = Place {
+        template: spot.template,
+        line,
+    };
+    done.push(SlotStmt::Assign {
+        place,
+        targets,
+        value,
+    })?;
+    Ok(())
+}
+
+/// Puts branches and the else part behind other statements.
+pub(crate) fn put_choice(
+    branches: Vec<(Place, SlotExpr, Vec<SlotStmt>)>,
+    other: Vec<SlotStmt>,
+    done: &mut Vec<SlotStmt>,
+) -> Result<(), NoMemory>
+    ensures { IfOk result (λ u. (templates : List Text) (whole last : SBody Constant)
+        (p q r : List Tree)
+        → ChoiceLeads templates whole last branches.items p q
+        → IsBody templates last other.items q r
+        → Led templates whole done.old.items done.new.items p r) }
+{
+    done.push(SlotStmt::If(branches, other))?;
+    Ok(())
+}
+
+/// The parts of a loop.
+#[derive(Drop)]
+pub(crate) struct Loop {
+    pub targets: Targets,
+    pub items: SlotExpr,
+    pub condition: Option<SlotExpr>,
+    pub body: Vec<SlotStmt>,
+    pub other: Vec<SlotStmt>,
+}
+
+/// Puts a loop behind other statements.
+pub(crate) fn put_loop(
+    spot: &Spot<'_, '_>,
+    line: u32,
+    made: Loop,
+    done: &mut Vec<SlotStmt>,
+) -> Result<(), NoMemory>
+    ensures { IfOk result (λ u. (s : Chains) (c : slots.SlotExpr Constant)
+        (k : Option (slots.SlotExpr Constant)) (turn last : SBody Constant) (p q r t v : List Tree)
+        → IsShown c made.items p q
+        → IsAsked k made.condition q r
+        → IsBody (templates_in s) turn made.body.items r t
+        → IsBody (templates_in s) last made.other.items t v
+        → Puts s (alone (slots.for_each (line_in s spot.now line) (targets_view made.targets) c k
+        turn last)) done.old done.new p v) }
+{
+    let place = Place {
+        template: spot.template,
+        line,
+    };
+    let Loop {
+        targets,
+        items,
+        condition,
+        body,
+        other,
+    } = made;
+    done.push(SlotStmt::For {
+        place,
+        targets,
+        over: items,
+        condition,
+        body,
+        other,
+    })?;
+    Ok(())
+}
+
+/// Puts what keeps the text of statements in a slot behind others.
+pub(crate) fn put_capture(
+    escaping: bool,
+    slot: Slot,
+    body: Vec<SlotStmt>,
+    done: &mut Vec<SlotStmt>,
+) -> Result<(), NoMemory>
+    ensures { IfOk result (λ u. (templates : List Text) (whole : SBody Constant)
+        (p q : List Tree)
+        → IsBody templates whole body.items p q
+        → Led templates (alone (slots.capture escaping (slot_view slot) whole)) done.old.items
+        done.new.items p q) }
+{
+    done.push(SlotStmt::Capture {
+        escaping,
+        slot,
+        body,
+    })?;
+    Ok(())
+}
+
+/// Puts what a routine prints on a row of arguments behind other statements.
+pub(crate) fn put_run(
+    unit: usize,
+    row: Vec<(Option<usize>, SlotExpr)>,
+    done: &mut Vec<SlotStmt>,
+) -> Result<(), NoMemory>
+    ensures { IfOk result (λ u. (templates : List Text) (es : SRow Constant) (p q : List Tree)
+        → RowLeads es slots.none [] row.items p q
+        → Led templates (alone (slots.run unit es)) done.old.items done.new.items p q) }
+{
+    done.push(SlotStmt::Run(unit, row))?;
+    Ok(())
+}

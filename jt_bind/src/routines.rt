@@ -1,0 +1,294 @@
+//! Resolves the routines of a chain or a library: the chain, its macros, and the bodies of its blocks.
+
+ghost use Rattle.std.specs.Prelude.{◌≡◌, map, IfOk, if◌then◌else◌};
+ghost use Rattle.jt_chains.specs.Chain.{a_chain, macros};
+ghost use Rattle.jt_chains.specs.Layers.{layer_view};
+ghost use Rattle.jt_chains.specs.Parts.{name_at};
+ghost use Rattle.jt_chains.specs.View.{chain_view};
+ghost use Rattle.jt_meaning.specs.Layout as layout;
+ghost use Rattle.jt_meaning.specs.Layout.{numbered_bodies};
+ghost use Rattle.jt_meaning.specs.Meaning.{is_set};
+ghost use Rattle.jt_meaning.specs.Programs as programs;
+ghost use Rattle.jt_meaning.specs.Resolve as resolve;
+ghost use Rattle.jt_bind.specs.Resolving.{BodyAdds, stmt_of, spot_of, routine_of, layer_of};
+ghost use Rattle.jt_bind.specs.Scoped.{values, world_in, order_in, home_in, spot_in, templates_in};
+ghost use Rattle.jt_trees.specs.Expressions.{Text};
+ghost use Rattle.jt_trees.specs.StatementView.{stmt_view, body_view};
+ghost use Rattle.jt_resolved.specs.Slots as slots;
+ghost use Rattle.jt_names.specs.Names.{texts};
+ghost use Rattle.jt_bind.specs.Routines.{AreRoutines, RoutineIs, PutsAll};
+ghost use Rattle.jt_bind.specs.Stated.{BodyLed};
+
+use crate::entering::parameters_of;
+use crate::locals::{body_locals, larger};
+use crate::resolver::Resolver;
+use crate::spot::Spot;
+use crate::tables::Tables;
+use jt_chains::Layer;
+use jt_resolved::{Routine, SlotStmt};
+use jt_trees::Stmt;
+use jt_value::{NoMemory, Value};
+use std::alloc::Global;
+
+/// At the top of a template, where names are globals.
+fn top_spot<'s, 'a>(tables: &'s Tables<'a>, template: usize) -> Spot<'s, 'a>
+    ensures { spot_in tables.now result
+        ≡ resolve.top_spot (world_in tables.now) (order_in tables.now) (home_in tables.now)
+        (name_at (chain_view tables.now.chain.now).templates template) }
+{
+    Spot {
+        template,
+        escaping: tables.chain().autoescape,
+        body: None,
+        name_scopes: &[],
+        free: 0,
+    }
+}
+
+/// Whether a statement sets names.
+fn sets_names(statement: &Stmt) -> bool
+    ensures { result ≡ is_set (stmt_view statement.now) }
+{
+    match statement {
+        Stmt::Set { .. } | Stmt::SetBlock { .. } => true,
+        Stmt::Data(_)
+        | Stmt::Print(_, _)
+        | Stmt::If(_, _)
+        | Stmt::For { .. }
+        | Stmt::With { .. }
+        | Stmt::FilterBlock { .. }
+        | Stmt::Autoescape { .. }
+        | Stmt::Macro { .. }
+        | Stmt::Include { .. }
+        | Stmt::Import { .. }
+        | Stmt::From { .. }
+        | Stmt::Extends(_, _)
+        | Stmt::Block { .. } => false,
+    }
+}
+
+impl<'t, 's, 'a> Resolver<'t, 's, 'a> {
+    /// Resolves a body in a scope of its own, with these parameters.
+    fn resolve_routine(
+        &self,
+        body: &'a [Stmt],
+        parameters: Vec<&'a str>,
+        pool: &mut Vec<Value>,
+    ) -> Result<Routine, NoMemory>
+        ensures { IfOk result (λ r. RoutineIs self.now.tables.now
+            (routine_of self.now (texts parameters.entry.items) (body_view body.now)) r
+            pool.old pool.new) }
+    {
+        let count = parameters.len();
+        let mut done = Vec::new(self.alloc);
+        self.resolve_within(body, parameters, &mut done, pool)?;
+        let locals = larger(count, body_locals(&done)?);
+        Ok(Routine {
+            parameters: count,
+            locals,
+            body: done,
+        })
+    }
+
+    /// Resolves a statement if it sets names, behind other statements.
+    fn resolve_if_set(
+        &self,
+        statement: &'a Stmt,
+        done: &mut Vec<SlotStmt>,
+        pool: &mut Vec<Value>,
+    ) -> Result<(), NoMemory>
+        ensures { IfOk result (λ u. BodyAdds self.now (if is_set (stmt_view statement.now) then
+            stmt_of self.now (stmt_view statement.now) else slots.end) done.old done.new pool.old
+            pool.new) }
+    {
+        if sets_names(statement) {
+            return self.resolve_statement(statement, done, pool);
+        }
+        Ok(())
+    }
+
+    /// Resolves those of statements that set names, behind other statements.
+    fn resolve_sets(
+        &self,
+        body: &'a [Stmt],
+        done: &mut Vec<SlotStmt>,
+        pool: &mut Vec<Value>,
+    ) -> Result<(), NoMemory>
+        ensures { IfOk result (λ u. BodyAdds self.now
+            (resolve.resolved_sets (world_in self.now.tables.now) (order_in self.now.tables.now)
+            (body_view body.now) (spot_of self.now)) done.old done.new pool.old pool.new) }
+    {
+        for statement in body {
+            self.resolve_if_set(statement, done, pool)?;
+        }
+        Ok(())
+    }
+
+    /// Resolves a template of a chain, behind other statements: the root, or what another one sets.
+    fn resolve_layer(
+        &self,
+        body: &'a [Stmt],
+        is_root: bool,
+        done: &mut Vec<SlotStmt>,
+        pool: &mut Vec<Value>,
+    ) -> Result<(), NoMemory>
+        ensures { IfOk result (λ u. BodyAdds self.now (layer_of self.now (body_view body.now)
+            is_root) done.old done.new pool.old pool.new) }
+    {
+        if is_root {
+            return self.resolve_body(body, done, pool);
+        }
+        self.resolve_sets(body, done, pool)
+    }
+}
+
+/// Resolves the templates of a chain, behind other statements.
+fn resolve_layers<'a>(
+    alloc: Global,
+    tables: &Tables<'a>,
+    layers: &[Layer<'a>],
+    done: &mut Vec<SlotStmt>,
+    pool: &mut Vec<Value>,
+) -> Result<(), NoMemory>
+    ensures { IfOk result (λ u. BodyLed tables.now (resolve.resolved_chain (world_in tables.now)
+        (order_in tables.now) (home_in tables.now) (map
+        (layer_view (chain_view tables.now.chain.now).templates) layers.now)) done.old done.new
+        pool.old pool.new) }
+{
+    for (place, layer) in layers.iter().enumerate() {
+        let is_root = place + 1 == layers.len();
+        let resolver = Resolver {
+            alloc,
+            tables,
+            spot: top_spot(tables, layer.template),
+        };
+        resolver.resolve_layer(layer.body, is_root, done, pool)?;
+    }
+    Ok(())
+}
+
+/// Resolves a chain, without its macros and blocks.
+fn resolve_chain<'a>(
+    alloc: Global,
+    tables: &Tables<'a>,
+    pool: &mut Vec<Value>,
+) -> Result<Routine, NoMemory>
+    ensures { IfOk result (λ r. (n : Text)
+        → home_in tables.now ≡ a_chain n
+        → RoutineIs tables.now (resolve.chain_routine (world_in tables.now) (order_in tables.now) n)
+        r pool.old pool.new) }
+{
+    tables.stands();
+    let layers = tables.chain().layers(alloc, tables.home())?;
+    let mut done = Vec::new(alloc);
+    resolve_layers(alloc, tables, &layers, &mut done, pool)?;
+    let locals = body_locals(&done)?;
+    Ok(Routine {
+        parameters: 0,
+        locals,
+        body: done,
+    })
+}
+
+/// Resolves a chain itself, behind other routines; a library is never rendered.
+fn resolve_entry<'a>(
+    alloc: Global,
+    tables: &Tables<'a>,
+    routines: &mut Vec<Routine>,
+    pool: &mut Vec<Value>,
+) -> Result<(), NoMemory>
+    ensures { IfOk result (λ u. PutsAll tables.now
+        (programs.entry_routines (world_in tables.now) (order_in tables.now) (home_in tables.now))
+        routines.old routines.new pool.old pool.new) }
+{
+    let here = tables.here();
+    if here.is_library {
+        return Ok(());
+    }
+    routines.push(resolve_chain(alloc, tables, pool)?)?;
+    Ok(())
+}
+
+/// Resolves the macros of a chain or a library, behind other routines.
+fn resolve_macros<'a>(
+    alloc: Global,
+    tables: &Tables<'a>,
+    routines: &mut Vec<Routine>,
+    pool: &mut Vec<Value>,
+) -> Result<(), NoMemory>
+    ensures { IfOk result (λ u. PutsAll tables.now (map
+        (resolve.macro_routine (world_in tables.now) (order_in tables.now) (home_in tables.now))
+        (macros (world_in tables.now).sources (home_in tables.now)))
+        routines.old routines.new pool.old pool.new) }
+{
+    let here = tables.here();
+    for called in here.macros.iter() {
+        let resolver = Resolver {
+            alloc,
+            tables,
+            spot: top_spot(tables, called.template),
+        };
+        let parameters = parameters_of(alloc, called.parameters)?;
+        routines.push(resolver.resolve_routine(called.body, parameters, pool)?)?;
+    }
+    Ok(())
+}
+
+/// The same names in memory of their own.
+fn names_again<'a>(alloc: Global, names: &[&'a str]) -> Result<Vec<&'a str>, NoMemory>
+    ensures { IfOk result (λ ks. texts ks.items ≡ texts names.now) }
+{
+    let mut found = Vec::with_capacity(alloc, names.len())?;
+    for name in names {
+        found.push(*name)?;
+    }
+    Ok(found)
+}
+
+/// Resolves the bodies of a chain's blocks, behind other routines.
+fn resolve_blocks<'a>(
+    alloc: Global,
+    tables: &Tables<'a>,
+    routines: &mut Vec<Routine>,
+    pool: &mut Vec<Value>,
+) -> Result<(), NoMemory>
+    ensures { IfOk result (λ u. PutsAll tables.now (programs.body_routines
+        (world_in tables.now) (order_in tables.now) (home_in tables.now)
+        (numbered_bodies (world_in tables.now) (home_in tables.now)))
+        routines.old routines.new pool.old pool.new) }
+{
+    let here = tables.here();
+    for (place, block) in here.blocks.iter().enumerate() {
+        let spot = Spot {
+            template: block.template,
+            escaping: block.escaping,
+            body: Some(place),
+            name_scopes: &[],
+            free: 0,
+        };
+        let resolver = Resolver {
+            alloc,
+            tables,
+            spot,
+        };
+        let parameters = names_again(alloc, tables.block_parameters(block.name))?;
+        routines.push(resolver.resolve_routine(block.body, parameters, pool)?)?;
+    }
+    Ok(())
+}
+
+/// Resolves a chain or a library with its macros and the bodies of its blocks, behind other routines.
+pub(crate) fn resolve_home<'a>(
+    alloc: Global,
+    tables: &Tables<'a>,
+    routines: &mut Vec<Routine>,
+    pool: &mut Vec<Value>,
+) -> Result<(), NoMemory>
+    ensures { IfOk result (λ u. AreRoutines (templates_in tables.now)
+        (programs.chain_routines (world_in tables.now) (order_in tables.now) (home_in tables.now))
+        routines.old.items routines.new.items (values pool.old) (values pool.new)) }
+{
+    resolve_entry(alloc, tables, routines, pool)?;
+    resolve_macros(alloc, tables, routines, pool)?;
+    resolve_blocks(alloc, tables, routines, pool)
+}

@@ -1,0 +1,53 @@
+//! Rows of what names read.
+
+ghost use Rattle.std.specs.Prelude.{◌≡◌, List, [], ◌∷◌, length, None, IfOk};
+ghost use Rattle.jt_trees.specs.Expressions.{Text};
+ghost use Rattle.jt_names.specs.Names.{texts};
+ghost use Rattle.jt_meaning.specs.Resolve as resolve;
+ghost use Rattle.jt_bind.specs.Resolving.{table_of};
+ghost use Rattle.jt_bind.specs.Scoped.{IsRow};
+
+use crate::lookup::reading;
+use crate::resolver::Resolver;
+use jt_resolved::{Slot, SlotExpr};
+use jt_value::NoMemory;
+use std::alloc::Global;
+
+impl<'t, 's, 'a> Resolver<'t, 's, 'a> {
+    /// What names read, in a row.
+    pub(crate) fn reads(&self, names: &[&str]) -> Result<Vec<(Option<usize>, SlotExpr)>, NoMemory>
+        ensures { IfOk result (IsRow (resolve.reads (table_of self.now) (texts names.now))) }
+    {
+        let mut row = Vec::new(self.alloc);
+        for name in names {
+            row.push((None, reading(self.slot(name))))?;
+        }
+        Ok(row)
+    }
+}
+
+/// The first so many locals, in a row.
+pub(crate) fn first_locals(
+    alloc: Global,
+    count: usize,
+) -> Result<Vec<(Option<usize>, SlotExpr)>, NoMemory>
+    ensures { IfOk result (λ row. (xs : List Text)
+        → length xs ≡ count
+        → IsRow (resolve.first_locals 0 xs) row) }
+{
+    let mut row = Vec::new(alloc);
+    for local in 0..count {
+        row.push((None, SlotExpr::Variable(Slot::Local(local))))?;
+    }
+    Ok(row)
+}
+
+/// A row of one expression.
+pub(crate) fn row_of(
+    alloc: Global,
+    first: SlotExpr,
+) -> Result<Vec<(Option<usize>, SlotExpr)>, NoMemory>
+    ensures { IfOk result (λ row. row.items ≡ (None, first) ∷ []) }
+{
+    Ok(vec![in alloc; (None, first)]?)
+}

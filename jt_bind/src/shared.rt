@@ -1,0 +1,56 @@
+//! The values in front of a pool.
+
+ghost use Rattle.std.specs.Prelude.{◌≡◌, ◌++◌, List, map, IfOk};
+ghost use Rattle.jt_chains.specs.Chain.{Template};
+ghost use Rattle.jt_chains.specs.Parts.{macro_view};
+ghost use Rattle.jt_meaning.specs.Layout as layout;
+ghost use Rattle.jt_meaning.specs.Layout.{defaults_of};
+ghost use Rattle.jt_bind.specs.Scoped.{values, world_in, order_in};
+ghost use Rattle.jt_trees.specs.StatementView.{parameter_view};
+ghost use Rattle.jt_evaluation.specs.Filters.{default_value};
+
+use crate::forms::default_of;
+use crate::tables::Tables;
+use jt_chains::Macro;
+use jt_trees::Parameter;
+use jt_value::{NoMemory, Value};
+use std::alloc::Global;
+
+/// Adds the defaults of parameters.
+fn add_defaults(
+    alloc: Global,
+    parameters: &[Parameter],
+    pool: &mut Vec<Value>,
+) -> Result<(), NoMemory>
+    ensures { IfOk result (λ _. values pool.new
+        ≡ values pool.old ++ map (λ p. default_value (parameter_view p).default) parameters.now) }
+{
+    for parameter in parameters {
+        pool.push(default_of(alloc, parameter)?)?;
+    }
+    Ok(())
+}
+
+/// Adds the defaults of macros.
+fn add_macros(alloc: Global, macros: &[Macro<'_>], pool: &mut Vec<Value>) -> Result<(), NoMemory>
+    ensures { IfOk result (λ _. (ts : List Template)
+        → values pool.new ≡ values pool.old ++ defaults_of (map (macro_view ts) macros.now)) }
+{
+    for entry in macros {
+        add_defaults(alloc, entry.parameters, pool)?;
+    }
+    Ok(())
+}
+
+/// A pool with undefined and the defaults of all macros.
+pub(crate) fn shared_values(alloc: Global, tables: &Tables<'_>) -> Result<Vec<Value>, NoMemory>
+    ensures { IfOk result
+        (λ vs. values vs ≡ layout.shared (world_in tables.now) (order_in tables.now)) }
+{
+    let mut pool = Vec::new(alloc);
+    pool.push(Value::Undefined)?;
+    for home in tables.homes() {
+        add_macros(alloc, &home.macros, &mut pool)?;
+    }
+    Ok(pool)
+}
