@@ -1,4 +1,4 @@
--- Two maps whose keys ascend have the same keys only at the same places.
+-- Entries whose keys ascend.
 use Rattle.std.proofs.Common.{◌≡◌, ℕ, zero, suc, ◌+◌, ◌<◌, ◌≤◌, Bool, true, false, cond, ◌||◌, List, [], ◌∷◌, length, drop, refl, sym, ap, ◌∙◌, subst, true≢false, arith}
 use Rattle.std.specs.List.{AllByRecursion, IsDistinct, list_any}
 use Rattle.std.specs.Str.{bytes_eq}
@@ -11,12 +11,12 @@ use Rattle.std.proofs.lemmas.Map.Made.{length-le_from_is_member}
 use Rattle.std.proofs.lemmas.Map.Text.{is_eq-slice_cmp}
 use Rattle.jt_value.specs.Tree as tree
 use Rattle.jt_value.specs.Tree.{Entries, no_entries, entry}
-use Rattle.jt_value.specs.Entries.{entry_of, has_key, all_keys, keys, same_keys, stands_before, ascends}
+use Rattle.jt_value.specs.Entries.{entry_of, has_key, all_keys, keys, stands_before, ascends}
 use Rattle.jt_value.specs.Equality.{equal, equal_at}
 use Rattle.jt_value.specs.View.{entries_view}
 use Rattle.jt_value.proofs.EntryLaws.{has_key-there}
 use Rattle.jt_value.proofs.Lists.{Pair}
-use Rattle.jt_value.proofs.Equalities.{reflexive, left_true, right_true, both_true, holds_of}
+use Rattle.jt_value.proofs.Equalities.{reflexive, left_true, right_true, holds_of}
 
 is_less : (o : Ordering) → is_lt o ≡ true → o ≡ Less
 is_less Less h = refl
@@ -24,7 +24,7 @@ is_less Equal h = absurd (true≢false (sym h))
 is_less Greater h = absurd (true≢false (sym h))
 
 -- no key stands before itself
-not_itself : {G : Type 0} (k : List ℕ) → slice_cmp nat_cmp k k ≡ Less → G
+pub not_itself : {G : Type 0} (k : List ℕ) → slice_cmp nat_cmp k k ≡ Less → G
 not_itself k h = absurd (let same : slice_cmp nat_cmp k k ≡ Equal = tied_itself nat_list_cmp_total k in apart (sym h ∙ same))
   where
     apart : ◌≡◌ {A = Ordering} Less Equal → ⊥
@@ -48,7 +48,7 @@ before_all k (entry l t es) b a x there =
     by false e h rest = nat_list_cmp_total.trans k l x first (rest h)
 
 -- where two maps whose keys ascend have the same keys, the first of these are the same
-firsts_same : (k l : List ℕ) (t u : tree.Tree) (es fs : Entries) → ascends (entry k t es) ≡ true → ascends (entry l u fs) ≡ true
+pub firsts_same : (k l : List ℕ) (t u : tree.Tree) (es fs : Entries) → ascends (entry k t es) ≡ true → ascends (entry l u fs) ≡ true
     → has_key k (entry l u fs) ≡ true → has_key l (entry k t es) ≡ true → k ≡ l
 firsts_same k l t u es fs a b here there = by (bytes_eq k l) refl there
   where
@@ -66,51 +66,11 @@ firsts_same k l t u es fs a b here there = by (bytes_eq k l) refl there
     by true e h = same_text k l (sym e)
     by false e h = through (bytes_eq l k) refl here (behind h)
 
--- and then what one has behind the first, the other has there too
-rest_same : (k : List ℕ) (t u : tree.Tree) (es fs : Entries) → ascends (entry k t es) ≡ true → ((x : List ℕ) → has_key x (entry k t es) ≡ true → has_key x (entry k u fs) ≡ true)
-    → (x : List ℕ) → has_key x es ≡ true → has_key x fs ≡ true
-rest_same k t u es fs a f x there = by (bytes_eq k x) refl (f x (later (bytes_eq k x) (has_key x es) there))
-  where
-    by : (c : Bool) → bytes_eq k x ≡ c → cond c true (has_key x fs) ≡ true → has_key x fs ≡ true
-    by true e h =
-        not_itself k
-        (subst (λ y. slice_cmp nat_cmp k y ≡ Less) (sym (same_text k x (sym e))) (before_all k es (left_true (stands_before k es) (ascends es) a) (right_true (stands_before k es) (ascends es) a) x there))
-    by false e h = h
-
 abbrev Covers : Entries → Entries → Type 0
 Covers es fs = (x : List ℕ) → has_key x es ≡ true → has_key x fs ≡ true
 
-own : (x : List ℕ) (es : Entries) → cond (bytes_eq x x) true (has_key x es) ≡ true
+pub own : (x : List ℕ) (es : Entries) → cond (bytes_eq x x) true (has_key x es) ≡ true
 own x es = ap (λ c. cond c true (has_key x es)) (reflexive x)
-
--- one entry more on both sides
-along : (k : List ℕ) (t : tree.Tree) (es : Entries) (l : List ℕ) (u : tree.Tree) (fs : Entries) → k ≡ l → ascends (entry k t es) ≡ true → ascends (entry l u fs) ≡ true
-    → Covers (entry k t es) (entry l u fs) → Covers (entry l u fs) (entry k t es)
-    → (ascends es ≡ true → ascends fs ≡ true → Covers es fs → Covers fs es → same_keys es fs ≡ true) → same_keys (entry k t es) (entry l u fs) ≡ true
-along k t es l u fs e a b f g rest =
-    let b' = subst (λ n. ascends (entry n u fs) ≡ true) (sym e) b in
-    let f' = subst (λ n. Covers (entry k t es) (entry n u fs)) (sym e) f in
-    let g' = subst (λ n. Covers (entry n u fs) (entry k t es)) (sym e) g in
-    both_true (bytes_eq k l) (same_keys es fs) (subst (λ n. bytes_eq k n ≡ true) e (reflexive k))
-    (rest (right_true (stands_before k es) (ascends es) a) (right_true (stands_before k fs) (ascends fs) b') (rest_same k t u es fs a f') (rest_same k u t fs es b' g'))
-
-same_places : (es fs : Entries) → ascends es ≡ true → ascends fs ≡ true → Covers es fs → Covers fs es → same_keys es fs ≡ true
-same_places no_entries no_entries a b f g = refl
-same_places no_entries (entry l u fs) a b f g = absurd (true≢false (sym (g l (own l fs))))
-same_places (entry k t es) no_entries a b f g = absurd (true≢false (sym (f k (own k es))))
-same_places (entry k t es) (entry l u fs) a b f g =
-    along k t es l u fs (firsts_same k l t u es fs a b (f k (own k es)) (g l (own l fs))) a b f g (λ c d p q. same_places es fs c d p q)
-
--- two maps whose keys ascend, and stand at other places, are unequal
-pub apart : (es fs : Entries) → ascends es ≡ true → ascends fs ≡ true → same_keys es fs ≡ false → equal (tree.map es) (tree.map fs) ≡ false
-apart es fs a b other = by (equal (tree.map es) (tree.map fs)) refl
-  where
-    by : (c : Bool) → equal (tree.map es) (tree.map fs) ≡ c → c ≡ false
-    by false h = refl
-    by true h =
-        let firsts = left_true (all_keys (λ k. equal_at es k (entry_of k fs)) es) (all_keys (λ k. has_key k es) fs) h in
-        let covered = right_true (all_keys (λ k. equal_at es k (entry_of k fs)) es) (all_keys (λ k. has_key k es) fs) h in
-        sym (same_places es fs a b (λ k there. has_key-there es fs k (holds_of (λ n. equal_at es n (entry_of n fs)) es k firsts there)) (λ k there. holds_of (λ n. has_key n es) fs k covered there)) ∙ other
 
 -- ---- a map whose keys ascend has no more of them than another has entries, where it has no key that the other lacks
 

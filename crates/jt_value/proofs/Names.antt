@@ -18,14 +18,14 @@ abbrev Entry : Type 0
 Entry = String Global × Value
 
 -- whether a name is at a key, in the tree and in the pairs
-same : (n k : List ℕ) → is_eq (slice_cmp nat_cmp n k) ≡ bytes_eq k n
-same n k = is_eq-slice_cmp n k ∙ nat_list_eq_equiv.symm n k
+pub same_key : (n k : List ℕ) → is_eq (slice_cmp nat_cmp n k) ≡ bytes_eq k n
+same_key n k = is_eq-slice_cmp n k ∙ nat_list_eq_equiv.symm n k
 
 -- the value of a name, in the tree and in the pairs
 pub look-lookup : (n : List ℕ) (es : List Entry) → option_map view (lookup (is_at (λ k. slice_cmp nat_cmp n (string_bytes k))) es) ≡ look n (pairs es)
 look-lookup n [] = refl
 look-lookup n (e ∷ es) =
-    ap (λ b. option_map view (cond b (Some e.1) (lookup (is_at (λ k. slice_cmp nat_cmp n (string_bytes k))) es))) (same n (string_bytes e.0)) ∙ by (bytes_eq (string_bytes e.0) n) (look-lookup n es)
+    ap (λ b. option_map view (cond b (Some e.1) (lookup (is_at (λ k. slice_cmp nat_cmp n (string_bytes k))) es))) (same_key n (string_bytes e.0)) ∙ by (bytes_eq (string_bytes e.0) n) (look-lookup n es)
   where
     by : (b : Bool) → option_map view (lookup (is_at (λ k. slice_cmp nat_cmp n (string_bytes k))) es) ≡ look n (pairs es)
         → option_map view (cond b (Some e.1) (lookup (is_at (λ k. slice_cmp nat_cmp n (string_bytes k))) es)) ≡ cond b (Some (view e.1)) (look n (pairs es))

@@ -1,4 +1,5 @@
--- The entries of a map by their keys. A map that a caller gave may have one key twice: its first value counts.
+-- The entries of a map by their keys. A map that a caller gave may have one key twice: its first
+-- value counts.
 use Rattle.std.specs.Prelude.{ℕ, List, [], ◌∷◌, Bool, true, false, ◌&&◌, Option, Some, None, option_map, suc, if◌then◌else◌}
 use Rattle.std.specs.Str.{bytes_eq}
 use Rattle.std.specs.Ordering.{nat_cmp, is_lt}

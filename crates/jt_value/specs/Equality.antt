@@ -11,9 +11,10 @@ abbrev pub truth_number : Bool → ℤ
 truth_number true = pos 1
 truth_number false = pos 0
 
--- Numbers are equal by value, and a truth value is as good as 1 or 0. Texts are equal by their characters, markup or not, so by
--- their bytes. Lists are equal item by item. Two maps are equal where they have the same keys and, for each key, equal first
--- values, in any order. None equals none, and undefined undefined. All else is unequal.
+-- Numbers are equal by value, and a truth value is as good as 1 or 0. Texts are equal by their
+-- characters, markup or not, so by their bytes. Lists are equal item by item. Two maps are equal
+-- where they have the same keys and, for each key, equal first values, in any order. None equals
+-- none, and undefined undefined. All else is unequal.
 abbrev mutual
   pub equal : Tree → Tree → Bool
   equal undefined undefined = true
@@ -27,7 +28,8 @@ abbrev mutual
   equal (markup x) (text y) = bytes_eq x y
   equal (markup x) (markup y) = bytes_eq x y
   equal (list ts) (list us) = equal_items ts us
-  equal (map es) (map fs) = all_keys (λ k. equal_at es k (entry_of k fs)) es && all_keys (λ k. has_key k es) fs
+  equal (map es) (map fs) =
+      all_keys (λ k. equal_at es k (entry_of k fs)) es && all_keys (λ k. has_key k es) fs
   equal t u = false
 
   -- as many items, each equal to the one at its place
@@ -39,7 +41,8 @@ abbrev mutual
   -- whether the first value of the key equals the other value, and both are there
   pub equal_at : Entries → List ℕ → Option Tree → Bool
   equal_at no_entries k other = false
-  equal_at (entry l t es) k other = if bytes_eq l k then option_map_or (equal t) other false else equal_at es k other
+  equal_at (entry l t es) k other =
+      if bytes_eq l k then option_map_or (equal t) other false else equal_at es k other
 
 -- whether the first values of a key are both missing, or both there and equal
 abbrev pub agree : Option Tree → Option Tree → Bool

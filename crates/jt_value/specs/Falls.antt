@@ -1,4 +1,5 @@
--- What lies inside a list or a map is smaller than it. These are lemmas, which the models of lists and maps cite.
+-- What lies inside a list or a map is smaller than it. These are lemmas, which the models of lists
+-- and maps cite.
 use Rattle.std.specs.Prelude.{◌+◌, ◌*◌, ◌≤◌, max, List, [], ◌∷◌, String}
 use Rattle.std.proofs.Common.{arith}
 use Rattle.std.specs.declared.alloc.Global.{Global}
@@ -23,7 +24,8 @@ pub most-items : (vs : List Value) → most deep-Value vs ≤ items_size (items_
 most-items [] = omega arith
 most-items (v ∷ vs) = omega (arith, deep_le v, most-items vs)
 
-pub most-entries : (es : List (String Global × Value)) → max (most (λ e. max 0 (max (deep-Value e.1) 0)) es) 0 ≤ entries_size (entries_view es)
+pub most-entries : (es : List (String Global × Value))
+    → max (most (λ e. max 0 (max (deep-Value e.1) 0)) es) 0 ≤ entries_size (entries_view es)
 most-entries [] = omega arith
 most-entries (e ∷ es) = omega (arith, deep_le e.1, most-entries es)
 
@@ -35,6 +37,7 @@ pub sizes-items : (vs : List Value) → most size-Value vs ≤ 2 * items_size (i
 sizes-items [] = omega arith
 sizes-items (v ∷ vs) = omega (arith, size_le v, sizes-items vs)
 
-pub sizes-entries : (es : List (String Global × Value)) → max (most (λ e. max 0 (max (size-Value e.1) 0)) es) 0 ≤ 2 * entries_size (entries_view es) + 1
+pub sizes-entries : (es : List (String Global × Value))
+    → max (most (λ e. max 0 (max (size-Value e.1) 0)) es) 0 ≤ 2 * entries_size (entries_view es) + 1
 sizes-entries [] = omega arith
 sizes-entries (e ∷ es) = omega (arith, size_le e.1, sizes-entries es)

@@ -16,8 +16,8 @@ abbrev pub key_items : Entries → Items
 key_items no_entries = no_items
 key_items (entry k t es) = item (text k) (key_items es)
 
--- A list gives its items, a map its keys, and a text, markup too, its characters. Undefined gives none, and all else the fault
--- NotIterable.
+-- A list gives its items, a map its keys, and a text, markup too, its characters. Undefined gives
+-- none, and all else the fault NotIterable.
 abbrev pub items_of_tree : Tree → Result Items Fault
 items_of_tree undefined = Ok no_items
 items_of_tree (text bytes) = Ok (character_items (chars bytes))

@@ -6,7 +6,8 @@ use Rattle.jt_value.specs.Entries.{place_of, ascends}
 use Rattle.jt_value.specs.declared.key_search.KeySearch.{KeySearch}
 use Rattle.jt_value.specs.declared.key_search.KeySearch.TheVariants as search
 
--- by halves only where the keys ascend, and by the places that are kept only where these are the first ones
+-- by halves only where the keys ascend, and by the places that are kept only where these are the
+-- first ones
 abbrev pub Finds : KeySearch → Entries → Type 0
 Finds search.Linear es = Unit {0}
 Finds search.Binary es = ascends es ≡ true

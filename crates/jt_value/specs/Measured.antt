@@ -10,10 +10,15 @@ abbrev pub list_view : list.Inside → Items
 list_view a = items_view a.items.items
 
 abbrev pub IsMeasuredList : list.Inside → Type 0
-IsMeasuredList a = (a.size ≡ min (1 + items_size (list_view a)) (2 ^ 64 - 1)) × (a.nesting ≡ min (1 + items_nesting (list_view a)) (2 ^ 32 - 1))
+IsMeasuredList a =
+    (a.size ≡ min (1 + items_size (list_view a)) (2 ^ 64 - 1))
+    × (a.nesting ≡ min (1 + items_nesting (list_view a)) (2 ^ 32 - 1))
 
 abbrev pub map_view : map.Inside → Entries
 map_view a = entries_view a.entries.items
 
 abbrev pub IsMeasuredMap : map.Inside → Type 0
-IsMeasuredMap a = (a.size ≡ min (1 + entries_size (map_view a)) (2 ^ 64 - 1)) × (a.nesting ≡ min (1 + entries_nesting (map_view a)) (2 ^ 32 - 1)) × Finds a.search (map_view a)
+IsMeasuredMap a =
+    (a.size ≡ min (1 + entries_size (map_view a)) (2 ^ 64 - 1))
+    × (a.nesting ≡ min (1 + entries_nesting (map_view a)) (2 ^ 32 - 1))
+    × Finds a.search (map_view a)

@@ -8,13 +8,15 @@ use Rattle.jt_value.specs.Tree.{Tree, undefined, number, text, markup}
 use Rattle.jt_value.specs.declared.fault.Fault.{Fault}
 use Rattle.jt_value.specs.declared.fault.Fault.TheVariants as fault
 
--- the fault of operands that no case of an operator fits: Undefined if one of them is undefined, else BadType
+-- the fault of operands that no case of an operator fits: Undefined if one of them is undefined,
+-- else BadType
 abbrev pub misfit : Tree → Tree → Fault
 misfit undefined u = fault.Undefined
 misfit t undefined = fault.Undefined
 misfit t u = fault.BadType
 
--- Two numbers are ordered by value, two texts, markup or not, by their code points: the order of UTF-8 bytes is the same.
+-- Two numbers are ordered by value, two texts, markup or not, by their code points: the order of
+-- UTF-8 bytes is the same.
 abbrev pub order : Tree → Tree → Result Ordering Fault
 order (number x) (number y) = Ok (int_cmp x y)
 order (text x) (text y) = Ok (slice_cmp nat_cmp x y)

@@ -1,5 +1,5 @@
--- A code of trees: a tree written as a row of tokens, and read back with a stack of entries. The models of lists and maps have to name
--- one for their values; no contract rests on what it is.
+-- A code of trees: a tree written as a row of tokens, and read back with a stack of entries. The
+-- models of lists and maps have to name one for their values; no contract rests on what it is.
 use Rattle.std.specs.Prelude.{◌≡◌, ℕ, zero, suc, ℤ, pos, true, false, List, [], ◌∷◌, ◌++◌, refl}
 use Rattle.std.proofs.Common.{ap, ◌∙◌}
 use Rattle.std.specs.Coded.{Coded, code_by, coded×, coded_list, coded_ℕ, coded_ℤ}
@@ -80,7 +80,8 @@ values-keyed no_items = refl
 values-keyed (item t ts) = ap (item t) (values-keyed ts)
 
 mutual
-  pub run-tokens : (k : List ℕ) (t : Tree) (es : Entries) (s : List Entries) → run (tokens k t) (es ∷ s) ≡ entry k t es ∷ s
+  pub run-tokens : (k : List ℕ) (t : Tree) (es : Entries) (s : List Entries)
+      → run (tokens k t) (es ∷ s) ≡ entry k t es ∷ s
   run-tokens k undefined es s = refl
   run-tokens k nothing es s = refl
   run-tokens k (truth_value true) es s = refl
@@ -96,21 +97,30 @@ mutual
       run-append (entry_tokens fs) ((9, (pos 0, ([], k))) ∷ []) (no_entries ∷ es ∷ s)
       ∙ ap (closed_map k) (run-entries fs (es ∷ s))
 
-  pub run-items : (ts : Items) (s : List Entries) → run (item_tokens ts) (no_entries ∷ s) ≡ keyed ts ∷ s
+  pub run-items : (ts : Items) (s : List Entries)
+      → run (item_tokens ts) (no_entries ∷ s) ≡ keyed ts ∷ s
   run-items no_items s = refl
-  run-items (item t ts) s = run-append (item_tokens ts) (tokens [] t) (no_entries ∷ s) ∙ ap (run (tokens [] t)) (run-items ts s) ∙ run-tokens [] t (keyed ts) s
+  run-items (item t ts) s =
+      run-append (item_tokens ts) (tokens [] t) (no_entries ∷ s)
+      ∙ ap (run (tokens [] t)) (run-items ts s) ∙ run-tokens [] t (keyed ts) s
 
-  pub run-entries : (fs : Entries) (s : List Entries) → run (entry_tokens fs) (no_entries ∷ s) ≡ fs ∷ s
+  pub run-entries : (fs : Entries) (s : List Entries)
+      → run (entry_tokens fs) (no_entries ∷ s) ≡ fs ∷ s
   run-entries no_entries s = refl
-  run-entries (entry k t fs) s = run-append (entry_tokens fs) (tokens k t) (no_entries ∷ s) ∙ ap (run (tokens k t)) (run-entries fs s) ∙ run-tokens k t fs s
+  run-entries (entry k t fs) s =
+      run-append (entry_tokens fs) (tokens k t) (no_entries ∷ s)
+      ∙ ap (run (tokens k t)) (run-entries fs s) ∙ run-tokens k t fs s
 
 abbrev pub token_code : Coded (List Token)
-token_code = coded_list (coded× coded_ℕ (coded× coded_ℤ (coded× (coded_list coded_ℕ) (coded_list coded_ℕ))))
+token_code =
+    coded_list (coded× coded_ℕ (coded× coded_ℤ (coded× (coded_list coded_ℕ) (coded_list coded_ℕ))))
 
 abbrev pub coded_items : Coded Items
 coded_items =
-    code_by (List Token) token_code item_tokens (λ ts. values (top (run ts (no_entries ∷ [])))) (λ ts. ap (λ s. values (top s)) (run-items ts []) ∙ values-keyed ts)
+    code_by (List Token) token_code item_tokens (λ ts. values (top (run ts (no_entries ∷ []))))
+    (λ ts. ap (λ s. values (top s)) (run-items ts []) ∙ values-keyed ts)
 
 abbrev pub coded_entries : Coded Entries
 coded_entries =
-    code_by (List Token) token_code entry_tokens (λ ts. top (run ts (no_entries ∷ []))) (λ es. ap top (run-entries es []))
+    code_by (List Token) token_code entry_tokens (λ ts. top (run ts (no_entries ∷ [])))
+    (λ es. ap top (run-entries es []))

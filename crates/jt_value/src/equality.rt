@@ -1,5 +1,5 @@
 //! Equality.
-ghost use Rattle.std.specs.Prelude.{◌≡◌, ◌↔◌, true, false, IsTrue};
+ghost use Rattle.std.specs.Prelude.{◌≡◌, ◌↔◌, true, false, IfSome, IsTrue};
 ghost use Rattle.std.specs.Option.{option_map_or};
 ghost use Rattle.jt_value.specs.Tree as tree;
 ghost use Rattle.jt_value.specs.Tree.{Entries};
@@ -12,8 +12,9 @@ use crate::payload::ValueMap;
 use crate::value::Value;
 
 impl Value {
-    /// Whether two values are equal: numbers and truth values as numbers, texts by their characters, markup or not, lists item by
-    /// item, maps by their keys' first values in any order; none equals none, and undefined undefined.
+    /// Whether two values are equal: numbers and truth values as numbers, texts by their
+    /// characters, markup or not, lists item by item, maps by their keys' first values in any
+    /// order; none equals none, and undefined undefined.
     pub fn equals(&self, other: &Value) -> bool
         ensures value { result ≡ equal (view self.now) (view other.now) }
         ensures maps { (es fs : Entries)
@@ -102,14 +103,32 @@ fn are_maps_equal(map: &ValueMap, other: &ValueMap) -> bool
     if have_same_keys(entries, others) {
         return are_values_equal_in_place(map, others);
     }
-    // In byte order, the same keys would stand at the same places.
-    if ascend(entries) && ascend(others) {
-        return false;
+    if let Some(equal) = are_equal_in_order(map, other) {
+        return equal;
     }
     if differ_in_number(entries, others) {
         return false;
     }
     has_all_keys(map, others) && are_first_values_equal(map, other)
+}
+
+/// Whether two maps are equal, in one pass through both in the order of their keys, where that is
+/// known of both.
+#[cycle(equality)]
+fn are_equal_in_order(map: &ValueMap, other: &ValueMap) -> Option<bool>
+    ensures { IfSome result (λ equals. equals ≡ equal (tree.map map.now) (tree.map other.now)) }
+{
+    let mut entries = map.in_order()?;
+    let mut others = other.in_order()?;
+    while let Some((key, value)) = entries.next() {
+        let Some((other_key, other_value)) = others.next() else {
+            return Some(false);
+        };
+        if key != other_key || !are_equal(value, other_value) {
+            return Some(false);
+        }
+    }
+    Some(others.next().is_none())
 }
 
 /// Whether one map has more keys than the other has entries, which is told where its keys ascend:
@@ -138,7 +157,8 @@ fn has_all_keys(map: &ValueMap, others: &[(String, Value)]) -> bool
     true
 }
 
-/// The same as `are_first_values_equal`, in one pass, for maps that have the same keys at the same places.
+/// The same as `are_first_values_equal`, in one pass, for maps that have the same keys at the same
+/// places.
 #[cycle(equality)]
 fn are_values_equal_in_place(map: &ValueMap, others: &[(String, Value)]) -> bool
     requires { same_keys map.now (entries_view others.now) ≡ true }

@@ -66,8 +66,8 @@ impl Value {
         Ok(Value::List(Rc::new(alloc, ValueList::new(items))?))
     }
 
-    /// A map of entries that are not copied, in their order. They are not searched for a key that stands twice: of such a one the
-    /// first value counts.
+    /// A map of entries that are not copied, in their order. They are not searched for a key that
+    /// stands twice: of such a one the first value counts.
     ///
     /// # Errors
     ///

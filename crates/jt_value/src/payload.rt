@@ -1,11 +1,14 @@
-//! What lists and maps are made of: their items and entries, with the size and the nesting that these give them.
-ghost use Rattle.std.specs.Prelude.{◌≡◌, ◌+◌, ◌-◌, ◌^◌, min, false, IfOk, OnOk, OnErr, nat_lt, option_map, option_copied};
+//! What lists and maps are made of: their items and entries, with the size and the nesting that
+//! these give them.
+ghost use Rattle.std.specs.Prelude.{◌≡◌, ◌+◌, ◌-◌, ◌^◌, min, false, IfOk, IfSome, OnOk, OnErr, nat_lt, option_map, option_copied};
 ghost use Rattle.std.specs.Option.{option_map_or};
 ghost use Rattle.jt_value.specs.Entries.{entry_of, has_key, place_of};
+ghost use Rattle.jt_value.specs.InOrder.{to_come, IsInOrder};
 ghost use Rattle.jt_value.specs.Tree.{items_size, items_nesting, entries_size, entries_nesting};
 ghost use Rattle.jt_value.specs.Payload.{more_items, joined_items};
 ghost use Rattle.jt_value.specs.View.{view, items_view, entries_view};
 
+use crate::in_order::InOrder;
 use crate::key_search::KeySearch;
 use crate::value::Value;
 use std::alloc::{AllocError, Global};
@@ -213,6 +216,14 @@ impl ValueMap {
             Some(place) => place < index,
             None => false,
         }
+    }
+
+    /// The first entries of the keys in byte order, or none where no order of the keys is known.
+    pub(crate) fn in_order(&self) -> Option<InOrder<'_>>
+        ensures entries { IfSome result (λ order. entries_view order.entries.now ≡ self.now) }
+        ensures in_order { IfSome result (λ order. IsInOrder (to_come order) self.now) }
+    {
+        InOrder::new(&self.entries, &self.search)
     }
 
     /// The place of a key's first value.

@@ -1,12 +1,12 @@
-use Rattle.std.proofs.Common.{◌≡◌, ◌≢◌, ◌<◌, true, false, length, get_or, sym, ap, ◌∙◌, true≢false, arith, string_bytes}
-use Rattle.jt_value.specs.Entries.{entry_of, has_key, all_keys, same_keys}
+use Rattle.std.proofs.Common.{◌≡◌, ◌≢◌, ◌<◌, true, false, Bor, List, length, get_or, sym, ap, ◌∙◌, true≢false, arith, string_bytes}
+use Rattle.jt_value.specs.Entries.{entry_of, has_key, all_keys, keys, same_keys}
 use Rattle.jt_value.specs.Equality.{equal, equal_at}
 use Rattle.jt_value.specs.Falls.{size_le, sizes-items}
-use Rattle.jt_value.specs.Tree as tree
+use Rattle.jt_value.specs.InOrder.{to_come}
 use Rattle.jt_value.specs.Tree.{items_size, entries_size}
 use Rattle.jt_value.specs.View.{view, entries_view}
-use Rattle.jt_value.proofs.Ascending.{apart}
 use Rattle.jt_value.proofs.Equalities.{items_differ, passes, fails, equal_at-first, equal_at-same, found, and_known, same_keys-all, same_length}
+use Rattle.jt_value.proofs.InOrder.{alike_equal, alike_behind}
 use Rattle.jt_value.proofs.KeyPlaces.{seen, size_lt}
 use Rattle.jt_value.specs.declared.payload.ValueList.TheDeep.{size-Value}
 use Rattle.jt_value.proofs.Lists.{Pair}
@@ -24,6 +24,24 @@ pub are_items_equal-returns-then-items-others : goal.are_items_equal-returns-the
 are_items_equal-returns-then-items-others t c =
     let ne : length c.args.items.now ≢ length c.args.others.now = λ e. c.if-items-others.true (omega (arith, e)) in
     sym (items_differ c.args.items.now c.args.others.now ne)
+
+pub are_equal_in_order-loop-key-init : goal.are_equal_in_order-loop-key-init
+are_equal_in_order-loop-key-init t c = record {
+  entries = c.in_ok-entries.ensures.entries;
+  rest = alike_equal (to_come c.in_ok-entries.entries) (to_come c.in_ok-others.others) c.args.map.now c.args.other.now c.in_ok-entries.ensures.in_order c.in_ok-others.ensures.in_order;
+}
+
+pub are_equal_in_order-loop-key-preserved : goal.are_equal_in_order-loop-key-preserved
+are_equal_in_order-loop-key-preserved t c = record {
+  entries = ap (λ (b : Bor (List Pair)). entries_view b.now) c.in-Some.ensures.entries ∙ c.loop-key.invariant.entries;
+  rest = alike_behind c.in-Some.field-0.now c.in-Some-next.field-0.now c.in-Some.ensures.step c.in-Some-next.ensures.step c.if-ne.ensures c.if-not-are_equal.ensures ∙ c.loop-key.invariant.rest;
+}
+
+pub are_equal_in_order-loop-key-smaller : goal.are_equal_in_order-loop-key-smaller
+are_equal_in_order-loop-key-smaller t c = omega (arith, ap (λ es. length (keys es)) c.in-Some.ensures.step)
+
+pub are_equal_in_order-are_equal-requires : goal.are_equal_in_order-are_equal-requires
+are_equal_in_order-are_equal-requires t c = (omega (arith, c.in-Some.ensures.smaller, size_le c.in-Some.field-0.now.1, ap entries_size c.loop-key.invariant.entries), tt)
 
 pub are_first_values_equal-returns-then-not-is_first_value : goal.are_first_values_equal-returns-then-not-is_first_value
 are_first_values_equal-returns-then-not-is_first_value t c =
@@ -71,12 +89,6 @@ are_maps_equal-returns-then-have_same_keys t c =
     c.are_values_equal_in_place.ensures
     ∙ ap (λ gs. all_keys (λ k. equal_at es k (entry_of k gs)) es) c.entries-others.ensures
     ∙ and_known (all_keys (λ k. equal_at es k (entry_of k fs)) es) (all_keys (λ k. has_key k es) fs) (same_keys-all es fs alike)
-
-pub are_maps_equal-returns-then-ascend-2 : goal.are_maps_equal-returns-then-ascend-2
-are_maps_equal-returns-then-ascend-2 t c =
-    sym (apart (entries_view c.entries-entries.result.now) (entries_view c.entries-others.result.now) (sym c.if-ascend.ensures) (sym c.if-ascend-2.ensures) (sym c.if-have_same_keys.ensures))
-    ∙ ap (λ es. equal (tree.map es) (tree.map (entries_view c.entries-others.result.now))) c.entries-entries.ensures
-    ∙ ap (λ fs. equal (tree.map c.args.map.now) (tree.map fs)) c.entries-others.ensures
 
 pub are_values_equal_in_place-bounds-others-index : goal.are_values_equal_in_place-bounds-others-index
 are_values_equal_in_place-bounds-others-index t c =

@@ -1,8 +1,20 @@
 use Rattle.std.proofs.Common.{◌≡◌, true, length, take, drop}
-use Rattle.jt_value.specs.Entries.{entry_of, all_keys, same_keys}
-use Rattle.jt_value.specs.Equality.{equal_items, equal_at}
+use Rattle.jt_value.specs.Entries.{entry_of, all_keys, keys, same_keys}
+use Rattle.jt_value.specs.Equality.{equal, equal_items, equal_at}
+use Rattle.jt_value.specs.InOrder.{to_come}
+use Rattle.jt_value.specs.Tree as tree
 use Rattle.jt_value.specs.View.{items_view, entries_view}
+use Rattle.jt_value.proofs.InOrder.{alike}
 use Rattle.jt_value.proofs.equality.+equality.Given as goal
+
+abbrev pub invariant-are_equal_in_order-loop-key : goal.invariant-are_equal_in_order-loop-key
+invariant-are_equal_in_order-loop-key l = record {
+  entries : entries_view l.entries.entries.now ≡ l.map;
+  rest : alike (to_come l.entries) (to_come l.others) ≡ equal (tree.map l.map) (tree.map l.other);
+}
+
+abbrev pub decreases-are_equal_in_order-loop-key : goal.decreases-are_equal_in_order-loop-key
+decreases-are_equal_in_order-loop-key l = length (keys (to_come l.entries))
 
 abbrev pub invariant-are_first_values_equal-loop-key : goal.invariant-are_first_values_equal-loop-key
 invariant-are_first_values_equal-loop-key l = record {
