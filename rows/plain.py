@@ -3,8 +3,8 @@
 
 TRIALS is the program of jt_trials, which is looked for beside PROGRAM's crate; plain.rt there says what its letters mean. The images are
 those that PROGRAM compiles of the rows of templates of run.py, and those of images.txt, but for the ones that are refused, the changed
-ones and those of more than MOST bytes. Each is run for its row's context with every fuel from 0 to 200, within ample, narrow and tiny
-limits, whole and in place: it has to come to the end of the plain machine each time.
+ones and those of more than MOST bytes; and those of plain.txt, of which nothing else is wanted. Each is run for its row's context with every
+fuel from 0 to 200, within ample, narrow and tiny limits, whole and in place: it has to come to the end of the plain machine each time.
 
 A row is an image. The last line is 'N passed, M failed', and the status is 1 where one failed.
 """
@@ -22,6 +22,8 @@ import programs
 import run
 
 HERE = pathlib.Path(__file__).resolve().parent
+# those that an image of plain.txt is run for
+CONTEXTS = (b"{}", b'{"n": 7}', b'{"n": [1]}')
 FLAGS = ("--trim-blocks", "--lstrip-blocks", "--keep-trailing-newline", "--no-autoescape")
 MOST = 1 << 18
 PARTS = 32
@@ -32,7 +34,7 @@ ENDED = re.compile("[tfs]{3}")
 def of_templates(program, place, row):
     """The image of a row of templates with its context, if there are both."""
     asked, _, wanted = row.partition(" => ")
-    if run.answer_of(run.unfolded(wanted)).startswith("3"):
+    if wanted and run.answer_of(run.unfolded(wanted)).startswith("3"):
         return None
     with tempfile.TemporaryDirectory(prefix="jt-plain-") as made:
         room = pathlib.Path(made)
@@ -45,12 +47,21 @@ def of_templates(program, place, row):
         return place, context.replace(b"\n", b" "), (room / "image").read_bytes()
 
 
+def of_bytes(place, row):
+    """An image that a row spells, with each of the contexts."""
+    name, _, digits = row.removeprefix("image ").rpartition(": ")
+    return [(f"{place}: {name}", context, bytes.fromhex(digits)) for context in CONTEXTS]
+
+
 def all_of_templates(program):
-    """The same of all rows of templates."""
+    """The same of all rows of templates, and the images of plain.txt."""
     with tempfile.TemporaryDirectory(prefix="jt-plain-") as rooms, concurrent.futures.ThreadPoolExecutor(os.cpu_count()) as pool:
-        rows = [(place, row) for name in run.FILES if name != "commands.txt"
+        files = [name for name in run.FILES if name != "commands.txt"] + ["plain.txt"]
+        rows = [(place, row) for name in files
                 for place, row, kind, _ in run.rows_of(program, HERE / name, rooms) if kind == "templates"]
-        return list(filter(None, pool.map(lambda row: of_templates(program, *row), rows)))
+        spelled = [case for row in rows if row[1].startswith("image ") for case in of_bytes(*row)]
+        compiled = [row for row in rows if not row[1].startswith("image ")]
+        return [*filter(None, pool.map(lambda row: of_templates(program, *row), compiled)), *spelled]
 
 
 def all_of_images():

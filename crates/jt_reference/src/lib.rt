@@ -2,17 +2,15 @@
 //! and no contract says it: only that a text is within the output that the budget allows.
 //!
 //! A list of activations (machine), their buffers and loops (buffers, loops), values made of
-//! several (making), why a run stops (ended), and the limits of the tests (limits). Read first:
+//! several (making), why a run stops (ended). Read first:
 //! machine.rt.
 #![tactic(auto)]
 
 mod buffers;
 mod ended;
-mod limits;
 mod loops;
 mod machine;
 mod making;
 
 pub use ended::End;
-pub use limits::{AMPLE, MOST_FUEL, NARROW, TINY};
 pub use machine::plain_end;

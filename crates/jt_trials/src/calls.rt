@@ -1,12 +1,12 @@
 //! The calls on one row: a template with its library and its context.
 
 use crate::runs::{in_pieces, in_place, in_slices, whole};
+use crate::shelf::{Shelf, context_of, templates_of};
 use crate::stop::Stop;
 use jt_args::DEFAULT;
 use jt_codegen::{CompileError, compile};
 use jt_host::{ContextError, RenderError, context_from_json, render};
 use jt_image::{Code, Image, ImageError, decode, encode};
-use jt_rows::{Shelf, context_of, templates_of};
 use jt_scan::Options;
 use jt_value::Context;
 use jt_verify::{Refusal, Verified, verify};

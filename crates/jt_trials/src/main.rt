@@ -21,6 +21,7 @@ mod images;
 mod places;
 mod plain;
 mod runs;
+mod shelf;
 mod sources;
 mod stop;
 mod turns;

@@ -7,10 +7,40 @@ use jt_budget::{Budget, Spent};
 use jt_host::context_from_json;
 use jt_image::{Image, View, decode, view};
 use jt_machine::{Outcome, run, run_view};
-use jt_reference::{AMPLE, MOST_FUEL, NARROW, TINY, plain_end};
+use jt_reference::plain_end;
 use jt_value::Context;
 use jt_verify::{Verified, VerifiedView, verify, verify_view};
 use std::alloc::Global;
+
+/// The fuel up to which the ends are compared.
+const MOST_FUEL: u64 = 200;
+
+/// Limits that hardly any row reaches.
+const AMPLE: Budget = Budget {
+    fuel: MOST_FUEL,
+    depth: 64,
+    output: 1_000,
+    size: 1_000,
+    nesting: 32,
+};
+
+/// Limits that one value of 80 bytes passes.
+const NARROW: Budget = Budget {
+    fuel: MOST_FUEL,
+    depth: 10,
+    output: 79,
+    size: 81,
+    nesting: 1,
+};
+
+/// Limits that most rows reach.
+const TINY: Budget = Budget {
+    fuel: MOST_FUEL,
+    depth: 1,
+    output: 3,
+    size: 4,
+    nesting: 0,
+};
 
 /// Prints three letters of an image, one for each of the limits: `t`, `f` or `s` as it ends with
 /// the most fuel, or `>` where a run, whole or in place, ends otherwise than the plain machine. One

@@ -7,13 +7,13 @@
 //!     9 !        what must not be: want of memory, an image that is not accepted
 
 use crate::places::Places;
+use crate::shelf::{Shelf, context_of, options_of, templates_of, unfolded};
 use crate::stop::Stop;
 use jt_budget::Budget;
 use jt_codegen::{CompileError, compile};
 use jt_host::context_from_json;
 use jt_image::Image;
 use jt_machine::{Outcome, run};
-use jt_rows::{Shelf, context_of, options_of, templates_of};
 use jt_scan::Options;
 use jt_value::Context;
 use jt_verify::verify;
@@ -40,7 +40,7 @@ struct Trial<'a, 'b> {
 /// it, and those of the byte's other values in ascending order.
 pub(crate) fn source_answers(rt: &HostRuntime, of: &str) -> Result<(), Stop> {
     let (places, row) = Places::read(of)?;
-    let text = row.replace(rt.alloc(), "␤", "\n")?;
+    let text = unfolded(rt.alloc(), row)?;
     row_answers(rt, text.as_str(), places)
 }
 

@@ -1,11 +1,11 @@
 //! Writers that take what they are given in pieces.
 
+use crate::shelf::{context_of, templates_of};
 use crate::stop::Stop;
 use jt_args::DEFAULT;
 use jt_codegen::compile;
 use jt_host::context_from_json;
 use jt_machine::{IoSink, RunToError, Sink, run_to};
-use jt_rows::{context_of, templates_of};
 use jt_scan::Options;
 use jt_value::Context;
 use jt_verify::{Verified, verify};

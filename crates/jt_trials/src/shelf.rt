@@ -9,8 +9,8 @@ use std::alloc::{AllocError, Global};
 
 /// Templates by their names.
 #[derive(Drop)]
-pub struct Shelf<'a> {
-    pub templates: Vec<(&'a str, &'a str)>,
+pub(crate) struct Shelf<'a> {
+    pub(crate) templates: Vec<(&'a str, &'a str)>,
 }
 
 impl Library for Shelf<'_> {
@@ -26,7 +26,7 @@ impl Library for Shelf<'_> {
 }
 
 /// The templates of a row, the entry's under the name `t`.
-pub fn templates_of(alloc: Global, row: &str) -> Result<Shelf<'_>, AllocError> {
+pub(crate) fn templates_of(alloc: Global, row: &str) -> Result<Shelf<'_>, AllocError> {
     let (front, entry) = row.rsplit_once('¦').unwrap_or(("", row));
     let mut templates = vec![in alloc; ("t", entry)]?;
     for part in front.split('¦') {
@@ -39,7 +39,7 @@ pub fn templates_of(alloc: Global, row: &str) -> Result<Shelf<'_>, AllocError> {
 }
 
 /// The context of a row.
-pub fn context_of(row: &str) -> &str {
+pub(crate) fn context_of(row: &str) -> &str {
     let (front, _) = row.rsplit_once('¦').unwrap_or(("", row));
     for part in front.split('¦') {
         if part.starts_with('{') {
@@ -50,7 +50,7 @@ pub fn context_of(row: &str) -> &str {
 }
 
 /// The options of a row.
-pub fn options_of(row: &str) -> Options {
+pub(crate) fn options_of(row: &str) -> Options {
     let (front, _) = row.rsplit_once('¦').unwrap_or(("", row));
     let mut options = Options::new();
     for part in front.split('¦') {
@@ -64,4 +64,10 @@ pub fn options_of(row: &str) -> Options {
         }
     }
     options
+}
+
+/// A row's text, in which `␤` stands for the end of a line.
+pub(crate) fn unfolded(alloc: Global, row: &str) -> Result<String, AllocError> {
+    let text = row.replace(alloc, "␤", "\n")?;
+    Ok(text)
 }

@@ -1,10 +1,9 @@
 //! Hosts, call by call.
 
-use crate::image_of::{image_of, verified_of};
+use crate::rows::rows_hold;
+use crate::source::verified_of;
 use jt_args::DEFAULT;
 use jt_host::Host;
-use jt_rows::rows_hold;
-use jt_scan::Options;
 use jt_value::Context;
 use std::alloc::Global;
 use std::test::Fail;
@@ -16,7 +15,7 @@ fn opened(alloc: Global, host: &mut Host, count: u32, source: &str) -> Result<St
         if number > 0 {
             answers.push(' ')?;
         }
-        let verified = verified_of(alloc, image_of(alloc, source, Options::new())?)?;
+        let verified = verified_of(alloc, source)?;
         let answer = match host.open(verified, &Context::new(alloc), DEFAULT) {
             Ok(id) => format!(in alloc; "{id}")?,
             Err((_, refusal)) => format!(in alloc; "{refusal:?}")?,

@@ -1,13 +1,40 @@
 //! Runs whose text is written in pieces.
 
+use crate::rows::rows_hold;
+use crate::source::verified_of;
+use jt_args::DEFAULT;
 use jt_budget::Budget;
 use jt_image::decode;
 use jt_machine::{IoSink, Sink, run_to};
-use jt_rows::{Slow, rows_hold};
 use jt_value::Context;
 use jt_verify::{Verified, verify};
 use std::alloc::Global;
+use std::io;
 use std::test::Fail;
+
+/// A writer that takes one byte a call, and fails once it took `left` of them.
+#[derive(Drop)]
+struct Slow {
+    taken: String,
+    left: usize,
+}
+
+impl io::Write for Slow {
+    fn write(&mut self, buf: &[u8]) -> io::Result<usize> {
+        let Some(byte) = buf.first() else {
+            return Ok(0);
+        };
+        if self.left == 0 || self.taken.push(char::from(*byte)).is_err() {
+            return Err(io::Error::from(io::ErrorKind::BrokenPipe));
+        }
+        self.left -= 1;
+        Ok(1)
+    }
+
+    fn flush(&mut self) -> io::Result<()> {
+        Ok(())
+    }
+}
 
 // The beginning of an image: the constants `a`, `zz`, `Hello` and 7, and one unit, up to how many
 // instructions it has.
@@ -31,8 +58,21 @@ fn image_of(alloc: Global, words: &str) -> Result<Verified, Fail> {
     }
 }
 
-// What is written of a run, how it is answered, and whether the sink has failed. A row is the
-// number of bytes that the writer takes, the fuel, and the instructions.
+// How a run is answered, whether the sink has failed, and what is written, where the writer takes so
+// many bytes.
+fn answer(alloc: Global, verified: &Verified, budget: Budget, left: usize) -> Result<String, Fail> {
+    let mut sink = IoSink::new(Slow {
+        taken: String::new(alloc),
+        left,
+    });
+    let answer = run_to(alloc, verified, &Context::new(alloc), budget, &mut sink);
+    let has_failed = sink.has_failed();
+    let written = sink.into_inner().taken;
+    Ok(format!(in alloc; "{answer:?} {has_failed} [{written}]")?)
+}
+
+// What a run of instructions comes to. A row is the number of bytes that the writer takes, the fuel,
+// and the instructions.
 fn written(alloc: Global, asked: &str) -> Result<String, Fail> {
     let (left, rest) = asked.split_once(" ").ok_or("a row has no fuel")?;
     let (fuel, words) = rest.split_once(" ").ok_or("a row has no instructions")?;
@@ -44,15 +84,7 @@ fn written(alloc: Global, asked: &str) -> Result<String, Fail> {
         size: 1_000,
         nesting: 32,
     };
-    let verified = image_of(alloc, words)?;
-    let mut sink = IoSink::new(Slow {
-        taken: String::new(alloc),
-        left,
-    });
-    let answer = run_to(alloc, &verified, &Context::new(alloc), budget, &mut sink);
-    let has_failed = sink.has_failed();
-    let written = sink.into_inner().taken;
-    Ok(format!(in alloc; "{answer:?} {has_failed} [{written}]")?)
+    answer(alloc, &image_of(alloc, words)?, budget, left)
 }
 
 // 9 puts a text, 1 and 6 put and drop a value, 24 and 25 are a capture, 18 begins a loop and 28
@@ -70,5 +102,30 @@ fn what_is_emitted_is_written(rt: HostRuntime) -> Result<(), Fail> {
         9 2 24 0 9 1 25 0 6 0 28 0 => Ok(Spent(Fuel)) false []
         2 99 9 2 28 0 => Err(Write) true [He]
         0 99 24 0 9 1 25 0 6 0 28 0 => Ok(Whole) false []",
+    )
+}
+
+// What the run of a source comes to. A row is the number of bytes that the writer takes, and the
+// source.
+fn written_of_source(alloc: Global, asked: &str) -> Result<String, Fail> {
+    let (left, source) = asked.split_once(" ").ok_or("a row has no source")?;
+    answer(
+        alloc,
+        &verified_of(alloc, source)?,
+        DEFAULT,
+        left.parse::<usize>()?,
+    )
+}
+
+#[test]
+fn sources_are_written_in_pieces(rt: HostRuntime) -> Result<(), Fail> {
+    rows_hold(
+        &rt,
+        written_of_source,
+        r#"99 a{{ nope.x }} => Ok(Fault(Undefined, Some(Place { template: "t", line: 1 }))) false [a]
+        99 {% set c %}zz{% endset %}a => Ok(Whole) false [a]
+        99 a{% for i in range(999999) %}{% endfor %} => Ok(Spent(Fuel)) false [a]
+        2 Hello => Err(Write) true [He]
+        5 Hello => Ok(Whole) false [Hello]"#,
     )
 }

@@ -1,7 +1,7 @@
 //! Parts that are put together, and what an image and a view tell of theirs.
 
+use crate::rows::{numbers, rows_hold};
 use jt_image::*;
-use jt_rows::{numbers, rows_hold};
 use std::alloc::Global;
 use std::process::Abort;
 use std::test::Fail;

@@ -1,26 +1,11 @@
 //! Rows as the lines of a text: the prover reads one text, so a row costs it nothing.
 
-use std::alloc::{AllocError, Global};
+use std::alloc::Global;
 use std::test::Fail;
-
-/// A row's text with what its signs stand for: `∅` stands for no character.
-pub fn unfolded(alloc: Global, row: &str) -> Result<String, AllocError> {
-    let mut text = String::with_capacity(alloc, row.len())?;
-    for sign in row.chars() {
-        match sign {
-            '∅' => {}
-            '␤' => text.push('\n')?,
-            '␍' => text.push('\r')?,
-            '␠' => text.push(' ')?,
-            _ => text.push(sign)?,
-        }
-    }
-    Ok(text)
-}
 
 /// Checks rows `asked => wanted`, one a line, against what `answer` gives of each: fails with the
 /// first row that has another answer, and with that answer.
-pub fn rows_hold<F: Fn(Global, &str) -> Result<String, Fail>>(
+pub(crate) fn rows_hold<F: Fn(Global, &str) -> Result<String, Fail>>(
     rt: &impl AllocGlobal,
     answer: F,
     rows: &str,
@@ -38,7 +23,7 @@ pub fn rows_hold<F: Fn(Global, &str) -> Result<String, Fail>>(
 }
 
 /// The numbers of a row, with blanks between.
-pub fn numbers<const N: usize>(asked: &str) -> Result<[u32; N], Fail> {
+pub(crate) fn numbers<const N: usize>(asked: &str) -> Result<[u32; N], Fail> {
     let mut found = [0; N];
     let mut words = asked.split(' ');
     for place in found.iter_mut() {

@@ -1,9 +1,11 @@
 //! Runs that stop and go on.
 
+use crate::rows::{numbers, rows_hold};
+use crate::source::verified_of;
+use jt_args::DEFAULT;
 use jt_budget::Budget;
 use jt_image::decode;
 use jt_machine::Machine;
-use jt_rows::{numbers, rows_hold};
 use jt_value::{Context, Value};
 use jt_verify::verify;
 use std::alloc::Global;
@@ -41,8 +43,16 @@ fn machine(alloc: Global, budget: Budget) -> Result<Machine, Fail> {
     }
 }
 
-// What two advances answer, whether an outcome is lent then, and the outcome. A row is the fuel,
-// the limit of size, and the instructions of the two.
+// What two advances of so many instructions answer, whether an outcome is lent then, and the
+// outcome.
+fn gone_on(alloc: Global, mut machine: Machine, first: u32, second: u32) -> Result<String, Fail> {
+    let (first, second) = (machine.advance(first), machine.advance(second));
+    let is_lent = machine.outcome().is_some() && !machine.is_lost();
+    let (_, outcome) = machine.finish();
+    Ok(format!(in alloc; "{first:?} {second:?} {is_lent} {outcome:?}")?)
+}
+
+// What a run of N comes to. A row is the fuel, the limit of size, and the instructions of the two.
 fn advanced(alloc: Global, asked: &str) -> Result<String, Fail> {
     let [fuel, size, first, second] = numbers::<4>(asked)?;
     let budget = Budget {
@@ -52,11 +62,7 @@ fn advanced(alloc: Global, asked: &str) -> Result<String, Fail> {
         size,
         nesting: 32,
     };
-    let mut machine = machine(alloc, budget)?;
-    let (first, second) = (machine.advance(first), machine.advance(second));
-    let is_lent = machine.outcome().is_some() && !machine.is_lost();
-    let (_, outcome) = machine.finish();
-    Ok(format!(in alloc; "{first:?} {second:?} {is_lent} {outcome:?}")?)
+    gone_on(alloc, machine(alloc, budget)?, first, second)
 }
 
 // (the context is tested before the first step)
@@ -72,5 +78,37 @@ fn a_run_stops_and_goes_on(rt: HostRuntime) -> Result<(), Fail> {
         4 3 4 1 => Ok(Going) Ok(Done) true Some(Spent(Fuel))
         0 3 0 1 => Ok(Going) Ok(Done) true Some(Spent(Fuel))
         5 2 0 0 => Ok(Done) Ok(Done) true Some(Spent(Size))"#,
+    )
+}
+
+// What a run of the source `x`, whose image has two instructions, comes to. A row is the fuel, and the
+// instructions of the two advances.
+fn advanced_of_source(alloc: Global, asked: &str) -> Result<String, Fail> {
+    let [fuel, first, second] = numbers::<3>(asked)?;
+    let budget = Budget {
+        fuel: u64::from(fuel),
+        ..DEFAULT
+    };
+    match Machine::start(
+        alloc,
+        verified_of(alloc, "x")?,
+        &Context::new(alloc),
+        budget,
+    ) {
+        Ok(machine) => gone_on(alloc, machine, first, second),
+        Err(_) => Err(Fail::from("start")),
+    }
+}
+
+#[test]
+fn a_run_of_two_instructions_stops_and_goes_on(rt: HostRuntime) -> Result<(), Fail> {
+    rows_hold(
+        &rt,
+        advanced_of_source,
+        r#"2 1 1 => Ok(Going) Ok(Done) true Some(Text("x"))
+        1 1 1 => Ok(Going) Ok(Done) true Some(Spent(Fuel))
+        0 0 1 => Ok(Going) Ok(Done) true Some(Spent(Fuel))
+        2 1 0 => Ok(Going) Ok(Going) false None
+        2 9 1 => Ok(Done) Ok(Done) true Some(Text("x"))"#,
     )
 }
