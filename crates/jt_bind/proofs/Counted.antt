@@ -15,7 +15,7 @@ use Rattle.jt_resolved.specs.declared.program.SlotExpr as code
 use Rattle.jt_resolved.specs.declared.program.SlotStmt as code_stmt
 use Rattle.jt_resolved.specs.declared.program.SlotStmt.TheVariants as s
 use Rattle.jt_bind.specs.Counts.{aside_locals, target_locals}
-use Rattle.jt_bind.specs.Stated.{Branch}
+use Rattle.jt_resolved.proofs.StatementViews.{SBranch}
 use Rattle.jt_resolved.proofs.ExpressionViews.{Entry}
 use Rattle.jt_resolved.proofs.StatementViews.{view_If, view_For, view_Capture}
 
@@ -73,18 +73,18 @@ counted_on m m' n rest whole r e f g = omega arith
 
 -- ---- branches
 
-abbrev pub branches_locals : List Text → List Branch → ℕ
+abbrev pub branches_locals : List Text → List SBranch → ℕ
 branches_locals templates [] = 0
-branches_locals templates (b ∷ bs) = max (max (expr_locals (expr_view b.1)) (body_locals (body_view templates b.2.items slots.end))) (branches_locals templates bs)
+branches_locals templates (b ∷ bs) = max (max (expr_locals (expr_view b.condition)) (body_locals (body_view templates b.body.items slots.end))) (branches_locals templates bs)
 
 -- what stands for a choice, where the other part has so many
-pub choice_counted : (templates : List Text) (bs : List Branch) (f : Front) (n : ℕ) → ((behind : SBody ℕ) → body_locals (f behind) ≡ max n (body_locals behind))
+pub choice_counted : (templates : List Text) (bs : List SBranch) (f : Front) (n : ℕ) → ((behind : SBody ℕ) → body_locals (f behind) ≡ max n (body_locals behind))
     → (behind : SBody ℕ) → body_locals (choice_view templates bs f behind) ≡ max (max (branches_locals templates bs) n) (body_locals behind)
 choice_counted templates [] f n h behind = h behind ∙ grind arith
 choice_counted templates (b ∷ bs) f n h behind =
     let inner = choice_counted templates bs f n h slots.end in
-    ap (λ m. max (max (expr_locals (expr_view b.1)) (max (body_locals (body_view templates b.2.items slots.end)) m)) (body_locals behind)) inner
-    ∙ nested (expr_locals (expr_view b.1)) (body_locals (body_view templates b.2.items slots.end)) (branches_locals templates bs) n (body_locals behind)
+    ap (λ m. max (max (expr_locals (expr_view b.condition)) (max (body_locals (body_view templates b.body.items slots.end)) m)) (body_locals behind)) inner
+    ∙ nested (expr_locals (expr_view b.condition)) (body_locals (body_view templates b.body.items slots.end)) (branches_locals templates bs) n (body_locals behind)
   where
     nested : (a b c n m : ℕ) → max (max a (max b (max (max c n) 0))) m ≡ max (max (max (max a b) c) n) m
     nested a b c n m = omega arith
@@ -124,19 +124,19 @@ body_step templates ss i x n m m' behind r lt is counted more so =
     counted_on m m' n (body_locals rest) (body_locals (body_view templates (drop i ss) behind)) r more
     (ap (λ (l : List code_stmt.SlotStmt). body_locals (body_view templates l behind)) (drop_more ss i x lt) ∙ ap (λ (z : code_stmt.SlotStmt). body_locals (stmt_view templates z rest)) (sym is) ∙ counted rest) so
 
-pub branch_step : (templates : List Text) (bs : List Branch) (i : ℕ) (b : Branch) (us : List code_stmt.SlotStmt) (n k m m' r : ℕ) → i < length bs → b ≡ get_or bs i b → us ≡ b.2.items → n ≡ expr_locals (expr_view b.1)
+pub branch_step : (templates : List Text) (bs : List SBranch) (i : ℕ) (b : SBranch) (us : List code_stmt.SlotStmt) (n k m m' r : ℕ) → i < length bs → b ≡ get_or bs i b → us ≡ b.body.items → n ≡ expr_locals (expr_view b.condition)
     → ((z : SBody ℕ) → body_locals (body_view templates us z) ≡ max k (body_locals z)) → m' ≡ max m (max n k)
     → max m (branches_locals templates (drop i bs)) ≡ r → max m' (branches_locals templates (drop (i + 1) bs)) ≡ r
 branch_step templates bs i b us n k m m' r lt is body asked taken more so =
     let rest = branches_locals templates (drop (i + 1) bs) in
-    let inner : body_locals (body_view templates b.2.items slots.end) ≡ k = ap (λ (l : List code_stmt.SlotStmt). body_locals (body_view templates l slots.end)) (sym body) ∙ taken slots.end ∙ max_zero k in
+    let inner : body_locals (body_view templates b.body.items slots.end) ≡ k = ap (λ (l : List code_stmt.SlotStmt). body_locals (body_view templates l slots.end)) (sym body) ∙ taken slots.end ∙ max_zero k in
     counted_on m m' (max n k) rest (branches_locals templates (drop i bs)) r more
-    (ap (branches_locals templates) (drop_more bs i b lt) ∙ ap (λ (z : Branch). branches_locals templates (z ∷ drop (i + 1) bs)) (sym is) ∙ ap (λ z. max (max z (body_locals (body_view templates b.2.items slots.end))) rest) (sym asked) ∙ ap (λ z. max (max n z) rest) inner) so
+    (ap (branches_locals templates) (drop_more bs i b lt) ∙ ap (λ (z : SBranch). branches_locals templates (z ∷ drop (i + 1) bs)) (sym is) ∙ ap (λ z. max (max z (body_locals (body_view templates b.body.items slots.end))) rest) (sym asked) ∙ ap (λ z. max (max n z) rest) inner) so
 
 -- ---- forms of statements
 
 module _ (templates : List Text) (x : code_stmt.SlotStmt) (behind : SBody ℕ) where
-  pub choice_done : (bs : Vec Branch Global) (other : Vec code_stmt.SlotStmt Global) (m n : ℕ) → x ≡ s.If bs other → ((b : SBody ℕ) → body_locals (body_view templates other.items b) ≡ max m (body_locals b)) → n ≡ max m (branches_locals templates bs.items)
+  pub choice_done : (bs : Vec SBranch Global) (other : Vec code_stmt.SlotStmt Global) (m n : ℕ) → x ≡ s.If bs other → ((b : SBody ℕ) → body_locals (body_view templates other.items b) ≡ max m (body_locals b)) → n ≡ max m (branches_locals templates bs.items)
       → body_locals (stmt_view templates x behind) ≡ max n (body_locals behind)
   choice_done bs other m n is f h =
       ap (λ (z : code_stmt.SlotStmt). body_locals (stmt_view templates z behind)) is ∙ ap body_locals (view_If templates bs other behind) ∙ choice_counted templates bs.items (body_view templates other.items) m f behind

@@ -17,16 +17,13 @@ use Rattle.jt_resolved.specs.Slots.{SBody}
 use Rattle.jt_resolved.specs.View.{Front, place_view, expr_view, choice_view}
 use Rattle.jt_resolved.specs.declared.program.Place.{Place}
 use Rattle.jt_resolved.specs.declared.program.SlotExpr.{SlotExpr}
+use Rattle.jt_resolved.specs.declared.program.SlotBranch.{SlotBranch}
 use Rattle.jt_resolved.specs.declared.program.SlotStmt.{SlotStmt}
 use Rattle.jt_meaning.specs.Resolve as resolve
 use Rattle.jt_meaning.specs.Resolve.{followed}
 use Rattle.jt_bind.specs.Chains.{Chains}
 use Rattle.jt_bind.specs.declared.spot.Spot.{Spot}
 use Rattle.jt_bind.specs.Scoped.{values, IsPlaced, BodyLeads, world_in, order_in, home_in, spot_in, templates_in}
-
--- the place of a branch's tag, its condition and its statements
-abbrev pub Branch : Type 0
-Branch = Place × SlotExpr × Vec SlotStmt Global
 
 -- ---- what stands at the end of a pool that is filled from one list of values to another
 
@@ -52,14 +49,14 @@ pub record StandsFor (whole left : SBody Constant) (f : Front) (old new : ℕ) :
   pub until : new ≡ old + length (body_values whole)
 
 -- a branch: the place of its tag, its condition and its statements
-pub record IsBranch (templates : List Text) (at : place.Place) (c : slots.SlotExpr Constant) (whole : SBody Constant) (b : Branch) (old new : List Tree) : Type 0 where
+pub record IsBranch (templates : List Text) (at : place.Place) (c : slots.SlotExpr Constant) (whole : SBody Constant) (b : SlotBranch SlotStmt) (old new : List Tree) : Type 0 where
   pub between : List Tree
-  pub stands : place_view templates b.0 ≡ at
-  pub asked : IsPlaced c (expr_view b.1) old between
-  pub taken : IsBody templates whole b.2.items between new
+  pub stands : place_view templates b.place ≡ at
+  pub asked : IsPlaced c (expr_view b.condition) old between
+  pub taken : IsBody templates whole b.body.items between new
 
 -- branches that were resolved, so that of a choice only the other part is left to do
-pub record ChoiceLeads (templates : List Text) (whole other : SBody Constant) (branches : List Branch) (old new : List Tree) : Type 0 where
+pub record ChoiceLeads (templates : List Text) (whole other : SBody Constant) (branches : List (SlotBranch SlotStmt)) (old new : List Tree) : Type 0 where
   pub shown : (f : Front) (left : SBody Constant) (last : ℕ)
       → StandsFor other left f (length new) last
       → StandsFor whole left (choice_view templates branches f) (length old) last

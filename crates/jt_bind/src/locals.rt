@@ -9,7 +9,7 @@ ghost use Rattle.jt_resolved.specs.Slots.{SBody};
 ghost use Rattle.jt_resolved.specs.View.{slot_view, targets_view, expr_view, row_view, stmt_view, body_view};
 
 use jt_layout::more;
-use jt_resolved::{Slot, SlotExpr, SlotStmt, Targets};
+use jt_resolved::{Slot, SlotBranch, SlotExpr, SlotStmt, Targets};
 use jt_value::NoMemory;
 
 /// The larger one of two numbers.
@@ -147,7 +147,10 @@ fn stmt_locals(statement: &SlotStmt) -> Result<usize, NoMemory>
         }
         SlotStmt::If(branches, other) => {
             let mut most = body_locals(other)?;
-            for (_, condition, body) in branches {
+            for SlotBranch {
+                condition, body, ..
+            } in branches
+            {
                 let asked = expr_locals(condition)?;
                 most = larger(most, larger(asked, body_locals(body)?));
             }

@@ -14,7 +14,7 @@ ghost use Rattle.jt_resolved.specs.View.{expr_view, slot_view, targets_view};
 ghost use Rattle.jt_bind.specs.Stated.{Led, IsBody, IsAsked, ChoiceLeads, line_in};
 
 use crate::spot::Spot;
-use jt_resolved::{Place, Slot, SlotExpr, SlotStmt, Targets};
+use jt_resolved::{Place, Slot, SlotBranch, SlotExpr, SlotStmt, Targets};
 use jt_value::{NoMemory, Value};
 use std::alloc::Global;
 
@@ -87,7 +87,7 @@ pub(crate) fn put_assign(
 
 /// Puts branches and the else part behind other statements.
 pub(crate) fn put_choice(
-    branches: Vec<(Place, SlotExpr, Vec<SlotStmt>)>,
+    branches: Vec<SlotBranch<SlotStmt>>,
     other: Vec<SlotStmt>,
     done: &mut Vec<SlotStmt>,
 ) -> Result<(), NoMemory>

@@ -22,8 +22,8 @@ use crate::spot::Spot;
 use crate::targets::fresh_targets;
 use jt_layout::more;
 use jt_names::set_names;
-use jt_resolved::{Place, Slot, SlotExpr, SlotStmt, Targets};
-use jt_trees::{Expr, Stmt};
+use jt_resolved::{Place, Slot, SlotBranch, SlotExpr, SlotStmt, Targets};
+use jt_trees::{Branch, Expr, Stmt};
 use jt_value::{NoMemory, Value};
 
 impl<'t, 's, 'a> Resolver<'t, 's, 'a> {
@@ -60,7 +60,12 @@ impl<'t, 's, 'a> Resolver<'t, 's, 'a> {
             Stmt::Print(line, value) => self.resolve_print(*line, value, done, pool),
             Stmt::If(branches, other) => {
                 let mut made = Vec::with_capacity(self.alloc, branches.len())?;
-                for (line, condition, body) in branches {
+                for Branch {
+                    line,
+                    condition,
+                    body,
+                } in branches
+                {
                     made.push(self.resolve_branch(body, *line, condition, pool)?)?;
                 }
                 let last = self.resolve_whole(other, pool)?;
@@ -151,7 +156,7 @@ impl<'t, 's, 'a> Resolver<'t, 's, 'a> {
         line: u32,
         condition: &Expr,
         pool: &mut Vec<Value>,
-    ) -> Result<(Place, SlotExpr, Vec<SlotStmt>), NoMemory>
+    ) -> Result<SlotBranch<SlotStmt>, NoMemory>
         ensures { IfOk result (λ b. IsBranch (templates_of self.now)
             (line_of self.now line)
             (expr_of self.now (written.expr_view condition.now))
@@ -161,9 +166,13 @@ impl<'t, 's, 'a> Resolver<'t, 's, 'a> {
             template: self.spot.template,
             line,
         };
-        let asked = self.resolve_expression(condition, pool)?;
-        let taken = self.resolve_whole(body, pool)?;
-        Ok((place, asked, taken))
+        let condition = self.resolve_expression(condition, pool)?;
+        let body = self.resolve_whole(body, pool)?;
+        Ok(SlotBranch {
+            place,
+            condition,
+            body,
+        })
     }
 
     /// Resolves the condition and the body of a loop, where its names are in locals of their own.

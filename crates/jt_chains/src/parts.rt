@@ -11,7 +11,7 @@ ghost use Rattle.jt_chains.specs.View.{chain_view, sources_of};
 
 use crate::linked::Chain;
 use crate::pages::Page;
-use jt_trees::{Parameter, Stmt};
+use jt_trees::{Branch, Parameter, Stmt};
 use std::alloc::{AllocError, Global};
 
 /// A macro: its name, the place of its template, its parameters and its body.
@@ -140,7 +140,7 @@ fn add_statement<'a>(
             add_blocks(inside(spot, *escaping), body, found)
         }
         Stmt::If(branches, other) => {
-            for (_, _, body) in branches {
+            for Branch { body, .. } in branches {
                 add_blocks(spot, body, found)?;
             }
             add_blocks(spot, other, found)?;

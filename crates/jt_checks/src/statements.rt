@@ -16,7 +16,7 @@ use crate::arguments::{
 use crate::expressions::{all_used, broken, pairs_broken, read_alone, row_broken, used};
 use crate::scope::{Scope, Within};
 use jt_rules::ScopeError;
-use jt_trees::{Expr, Filtering, Parameter, Stmt};
+use jt_trees::{Branch, Expr, Filtering, Parameter, Stmt};
 use std::alloc::AllocError;
 
 /// The greatest number of a macro's parameters.
@@ -195,7 +195,7 @@ fn imports_broken(names: &[(String, String)]) -> Option<ScopeError>
 fn choice_broken(
     scope: &Scope<'_>,
     within: Within,
-    branches: &[(u32, Expr, Vec<Stmt>)],
+    branches: &[Branch<Stmt>],
     other: &[Stmt],
 ) -> Result<Option<ScopeError>, AllocError>
     ensures { IfOk result (λ o. o ≡ option_or (found rules.branches_broken scope.now within
@@ -301,7 +301,7 @@ fn statement_broken(
 fn branches_broken(
     scope: &Scope<'_>,
     within: Within,
-    branches: &[(u32, Expr, Vec<Stmt>)],
+    branches: &[Branch<Stmt>],
 ) -> Result<Option<ScopeError>, AllocError>
     ensures { IfOk result (Finds rules.branches_broken scope.now within
         (branches_view branches.now)) }

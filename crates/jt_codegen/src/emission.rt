@@ -14,7 +14,7 @@ ghost use Rattle.jt_codegen.specs.Units.{Refuses};
 use crate::targets::{emit_item, emit_targets};
 use jt_image::{Instruction, Unit};
 use jt_lower::{Emitter, call_of, data_of, emit_expression, emit_row, flag, store_of};
-use jt_resolved::{Place, Routine, Slot, SlotExpr, SlotStmt, Targets};
+use jt_resolved::{Place, Routine, Slot, SlotBranch, SlotExpr, SlotStmt, Targets};
 use std::alloc::{AllocError, AllocFailed, Global};
 
 /// Why no code is made.
@@ -182,7 +182,12 @@ fn emit_statement(
         }
         SlotStmt::If(branches, other) => {
             let mut ends = Vec::new(alloc);
-            for (tag, condition, body) in branches {
+            for SlotBranch {
+                place: tag,
+                condition,
+                body,
+            } in branches
+            {
                 emit_expression(code, Some(*tag), condition, above)?;
                 let choice = code.begin_choice()?;
                 emit_statements(alloc, code, body, above)?;

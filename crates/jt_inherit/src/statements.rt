@@ -6,7 +6,7 @@ ghost use Rattle.jt_trees.specs.StatementView.{stmt_view, body_view};
 ghost use Rattle.jt_chains.specs.Chain.{extends_of};
 ghost use Rattle.jt_inherit.specs.Needs.{includes_of, includes_in, imports_in, library_need, need_view, needs_view};
 
-use jt_trees::Stmt;
+use jt_trees::{Branch, Stmt};
 use std::alloc::AllocError;
 
 /// An include or an import: the template's name, whether it may be missing, and whether it is
@@ -67,7 +67,7 @@ fn add_statement<'a>(found: &mut Vec<Include<'a>>, statement: &'a Stmt) -> Resul
             Ok(())
         }
         Stmt::If(branches, other) => {
-            for (_, _, body) in branches {
+            for Branch { body, .. } in branches {
                 add_includes(found, body)?;
             }
             add_includes(found, other)?;

@@ -9,7 +9,7 @@ ghost use Rattle.jt_chains.specs.View.{chain_view, sources_of};
 ghost use Rattle.jt_names.specs.Names.{texts};
 
 use jt_chains::Chain;
-use jt_trees::Stmt;
+use jt_trees::{Branch, Stmt};
 use std::alloc::{AllocError, Global};
 
 /// Adds the names that statements include, as often as they stand there.
@@ -42,7 +42,7 @@ fn add_statement<'a>(found: &mut Vec<&'a str>, statement: &'a Stmt) -> Result<()
             Ok(())
         }
         Stmt::If(branches, other) => {
-            for (_, _, body) in branches {
+            for Branch { body, .. } in branches {
                 add_included(found, body)?;
             }
             add_included(found, other)?;

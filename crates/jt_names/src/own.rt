@@ -8,7 +8,7 @@ ghost use Rattle.jt_trees.specs.StatementView.{stmt_view, body_view, branches_vi
 ghost use Rattle.jt_chains.specs.Uses.{expr_names, row_names, pair_names, condition_names, filtering_names, stmt_names, body_names, branch_names, keywords};
 ghost use Rattle.jt_names.specs.Names.{Puts, texts};
 
-use jt_trees::{Expr, Filtering, Parameter, Stmt};
+use jt_trees::{Branch, Expr, Filtering, Parameter, Stmt};
 use std::alloc::AllocError;
 use std::collections::BTreeSet;
 
@@ -288,12 +288,15 @@ fn add_set<'a>(
 #[cycle(add)]
 fn add_branches<'a>(
     names: &mut BTreeSet<&'a str>,
-    branches: &'a [(u32, Expr, Vec<Stmt>)],
+    branches: &'a [Branch<Stmt>],
 ) -> Result<(), AllocError>
     ensures { IfOk result (λ _. Puts names.old names.new
         (branch_names (branches_view branches.now))) }
 {
-    for (_, condition, body) in branches {
+    for Branch {
+        condition, body, ..
+    } in branches
+    {
         add_expression(names, condition)?;
         add_statements(names, body)?;
     }

@@ -8,7 +8,7 @@ ghost use Rattle.jt_trees.specs.StatementView.{stmt_view, body_view, parameters_
 ghost use Rattle.jt_names.specs.Names.{Adds};
 
 use crate::sets::{add_sets, add_targets};
-use jt_trees::{Expr, Parameter, Stmt};
+use jt_trees::{Branch, Expr, Parameter, Stmt};
 use std::alloc::AllocError;
 
 /// Adds the keys of pairs.
@@ -64,7 +64,7 @@ fn add_scope<'a>(found: &mut Vec<&'a str>, statement: &'a Stmt) -> Result<(), Al
 {
     match statement {
         Stmt::If(branches, other) => {
-            for (_, _, body) in branches {
+            for Branch { body, .. } in branches {
                 add_scopes(found, body)?;
             }
             add_scopes(found, other)?;

@@ -9,7 +9,7 @@ ghost use Rattle.jt_parse.specs.Gives.{GivesNames};
 
 use crate::error::ParseError;
 use jt_expr::{Named, any_unknown, any_unknown_pair, has_unknown, is_filter_unknown};
-use jt_trees::{Expr, Filtering, Stmt};
+use jt_trees::{Branch, Expr, Filtering, Stmt};
 
 /// Refuses a tag of the line, if a filter or a test in it has no meaning.
 fn check_tag(line: u32, filters: bool, tests: bool) -> Result<(), ParseError>
@@ -119,7 +119,12 @@ fn check_statement(statement: &Stmt) -> Result<(), ParseError>
         | Stmt::Extends(_, _) => Ok(()),
         Stmt::Print(line, value) | Stmt::Set { line, value, .. } => check_expression(*line, value),
         Stmt::If(branches, other) => {
-            for (line, condition, body) in branches {
+            for Branch {
+                line,
+                condition,
+                body,
+            } in branches
+            {
                 check_expression(*line, condition)?;
                 check_body(body)?;
             }

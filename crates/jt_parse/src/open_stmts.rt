@@ -14,17 +14,22 @@ ghost use Rattle.jt_parse.specs.Gives.{open_stmt_view, open_stmt_by, open_stmts_
 use crate::expression::is_name;
 use crate::heads::{Loop, Opening};
 use jt_scan::{Token, is_word};
-use jt_trees::{Expr, Stmt};
+use jt_trees::{Branch, Expr, Stmt};
 use std::alloc::{AllocError, Global};
 use std::mem;
 
 /// What is open.
 #[derive(Drop)]
 pub enum OpenKind {
-    /// A branch of an `if`: the branches before it, its line and its condition.
-    Branch(Vec<(u32, Expr, Vec<Stmt>)>, u32, Expr),
+    /// A branch of an `if`.
+    Branch {
+        /// Those before it.
+        branches: Vec<Branch<Stmt>>,
+        line: u32,
+        condition: Expr,
+    },
     /// The else part of an `if` with these branches.
-    Else(Vec<(u32, Expr, Vec<Stmt>)>),
+    Else(Vec<Branch<Stmt>>),
     /// A loop.
     Loop(Loop),
     /// The else part of a loop with this inside.
@@ -54,7 +59,7 @@ pub(crate) fn push_statement(body: &mut Vec<Stmt>, statement: Stmt) -> Result<()
 
 /// One branch behind the others.
 pub(crate) fn push_branch(
-    branches: &mut Vec<(u32, Expr, Vec<Stmt>)>,
+    branches: &mut Vec<Branch<Stmt>>,
     line: u32,
     condition: Expr,
     body: Vec<Stmt>,
@@ -63,7 +68,11 @@ pub(crate) fn push_branch(
         ≡ reading.then_branch (branches_view branches.old.items) line (expr_view condition)
         (body_view body.items)) }
 {
-    branches.push((line, condition, body))?;
+    branches.push(Branch {
+        line,
+        condition,
+        body,
+    })?;
     Ok(())
 }
 
@@ -92,7 +101,7 @@ pub(crate) fn push_open_stmt(
 }
 
 /// The statement of branches and an else part.
-fn if_statement(branches: Vec<(u32, Expr, Vec<Stmt>)>, other: Vec<Stmt>) -> Stmt
+fn if_statement(branches: Vec<Branch<Stmt>>, other: Vec<Stmt>) -> Stmt
     ensures { stmt_view result
         ≡ trees.choose (branches_view branches.items) (body_view other.items) }
 {
@@ -159,7 +168,7 @@ fn enclosing(line: u32, opening: Opening, body: Vec<Stmt>) -> Stmt
 /// The statement of branches whose last one ends, with no else part.
 fn ended_branch(
     alloc: Global,
-    branches: Vec<(u32, Expr, Vec<Stmt>)>,
+    branches: Vec<Branch<Stmt>>,
     line: u32,
     condition: Expr,
     body: Vec<Stmt>,
@@ -179,9 +188,11 @@ fn finished(alloc: Global, line: u32, kind: OpenKind, body: Vec<Stmt>) -> Result
         ≡ reading.finished (body_view body.items) (open_stmt_by before line kind)) }
 {
     match kind {
-        OpenKind::Branch(branches, first, condition) => {
-            ended_branch(alloc, branches, first, condition, body)
-        }
+        OpenKind::Branch {
+            branches,
+            line: first,
+            condition,
+        } => ended_branch(alloc, branches, first, condition, body),
         OpenKind::Else(branches) => Ok(if_statement(branches, body)),
         OpenKind::Loop(head) => Ok(for_statement(line, head, body, Vec::new(alloc))),
         OpenKind::LoopElse(head, inside) => Ok(for_statement(line, head, inside, body)),

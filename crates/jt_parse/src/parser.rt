@@ -105,7 +105,12 @@ impl Parser {
             Head::Statement(statement) => push_statement(&mut self.body, statement),
             Head::If(condition) => {
                 let branches = Vec::new(self.alloc);
-                self.open(line, OpenKind::Branch(branches, line, condition))
+                let kind = OpenKind::Branch {
+                    branches,
+                    line,
+                    condition,
+                };
+                self.open(line, kind)
             }
             Head::Loop(head) => self.open(line, OpenKind::Loop(head)),
             Head::Opening(opening) => self.open(line, OpenKind::Opening(opening)),
@@ -136,7 +141,12 @@ impl Parser {
             line: opening,
             kind,
         } = open_stmt;
-        let OpenKind::Branch(mut branches, first, condition) = kind else {
+        let OpenKind::Branch {
+            mut branches,
+            line: first,
+            condition,
+        } = kind
+        else {
             return Err(ParseError::Syntax { line });
         };
         let levels = levels_left(depth(&self.open_stmts), line)?;
@@ -146,7 +156,11 @@ impl Parser {
         let open_stmt = OpenStmt {
             before,
             line: opening,
-            kind: OpenKind::Branch(branches, line, next),
+            kind: OpenKind::Branch {
+                branches,
+                line,
+                condition: next,
+            },
         };
         push_open_stmt(&mut self.open_stmts, open_stmt)?;
         Ok(())
@@ -167,7 +181,11 @@ impl Parser {
             kind,
         } = open_stmt;
         let kind = match kind {
-            OpenKind::Branch(mut branches, first, condition) => {
+            OpenKind::Branch {
+                mut branches,
+                line: first,
+                condition,
+            } => {
                 let body = mem::replace(&mut self.body, Vec::new(self.alloc));
                 push_branch(&mut branches, first, condition, body)?;
                 OpenKind::Else(branches)
