@@ -306,11 +306,14 @@ fn branches_broken(
     ensures { IfOk result (Finds rules.branches_broken scope.now within
         (branches_view branches.now)) }
 {
-    for (_, condition, inside) in branches {
+    for Branch {
+        condition, body, ..
+    } in branches
+    {
         if let Some(rule) = broken(scope, within, condition)? {
             return Ok(Some(rule));
         }
-        if let Some(rule) = body_broken(scope, within, inside)? {
+        if let Some(rule) = body_broken(scope, within, body)? {
             return Ok(Some(rule));
         }
     }
