@@ -57,7 +57,7 @@ impl NamesAround {
     }
 }
 
-/// A branch of an `if` or `elif`.
+/// A branch of an `if` or `elif`, with statements of type `S`.
 #[derive(Drop)]
 pub struct Branch<S> {
     /// The line of its tag.
