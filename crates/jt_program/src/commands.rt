@@ -22,10 +22,7 @@ pub fn context_of(alloc: Global, bytes: &[u8]) -> Result<Context, Failure>
     let Ok(text) = std::str::from_utf8(bytes) else {
         return Err(Failure::Context(ContextError::NotJson));
     };
-    match context_from_json(alloc, text) {
-        Ok(context) => Ok(context),
-        Err(error) => Err(no_context(error)),
-    }
+    context_from_json(alloc, text).map_err(no_context)
 }
 
 /// The bytes of the image of the template of a name.
@@ -37,60 +34,33 @@ pub fn image_of(
 ) -> Result<Vec<u8>, Failure>
     ensures { GivesImage (source_of templates.now) name.now options result }
 {
-    let image = match compile(alloc, name, templates, options) {
-        Ok(image) => image,
-        Err(refusal) => return Err(no_template(refusal)),
-    };
-    match encode(alloc, &image) {
-        Ok(bytes) => Ok(bytes),
-        Err(_) => Err(Failure::NoMemory),
-    }
+    let image = compile(alloc, name, templates, options).map_err(no_template)?;
+    encode(alloc, &image).map_err(|_| Failure::NoMemory)
 }
 
 /// The bytes in version 2 of the image that bytes spell. It isn't verified.
 pub(crate) fn upgraded(alloc: Global, bytes: &[u8]) -> Result<Vec<u8>, Failure>
     ensures { UpgradesTo bytes.now result }
 {
-    let image = match decode(alloc, bytes) {
-        Ok(image) => image,
-        Err(error) => return Err(no_image(error)),
-    };
-    let image = match upgrade(alloc, image) {
-        Ok(image) => image,
-        Err((_, error)) => return Err(no_image(error)),
-    };
-    match encode(alloc, &image) {
-        Ok(bytes) => Ok(bytes),
-        Err(_) => Err(Failure::NoMemory),
-    }
+    let image = decode(alloc, bytes).map_err(no_image)?;
+    let image = upgrade(alloc, image).map_err(|(_, error)| no_image(error))?;
+    encode(alloc, &image).map_err(|_| Failure::NoMemory)
 }
 
 /// The code that bytes spell, in place, verified.
 fn verified_of(alloc: Global, bytes: &[u8]) -> Result<VerifiedView<'_>, Failure>
     ensures { VerifiesTo bytes.now result }
 {
-    let code = match view(alloc, bytes) {
-        Ok(code) => code,
-        Err(error) => return Err(no_image(error)),
-    };
-    match verify_view(alloc, code) {
-        Ok(verified) => Ok(verified),
-        Err((_, refusal)) => Err(no_code(refusal)),
-    }
+    let code = view(alloc, bytes).map_err(no_image)?;
+    verify_view(alloc, code).map_err(|(_, refusal)| no_code(refusal))
 }
 
 /// The image that bytes spell, verified.
 pub(crate) fn verified_image(alloc: Global, bytes: &[u8]) -> Result<Verified, Failure>
     ensures { VerifiesTo bytes.now result }
 {
-    let image = match decode(alloc, bytes) {
-        Ok(image) => image,
-        Err(error) => return Err(no_image(error)),
-    };
-    match verify(alloc, image) {
-        Ok(verified) => Ok(verified),
-        Err((_, refusal)) => Err(no_code(refusal)),
-    }
+    let image = decode(alloc, bytes).map_err(no_image)?;
+    verify(alloc, image).map_err(|(_, refusal)| no_code(refusal))
 }
 
 /// How many units and instructions the image has that bytes spell, where it is accepted.

@@ -29,8 +29,5 @@ pub(crate) fn verified_of(alloc: Global, source: &str) -> Result<Verified, Fail>
     let Ok(image) = compile(alloc, "t", &Only { source }, Options::new()) else {
         return Err(Fail::from("compile"));
     };
-    match verify(alloc, image) {
-        Ok(verified) => Ok(verified),
-        Err(_) => Err(Fail::from("verify")),
-    }
+    verify(alloc, image).map_err(|_| Fail::from("verify"))
 }

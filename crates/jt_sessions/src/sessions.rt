@@ -114,11 +114,7 @@ impl Host {
             return Err(HostError::NoSession);
         };
         let machine = &mut self.sessions[place].1;
-        let progress = match machine.advance(k) {
-            Ok(progress) => progress,
-            Err(_) => return Err(HostError::NoMemory),
-        };
-        Ok(progress)
+        machine.advance(k).map_err(|_| HostError::NoMemory)
     }
 
     /// The outcome of a session, once its run has ended.
