@@ -148,9 +148,10 @@ fn stmt_locals(statement: &SlotStmt) -> Result<usize, NoMemory>
         SlotStmt::If(branches, other) => {
             let mut most = body_locals(other)?;
             for SlotBranch {
-                condition, body, ..
-            } in branches
-            {
+                condition,
+                body,
+                ..
+            } in branches {
                 let asked = expr_locals(condition)?;
                 most = larger(most, larger(asked, body_locals(body)?));
             }

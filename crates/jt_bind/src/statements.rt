@@ -64,8 +64,7 @@ impl<'t, 's, 'a> Resolver<'t, 's, 'a> {
                     line,
                     condition,
                     body,
-                } in branches
-                {
+                } in branches {
                     made.push(self.resolve_branch(body, *line, condition, pool)?)?;
                 }
                 let last = self.resolve_whole(other, pool)?;

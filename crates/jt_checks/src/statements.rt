@@ -307,9 +307,10 @@ fn branches_broken(
         (branches_view branches.now)) }
 {
     for Branch {
-        condition, body, ..
-    } in branches
-    {
+        condition,
+        body,
+        ..
+    } in branches {
         if let Some(rule) = broken(scope, within, condition)? {
             return Ok(Some(rule));
         }

@@ -186,8 +186,7 @@ fn emit_statement(
                 place: tag,
                 condition,
                 body,
-            } in branches
-            {
+            } in branches {
                 emit_expression(code, Some(*tag), condition, above)?;
                 let choice = code.begin_choice()?;
                 emit_statements(alloc, code, body, above)?;

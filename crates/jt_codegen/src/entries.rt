@@ -48,9 +48,10 @@ fn fits_statement(statement: &SlotStmt, room: usize) -> bool
         } => fits_expression(expr, room) && fits_targets(targets, room),
         SlotStmt::If(branches, other) => {
             for SlotBranch {
-                condition, body, ..
-            } in branches
-            {
+                condition,
+                body,
+                ..
+            } in branches {
                 if !fits_expression(condition, room) {
                     return false;
                 }

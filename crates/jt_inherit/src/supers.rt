@@ -139,9 +139,10 @@ fn statement_super(statement: &Stmt) -> bool
         Stmt::Print(_, value) | Stmt::Set { value, .. } => has_super(value),
         Stmt::If(branches, other) => {
             for Branch {
-                condition, body, ..
-            } in branches
-            {
+                condition,
+                body,
+                ..
+            } in branches {
                 if has_super(condition) {
                     return true;
                 }

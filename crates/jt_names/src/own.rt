@@ -294,9 +294,10 @@ fn add_branches<'a>(
         (branch_names (branches_view branches.now))) }
 {
     for Branch {
-        condition, body, ..
-    } in branches
-    {
+        condition,
+        body,
+        ..
+    } in branches {
         add_expression(names, condition)?;
         add_statements(names, body)?;
     }

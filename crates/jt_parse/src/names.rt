@@ -123,8 +123,7 @@ fn check_statement(statement: &Stmt) -> Result<(), ParseError>
                 line,
                 condition,
                 body,
-            } in branches
-            {
+            } in branches {
                 check_expression(*line, condition)?;
                 check_body(body)?;
             }

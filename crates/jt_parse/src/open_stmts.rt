@@ -266,8 +266,7 @@ pub(crate) fn ends_open_stmt(open_stmt: &OpenStmt, word: &str, tokens: &[Token<'
         (open_stmt_view open_stmt.now) }
 {
     match &open_stmt.kind {
-        OpenKind::Branch { .. } | OpenKind::Else(_) => is_word(word, "endif")
-            && tokens.is_empty(),
+        OpenKind::Branch { .. } | OpenKind::Else(_) => is_word(word, "endif") && tokens.is_empty(),
         OpenKind::Loop(_) | OpenKind::LoopElse(_, _) => is_word(word, "endfor")
             && tokens.is_empty(),
         OpenKind::Opening(opening) => is_end_of(opening, word) && names_end(opening, tokens),
