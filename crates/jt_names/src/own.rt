@@ -1,12 +1,12 @@
 //! The different names that a chain reads or binds.
 
-ghost use Rattle.std.specs.Prelude.{◌≡◌, ◌++◌, if◌then◌else◌, [], map, option_map, IfOk, IsOk};
+ghost use Rattle.std.specs.Prelude.{◌≡◌, ◌++◌, if◌then◌else◌, [], option_map, IfOk, IsOk};
 ghost use Rattle.jt_trees.specs.ExpressionView.{expr_view, exprs_view, pairs_view};
 ghost use Rattle.jt_trees.specs.Texts.{inserted};
 ghost use Rattle.jt_chains.specs.Chain.{is_loop};
-ghost use Rattle.jt_trees.specs.StatementView.{stmt_view, body_view, branches_view, names_view, filterings_view, parameters_view};
+ghost use Rattle.jt_trees.specs.StatementView.{stmt_view, body_view, branches_view, names_view, filterings_view};
 ghost use Rattle.jt_chains.specs.Uses.{expr_names, row_names, pair_names, condition_names, filtering_names, stmt_names, body_names, branch_names, keywords};
-ghost use Rattle.jt_names.specs.Names.{Puts, texts};
+ghost use Rattle.jt_names.specs.Names.{Puts, parameter_names, texts};
 
 use jt_trees::{Branch, Expr, Filtering, Parameter, Stmt};
 use std::alloc::AllocError;
@@ -199,8 +199,7 @@ fn add_parameters<'a>(
     names: &mut BTreeSet<&'a str>,
     parameters: &'a [Parameter],
 ) -> Result<(), AllocError>
-    ensures { IfOk result (λ _. Puts names.old names.new (map (λ p. p.name)
-        (parameters_view parameters.now))) }
+    ensures { IfOk result (λ _. Puts names.old names.new (parameter_names parameters.now)) }
 {
     for parameter in parameters {
         add_name(names, parameter.name.as_str())?;
