@@ -5,7 +5,6 @@ ghost use Rattle.jt_trees.specs.Expressions.{Text};
 ghost use Rattle.jt_bind.specs.Counts as counts;
 ghost use Rattle.jt_resolved.specs.Locals as locals;
 ghost use Rattle.jt_resolved.specs.Slots as slots;
-ghost use Rattle.jt_resolved.specs.Slots.{SBody};
 ghost use Rattle.jt_resolved.specs.View.{slot_view, targets_view, expr_view, row_view, stmt_view, body_view};
 
 use jt_layout::more;
@@ -130,7 +129,7 @@ fn condition_locals(condition: &Option<SlotExpr>) -> Result<usize, NoMemory>
 /// The locals of a statement.
 #[cycle(statements)]
 fn stmt_locals(statement: &SlotStmt) -> Result<usize, NoMemory>
-    ensures { IfOk result (λ n. (templates : List Text) (behind : SBody ℕ)
+    ensures { IfOk result (λ n. (templates : List Text) (behind : slots.SBody ℕ)
         → locals.body_locals (stmt_view templates statement.now behind)
         ≡ max n (locals.body_locals behind)) }
 {
@@ -183,7 +182,7 @@ fn stmt_locals(statement: &SlotStmt) -> Result<usize, NoMemory>
 /// The locals of statements.
 #[cycle(statements)]
 pub(crate) fn body_locals(body: &[SlotStmt]) -> Result<usize, NoMemory>
-    ensures { IfOk result (λ n. (templates : List Text) (behind : SBody ℕ)
+    ensures { IfOk result (λ n. (templates : List Text) (behind : slots.SBody ℕ)
         → locals.body_locals (body_view templates body.now behind)
         ≡ max n (locals.body_locals behind)) }
 {

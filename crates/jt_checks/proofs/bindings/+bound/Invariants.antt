@@ -12,5 +12,5 @@ invariant-bound_in-loop-statement l = record {
 abbrev pub invariant-bound_by-loop-body : goal.invariant-bound_by-loop-body
 invariant-bound_by-loop-body l = record {
   within : l.bound < 2 ^ 64;
-  left : min (l.bound + branch_bound (parsed.branches_view (drop l.body-index l.inside-items))) (2 ^ 64 - 1) ≡ min (l.initial.bound + branch_bound (parsed.branches_view l.inside-items)) (2 ^ 64 - 1);
+  left : min (l.bound + branch_bound (parsed.branches_view (drop l.body-index l.body-items))) (2 ^ 64 - 1) ≡ min (l.initial.bound + branch_bound (parsed.branches_view l.body-items)) (2 ^ 64 - 1);
 }
