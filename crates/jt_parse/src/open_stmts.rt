@@ -1,15 +1,14 @@
 //! Statements that are open.
 
-ghost use Rattle.std.specs.Prelude.{◌≡◌, ◌∷◌, [], List, map, bytes_eq, IfOk, MatchOption};
+ghost use Rattle.std.specs.Prelude.{◌≡◌, ◌∷◌, [], List, bytes_eq, IfOk, MatchOption};
 ghost use Rattle.std.specs.Str.{chars};
-ghost use Rattle.jt_scan.specs.View.{token_view};
 ghost use Rattle.jt_trees.specs.ExpressionView.{expr_view};
-ghost use Rattle.jt_trees.specs.Statements as trees;
+ghost use Rattle.jt_trees.specs.Statements.{Body, choose, end};
 ghost use Rattle.jt_parse.specs.Tags as tags;
 ghost use Rattle.jt_parse.specs.Reading as reading;
 ghost use Rattle.jt_trees.specs.StatementView.{stmt_view, body_view, branches_view};
 ghost use Rattle.jt_parse.specs.HeadView.{loop_view, opening_view};
-ghost use Rattle.jt_parse.specs.Gives.{open_stmt_view, open_stmt_by, open_stmts_view};
+ghost use Rattle.jt_parse.specs.Gives.{Opens, seen, open_stmt_view, open_stmt_by, open_stmts_view};
 
 use crate::expression::is_name;
 use crate::heads::{Loop, Opening};
@@ -64,9 +63,8 @@ pub(crate) fn push_branch(
     condition: Expr,
     body: Vec<Stmt>,
 ) -> Result<(), AllocError>
-    ensures { IfOk result (λ u. branches_view branches.new.items
-        ≡ reading.then_branch (branches_view branches.old.items) line (expr_view condition)
-        (body_view body.items)) }
+    ensures { IfOk result (λ u. branches_view branches.new.items ≡ reading.then_branch
+        (branches_view branches.old.items) line (expr_view condition) (body_view body.items)) }
 {
     branches.push(Branch {
         line,
@@ -79,9 +77,7 @@ pub(crate) fn push_branch(
 /// Takes the innermost open_stmt.
 pub(crate) fn pop_open_stmt(open_stmts: &mut Vec<OpenStmt>) -> Option<OpenStmt>
     ensures { MatchOption result (open_stmts_view open_stmts.old.items ≡ [])
-        (λ f.
-        open_stmts_view open_stmts.old.items
-        ≡ open_stmt_view f ∷ open_stmts_view open_stmts.new.items) }
+        (λ f. Opens f open_stmts.new.items open_stmts.old.items) }
 {
     open_stmts.pop()
 }
@@ -91,10 +87,7 @@ pub(crate) fn push_open_stmt(
     open_stmts: &mut Vec<OpenStmt>,
     open_stmt: OpenStmt,
 ) -> Result<(), AllocError>
-    ensures { IfOk result
-        (λ u.
-        open_stmts_view open_stmts.new.items
-        ≡ open_stmt_view open_stmt ∷ open_stmts_view open_stmts.old.items) }
+    ensures { IfOk result (λ u. Opens open_stmt open_stmts.old.items open_stmts.new.items) }
 {
     open_stmts.push(open_stmt)?;
     Ok(())
@@ -102,8 +95,7 @@ pub(crate) fn push_open_stmt(
 
 /// The statement of branches and an else part.
 fn if_statement(branches: Vec<Branch<Stmt>>, other: Vec<Stmt>) -> Stmt
-    ensures { stmt_view result
-        ≡ trees.choose (branches_view branches.items) (body_view other.items) }
+    ensures { stmt_view result ≡ choose (branches_view branches.items) (body_view other.items) }
 {
     Stmt::If(branches, other)
 }
@@ -173,9 +165,8 @@ fn ended_branch(
     condition: Expr,
     body: Vec<Stmt>,
 ) -> Result<Stmt, AllocError>
-    ensures { IfOk result (λ s. stmt_view s
-        ≡ trees.choose (reading.then_branch (branches_view branches.items) line
-        (expr_view condition) (body_view body.items)) trees.end) }
+    ensures { IfOk result (λ s. stmt_view s ≡ choose (reading.then_branch
+        (branches_view branches.items) line (expr_view condition) (body_view body.items)) end) }
 {
     let mut branches = branches;
     push_branch(&mut branches, line, condition, body)?;
@@ -184,7 +175,7 @@ fn ended_branch(
 
 /// The statement that ends.
 fn finished(alloc: Global, line: u32, kind: OpenKind, body: Vec<Stmt>) -> Result<Stmt, AllocError>
-    ensures { (before : trees.Body) → IfOk result (λ s. stmt_view s
+    ensures { (before : Body) → IfOk result (λ s. stmt_view s
         ≡ reading.finished (body_view body.items) (open_stmt_by before line kind)) }
 {
     match kind {
@@ -236,7 +227,7 @@ pub(crate) fn unclosed(open_stmts: Vec<OpenStmt>) -> Option<u32>
 
 /// Whether the tokens behind the word end a statement: there are none, or a block's name.
 fn names_end(opening: &Opening, tokens: &[Token<'_>]) -> bool
-    ensures { result ≡ reading.names_end (opening_view opening.now) (map token_view tokens.now) }
+    ensures { result ≡ reading.names_end (opening_view opening.now) (seen tokens.now) }
 {
     match (opening, tokens) {
         (_, []) => true,
@@ -261,8 +252,7 @@ fn is_end_of(opening: &Opening, word: &str) -> bool
 
 /// Whether the tag with this word ends the open_stmt.
 pub(crate) fn ends_open_stmt(open_stmt: &OpenStmt, word: &str, tokens: &[Token<'_>]) -> bool
-    ensures { result
-        ≡ reading.ends_open_stmt (chars word.now) (map token_view tokens.now)
+    ensures { result ≡ reading.ends_open_stmt (chars word.now) (seen tokens.now)
         (open_stmt_view open_stmt.now) }
 {
     match &open_stmt.kind {

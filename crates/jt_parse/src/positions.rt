@@ -111,8 +111,7 @@ fn first_line(branches: &[Branch<Stmt>]) -> u32 {
 /// The line of the first statement that stands where it may not, if there is one.
 #[cycle(positions)]
 fn body_placed(body: &Vec<Stmt>, position: Position) -> Result<(), u32>
-    ensures { is_ok result
-        ≡ spec.body_placed (position_view position) (body_view body.now.items) }
+    ensures { is_ok result ≡ spec.body_placed (position_view position) (body_view body.now.items) }
 {
     for statement in body {
         statement_placed(statement, position)?;
