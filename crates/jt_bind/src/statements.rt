@@ -162,12 +162,12 @@ impl<'t, 's, 'a> Resolver<'t, 's, 'a> {
             template: self.spot.template,
             line,
         };
-        let condition = self.resolve_expression(condition, pool)?;
-        let body = self.resolve_whole(body, pool)?;
+        let asked = self.resolve_expression(condition, pool)?;
+        let taken = self.resolve_whole(body, pool)?;
         Ok(SlotBranch {
             place,
-            condition,
-            body,
+            condition: asked,
+            body: taken,
         })
     }
 
