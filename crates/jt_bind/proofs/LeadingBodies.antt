@@ -1,5 +1,5 @@
 -- Statements that were put behind one another.
-use Rattle.std.proofs.Common.{◌≡◌, ℕ, ◌+◌, List, [], ◌∷◌, ◌++◌, length, map, refl, sym, ap, ◌∙◌, subst, Bool, Option, Vec, Global, append_assoc, append-nil, length-append, arith}
+use Rattle.std.proofs.Common.{◌≡◌, ℕ, ◌+◌, List, [], ◌∷◌, ◌++◌, length, map, refl, sym, ap, ◌∙◌, subst, Bool, Option, Vec, Global, append_assoc, append-nil, length-append, arith, rules}
 use Rattle.std.specs.Prelude.{option_map}
 use Rattle.std.proofs.lemmas.List.{map-append}
 use Rattle.jt_value.specs.Tree.{Tree}
@@ -67,9 +67,7 @@ module _ (templates : List Text) where
 
   -- a body behind another
   pub led_both : (a b : SBody Constant) (es fs gs : List code_stmt.SlotStmt) (p q r : List Tree) → Led templates a es fs p q → Led templates b fs gs q r → Led templates (followed a b) es gs p r
-  led_both a b es fs gs p q r h g = λ left.
-      lead_both (followed (followed a b) left) (followed b left) left es fs gs p q r
-      (lead_of (followed a (followed b left)) (followed (followed a b) left) (followed b left) es fs p q (sym (followed_again a b left)) (h (followed b left))) (g left)
+  led_both a b es fs gs p q r h g = search (arith, rules, lead_both, lead_of, followed_again)
 
   pub led_of : (a b : SBody Constant) (es fs : List code_stmt.SlotStmt) (p q : List Tree) → a ≡ b → Led templates a es fs p q → Led templates b es fs p q
   led_of a b es fs p q e h = λ left. lead_of (followed a left) (followed b left) left es fs p q (ap (λ z. followed z left) e) (h left)
@@ -98,15 +96,11 @@ module _ (templates : List Text) where
 
   pub print_led : (at : code_place.Place) (pl : Place) (escaping : Bool) (c : SlotExpr Constant) (e : code.SlotExpr) (ss ts : List code_stmt.SlotStmt) (p q : List Tree) → place_view templates at ≡ pl → IsPlaced c (expr_view e) p q
       → ts ≡ ss ++ s.Print at escaping e ∷ [] → Led templates (alone (slots.print pl escaping c)) ss ts p q
-  print_led at pl escaping c e ss ts p q f h =
-      stmt_led (slots.print pl escaping c) (s.Print at escaping e) ss ts p q
-      (λ behind. view_Print templates at escaping e behind ∙ ap (λ z. slots.stmt (slots.print z escaping (expr_view e)) behind) f ∙ ap (λ z. slots.stmt (slots.print pl escaping z) behind) h.shown) h.pooled
+  print_led at pl escaping c e ss ts p q f h = search (arith, rules, stmt_led, view_Print)
 
   pub assign_led : (at : code_place.Place) (pl : Place) (xs : code_targets.Targets) (c : SlotExpr Constant) (e : code.SlotExpr) (ss ts : List code_stmt.SlotStmt) (p q : List Tree) → place_view templates at ≡ pl → IsPlaced c (expr_view e) p q
       → ts ≡ ss ++ s.Assign at xs e ∷ [] → Led templates (alone (slots.assign pl (targets_view xs) c)) ss ts p q
-  assign_led at pl xs c e ss ts p q f h =
-      stmt_led (slots.assign pl (targets_view xs) c) (s.Assign at xs e) ss ts p q
-      (λ behind. view_Assign templates at xs e behind ∙ ap (λ z. slots.stmt (slots.assign z (targets_view xs) (expr_view e)) behind) f ∙ ap (λ z. slots.stmt (slots.assign pl (targets_view xs) z) behind) h.shown) h.pooled
+  assign_led at pl xs c e ss ts p q f h = search (arith, rules, stmt_led, view_Assign)
 
   pub run_led : (u : ℕ) (es : SRow Constant) (row : Vec Entry Global) (ss ts : List code_stmt.SlotStmt) (p q : List Tree) → RowLeads es slots.none [] row.items p q
       → ts ≡ ss ++ s.Run u row ∷ [] → Led templates (alone (slots.run u es)) ss ts p q
@@ -115,9 +109,7 @@ module _ (templates : List Text) where
 
   pub capture_led : (escaping : Bool) (x : code_slot.Slot) (w : SBody Constant) (body : Vec code_stmt.SlotStmt Global) (ss ts : List code_stmt.SlotStmt) (p q : List Tree) → IsBody templates w body.items p q
       → ts ≡ ss ++ s.Capture escaping x body ∷ [] → Led templates (alone (slots.capture escaping (slot_view x) w)) ss ts p q
-  capture_led escaping x w body ss ts p q h =
-      stmt_led (slots.capture escaping (slot_view x) w) (s.Capture escaping x body) ss ts p q
-      (λ behind. view_Capture templates escaping x body behind ∙ ap (λ z. slots.stmt (slots.capture escaping (slot_view x) z) behind) (body_shown w body.items p q h)) (body_pooled w body.items p q h)
+  capture_led escaping x w body ss ts p q h = search (arith, rules, stmt_led, view_Capture, body_shown, body_pooled)
 
   pub data_led : (v : Tree) (i : ℕ) (ss ts : List code_stmt.SlotStmt) (p q : List Tree) → i ≡ length p → q ≡ p ++ v ∷ [] → ts ≡ ss ++ s.PutPooled i ∷ [] → Led templates (alone (slots.put_pooled (own v))) ss ts p q
   data_led v i ss ts p q e = stmt_led (slots.put_pooled (own v)) (s.PutPooled i) ss ts p q (λ behind. view_PutPooled templates i behind ∙ ap (λ n. slots.stmt (slots.put_pooled n) behind) e)
@@ -154,9 +146,7 @@ module _ (templates : List Text) where
 
   -- no branch yet
   pub choice_same : (whole : SBody Constant) (bs : List SBranch) (p : List Tree) → bs ≡ [] → ChoiceLeads templates whole whole bs p p
-  choice_same whole bs p e =
-      let P : List SBranch → Type 0 = λ l. ChoiceLeads templates whole whole l p p in
-      subst P (sym e) (record { shown = λ f left last h. record { alone = h.alone; before = h.before; until = h.until }; pooled = refl })
+  choice_same whole bs p e = search (arith, rules)
 
   -- a branch whose body is written in another form
   pub branch_as : (pl : Place) (c : SlotExpr Constant) (a b : SBody Constant) (x : SBranch) (p q : List Tree) → a ≡ b → IsBranch templates pl c a x p q → IsBranch templates pl c b x p q
