@@ -16,3 +16,8 @@ mod targets;
 
 pub use compiling::compile;
 pub use error::CompileError;
+pub use jt_inherit::{ChainError, Library};
+pub use jt_lower::low_laws;
+pub use jt_parse::ParseError;
+pub use jt_scan::{Options, ScanError};
+pub use jt_scopes::ScopeError;
