@@ -15,6 +15,6 @@ mod typing;
 mod verifier;
 
 pub use checked::{Checked, Verified, VerifiedView, verify, verify_view};
-pub use jt_image::Flaw;
+pub use jt_image::{Flaw, Kind};
 pub use refusal::Refusal;
 pub use shape::{Shape, join};
