@@ -76,8 +76,7 @@ pub fn upgrade(alloc: Global, image: Image) -> Result<Image, (Image, ImageError)
     // what is named holds
     ensures named { IfErr result (λ e. IsNotUpgraded e.1 image) }
     // its runs end as before
-    ensures runs {
-        IfOk result (λ i. (x : Pairs) (b : Budget) (o : Outcome) → Run image x b o → Run i x b o) }
+    ensures runs { IfOk result (λ i. (x : Pairs) (b : Budget) (o : Outcome) → Run image x b o → Run i x b o) }
 {
     match image.version() {
         Version::Two => Ok(image),
