@@ -51,8 +51,14 @@ pub(crate) fn upgraded(alloc: Global, bytes: &[u8]) -> Result<Vec<u8>, Failure>
 fn verified_of(alloc: Global, bytes: &[u8]) -> Result<VerifiedView<'_>, Failure>
     ensures { VerifiesTo bytes.now result }
 {
-    let code = view(alloc, bytes).map_err(no_image)?;
-    verify_view(alloc, code).map_err(|(_, refusal)| no_code(refusal))
+    let code = match view(alloc, bytes) {
+        Ok(code) => code,
+        Err(error) => return Err(no_image(error)),
+    };
+    match verify_view(alloc, code) {
+        Ok(verified) => Ok(verified),
+        Err((_, refusal)) => Err(no_code(refusal)),
+    }
 }
 
 /// The image that bytes spell, verified.

@@ -114,7 +114,11 @@ impl Host {
             return Err(HostError::NoSession);
         };
         let machine = &mut self.sessions[place].1;
-        machine.advance(k).map_err(|_| HostError::NoMemory)
+        let progress = match machine.advance(k) {
+            Ok(progress) => progress,
+            Err(_) => return Err(HostError::NoMemory),
+        };
+        Ok(progress)
     }
 
     /// The outcome of a session, once its run has ended.

@@ -84,6 +84,9 @@ impl Sessions {
         session_laws();
         let Sessions { mut host, count } = self;
         run_all(&mut host, count, slice.max(1))?;
-        lines(alloc, &host, count).map_err(|_| HostError::NoMemory)
+        match lines(alloc, &host, count) {
+            Ok(text) => Ok(text),
+            Err(_) => Err(HostError::NoMemory),
+        }
     }
 }
