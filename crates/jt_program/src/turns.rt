@@ -29,7 +29,10 @@ pub(crate) fn run_turns<F: Files>(
     for pair in pairs {
         open_pair(alloc, files, &mut sessions, pair, budget)?;
     }
-    sessions.run(alloc, slice).map_err(|_| Failure::NoMemory)
+    match sessions.run(alloc, slice) {
+        Ok(lines) => Ok(lines),
+        Err(_) => Err(Failure::NoMemory),
+    }
 }
 
 /// Opens the session of a pair.
