@@ -34,17 +34,32 @@ pub fn image_of(
 ) -> Result<Vec<u8>, Failure>
     ensures { GivesImage (source_of templates.now) name.now options result }
 {
-    let image = compile(alloc, name, templates, options).map_err(no_template)?;
-    encode(alloc, &image).map_err(|_| Failure::NoMemory)
+    let image = match compile(alloc, name, templates, options) {
+        Ok(image) => image,
+        Err(refusal) => return Err(no_template(refusal)),
+    };
+    match encode(alloc, &image) {
+        Ok(bytes) => Ok(bytes),
+        Err(_) => Err(Failure::NoMemory),
+    }
 }
 
 /// The bytes in version 2 of the image that bytes spell. It isn't verified.
 pub(crate) fn upgraded(alloc: Global, bytes: &[u8]) -> Result<Vec<u8>, Failure>
     ensures { UpgradesTo bytes.now result }
 {
-    let image = decode(alloc, bytes).map_err(no_image)?;
-    let image = upgrade(alloc, image).map_err(|(_, error)| no_image(error))?;
-    encode(alloc, &image).map_err(|_| Failure::NoMemory)
+    let image = match decode(alloc, bytes) {
+        Ok(image) => image,
+        Err(error) => return Err(no_image(error)),
+    };
+    let image = match upgrade(alloc, image) {
+        Ok(image) => image,
+        Err((_, error)) => return Err(no_image(error)),
+    };
+    match encode(alloc, &image) {
+        Ok(bytes) => Ok(bytes),
+        Err(_) => Err(Failure::NoMemory),
+    }
 }
 
 /// The code that bytes spell, in place, verified.
@@ -65,8 +80,14 @@ fn verified_of(alloc: Global, bytes: &[u8]) -> Result<VerifiedView<'_>, Failure>
 pub(crate) fn verified_image(alloc: Global, bytes: &[u8]) -> Result<Verified, Failure>
     ensures { VerifiesTo bytes.now result }
 {
-    let image = decode(alloc, bytes).map_err(no_image)?;
-    verify(alloc, image).map_err(|(_, refusal)| no_code(refusal))
+    let image = match decode(alloc, bytes) {
+        Ok(image) => image,
+        Err(error) => return Err(no_image(error)),
+    };
+    match verify(alloc, image) {
+        Ok(verified) => Ok(verified),
+        Err((_, refusal)) => Err(no_code(refusal)),
+    }
 }
 
 /// How many units and instructions the image has that bytes spell, where it is accepted.
