@@ -1,5 +1,5 @@
 -- What is called.
-use Rattle.std.proofs.Common.{◌≡◌, ℕ, suc, ◌+◌, ◌<◌, List, [], ◌∷◌, length, drop, get_or, add-one, refl, sym, ap, ◌∙◌, Bool, Option, Some, None}
+use Rattle.std.proofs.Common.{◌≡◌, ℕ, suc, ◌+◌, ◌<◌, List, [], ◌∷◌, length, drop, get_or, add-one, refl, sym, ap, ◌∙◌, Bool, Option, Some, None, arith, rules}
 use Rattle.std.specs.Prelude.{option_map, pos}
 use Rattle.std.proofs.lemmas.List.{drop_more}
 use denote.Ref.{Bor}
@@ -30,10 +30,7 @@ count_length (t ∷ ts) = ap suc (count_length ts)
 -- the call of a macro by what the code keeps of it
 pub macro_called : (world : World) (order : List Home) (h : Home) (s : Signature) (m : MacroBody) → IsSignature world order h s m → (escaping : Bool) (front : SRow Constant → SRow Constant) (n : ℕ) (ks : Table)
     → invoke s.unit escaping (front (filled (parameters_view s.parameters.now) n s.first_default ks)) ≡ invoke (unit world order (of_macro h m.name)) escaping (front (filled m.parameters n (default_place world order h m.name) ks))
-macro_called world order h s m is escaping front n ks =
-    ap (λ (u : ℕ). invoke u escaping (front (filled (parameters_view s.parameters.now) n s.first_default ks))) is.runs
-    ∙ ap (λ ps. invoke (unit world order (of_macro h m.name)) escaping (front (filled ps n s.first_default ks))) is.takes
-    ∙ ap (λ (d : ℕ). invoke (unit world order (of_macro h m.name)) escaping (front (filled m.parameters n d ks))) is.defaults
+macro_called world order h s m is escaping front n ks = search (arith, rules)
 
 -- the call of a block by the unit of its first body
 pub body_called : (world : World) (order : List Home) (h : Home) (escaping : Bool) (i : Option ℕ) (u : ℕ) (es : SRow Constant) → Some u ≡ unit_of world order h i → invoke u escaping es ≡ invoked_body world order h escaping i es
@@ -47,9 +44,7 @@ none_called world order h escaping (Some i) es e = absurd (cc e)
 -- one name more is read
 pub reads_next : (table : Table) (ks : List (Bor Text)) (i : ℕ) (d : Bor Text) (s : Option Slot) → i < length ks → option_map slot_view s ≡ slot_in (get_or ks i d).now table
     → item (read_from (option_map slot_view s)) (reads table (texts (drop (i + 1) ks))) ≡ reads table (texts (drop i ks))
-reads_next table ks i d s lt e =
-    ap (λ o. item (read_from o) (reads table (texts (drop (i + 1) ks)))) e
-    ∙ sym (ap (λ (l : List (Bor Text)). reads table (texts l)) (drop_more ks i d lt))
+reads_next table ks i d s lt e = search (arith, rules, drop_more)
 
 -- one local more
 pub locals_next : (xs : List Text) (i : ℕ) → i < length xs → item (variable (local i)) (first_locals (i + 1) (drop (i + 1) xs)) ≡ first_locals i (drop i xs)

@@ -1,5 +1,5 @@
 -- The templates of a chain, one behind the other.
-use Rattle.std.proofs.Common.{◌≡◌, ℕ, suc, ◌+◌, ◌-◌, ◌<◌, Bool, true, false, List, [], ◌∷◌, length, map, drop, get_or, refl, sym, ap, ◌∙◌, arith}
+use Rattle.std.proofs.Common.{◌≡◌, ℕ, suc, ◌+◌, ◌-◌, ◌<◌, Bool, true, false, List, [], ◌∷◌, length, map, drop, get_or, refl, sym, ap, ◌∙◌, arith, rules}
 use Rattle.std.specs.Prelude.{if◌then◌else◌, ◌==◌}
 use Rattle.std.proofs.Common.{length-drop}
 use Rattle.std.proofs.lemmas.Bool.Decides.{nat_tests}
@@ -41,18 +41,13 @@ nil_long (x ∷ xs) n m e = let longer : n + suc (length xs) ≡ m = e in grind 
 
 -- whether a template is the last one of its chain
 pub root_here : (ts : List Template) (ls : List Layer) (i : ℕ) (root : Bool) → i < length ls → root ≡ (i + 1 == length ls) → root ≡ is_nil (map (layer_view ts) (drop (i + 1) ls))
-root_here ts ls i root lt e =
-    let long : length (drop (i + 1) ls) ≡ length ls - (i + 1) = length-drop (i + 1) ls in
-    e ∙ nil_long (drop (i + 1) ls) (i + 1) (length ls) (omega arith) ∙ sym (nil_same (layer_view ts) (drop (i + 1) ls))
+root_here ts ls i root lt e = search (arith, rules, length-drop, nil_long, nil_same)
 
 -- of the templates from one on, this one and the others
 layers_next : (s : Chains) (ts : List Template) (ls : List Layer) (i : ℕ) (d : Layer) (root : Bool) (left : SBody Constant) → i < length ls → root ≡ is_nil (map (layer_view ts) (drop (i + 1) ls))
     → followed (layer_in s (layer_view ts (get_or ls i d)) root) (followed (resolved_chain (world_in s) (order_in s) (home_in s) (map (layer_view ts) (drop (i + 1) ls))) left)
     ≡ followed (resolved_chain (world_in s) (order_in s) (home_in s) (map (layer_view ts) (drop i ls))) left
-layers_next s ts ls i d root left lt e =
-    sym (followed_again (layer_in s (layer_view ts (get_or ls i d)) root) (resolved_chain (world_in s) (order_in s) (home_in s) (map (layer_view ts) (drop (i + 1) ls))) left)
-    ∙ ap (λ z. followed z left) (chain_next s (layer_view ts (get_or ls i d)) (map (layer_view ts) (drop (i + 1) ls)) root e)
-    ∙ ap (λ (l : List Layer). followed (resolved_chain (world_in s) (order_in s) (home_in s) (map (layer_view ts) l)) left) (sym (drop_more ls i d lt))
+layers_next s ts ls i d root left lt e = search (arith, rules, followed_again, get_or, chain_next, drop_more)
 
 pub layers_turn : (s : Chains) (ts : List Template) (ls : List Layer) (i : ℕ) (x : Layer) (root : Bool) (left : SBody Constant) → i < length ls → x ≡ get_or ls i x → root ≡ is_nil (map (layer_view ts) (drop (i + 1) ls))
     → followed (layer_in s (layer_view ts x) root) (followed (resolved_chain (world_in s) (order_in s) (home_in s) (map (layer_view ts) (drop (i + 1) ls))) left)

@@ -1,5 +1,5 @@
 -- How many locals resolved statements use.
-use Rattle.std.proofs.Common.{◌≡◌, ℕ, ◌+◌, ◌<◌, List, [], ◌∷◌, length, map, drop, get_or, refl, sym, ap, ◌∙◌, max, Bool, Option, Some, None, Vec, Global, arith}
+use Rattle.std.proofs.Common.{◌≡◌, ℕ, ◌+◌, ◌<◌, List, [], ◌∷◌, length, map, drop, get_or, refl, sym, ap, ◌∙◌, max, Bool, Option, Some, None, Vec, Global, arith, rules}
 use Rattle.std.specs.Prelude.{option_map}
 use Rattle.std.proofs.lemmas.List.{drop_more}
 use Rattle.jt_trees.specs.Expressions.{Text}
@@ -7,7 +7,7 @@ use Rattle.jt_resolved.specs.Locals.{slot_locals, slots_locals, targets_locals, 
 use Rattle.jt_resolved.specs.Pool.{Constant, placed_expr, placed_row, placed_condition, placed_stmt, placed_body}
 use Rattle.jt_resolved.specs.Slots as slots
 use Rattle.jt_resolved.specs.Slots.{SlotExpr, SRow, SlotStmt, SBody}
-use Rattle.jt_resolved.specs.View.{Front, slot_view, targets_view, entry_front, expr_view, row_view, stmt_view, body_view, choice_view}
+use Rattle.jt_resolved.specs.View.{Front, slot_view, targets_view, expr_view, row_view, stmt_view, body_view, choice_view}
 use Rattle.jt_resolved.specs.declared.program.Slot as code_slot
 use Rattle.jt_resolved.specs.declared.program.Place.{Place}
 use Rattle.jt_resolved.specs.declared.program.Targets.{Targets}
@@ -15,7 +15,7 @@ use Rattle.jt_resolved.specs.declared.program.SlotExpr as code
 use Rattle.jt_resolved.specs.declared.program.SlotStmt as code_stmt
 use Rattle.jt_resolved.specs.declared.program.SlotStmt.TheVariants as s
 use Rattle.jt_bind.specs.Counts.{aside_locals, target_locals}
-use Rattle.jt_bind.specs.Stated.{Branch}
+use Rattle.jt_resolved.proofs.StatementViews.{SBranch}
 use Rattle.jt_resolved.proofs.ExpressionViews.{Entry}
 use Rattle.jt_resolved.proofs.StatementViews.{view_If, view_For, view_Capture}
 
@@ -26,15 +26,12 @@ both_counted a b c d e f = ap (λ n. max n c) e ∙ ap (max b) f
 
 mutual
   pub expr_counted : (e : SlotExpr Constant) (n : ℕ) → expr_locals (placed_expr e n) ≡ expr_locals e
-  expr_counted (slots.pooled k) n = refl
-  expr_counted (slots.variable s) n = refl
-  expr_counted (slots.field f) n = refl
-  expr_counted slots.absent n = refl
   expr_counted (slots.made k es) n = row_counted es n
   expr_counted (slots.conjunction a b) n = both_counted _ _ _ _ (expr_counted a _) (expr_counted b _)
   expr_counted (slots.disjunction a b) n = both_counted _ _ _ _ (expr_counted a _) (expr_counted b _)
   expr_counted (slots.choice c a b) n = both_counted _ _ _ _ (expr_counted c _) (both_counted _ _ _ _ (expr_counted a _) (expr_counted b _))
   expr_counted (slots.invoke u escaping es) n = row_counted es n
+  expr_counted a0 n = refl
 
   pub row_counted : (es : SRow Constant) (n : ℕ) → row_locals (placed_row es n) ≡ row_locals es
   row_counted slots.none n = refl
@@ -47,14 +44,11 @@ condition_counted (Some c) n = expr_counted c n
 
 mutual
   pub stmt_counted : (c : SlotStmt Constant) (n : ℕ) → stmt_locals (placed_stmt c n) ≡ stmt_locals c
-  stmt_counted (slots.put_pooled k) n = refl
-  stmt_counted (slots.print p escaping e) n = expr_counted e n
-  stmt_counted (slots.assign p xs e) n = both_counted _ _ _ _ refl (expr_counted e n)
   stmt_counted (slots.if_else p c a b) n = both_counted _ _ _ _ (expr_counted c _) (both_counted _ _ _ _ (body_counted a _) (body_counted b _))
   stmt_counted (slots.for_each p xs e c body other) n =
       both_counted _ _ _ _ refl (both_counted _ _ _ _ (both_counted _ _ _ _ (expr_counted e _) (condition_counted c _)) (both_counted _ _ _ _ (body_counted body _) (body_counted other _)))
   stmt_counted (slots.capture escaping s body) n = both_counted _ _ _ _ refl (body_counted body n)
-  stmt_counted (slots.run u es) n = row_counted es n
+  stmt_counted a0 n = search (arith, rules, expr_counted, both_counted, row_counted)
 
   pub body_counted : (b : SBody Constant) (n : ℕ) → body_locals (placed_body b n) ≡ body_locals b
   body_counted slots.end n = refl
@@ -73,70 +67,40 @@ counted_on m m' n rest whole r e f g = omega arith
 
 -- ---- branches
 
-abbrev pub branches_locals : List Text → List Branch → ℕ
+abbrev pub branches_locals : List Text → List SBranch → ℕ
 branches_locals templates [] = 0
-branches_locals templates (b ∷ bs) = max (max (expr_locals (expr_view b.1)) (body_locals (body_view templates b.2.items slots.end))) (branches_locals templates bs)
+branches_locals templates (b ∷ bs) = max (max (expr_locals (expr_view b.condition)) (body_locals (body_view templates b.body.items slots.end))) (branches_locals templates bs)
 
 -- what stands for a choice, where the other part has so many
-pub choice_counted : (templates : List Text) (bs : List Branch) (f : Front) (n : ℕ) → ((behind : SBody ℕ) → body_locals (f behind) ≡ max n (body_locals behind))
+pub choice_counted : (templates : List Text) (bs : List SBranch) (f : Front) (n : ℕ) → ((behind : SBody ℕ) → body_locals (f behind) ≡ max n (body_locals behind))
     → (behind : SBody ℕ) → body_locals (choice_view templates bs f behind) ≡ max (max (branches_locals templates bs) n) (body_locals behind)
 choice_counted templates [] f n h behind = h behind ∙ grind arith
-choice_counted templates (b ∷ bs) f n h behind =
-    let inner = choice_counted templates bs f n h slots.end in
-    ap (λ m. max (max (expr_locals (expr_view b.1)) (max (body_locals (body_view templates b.2.items slots.end)) m)) (body_locals behind)) inner
-    ∙ nested (expr_locals (expr_view b.1)) (body_locals (body_view templates b.2.items slots.end)) (branches_locals templates bs) n (body_locals behind)
-  where
-    nested : (a b c n m : ℕ) → max (max a (max b (max (max c n) 0))) m ≡ max (max (max (max a b) c) n) m
-    nested a b c n m = omega arith
+choice_counted templates (b ∷ bs) f n h behind = search (arith, rules, choice_counted templates bs f n h)
 
 -- ---- loops that count
 
 pub slots_step : (ss : List (Option code_slot.Slot)) (i : ℕ) (d : Option code_slot.Slot) (n m m' r : ℕ) → i < length ss → n ≡ target_locals (option_map slot_view (get_or ss i d)) → m' ≡ max m n
     → max m (slots_locals (map (option_map slot_view) (drop i ss))) ≡ r → max m' (slots_locals (map (option_map slot_view) (drop (i + 1) ss))) ≡ r
-slots_step ss i d n m m' r lt is more so =
-    let rest = slots_locals (map (option_map slot_view) (drop (i + 1) ss)) in
-    let here : slots_locals (map (option_map slot_view) (drop i ss)) ≡ max n rest =
-    ap (λ (l : List (Option code_slot.Slot)). slots_locals (map (option_map slot_view) l)) (drop_more ss i d lt) ∙ first (get_or ss i d) ∙ ap (λ z. max z rest) (sym is) in
-    counted_on m m' n rest (slots_locals (map (option_map slot_view) (drop i ss))) r more here so
-  where
-    first : (o : Option code_slot.Slot) → slots_locals (option_map slot_view o ∷ map (option_map slot_view) (drop (i + 1) ss)) ≡ max (target_locals (option_map slot_view o)) (slots_locals (map (option_map slot_view) (drop (i + 1) ss)))
-    first None = sym (zero_max (slots_locals (map (option_map slot_view) (drop (i + 1) ss))))
-    first (Some x) = refl
+slots_step ss i d n m m' r lt is more so = search (arith, rules, drop_more, get_or, counted_on, zero_max)
 
 pub row_step : (es : List Entry) (i : ℕ) (b : Entry) (n k m m' r : ℕ) → i < length es → b ≡ get_or es i b → n ≡ expr_locals (expr_view b.1) → k ≡ aside_locals b.0 → m' ≡ max m (max n k)
     → max m (row_locals (row_view (drop i es) slots.none)) ≡ r → max m' (row_locals (row_view (drop (i + 1) es) slots.none)) ≡ r
-row_step es i b n k m m' r lt is given kept more so =
-    let rest = row_locals (row_view (drop (i + 1) es) slots.none) in
-    let here : row_locals (row_view (drop i es) slots.none) ≡ max (max n k) rest =
-    ap (λ (l : List Entry). row_locals (row_view l slots.none)) (drop_more es i b lt) ∙ ap (λ (z : Entry). row_locals (row_view (z ∷ drop (i + 1) es) slots.none)) (sym is)
-    ∙ first b.0 ∙ ap (λ z. max (max z (aside_locals b.0)) rest) (sym given) ∙ ap (λ z. max (max n z) rest) (sym kept) in
-    counted_on m m' (max n k) rest (row_locals (row_view (drop i es) slots.none)) r more here so
-  where
-    first : (o : Option ℕ) → row_locals (entry_front o (expr_view b.1) (row_view (drop (i + 1) es) slots.none)) ≡ max (max (expr_locals (expr_view b.1)) (aside_locals o)) (row_locals (row_view (drop (i + 1) es) slots.none))
-    first None = omega arith
-    first (Some j) = omega arith
+row_step es i b n k m m' r lt is given kept more so = search (arith, rules, drop_more, counted_on)
 
 pub body_step : (templates : List Text) (ss : List code_stmt.SlotStmt) (i : ℕ) (x : code_stmt.SlotStmt) (n m m' : ℕ) (behind : SBody ℕ) (r : ℕ) → i < length ss → x ≡ get_or ss i x
     → ((b : SBody ℕ) → body_locals (stmt_view templates x b) ≡ max n (body_locals b)) → m' ≡ max m n
     → max m (body_locals (body_view templates (drop i ss) behind)) ≡ r → max m' (body_locals (body_view templates (drop (i + 1) ss) behind)) ≡ r
-body_step templates ss i x n m m' behind r lt is counted more so =
-    let rest = body_view templates (drop (i + 1) ss) behind in
-    counted_on m m' n (body_locals rest) (body_locals (body_view templates (drop i ss) behind)) r more
-    (ap (λ (l : List code_stmt.SlotStmt). body_locals (body_view templates l behind)) (drop_more ss i x lt) ∙ ap (λ (z : code_stmt.SlotStmt). body_locals (stmt_view templates z rest)) (sym is) ∙ counted rest) so
+body_step templates ss i x n m m' behind r lt is counted more so = search (arith, rules, counted_on, drop_more)
 
-pub branch_step : (templates : List Text) (bs : List Branch) (i : ℕ) (b : Branch) (us : List code_stmt.SlotStmt) (n k m m' r : ℕ) → i < length bs → b ≡ get_or bs i b → us ≡ b.2.items → n ≡ expr_locals (expr_view b.1)
+pub branch_step : (templates : List Text) (bs : List SBranch) (i : ℕ) (b : SBranch) (us : List code_stmt.SlotStmt) (n k m m' r : ℕ) → i < length bs → b ≡ get_or bs i b → us ≡ b.body.items → n ≡ expr_locals (expr_view b.condition)
     → ((z : SBody ℕ) → body_locals (body_view templates us z) ≡ max k (body_locals z)) → m' ≡ max m (max n k)
     → max m (branches_locals templates (drop i bs)) ≡ r → max m' (branches_locals templates (drop (i + 1) bs)) ≡ r
-branch_step templates bs i b us n k m m' r lt is body asked taken more so =
-    let rest = branches_locals templates (drop (i + 1) bs) in
-    let inner : body_locals (body_view templates b.2.items slots.end) ≡ k = ap (λ (l : List code_stmt.SlotStmt). body_locals (body_view templates l slots.end)) (sym body) ∙ taken slots.end ∙ max_zero k in
-    counted_on m m' (max n k) rest (branches_locals templates (drop i bs)) r more
-    (ap (branches_locals templates) (drop_more bs i b lt) ∙ ap (λ (z : Branch). branches_locals templates (z ∷ drop (i + 1) bs)) (sym is) ∙ ap (λ z. max (max z (body_locals (body_view templates b.2.items slots.end))) rest) (sym asked) ∙ ap (λ z. max (max n z) rest) inner) so
+branch_step templates bs i b us n k m m' r lt is body asked taken more so = search (arith, rules, max_zero, counted_on, drop_more)
 
 -- ---- forms of statements
 
 module _ (templates : List Text) (x : code_stmt.SlotStmt) (behind : SBody ℕ) where
-  pub choice_done : (bs : Vec Branch Global) (other : Vec code_stmt.SlotStmt Global) (m n : ℕ) → x ≡ s.If bs other → ((b : SBody ℕ) → body_locals (body_view templates other.items b) ≡ max m (body_locals b)) → n ≡ max m (branches_locals templates bs.items)
+  pub choice_done : (bs : Vec SBranch Global) (other : Vec code_stmt.SlotStmt Global) (m n : ℕ) → x ≡ s.If bs other → ((b : SBody ℕ) → body_locals (body_view templates other.items b) ≡ max m (body_locals b)) → n ≡ max m (branches_locals templates bs.items)
       → body_locals (stmt_view templates x behind) ≡ max n (body_locals behind)
   choice_done bs other m n is f h =
       ap (λ (z : code_stmt.SlotStmt). body_locals (stmt_view templates z behind)) is ∙ ap body_locals (view_If templates bs other behind) ∙ choice_counted templates bs.items (body_view templates other.items) m f behind

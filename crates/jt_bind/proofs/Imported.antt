@@ -1,9 +1,9 @@
 -- Macros that are called by the names of a chain or a library.
-use Rattle.std.proofs.Common.{◌≡◌, ℕ, zero, suc, ◌<◌, Bool, true, false, if◌then◌else◌, List, [], ◌∷◌, length, refl, ap, ◌∙◌, arith, Option, Some, None, inl, inr}
+use Rattle.std.proofs.Common.{◌≡◌, ℕ, zero, suc, ◌<◌, Bool, true, false, if◌then◌else◌, List, [], ◌∷◌, length, refl, ap, ◌∙◌, arith, Option, Some, None, inl, inr, rules}
 use Rattle.std.specs.Prelude.{codes, ◌||◌}
 use Rattle.std.specs.Str.{bytes_eq}
 use Rattle.jt_trees.specs.Expressions.{Text, Expr, name, attribute}
-use Rattle.jt_chains.specs.Chain.{Sources, Home, a_library, same_home, listed, MacroBody, macros, macro_of, is_private, public_macro, Given, one_macro, library, given_to, a_macro, a_block, a_cycle, no_callee, of_library, in_library, callee}
+use Rattle.jt_chains.specs.Chain.{Sources, Home, a_library, same_home, listed, MacroBody, macros, macro_of, is_private, public_macro, Given, given_to, a_macro, no_callee, of_library, in_library, callee}
 use Rattle.jt_chains.specs.Includes.{InOrder}
 use Rattle.jt_chains.specs.Places.{home_at}
 use Rattle.jt_rules.specs.World.{World}
@@ -41,41 +41,22 @@ called_there s inside f k b e =
 
 -- a library that isn't laid out has no such macro
 pub nowhere : (world : World) (order : List Home) (h : Home) (x : Text) → listed h order ≡ false → IsLaidThere world order h x → of_home h (macro_of x (macros world.sources h)) ≡ no_callee
-nowhere world order h x e there = through (macro_of x (macros world.sources h)) refl
-  where
-    through : (o : Option MacroBody) → macro_of x (macros world.sources h) ≡ o → of_home h o ≡ no_callee
-    through None q = refl
-    through (Some m) q = absurd (no_both (there m q) e)
+nowhere world order h x e there = search (arith, rules, no_both)
 
 -- ---- calls by the name of a library
 
 pub member_is : (sources : Sources) (gs : List (Text × Given)) (of x : Text) → bytes_eq of (codes "self") ≡ false → bytes_eq of (codes "loop") ≡ false → callee sources gs (attribute (name of) x) ≡ in_library sources (given_to of gs) x
-member_is sources gs of x e f = through (bytes_eq of (codes "self")) (bytes_eq of (codes "loop")) e f
-  where
-    through : (a b : Bool) → a ≡ false → b ≡ false
-        → (if a then a_block x else if b then (if bytes_eq x (codes "cycle") then a_cycle else no_callee) else in_library sources (given_to of gs) x) ≡ in_library sources (given_to of gs) x
-    through true b p q = absurd (cc)
-    through false true p q = absurd (cc)
-    through false false p q = refl
+member_is sources gs of x e f = search (arith, rules)
 
 pub no_library : (sources : Sources) (o : Option Given) (x : Text) → library_of o ≡ None → in_library sources o x ≡ no_callee
-no_library sources None x e = refl
-no_library sources (Some (one_macro h m)) x e = refl
-no_library sources (Some (library n)) x e = absurd (cc)
+no_library sources a1 x e = search (arith, rules)
 
 library_is : (sources : Sources) (o : Option Given) (x n : Text) → library_of o ≡ Some n → in_library sources o x ≡ of_library sources n (public_macro x (macros sources (a_library n)))
-library_is sources None x n e = absurd (cc)
-library_is sources (Some (one_macro h m)) x n e = absurd (cc)
-library_is sources (Some (library k)) x n e = let same : k ≡ n = cc in ap (λ z. of_library sources z (public_macro x (macros sources (a_library z)))) same
+library_is sources a1 x n e = search (arith, rules)
 
 pub private_is : (sources : Sources) (o : Option Given) (x n : Text) → library_of o ≡ Some n → is_private x ≡ true → in_library sources o x ≡ no_callee
 private_is sources o x n e f =
     library_is sources o x n e ∙ ap (λ b. of_library sources n (if b then None else macro_of x (macros sources (a_library n)))) f
 
 pub public_is : (sources : Sources) (o : Option Given) (x n : Text) → library_of o ≡ Some n → is_private x ≡ false → in_library sources o x ≡ of_home (a_library n) (macro_of x (macros sources (a_library n)))
-public_is sources o x n e f =
-    library_is sources o x n e ∙ ap (λ b. of_library sources n (if b then None else macro_of x (macros sources (a_library n)))) f ∙ same (macro_of x (macros sources (a_library n)))
-  where
-    same : (m : Option MacroBody) → of_library sources n m ≡ of_home (a_library n) m
-    same None = refl
-    same (Some m) = refl
+public_is sources o x n e f = search (arith, rules, library_is)

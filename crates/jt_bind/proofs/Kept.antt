@@ -1,5 +1,5 @@
 -- Of a name that is set twice, its later place.
-use Rattle.std.proofs.Common.{◌≡◌, ℕ, zero, suc, ◌+◌, ◌≤◌, List, [], ◌∷◌, drop, refl, sym, ap, ◌∙◌, Bool, true, false, Option, Some, None, arith, add-zero, zero-add}
+use Rattle.std.proofs.Common.{◌≡◌, ℕ, zero, suc, ◌+◌, ◌≤◌, List, [], ◌∷◌, drop, refl, sym, ap, ◌∙◌, Bool, true, false, Option, Some, None, arith, add-zero, zero-add, rules}
 use Rattle.std.specs.Prelude.{if◌then◌else◌, ◌||◌, ◌==◌}
 use Rattle.std.proofs.lemmas.Slice.Eq.{bytes_eq-Decides}
 use Rattle.std.specs.Str.{bytes_eq}
@@ -12,11 +12,7 @@ use Rattle.jt_bind.specs.Stated.{slot_if}
 -- where none of the names is the same
 none_last : (x : Text) (xs : List Text) (n : ℕ) (f : Option ℕ) → among x xs ≡ false → last_among x xs n f ≡ f
 none_last x [] n f e = refl
-none_last x (y ∷ ys) n f e = through (bytes_eq y x) e (none_last x ys (suc n))
-  where
-    through : (d : Bool) → (d || among x ys) ≡ false → ((g : Option ℕ) → among x ys ≡ false → last_among x ys (suc n) g ≡ g) → last_among x ys (suc n) (if d then Some n else f) ≡ f
-    through true e h = absurd (cc e)
-    through false e h = h f e
+none_last x (y ∷ ys) n f e = search (arith, rules, none_last x ys (suc n))
 
 -- where one of the names is the same, its place is behind
 some_last : (x : Text) (xs : List Text) (n : ℕ) (f : Option ℕ) → among x xs ≡ true → (j : ℕ) × (n ≤ j) × (last_among x xs n f ≡ Some j)
@@ -34,10 +30,7 @@ some_last x (y ∷ ys) n f e = through (bytes_eq y x) (among x ys) refl e (some_
 last_split : (x : Text) (xs : List Text) (n : ℕ) (f : Option ℕ) (i : ℕ) → (g : Option ℕ) × (last_among x xs n f ≡ last_among x (drop i xs) (n + i) g)
 last_split x xs n f zero = (f, ap (λ m. last_among x xs m f) (sym (add-zero n)))
 last_split x [] n f (suc i) = (f, refl)
-last_split x (y ∷ ys) n f (suc i) =
-    let r = last_split x ys (suc n) (if bytes_eq y x then Some n else f) i in
-    let e : suc n + i ≡ n + suc i = omega arith in
-    (r.0, r.1 ∙ ap (λ m. last_among x (drop i ys) m r.0) e)
+last_split x (y ∷ ys) n f (suc i) = search (arith, rules, last_split x ys (suc n) (if bytes_eq y x then Some n else f) i)
 
 same_text : (x : Text) → bytes_eq x x ≡ true
 same_text x = (bytes_eq-Decides x x).1 refl

@@ -1,5 +1,5 @@
 -- Statements that were put behind one another.
-use Rattle.std.proofs.Common.{◌≡◌, ℕ, ◌+◌, List, [], ◌∷◌, ◌++◌, length, map, refl, sym, ap, ◌∙◌, subst, Bool, Option, Vec, Global, append_assoc, append-nil, length-append, arith}
+use Rattle.std.proofs.Common.{◌≡◌, ℕ, ◌+◌, List, [], ◌∷◌, ◌++◌, length, map, refl, sym, ap, ◌∙◌, subst, Bool, Option, Vec, Global, append_assoc, append-nil, length-append, arith, rules}
 use Rattle.std.specs.Prelude.{option_map}
 use Rattle.std.proofs.lemmas.List.{map-append}
 use Rattle.jt_value.specs.Tree.{Tree}
@@ -19,7 +19,8 @@ use Rattle.jt_resolved.specs.declared.program.SlotStmt as code_stmt
 use Rattle.jt_resolved.specs.declared.program.SlotStmt.TheVariants as s
 use Rattle.jt_meaning.specs.Resolve.{followed, alone}
 use Rattle.jt_bind.specs.Scoped.{IsPlaced, RowLeads, BodyLeads}
-use Rattle.jt_bind.specs.Stated.{Branch, Led, IsBody, IsAsked, IsBranch, StandsFor, ChoiceLeads}
+use Rattle.jt_resolved.proofs.StatementViews.{SBranch}
+use Rattle.jt_bind.specs.Stated.{Led, IsBody, IsAsked, IsBranch, StandsFor, ChoiceLeads}
 use Rattle.jt_bind.proofs.LeadingRows.{grown_by}
 use Rattle.jt_resolved.proofs.ExpressionViews.{Entry}
 use Rattle.jt_resolved.proofs.StatementViews.{view_PutPooled, view_Print, view_Assign, view_If, view_For, view_Capture, view_Run, body_push, joined, choice_push}
@@ -66,9 +67,7 @@ module _ (templates : List Text) where
 
   -- a body behind another
   pub led_both : (a b : SBody Constant) (es fs gs : List code_stmt.SlotStmt) (p q r : List Tree) → Led templates a es fs p q → Led templates b fs gs q r → Led templates (followed a b) es gs p r
-  led_both a b es fs gs p q r h g = λ left.
-      lead_both (followed (followed a b) left) (followed b left) left es fs gs p q r
-      (lead_of (followed a (followed b left)) (followed (followed a b) left) (followed b left) es fs p q (sym (followed_again a b left)) (h (followed b left))) (g left)
+  led_both a b es fs gs p q r h g = search (arith, rules, lead_both, lead_of, followed_again)
 
   pub led_of : (a b : SBody Constant) (es fs : List code_stmt.SlotStmt) (p q : List Tree) → a ≡ b → Led templates a es fs p q → Led templates b es fs p q
   led_of a b es fs p q e h = λ left. lead_of (followed a left) (followed b left) left es fs p q (ap (λ z. followed z left) e) (h left)
@@ -97,15 +96,11 @@ module _ (templates : List Text) where
 
   pub print_led : (at : code_place.Place) (pl : Place) (escaping : Bool) (c : SlotExpr Constant) (e : code.SlotExpr) (ss ts : List code_stmt.SlotStmt) (p q : List Tree) → place_view templates at ≡ pl → IsPlaced c (expr_view e) p q
       → ts ≡ ss ++ s.Print at escaping e ∷ [] → Led templates (alone (slots.print pl escaping c)) ss ts p q
-  print_led at pl escaping c e ss ts p q f h =
-      stmt_led (slots.print pl escaping c) (s.Print at escaping e) ss ts p q
-      (λ behind. view_Print templates at escaping e behind ∙ ap (λ z. slots.stmt (slots.print z escaping (expr_view e)) behind) f ∙ ap (λ z. slots.stmt (slots.print pl escaping z) behind) h.shown) h.pooled
+  print_led at pl escaping c e ss ts p q f h = search (arith, rules, stmt_led, view_Print)
 
   pub assign_led : (at : code_place.Place) (pl : Place) (xs : code_targets.Targets) (c : SlotExpr Constant) (e : code.SlotExpr) (ss ts : List code_stmt.SlotStmt) (p q : List Tree) → place_view templates at ≡ pl → IsPlaced c (expr_view e) p q
       → ts ≡ ss ++ s.Assign at xs e ∷ [] → Led templates (alone (slots.assign pl (targets_view xs) c)) ss ts p q
-  assign_led at pl xs c e ss ts p q f h =
-      stmt_led (slots.assign pl (targets_view xs) c) (s.Assign at xs e) ss ts p q
-      (λ behind. view_Assign templates at xs e behind ∙ ap (λ z. slots.stmt (slots.assign z (targets_view xs) (expr_view e)) behind) f ∙ ap (λ z. slots.stmt (slots.assign pl (targets_view xs) z) behind) h.shown) h.pooled
+  assign_led at pl xs c e ss ts p q f h = search (arith, rules, stmt_led, view_Assign)
 
   pub run_led : (u : ℕ) (es : SRow Constant) (row : Vec Entry Global) (ss ts : List code_stmt.SlotStmt) (p q : List Tree) → RowLeads es slots.none [] row.items p q
       → ts ≡ ss ++ s.Run u row ∷ [] → Led templates (alone (slots.run u es)) ss ts p q
@@ -114,9 +109,7 @@ module _ (templates : List Text) where
 
   pub capture_led : (escaping : Bool) (x : code_slot.Slot) (w : SBody Constant) (body : Vec code_stmt.SlotStmt Global) (ss ts : List code_stmt.SlotStmt) (p q : List Tree) → IsBody templates w body.items p q
       → ts ≡ ss ++ s.Capture escaping x body ∷ [] → Led templates (alone (slots.capture escaping (slot_view x) w)) ss ts p q
-  capture_led escaping x w body ss ts p q h =
-      stmt_led (slots.capture escaping (slot_view x) w) (s.Capture escaping x body) ss ts p q
-      (λ behind. view_Capture templates escaping x body behind ∙ ap (λ z. slots.stmt (slots.capture escaping (slot_view x) z) behind) (body_shown w body.items p q h)) (body_pooled w body.items p q h)
+  capture_led escaping x w body ss ts p q h = search (arith, rules, stmt_led, view_Capture, body_shown, body_pooled)
 
   pub data_led : (v : Tree) (i : ℕ) (ss ts : List code_stmt.SlotStmt) (p q : List Tree) → i ≡ length p → q ≡ p ++ v ∷ [] → ts ≡ ss ++ s.PutPooled i ∷ [] → Led templates (alone (slots.put_pooled (own v))) ss ts p q
   data_led v i ss ts p q e = stmt_led (slots.put_pooled (own v)) (s.PutPooled i) ss ts p q (λ behind. view_PutPooled templates i behind ∙ ap (λ n. slots.stmt (slots.put_pooled n) behind) e)
@@ -148,47 +141,45 @@ module _ (templates : List Text) where
   -- ---- choices
 
   -- the other part in another form
-  pub choice_other : (whole a b : SBody Constant) (bs : List Branch) (p q : List Tree) → a ≡ b → ChoiceLeads templates whole a bs p q → ChoiceLeads templates whole b bs p q
+  pub choice_other : (whole a b : SBody Constant) (bs : List SBranch) (p q : List Tree) → a ≡ b → ChoiceLeads templates whole a bs p q → ChoiceLeads templates whole b bs p q
   choice_other whole a b bs p q = let P : SBody Constant → Type 0 = λ z. ChoiceLeads templates whole z bs p q in subst P
 
   -- no branch yet
-  pub choice_same : (whole : SBody Constant) (bs : List Branch) (p : List Tree) → bs ≡ [] → ChoiceLeads templates whole whole bs p p
-  choice_same whole bs p e =
-      let P : List Branch → Type 0 = λ l. ChoiceLeads templates whole whole l p p in
-      subst P (sym e) (record { shown = λ f left last h. record { alone = h.alone; before = h.before; until = h.until }; pooled = refl })
+  pub choice_same : (whole : SBody Constant) (bs : List SBranch) (p : List Tree) → bs ≡ [] → ChoiceLeads templates whole whole bs p p
+  choice_same whole bs p e = search (arith, rules)
 
   -- a branch whose body is written in another form
-  pub branch_as : (pl : Place) (c : SlotExpr Constant) (a b : SBody Constant) (x : Branch) (p q : List Tree) → a ≡ b → IsBranch templates pl c a x p q → IsBranch templates pl c b x p q
+  pub branch_as : (pl : Place) (c : SlotExpr Constant) (a b : SBody Constant) (x : SBranch) (p q : List Tree) → a ≡ b → IsBranch templates pl c a x p q → IsBranch templates pl c b x p q
   branch_as pl c a b x p q = let P : SBody Constant → Type 0 = λ z. IsBranch templates pl c z x p q in subst P
 
   -- a branch more
-  pub branch_led : (whole rest b : SBody Constant) (pl : Place) (c : SlotExpr Constant) (x : Branch) (bs cs : List Branch) (p q t : List Tree)
+  pub branch_led : (whole rest b : SBody Constant) (pl : Place) (c : SlotExpr Constant) (x : SBranch) (bs cs : List SBranch) (p q t : List Tree)
       → ChoiceLeads templates whole (alone (slots.if_else pl c b rest)) bs p q → IsBranch templates pl c b x q t → cs ≡ bs ++ x ∷ [] → ChoiceLeads templates whole rest cs p t
   branch_led whole rest b pl c x bs cs p q t so is w = subst P (sym w) (record { shown = shown; pooled = pooled })
     where
-      P : List Branch → Type 0
+      P : List SBranch → Type 0
       P l = ChoiceLeads templates whole rest l p t
 
       r : List Tree
       r = is.between
 
-      h : IsPlaced c (expr_view x.1) q r
+      h : IsPlaced c (expr_view x.condition) q r
       h = is.asked
 
-      g : IsBody templates b x.2.items r t
+      g : IsBody templates b x.body.items r t
       g = is.taken
 
       first : length r ≡ length q + length (expr_values c)
       first = grown_by q (expr_values c) r h.pooled
 
       second : length t ≡ length q + length (expr_values c) + length (body_values b)
-      second = grown_by r (body_values b) t (body_pooled b x.2.items r t g) ∙ ap (λ n. n + length (body_values b)) first
+      second = grown_by r (body_values b) t (body_pooled b x.body.items r t g) ∙ ap (λ n. n + length (body_values b)) first
 
       same : (z behind : SBody ℕ) → z ≡ placed_body rest (length t) → joined templates x z behind ≡ slots.stmt (placed_stmt (slots.if_else pl c b rest) (length q)) behind
       same z behind k =
-          ap (λ y. slots.stmt (slots.if_else y (expr_view x.1) (body_view templates x.2.items slots.end) z) behind) is.stands
-          ∙ ap (λ y. slots.stmt (slots.if_else pl y (body_view templates x.2.items slots.end) z) behind) h.shown
-          ∙ ap (λ y. slots.stmt (slots.if_else pl (placed_expr c (length q)) y z) behind) (body_shown b x.2.items r t g ∙ ap (placed_body b) first)
+          ap (λ y. slots.stmt (slots.if_else y (expr_view x.condition) (body_view templates x.body.items slots.end) z) behind) is.stands
+          ∙ ap (λ y. slots.stmt (slots.if_else pl y (body_view templates x.body.items slots.end) z) behind) h.shown
+          ∙ ap (λ y. slots.stmt (slots.if_else pl (placed_expr c (length q)) y z) behind) (body_shown b x.body.items r t g ∙ ap (placed_body b) first)
           ∙ ap (λ y. slots.stmt (slots.if_else pl (placed_expr c (length q)) (placed_body b (length q + length (expr_values c))) y) behind) (k ∙ ap (placed_body rest) second)
 
       -- the branch in front of what stands for the other part
@@ -216,12 +207,12 @@ module _ (templates : List Text) where
 
       pooled : t ++ body_values rest ≡ p ++ body_values whole
       pooled =
-          ap (λ l. l ++ body_values rest) (body_pooled b x.2.items r t g ∙ ap (λ l. l ++ body_values b) h.pooled)
+          ap (λ l. l ++ body_values rest) (body_pooled b x.body.items r t g ∙ ap (λ l. l ++ body_values b) h.pooled)
           ∙ append_assoc (q ++ expr_values c) (body_values b) (body_values rest) ∙ append_assoc q (expr_values c) (body_values b ++ body_values rest)
           ∙ ap (λ l. q ++ l) (sym (append-nil (expr_values c ++ (body_values b ++ body_values rest)))) ∙ so.pooled
 
   -- all branches, and the else part
-  pub choice_led : (whole last : SBody Constant) (bs : Vec Branch Global) (other : Vec code_stmt.SlotStmt Global) (ss ts : List code_stmt.SlotStmt) (p q r : List Tree) → ChoiceLeads templates whole last bs.items p q → IsBody templates last other.items q r
+  pub choice_led : (whole last : SBody Constant) (bs : Vec SBranch Global) (other : Vec code_stmt.SlotStmt Global) (ss ts : List code_stmt.SlotStmt) (p q r : List Tree) → ChoiceLeads templates whole last bs.items p q → IsBody templates last other.items q r
       → ts ≡ ss ++ s.If bs other ∷ [] → Led templates whole ss ts p r
   choice_led whole last bs other ss ts p q r h g e = λ left.
       let all = h.shown (body_view templates other.items) left (length r)

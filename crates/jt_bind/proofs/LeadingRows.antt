@@ -1,8 +1,8 @@
 -- Expressions and rows that were put behind one another.
-use Rattle.std.proofs.Common.{◌≡◌, ℕ, ◌+◌, List, [], ◌∷◌, ◌++◌, length, sym, ap, ◌∙◌, subst, Bool, Some, None, append_assoc, append-nil, length-append}
+use Rattle.std.proofs.Common.{◌≡◌, ℕ, ◌+◌, List, [], ◌∷◌, ◌++◌, length, sym, ap, ◌∙◌, subst, Bool, Some, None, append_assoc, append-nil, length-append, arith, rules}
 use Rattle.jt_value.specs.Tree.{Tree}
 use Rattle.jt_trees.specs.Expressions as trees
-use Rattle.jt_resolved.specs.Pool.{Constant, expr_values, row_values, placed_expr, placed_row}
+use Rattle.jt_resolved.specs.Pool.{Constant}
 use Rattle.jt_resolved.specs.Slots as slots
 use Rattle.jt_resolved.specs.Slots.{SlotExpr, SRow, Maker}
 use Rattle.jt_resolved.specs.View.{expr_view, row_view}
@@ -23,16 +23,10 @@ pub both_pooled : (p xs ys q r : List Tree) → q ≡ p ++ xs → r ≡ q ++ ys 
 both_pooled p xs ys q r e f = f ∙ ap (λ l. l ++ ys) e ∙ append_assoc p xs ys
 
 pub conjunction_placed : (a b : SlotExpr Constant) (x y z : SlotExpr ℕ) (p q r : List Tree) → IsPlaced a x p q → IsPlaced b y q r → z ≡ slots.conjunction x y → IsPlaced (slots.conjunction a b) z p r
-conjunction_placed a b x y z p q r h g e = record {
-  shown = e ∙ ap (λ w. slots.conjunction w y) h.shown ∙ ap (slots.conjunction (placed_expr a (length p))) (g.shown ∙ ap (placed_expr b) (grown_by p (expr_values a) q h.pooled));
-  pooled = both_pooled p (expr_values a) (expr_values b) q r h.pooled g.pooled;
-}
+conjunction_placed a b x y z p q r h g e = search (arith, rules, grown_by, both_pooled)
 
 pub disjunction_placed : (a b : SlotExpr Constant) (x y z : SlotExpr ℕ) (p q r : List Tree) → IsPlaced a x p q → IsPlaced b y q r → z ≡ slots.disjunction x y → IsPlaced (slots.disjunction a b) z p r
-disjunction_placed a b x y z p q r h g e = record {
-  shown = e ∙ ap (λ w. slots.disjunction w y) h.shown ∙ ap (slots.disjunction (placed_expr a (length p))) (g.shown ∙ ap (placed_expr b) (grown_by p (expr_values a) q h.pooled));
-  pooled = both_pooled p (expr_values a) (expr_values b) q r h.pooled g.pooled;
-}
+disjunction_placed a b x y z p q r h g e = search (arith, rules, grown_by, both_pooled)
 
 -- ---- rows
 
@@ -40,20 +34,10 @@ pub row_both : (a b c : SRow Constant) (es fs gs : List Entry) (p q r : List Tre
 row_both a b c es fs gs p q r h g = record { shown = g.shown ∙ h.shown; pooled = g.pooled ∙ h.pooled }
 
 pub row_item : (c : SlotExpr Constant) (left : SRow Constant) (x : code.SlotExpr) (es fs : List Entry) (p q : List Tree) → IsPlaced c (expr_view x) p q → fs ≡ es ++ (None, x) ∷ [] → RowLeads (slots.item c left) left es fs p q
-row_item c left x es fs p q h e = record {
-  shown = ap (λ l. row_view l (placed_row left (length q))) e ∙ row_push es (None, x) (placed_row left (length q))
-      ∙ ap (λ y. row_view es (slots.item y (placed_row left (length q)))) h.shown
-      ∙ ap (λ n. row_view es (slots.item (placed_expr c (length p)) (placed_row left n))) (grown_by p (expr_values c) q h.pooled);
-  pooled = ap (λ l. l ++ row_values left) h.pooled ∙ append_assoc p (expr_values c) (row_values left);
-}
+row_item c left x es fs p q h e = search (arith, rules, row_push, grown_by, append_assoc)
 
 pub row_aside : (i : ℕ) (c : SlotExpr Constant) (left : SRow Constant) (x : code.SlotExpr) (es fs : List Entry) (p q : List Tree) → IsPlaced c (expr_view x) p q → fs ≡ es ++ (Some i, x) ∷ [] → RowLeads (slots.aside i c left) left es fs p q
-row_aside i c left x es fs p q h e = record {
-  shown = ap (λ l. row_view l (placed_row left (length q))) e ∙ row_push es (Some i, x) (placed_row left (length q))
-      ∙ ap (λ y. row_view es (slots.aside i y (placed_row left (length q)))) h.shown
-      ∙ ap (λ n. row_view es (slots.aside i (placed_expr c (length p)) (placed_row left n))) (grown_by p (expr_values c) q h.pooled);
-  pooled = ap (λ l. l ++ row_values left) h.pooled ∙ append_assoc p (expr_values c) (row_values left);
-}
+row_aside i c left x es fs p q h e = search (arith, rules, row_push, grown_by, append_assoc)
 
 -- a row of which all is done
 pub made_placed : (k : Maker) (whole : SRow Constant) (es : List Entry) (z : SlotExpr ℕ) (p q : List Tree) → RowLeads whole slots.none [] es p q → z ≡ slots.made k (row_view es slots.none) → IsPlaced (slots.made k whole) z p q

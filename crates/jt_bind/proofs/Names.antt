@@ -1,5 +1,5 @@
 -- Names with places.
-use Rattle.std.proofs.Common.{◌≡◌, ℕ, suc, ◌+◌, ◌<◌, Bool, true, false, List, [], ◌∷◌, length, drop, get_or, refl, sym, ap, ◌∙◌, Option, Some, None, if◌then◌else◌, add-one}
+use Rattle.std.proofs.Common.{◌≡◌, ℕ, suc, ◌+◌, ◌<◌, false, List, [], ◌∷◌, length, drop, get_or, refl, sym, ap, ◌∙◌, Option, Some, None, if◌then◌else◌, add-one, arith, rules}
 use Rattle.std.proofs.lemmas.List.{drop_more}
 use Rattle.std.proofs.lemmas.Slice.Eq.{bytes_eq-Decides}
 use Rattle.std.specs.Str.{bytes_eq}
@@ -20,11 +20,7 @@ found_or (Some i) s = Some (local i)
 -- names that are bound further inside
 pub bound_found : (x : Text) (xs : List Text) (n : ℕ) (f : Option ℕ) (s : Option Slot) (t : Table) → found_or f s ≡ slot_in x t → found_or (last_among x xs n f) s ≡ slot_in x (bound_table xs n t)
 bound_found x [] n f s t h = h
-bound_found x (y ∷ ys) n f s t h = bound_found x ys (suc n) (if bytes_eq y x then Some n else f) s ((y, local n) ∷ t) (through (bytes_eq y x))
-  where
-    through : (b : Bool) → found_or (if b then Some n else f) s ≡ (if b then Some (local n) else slot_in x t)
-    through true = refl
-    through false = h
+bound_found x (y ∷ ys) n f s t h = search (arith, rules, bound_found x ys (suc n) (if bytes_eq y x then Some n else f) s ((y, local n) ∷ t))
 
 -- what is left of names
 pub names_left : (ks : List (Bor Text)) (i : ℕ) (k : Bor Text) → i < length ks → k ≡ get_or ks i k → texts (drop i ks) ≡ k.now ∷ texts (drop (i + 1) ks)
@@ -33,10 +29,7 @@ names_left ks i k lt is = ap texts (drop_more ks i k lt) ∙ ap (λ (z : Bor Tex
 -- one name more gets its place
 pub placed_next : (ks : List (Bor Text)) (i : ℕ) (d : Bor Text) (x : Text) (n n' : ℕ) (f f' : Option ℕ) → i < length ks → n' ≡ n + 1 → f' ≡ (if bytes_eq (get_or ks i d).now x then Some n else f)
     → last_among x (texts (drop (i + 1) ks)) n' f' ≡ last_among x (texts (drop i ks)) n f
-placed_next ks i d x n n' f f' lt e h =
-    ap (λ m. last_among x (texts (drop (i + 1) ks)) m f') (e ∙ add-one n)
-    ∙ ap (λ o. last_among x (texts (drop (i + 1) ks)) (suc n) o) h
-    ∙ ap (λ (l : List (Bor Text)). last_among x (texts l) n f) (sym (drop_more ks i d lt))
+placed_next ks i d x n n' f f' lt e h = search (arith, rules, add-one, drop_more)
 
 -- ---- fields of loops
 
@@ -45,11 +38,7 @@ Differ x [] = Unit {0}
 Differ x (f ∷ fs) = (x ≡ f.0 → ⊥) × Differ x fs
 
 different : (x k : Text) → (x ≡ k → ⊥) → bytes_eq k x ≡ false
-different x k n = through (bytes_eq k x) refl
-  where
-    through : (b : Bool) → bytes_eq k x ≡ b → b ≡ false
-    through true e = absurd (n (sym ((bytes_eq-Decides k x).0 e)))
-    through false e = refl
+different x k n = search (arith, rules, bytes_eq-Decides)
 
 -- a name that is none of these fields'
 pub no_field : (x : Text) (fs : List (Text × Field)) → Differ x fs → field_among x fs ≡ None

@@ -1,5 +1,5 @@
 -- The bodies of a chain's blocks by their places.
-use Rattle.std.proofs.Common.{◌≡◌, ℕ, zero, suc, ◌+◌, ◌<◌, ◌≤◌, List, [], ◌∷◌, ◌++◌, length, map, drop, get_or, refl, sym, ap, ◌∙◌, arith, Some, zero-add, add-zero, add-one}
+use Rattle.std.proofs.Common.{◌≡◌, ℕ, zero, suc, ◌+◌, ◌<◌, ◌≤◌, List, [], ◌∷◌, ◌++◌, length, map, drop, get_or, refl, sym, ap, ◌∙◌, arith, Some, zero-add, add-zero, add-one, rules}
 use Rattle.std.proofs.lemmas.List.{length-map, at_drop_all, drop_more}
 use Rattle.jt_value.specs.Tree.{Tree}
 use Rattle.jt_trees.specs.Expressions.{Text}
@@ -24,10 +24,7 @@ counted_next : (ts : List Template) (n : ℕ) (bs : List Block) (i : ℕ) (d : B
     → drop i (counted_from n (map (block_view ts) bs)) ≡ (n + i, block_view ts (get_or bs i d)) ∷ drop (suc i) (counted_from n (map (block_view ts) bs))
 counted_next ts n [] i d lt = absurd (omega arith)
 counted_next ts n (b ∷ bs) zero d lt = ap (λ (m : ℕ). (m, block_view ts b) ∷ counted_from (suc n) (map (block_view ts) bs)) (sym (add-zero n))
-counted_next ts n (b ∷ bs) (suc i) d lt =
-    let less : i < length bs = omega arith in
-    let e : suc n + i ≡ n + suc i = omega arith in
-    counted_next ts (suc n) bs i d less ∙ ap (λ (m : ℕ). (m, block_view ts (get_or bs i d)) ∷ drop (suc i) (counted_from (suc n) (map (block_view ts) bs))) e
+counted_next ts n (b ∷ bs) (suc i) d lt = search (arith, rules, counted_next ts (suc n) bs i d, get_or)
 
 counted_long : (n : ℕ) (bs : List BlockBody) → length (counted_from n bs) ≡ length bs
 counted_long n [] = refl
@@ -41,11 +38,7 @@ module _ (s : Chains) (us : List Block) (all : map (block_view (chain_view s.cha
   numbered = numbered_bodies (world_in s) (home_in s)
 
   numbered_next : (i : ℕ) (d : Block) → i < length us → drop i numbered ≡ (i, shown (get_or us i d)) ∷ drop (i + 1) numbered
-  numbered_next i d lt =
-      ap (λ (z : List BlockBody). drop i (counted_from 0 z)) (sym all) ∙ counted_next (chain_view s.chain.now).templates 0 us i d lt
-      ∙ ap (λ (m : ℕ). (m, shown (get_or us i d)) ∷ drop (suc i) (counted_from 0 (map shown us))) (zero-add i)
-      ∙ ap (λ (z : List BlockBody). (i, shown (get_or us i d)) ∷ drop (suc i) (counted_from 0 z)) all
-      ∙ ap (λ (m : ℕ). (i, shown (get_or us i d)) ∷ drop m numbered) (sym (add-one i))
+  numbered_next i d lt = search (arith, rules, counted_next, get_or, zero-add, add-one)
 
   pub numbered_end : (i : ℕ) → length us ≤ i → drop i numbered ≡ []
   numbered_end i h =

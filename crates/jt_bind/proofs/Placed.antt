@@ -1,5 +1,5 @@
 -- Where tags stand, and the scopes around them.
-use Rattle.std.proofs.Common.{◌≡◌, ℕ, ◌+◌, List, [], ◌∷◌, ◌++◌, length, map, refl, ap, ◌∙◌, Bool, true, false, Option, Some, None, Global}
+use Rattle.std.proofs.Common.{◌≡◌, ℕ, ◌+◌, List, [], ◌∷◌, ◌++◌, length, map, refl, ap, ◌∙◌, Bool, true, false, Option, Some, None, Global, arith, rules}
 use Rattle.std.specs.Prelude.{option_map, unwrap_or, slice_get, if◌then◌else◌}
 use Rattle.std.specs.declared.rc.Rc.{Rc}
 use Rattle.std.proofs.lemmas.List.{map-append}
@@ -33,12 +33,7 @@ framed_push (g ∷ fs) f t = framed_push fs f (bound_table (texts g.names.items)
 
 pub entered_more : (rs : List (Rc NameScope Global)) (r : Rc NameScope Global) (f : NameScope) (xs : List Text) (n : ℕ) (t : Table) → r.value ≡ f → texts f.names.items ≡ xs → f.first ≡ n
     → framed (map (λ z. z.value) (rs ++ r ∷ [])) t ≡ bound_table xs n (framed (map (λ z. z.value) rs) t)
-entered_more rs r f xs n t e g h =
-    ap (λ l. framed l t) (map-append (λ (z : Rc NameScope Global). z.value) rs (r ∷ []))
-    ∙ framed_push (map (λ z. z.value) rs) r.value t
-    ∙ ap (λ (z : NameScope). bound_table (texts z.names.items) z.first (framed (map (λ z. z.value) rs) t)) e
-    ∙ ap (λ l. bound_table l f.first (framed (map (λ z. z.value) rs) t)) g
-    ∙ ap (λ m. bound_table xs m (framed (map (λ z. z.value) rs) t)) h
+entered_more rs r f xs n t e g h = search (arith, rules, map-append, framed_push)
 
 -- names bound at a place
 pub spot_bound : (sp : Spot) (xs : List Text) (t : Table) (n : ℕ) → t ≡ bound_table xs sp.free sp.table → n ≡ sp.free + length xs → record sp { table = t; free = n } ≡ bound_all xs sp

@@ -1,5 +1,5 @@
 -- Members of a list by their places.
-use Rattle.std.proofs.Common.{◌≡◌, ℕ, zero, suc, ◌+◌, ◌<◌, ◌≤◌, Bool, true, false, List, [], ◌∷◌, length, drop, get_or, refl, ap, ◌∙◌, arith, Option, Some, if◌then◌else◌}
+use Rattle.std.proofs.Common.{◌≡◌, ℕ, zero, suc, ◌+◌, ◌<◌, ◌≤◌, Bool, true, false, List, [], ◌∷◌, length, drop, get_or, refl, ap, ◌∙◌, arith, Option, Some, if◌then◌else◌, rules}
 use Rattle.std.specs.Prelude.{filter}
 use Rattle.std.proofs.lemmas.List.{drop_more, at_drop_all}
 use Rattle.jt_chains.specs.Chain.{BlockBody}
@@ -15,12 +15,7 @@ drop_counted (suc i) k (x ∷ xs) = drop_counted i (suc k) xs ∙ ap (λ n. coun
 -- the first body of a block is one of them
 pub first_within : (p : ℕ × BlockBody → Bool) (k i : ℕ) (bs : List BlockBody) → first_body (filter p (counted_from k bs)) ≡ Some i → i < k + length bs
 first_within p k i [] e = absurd (cc)
-first_within p k i (b ∷ bs) e = through (p (k, b)) e (first_within p (suc k) i bs)
-  where
-    through : (q : Bool) → first_body (if q then (k, b) ∷ filter p (counted_from (suc k) bs) else filter p (counted_from (suc k) bs)) ≡ Some i
-        → (first_body (filter p (counted_from (suc k) bs)) ≡ Some i → i < suc k + length bs) → i < k + length (b ∷ bs)
-    through true e f = (let same : k ≡ i = (cc) in omega arith)
-    through false e f = (let below : i < suc k + length bs = f e in omega arith)
+first_within p k i (b ∷ bs) e = search (arith, rules, first_within p (suc k) i bs)
 
 -- what is left of them from one of them on
 pub counted_left : {A : Type 0} (i : ℕ) (xs : List A) (d : A) → i < length xs → drop i (counted_from 0 xs) ≡ (i, get_or xs i d) ∷ counted_from (suc i) (drop (i + 1) xs)
@@ -37,9 +32,4 @@ next_of false k n m o e lt f = (let same : k ≡ n = (cc) in omega arith)
 -- the next body of a block that isn't required is one of them
 pub next_within : (p : ℕ × BlockBody → Bool) (k n : ℕ) (bs : List BlockBody) → next_given (filter p (counted_from k bs)) ≡ Some n → n < k + length bs
 next_within p k n [] e = absurd (cc)
-next_within p k n (b ∷ bs) e = through (p (k, b)) e (next_within p (suc k) n bs)
-  where
-    through : (q : Bool) → next_given (if q then (k, b) ∷ filter p (counted_from (suc k) bs) else filter p (counted_from (suc k) bs)) ≡ Some n
-        → (next_given (filter p (counted_from (suc k) bs)) ≡ Some n → n < suc k + length bs) → n < k + length (b ∷ bs)
-    through true e f = next_of b.required k n (k + length (b ∷ bs)) (next_given (filter p (counted_from (suc k) bs))) e (omega arith) (λ g. let below : n < suc k + length bs = f g in omega arith)
-    through false e f = (let below : n < suc k + length bs = f e in omega arith)
+next_within p k n (b ∷ bs) e = search (arith, rules, next_within p (suc k) n bs, next_of)

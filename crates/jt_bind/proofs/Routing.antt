@@ -1,5 +1,5 @@
 -- Routines that were put behind one another.
-use Rattle.std.proofs.Common.{◌≡◌, ℕ, ◌+◌, true, false, List, [], ◌∷◌, ◌++◌, length, map, refl, sym, ap, ◌∙◌, arith, subst, max, Vec, Global, append_assoc, append-nil, length-append}
+use Rattle.std.proofs.Common.{◌≡◌, ℕ, ◌+◌, true, false, List, [], ◌∷◌, ◌++◌, length, map, refl, sym, ap, ◌∙◌, arith, subst, max, Vec, Global, append_assoc, append-nil, length-append, rules}
 use Rattle.std.proofs.lemmas.List.{map-append}
 use Rattle.jt_value.specs.Tree.{Tree}
 use Rattle.jt_trees.specs.Expressions.{Text}
@@ -9,7 +9,7 @@ use Rattle.jt_rules.specs.World.{World}
 use Rattle.jt_meaning.specs.Programs.{entry_routines}
 use Rattle.jt_meaning.specs.Resolve.{Spot, resolved_routine, chain_routine}
 use Rattle.jt_resolved.specs.Locals.{body_locals}
-use Rattle.jt_resolved.specs.Pool.{Constant, body_values, routines_values, placed_body, placed_routine, placed_routines}
+use Rattle.jt_resolved.specs.Pool.{Constant, body_values, routines_values, placed_body, placed_routines}
 use Rattle.jt_resolved.specs.Slots as slots
 use Rattle.jt_resolved.specs.Slots.{SBody}
 use Rattle.jt_resolved.specs.View.{body_view, routine_view}
@@ -40,15 +40,7 @@ module _ (templates : List Text) where
       shown = ap (λ i. R i n (body_view templates body.items slots.end)) e ∙ ap (λ j. R count j (body_view templates body.items slots.end)) f ∙ ap (λ b. R count m b) (body_shown templates w body.items p q h)
 
   pub routine_lead : (c : Planned) (left : List Planned) (r : Routine) (rs ss : List Routine) (p q : List Tree) → IsRoutine templates c r p q → ss ≡ rs ++ r ∷ [] → RoutinesLead templates (c ∷ left) left rs ss p q
-  routine_lead c left r rs ss p q h e =
-      let long : length q ≡ length p + length (body_values c.body) = ap length h.pooled ∙ length-append p (body_values c.body) in
-      record {
-        shown = ap (λ l. map (routine_view templates) l ++ placed_routines left (length q)) e ∙ ap (λ l. l ++ placed_routines left (length q)) (map-append (routine_view templates) rs (r ∷ []))
-            ∙ append_assoc (map (routine_view templates) rs) (routine_view templates r ∷ []) (placed_routines left (length q))
-            ∙ ap (λ z. map (routine_view templates) rs ++ z ∷ placed_routines left (length q)) h.shown
-            ∙ ap (λ n. map (routine_view templates) rs ++ placed_routine c (length p) ∷ placed_routines left n) long;
-        pooled = ap (λ l. l ++ routines_values left) h.pooled ∙ append_assoc p (body_values c.body) (routines_values left);
-      }
+  routine_lead c left r rs ss p q h e = search (arith, rules, length-append, map-append, append_assoc)
 
   pub routines_both : (a b c : List Planned) (rs ss ts : List Routine) (p q r : List Tree) → RoutinesLead templates a b rs ss p q → RoutinesLead templates b c ss ts q r → RoutinesLead templates a c rs ts p r
   routines_both a b c rs ss ts p q r h g = record { shown = g.shown ∙ h.shown; pooled = g.pooled ∙ h.pooled }
@@ -73,9 +65,7 @@ module _ (templates : List Text) where
   -- a routine of other names and at a place that is another
   pub routine_as : (world : World) (order : List Home) (xs ys : List Text) (b c : Body) (sp sq : Spot) (r : Routine) (p q : List Tree) → IsRoutine templates (resolved_routine world order xs b sp) r p q → xs ≡ ys → b ≡ c → sp ≡ sq
       → IsRoutine templates (resolved_routine world order ys c sq) r p q
-  routine_as world order xs ys b c sp sq r p q h e f g =
-      let P : Planned → Type 0 = λ z. IsRoutine templates z r p q in
-      subst P (ap (λ z. resolved_routine world order z b sp) e ∙ ap (λ z. resolved_routine world order ys z sp) f ∙ ap (resolved_routine world order ys c) g) h
+  routine_as world order xs ys b c sp sq r p q h e f g = search (arith, rules)
 
 -- ---- a chain itself, and nothing of a library
 
@@ -96,11 +86,7 @@ values_append (c ∷ cs) ds = ap (λ vs. body_values c.body ++ vs) (values_appen
 
 pub placed_append : (cs ds : List Planned) (n : ℕ) → placed_routines (cs ++ ds) n ≡ placed_routines cs n ++ placed_routines ds (n + length (routines_values cs))
 placed_append [] ds n = (let e : n ≡ n + 0 = omega arith in ap (placed_routines ds) e)
-placed_append (c ∷ cs) ds n =
-    let k = length (body_values c.body) in
-    let e : n + k + length (routines_values cs) ≡ n + length (body_values c.body ++ routines_values cs) = omega (arith, length-append (body_values c.body) (routines_values cs)) in
-    ap (λ rs. placed_routine c n ∷ rs) (placed_append cs ds (n + k))
-    ∙ ap (λ m. placed_routine c n ∷ (placed_routines cs (n + k) ++ placed_routines ds m)) e
+placed_append (c ∷ cs) ds n = search (arith, rules, length-append, placed_append cs ds)
 
 module _ (ts : List Text) (whole : List Planned) (before : List Routine) (old : List Tree) where
   -- all are left to do
@@ -110,20 +96,8 @@ module _ (ts : List Text) (whole : List Planned) (before : List Routine) (old : 
   -- one part less is left
   pub lead_turn : (part left : List Planned) (now after : List Routine) (at new : List Tree) → RoutinesLead ts whole (part ++ left) before now old at → AreRoutines ts part now after at new
       → RoutinesLead ts whole left before after old new
-  lead_turn part left now after at new l a =
-      let grown : length new ≡ length at + length (routines_values part) = ap length a.pooled ∙ length-append at (routines_values part) in
-      record {
-        shown = ap (λ rs. rs ++ placed_routines left (length new)) a.shown
-            ∙ append_assoc (map (routine_view ts) now) (placed_routines part (length at)) (placed_routines left (length new))
-            ∙ ap (λ n. map (routine_view ts) now ++ (placed_routines part (length at) ++ placed_routines left n)) grown
-            ∙ ap (λ rs. map (routine_view ts) now ++ rs) (sym (placed_append part left (length at)))
-            ∙ l.shown;
-        pooled = ap (λ vs. vs ++ routines_values left) a.pooled ∙ append_assoc at (routines_values part) (routines_values left) ∙ ap (λ vs. at ++ vs) (sym (values_append part left)) ∙ l.pooled;
-      }
+  lead_turn part left now after at new l a = search (arith, rules, length-append, append_assoc, placed_append, values_append)
 
 -- none is left
 pub lead_last : (ts : List Text) (whole : List Planned) (after : List Routine) (old new : List Tree) → RoutinesLead ts whole [] [] after old new → AreRoutines ts whole [] after old new
-lead_last ts whole after old new l = record {
-  shown = sym (append-nil (map (routine_view ts) after)) ∙ l.shown;
-  pooled = sym (append-nil new) ∙ l.pooled;
-}
+lead_last ts whole after old new l = search (arith, rules, append-nil)

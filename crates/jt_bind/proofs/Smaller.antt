@@ -10,7 +10,7 @@ use Rattle.jt_trees.proofs.Left.{Branch, Entry}
 abbrev pub deepest : List Stmt → ℕ
 deepest us = most (λ y. size-Stmt y) us
 
-pub branch_smaller : (x : Stmt) (bs : Vec Branch Global) (other : Vec Stmt Global) (cs : List Branch) (i : ℕ) (b : Branch) (us : List Stmt) → x ≡ v.If bs other → cs ≡ bs.items → i < length cs → b ≡ get_or cs i b → us ≡ b.2.items → deepest us < size-Stmt x
+pub branch_smaller : (x : Stmt) (bs : Vec Branch Global) (other : Vec Stmt Global) (cs : List Branch) (i : ℕ) (b : Branch) (us : List Stmt) → x ≡ v.If bs other → cs ≡ bs.items → i < length cs → b ≡ get_or cs i b → us ≡ b.body.items → deepest us < size-Stmt x
 branch_smaller x bs other cs i b us is e lt at f = search (rules, the_lemmas)
 
 pub other_smaller : (x : Stmt) (bs : Vec Branch Global) (other : Vec Stmt Global) (us : List Stmt) → x ≡ v.If bs other → us ≡ other.items → deepest us < size-Stmt x

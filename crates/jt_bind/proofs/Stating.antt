@@ -1,5 +1,5 @@
 -- What statements are resolved to, part by part.
-use Rattle.std.proofs.Common.{◌≡◌, ℕ, zero, suc, ◌+◌, ◌<◌, List, [], ◌∷◌, ◌++◌, length, map, drop, get_or, refl, sym, ap, ◌∙◌, subst, Option, None, Vec, Global, String, string_bytes, add-one, append_assoc}
+use Rattle.std.proofs.Common.{◌≡◌, ℕ, zero, suc, ◌+◌, ◌<◌, List, [], ◌∷◌, ◌++◌, length, map, drop, get_or, refl, sym, ap, ◌∙◌, Option, None, Vec, Global, String, string_bytes, add-one, append_assoc, arith, rules}
 use Rattle.std.proofs.lemmas.List.{drop_more, map-append}
 use Rattle.std.specs.Prelude.{if◌then◌else◌, option_map}
 use denote.Ref.{Bor}
@@ -25,7 +25,7 @@ use Rattle.jt_resolved.specs.declared.program.SlotExpr as code
 use Rattle.jt_resolved.specs.declared.program.Slot as code_slot
 use Rattle.jt_resolved.specs.declared.program.SlotStmt.{SlotStmt}
 use Rattle.jt_meaning.specs.Layout.{Table, slot_in}
-use Rattle.jt_meaning.specs.Resolve.{Spot, read_from, followed, alone, copied, handed_on, resolved, resolved_values, resolved_body, resolved_condition, resolved_filters, grown, kept_slots, fresh_targets, bound_all, place}
+use Rattle.jt_meaning.specs.Resolve.{Spot, read_from, followed, alone, copied, handed_on, resolved, resolved_values, resolved_condition, resolved_filters, grown, kept_slots, fresh_targets, bound_all, place}
 use Rattle.jt_names.specs.Names.{texts}
 use Rattle.jt_bind.specs.Chains.{Chains}
 use Rattle.jt_bind.specs.Names.{last_among}
@@ -52,22 +52,13 @@ module _ (templates : List Text) (pl : Place) (t : Table) (ks : List (Bor Text))
   pub copy_step : (d : Bor Text) (o : Option Slot) (e : SlotExpr ℕ) (ss ts : List SlotStmt) → o ≡ slot_in (get_or ks i d).now t → i < length ks → n' ≡ n + 1
       → ((c : SlotExpr Constant) (p q : List Tree) → IsPlaced c e p q → Led templates (alone (slots.assign pl (one (local n)) c)) ss ts p q) → ((p : List Tree) → IsPlaced (read_from o) e p p)
       → (behind : SBody Constant) (p : List Tree) → BodyLeads templates (copied pl t n (texts (drop i ks)) behind) (copied pl t n' (texts (drop (i + 1) ks)) behind) ss ts p p
-  copy_step d o e ss ts has lt more put reads behind p =
-      let read = read_from (slot_in (get_or ks i d).now t) in
-      let P : Option Slot → Type 0 = λ z. IsPlaced (read_from z) e p p in
-      lead_of templates _ _ _ ss ts p p
-      (ap (λ (m : ℕ). slots.stmt (slots.assign pl (one (local n)) read) (copied pl t m (texts (drop (i + 1) ks)) behind)) (more ∙ add-one n) ∙ ap (λ (xs : List Text). copied pl t n xs behind) (sym (texts_next ks i d lt)))
-      (put read p p (subst P has (reads p)) (copied pl t n' (texts (drop (i + 1) ks)) behind))
+  copy_step d o e ss ts has lt more put reads behind p = search (arith, rules, get_or, lead_of, add-one, texts_next)
 
   -- one name more is handed on to a global
   pub hand_step : (d : Bor Text) (e : SlotExpr ℕ) (ss ts : List SlotStmt) → i < length ks → n' ≡ n + 1
       → ((c : SlotExpr Constant) (p q : List Tree) → IsPlaced c e p q → Led templates (alone (slots.assign pl (one (global n)) c)) ss ts p q) → ((p : List Tree) → IsPlaced (read_from (slot_in (get_or ks i d).now t)) e p p)
       → (left : SBody Constant) (p : List Tree) → BodyLeads templates (followed (handed_on pl t n (texts (drop i ks))) left) (followed (handed_on pl t n' (texts (drop (i + 1) ks))) left) ss ts p p
-  hand_step d e ss ts lt more put reads left p =
-      let read = read_from (slot_in (get_or ks i d).now t) in
-      lead_of templates _ _ _ ss ts p p
-      (ap (λ (m : ℕ). slots.stmt (slots.assign pl (one (global n)) read) (followed (handed_on pl t m (texts (drop (i + 1) ks))) left)) (more ∙ add-one n) ∙ ap (λ (xs : List Text). followed (handed_on pl t n xs) left) (sym (texts_next ks i d lt)))
-      (put read p p (reads p) (followed (handed_on pl t n' (texts (drop (i + 1) ks))) left))
+  hand_step d e ss ts lt more put reads left p = search (arith, rules, get_or, lead_of, add-one, texts_next)
 
 -- ---- values of a `with`
 
@@ -83,45 +74,29 @@ stmt_as s spot x y ss ts p q e h = led_of (templates_in s) (stmt_in s x spot) (s
 module _ (s : Chains) (spot : code_spot.Spot) (x : Stmt) where
   pub if_shown : (bs : Vec Branch Global) (other : Vec Stmt Global) (cs : List Branch) (us : List Stmt) → x ≡ v.If bs other → cs ≡ bs.items → us ≡ other.items
       → choice_in s (branches_view cs) spot (body_in s (body_view us) spot) ≡ stmt_in s (stmt_view x) spot
-  if_shown bs other cs us is e f =
-      ap (λ z. choice_in s (branches_view z) spot (body_in s (body_view us) spot)) e ∙ ap (λ z. choice_in s (branches_view bs.items) spot (body_in s (body_view z) spot)) f
-      ∙ sym (ap (λ z. stmt_in s z spot) (ap stmt_view is ∙ view_If bs other))
+  if_shown bs other cs us is e f = search (arith, rules, view_If)
 
   pub loop_shown : (line : ℕ) (xs : Vec (String Global) Global) (e : Expr) (k : Option Expr) (body other : Vec Stmt Global) (ns ms : List (String Global)) (us os : List Stmt) (tv : Targets)
       → x ≡ v.For line xs e k body other → ns ≡ xs.items → ms ≡ xs.items → us ≡ body.items → os ≡ other.items → tv ≡ fresh_targets spot.free (names_view ms)
       → alone (slots.for_each (line_in s spot line) tv (expr_in s (expr_view e) spot) (resolved_condition (world_in s) (order_in s) (option_map expr_view k) (bound_all (names_view ns) (spot_in s spot)))
       (scoped_in s (body_view us) (bound_all (names_view ns) (spot_in s spot))) (body_in s (body_view os) spot)) ≡ stmt_in s (stmt_view x) spot
-  loop_shown line xs e k body other ns ms us os tv is f g h j taken =
-      let F = λ (z : Targets) (n : List (String Global)) (m o : List Stmt). alone (slots.for_each (line_in s spot line) z (expr_in s (expr_view e) spot) (resolved_condition (world_in s) (order_in s) (option_map expr_view k) (bound_all (names_view n) (spot_in s spot)))
-      (scoped_in s (body_view m) (bound_all (names_view n) (spot_in s spot))) (body_in s (body_view o) spot)) in
-      let T : Targets = fresh_targets spot.free (names_view xs.items) in
-      ap (λ z. F z ns us os) (taken ∙ ap (λ n. fresh_targets spot.free (names_view n)) g) ∙ ap (λ n. F T n us os) f ∙ ap (λ m. F T xs.items m os) h ∙ ap (λ o. F T xs.items body.items o) j
-      ∙ sym (ap (λ z. stmt_in s z spot) (ap stmt_view is ∙ view_For line xs e k body other))
+  loop_shown line xs e k body other ns ms us os tv is f g h j taken = search (arith, rules, view_For)
 
 -- a filter tag: its text, and what its filters make of it
 pub filter_shown : (s : Chains) (spot : code_spot.Spot) (line : ℕ) (fs : List trees.Filtering) (b : trees.Body) (n : ℕ) → n ≡ spot.free + 1
     → followed (alone (slots.capture spot.escaping (local spot.free) (scoped_in s b (spot_in s (record spot { free = n })))))
     (alone (slots.print (line_in s spot line) spot.escaping (resolved_filters (world_in s) (order_in s) fs (spot_in s (record spot { free = n })) (slots.variable (local spot.free))))) ≡ stmt_in s (trees.filter_block line fs b) spot
-filter_shown s spot line fs b n e =
-    ap (λ (m : ℕ). followed (alone (slots.capture spot.escaping (local spot.free) (scoped_in s b (spot_in s (record spot { free = m })))))
-    (alone (slots.print (line_in s spot line) spot.escaping (resolved_filters (world_in s) (order_in s) fs (spot_in s (record spot { free = m })) (slots.variable (local spot.free)))))) (e ∙ add-one spot.free)
+filter_shown s spot line fs b n e = search (arith, rules, add-one)
 
 -- values, and what is behind them
 pub values_led : (s : Chains) (spot : code_spot.Spot) (ps : Pairs) (line : ℕ) (w : SBody Constant) (es fs gs : List SlotStmt) (p q r : List Tree)
     → ((behind : SBody Constant) → BodyLeads (templates_in s) (values_in s ps spot line behind) behind es fs p q) → Led (templates_in s) w fs gs q r → Led (templates_in s) (values_in s ps spot line w) es gs p r
-values_led s spot ps line w es fs gs p q r h g = λ left.
-    lead_both (templates_in s) _ _ _ es fs gs p q r
-    (lead_of (templates_in s) _ _ _ es fs p q (sym (values_followed (world_in s) (order_in s) ps (spot_in s spot) line w left)) (h (followed w left))) (g left)
+values_led s spot ps line w es fs gs p q r h g = search (arith, rules, lead_both, lead_of, values_followed)
 
 -- copies of what a scope sets, and its body
 pub scope_led : (s : Chains) (b : trees.Body) (sp : Spot) (spot : code_spot.Spot) (es fs gs : List SlotStmt) (p r : List Tree) → spot_in s spot ≡ bound_all (set_in b) sp
     → ((behind : SBody Constant) → BodyLeads (templates_in s) (copied (place sp 1) sp.table sp.free (set_in b) behind) behind es fs p p) → Led (templates_in s) (body_in s b spot) fs gs p r → Led (templates_in s) (scoped_in s b sp) es gs p r
-scope_led s b sp spot es fs gs p r e h g = λ left.
-    let inner = resolved_body (world_in s) (order_in s) b (bound_all (set_in b) sp) in
-    let same : body_in s b spot ≡ inner = ap (resolved_body (world_in s) (order_in s) b) e in
-    lead_both (templates_in s) _ _ _ es fs gs p p r
-    (lead_of (templates_in s) _ _ _ es fs p p (sym (copied_followed (place sp 1) sp.table sp.free (set_in b) inner left)) (h (followed inner left)))
-    (lead_of (templates_in s) (followed (body_in s b spot) left) (followed inner left) left fs gs p r (ap (λ z. followed z left) same) (g left))
+scope_led s b sp spot es fs gs p r e h g = search (arith, rules, lead_both, lead_of, copied_followed)
 
 -- copies of names that are another list
 pub copies_as : (s : Chains) (sp : Spot) (xs : List Text) (b : trees.Body) (es fs : List SlotStmt) (p : List Tree) → xs ≡ set_in b
@@ -135,9 +110,7 @@ scoped_as s b sp sq es fs p q e = led_of (templates_in s) (scoped_in s b sp) (sc
 -- a loop's turn at a place that is another
 pub turn_as : (s : Chains) (b : trees.Body) (k : Option expressions.Expr) (sp sq : Spot) (d : Option code.SlotExpr) (ss : List SlotStmt) (p q r : List Tree) → sp ≡ sq → IsAsked (resolved_condition (world_in s) (order_in s) k sp) d p q → Led (templates_in s) (scoped_in s b sp) [] ss q r
     → IsTurn s (resolved_condition (world_in s) (order_in s) k sq) (scoped_in s b sq) d ss p r
-turn_as s b k sp sq d ss p q r e h g =
-    let P : Spot → Type 0 = λ z. IsAsked (resolved_condition (world_in s) (order_in s) k z) d p q in
-    record { between = q; asked = subst P e h; taken = scoped_as s b sp sq [] ss q r e g }
+turn_as s b k sp sq d ss p q r e h g = search (arith, rules, scoped_as)
 
 -- ---- slots of names that are set
 

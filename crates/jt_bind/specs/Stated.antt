@@ -1,6 +1,6 @@
 -- What only private clauses cite: what the statements of a chain are resolved to, in the tables
 -- that the code keeps, and with the places of the pool that it fills.
-use Rattle.std.specs.Prelude.{◌≡◌, ℕ, Bool, ◌+◌, List, [], ◌++◌, length, Option, Some, None, option_map, Vec, if◌then◌else◌, ◌==◌}
+use Rattle.std.specs.Prelude.{◌≡◌, ℕ, Bool, ◌+◌, List, [], ◌++◌, map, length, Option, Some, None, option_map, Vec, if◌then◌else◌, ◌==◌}
 use Rattle.std.specs.declared.alloc.Global.{Global}
 use Rattle.jt_value.specs.Tree.{Tree}
 use Rattle.jt_value.specs.declared.value.Value.{Value}
@@ -9,7 +9,10 @@ use Rattle.jt_trees.specs.Expressions.{Text}
 use Rattle.jt_trees.specs.Statements.{Branches}
 use Rattle.jt_trees.specs.Expressions as expressions
 use Rattle.jt_chains.specs.Chain.{Template}
+use Rattle.jt_chains.specs.Layers.{layer_view}
 use Rattle.jt_chains.specs.Uses.{set_in}
+use Rattle.jt_chains.specs.View.{chain_view}
+use Rattle.jt_chains.specs.declared.layers.Layer.{Layer}
 use Rattle.jt_value.specs.Place as place
 use Rattle.jt_resolved.specs.Pool.{Constant, condition_values, body_values, placed_condition, placed_body}
 use Rattle.jt_resolved.specs.Slots as slots
@@ -17,16 +20,13 @@ use Rattle.jt_resolved.specs.Slots.{SBody}
 use Rattle.jt_resolved.specs.View.{Front, place_view, expr_view, choice_view}
 use Rattle.jt_resolved.specs.declared.program.Place.{Place}
 use Rattle.jt_resolved.specs.declared.program.SlotExpr.{SlotExpr}
+use Rattle.jt_resolved.specs.declared.program.SlotBranch.{SlotBranch}
 use Rattle.jt_resolved.specs.declared.program.SlotStmt.{SlotStmt}
 use Rattle.jt_meaning.specs.Resolve as resolve
 use Rattle.jt_meaning.specs.Resolve.{followed}
 use Rattle.jt_bind.specs.Chains.{Chains}
 use Rattle.jt_bind.specs.declared.spot.Spot.{Spot}
 use Rattle.jt_bind.specs.Scoped.{values, IsPlaced, BodyLeads, world_in, order_in, home_in, spot_in, templates_in}
-
--- the place of a branch's tag, its condition and its statements
-abbrev pub Branch : Type 0
-Branch = Place × SlotExpr × Vec SlotStmt Global
 
 -- ---- what stands at the end of a pool that is filled from one list of values to another
 
@@ -52,14 +52,14 @@ pub record StandsFor (whole left : SBody Constant) (f : Front) (old new : ℕ) :
   pub until : new ≡ old + length (body_values whole)
 
 -- a branch: the place of its tag, its condition and its statements
-pub record IsBranch (templates : List Text) (at : place.Place) (c : slots.SlotExpr Constant) (whole : SBody Constant) (b : Branch) (old new : List Tree) : Type 0 where
+pub record IsBranch (templates : List Text) (at : place.Place) (c : slots.SlotExpr Constant) (whole : SBody Constant) (b : SlotBranch SlotStmt) (old new : List Tree) : Type 0 where
   pub between : List Tree
-  pub stands : place_view templates b.0 ≡ at
-  pub asked : IsPlaced c (expr_view b.1) old between
-  pub taken : IsBody templates whole b.2.items between new
+  pub stands : place_view templates b.place ≡ at
+  pub asked : IsPlaced c (expr_view b.condition) old between
+  pub taken : IsBody templates whole b.body.items between new
 
 -- branches that were resolved, so that of a choice only the other part is left to do
-pub record ChoiceLeads (templates : List Text) (whole other : SBody Constant) (branches : List Branch) (old new : List Tree) : Type 0 where
+pub record ChoiceLeads (templates : List Text) (whole other : SBody Constant) (branches : List (SlotBranch SlotStmt)) (old new : List Tree) : Type 0 where
   pub shown : (f : Front) (left : SBody Constant) (last : ℕ)
       → StandsFor other left f (length new) last
       → StandsFor whole left (choice_view templates branches f) (length old) last
@@ -79,11 +79,19 @@ module _ (s : Chains) where
   abbrev pub stmt_in : trees.Stmt → Spot → SBody Constant
   stmt_in t p = resolve.resolved_stmt (world_in s) (order_in s) t (spot_in s p)
 
-  -- all of a body is put behind other statements, and its values at the end of a pool
+  -- all of a body is put behind other statements
+  abbrev pub Puts : SBody Constant → Vec SlotStmt Global → Vec SlotStmt Global → List Tree
+      → List Tree → Type 0
+  Puts whole before after old new = Led (templates_in s) whole before.items after.items old new
+
+  -- and its values at the end of a pool
   abbrev pub BodyLed : SBody Constant → Vec SlotStmt Global → Vec SlotStmt Global → Vec Value Global
       → Vec Value Global → Type 0
-  BodyLed whole before after old new =
-      Led (templates_in s) whole before.items after.items (values old) (values new)
+  BodyLed whole before after old new = Puts whole before after (values old) (values new)
+
+  abbrev pub condition_in : Option expressions.Expr → resolve.Spot
+      → Option (slots.SlotExpr Constant)
+  condition_in k sp = resolve.resolved_condition (world_in s) (order_in s) k sp
 
   abbrev pub body_in : trees.Body → Spot → SBody Constant
   body_in b p = resolve.resolved_body (world_in s) (order_in s) b (spot_in s p)
@@ -105,6 +113,12 @@ module _ (s : Chains) where
   abbrev pub layer_in : Template → Bool → SBody Constant
   layer_in t is_root =
       layer_at (resolve.top_spot (world_in s) (order_in s) (home_in s) t.name) t.body is_root
+
+  -- the templates of a chain
+  abbrev pub layers_in : List Layer → SBody Constant
+  layers_in ls =
+      resolve.resolved_chain (world_in s) (order_in s) (home_in s)
+      (map (layer_view (chain_view s.chain.now).templates) ls)
 
   abbrev pub values_in : expressions.Pairs → Spot → ℕ → SBody Constant → SBody Constant
   values_in ps p line behind =

@@ -1,17 +1,10 @@
 //! Bodies of blocks that are called.
 
-ghost use Rattle.std.specs.Prelude.{◌≡◌, ℕ, List, [], IfOk};
-ghost use Rattle.jt_value.specs.Tree.{Tree};
+ghost use Rattle.std.specs.Prelude.{◌≡◌, IfOk};
 ghost use Rattle.jt_names.specs.Names.{texts};
-ghost use Rattle.jt_chains.specs.Chain as chain;
-ghost use Rattle.jt_meaning.specs.Layout as layout;
 ghost use Rattle.jt_meaning.specs.Resolve as resolve;
-ghost use Rattle.jt_bind.specs.Callees.{unit_of};
-ghost use Rattle.jt_bind.specs.Resolving.{spot_of, table_of};
-ghost use Rattle.jt_bind.specs.Scoped.{IsPlaced, RowLeads, world_in, order_in, home_in};
-ghost use Rattle.jt_resolved.specs.Pool.{Constant};
-ghost use Rattle.jt_resolved.specs.Slots as slots;
-ghost use Rattle.jt_resolved.specs.View.{expr_view};
+ghost use Rattle.jt_bind.specs.Resolving.{table_of, IsBlock, super_of};
+ghost use Rattle.jt_bind.specs.Scoped.{PutsNone, IsRow, parameters_in, first_unit_in};
 
 use crate::lookup::absent;
 use crate::resolver::Resolver;
@@ -25,9 +18,7 @@ use std::alloc::Global;
 impl<'a> Tables<'a> {
     /// The unit of the first body of a block, if it has one.
     pub(crate) fn first_body(&self, name: &str) -> Result<Option<usize>, NoMemory>
-        ensures { IfOk result (λ u. u ≡ unit_of (world_in self.now) (order_in self.now)
-            (home_in self.now) (resolve.first_body
-            (layout.numbered_of (world_in self.now) (home_in self.now) name.now))) }
+        ensures { IfOk result (λ u. u ≡ first_unit_in self.now name.now) }
     {
         let here = self.here();
         match here.first_bodies.place(name) {
@@ -38,9 +29,7 @@ impl<'a> Tables<'a> {
 
     /// The parameters that the bodies of a block have.
     pub(crate) fn block_parameters(&self, name: &str) -> &[&'a str]
-        ensures { texts result.now
-            ≡ layout.block_parameters (world_in self.now) (order_in self.now) (home_in self.now)
-            name.now }
+        ensures { texts result.now ≡ parameters_in self.now name.now }
     {
         let here = self.here();
         match here.scoped.place(name) {
@@ -56,10 +45,8 @@ impl<'t, 's, 'a> Resolver<'t, 's, 'a> {
         &self,
         name: &str,
     ) -> Result<Vec<(Option<usize>, SlotExpr)>, NoMemory>
-        ensures { IfOk result (λ row. (p : List Tree)
-            → RowLeads (resolve.reads (table_of self.now) (layout.block_parameters
-            (world_in self.now.tables.now) (order_in self.now.tables.now)
-            (home_in self.now.tables.now) name.now)) slots.none [] row.items p p) }
+        ensures { IfOk result (IsRow
+            (resolve.reads (table_of self.now) (parameters_in self.now.tables.now name.now))) }
     {
         self.reads(self.tables.block_parameters(name))
     }
@@ -67,11 +54,7 @@ impl<'t, 's, 'a> Resolver<'t, 's, 'a> {
     /// Resolves the call of a block, which does not see the names of the scopes around; absent
     /// where the block has no body.
     pub(crate) fn block_called(&self, name: &str) -> Result<SlotExpr, NoMemory>
-        ensures { IfOk result (λ e. (row asides : slots.SRow Constant → slots.SRow Constant)
-            (n : ℕ) (ks : layout.Table) (p : List Tree)
-            → IsPlaced (resolve.invoked (world_in self.now.tables.now)
-            (order_in self.now.tables.now) (chain.a_block name.now) (spot_of self.now) row asides n
-            ks) (expr_view e) p p) }
+        ensures { IfOk result (λ e. IsBlock self.now name.now e) }
     {
         let Some(unit) = self.tables.first_body(name)? else {
             return Ok(absent());
@@ -91,10 +74,7 @@ impl<'t, 's, 'a> Resolver<'t, 's, 'a> {
     /// Resolves the call of the next body of the block that this one belongs to: its parameters are
     /// handed on. Outside a block, and where no body is behind, it is absent.
     pub(crate) fn super_called(&self) -> Result<SlotExpr, NoMemory>
-        ensures { IfOk result (λ e. (p : List Tree)
-            → IsPlaced (resolve.invoked_super (world_in self.now.tables.now)
-            (order_in self.now.tables.now) (spot_of self.now) (spot_of self.now).part)
-            (expr_view e) p p) }
+        ensures { IfOk result (PutsNone (super_of self.now)) }
     {
         let here = self.tables.here();
         let Some(place) = self.spot.body else {

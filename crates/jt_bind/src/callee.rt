@@ -3,15 +3,12 @@
 ghost use Rattle.std.specs.Prelude.{◌≡◌, ◌<◌, false, length, List, Option, None, Some, option_map, codes, IfOk};
 ghost use Rattle.std.specs.Str.{bytes_eq};
 ghost use Rattle.jt_trees.specs.Expressions as trees;
-ghost use Rattle.jt_trees.specs.Expressions.{Text};
 ghost use Rattle.jt_trees.specs.ExpressionView as written;
 ghost use Rattle.jt_chains.specs.Chain as chain;
-ghost use Rattle.jt_chains.specs.Chain.{Home, Sources, a_library, macros, macro_of, given_to, named_alone};
 ghost use Rattle.jt_chains.specs.Named.{given_view};
 ghost use Rattle.jt_chains.specs.Places.{home_at};
-ghost use Rattle.jt_chains.specs.View.{chain_view};
-ghost use Rattle.jt_bind.specs.Callees.{IsCallee, IsLaidThere, library_of, of_home};
-ghost use Rattle.jt_bind.specs.Scoped.{world_in, order_in, home_in, given_in, callee_in};
+ghost use Rattle.jt_bind.specs.Callees.{IsCallee, IsLaidThere, library_of};
+ghost use Rattle.jt_bind.specs.Scoped.{world_in, order_in, given_in, given_as, IsCalled, IsMacroOf};
 ghost use Rattle.jt_rules.specs.World.{World};
 
 use crate::tables::Tables;
@@ -44,8 +41,7 @@ pub(crate) enum Callee<'s> {
 impl<'a> Tables<'a> {
     /// What an expression in front of the arguments of a call names.
     pub(crate) fn callee_of<'s>(&'s self, called: &'s Expr) -> Result<Callee<'s>, NoMemory>
-        ensures { IfOk result (λ k. IsCallee (world_in self.now) (order_in self.now) k
-            (callee_in self.now (written.expr_view called.now))) }
+        ensures { IfOk result (λ k. IsCalled self.now (written.expr_view called.now) k) }
     {
         match called {
             Expr::Name(name) => self.callee_named(name.as_str()),
@@ -56,8 +52,7 @@ impl<'a> Tables<'a> {
 
     /// What a name stands for that is called: what it is given to hides what else has its name.
     fn callee_named<'s>(&'s self, name: &str) -> Result<Callee<'s>, NoMemory>
-        ensures { IfOk result (λ k. IsCallee (world_in self.now) (order_in self.now) k
-            (callee_in self.now (trees.name name.now))) }
+        ensures { IfOk result (λ k. IsCalled self.now (trees.name name.now) k) }
     {
         match self.given_named(name) {
             Some(given) => self.callee_given(given),
@@ -67,9 +62,8 @@ impl<'a> Tables<'a> {
 
     /// What a name is given to.
     fn given_named<'s>(&'s self, name: &str) -> Option<Given<'s>>
-        ensures { option_map
-            (given_view (chain_view self.now.chain.now).templates (home_in self.now)) result
-            ≡ given_to name.now (given_in self.now) }
+        ensures { option_map (given_as self.now) result
+            ≡ chain.given_to name.now (given_in self.now) }
     {
         let here = self.here();
         match here.given_places.place(name) {
@@ -80,12 +74,9 @@ impl<'a> Tables<'a> {
 
     /// What a name stands for that is given to something: a library itself can't be called.
     fn callee_given<'s>(&'s self, given: Given<'_>) -> Result<Callee<'s>, NoMemory>
-        ensures { IfOk result (λ k. (x : Text)
-            → given_to x (given_in self.now)
-            ≡ Some (given_view (chain_view self.now.chain.now).templates (home_in self.now)
-            given.entry)
-            → IsCallee (world_in self.now) (order_in self.now) k
-            (callee_in self.now (trees.name x))) }
+        ensures { IfOk result (λ k. (x : trees.Text)
+            → chain.given_to x (given_in self.now) ≡ Some (given_as self.now given.entry)
+            → IsCalled self.now (trees.name x) k) }
     {
         self.stands();
         match given {
@@ -98,10 +89,8 @@ impl<'a> Tables<'a> {
     /// The macro of a name of the chain or library at a place.
     fn macro_at<'s>(&'s self, home: usize, name: &str) -> Result<Callee<'s>, NoMemory>
         requires { home < length (order_in self.now) }
-        ensures { IfOk result (λ k. IsCallee (world_in self.now) (order_in self.now) k
-            (of_home (home_at (order_in self.now) home)
-            (macro_of name.now (macros (world_in self.now).sources
-            (home_at (order_in self.now) home))))) }
+        ensures { IfOk result
+            (λ k. IsMacroOf self.now (home_at (order_in self.now) home) name.now k) }
     {
         let there = self.at(home);
         let Some(place) = there.called.place(name) else {
@@ -118,9 +107,9 @@ impl<'a> Tables<'a> {
     /// The macro of a name of a library that is laid out.
     fn library_macro<'s>(&'s self, library: &str, name: &str) -> Result<Callee<'s>, NoMemory>
         ensures { IfOk result (λ k.
-            IsLaidThere (world_in self.now) (order_in self.now) (a_library library.now) name.now
-            → IsCallee (world_in self.now) (order_in self.now) k (of_home (a_library library.now)
-            (macro_of name.now (macros (world_in self.now).sources (a_library library.now))))) }
+            IsLaidThere (world_in self.now) (order_in self.now) (chain.a_library library.now)
+            name.now
+            → IsMacroOf self.now (chain.a_library library.now) name.now k) }
     {
         match self.library_place(library) {
             Some(place) => self.macro_at(place, name),
@@ -130,8 +119,8 @@ impl<'a> Tables<'a> {
 
     /// What an attribute stands for that is called.
     fn callee_by<'s>(&'s self, of: &Expr, name: &'s str) -> Result<Callee<'s>, NoMemory>
-        ensures { IfOk result (λ k. IsCallee (world_in self.now) (order_in self.now) k
-            (callee_in self.now (trees.attribute (written.expr_view of.now) name.now))) }
+        ensures { IfOk result
+            (λ k. IsCalled self.now (trees.attribute (written.expr_view of.now) name.now) k) }
     {
         match of {
             Expr::Name(of) => self.member_of(of.as_str(), name),
@@ -141,8 +130,8 @@ impl<'a> Tables<'a> {
 
     /// A block by `self`, `cycle` of a loop, or a macro of a library.
     fn member_of<'s>(&'s self, of: &str, name: &'s str) -> Result<Callee<'s>, NoMemory>
-        ensures { IfOk result (λ k. IsCallee (world_in self.now) (order_in self.now) k
-            (callee_in self.now (trees.attribute (trees.name of.now) name.now))) }
+        ensures { IfOk result
+            (λ k. IsCalled self.now (trees.attribute (trees.name of.now) name.now) k) }
     {
         match of {
             "self" => Ok(Callee::Block(name)),
@@ -156,8 +145,8 @@ impl<'a> Tables<'a> {
     fn imported_macro<'s>(&'s self, of: &str, name: &str) -> Result<Callee<'s>, NoMemory>
         requires not_self { bytes_eq of.now (codes "self") ≡ false }
         requires not_loop { bytes_eq of.now (codes "loop") ≡ false }
-        ensures { IfOk result (λ k. IsCallee (world_in self.now) (order_in self.now) k
-            (callee_in self.now (trees.attribute (trees.name of.now) name.now))) }
+        ensures { IfOk result
+            (λ k. IsCalled self.now (trees.attribute (trees.name of.now) name.now) k) }
     {
         self.stands();
         let Some(library) = self.library_named(of) else {
@@ -172,7 +161,7 @@ impl<'a> Tables<'a> {
     /// The library that a name is given to.
     fn library_named<'s>(&'s self, name: &str) -> Option<&'s str>
         ensures { option_map (λ n. n.now) result
-            ≡ library_of (given_to name.now (given_in self.now)) }
+            ≡ library_of (chain.given_to name.now (given_in self.now)) }
     {
         match self.given_named(name) {
             Some(given) => library_in(given),
@@ -183,8 +172,8 @@ impl<'a> Tables<'a> {
 
 /// What a name stands for that nothing has.
 fn built_in<'s>(name: &str) -> Callee<'s>
-    ensures { (world : World) (order : List Home) (sources : Sources)
-        → IsCallee world order result (named_alone sources None name.now) }
+    ensures { (world : World) (order : List chain.Home) (sources : chain.Sources)
+        → IsCallee world order result (chain.named_alone sources None name.now) }
 {
     match name {
         "range" => Callee::Range,
@@ -195,7 +184,7 @@ fn built_in<'s>(name: &str) -> Callee<'s>
 
 /// The library that something is, if it is one.
 fn library_in(given: Given<'_>) -> Option<&str>
-    ensures { (ts : List chain.Template) (h : Home)
+    ensures { (ts : List chain.Template) (h : chain.Home)
         → option_map (λ n. n.now) result ≡ library_of (Some (given_view ts h given.entry)) }
 {
     match given {

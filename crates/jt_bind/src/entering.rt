@@ -1,17 +1,11 @@
 //! Scopes that statements enter: names in locals of their own.
 
 ghost use Rattle.std.specs.Prelude.{◌≡◌, List, map, IfOk};
-ghost use Rattle.std.specs.declared.alloc.Global.{Global};
-ghost use Rattle.std.specs.declared.rc.Rc.{Rc};
-ghost use denote.Ref.{Bor};
-ghost use Rattle.jt_bind.specs.declared.name_scope.NameScope.{NameScope};
 ghost use Rattle.jt_trees.specs.ExpressionView.{pairs_view};
 ghost use Rattle.jt_chains.specs.Uses.{keywords};
-ghost use Rattle.jt_meaning.specs.Layout.{Table};
-ghost use Rattle.jt_bind.specs.Chains.{Chains};
-ghost use Rattle.jt_meaning.specs.Resolve.{bound_all, bound_table, copied};
+ghost use Rattle.jt_meaning.specs.Resolve.{copied};
 ghost use Rattle.jt_bind.specs.Resolving.{line_of, table_of, templates_of};
-ghost use Rattle.jt_bind.specs.Scoped.{BodyLeads, framed, spot_in};
+ghost use Rattle.jt_bind.specs.Scoped.{BodyLeads, HasInside, Enters};
 ghost use Rattle.jt_trees.specs.StatementView.{names_view, parameters_view};
 ghost use Rattle.jt_resolved.specs.Pool.{Constant};
 ghost use Rattle.jt_resolved.specs.Slots.{SBody};
@@ -44,10 +38,7 @@ fn framed_by<'a>(
     spot: &Spot<'_, 'a>,
     names: Vec<&'a str>,
 ) -> Result<Vec<Rc<NameScope<'a>>>, NoMemory>
-    ensures { IfOk result (λ fs. (t : Table)
-        → framed (map (λ f. f.value) fs.items) t
-        ≡ bound_table (texts names.entry.items) spot.now.free
-        (framed (map (λ f. f.value) spot.now.name_scopes.now) t)) }
+    ensures { IfOk result (λ fs. HasInside spot.now (texts names.entry.items) fs.items) }
 {
     let mut name_scopes = Vec::new(alloc);
     for name_scope in spot.name_scopes {
@@ -64,10 +55,7 @@ pub(crate) fn entered<'a>(
     spot: &Spot<'_, 'a>,
     names: Vec<&'a str>,
 ) -> Result<Inside<'a>, NoMemory>
-    ensures { IfOk result (λ i. (s : Chains) (fr : Bor (List (Rc NameScope Global)))
-        → fr.now ≡ i.name_scopes.items
-        → spot_in s (record spot.now { name_scopes = fr; free = i.free })
-        ≡ bound_all (texts names.entry.items) (spot_in s spot.now)) }
+    ensures { IfOk result (λ i. Enters spot.now (texts names.entry.items) i) }
 {
     let free = more(spot.free, names.len())?;
     let name_scopes = framed_by(alloc, spot, names)?;

@@ -1,7 +1,6 @@
 //! Resolves expressions: names to slots, literals and keys to places of a pool.
 
-ghost use Rattle.std.specs.Prelude.{false, length, pos, List, IfOk, Some};
-ghost use Rattle.jt_value.specs.Tree as tree;
+ghost use Rattle.std.specs.Prelude.{false, length, List, IfOk, Some};
 ghost use Rattle.jt_value.specs.Tree.{Tree};
 ghost use Rattle.jt_trees.specs.Expressions as trees;
 ghost use Rattle.jt_trees.specs.ExpressionView as written;
@@ -9,13 +8,10 @@ ghost use Rattle.jt_ids.specs.FilterTable.{filter_id};
 ghost use Rattle.jt_meaning.specs.Operators as operators;
 ghost use Rattle.jt_meaning.specs.Resolve as resolve;
 ghost use Rattle.jt_ids.specs.declared.op_id.OpId.TheVariants as op;
-ghost use Rattle.jt_trees.specs.StatementView.{parameters_view};
-ghost use Rattle.jt_evaluation.specs.Loops.{index0};
-ghost use Rattle.jt_resolved.specs.Pool.{Constant, own};
+ghost use Rattle.jt_resolved.specs.Pool.{Constant};
 ghost use Rattle.jt_resolved.specs.Slots as slots;
-ghost use Rattle.jt_resolved.specs.View.{expr_view};
-ghost use Rattle.jt_bind.specs.Resolving.{IsResolved, RowAdds, row_of, asides_of, given_of, entries_of, filtered_of, kept_of};
-ghost use Rattle.jt_bind.specs.Scoped.{values, IsPlaced};
+ghost use Rattle.jt_bind.specs.Resolving.{IsResolved, RowAdds, RowPuts, by_place, by_name, expr_of, row_of, asides_of, given_of, called_of, entries_of, filtered_of};
+ghost use Rattle.jt_bind.specs.Scoped.{values, IsShown, IsAdded, turn_in};
 
 use crate::callee::{Callee, Signature};
 use crate::forms::{
@@ -248,9 +244,8 @@ impl<'t, 's, 'a> Resolver<'t, 's, 'a> {
         pool: &mut Vec<Value>,
     ) -> Result<SlotExpr, NoMemory>
         ensures { IfOk result (λ e. IsResolved self.now
-            (trees.filter (written.expr_view value.now) name.now
-            (written.exprs_view arguments.entry.row.now)
-            (written.pairs_view arguments.entry.pairs.now)) e pool.old pool.new) }
+            (trees.filter (written.expr_view value.now) name.now (by_place arguments.entry)
+            (by_name arguments.entry)) e pool.old pool.new) }
     {
         match filter_of(name, arguments.row, arguments.pairs) {
             None => Ok(absent()),
@@ -271,10 +266,9 @@ impl<'t, 's, 'a> Resolver<'t, 's, 'a> {
         pool: &mut Vec<Value>,
     ) -> Result<SlotExpr, NoMemory>
         ensures { IfOk result (λ e. (c : slots.SlotExpr Constant) (p : List Tree)
-            → IsPlaced c (expr_view value) p (values pool.old)
-            → IsPlaced (filtered_of self.now (Some (filter_id filter)) c
-            (written.exprs_view arguments.entry.row.now)
-            (written.pairs_view arguments.entry.pairs.now)) (expr_view e) p (values pool.new)) }
+            → IsShown c value p (values pool.old)
+            → IsShown (filtered_of self.now (Some (filter_id filter)) c (by_place arguments.entry)
+            (by_name arguments.entry)) e p (values pool.new)) }
     {
         let mut given = row_of(self.alloc, value)?;
         self.resolve_given(arguments, &mut given, pool)?;
@@ -297,9 +291,8 @@ impl<'t, 's, 'a> Resolver<'t, 's, 'a> {
         arguments: Arguments<'_>,
         pool: &mut Vec<Value>,
     ) -> Result<SlotExpr, NoMemory>
-        ensures { IfOk result (λ e. IsResolved self.now
-            (trees.call (written.expr_view called.now) (written.exprs_view arguments.entry.row.now)
-            (written.pairs_view arguments.entry.pairs.now)) e pool.old pool.new) }
+        ensures { IfOk result (λ e. IsResolved self.now (trees.call (written.expr_view called.now)
+            (by_place arguments.entry) (by_name arguments.entry)) e pool.old pool.new) }
     {
         match self.tables.callee_of(&*called)? {
             Callee::Macro(signature) => self.resolve_macro(signature, arguments, pool),
@@ -319,13 +312,9 @@ impl<'t, 's, 'a> Resolver<'t, 's, 'a> {
         arguments: Arguments<'_>,
         pool: &mut Vec<Value>,
     ) -> Result<SlotExpr, NoMemory>
-        ensures { IfOk result (λ e. IsPlaced (slots.invoke signature.entry.unit
-            self.now.spot.escaping (given_of self.now (written.exprs_view arguments.entry.row.now)
-            (written.pairs_view arguments.entry.pairs.now) (resolve.filled
-            (parameters_view signature.entry.parameters.now) (length arguments.entry.row.now)
-            signature.entry.first_default
-            (kept_of self.now (written.pairs_view arguments.entry.pairs.now))))) (expr_view e)
-            (values pool.old) (values pool.new)) }
+        ensures { IfOk result (λ e. IsAdded (slots.invoke signature.entry.unit
+            self.now.spot.escaping (called_of self.now signature.entry arguments.entry)) e pool.old
+            pool.new) }
     {
         let mut given = Vec::new(self.alloc);
         self.resolve_given(arguments, &mut given, pool)?;
@@ -341,10 +330,9 @@ impl<'t, 's, 'a> Resolver<'t, 's, 'a> {
     /// Resolves a call of `range`.
     #[cycle(expressions)]
     fn resolve_range(&self, row: &[Expr], pool: &mut Vec<Value>) -> Result<SlotExpr, NoMemory>
-        ensures { IfOk result (λ e. IsPlaced (slots.made
+        ensures { IfOk result (λ e. IsAdded (slots.made
             (slots.operator (operators.range_of (length row.now)))
-            (row_of self.now (written.exprs_view row.now) slots.none)) (expr_view e)
-            (values pool.old) (values pool.new)) }
+            (row_of self.now (written.exprs_view row.now) slots.none)) e pool.old pool.new) }
     {
         let mut operands = Vec::new(self.alloc);
         self.resolve_row(row, &mut operands, pool)?;
@@ -354,12 +342,9 @@ impl<'t, 's, 'a> Resolver<'t, 's, 'a> {
     /// Resolves `loop.cycle`: the item of a list by the turn.
     #[cycle(expressions)]
     fn resolve_cycle(&self, row: &[Expr], pool: &mut Vec<Value>) -> Result<SlotExpr, NoMemory>
-        ensures { IfOk result (λ e. IsPlaced (resolve.operation_of op.Item
-            (slots.made slots.a_list
-            (row_of self.now (written.exprs_view row.now) slots.none))
-            (resolve.operation_of op.Remainder (slots.field index0)
-            (slots.pooled (own (tree.number (pos (length row.now))))))) (expr_view e) (values pool.old)
-            (values pool.new)) }
+        ensures { IfOk result (λ e. IsAdded (resolve.operation_of op.Item
+            (expr_of self.now (trees.list_of (written.exprs_view row.now)))
+            (turn_in (length row.now))) e pool.old pool.new) }
     {
         let items = self.resolve_list(row, pool)?;
         let turn = turn_among(self.alloc, row.len(), pool)?;
@@ -374,10 +359,8 @@ impl<'t, 's, 'a> Resolver<'t, 's, 'a> {
         done: &mut Vec<(Option<usize>, SlotExpr)>,
         pool: &mut Vec<Value>,
     ) -> Result<(), NoMemory>
-        ensures { IfOk result (λ u. (left : slots.SRow Constant)
-            → RowAdds (row_of self.now (written.exprs_view row.now) left) left done.old done.new
-            pool.old
-            pool.new) }
+        ensures { IfOk result (λ u. RowPuts (row_of self.now (written.exprs_view row.now)) done.old
+            done.new pool.old pool.new) }
     {
         for expr in row {
             let next = self.resolve_expression(expr, pool)?;
@@ -395,10 +378,8 @@ impl<'t, 's, 'a> Resolver<'t, 's, 'a> {
         done: &mut Vec<(Option<usize>, SlotExpr)>,
         pool: &mut Vec<Value>,
     ) -> Result<(), NoMemory>
-        ensures { IfOk result (λ u. (left : slots.SRow Constant)
-            → RowAdds (asides_of self.now (written.pairs_view pairs.now) left) left done.old
-            done.new
-            pool.old pool.new) }
+        ensures { IfOk result (λ u. RowPuts (asides_of self.now (written.pairs_view pairs.now))
+            done.old done.new pool.old pool.new) }
     {
         let mut spot = self.spot;
         for (_, value) in pairs {
@@ -418,10 +399,8 @@ impl<'t, 's, 'a> Resolver<'t, 's, 'a> {
         done: &mut Vec<(Option<usize>, SlotExpr)>,
         pool: &mut Vec<Value>,
     ) -> Result<(), NoMemory>
-        ensures { IfOk result (λ u. (left : slots.SRow Constant)
-            → RowAdds (given_of self.now (written.exprs_view arguments.entry.row.now)
-            (written.pairs_view arguments.entry.pairs.now) left) left done.old done.new pool.old
-            pool.new) }
+        ensures { IfOk result (λ u. RowPuts (given_of self.now arguments.entry) done.old done.new
+            pool.old pool.new) }
     {
         self.resolve_row(arguments.row, done, pool)?;
         self.resolve_asides(arguments.pairs, done, pool)

@@ -1,23 +1,21 @@
 //! Parameters that no argument by place fills.
 
-ghost use Rattle.std.specs.Prelude.{◌≡◌, List, drop, length, IfOk};
+ghost use Rattle.std.specs.Prelude.{◌≡◌, List, drop, IfOk};
 ghost use Rattle.jt_value.specs.Tree.{Tree};
-ghost use Rattle.jt_value.specs.View.{view};
 ghost use Rattle.jt_trees.specs.ExpressionView as written;
 ghost use Rattle.jt_chains.specs.Uses.{keywords};
 ghost use Rattle.jt_meaning.specs.Layout.{slot_in};
 ghost use Rattle.jt_meaning.specs.Resolve as resolve;
-ghost use Rattle.jt_bind.specs.Resolving.{kept_of};
-ghost use Rattle.jt_bind.specs.Scoped.{values, IsPlaced, RowLeads};
+ghost use Rattle.jt_bind.specs.Resolving.{RowAdds, kept_of, filled_of, some_filled_of};
+ghost use Rattle.jt_bind.specs.Scoped.{IsAdded, RowLeads};
 ghost use Rattle.jt_trees.specs.Texts.{among};
 ghost use Rattle.jt_trees.specs.StatementView.{parameter_view, parameters_view};
 ghost use Rattle.jt_evaluation.specs.Filters.{some_given, default_value};
 ghost use Rattle.jt_resolved.specs.Pool.{own};
 ghost use Rattle.jt_resolved.specs.Slots as slots;
-ghost use Rattle.jt_resolved.specs.View.{expr_view};
 
 use crate::callee::Signature;
-use crate::forms::literal_value;
+use crate::forms::default_of;
 use crate::lookup::value_or;
 use crate::pool::add_value;
 use crate::resolver::{Arguments, Resolver};
@@ -25,7 +23,6 @@ use jt_layout::more;
 use jt_resolved::SlotExpr;
 use jt_trees::{Expr, Parameter};
 use jt_value::{NoMemory, Value};
-use std::alloc::Global;
 
 impl<'t, 's, 'a> Resolver<'t, 's, 'a> {
     /// Fills the parameters of a macro behind those that are given by place: each has what was kept
@@ -37,9 +34,7 @@ impl<'t, 's, 'a> Resolver<'t, 's, 'a> {
         done: &mut Vec<(Option<usize>, SlotExpr)>,
     ) -> Result<(), NoMemory>
         ensures { IfOk result (λ u. (p : List Tree)
-            → RowLeads (resolve.filled (parameters_view signature.entry.parameters.now)
-            (length arguments.entry.row.now) signature.entry.first_default
-            (kept_of self.now (written.pairs_view arguments.entry.pairs.now))) slots.none
+            → RowLeads (filled_of self.now signature.entry arguments.entry) slots.none
             done.old.items done.new.items p p) }
     {
         let given = arguments.row.len();
@@ -61,11 +56,8 @@ impl<'t, 's, 'a> Resolver<'t, 's, 'a> {
         done: &mut Vec<(Option<usize>, SlotExpr)>,
         pool: &mut Vec<Value>,
     ) -> Result<(), NoMemory>
-        ensures { IfOk result (λ u. RowLeads (resolve.filled_some
-            (parameters_view parameters.now) (length arguments.entry.row.now)
-            (keywords (written.pairs_view arguments.entry.pairs.now))
-            (kept_of self.now (written.pairs_view arguments.entry.pairs.now))) slots.none
-            done.old.items done.new.items (values pool.old) (values pool.new)) }
+        ensures { IfOk result (λ u. RowAdds (some_filled_of self.now parameters.now arguments.entry)
+            slots.none done.old done.new pool.old pool.new) }
     {
         let rest = behind(parameters, arguments.row.len());
         for (place, parameter) in rest.iter().enumerate() {
@@ -86,10 +78,9 @@ impl<'t, 's, 'a> Resolver<'t, 's, 'a> {
         pairs: &[(String, Expr)],
         pool: &mut Vec<Value>,
     ) -> Result<SlotExpr, NoMemory>
-        ensures { IfOk result (λ e. IsPlaced (resolve.value_or (slot_in
+        ensures { IfOk result (λ e. IsAdded (resolve.value_or (slot_in
             (parameter_view parameter.now).name (kept_of self.now (written.pairs_view pairs.now)))
-            (own (default_value (parameter_view parameter.now).default))) (expr_view e)
-            (values pool.old) (values pool.new)) }
+            (own (default_value (parameter_view parameter.now).default))) e pool.old pool.new) }
     {
         match self.kept(pairs, parameter.name.as_str())? {
             Some(slot) => Ok(SlotExpr::Variable(slot)),
@@ -106,17 +97,6 @@ fn behind(parameters: &[Parameter], given: usize) -> &[Parameter]
         &parameters[given..]
     } else {
         &parameters[parameters.len()..]
-    }
-}
-
-/// The default of a parameter; undefined where it has none.
-fn default_of(alloc: Global, parameter: &Parameter) -> Result<Value, NoMemory>
-    ensures { IfOk result
-        (λ v. view v ≡ default_value (parameter_view parameter.now).default) }
-{
-    match &parameter.default {
-        Some(literal) => literal_value(alloc, literal),
-        None => Ok(Value::Undefined),
     }
 }
 

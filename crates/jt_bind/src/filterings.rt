@@ -3,12 +3,11 @@
 ghost use Rattle.std.specs.Prelude.{◌≡◌, List, length, IfOk};
 ghost use Rattle.jt_value.specs.Tree.{Tree};
 ghost use Rattle.jt_trees.specs.StatementView.{filtering_view, filterings_view};
-ghost use Rattle.jt_meaning.specs.Resolve.{resolved_filters};
 ghost use Rattle.jt_resolved.specs.Pool.{Constant};
 ghost use Rattle.jt_resolved.specs.Slots as slots;
-ghost use Rattle.jt_resolved.specs.View.{slot_view, expr_view};
-ghost use Rattle.jt_bind.specs.Resolving.{spot_of, filtered_of};
-ghost use Rattle.jt_bind.specs.Scoped.{values, IsPlaced, world_in, order_in};
+ghost use Rattle.jt_resolved.specs.View.{slot_view};
+ghost use Rattle.jt_bind.specs.Resolving.{filtering_of, filterings_of};
+ghost use Rattle.jt_bind.specs.Scoped.{values, IsShown, IsAdded};
 
 use crate::lookup::absent;
 use crate::resolver::{Arguments, Resolver};
@@ -25,10 +24,8 @@ impl<'t, 's, 'a> Resolver<'t, 's, 'a> {
         value: Slot,
         pool: &mut Vec<Value>,
     ) -> Result<SlotExpr, NoMemory>
-        ensures { IfOk result (λ e. IsPlaced (resolved_filters (world_in self.now.tables.now)
-            (order_in self.now.tables.now) (filterings_view filterings.now) (spot_of self.now)
-            (slots.variable (slot_view value))) (expr_view e) (values pool.old)
-            (values pool.new)) }
+        ensures { IfOk result (λ e. IsAdded (filterings_of self.now (filterings_view filterings.now)
+            (slots.variable (slot_view value))) e pool.old pool.new) }
     {
         let start = pool.len();
         let mut resolved = SlotExpr::Variable(value);
@@ -49,11 +46,9 @@ impl<'t, 's, 'a> Resolver<'t, 's, 'a> {
     ) -> Result<SlotExpr, NoMemory>
         ensures { IfOk result (λ e. (c : slots.SlotExpr Constant) (p : List Tree)
             → length p ≡ start
-            → IsPlaced c (expr_view value) p (values pool.old)
-            → IsPlaced (filtered_of self.now ((world_in self.now.tables.now).filters.named
-            (filtering_view filtering.now).name (filtering_view filtering.now).arguments
-            (filtering_view filtering.now).keywords) c (filtering_view filtering.now).arguments
-            (filtering_view filtering.now).keywords) (expr_view e) p (values pool.new)) }
+            → IsShown c value p (values pool.old)
+            → IsShown (filtering_of self.now (filtering_view filtering.now) c) e p
+            (values pool.new)) }
     {
         let row = filtering.arguments.as_slice();
         let pairs = filtering.keywords.as_slice();

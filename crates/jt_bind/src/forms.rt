@@ -1,25 +1,23 @@
 //! What the operators and tests of the language stand for.
 
-ghost use Rattle.std.specs.Prelude.{◌≡◌, pos, IfOk, List};
-ghost use Rattle.jt_value.specs.Tree as tree;
+ghost use Rattle.std.specs.Prelude.{◌≡◌, IfOk, List};
 ghost use Rattle.jt_value.specs.Tree.{Tree};
 ghost use Rattle.jt_value.specs.View.{view};
 ghost use Rattle.jt_trees.specs.ExpressionView.{literal_view};
+ghost use Rattle.jt_trees.specs.StatementView.{parameter_view};
+ghost use Rattle.jt_evaluation.specs.Filters.{default_value};
 ghost use Rattle.jt_meaning.specs.Operators as operators;
-ghost use Rattle.jt_ids.specs.declared.op_id.OpId.TheVariants.{Remainder};
 ghost use Rattle.jt_meaning.specs.Resolve as resolve;
-ghost use Rattle.jt_evaluation.specs.Loops.{index0};
-ghost use Rattle.jt_resolved.specs.Pool.{Constant, own};
+ghost use Rattle.jt_resolved.specs.Pool.{Constant};
 ghost use Rattle.jt_resolved.specs.Slots as slots;
 ghost use Rattle.jt_evaluation.specs.Values.{literal};
-ghost use Rattle.jt_resolved.specs.View.{expr_view};
 ghost use Rattle.jt_bind.specs.Formed.{form_view, IsNumber};
-ghost use Rattle.jt_bind.specs.Scoped.{values, IsPlaced};
+ghost use Rattle.jt_bind.specs.Scoped.{IsShown, IsAdded, turn_in};
 
 use crate::pool::add_value;
 use jt_ids::OpId;
 use jt_resolved::{Field, Maker, SlotExpr};
-use jt_trees::{BinaryOperator, Literal, UnaryOperator};
+use jt_trees::{BinaryOperator, Literal, Parameter, UnaryOperator};
 use jt_value::{NoMemory, Value};
 use std::alloc::Global;
 
@@ -45,6 +43,17 @@ pub(crate) fn literal_value(alloc: Global, constant: &Literal) -> Result<Value, 
         Literal::Text(text) => Ok(Value::text(alloc, text)?),
         Literal::Truth(truth) => Ok(Value::Bool(*truth)),
         Literal::None => Ok(Value::None),
+    }
+}
+
+/// The default of a parameter; undefined where it has none.
+pub(crate) fn default_of(alloc: Global, parameter: &Parameter) -> Result<Value, NoMemory>
+    ensures { IfOk result
+        (λ v. view v ≡ default_value (parameter_view parameter.now).default) }
+{
+    match &parameter.default {
+        Some(literal) => literal_value(alloc, literal),
+        None => Ok(Value::Undefined),
     }
 }
 
@@ -109,8 +118,8 @@ fn join(escaping: bool) -> OpId
 /// An operation on one operand.
 pub(crate) fn on_one(alloc: Global, op: OpId, operand: SlotExpr) -> Result<SlotExpr, NoMemory>
     ensures { IfOk result (λ e. (a : slots.SlotExpr Constant) (p q : List Tree)
-        → IsPlaced a (expr_view operand) p q
-        → IsPlaced (slots.made (slots.operator op) (slots.item a slots.none)) (expr_view e) p q) }
+        → IsShown a operand p q
+        → IsShown (slots.made (slots.operator op) (slots.item a slots.none)) e p q) }
 {
     let mut row = Vec::new(alloc);
     row.push((None, operand))?;
@@ -125,9 +134,9 @@ pub(crate) fn on_two(
     right: SlotExpr,
 ) -> Result<SlotExpr, NoMemory>
     ensures { IfOk result (λ e. (a b : slots.SlotExpr Constant) (p q r : List Tree)
-        → IsPlaced a (expr_view left) p q
-        → IsPlaced b (expr_view right) q r
-        → IsPlaced (resolve.operation_of op a b) (expr_view e) p r) }
+        → IsShown a left p q
+        → IsShown b right q r
+        → IsShown (resolve.operation_of op a b) e p r) }
 {
     let mut row = Vec::new(alloc);
     row.push((None, left))?;
@@ -138,8 +147,8 @@ pub(crate) fn on_two(
 /// Its truth turned round, where the flag says so.
 pub(crate) fn turned(alloc: Global, negated: bool, inside: SlotExpr) -> Result<SlotExpr, NoMemory>
     ensures { IfOk result (λ e. (a : slots.SlotExpr Constant) (p q : List Tree)
-        → IsPlaced a (expr_view inside) p q
-        → IsPlaced (resolve.turned_round negated a) (expr_view e) p q) }
+        → IsShown a inside p q
+        → IsShown (resolve.turned_round negated a) e p q) }
 {
     if negated {
         on_one(alloc, OpId::Not, inside)
@@ -156,9 +165,9 @@ pub(crate) fn formed(
     right: SlotExpr,
 ) -> Result<SlotExpr, NoMemory>
     ensures { IfOk result (λ e. (a b : slots.SlotExpr Constant) (p q r : List Tree)
-        → IsPlaced a (expr_view left) p q
-        → IsPlaced b (expr_view right) q r
-        → IsPlaced (resolve.in_form (form_view form) a b) (expr_view e) p r) }
+        → IsShown a left p q
+        → IsShown b right q r
+        → IsShown (resolve.in_form (form_view form) a b) e p r) }
 {
     match form {
         Form::Operation(op) => on_two(alloc, op, left, right),
@@ -185,10 +194,10 @@ pub(crate) fn chosen(
     other: SlotExpr,
 ) -> Result<SlotExpr, NoMemory>
     ensures { IfOk result (λ e. (c a b : slots.SlotExpr Constant) (p q r s : List Tree)
-        → IsPlaced c (expr_view condition) p q
-        → IsPlaced a (expr_view value) q r
-        → IsPlaced b (expr_view other) r s
-        → IsPlaced (slots.choice c a b) (expr_view e) p s) }
+        → IsShown c condition p q
+        → IsShown a value q r
+        → IsShown b other r s
+        → IsShown (slots.choice c a b) e p s) }
 {
     let asked = Box::new(alloc, condition)?;
     let first = Box::new(alloc, value)?;
@@ -205,9 +214,7 @@ pub(crate) fn turn_among(
     count: usize,
     pool: &mut Vec<Value>,
 ) -> Result<SlotExpr, NoMemory>
-    ensures { IfOk result (λ e. IsPlaced (resolve.operation_of Remainder (slots.field index0)
-        (slots.pooled (own (tree.number (pos count))))) (expr_view e) (values pool.old)
-        (values pool.new)) }
+    ensures { IfOk result (λ e. IsAdded (turn_in count) e pool.old pool.new) }
 {
     let number = number_of(count)?;
     let items = add_value(pool, number)?;

@@ -5,11 +5,10 @@ ghost use Rattle.jt_trees.specs.Expressions.{Text};
 ghost use Rattle.jt_bind.specs.Counts as counts;
 ghost use Rattle.jt_resolved.specs.Locals as locals;
 ghost use Rattle.jt_resolved.specs.Slots as slots;
-ghost use Rattle.jt_resolved.specs.Slots.{SBody};
 ghost use Rattle.jt_resolved.specs.View.{slot_view, targets_view, expr_view, row_view, stmt_view, body_view};
 
 use jt_layout::more;
-use jt_resolved::{Slot, SlotExpr, SlotStmt, Targets};
+use jt_resolved::{Slot, SlotBranch, SlotExpr, SlotStmt, Targets};
 use jt_value::NoMemory;
 
 /// The larger one of two numbers.
@@ -130,7 +129,7 @@ fn condition_locals(condition: &Option<SlotExpr>) -> Result<usize, NoMemory>
 /// The locals of a statement.
 #[cycle(statements)]
 fn stmt_locals(statement: &SlotStmt) -> Result<usize, NoMemory>
-    ensures { IfOk result (λ n. (templates : List Text) (behind : SBody ℕ)
+    ensures { IfOk result (λ n. (templates : List Text) (behind : slots.SBody ℕ)
         → locals.body_locals (stmt_view templates statement.now behind)
         ≡ max n (locals.body_locals behind)) }
 {
@@ -147,7 +146,11 @@ fn stmt_locals(statement: &SlotStmt) -> Result<usize, NoMemory>
         }
         SlotStmt::If(branches, other) => {
             let mut most = body_locals(other)?;
-            for (_, condition, body) in branches {
+            for SlotBranch {
+                condition,
+                body,
+                ..
+            } in branches {
                 let asked = expr_locals(condition)?;
                 most = larger(most, larger(asked, body_locals(body)?));
             }
@@ -179,7 +182,7 @@ fn stmt_locals(statement: &SlotStmt) -> Result<usize, NoMemory>
 /// The locals of statements.
 #[cycle(statements)]
 pub(crate) fn body_locals(body: &[SlotStmt]) -> Result<usize, NoMemory>
-    ensures { IfOk result (λ n. (templates : List Text) (behind : SBody ℕ)
+    ensures { IfOk result (λ n. (templates : List Text) (behind : slots.SBody ℕ)
         → locals.body_locals (body_view templates body.now behind)
         ≡ max n (locals.body_locals behind)) }
 {

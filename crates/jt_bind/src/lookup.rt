@@ -1,15 +1,14 @@
 //! What names read.
 
-ghost use Rattle.std.specs.Prelude.{◌≡◌, List, option_map, IfOk};
-ghost use Rattle.jt_value.specs.Tree.{Tree};
+ghost use Rattle.std.specs.Prelude.{◌≡◌, option_map, IfOk};
 ghost use Rattle.jt_trees.specs.ExpressionView as written;
 ghost use Rattle.jt_meaning.specs.Layout.{slot_in};
 ghost use Rattle.jt_meaning.specs.Resolve as resolve;
 ghost use Rattle.jt_resolved.specs.Pool.{known};
 ghost use Rattle.jt_resolved.specs.Slots as slots;
-ghost use Rattle.jt_resolved.specs.View.{slot_view, expr_view};
+ghost use Rattle.jt_resolved.specs.View.{slot_view};
 ghost use Rattle.jt_bind.specs.Resolving.{kept_of, table_of};
-ghost use Rattle.jt_bind.specs.Scoped.{IsPlaced, globals_in};
+ghost use Rattle.jt_bind.specs.Scoped.{PutsNone, globals_in};
 
 use crate::resolver::Resolver;
 use crate::tables::Tables;
@@ -20,9 +19,7 @@ use jt_value::NoMemory;
 
 /// What a slot holds, or the value at a place of the pool.
 pub(crate) fn value_or(slot: Option<Slot>, place: usize) -> SlotExpr
-    ensures { (p : List Tree)
-        → IsPlaced (resolve.value_or (option_map slot_view slot) (known place)) (expr_view result) p
-        p }
+    ensures { PutsNone (resolve.value_or (option_map slot_view slot) (known place)) result }
 {
     match slot {
         Some(slot) => SlotExpr::Variable(slot),
@@ -32,22 +29,21 @@ pub(crate) fn value_or(slot: Option<Slot>, place: usize) -> SlotExpr
 
 /// What a name reads: a name that has no slot is undefined.
 pub(crate) fn reading(slot: Option<Slot>) -> SlotExpr
-    ensures { (p : List Tree)
-        → IsPlaced (resolve.read_from (option_map slot_view slot)) (expr_view result) p p }
+    ensures { PutsNone (resolve.read_from (option_map slot_view slot)) result }
 {
     value_or(slot, 0)
 }
 
 /// No value.
 pub(crate) fn no_value() -> SlotExpr
-    ensures { (p : List Tree) → IsPlaced resolve.no_value (expr_view result) p p }
+    ensures { PutsNone resolve.no_value result }
 {
     SlotExpr::Pooled(0)
 }
 
 /// What no name means.
 pub(crate) fn absent() -> SlotExpr
-    ensures { (p : List Tree) → IsPlaced slots.absent (expr_view result) p p }
+    ensures { PutsNone slots.absent result }
 {
     SlotExpr::Absent
 }

@@ -1,13 +1,12 @@
 //! What a loop tells.
 
-ghost use Rattle.std.specs.Prelude.{◌≡◌, List, option_map};
-ghost use Rattle.jt_value.specs.Tree.{Tree};
+ghost use Rattle.std.specs.Prelude.{◌≡◌, option_map};
 ghost use Rattle.jt_trees.specs.ExpressionView as written;
 ghost use Rattle.jt_chains.specs.Chain.{is_loop};
 ghost use Rattle.jt_meaning.specs.Resolve as resolve;
 ghost use Rattle.jt_evaluation.specs.Loops.{field_named};
-ghost use Rattle.jt_resolved.specs.View.{field_view, expr_view};
-ghost use Rattle.jt_bind.specs.Scoped.{IsPlaced};
+ghost use Rattle.jt_resolved.specs.View.{field_view};
+ghost use Rattle.jt_bind.specs.Scoped.{PutsNone};
 
 use crate::lookup::absent;
 use jt_resolved::{Field, SlotExpr};
@@ -43,8 +42,7 @@ pub(crate) fn field_of(name: &str) -> Option<Field>
 
 /// What a loop tells; an unknown field is absent.
 pub(crate) fn told(field: Option<Field>) -> SlotExpr
-    ensures { (p : List Tree)
-        → IsPlaced (resolve.field_from (option_map field_view field)) (expr_view result) p p }
+    ensures { PutsNone (resolve.field_from (option_map field_view field)) result }
 {
     match field {
         Some(field) => SlotExpr::Field(field),

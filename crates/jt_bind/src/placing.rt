@@ -5,13 +5,11 @@ ghost use Rattle.jt_bind.specs.Chains.{Chains};
 ghost use Rattle.jt_meaning.specs.Resolve as resolve;
 ghost use Rattle.jt_meaning.specs.Layout.{slot_in};
 ghost use Rattle.jt_bind.specs.Resolving.{StmtLeads, line_of, table_of};
-ghost use Rattle.jt_bind.specs.Scoped.{IsPlaced, globals_in, spot_in, templates_in};
+ghost use Rattle.jt_bind.specs.Scoped.{PutsNone, globals_in, spot_in};
 ghost use Rattle.jt_trees.specs.Statements as trees;
-ghost use Rattle.jt_resolved.specs.View.{expr_view};
 ghost use Rattle.jt_names.specs.Names.{texts};
 ghost use Rattle.jt_value.specs.Tree.{Tree};
-ghost use Rattle.jt_trees.specs.Statements.{Body};
-ghost use Rattle.jt_bind.specs.Stated.{Led};
+ghost use Rattle.jt_bind.specs.Stated.{Puts};
 
 use crate::lookup::{absent, no_value, reading};
 use crate::putting::{put_assign, put_print, put_run};
@@ -40,8 +38,8 @@ fn put_missing(
     done: &mut Vec<SlotStmt>,
 ) -> Result<(), NoMemory>
     ensures { IfOk result (λ u. (s : Chains) (p : List Tree)
-        → Led (templates_in s) (resolve.left_out (spot_in s spot.now) line ignore_missing)
-        done.old.items done.new.items p p) }
+        → Puts s (resolve.left_out (spot_in s spot.now) line ignore_missing) done.old done.new p
+        p) }
 {
     if ignore_missing {
         return Ok(());
@@ -61,10 +59,8 @@ fn seen_by<'s, 'a>(spot: &Spot<'s, 'a>, scoped: bool) -> Spot<'s, 'a>
 impl<'t, 's, 'a> Resolver<'t, 's, 'a> {
     /// What an included chain is handed under a name: what the name reads, or nothing.
     fn handed(&self, with_context: bool, name: &str) -> SlotExpr
-        ensures { (p : List Tree)
-            → IsPlaced (resolve.read_from
-            (slot_in name.now (if with_context then table_of self.now else []))) (expr_view result)
-            p p }
+        ensures { PutsNone (resolve.read_from
+            (slot_in name.now (if with_context then table_of self.now else []))) result }
     {
         if with_context {
             reading(self.slot(name))
@@ -82,9 +78,9 @@ impl<'t, 's, 'a> Resolver<'t, 's, 'a> {
         done: &mut Vec<SlotStmt>,
     ) -> Result<(), NoMemory>
         ensures { IfOk result (λ u. (p : List Tree)
-            → Led (templates_in self.now.tables.now) (resolve.handed_on (line_of self.now line)
+            → Puts self.now.tables.now (resolve.handed_on (line_of self.now line)
             (if with_context then table_of self.now else []) there.now.first_slot
-            (texts there.now.names.items)) done.old.items done.new.items p p) }
+            (texts there.now.names.items)) done.old done.new p p) }
     {
         let mut global = there.first_slot;
         for name in there.names.iter() {
@@ -136,7 +132,7 @@ impl<'t, 's, 'a> Resolver<'t, 's, 'a> {
         scoped: bool,
         done: &mut Vec<SlotStmt>,
     ) -> Result<(), NoMemory>
-        ensures { IfOk result (λ u. (line : ℕ) (required : Bool) (body : Body) (p : List Tree)
+        ensures { IfOk result (λ u. (line : ℕ) (required : Bool) (body : trees.Body) (p : List Tree)
             → StmtLeads self.now (trees.block line name.now scoped required body) done.old done.new
             p p) }
     {

@@ -39,8 +39,8 @@ pub(crate) fn template_names(alloc: Global, pages: &[Page]) -> Result<Vec<String
 
 /// The names of the entry's chain, by their slots.
 pub(crate) fn entry_names(alloc: Global, tables: &Tables<'_>) -> Result<Vec<String>, NoMemory>
-    ensures { IfOk result (λ ss. map string_bytes ss.items
-        ≡ layout.names (world_in tables.now) (order_in tables.now) (home_at (order_in tables.now) 0)) }
+    ensures { IfOk result (λ ss. map string_bytes ss.items ≡ layout.names (world_in tables.now)
+        (order_in tables.now) (home_at (order_in tables.now) 0)) }
 {
     tables.stands();
     strings_of(alloc, &tables.at(0).names)
@@ -48,8 +48,8 @@ pub(crate) fn entry_names(alloc: Global, tables: &Tables<'_>) -> Result<Vec<Stri
 
 /// How many globals the chains have.
 pub(crate) fn count_globals(tables: &Tables<'_>) -> Result<usize, NoMemory>
-    ensures { IfOk result (λ n.
-        n ≡ programs.count_globals (world_in tables.now) (order_in tables.now) (order_in tables.now)) }
+    ensures { IfOk result (λ n. n ≡ programs.count_globals (world_in tables.now)
+        (order_in tables.now) (order_in tables.now)) }
 {
     let mut globals = 0;
     for home in tables.homes() {

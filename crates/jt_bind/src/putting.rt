@@ -2,19 +2,17 @@
 
 ghost use Rattle.std.specs.Prelude.{List, Option, [], IfOk};
 ghost use Rattle.jt_value.specs.Tree as tree;
-ghost use Rattle.jt_value.specs.Tree.{Tree};
 ghost use Rattle.jt_bind.specs.Chains.{Chains};
 ghost use Rattle.jt_meaning.specs.Resolve.{alone};
-ghost use Rattle.jt_bind.specs.Scoped.{values, IsPlaced, RowLeads, templates_in};
+ghost use Rattle.jt_bind.specs.Scoped.{values, IsShown, RowLeads, templates_in};
 ghost use Rattle.jt_trees.specs.Expressions.{Text};
 ghost use Rattle.jt_resolved.specs.Pool.{Constant, own};
 ghost use Rattle.jt_resolved.specs.Slots as slots;
-ghost use Rattle.jt_resolved.specs.Slots.{SBody, SRow};
-ghost use Rattle.jt_resolved.specs.View.{expr_view, slot_view, targets_view};
-ghost use Rattle.jt_bind.specs.Stated.{Led, IsBody, IsAsked, ChoiceLeads, line_in};
+ghost use Rattle.jt_resolved.specs.View.{slot_view, targets_view};
+ghost use Rattle.jt_bind.specs.Stated.{Led, Puts, IsBody, IsAsked, ChoiceLeads, line_in};
 
 use crate::spot::Spot;
-use jt_resolved::{Place, Slot, SlotExpr, SlotStmt, Targets};
+use jt_resolved::{Place, Slot, SlotBranch, SlotExpr, SlotStmt, Targets};
 use jt_value::{NoMemory, Value};
 use std::alloc::Global;
 
@@ -42,10 +40,10 @@ pub(crate) fn put_print(
     value: SlotExpr,
     done: &mut Vec<SlotStmt>,
 ) -> Result<(), NoMemory>
-    ensures { IfOk result (λ u. (s : Chains) (c : slots.SlotExpr Constant) (p q : List Tree)
-        → IsPlaced c (expr_view value) p q
-        → Led (templates_in s) (alone (slots.print (line_in s spot.now line) spot.now.escaping c))
-        done.old.items done.new.items p q) }
+    ensures { IfOk result (λ u. (s : Chains) (c : slots.SlotExpr Constant) (p q : List tree.Tree)
+        → IsShown c value p q
+        → Puts s (alone (slots.print (line_in s spot.now line) spot.now.escaping c)) done.old
+        done.new p q) }
 {
     let place = Place {
         template: spot.template,
@@ -67,11 +65,10 @@ pub(crate) fn put_assign(
     value: SlotExpr,
     done: &mut Vec<SlotStmt>,
 ) -> Result<(), NoMemory>
-    ensures { IfOk result (λ u. (s : Chains) (c : slots.SlotExpr Constant) (p q : List Tree)
-        → IsPlaced c (expr_view value) p q
-        → Led (templates_in s)
-        (alone (slots.assign (line_in s spot.now line) (targets_view targets) c)) done.old.items
-        done.new.items p q) }
+    ensures { IfOk result (λ u. (s : Chains) (c : slots.SlotExpr Constant) (p q : List tree.Tree)
+        → IsShown c value p q
+        → Puts s (alone (slots.assign (line_in s spot.now line) (targets_view targets) c)) done.old
+        done.new p q) }
 {
     let place = Place {
         template: spot.template,
@@ -87,12 +84,12 @@ pub(crate) fn put_assign(
 
 /// Puts branches and the else part behind other statements.
 pub(crate) fn put_choice(
-    branches: Vec<(Place, SlotExpr, Vec<SlotStmt>)>,
+    branches: Vec<SlotBranch<SlotStmt>>,
     other: Vec<SlotStmt>,
     done: &mut Vec<SlotStmt>,
 ) -> Result<(), NoMemory>
-    ensures { IfOk result (λ u. (templates : List Text) (whole last : SBody Constant)
-        (p q r : List Tree)
+    ensures { IfOk result (λ u. (templates : List Text) (whole last : slots.SBody Constant)
+        (p q r : List tree.Tree)
         → ChoiceLeads templates whole last branches.items p q
         → IsBody templates last other.items q r
         → Led templates whole done.old.items done.new.items p r) }
@@ -119,14 +116,14 @@ pub(crate) fn put_loop(
     done: &mut Vec<SlotStmt>,
 ) -> Result<(), NoMemory>
     ensures { IfOk result (λ u. (s : Chains) (c : slots.SlotExpr Constant)
-        (k : Option (slots.SlotExpr Constant)) (turn last : SBody Constant) (p q r t v : List Tree)
-        → IsPlaced c (expr_view made.items) p q
+        (k : Option (slots.SlotExpr Constant)) (turn last : slots.SBody Constant)
+        (p q r t v : List tree.Tree)
+        → IsShown c made.items p q
         → IsAsked k made.condition q r
         → IsBody (templates_in s) turn made.body.items r t
         → IsBody (templates_in s) last made.other.items t v
-        → Led (templates_in s)
-        (alone (slots.for_each (line_in s spot.now line) (targets_view made.targets) c k turn last))
-        done.old.items done.new.items p v) }
+        → Puts s (alone (slots.for_each (line_in s spot.now line) (targets_view made.targets) c k
+        turn last)) done.old done.new p v) }
 {
     let place = Place {
         template: spot.template,
@@ -157,8 +154,8 @@ pub(crate) fn put_capture(
     body: Vec<SlotStmt>,
     done: &mut Vec<SlotStmt>,
 ) -> Result<(), NoMemory>
-    ensures { IfOk result (λ u. (templates : List Text) (whole : SBody Constant)
-        (p q : List Tree)
+    ensures { IfOk result (λ u. (templates : List Text) (whole : slots.SBody Constant)
+        (p q : List tree.Tree)
         → IsBody templates whole body.items p q
         → Led templates (alone (slots.capture escaping (slot_view slot) whole)) done.old.items
         done.new.items p q) }
@@ -177,7 +174,8 @@ pub(crate) fn put_run(
     row: Vec<(Option<usize>, SlotExpr)>,
     done: &mut Vec<SlotStmt>,
 ) -> Result<(), NoMemory>
-    ensures { IfOk result (λ u. (templates : List Text) (es : SRow Constant) (p q : List Tree)
+    ensures { IfOk result (λ u. (templates : List Text) (es : slots.SRow Constant)
+        (p q : List tree.Tree)
         → RowLeads es slots.none [] row.items p q
         → Led templates (alone (slots.run unit es)) done.old.items done.new.items p q) }
 {

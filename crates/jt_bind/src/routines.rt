@@ -1,24 +1,18 @@
 //! Resolves the routines of a chain or a library: the chain, its macros, and the bodies of its
 //! blocks.
 
-ghost use Rattle.std.specs.Prelude.{◌≡◌, map, IfOk, if◌then◌else◌};
-ghost use Rattle.jt_chains.specs.Chain.{a_chain, macros};
-ghost use Rattle.jt_chains.specs.Layers.{layer_view};
-ghost use Rattle.jt_chains.specs.Parts.{name_at};
-ghost use Rattle.jt_chains.specs.View.{chain_view};
-ghost use Rattle.jt_meaning.specs.Layout as layout;
-ghost use Rattle.jt_meaning.specs.Layout.{numbered_bodies};
+ghost use Rattle.std.specs.Prelude.{◌≡◌, IfOk, if◌then◌else◌};
+ghost use Rattle.jt_chains.specs.Chain.{a_chain};
 ghost use Rattle.jt_meaning.specs.Meaning.{is_set};
-ghost use Rattle.jt_meaning.specs.Programs as programs;
 ghost use Rattle.jt_meaning.specs.Resolve as resolve;
-ghost use Rattle.jt_bind.specs.Resolving.{BodyAdds, stmt_of, spot_of, templates_of, layer_of};
-ghost use Rattle.jt_bind.specs.Scoped.{values, world_in, order_in, home_in, spot_in, templates_in};
+ghost use Rattle.jt_bind.specs.Resolving.{BodyAdds, stmt_of, sets_of, routine_of, layer_of};
+ghost use Rattle.jt_bind.specs.Scoped.{world_in, order_in, home_in, spot_in, top_in};
 ghost use Rattle.jt_trees.specs.Expressions.{Text};
 ghost use Rattle.jt_trees.specs.StatementView.{stmt_view, body_view};
 ghost use Rattle.jt_resolved.specs.Slots as slots;
 ghost use Rattle.jt_names.specs.Names.{texts};
-ghost use Rattle.jt_bind.specs.Routines.{IsRoutine, AreRoutines, AllLed};
-ghost use Rattle.jt_bind.specs.Stated.{BodyLed};
+ghost use Rattle.jt_bind.specs.Routines.{RoutineIs, PutsAll, AddsAll, entry_in, macros_in, blocks_in, routines_in};
+ghost use Rattle.jt_bind.specs.Stated.{BodyLed, layers_in};
 
 use crate::entering::parameters_of;
 use crate::locals::{body_locals, larger};
@@ -33,9 +27,7 @@ use std::alloc::Global;
 
 /// At the top of a template, where names are globals.
 fn top_spot<'s, 'a>(tables: &'s Tables<'a>, template: usize) -> Spot<'s, 'a>
-    ensures { spot_in tables.now result
-        ≡ resolve.top_spot (world_in tables.now) (order_in tables.now) (home_in tables.now)
-        (name_at (chain_view tables.now.chain.now).templates template) }
+    ensures { spot_in tables.now result ≡ top_in tables.now template }
 {
     Spot {
         template,
@@ -76,10 +68,9 @@ impl<'t, 's, 'a> Resolver<'t, 's, 'a> {
         parameters: Vec<&'a str>,
         pool: &mut Vec<Value>,
     ) -> Result<Routine, NoMemory>
-        ensures { IfOk result (λ r. IsRoutine (templates_of self.now)
-            (resolve.resolved_routine (world_in self.now.tables.now) (order_in self.now.tables.now)
-            (texts parameters.entry.items) (body_view body.now) (spot_of self.now)) r
-            (values pool.old) (values pool.new)) }
+        ensures { IfOk result (λ r. RoutineIs self.now.tables.now
+            (routine_of self.now (texts parameters.entry.items) (body_view body.now)) r
+            pool.old pool.new) }
     {
         let count = parameters.len();
         let mut done = Vec::new(self.alloc);
@@ -116,9 +107,8 @@ impl<'t, 's, 'a> Resolver<'t, 's, 'a> {
         done: &mut Vec<SlotStmt>,
         pool: &mut Vec<Value>,
     ) -> Result<(), NoMemory>
-        ensures { IfOk result (λ u. BodyAdds self.now
-            (resolve.resolved_sets (world_in self.now.tables.now) (order_in self.now.tables.now)
-            (body_view body.now) (spot_of self.now)) done.old done.new pool.old pool.new) }
+        ensures { IfOk result (λ u. BodyAdds self.now (sets_of self.now (body_view body.now))
+            done.old done.new pool.old pool.new) }
     {
         for statement in body {
             self.resolve_if_set(statement, done, pool)?;
@@ -152,10 +142,8 @@ fn resolve_layers<'a>(
     done: &mut Vec<SlotStmt>,
     pool: &mut Vec<Value>,
 ) -> Result<(), NoMemory>
-    ensures { IfOk result (λ u. BodyLed tables.now (resolve.resolved_chain (world_in tables.now)
-        (order_in tables.now) (home_in tables.now) (map
-        (layer_view (chain_view tables.now.chain.now).templates) layers.now)) done.old done.new
-        pool.old pool.new) }
+    ensures { IfOk result (λ u. BodyLed tables.now (layers_in tables.now layers.now) done.old
+        done.new pool.old pool.new) }
 {
     for (place, layer) in layers.iter().enumerate() {
         let is_root = place + 1 == layers.len();
@@ -177,9 +165,8 @@ fn resolve_chain<'a>(
 ) -> Result<Routine, NoMemory>
     ensures { IfOk result (λ r. (n : Text)
         → home_in tables.now ≡ a_chain n
-        → IsRoutine (templates_in tables.now)
-        (resolve.chain_routine (world_in tables.now) (order_in tables.now) n) r (values pool.old)
-        (values pool.new)) }
+        → RoutineIs tables.now (resolve.chain_routine (world_in tables.now) (order_in tables.now) n)
+        r pool.old pool.new) }
 {
     tables.stands();
     let layers = tables.chain().layers(alloc, tables.home())?;
@@ -200,9 +187,8 @@ fn resolve_entry<'a>(
     routines: &mut Vec<Routine>,
     pool: &mut Vec<Value>,
 ) -> Result<(), NoMemory>
-    ensures { IfOk result (λ u. AllLed (templates_in tables.now)
-        (programs.entry_routines (world_in tables.now) (order_in tables.now) (home_in tables.now))
-        routines.old.items routines.new.items (values pool.old) (values pool.new)) }
+    ensures { IfOk result (λ u. PutsAll tables.now (entry_in tables.now) routines.old routines.new
+        pool.old pool.new) }
 {
     let here = tables.here();
     if here.is_library {
@@ -219,10 +205,8 @@ fn resolve_macros<'a>(
     routines: &mut Vec<Routine>,
     pool: &mut Vec<Value>,
 ) -> Result<(), NoMemory>
-    ensures { IfOk result (λ u. AllLed (templates_in tables.now) (map
-        (resolve.macro_routine (world_in tables.now) (order_in tables.now) (home_in tables.now))
-        (macros (world_in tables.now).sources (home_in tables.now))) routines.old.items
-        routines.new.items (values pool.old) (values pool.new)) }
+    ensures { IfOk result (λ u. PutsAll tables.now (macros_in tables.now) routines.old routines.new
+        pool.old pool.new) }
 {
     let here = tables.here();
     for called in here.macros.iter() {
@@ -255,10 +239,8 @@ fn resolve_blocks<'a>(
     routines: &mut Vec<Routine>,
     pool: &mut Vec<Value>,
 ) -> Result<(), NoMemory>
-    ensures { IfOk result (λ u. AllLed (templates_in tables.now) (programs.body_routines
-        (world_in tables.now) (order_in tables.now) (home_in tables.now)
-        (numbered_bodies (world_in tables.now) (home_in tables.now))) routines.old.items
-        routines.new.items (values pool.old) (values pool.new)) }
+    ensures { IfOk result (λ u. PutsAll tables.now (blocks_in tables.now) routines.old routines.new
+        pool.old pool.new) }
 {
     let here = tables.here();
     for (place, block) in here.blocks.iter().enumerate() {
@@ -288,9 +270,8 @@ pub(crate) fn resolve_home<'a>(
     routines: &mut Vec<Routine>,
     pool: &mut Vec<Value>,
 ) -> Result<(), NoMemory>
-    ensures { IfOk result (λ u. AreRoutines (templates_in tables.now)
-        (programs.chain_routines (world_in tables.now) (order_in tables.now) (home_in tables.now))
-        routines.old.items routines.new.items (values pool.old) (values pool.new)) }
+    ensures { IfOk result (λ u. AddsAll tables.now (routines_in tables.now) routines.old
+        routines.new pool.old pool.new) }
 {
     resolve_entry(alloc, tables, routines, pool)?;
     resolve_macros(alloc, tables, routines, pool)?;

@@ -1,13 +1,11 @@
 //! Rows of what names read.
 
 ghost use Rattle.std.specs.Prelude.{◌≡◌, List, [], ◌∷◌, length, None, IfOk};
-ghost use Rattle.jt_value.specs.Tree.{Tree};
 ghost use Rattle.jt_trees.specs.Expressions.{Text};
 ghost use Rattle.jt_names.specs.Names.{texts};
 ghost use Rattle.jt_meaning.specs.Resolve as resolve;
 ghost use Rattle.jt_bind.specs.Resolving.{table_of};
-ghost use Rattle.jt_bind.specs.Scoped.{RowLeads};
-ghost use Rattle.jt_resolved.specs.Slots as slots;
+ghost use Rattle.jt_bind.specs.Scoped.{IsRow};
 
 use crate::lookup::reading;
 use crate::resolver::Resolver;
@@ -18,9 +16,7 @@ use std::alloc::Global;
 impl<'t, 's, 'a> Resolver<'t, 's, 'a> {
     /// What names read, in a row.
     pub(crate) fn reads(&self, names: &[&str]) -> Result<Vec<(Option<usize>, SlotExpr)>, NoMemory>
-        ensures { IfOk result (λ row. (p : List Tree)
-            → RowLeads (resolve.reads (table_of self.now) (texts names.now)) slots.none [] row.items
-            p p) }
+        ensures { IfOk result (IsRow (resolve.reads (table_of self.now) (texts names.now))) }
     {
         let mut row = Vec::new(self.alloc);
         for name in names {
@@ -35,9 +31,9 @@ pub(crate) fn first_locals(
     alloc: Global,
     count: usize,
 ) -> Result<Vec<(Option<usize>, SlotExpr)>, NoMemory>
-    ensures { IfOk result (λ row. (xs : List Text) (p : List Tree)
+    ensures { IfOk result (λ row. (xs : List Text)
         → length xs ≡ count
-        → RowLeads (resolve.first_locals 0 xs) slots.none [] row.items p p) }
+        → IsRow (resolve.first_locals 0 xs) row) }
 {
     let mut row = Vec::new(alloc);
     for local in 0..count {

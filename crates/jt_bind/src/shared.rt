@@ -4,31 +4,16 @@ ghost use Rattle.std.specs.Prelude.{◌≡◌, ◌++◌, List, map, IfOk};
 ghost use Rattle.jt_chains.specs.Chain.{Template};
 ghost use Rattle.jt_chains.specs.Parts.{macro_view};
 ghost use Rattle.jt_meaning.specs.Layout as layout;
-ghost use Rattle.jt_meaning.specs.Layout.{defaults_of};
 ghost use Rattle.jt_bind.specs.Scoped.{values, world_in, order_in};
 ghost use Rattle.jt_trees.specs.StatementView.{parameter_view};
 ghost use Rattle.jt_evaluation.specs.Filters.{default_value};
-ghost use Rattle.jt_value.specs.View.{view};
 
+use crate::forms::default_of;
 use crate::tables::Tables;
 use jt_chains::Macro;
-use jt_trees::{Literal, Parameter};
+use jt_trees::Parameter;
 use jt_value::{NoMemory, Value};
 use std::alloc::Global;
-
-/// The default of a parameter; undefined where it has none.
-fn default_of(alloc: Global, parameter: &Parameter) -> Result<Value, NoMemory>
-    ensures { IfOk result
-        (λ v. view v ≡ default_value (parameter_view parameter.now).default) }
-{
-    match &parameter.default {
-        None => Ok(Value::Undefined),
-        Some(Literal::Number(number)) => Ok(Value::Int(*number)),
-        Some(Literal::Text(text)) => Ok(Value::text(alloc, text.as_str())?),
-        Some(Literal::Truth(truth)) => Ok(Value::Bool(*truth)),
-        Some(Literal::None) => Ok(Value::None),
-    }
-}
 
 /// Adds the defaults of parameters.
 fn add_defaults(
@@ -47,8 +32,8 @@ fn add_defaults(
 
 /// Adds the defaults of macros.
 fn add_macros(alloc: Global, macros: &[Macro<'_>], pool: &mut Vec<Value>) -> Result<(), NoMemory>
-    ensures { IfOk result (λ _. (ts : List Template)
-        → values pool.new ≡ values pool.old ++ defaults_of (map (macro_view ts) macros.now)) }
+    ensures { IfOk result (λ _. (ts : List Template) → values pool.new
+        ≡ values pool.old ++ layout.defaults_of (map (macro_view ts) macros.now)) }
 {
     for entry in macros {
         add_defaults(alloc, entry.parameters, pool)?;

@@ -3,16 +3,15 @@
 ghost use Rattle.std.specs.Prelude.{ℕ, option_map, IfOk};
 ghost use Rattle.jt_trees.specs.ExpressionView as written;
 ghost use Rattle.jt_meaning.specs.Resolve as resolve;
-ghost use Rattle.jt_bind.specs.Resolving.{BodyAdds, StmtAdds, templates_of, spot_of, line_of, expr_of, body_of, scoped_of, values_of};
-ghost use Rattle.jt_bind.specs.Scoped.{values, BodyLeads, world_in, order_in};
+ghost use Rattle.jt_bind.specs.Resolving.{BodyAdds, BodyIs, StmtAdds, BranchIs, TurnIs, templates_of, spot_of, body_of, scoped_of, values_of, inside_of, condition_of};
+ghost use Rattle.jt_bind.specs.Scoped.{values, BodyLeads};
 ghost use Rattle.jt_trees.specs.Statements as trees;
 ghost use Rattle.jt_trees.specs.StatementView.{stmt_view, body_view, names_view};
 ghost use Rattle.jt_resolved.specs.Pool.{Constant};
 ghost use Rattle.jt_resolved.specs.Slots as slots;
-ghost use Rattle.jt_resolved.specs.Slots.{SBody};
 ghost use Rattle.jt_resolved.specs.View.{slot_view};
 ghost use Rattle.jt_names.specs.Names.{texts};
-ghost use Rattle.jt_bind.specs.Stated.{IsBody, IsAsked, IsBranch, IsTurn};
+ghost use Rattle.jt_bind.specs.Stated.{IsAsked};
 
 use crate::entering::{entered, keywords_of, texts_of};
 use crate::placing::Inclusion;
@@ -22,8 +21,8 @@ use crate::spot::Spot;
 use crate::targets::fresh_targets;
 use jt_layout::more;
 use jt_names::set_names;
-use jt_resolved::{Place, Slot, SlotExpr, SlotStmt, Targets};
-use jt_trees::{Expr, Stmt};
+use jt_resolved::{Place, Slot, SlotBranch, SlotExpr, SlotStmt, Targets};
+use jt_trees::{Branch, Expr, Stmt};
 use jt_value::{NoMemory, Value};
 
 impl<'t, 's, 'a> Resolver<'t, 's, 'a> {
@@ -60,7 +59,11 @@ impl<'t, 's, 'a> Resolver<'t, 's, 'a> {
             Stmt::Print(line, value) => self.resolve_print(*line, value, done, pool),
             Stmt::If(branches, other) => {
                 let mut made = Vec::with_capacity(self.alloc, branches.len())?;
-                for (line, condition, body) in branches {
+                for Branch {
+                    line,
+                    condition,
+                    body,
+                } in branches {
                     made.push(self.resolve_branch(body, *line, condition, pool)?)?;
                 }
                 let last = self.resolve_whole(other, pool)?;
@@ -151,11 +154,9 @@ impl<'t, 's, 'a> Resolver<'t, 's, 'a> {
         line: u32,
         condition: &Expr,
         pool: &mut Vec<Value>,
-    ) -> Result<(Place, SlotExpr, Vec<SlotStmt>), NoMemory>
-        ensures { IfOk result (λ b. IsBranch (templates_of self.now)
-            (line_of self.now line)
-            (expr_of self.now (written.expr_view condition.now))
-            (body_of self.now (body_view body.now)) b (values pool.old) (values pool.new)) }
+    ) -> Result<SlotBranch<SlotStmt>, NoMemory>
+        ensures { IfOk result (λ b. BranchIs self.now line (written.expr_view condition.now)
+            (body_view body.now) b pool.old pool.new) }
     {
         let place = Place {
             template: self.spot.template,
@@ -163,7 +164,11 @@ impl<'t, 's, 'a> Resolver<'t, 's, 'a> {
         };
         let asked = self.resolve_expression(condition, pool)?;
         let taken = self.resolve_whole(body, pool)?;
-        Ok((place, asked, taken))
+        Ok(SlotBranch {
+            place,
+            condition: asked,
+            body: taken,
+        })
     }
 
     /// Resolves the condition and the body of a loop, where its names are in locals of their own.
@@ -175,13 +180,9 @@ impl<'t, 's, 'a> Resolver<'t, 's, 'a> {
         condition: &Option<Expr>,
         pool: &mut Vec<Value>,
     ) -> Result<(Option<SlotExpr>, Vec<SlotStmt>), NoMemory>
-        ensures { IfOk result (λ t. IsTurn self.now.tables.now (resolve.resolved_condition
-            (world_in self.now.tables.now) (order_in self.now.tables.now)
-            (option_map written.expr_view condition.now)
-            (resolve.bound_all (names_view names.now) (spot_of self.now)))
-            (scoped_of self.now (body_view body.now)
-            (resolve.bound_all (names_view names.now) (spot_of self.now))) t.0 t.1.items
-            (values pool.old) (values pool.new)) }
+        ensures { IfOk result (λ t. TurnIs self.now (names_view names.now)
+            (option_map written.expr_view condition.now) (body_view body.now) t pool.old
+            pool.new) }
     {
         let inner = entered(self.alloc, &self.spot, texts_of(self.alloc, names)?)?;
         let inside = Resolver {
@@ -208,8 +209,7 @@ impl<'t, 's, 'a> Resolver<'t, 's, 'a> {
         pool: &mut Vec<Value>,
     ) -> Result<(), NoMemory>
         ensures { IfOk result (λ u. BodyAdds self.now (scoped_of self.now (body_view body.now)
-            (resolve.bound_all (texts names.entry.items) (spot_of self.now))) done.old
-            done.new pool.old pool.new) }
+            (inside_of self.now (texts names.entry.items))) done.old done.new pool.old pool.new) }
     {
         let inner = entered(self.alloc, &self.spot, names)?;
         let inside = Resolver {
@@ -256,9 +256,8 @@ impl<'t, 's, 'a> Resolver<'t, 's, 'a> {
         body: &'a [Stmt],
         pool: &mut Vec<Value>,
     ) -> Result<Vec<SlotStmt>, NoMemory>
-        ensures { IfOk result (λ ss. IsBody (templates_of self.now)
-            (scoped_of self.now (body_view body.now) (spot_of self.now)) ss.items
-            (values pool.old) (values pool.new)) }
+        ensures { IfOk result (λ ss. BodyIs self.now
+            (scoped_of self.now (body_view body.now) (spot_of self.now)) ss pool.old pool.new) }
     {
         let mut done = Vec::new(self.alloc);
         self.resolve_scoped(body, &mut done, pool)?;
@@ -272,9 +271,8 @@ impl<'t, 's, 'a> Resolver<'t, 's, 'a> {
         body: &'a [Stmt],
         pool: &mut Vec<Value>,
     ) -> Result<Vec<SlotStmt>, NoMemory>
-        ensures { IfOk result (λ ss. IsBody (templates_of self.now)
-            (body_of self.now (body_view body.now)) ss.items (values pool.old)
-            (values pool.new)) }
+        ensures { IfOk result
+            (λ ss. BodyIs self.now (body_of self.now (body_view body.now)) ss pool.old pool.new) }
     {
         let mut done = Vec::new(self.alloc);
         self.resolve_body(body, &mut done, pool)?;
@@ -309,7 +307,8 @@ impl<'t, 's, 'a> Resolver<'t, 's, 'a> {
         pool: &mut Vec<Value>,
     ) -> Result<(), NoMemory>
         ensures { IfOk result (λ u. (line : ℕ) → StmtAdds self.now
-            (trees.autoescape line escaping (body_view body.now)) done.old done.new pool.old pool.new) }
+            (trees.autoescape line escaping (body_view body.now)) done.old done.new pool.old
+            pool.new) }
     {
         let mut inside = *self;
         inside.spot.escaping = escaping;
@@ -337,9 +336,9 @@ impl<'t, 's, 'a> Resolver<'t, 's, 'a> {
         condition: &Option<Expr>,
         pool: &mut Vec<Value>,
     ) -> Result<Option<SlotExpr>, NoMemory>
-        ensures { IfOk result (λ k. IsAsked (resolve.resolved_condition (world_in self.now.tables.now)
-            (order_in self.now.tables.now) (option_map written.expr_view condition.now)
-            (spot_of self.now)) k (values pool.old) (values pool.new)) }
+        ensures { IfOk result (λ k. IsAsked (condition_of self.now
+            (option_map written.expr_view condition.now) (spot_of self.now)) k (values pool.old)
+            (values pool.new)) }
     {
         match condition {
             Some(condition) => Ok(Some(self.resolve_expression(condition, pool)?)),
@@ -356,7 +355,7 @@ impl<'t, 's, 'a> Resolver<'t, 's, 'a> {
         done: &mut Vec<SlotStmt>,
         pool: &mut Vec<Value>,
     ) -> Result<(), NoMemory>
-        ensures { IfOk result (λ u. (behind : SBody Constant)
+        ensures { IfOk result (λ u. (behind : slots.SBody Constant)
             → BodyLeads (templates_of self.now)
             (values_of self.now (written.pairs_view pairs.now) line behind) behind
             done.old.items done.new.items (values pool.old) (values pool.new)) }

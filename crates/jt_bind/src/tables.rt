@@ -1,12 +1,12 @@
 //! The tables of the chains and libraries, which are laid out.
 
-ghost use Rattle.std.specs.Prelude.{◌≡◌, ◌<◌, ℕ, length, get_or, IfOk};
+ghost use Rattle.std.specs.Prelude.{◌≡◌, ◌<◌, length, IfOk};
 ghost use Rattle.std.specs.Option.{is_none};
 ghost use Rattle.jt_chains.specs.Chain.{a_chain, a_library};
 ghost use Rattle.jt_chains.specs.Places.{home_at};
 ghost use Rattle.jt_layout.specs.Laid.{IsHomeAt};
 ghost use Rattle.jt_meaning.specs.Layout.{keys};
-ghost use Rattle.jt_bind.specs.Scoped.{world_in, order_in, home_in, IsTable};
+ghost use Rattle.jt_bind.specs.Scoped.{world_in, order_in, home_in, IsTable, AreTables};
 
 use jt_chains::Chain;
 use jt_layout::{HomeTables, Laid, lay_out};
@@ -36,8 +36,6 @@ impl<'a> Model for Tables<'a> {
 }
 
 impl<'a> Tables<'a> {
-    ghost use Rattle.jt_layout.specs.declared.laid.Laid.{Laid};
-
     /// Lays out a chain, and begins with the entry's.
     pub(crate) fn new(alloc: Global, chain: &'a Chain) -> Result<Self, NoMemory>
         ensures chain { IfOk result (λ t. t.chain.now ≡ chain.now) }
@@ -72,10 +70,7 @@ impl<'a> Tables<'a> {
     /// The tables of all chains and libraries.
     pub(crate) fn homes(&self) -> &[Laid<'a>]
         ensures all { length result.now ≡ length (order_in self.now) }
-        ensures each { (i : ℕ) (l : Laid)
-            → i < length result.now
-            → l ≡ get_or result.now i l
-            → IsTable self.now (home_at (order_in self.now) i) l }
+        ensures each { AreTables self.now result.now }
     {
         &self.scope.homes
     }

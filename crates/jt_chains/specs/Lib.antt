@@ -8,6 +8,7 @@ pub mod Pages
 pub mod Parts
 pub mod Places
 pub mod Rules
+pub mod Spots
 pub mod Supers
 pub mod Tables
 pub mod Uses

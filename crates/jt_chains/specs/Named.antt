@@ -1,5 +1,5 @@
 -- What contracts see of the names of a chain that stand for a macro or a library.
-use Rattle.std.specs.Prelude.{List, map}
+use Rattle.std.specs.Prelude.{◌≡◌, ◌++◌, List, map}
 use Rattle.jt_trees.specs.Expressions.{Text}
 use Rattle.jt_chains.specs.Chain as chain
 use Rattle.jt_chains.specs.Chain.{Template, Home, a_library, one_macro, library}
@@ -20,3 +20,8 @@ module _ (ts : List Template) (home : Home) where
 
   abbrev pub names_view : List Named → List (Text × chain.Given)
   names_view = map named_view
+
+-- of each chain or library what was found comes behind the others
+abbrev pub Adds : List Template → List Named → List Named → (Home → List (Text × chain.Given))
+    → Type 0
+Adds ts old new more = (h : Home) → names_view ts h new ≡ names_view ts h old ++ more h

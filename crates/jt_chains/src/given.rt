@@ -1,16 +1,16 @@
 //! What the names of a chain are given to: its own macros, those of libraries, and libraries.
 
-ghost use Rattle.std.specs.Prelude.{◌≡◌, ◌<◌, ◌≤◌, ◌++◌, [], List, length, map, option_map, not, if◌then◌else◌, IfOk};
+ghost use Rattle.std.specs.Prelude.{◌≡◌, ◌<◌, ◌++◌, [], List, length, map, option_map, not, if◌then◌else◌, IfOk};
 ghost use Rattle.std.specs.List.{list_any};
 ghost use Rattle.jt_trees.specs.StatementView.{stmt_view, body_view, given_view};
 ghost use Rattle.jt_chains.specs.Chain as chains;
-ghost use Rattle.jt_chains.specs.Chain.{Template, templates, macros, own, all_given_from, imports_in, libraries_in, libraries, given, sources_in, a_library};
+ghost use Rattle.jt_chains.specs.Chain.{Template, templates, macros, own, all_given_from, imports_in, libraries_in, libraries, given, a_library};
 ghost use Rattle.jt_chains.specs.Along.{along, first_body};
 ghost use Rattle.jt_chains.specs.Pages.{pages_view};
 ghost use Rattle.jt_chains.specs.Parts.{macro_view, macros_view};
-ghost use Rattle.jt_chains.specs.Places.{home_at, place_of};
-ghost use Rattle.jt_chains.specs.Named.{names_view};
-ghost use Rattle.jt_chains.specs.View.{chain_view, sources_of};
+ghost use Rattle.jt_chains.specs.Places.{place_of};
+ghost use Rattle.jt_chains.specs.Named.{Adds, names_view};
+ghost use Rattle.jt_chains.specs.View.{NoneBeyond, home_in, imports_along, its_sources, its_templates};
 
 use crate::linked::{Chain, Home};
 use crate::pages::Page;
@@ -78,7 +78,7 @@ pub fn holds_macros(body: &[Stmt]) -> bool
 
 /// The place of the template of a name; the number of all where it isn't there.
 fn page_named(chain: &Chain, name: &str) -> usize
-    ensures { result ≡ place_of (pages_view chain.now.templates.items) name.now }
+    ensures { result ≡ place_of (its_templates chain.now) name.now }
 {
     match chain.places.get(name) {
         Some(place) => *place,
@@ -89,8 +89,7 @@ fn page_named(chain: &Chain, name: &str) -> usize
 /// The statements of a library; none where it isn't there.
 fn body_of_library<'a>(chain: &'a Chain, name: &str) -> &'a [Stmt]
     ensures { body_view result.now
-        ≡ first_body
-        (templates (sources_in (pages_view chain.now.templates.items)) (a_library name.now)) }
+        ≡ first_body (templates (its_sources chain.now) (a_library name.now)) }
 {
     let body = body_of_page(&chain.templates, page_named(chain, name));
     if holds_macros(body) { body } else { &[] }
@@ -113,11 +112,8 @@ fn add_from<'a>(
     names: &'a [(String, String)],
     found: &mut Vec<Named<'a>>,
 ) -> Result<(), AllocError>
-    ensures { IfOk result (λ _. (h : chains.Home)
-        → names_view (pages_view chain.now.templates.items) h found.new.items
-        ≡ names_view (pages_view chain.now.templates.items) h found.old.items
-        ++ all_given_from (sources_in (pages_view chain.now.templates.items)) library.now
-        (given_view names.now)) }
+    ensures { IfOk result (λ _. Adds (its_templates chain.now) found.old.items found.new.items
+        (λ h. all_given_from (its_sources chain.now) library.now (given_view names.now))) }
 {
     for (name, given) in names {
         if let Some(one) = chain.library_macro(library, name) {
@@ -136,10 +132,8 @@ fn add_imports<'a>(
     body: &'a [Stmt],
     found: &mut Vec<Named<'a>>,
 ) -> Result<(), AllocError>
-    ensures { IfOk result (λ _. (h : chains.Home)
-        → names_view (pages_view chain.now.templates.items) h found.new.items
-        ≡ names_view (pages_view chain.now.templates.items) h found.old.items
-        ++ imports_in (sources_in (pages_view chain.now.templates.items)) (body_view body.now)) }
+    ensures { IfOk result (λ _. Adds (its_templates chain.now) found.old.items found.new.items
+        (λ h. imports_in (its_sources chain.now) (body_view body.now))) }
 {
     for statement in body {
         match statement {
@@ -164,11 +158,8 @@ fn imports_at<'a>(
     places: &[usize],
     found: &mut Vec<Named<'a>>,
 ) -> Result<(), AllocError>
-    ensures { IfOk result (λ _. (h : chains.Home)
-        → names_view (pages_view chain.now.templates.items) h found.new.items
-        ≡ names_view (pages_view chain.now.templates.items) h found.old.items
-        ++ along (pages_view chain.now.templates.items)
-        (λ n b. imports_in (sources_in (pages_view chain.now.templates.items)) b) places.now) }
+    ensures { IfOk result (λ _. Adds (its_templates chain.now) found.old.items found.new.items
+        (λ h. imports_along chain.now places.now)) }
 {
     for place in places {
         add_imports(chain, body_of_page(&chain.templates, *place), found)?;
@@ -182,9 +173,8 @@ fn add_own<'a>(
     macros: &[Macro<'a>],
     found: &mut Vec<Named<'a>>,
 ) -> Result<(), AllocError>
-    ensures { IfOk result (λ _. (h : chains.Home) → names_view (pages_view pages.now) h found.new.items
-        ≡ names_view (pages_view pages.now) h found.old.items
-        ++ own h (macros_view (pages_view pages.now) macros.now)) }
+    ensures { IfOk result (λ _. Adds (pages_view pages.now) found.old.items found.new.items
+        (λ h. own h (macros_view (pages_view pages.now) macros.now))) }
 {
     for one in macros {
         found.push(Named {
@@ -202,13 +192,9 @@ fn names_of<'a>(
     home: &Home,
     macros: &[Macro<'a>],
 ) -> Result<Vec<Named<'a>>, AllocError>
-    ensures { IfOk result (λ ns. (h : chains.Home)
-        → names_view (pages_view chain.now.templates.items) h ns.items
-        ≡ own h (macros_view (pages_view chain.now.templates.items) macros.now)
-        ++ (if home.now.is_library then []
-        else along (pages_view chain.now.templates.items)
-        (λ n b. imports_in (sources_in (pages_view chain.now.templates.items)) b)
-        home.now.templates.items)) }
+    ensures { IfOk result (λ ns. (h : chains.Home) → names_view (its_templates chain.now) h ns.items
+        ≡ own h (macros_view (its_templates chain.now) macros.now)
+        ++ (if home.now.is_library then [] else imports_along chain.now home.now.templates.items)) }
 {
     let mut names = Vec::new(alloc);
     add_own(&chain.templates, macros, &mut names)?;
@@ -223,13 +209,10 @@ impl Chain {
     /// All names of a chain that stand for a macro or a library, its own macros first. A chain that
     /// isn't there has none.
     pub fn given(&self, alloc: Global, home: usize) -> Result<Vec<Named<'_>>, AllocError>
-        ensures there { home < length self.now.homes.items
-            → IfOk result (λ ns. names_view (chain_view self.now).templates
-            (home_at (chain_view self.now).order home) ns.items
-            ≡ given (sources_of (chain_view self.now))
-            (home_at (chain_view self.now).order home)) }
-        ensures nowhere { length self.now.homes.items ≤ home
-            → IfOk result (λ ns. ns.items ≡ []) }
+        ensures there { home < length self.now.homes.items → IfOk result (λ ns.
+            names_view (its_templates self.now) (home_in self.now home) ns.items
+            ≡ given (its_sources self.now) (home_in self.now home)) }
+        ensures nowhere { NoneBeyond self.now home result }
     {
         let macros = self.macros(alloc, home)?;
         match self.homes.get(home) {
@@ -277,12 +260,9 @@ impl Chain {
     /// The names of the libraries that a chain imports, as often as they stand there. A chain that
     /// isn't there imports none.
     pub fn libraries(&self, alloc: Global, home: usize) -> Result<Vec<&str>, AllocError>
-        ensures there { home < length self.now.homes.items
-            → IfOk result (λ ns. map (λ n. n.now) ns.items
-            ≡ libraries (sources_of (chain_view self.now))
-            (home_at (chain_view self.now).order home)) }
-        ensures nowhere { length self.now.homes.items ≤ home
-            → IfOk result (λ ns. ns.items ≡ []) }
+        ensures there { home < length self.now.homes.items → IfOk result (λ ns.
+            map (λ n. n.now) ns.items ≡ libraries (its_sources self.now) (home_in self.now home)) }
+        ensures nowhere { NoneBeyond self.now home result }
     {
         match self.homes.get(home) {
             Some(found) => libraries_of(alloc, &self.templates, found),
@@ -292,9 +272,8 @@ impl Chain {
 
     /// The macro of a library that an importer asks for.
     pub fn library_macro(&self, library: &str, name: &str) -> Option<Macro<'_>>
-        ensures { option_map (macro_view (chain_view self.now).templates) result
-            ≡ chains.public_macro name.now
-            (macros (sources_of (chain_view self.now)) (a_library library.now)) }
+        ensures { option_map (macro_view (its_templates self.now)) result
+            ≡ chains.public_macro name.now (macros (its_sources self.now) (a_library library.now)) }
     {
         let place = page_named(self, library);
         match self.templates.get(place) {
@@ -306,7 +285,7 @@ impl Chain {
     /// The statements of a library; none where it isn't there.
     pub fn library_body(&self, name: &str) -> &[Stmt]
         ensures { body_view result.now
-            ≡ first_body (templates (sources_of (chain_view self.now)) (a_library name.now)) }
+            ≡ first_body (templates (its_sources self.now) (a_library name.now)) }
     {
         body_of_library(self, name)
     }

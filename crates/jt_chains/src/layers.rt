@@ -1,12 +1,11 @@
 //! The templates of a chain.
 
-ghost use Rattle.std.specs.Prelude.{◌≡◌, ◌<◌, ◌≤◌, [], length, map, IfOk};
+ghost use Rattle.std.specs.Prelude.{◌≡◌, ◌<◌, length, map, IfOk};
 ghost use Rattle.jt_chains.specs.Along.{ArePlaces, layers_along};
 ghost use Rattle.jt_chains.specs.Chain.{templates};
 ghost use Rattle.jt_chains.specs.Pages.{pages_view};
 ghost use Rattle.jt_chains.specs.Layers.{layer_view};
-ghost use Rattle.jt_chains.specs.Places.{home_at};
-ghost use Rattle.jt_chains.specs.View.{chain_view, sources_of};
+ghost use Rattle.jt_chains.specs.View.{NoneBeyond, home_in, its_sources, its_templates};
 
 use crate::linked::Chain;
 use crate::pages::Page;
@@ -43,12 +42,10 @@ fn layers_at<'a>(
 impl Chain {
     /// The templates of a chain, from the entry's to the root. A chain that isn't there has none.
     pub fn layers(&self, alloc: Global, home: usize) -> Result<Vec<Layer<'_>>, AllocError>
-        ensures there { home < length self.now.homes.items
-            → IfOk result (λ ls. map (layer_view (chain_view self.now).templates) ls.items
-            ≡ templates (sources_of (chain_view self.now))
-            (home_at (chain_view self.now).order home)) }
-        ensures nowhere { length self.now.homes.items ≤ home
-            → IfOk result (λ ls. ls.items ≡ []) }
+        ensures there { home < length self.now.homes.items → IfOk result (λ ls.
+            map (layer_view (its_templates self.now)) ls.items
+            ≡ templates (its_sources self.now) (home_in self.now home)) }
+        ensures nowhere { NoneBeyond self.now home result }
     {
         match self.homes.get(home) {
             Some(found) => layers_at(alloc, &self.templates, &found.templates),

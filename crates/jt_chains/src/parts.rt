@@ -1,17 +1,17 @@
 //! The macros of a chain, and the bodies of its blocks.
 
-ghost use Rattle.std.specs.Prelude.{◌≡◌, ◌<◌, ◌≤◌, ◌++◌, length, map, slice_get, Some, IfOk, unwrap_or, option_map, []};
+ghost use Rattle.std.specs.Prelude.{◌≡◌, ◌<◌, ◌++◌, length, IfOk};
 ghost use Rattle.jt_trees.specs.StatementView.{stmt_view, body_view};
 ghost use Rattle.jt_chains.specs.Chain.{macros, macros_in, all_bodies, blocks_of, blocks_in};
 ghost use Rattle.jt_chains.specs.Pages.{pages_view};
-ghost use Rattle.jt_chains.specs.Parts.{macro_view, block_view, macros_view, blocks_view, name_at};
+ghost use Rattle.jt_chains.specs.Parts.{macros_view, blocks_view, name_at};
 ghost use Rattle.jt_chains.specs.Along.{body_at, macros_along, blocks_along};
-ghost use Rattle.jt_chains.specs.Places.{home_at};
-ghost use Rattle.jt_chains.specs.View.{chain_view, sources_of};
+ghost use Rattle.jt_chains.specs.Spots.{AddsBlocks, spot_name};
+ghost use Rattle.jt_chains.specs.View.{NoneBeyond, home_in, its_sources, its_templates};
 
 use crate::linked::Chain;
 use crate::pages::Page;
-use jt_trees::{Parameter, Stmt};
+use jt_trees::{Branch, Parameter, Stmt};
 use std::alloc::{AllocError, Global};
 
 /// A macro: its name, the place of its template, its parameters and its body.
@@ -87,10 +87,8 @@ fn add_blocks<'a>(
     body: &'a [Stmt],
     found: &mut Vec<Block<'a>>,
 ) -> Result<(), AllocError>
-    ensures { IfOk result (λ _. blocks_view (pages_view spot.entry.pages.now) found.new.items
-        ≡ blocks_view (pages_view spot.entry.pages.now) found.old.items
-        ++ blocks_in (name_at (pages_view spot.entry.pages.now) spot.entry.template)
-        (body_view body.now) spot.entry.escaping) }
+    ensures { IfOk result (λ _. AddsBlocks spot.entry found.old.items found.new.items
+        (blocks_in (spot_name spot.entry) (body_view body.now) spot.entry.escaping)) }
 {
     for statement in body {
         add_statement(spot, statement, found)?;
@@ -105,10 +103,8 @@ fn add_statement<'a>(
     statement: &'a Stmt,
     found: &mut Vec<Block<'a>>,
 ) -> Result<(), AllocError>
-    ensures { IfOk result (λ _. blocks_view (pages_view spot.entry.pages.now) found.new.items
-        ≡ blocks_view (pages_view spot.entry.pages.now) found.old.items
-        ++ blocks_of (name_at (pages_view spot.entry.pages.now) spot.entry.template)
-        (stmt_view statement.now) spot.entry.escaping) }
+    ensures { IfOk result (λ _. AddsBlocks spot.entry found.old.items found.new.items
+        (blocks_of (spot_name spot.entry) (stmt_view statement.now) spot.entry.escaping)) }
 {
     match statement {
         Stmt::Data(_)
@@ -140,7 +136,7 @@ fn add_statement<'a>(
             add_blocks(inside(spot, *escaping), body, found)
         }
         Stmt::If(branches, other) => {
-            for (_, _, body) in branches {
+            for Branch { body, .. } in branches {
                 add_blocks(spot, body, found)?;
             }
             add_blocks(spot, other, found)?;
@@ -231,11 +227,10 @@ impl Chain {
     /// All macros of a chain, those of the entry's template first. A chain that isn't there has
     /// none.
     pub fn macros(&self, alloc: Global, home: usize) -> Result<Vec<Macro<'_>>, AllocError>
-        ensures there { home < length self.now.homes.items
-            → IfOk result (λ ms. map (macro_view (chain_view self.now).templates) ms.items ≡
-            macros (sources_of (chain_view self.now)) (home_at (chain_view self.now).order home)) }
-        ensures nowhere { length self.now.homes.items ≤ home
-            → IfOk result (λ ms. ms.items ≡ []) }
+        ensures there { home < length self.now.homes.items → IfOk result (λ ms.
+            macros_view (its_templates self.now) ms.items
+            ≡ macros (its_sources self.now) (home_in self.now home)) }
+        ensures nowhere { NoneBeyond self.now home result }
     {
         match self.homes.get(home) {
             Some(found) => macros_at(alloc, &self.templates, &found.templates),
@@ -246,12 +241,10 @@ impl Chain {
     /// The bodies of all blocks of a chain, those of the entry's template first. A chain that isn't
     /// there has none.
     pub fn blocks(&self, alloc: Global, home: usize) -> Result<Vec<Block<'_>>, AllocError>
-        ensures there { home < length self.now.homes.items
-            → IfOk result (λ bs. map (block_view (chain_view self.now).templates) bs.items
-            ≡ all_bodies (sources_of (chain_view self.now)) self.now.autoescape
-            (home_at (chain_view self.now).order home)) }
-        ensures nowhere { length self.now.homes.items ≤ home
-            → IfOk result (λ bs. bs.items ≡ []) }
+        ensures there { home < length self.now.homes.items → IfOk result (λ bs.
+            blocks_view (its_templates self.now) bs.items
+            ≡ all_bodies (its_sources self.now) self.now.autoescape (home_in self.now home)) }
+        ensures nowhere { NoneBeyond self.now home result }
     {
         match self.homes.get(home) {
             Some(found) => blocks_at(alloc, &self.templates, &found.templates, self.autoescape),

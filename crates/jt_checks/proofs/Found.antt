@@ -114,7 +114,7 @@ module _ (world : World) (home : Home) (w : rules.Within) where
 
   -- a branch breaks a rule
   pub branch_found : (ls : List Branch) (i : ℕ) (b : Branch) (e : ScopeError) → i < length ls → b ≡ get_or ls i b
-      → in_branches (drop i ls) ≡ in_branches ls → option_or (rules.broken world home (expr_view b.1) w) (in_body b.2.items) ≡ Some e → Some e ≡ in_branches ls
+      → in_branches (drop i ls) ≡ in_branches ls → option_or (rules.broken world home (expr_view b.condition) w) (in_body b.body.items) ≡ Some e → Some e ≡ in_branches ls
   branch_found ls i b e lt at before h = search (arith, rules, branches_left)
 
   -- a choice and a loop, by what their parts break

@@ -60,7 +60,7 @@ pub(crate) fn parameter_names<'a>(
     parameters: &'a [Parameter],
 ) -> Result<Vec<&'a str>, AllocError>
     ensures { IfOk result
-        (λ names. texts names.items ≡ rules.parameter_names (parameters_view parameters.now)) }
+        (λ ns. texts ns.items ≡ rules.parameter_names (parameters_view parameters.now)) }
 {
     let mut names = Vec::with_capacity(alloc, parameters.len())?;
     for parameter in parameters {
@@ -129,9 +129,7 @@ fn names_fit(
     filled: usize,
     names: &[&str],
 ) -> Result<bool, AllocError>
-    ensures { IfOk result (λ b. b
-        ≡ (not (repeated (texts names.now))
-        && not (list_any
+    ensures { IfOk result (λ b. b ≡ (not (repeated (texts names.now)) && not (list_any
         (λ k. not (among k (rules.parameter_names (drop filled (parameters_view parameters.now)))))
         (texts names.now)))) }
 {
@@ -150,9 +148,8 @@ pub(crate) fn fits(
     row: &[Expr],
     pairs: &[(String, Expr)],
 ) -> Result<bool, AllocError>
-    ensures { IfOk result (λ b. b
-        ≡ rules.fits (parameters_view parameters.now) (count (exprs_view row.now))
-        (keywords (pairs_view pairs.now))) }
+    ensures { IfOk result (λ b. b ≡ rules.fits (parameters_view parameters.now)
+        (count (exprs_view row.now)) (keywords (pairs_view pairs.now))) }
 {
     if parameters.len() < row.len() {
         return Ok(false);
@@ -227,8 +224,7 @@ pub(crate) fn filter_broken(
     row: &[Expr],
     pairs: &[(String, Expr)],
 ) -> Result<Option<ScopeError>, AllocError>
-    ensures { IfOk result (λ o. o
-        ≡ rules.filter_broken the_filters
+    ensures { IfOk result (λ o. o ≡ rules.filter_broken the_filters
         (the_filters.named name.now (exprs_view row.now) (pairs_view pairs.now))
         (exprs_view row.now) (pairs_view pairs.now)) }
 {
@@ -245,9 +241,8 @@ fn filter_accepts(
     row: &[Expr],
     pairs: &[(String, Expr)],
 ) -> Result<bool, AllocError>
-    ensures { IfOk result (λ b. b
-        ≡ (filter_takes filter (filter_parameters filter) (length row.now)
-        (keywords (pairs_view pairs.now))
+    ensures { IfOk result (λ b. b ≡ (filter_takes filter (filter_parameters filter)
+        (length row.now) (keywords (pairs_view pairs.now))
         && names_well filter (exprs_view row.now) (pairs_view pairs.now))) }
 {
     if !filter_fits(alloc, filter, row.len(), pairs)? {

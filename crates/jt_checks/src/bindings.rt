@@ -4,7 +4,7 @@ ghost use Rattle.std.specs.Prelude.{◌≡◌, ◌^◌, ◌-◌, min};
 ghost use Rattle.jt_trees.specs.Statements.{stmt_bound, body_bound};
 ghost use Rattle.jt_trees.specs.StatementView.{stmt_view, body_view};
 
-use jt_trees::Stmt;
+use jt_trees::{Branch, Stmt};
 
 /// How often a statement binds names; the greatest number where it is more.
 #[cycle(bound)]
@@ -14,8 +14,8 @@ fn bound_by(statement: &Stmt) -> usize
     match statement {
         Stmt::If(branches, other) => {
             let mut bound = bound_in(other);
-            for (_, _, inside) in branches {
-                bound = bound.saturating_add(bound_in(inside));
+            for Branch { body, .. } in branches {
+                bound = bound.saturating_add(bound_in(body));
             }
             bound
         }

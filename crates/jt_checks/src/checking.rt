@@ -1,18 +1,17 @@
 //! Whether chains keep the static rules of names and calls.
 
-ghost use Rattle.std.specs.Prelude.{◌≡◌, ◌<◌, nat_lt, nat_le, ◌^◌, ◌-◌, min, false, length, IfOk, OnOk, IfErr};
+ghost use Rattle.std.specs.Prelude.{◌≡◌, ◌<◌, nat_lt, nat_le, false, length, IfOk, OnOk, IfErr};
 ghost use Rattle.std.specs.Option.{option_or};
 ghost use Rattle.jt_trees.specs.Texts.{ascending};
 ghost use Rattle.jt_trees.specs.Statements.{body_bound};
 ghost use Rattle.jt_trees.specs.StatementView.{body_view};
 ghost use Rattle.jt_chains.specs.Chain.{templates, libraries, a_library};
-ghost use Rattle.jt_chains.specs.Uses.{own_names};
 ghost use Rattle.jt_chains.specs.View.{chain_view};
 ghost use Rattle.jt_names.specs.Names.{texts};
 ghost use Rattle.jt_rules.specs.Walk as rules;
 ghost use Rattle.jt_rules.specs.Rules.{KeepsRules, Breaks, libraries_counted, max_bindings, max_names};
-ghost use Rattle.jt_checks.specs.ScopeView.{its_home, its_sources, in_scope};
-ghost use Rattle.jt_checks.specs.Standing.{world_in, home_in, names_of};
+ghost use Rattle.jt_checks.specs.ScopeView.{capped, its_home, names_in, own_count, its_sources, in_scope};
+ghost use Rattle.jt_checks.specs.Standing.{world_in, home_in};
 ghost use Rattle.jt_rules.specs.World.{world_of};
 ghost use Rattle.jt_rules.specs.declared.error.ScopeError.TheVariants as error;
 
@@ -101,9 +100,8 @@ fn template_broken(scope: &Scope<'_>, body: &[Stmt]) -> Result<Option<ScopeError
 
 /// Whether the chains read or bind few enough names, once a chain.
 fn has_few_names(alloc: Global, chain: &Chain) -> Result<bool, AllocError>
-    ensures { IfOk result (λ b. b
-        ≡ nat_le (rules.names_counted (world_in chain.now) (chain_view chain.now).order)
-        max_names) }
+    ensures { IfOk result (λ b. b ≡ nat_le
+        (rules.names_counted (world_in chain.now) (chain_view chain.now).order) max_names) }
 {
     let mut left = MAX_NAMES;
     for home in 0..chain.homes.len() {
@@ -134,8 +132,8 @@ fn libraries(alloc: Global, chain: &Chain, home: usize) -> Result<Vec<&str>, All
 
 /// How many different names libraries read or bind; the greatest number where it is more.
 fn count_in_libraries(alloc: Global, chain: &Chain, libraries: &[&str]) -> Result<usize, AllocError>
-    ensures { IfOk result (λ n.
-        n ≡ min (libraries_counted (world_in chain.now) (texts libraries.now)) (2 ^ 64 - 1)) }
+    ensures { IfOk result
+        (λ n. n ≡ capped (libraries_counted (world_in chain.now) (texts libraries.now))) }
 {
     let mut count = 0usize;
     for library in libraries {
@@ -146,8 +144,7 @@ fn count_in_libraries(alloc: Global, chain: &Chain, libraries: &[&str]) -> Resul
 
 /// How many different names a library reads or binds.
 fn count_in_library(alloc: Global, chain: &Chain, library: &str) -> Result<usize, AllocError>
-    ensures { IfOk result (λ n.
-        n ≡ length (ascending (own_names (world_in chain.now).sources (a_library library.now)))) }
+    ensures { IfOk result (λ n. n ≡ own_count chain.now (a_library library.now)) }
 {
     Ok(library_names(alloc, chain, library)?.len())
 }
@@ -155,8 +152,7 @@ fn count_in_library(alloc: Global, chain: &Chain, library: &str) -> Result<usize
 /// How many different names a chain itself reads or binds.
 fn count_own(alloc: Global, chain: &Chain, home: usize) -> Result<usize, AllocError>
     requires { home < length chain.now.homes.items }
-    ensures { IfOk result (λ n.
-        n ≡ length (ascending (own_names (world_in chain.now).sources (home_in chain.now home)))) }
+    ensures { IfOk result (λ n. n ≡ own_count chain.now (home_in chain.now home)) }
 {
     Ok(own_names(alloc, chain, home)?.len())
 }
@@ -165,8 +161,7 @@ fn count_own(alloc: Global, chain: &Chain, home: usize) -> Result<usize, AllocEr
 /// the greatest number where it is more. A library's own count there alone.
 fn count_names(alloc: Global, chain: &Chain, home: usize) -> Result<usize, AllocError>
     requires { home < length chain.now.homes.items }
-    ensures { IfOk result (λ n.
-        n ≡ min (names_of (world_in chain.now) (home_in chain.now home)) (2 ^ 64 - 1)) }
+    ensures { IfOk result (λ n. n ≡ capped (names_in chain.now home)) }
 {
     if chain.homes[home].is_library {
         return Ok(0);

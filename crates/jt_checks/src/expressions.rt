@@ -1,17 +1,16 @@
 //! The static rules of expressions: the first that is broken, from left to right.
 
-ghost use Rattle.std.specs.Prelude.{◌≡◌, ◌&&◌, nat_lt, not, is_some, IfOk, IsOkAnd, option_map};
+ghost use Rattle.std.specs.Prelude.{◌≡◌, not, is_some, IfOk, IsOkAnd, option_map};
 ghost use Rattle.std.specs.Option.{option_or};
 ghost use Rattle.jt_trees.specs.Expressions as trees;
 ghost use Rattle.jt_trees.specs.ExpressionView.{expr_view, exprs_view, pairs_view};
-ghost use Rattle.jt_chains.specs.Chain.{callee, given_to, Home, named_form, named_alone, named_in, in_library};
-ghost use Rattle.jt_chains.specs.Uses.{count};
+ghost use Rattle.jt_chains.specs.Chain.{callee, Home, named_form, named_alone, named_in, in_library};
 ghost use Rattle.jt_trees.specs.Expressions.{Text};
 ghost use Rattle.jt_evaluation.specs.Loops.{field_named};
 ghost use Rattle.jt_rules.specs.Walk as rules;
 ghost use Rattle.jt_rules.specs.World.{World};
 ghost use Rattle.jt_checks.specs.Standing.{texts, is_block};
-ghost use Rattle.jt_checks.specs.ScopeView.{its_sources, its_given, in_scope, found, Finds, call_found, is_bare, within_view, name_in};
+ghost use Rattle.jt_checks.specs.ScopeView.{its_sources, its_given, given_in, in_scope, tree_found, Finds, FindsCall, arguments_found, is_bare, is_positional, within_view, name_in};
 ghost use Rattle.jt_rules.specs.declared.error.ScopeError.TheVariants as error;
 
 use crate::arguments::{filter_broken, fits, range_broken, refused, test_broken, unless};
@@ -95,9 +94,8 @@ fn name_call_broken(
     row: &[Expr],
     pairs: &[(String, Expr)],
 ) -> Result<Option<ScopeError>, AllocError>
-    ensures { IfOk result (λ o. o ≡ call_found scope.now within (named_alone (its_sources scope.now)
-        (given_to name.now (its_given scope.now)) name.now) (trees.name name.now)
-        (exprs_view row.now) (pairs_view pairs.now)) }
+    ensures { IfOk result (FindsCall scope.now within (named_alone (its_sources scope.now)
+        (given_in scope.now name.now) name.now) (trees.name name.now) row.now pairs.now) }
 {
     match scope.known(name) {
         Some(Known::Macro(parameters)) => Ok(unless(fits(scope.alloc, parameters, row, pairs)?)),
@@ -134,10 +132,8 @@ fn self_broken(
 /// What a call of `loop.cycle` breaks.
 #[tactic(auto, using(crate::proofs::Counted::counted, crate::proofs::Counted::keyless))]
 fn cycle_broken(within: Within, row: &[Expr], pairs: &[(String, Expr)]) -> Option<ScopeError>
-    ensures { result
-        ≡ option_or (rules.refused (not within.in_loop) error.LoopOutside)
-        (rules.unless
-        (nat_lt 0 (count (exprs_view row.now)) && rules.no_keywords (pairs_view pairs.now))) }
+    ensures { result ≡ option_or (rules.refused (not within.in_loop) error.LoopOutside)
+        (rules.unless (is_positional (exprs_view row.now) (pairs_view pairs.now))) }
 {
     let given = row.len();
     let outside = refused(!within.in_loop, ScopeError::LoopOutside);
@@ -153,9 +149,8 @@ fn library_call_broken(
     row: &[Expr],
     pairs: &[(String, Expr)],
 ) -> Result<Option<ScopeError>, AllocError>
-    ensures { IfOk result (λ o. o ≡ call_found scope.now within (in_library (its_sources scope.now)
-        (given_to of.now (its_given scope.now)) field.now) (trees.name of.now) (exprs_view row.now)
-        (pairs_view pairs.now)) }
+    ensures { IfOk result (FindsCall scope.now within (in_library (its_sources scope.now)
+        (given_in scope.now of.now) field.now) (trees.name of.now) row.now pairs.now) }
 {
     let Some(Known::Library(library)) = scope.known(of) else {
         return Ok(Some(ScopeError::NotCallable));
@@ -177,9 +172,8 @@ fn field_call_broken(
     row: &[Expr],
     pairs: &[(String, Expr)],
 ) -> Result<Option<ScopeError>, AllocError>
-    ensures { IfOk result (λ o. o ≡ call_found scope.now within (named_in (its_sources scope.now)
-        (given_to of.now (its_given scope.now)) of.now field.now) (trees.name of.now)
-        (exprs_view row.now) (pairs_view pairs.now)) }
+    ensures { IfOk result (FindsCall scope.now within (named_in (its_sources scope.now)
+        (given_in scope.now of.now) of.now field.now) (trees.name of.now) row.now pairs.now) }
 {
     match (of, field) {
         ("self", _) => Ok(self_broken(scope, field, row, pairs)),
@@ -198,9 +192,8 @@ fn call_broken(
     row: &[Expr],
     pairs: &[(String, Expr)],
 ) -> Result<Option<ScopeError>, AllocError>
-    ensures { IfOk result (λ o. o ≡ call_found scope.now within (callee (its_sources scope.now)
-        (its_given scope.now) (expr_view called.now)) (expr_view called.now) (exprs_view row.now)
-        (pairs_view pairs.now)) }
+    ensures { IfOk result (FindsCall scope.now within (callee (its_sources scope.now)
+        (its_given scope.now) (expr_view called.now)) (expr_view called.now) row.now pairs.now) }
 {
     match called {
         Expr::Name(name) => name_call_broken(scope, within, name, row, pairs),
@@ -230,8 +223,7 @@ fn either(
     first: Result<Option<ScopeError>, AllocError>,
     second: Result<Option<ScopeError>, AllocError>,
 ) -> Result<Option<ScopeError>, AllocError>
-    ensures { IfOk result
-        (λ o. IsOkAnd first (λ a. IsOkAnd second (λ b. o ≡ option_or a b))) }
+    ensures { IfOk result (λ o. IsOkAnd first (λ a. IsOkAnd second (λ b. o ≡ option_or a b))) }
 {
     let first = first?;
     let second = second?;
@@ -360,8 +352,8 @@ fn both_broken(
     first: &Expr,
     second: &Expr,
 ) -> Result<Option<ScopeError>, AllocError>
-    ensures { IfOk result (λ o. o ≡ option_or (found rules.broken scope.now within
-        (expr_view first.now)) (found rules.broken scope.now within (expr_view second.now))) }
+    ensures { IfOk result (λ o. o ≡ option_or (tree_found scope.now within first.now)
+        (tree_found scope.now within second.now)) }
 {
     let first = broken(scope, within, first);
     let second = broken(scope, within, second);
@@ -377,9 +369,8 @@ fn three_broken(
     second: &Expr,
     third: &Expr,
 ) -> Result<Option<ScopeError>, AllocError>
-    ensures { IfOk result (λ o. o ≡ option_or (found rules.broken scope.now within
-        (expr_view first.now)) (option_or (found rules.broken scope.now within
-        (expr_view second.now)) (found rules.broken scope.now within (expr_view third.now)))) }
+    ensures { IfOk result (λ o. o ≡ option_or (tree_found scope.now within first.now) (option_or
+        (tree_found scope.now within second.now) (tree_found scope.now within third.now))) }
 {
     let first = broken(scope, within, first);
     let others = both_broken(scope, within, second, third);
@@ -395,9 +386,8 @@ fn or_arguments_broken(
     row: &[Expr],
     pairs: &[(String, Expr)],
 ) -> Result<Option<ScopeError>, AllocError>
-    ensures { IfOk result (λ o. IsOkAnd before (λ first. o ≡ option_or first (option_or (found
-        rules.row_broken scope.now within (exprs_view row.now)) (found rules.pairs_broken scope.now
-        within (pairs_view pairs.now))))) }
+    ensures { IfOk result (λ o. IsOkAnd before (λ first. o ≡ option_or first
+        (arguments_found scope.now within row.now pairs.now))) }
 {
     let places = row_broken(scope, within, row);
     let keywords = pairs_broken(scope, within, pairs);

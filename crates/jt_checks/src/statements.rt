@@ -3,12 +3,12 @@
 ghost use Rattle.std.specs.Prelude.{◌≡◌, ◌∷◌, [], option_map, true, IfOk};
 ghost use Rattle.std.specs.Option.{option_or};
 ghost use Rattle.jt_trees.specs.ExpressionView.{expr_view, pairs_view};
-ghost use Rattle.jt_trees.specs.StatementView.{stmt_view, body_view, branches_view, names_view, filtering_view, filterings_view, parameters_view, given_view};
+ghost use Rattle.jt_trees.specs.StatementView.{stmt_view, body_view, branches_view, filtering_view, filterings_view, parameters_view, given_view};
 ghost use Rattle.jt_chains.specs.Chain.{Home};
 ghost use Rattle.jt_chains.specs.Uses.{keywords};
 ghost use Rattle.jt_rules.specs.World.{World};
 ghost use Rattle.jt_rules.specs.Walk as rules;
-ghost use Rattle.jt_checks.specs.ScopeView.{in_scope, found, Finds, within_view};
+ghost use Rattle.jt_checks.specs.ScopeView.{in_scope, found, body_found, tree_found, targets_found, Finds, Tells, within_view};
 
 use crate::arguments::{
     any_repeated, filter_broken, keywords_of, parameter_names, refused, target_names, unless,
@@ -16,7 +16,7 @@ use crate::arguments::{
 use crate::expressions::{all_used, broken, pairs_broken, read_alone, row_broken, used};
 use crate::scope::{Scope, Within};
 use jt_rules::ScopeError;
-use jt_trees::{Expr, Filtering, Parameter, Stmt};
+use jt_trees::{Branch, Expr, Filtering, Parameter, Stmt};
 use std::alloc::AllocError;
 
 /// The greatest number of a macro's parameters.
@@ -50,8 +50,8 @@ fn condition_broken(
     within: Within,
     condition: &Option<Expr>,
 ) -> Result<Option<ScopeError>, AllocError>
-    ensures { IfOk result (Finds rules.condition_broken scope.now within
-        (option_map expr_view condition.now)) }
+    ensures { Tells rules.condition_broken scope.now within (option_map expr_view condition.now)
+        result }
 {
     let around = Within {
         in_loop: false,
@@ -65,7 +65,7 @@ fn condition_broken(
 
 /// The first rule that targets break.
 fn targets_broken(scope: &Scope<'_>, targets: &[String]) -> Result<Option<ScopeError>, AllocError>
-    ensures { IfOk result (λ o. o ≡ in_scope rules.all_used scope.now (names_view targets.now)) }
+    ensures { IfOk result (λ o. o ≡ targets_found scope.now targets.now) }
 {
     Ok(all_used(scope, &target_names(scope.alloc, targets)?))
 }
@@ -76,9 +76,9 @@ fn bindings_broken(
     within: Within,
     pairs: &[(String, Expr)],
 ) -> Result<Option<ScopeError>, AllocError>
-    ensures { IfOk result (λ o. o ≡ option_or (found rules.pairs_broken scope.now within
-        (pairs_view pairs.now)) (in_scope rules.all_used scope.now
-        (keywords (pairs_view pairs.now)))) }
+    ensures { IfOk result (λ o. o ≡ option_or
+        (found rules.pairs_broken scope.now within (pairs_view pairs.now))
+        (in_scope rules.all_used scope.now (keywords (pairs_view pairs.now)))) }
 {
     if let Some(rule) = pairs_broken(scope, within, pairs)? {
         return Ok(Some(rule));
@@ -94,10 +94,9 @@ fn head_broken(
     items: &Expr,
     condition: &Option<Expr>,
 ) -> Result<Option<ScopeError>, AllocError>
-    ensures { IfOk result (λ o. o ≡ option_or (found rules.broken scope.now within
-        (expr_view items.now)) (option_or (in_scope rules.all_used scope.now
-        (names_view targets.now)) (found rules.condition_broken scope.now within
-        (option_map expr_view condition.now)))) }
+    ensures { IfOk result (λ o. o ≡ option_or (tree_found scope.now within items.now) (option_or
+        (targets_found scope.now targets.now)
+        (found rules.condition_broken scope.now within (option_map expr_view condition.now)))) }
 {
     if let Some(rule) = broken(scope, within, items)? {
         return Ok(Some(rule));
@@ -115,8 +114,8 @@ fn set_broken(
     targets: &[String],
     value: &Expr,
 ) -> Result<Option<ScopeError>, AllocError>
-    ensures { IfOk result (λ o. o ≡ option_or (found rules.broken scope.now within
-        (expr_view value.now)) (in_scope rules.all_used scope.now (names_view targets.now))) }
+    ensures { IfOk result (λ o. o ≡ option_or (tree_found scope.now within value.now)
+        (targets_found scope.now targets.now)) }
 {
     if let Some(rule) = broken(scope, within, value)? {
         return Ok(Some(rule));
@@ -130,8 +129,8 @@ fn filtering_broken(
     within: Within,
     filtering: &Filtering,
 ) -> Result<Option<ScopeError>, AllocError>
-    ensures { IfOk result (Finds rules.filtering_broken scope.now within
-        (filtering_view filtering.now ∷ [])) }
+    ensures { Tells rules.filtering_broken scope.now within (filtering_view filtering.now ∷ [])
+        result }
 {
     let arguments = &filtering.arguments;
     let keywords = &filtering.keywords;
@@ -150,8 +149,8 @@ fn filterings_broken(
     within: Within,
     filterings: &[Filtering],
 ) -> Result<Option<ScopeError>, AllocError>
-    ensures { IfOk result (Finds rules.filtering_broken scope.now within
-        (filterings_view filterings.now)) }
+    ensures { Tells rules.filtering_broken scope.now within
+        (filterings_view filterings.now) result }
 {
     for filtering in filterings {
         if let Some(rule) = filtering_broken(scope, within, filtering)? {
@@ -195,12 +194,11 @@ fn imports_broken(names: &[(String, String)]) -> Option<ScopeError>
 fn choice_broken(
     scope: &Scope<'_>,
     within: Within,
-    branches: &[(u32, Expr, Vec<Stmt>)],
+    branches: &[Branch<Stmt>],
     other: &[Stmt],
 ) -> Result<Option<ScopeError>, AllocError>
     ensures { IfOk result (λ o. o ≡ option_or (found rules.branches_broken scope.now within
-        (branches_view branches.now)) (found rules.body_broken scope.now within
-        (body_view other.now))) }
+        (branches_view branches.now)) (body_found scope.now within other.now)) }
 {
     if let Some(rule) = branches_broken(scope, within, branches)? {
         return Ok(Some(rule));
@@ -217,8 +215,8 @@ fn turns_broken(
     otherwise: &[Stmt],
 ) -> Result<Option<ScopeError>, AllocError>
     ensures { IfOk result (λ o. o ≡ option_or (in_scope rules.body_broken scope.now
-        (body_view inside.now) (record (within_view within) { in_loop = true })) (found
-        rules.body_broken scope.now within (body_view otherwise.now))) }
+        (body_view inside.now) (record (within_view within) { in_loop = true }))
+        (body_found scope.now within otherwise.now)) }
 {
     if let Some(rule) = body_broken(scope, in_a_loop(within), inside)? {
         return Ok(Some(rule));
@@ -234,8 +232,7 @@ fn or_body_broken(
     first: Option<ScopeError>,
     inside: &[Stmt],
 ) -> Result<Option<ScopeError>, AllocError>
-    ensures { IfOk result (λ o. o ≡ option_or first (found rules.body_broken scope.now within
-        (body_view inside.now))) }
+    ensures { IfOk result (λ o. o ≡ option_or first (body_found scope.now within inside.now)) }
 {
     match first {
         Some(rule) => Ok(Some(rule)),
@@ -301,16 +298,19 @@ fn statement_broken(
 fn branches_broken(
     scope: &Scope<'_>,
     within: Within,
-    branches: &[(u32, Expr, Vec<Stmt>)],
+    branches: &[Branch<Stmt>],
 ) -> Result<Option<ScopeError>, AllocError>
-    ensures { IfOk result (Finds rules.branches_broken scope.now within
-        (branches_view branches.now)) }
+    ensures { Tells rules.branches_broken scope.now within (branches_view branches.now) result }
 {
-    for (_, condition, inside) in branches {
+    for Branch {
+        condition,
+        body,
+        ..
+    } in branches {
         if let Some(rule) = broken(scope, within, condition)? {
             return Ok(Some(rule));
         }
-        if let Some(rule) = body_broken(scope, within, inside)? {
+        if let Some(rule) = body_broken(scope, within, body)? {
             return Ok(Some(rule));
         }
     }

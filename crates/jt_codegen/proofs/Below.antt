@@ -89,7 +89,7 @@ module _ (room : ℕ) (templates : List Text) where
 
   abbrev pub branches_low : List SBranch → Bool
   branches_low [] = true
-  branches_low (b ∷ bs) = (nat_le (expr_height (expr_view b.1)) room && nat_le (body_height (body_view templates b.2.items end)) room) && branches_low bs
+  branches_low (b ∷ bs) = (nat_le (expr_height (expr_view b.condition)) room && nat_le (body_height (body_view templates b.body.items end)) room) && branches_low bs
 
   all_of : (e x l o y : Bool) → ((e && (x && ((l && o) && true))) && y) ≡ ((((e && x) && l) && o) && y)
   all_of e x l o y = search (arith, rules)
@@ -101,8 +101,8 @@ module _ (room : ℕ) (templates : List Text) where
   choice_passes : (bs : List SBranch) (other : Front) (o : Bool) → Passes room other o → Passes room (choice_view templates bs other) (branches_low bs && o)
   choice_passes [] other o h behind = h behind
   choice_passes (b ∷ bs) other o h behind =
-      let c = expr_height (expr_view b.1) in
-      let x = body_height (body_view templates b.2.items end) in
+      let c = expr_height (expr_view b.condition) in
+      let x = body_height (body_view templates b.body.items end) in
       split c x (body_height (choice_view templates bs other end)) (body_height behind)
       ∙ ap (λ z. (nat_le c room && (nat_le x room && z)) && nat_le (body_height behind) room) (choice_passes bs other o h end)
       ∙ ap (λ z. (nat_le c room && (nat_le x room && ((branches_low bs && o) && z))) && nat_le (body_height behind) room) (zero_low room)
@@ -111,8 +111,8 @@ module _ (room : ℕ) (templates : List Text) where
   choice_high : (bs : List SBranch) (other : Front) (behind : SBody ℕ) → branches_low bs ≡ false → nat_le (body_height (choice_view templates bs other behind)) room ≡ false
   choice_high [] other behind h = absurd cc
   choice_high (b ∷ bs) other behind h =
-      let c = expr_height (expr_view b.1) in
-      let x = body_height (body_view templates b.2.items end) in
+      let c = expr_height (expr_view b.condition) in
+      let x = body_height (body_view templates b.body.items end) in
       let later = body_height (choice_view templates bs other end) in
       split c x later (body_height behind) ∙ ap (λ z. z && nat_le (body_height behind) room) (high (nat_le c room) (nat_le x room) (branches_low bs) (nat_le later room) h (λ e. choice_high bs other end e))
     where
@@ -121,26 +121,26 @@ module _ (room : ℕ) (templates : List Text) where
       high true false l z h f = refl
       high false x l z h f = refl
 
-  branches_next : (bs : List SBranch) (i : ℕ) (b : SBranch) → i < length bs → b ≡ get_or bs i b → branches_low (drop i bs) ≡ (nat_le (expr_height (expr_view b.1)) room && nat_le (body_height (body_view templates b.2.items end)) room) && branches_low (drop (i + 1) bs)
+  branches_next : (bs : List SBranch) (i : ℕ) (b : SBranch) → i < length bs → b ≡ get_or bs i b → branches_low (drop i bs) ≡ (nat_le (expr_height (expr_view b.condition)) room && nat_le (body_height (body_view templates b.body.items end)) room) && branches_low (drop (i + 1) bs)
   branches_next bs i b lt is = ap branches_low (drop_more bs i b lt) ∙ ap (λ (x : SBranch). branches_low (x ∷ drop (i + 1) bs)) (sym is)
 
   -- a branch that was looked at
-  branch_same : (b : SBranch) (ss : List given.SlotStmt) (t u : Bool) → ss ≡ b.2.items → t ≡ nat_le (expr_height (expr_view b.1)) room → Passes room (body_view templates ss) u
-      → (nat_le (expr_height (expr_view b.1)) room && nat_le (body_height (body_view templates b.2.items end)) room) ≡ (t && u)
+  branch_same : (b : SBranch) (ss : List given.SlotStmt) (t u : Bool) → ss ≡ b.body.items → t ≡ nat_le (expr_height (expr_view b.condition)) room → Passes room (body_view templates ss) u
+      → (nat_le (expr_height (expr_view b.condition)) room && nat_le (body_height (body_view templates b.body.items end)) room) ≡ (t && u)
   branch_same b ss t u same e f =
-      ap (λ (l : List given.SlotStmt). nat_le (expr_height (expr_view b.1)) room && nat_le (body_height (body_view templates l end)) room) (sym same) ∙ ap (λ z. z && nat_le (body_height (body_view templates ss end)) room) (sym e)
+      ap (λ (l : List given.SlotStmt). nat_le (expr_height (expr_view b.condition)) room && nat_le (body_height (body_view templates l end)) room) (sym same) ∙ ap (λ z. z && nat_le (body_height (body_view templates ss end)) room) (sym e)
       ∙ ap (λ z. t && z) (passes_alone room (body_view templates ss) u f)
 
-  pub branch_passed : (bs : List SBranch) (i : ℕ) (b : SBranch) (ss : List given.SlotStmt) (t u : Bool) → i < length bs → b ≡ get_or bs i b → ss ≡ b.2.items → t ≡ nat_le (expr_height (expr_view b.1)) room
+  pub branch_passed : (bs : List SBranch) (i : ℕ) (b : SBranch) (ss : List given.SlotStmt) (t u : Bool) → i < length bs → b ≡ get_or bs i b → ss ≡ b.body.items → t ≡ nat_le (expr_height (expr_view b.condition)) room
       → Passes room (body_view templates ss) u → t ≡ true → u ≡ true → branches_low (drop i bs) ≡ branches_low (drop (i + 1) bs)
   branch_passed bs i b ss t u lt is same e f low too =
       branches_next bs i b lt is ∙ ap (λ z. z && branches_low (drop (i + 1) bs)) (branch_same b ss t u same e f ∙ ap (λ z. z && u) low ∙ too)
 
-  pub condition_high : (bs : List SBranch) (i : ℕ) (b : SBranch) (t : Bool) → i < length bs → b ≡ get_or bs i b → t ≡ nat_le (expr_height (expr_view b.1)) room → t ≡ false → branches_low (drop i bs) ≡ false
+  pub condition_high : (bs : List SBranch) (i : ℕ) (b : SBranch) (t : Bool) → i < length bs → b ≡ get_or bs i b → t ≡ nat_le (expr_height (expr_view b.condition)) room → t ≡ false → branches_low (drop i bs) ≡ false
   condition_high bs i b t lt is e high =
-      branches_next bs i b lt is ∙ ap (λ z. (z && nat_le (body_height (body_view templates b.2.items end)) room) && branches_low (drop (i + 1) bs)) (sym e ∙ high)
+      branches_next bs i b lt is ∙ ap (λ z. (z && nat_le (body_height (body_view templates b.body.items end)) room) && branches_low (drop (i + 1) bs)) (sym e ∙ high)
 
-  pub inside_high : (bs : List SBranch) (i : ℕ) (b : SBranch) (ss : List given.SlotStmt) (t u : Bool) → i < length bs → b ≡ get_or bs i b → ss ≡ b.2.items → t ≡ nat_le (expr_height (expr_view b.1)) room
+  pub inside_high : (bs : List SBranch) (i : ℕ) (b : SBranch) (ss : List given.SlotStmt) (t u : Bool) → i < length bs → b ≡ get_or bs i b → ss ≡ b.body.items → t ≡ nat_le (expr_height (expr_view b.condition)) room
       → Passes room (body_view templates ss) u → u ≡ false → branches_low (drop i bs) ≡ false
   inside_high bs i b ss t u lt is same e f high =
       branches_next bs i b lt is ∙ ap (λ z. z && branches_low (drop (i + 1) bs)) (branch_same b ss t u same e f ∙ ap (λ z. t && z) high ∙ none t)

@@ -56,7 +56,7 @@ module _ (templates : List Text) (h : ℕ) where
 
   -- a branch, and code for where it is not taken
   abbrev pub first_asm : SBranch → Asm → Asm
-  first_asm b other = both (expr_asm (Some (place_view templates b.0)) (expr_view b.1) h) (choose (body_asm (body_view templates b.2.items slots.end) h) other)
+  first_asm b other = both (expr_asm (Some (place_view templates b.place)) (expr_view b.condition) h) (choose (body_asm (body_view templates b.body.items slots.end) h) other)
 
   -- branches, and code for where none is taken
   abbrev pub inner_asm : List SBranch → Asm → Asm
@@ -76,8 +76,8 @@ module _ (templates : List Text) (h : ℕ) where
   closes_snoc final done [] m c = (done, subst (λ z. Patches z m (op.Jump (length z.code.items)) done) c.1 c.2, refl)
   closes_snoc final done (e ∷ es) m c = let r = closes_snoc final c.0 es m c.1 in (r.0, r.1, (c.0, r.2, c.2))
 
-  pub opens_more : (bs : List SBranch) (i : ℕ) (b : SBranch) (ss : List SlotStmt) (old now c1 c2 c3 c4 : Emitter) (ends : List ℕ) (choice last : ℕ) → i < length bs → b ≡ get_or bs i b → ss ≡ b.2.items → Opens old bs now (drop i bs) ends
-      → Puts templates now (expr_asm (Some (place_view templates b.0)) (expr_view b.1) h) c1 → Reserves c1 (op.JumpIfFalse 0) choice c2 → Emits templates h c2 (body_view templates ss) c3 → Ends c3 choice last c4
+  pub opens_more : (bs : List SBranch) (i : ℕ) (b : SBranch) (ss : List SlotStmt) (old now c1 c2 c3 c4 : Emitter) (ends : List ℕ) (choice last : ℕ) → i < length bs → b ≡ get_or bs i b → ss ≡ b.body.items → Opens old bs now (drop i bs) ends
+      → Puts templates now (expr_asm (Some (place_view templates b.place)) (expr_view b.condition) h) c1 → Reserves c1 (op.JumpIfFalse 0) choice c2 → Emits templates h c2 (body_view templates ss) c3 → Ends c3 choice last c4
       → Opens old bs c4 (drop (i + 1) bs) (ends ++ last ∷ [])
   opens_more bs i b ss old now c1 c2 c3 c4 ends choice last lt is same o tested tests taken ended = record {
     counted = omega (arith, o.counted, length-append ends (last ∷ []), ap length (drop_more bs i b lt));
@@ -89,10 +89,10 @@ module _ (templates : List Text) (h : ℕ) where
   }
     where
       x : Asm
-      x = expr_asm (Some (place_view templates b.0)) (expr_view b.1) h
+      x = expr_asm (Some (place_view templates b.place)) (expr_view b.condition) h
 
       a : Asm
-      a = body_asm (body_view templates b.2.items slots.end) h
+      a = body_asm (body_view templates b.body.items slots.end) h
 
       body : Puts templates c2 a c3
       body = subst (λ l. Puts templates c2 (body_asm (body_view templates l slots.end) h) c3) same (emits_alone templates h c2 c3 (body_view templates ss) taken)

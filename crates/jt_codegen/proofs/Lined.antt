@@ -5,7 +5,7 @@ use Rattle.std.specs.List.{AllByRecursion}
 use Rattle.jt_image.specs.IsCode.{max_line}
 use Rattle.jt_scan.specs.declared.options.Options.{Options}
 use Rattle.jt_scan.specs.Cut as cut
-use Rattle.jt_scan.specs.Cut.{Text, Token, Segment, IsSegment, Cuts, lines, line_at}
+use Rattle.jt_scan.specs.Cut.{Text, Segment, IsSegment, Cuts, lines}
 use Rattle.jt_scan.specs.LineEnds.{normalized}
 use Rattle.jt_scan.specs.SourceView.{max_source_len}
 use Rattle.jt_scan.proofs.CutLaws.{segment_found}

@@ -12,7 +12,7 @@ use Rattle.jt_meaning.specs.Layout.{defaults_of, numbered_bodies, shared}
 use Rattle.jt_meaning.specs.Programs.{program, body_routines, entry_routines, chain_routines, routines}
 use Rattle.jt_meaning.specs.Resolve.{macro_routine}
 use Rattle.jt_resolved.specs.Slots as slots
-use Rattle.jt_resolved.specs.Slots.{SlotExpr, SRow, Targets, SlotStmt, SBody, Routine, Program}
+use Rattle.jt_resolved.specs.Slots.{SlotExpr, SRow, Targets, SlotStmt, SBody, Routine}
 use Rattle.jt_resolved.specs.Pool.{Constant, own, known, constant_values, expr_values, row_values, condition_values, stmt_values, body_values, routines_values, placed_routines}
 use Rattle.jt_resolved.specs.Size.{expr_size, row_size, condition_size, stmt_size, body_size, routines_size}
 use Rattle.jt_lower.specs.Compiles.{LowLaws}

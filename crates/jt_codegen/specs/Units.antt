@@ -1,5 +1,5 @@
 -- What an image has place for.
-use Rattle.std.specs.Prelude.{ℕ, ◌<◌, ◌≤◌, ◌^◌, List, length}
+use Rattle.std.specs.Prelude.{ℕ, ◌<◌, ◌≤◌, ◌^◌, List, length, map}
 use Rattle.std.specs.List.{AllByRecursion}
 use Rattle.jt_image.specs.Code.{Section, Code}
 use Rattle.jt_image.specs.IsCode.{total_len, max_count, max_locals, max_instructions}
@@ -7,7 +7,10 @@ use Rattle.jt_image.specs.Parts.{KeepsLimits, IsWritable}
 use Rattle.jt_image.specs.declared.error.ImageError.{ImageError}
 use Rattle.jt_image.specs.declared.error.ImageError.TheVariants as image_error
 use Rattle.jt_resolved.specs.Slots.{Program}
-use Rattle.jt_lower.specs.Lower.{compiled}
+use Rattle.jt_resolved.specs.View.{routine_view}
+use Rattle.jt_resolved.specs.declared.program.Routine as given
+use Rattle.jt_trees.specs.Expressions.{Text}
+use Rattle.jt_lower.specs.Lower.{unit_of, compiled}
 use Rattle.jt_codegen.specs.declared.emission.EmitError.{EmitError}
 use Rattle.jt_codegen.specs.declared.emission.EmitError.TheVariants as error
 
@@ -27,6 +30,10 @@ pub record FitUnits (left : ℕ) (us : List Section) : Type 0 where
   pub locals : AllByRecursion (λ u. u.locals ≤ max_locals) us
   pub len : total_len us ≤ left
   pub writable : AllByRecursion IsWritable us
+
+-- the units of routines
+abbrev pub routine_units : List Text → List given.Routine → List Section
+routine_units templates routines = map unit_of (map (routine_view templates) routines)
 
 -- what a refusal says of units
 abbrev pub RefusesUnits : EmitError → List Section → Type 0

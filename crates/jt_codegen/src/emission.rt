@@ -1,25 +1,24 @@
 //! The code of resolved statements and routines.
 
-ghost use Rattle.std.specs.Prelude.{◌≡◌, ◌≤◌, ℕ, List, Some, length, IfOk, IfErr, OnOk};
+ghost use Rattle.std.specs.Prelude.{◌≡◌, ◌≤◌, List, Some, length, option_map, IfOk, IfErr};
 ghost use Rattle.jt_image.specs.Parts.{section_of_unit};
 ghost use Rattle.jt_trees.specs.Expressions.{Text};
 ghost use Rattle.jt_resolved.specs.Slots as slots;
 ghost use Rattle.jt_resolved.specs.View.{slot_view, targets_view, place_view, expr_view, stmt_view, body_view, routine_view};
-ghost use Rattle.std.specs.Prelude.{option_map};
 ghost use Rattle.jt_lower.specs.Lower.{kept_asm, stmt_asm, unit_of, routine_places};
-ghost use Rattle.jt_lower.specs.Emission.{StandsFor, tag_view, places_view, Puts};
-ghost use Rattle.jt_codegen.specs.Statements.{Emits, Closes};
+ghost use Rattle.jt_lower.specs.Emission.{tag_view, places_view, PutsFor, PutsAt};
+ghost use Rattle.jt_codegen.specs.Statements.{EmitsAt, Closes};
 ghost use Rattle.jt_codegen.specs.Units.{Refuses};
 
 use crate::targets::{emit_item, emit_targets};
 use jt_image::{Instruction, Unit};
 use jt_lower::{Emitter, call_of, data_of, emit_expression, emit_row, flag, store_of};
-use jt_resolved::{Place, Routine, Slot, SlotExpr, SlotStmt, Targets};
+use jt_resolved::{Place, Routine, Slot, SlotBranch, SlotExpr, SlotStmt, Targets};
 use std::alloc::{AllocError, AllocFailed, Global};
 
 /// Why no code is made.
 #[derive(Clone, Copy, Debug, Drop, PartialEq, Eq)]
-pub enum EmitError {
+pub(crate) enum EmitError {
     /// An image has no place for it.
     CodeTooLong,
     /// A growth was refused.
@@ -102,9 +101,8 @@ fn emit_condition(
     targets: &Targets,
     condition: &Option<SlotExpr>,
 ) -> Result<(), AllocError>
-    ensures { OnOk result ((templates : List Text)
-        → Puts templates code.old (kept_asm (tag_view templates tag) (targets_view targets.now)
-        (option_map expr_view condition.now)) code.new) }
+    ensures { PutsFor code.old (λ templates. kept_asm (tag_view templates tag)
+        (targets_view targets.now) (option_map expr_view condition.now)) result code.new }
 {
     match condition {
         None => Ok(()),
@@ -128,11 +126,8 @@ fn emit_printed(
     expr: &SlotExpr,
     above: usize,
 ) -> Result<(), AllocError>
-    ensures { OnOk result ((templates : List Text) (h : ℕ)
-        → StandsFor above h
-        → Puts templates code.old
-        (stmt_asm (slots.print (place_view templates tag) escaping (expr_view expr.now)) h)
-        code.new) }
+    ensures { PutsAt above code.old (λ templates h. stmt_asm
+        (slots.print (place_view templates tag) escaping (expr_view expr.now)) h) result code.new }
 {
     let printed = flag(escaping);
     emit_expression(code, Some(tag), expr, above)?;
@@ -157,9 +152,7 @@ fn emit_statement(
     statement: &SlotStmt,
     above: usize,
 ) -> Result<(), AllocError>
-    ensures { OnOk result ((templates : List Text) (h : ℕ)
-        → StandsFor above h
-        → Emits templates h code.old (stmt_view templates statement.now) code.new) }
+    ensures { EmitsAt above code.old (λ texts. stmt_view texts statement.now) result code.new }
 {
     match statement {
         SlotStmt::PutPooled(place) => {
@@ -182,7 +175,11 @@ fn emit_statement(
         }
         SlotStmt::If(branches, other) => {
             let mut ends = Vec::new(alloc);
-            for (tag, condition, body) in branches {
+            for SlotBranch {
+                place: tag,
+                condition,
+                body,
+            } in branches {
                 emit_expression(code, Some(*tag), condition, above)?;
                 let choice = code.begin_choice()?;
                 emit_statements(alloc, code, body, above)?;
@@ -231,13 +228,10 @@ fn emit_loop(
     other: &[SlotStmt],
     above: usize,
 ) -> Result<(), AllocError>
-    ensures { OnOk result ((templates : List Text) (h : ℕ)
-        → StandsFor above h
-        → Puts templates code.old
-        (stmt_asm (slots.for_each (place_view templates tag) (targets_view targets.now)
-        (expr_view iterated.now) (option_map expr_view condition.now)
-        (body_view templates body.now slots.end) (body_view templates other.now slots.end)) h)
-        code.new) }
+    ensures { PutsAt above code.old (λ templates h. stmt_asm (slots.for_each
+        (place_view templates tag) (targets_view targets.now) (expr_view iterated.now)
+        (option_map expr_view condition.now) (body_view templates body.now slots.end)
+        (body_view templates other.now slots.end)) h) result code.new }
 {
     emit_expression(code, Some(tag), iterated, above)?;
     code.put(Some(tag), Some(Instruction::LoopStart))?;
@@ -263,11 +257,8 @@ fn emit_capture(
     body: &[SlotStmt],
     above: usize,
 ) -> Result<(), AllocError>
-    ensures { OnOk result ((templates : List Text) (h : ℕ)
-        → StandsFor above h
-        → Puts templates code.old (stmt_asm
-        (slots.capture escaping (slot_view slot) (body_view templates body.now slots.end)) h)
-        code.new) }
+    ensures { PutsAt above code.old (λ templates h. stmt_asm (slots.capture escaping
+        (slot_view slot) (body_view templates body.now slots.end)) h) result code.new }
 {
     let captured = flag(escaping);
     code.put(None, Some(Instruction::CaptureBegin))?;
@@ -285,9 +276,7 @@ fn emit_statements(
     body: &[SlotStmt],
     above: usize,
 ) -> Result<(), AllocError>
-    ensures { OnOk result ((templates : List Text) (h : ℕ)
-        → StandsFor above h
-        → Emits templates h code.old (body_view templates body.now) code.new) }
+    ensures { EmitsAt above code.old (λ texts. body_view texts body.now) result code.new }
 {
     for statement in body {
         emit_statement(alloc, code, statement, above)?;

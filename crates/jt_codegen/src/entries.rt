@@ -9,7 +9,7 @@ ghost use Rattle.jt_resolved.specs.Slots.{SBody};
 ghost use Rattle.jt_resolved.specs.View.{targets_view, expr_view, stmt_view, body_view, routine_view};
 
 use jt_lower::{fits_expression, fits_row};
-use jt_resolved::{Routine, SlotExpr, SlotStmt, Targets};
+use jt_resolved::{Routine, SlotBranch, SlotExpr, SlotStmt, Targets};
 
 /// Whether what takes a value needs at most so many entries.
 fn fits_targets(targets: &Targets, room: usize) -> bool
@@ -47,7 +47,11 @@ fn fits_statement(statement: &SlotStmt, room: usize) -> bool
             ..
         } => fits_expression(expr, room) && fits_targets(targets, room),
         SlotStmt::If(branches, other) => {
-            for (_, condition, body) in branches {
+            for SlotBranch {
+                condition,
+                body,
+                ..
+            } in branches {
                 if !fits_expression(condition, room) {
                     return false;
                 }

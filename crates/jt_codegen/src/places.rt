@@ -6,12 +6,12 @@ ghost use Rattle.std.specs.List.{AllByRecursion};
 ghost use Rattle.jt_image.specs.IsCode.{max_count};
 ghost use Rattle.jt_image.specs.View.{texts_view, spot_view, spots_view};
 ghost use Rattle.jt_resolved.specs.View.{place_view};
-ghost use Rattle.jt_lower.specs.Emission.{tag_view, places_view};
+ghost use Rattle.jt_lower.specs.Emission.{tag_view};
 ghost use Rattle.jt_trees.specs.Texts.{all_inserted};
 ghost use Rattle.jt_names.specs.Names.{texts};
 ghost use Rattle.jt_lower.specs.Spots.{templates_in, templates_of, number_of, spot_of};
 ghost use Rattle.jt_meaning.specs.Ascends.{Ascends};
-ghost use Rattle.jt_codegen.specs.Naming.{IsNamed};
+ghost use Rattle.jt_codegen.specs.Naming.{told_by, IsNamed};
 ghost use Rattle.jt_codegen.specs.Units.{RefusesTemplates};
 
 use crate::emission::EmitError;
@@ -40,13 +40,12 @@ pub(crate) fn told_places(
     templates: &[String],
     places: &[Option<Place>],
 ) -> Result<PlaceTable, EmitError>
-    ensures named { IfOk result (λ p. texts_view p.templates.items
-        ≡ templates_of (places_view (texts_view templates.now) places.now)) }
-    ensures told { IfOk result (λ p. spots_view p.spots.items
-        ≡ map (spot_of (templates_of (places_view (texts_view templates.now) places.now)))
-        (places_view (texts_view templates.now) places.now)) }
-    ensures refused { IfErr result (λ e. RefusesTemplates e
-        (templates_of (places_view (texts_view templates.now) places.now))) }
+    ensures named { IfOk result
+        (λ p. texts_view p.templates.items ≡ templates_of (told_by templates.now places.now)) }
+    ensures told { IfOk result (λ p. let places = told_by templates.now places.now in
+        spots_view p.spots.items ≡ map (spot_of (templates_of places)) places) }
+    ensures refused { IfErr result
+        (λ e. RefusesTemplates e (templates_of (told_by templates.now places.now))) }
 {
     let named = named_templates(alloc, templates, places)?;
     if named.len() > MAX_COUNT {
@@ -76,8 +75,7 @@ fn named_templates<'a>(
     templates: &'a [String],
     places: &[Option<Place>],
 ) -> Result<Vec<&'a str>, AllocError>
-    ensures { IfOk result (λ ns. texts ns.items
-        ≡ templates_of (places_view (texts_view templates.now) places.now)) }
+    ensures { IfOk result (λ ns. texts ns.items ≡ templates_of (told_by templates.now places.now)) }
 {
     let mut named = BTreeSet::new(alloc);
     for tag in places {
@@ -119,10 +117,9 @@ fn spots_of(
 ) -> Result<Vec<Spot>, AllocError>
     requires few { length named.now ≤ max_count }
     requires ascend { Ascends (texts named.now) }
-    requires named { AllByRecursion (IsNamed (texts named.now))
-        (places_view (texts_view templates.now) places.now) }
+    requires named { AllByRecursion (IsNamed (texts named.now)) (told_by templates.now places.now) }
     ensures { IfOk result (λ ss. spots_view ss.items
-        ≡ map (spot_of (texts named.now)) (places_view (texts_view templates.now) places.now)) }
+        ≡ map (spot_of (texts named.now)) (told_by templates.now places.now)) }
 {
     let mut spots = Vec::with_capacity(alloc, places.len())?;
     for tag in places {

@@ -7,10 +7,10 @@ ghost use Rattle.jt_image.specs.View.{names_view};
 ghost use Rattle.jt_trees.specs.Expressions.{Text};
 ghost use Rattle.jt_resolved.specs.View.{routine_view, program_of};
 ghost use Rattle.std.specs.List.{flat_map};
-ghost use Rattle.jt_lower.specs.Lower.{numbered, unit_of, routine_places, compiled};
+ghost use Rattle.jt_lower.specs.Lower.{numbered, routine_places, compiled};
 ghost use Rattle.jt_lower.specs.Fits.{ProgramFits};
 ghost use Rattle.jt_lower.specs.Emission.{places_view};
-ghost use Rattle.jt_codegen.specs.Units.{RefusesUnits, RefusesCode, HasFewValues};
+ghost use Rattle.jt_codegen.specs.Units.{routine_units, RefusesUnits, RefusesCode, HasFewValues};
 ghost use Rattle.jt_codegen.specs.declared.emission.EmitError.TheVariants.{NoMemory};
 
 use crate::emission::{EmitError, emit_unit};
@@ -71,15 +71,14 @@ struct Units {
 /// The units of routines, each with what those before it leave of the instructions.
 fn units_of(alloc: Global, routines: &[Routine]) -> Result<Units, EmitError>
     ensures emitted { IfOk result (λ us. (templates : List Text)
-        → each_of section_of_unit us.units.items
-        ≡ Some (map unit_of (map (routine_view templates) routines.now))) }
+        → each_of section_of_unit us.units.items ≡ Some (routine_units templates routines.now)) }
     ensures placed { IfOk result (λ us. (templates : List Text)
         → places_view templates us.places.items
         ≡ flat_map routine_places (map (routine_view templates) routines.now)) }
     ensures short { IfOk result (λ us. (templates : List Text)
-        → total_len (map unit_of (map (routine_view templates) routines.now)) ≤ max_instructions) }
-    ensures refused { IfErr result (λ e. (templates : List Text)
-        → RefusesUnits e (map unit_of (map (routine_view templates) routines.now))) }
+        → total_len (routine_units templates routines.now) ≤ max_instructions) }
+    ensures refused { IfErr result
+        (λ e. (templates : List Text) → RefusesUnits e (routine_units templates routines.now)) }
 {
     let mut units = Vec::with_capacity(alloc, routines.len())?;
     let mut places = Vec::new(alloc);

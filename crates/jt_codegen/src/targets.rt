@@ -1,12 +1,11 @@
 //! The code that takes a value into slots, and what begins a turn of a loop.
 
-ghost use Rattle.std.specs.Prelude.{List, None, OnOk};
+ghost use Rattle.std.specs.Prelude.{None};
 ghost use Rattle.jt_image.specs.declared.instruction.Instruction.TheVariants as op;
-ghost use Rattle.jt_trees.specs.Expressions.{Text};
 ghost use Rattle.jt_resolved.specs.View.{targets_view};
 ghost use Rattle.jt_lower.specs.Asm.{both, one};
 ghost use Rattle.jt_lower.specs.Lower.{take_asm, stores_asm};
-ghost use Rattle.jt_lower.specs.Emission.{tag_view, Puts};
+ghost use Rattle.jt_lower.specs.Emission.{tag_view, PutsFor};
 ghost use Rattle.jt_codegen.specs.Statements.{slots_view};
 
 use jt_image::{Instruction, LoopField};
@@ -20,9 +19,8 @@ pub(crate) fn emit_targets(
     tag: Option<Place>,
     targets: &Targets,
 ) -> Result<(), AllocError>
-    ensures { OnOk result ((templates : List Text)
-        → Puts templates code.old (take_asm (tag_view templates tag) (targets_view targets.now))
-        code.new) }
+    ensures { PutsFor code.old (λ templates.
+        take_asm (tag_view templates tag) (targets_view targets.now)) result code.new }
 {
     match targets {
         Targets::One(slot) => {
@@ -43,9 +41,8 @@ fn emit_stores(
     tag: Option<Place>,
     slots: &[Option<Slot>],
 ) -> Result<(), AllocError>
-    ensures { OnOk result ((templates : List Text)
-        → Puts templates code.old (stores_asm (tag_view templates tag) (slots_view slots.now))
-        code.new) }
+    ensures { PutsFor code.old (λ templates.
+        stores_asm (tag_view templates tag) (slots_view slots.now)) result code.new }
 {
     for at in (0..slots.len()).rev() {
         match slots[at] {
@@ -62,9 +59,8 @@ pub(crate) fn emit_item(
     tag: Option<Place>,
     targets: &Targets,
 ) -> Result<(), AllocError>
-    ensures { OnOk result ((templates : List Text)
-        → Puts templates code.old (both (one (tag_view templates tag) (op.LoopGet 0 0))
-        (take_asm (tag_view templates tag) (targets_view targets.now))) code.new) }
+    ensures { PutsFor code.old (λ templates. both (one (tag_view templates tag) (op.LoopGet 0 0))
+        (take_asm (tag_view templates tag) (targets_view targets.now))) result code.new }
 {
     let item = Instruction::LoopGet {
         field: LoopField::Item.id(),

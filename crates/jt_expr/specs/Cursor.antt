@@ -1,5 +1,5 @@
 -- The tokens of a cursor, and what its steps take of them.
-use Rattle.std.specs.Prelude.{◌≡◌, ℕ, false, List, [], ◌∷◌, map, Option, Some, None, Result, Ok, Err}
+use Rattle.std.specs.Prelude.{◌≡◌, ℕ, Bool, false, List, [], ◌∷◌, map, Option, Some, None, Result, Ok, Err}
 use Rattle.std.specs.Str.{chars}
 use denote.Ref.{Bor}
 use Rattle.jt_scan.specs.declared.segment.Sign.{Sign}
@@ -9,11 +9,16 @@ use Rattle.jt_scan.specs.Cut as cut
 use Rattle.jt_expr.specs.declared.cursor.Cursor.{Cursor}
 use Rattle.jt_expr.specs.declared.error.ExprError.{ExprError}
 use Rattle.jt_expr.specs.declared.error.ExprError.TheVariants as e
+use Rattle.jt_expr.specs.Front.{past}
 use Rattle.jt_expr.specs.Grammar.{Tokens, is_reserved}
 
 -- the tokens that are still to be read
 abbrev pub ahead : Cursor → Tokens
 ahead c = map token_view c.rest.now
+
+-- the token in front is taken where the test holds
+abbrev pub Passes : (Tokens → Bool) → Cursor → Cursor → Type 0
+Passes test old new = ahead new ≡ past (test (ahead old)) (ahead old)
 
 abbrev pub Takes : Tokens → Option Token → Tokens → Type 0
 Takes ts None new = (ts ≡ []) × (new ≡ [])

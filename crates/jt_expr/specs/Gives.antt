@@ -1,7 +1,9 @@
 -- What only private clauses cite: what the steps of the cursor and the functions of the grammar
 -- give, by the reader of Reading.
-use Rattle.std.specs.Prelude.{◌≡◌, ℕ, suc, ◌≤◌, ◌<◌, List, encode_utf8_all, Option, Some, None, option_map, Result, Ok, Err, String, string_bytes}
+use Rattle.std.specs.Prelude.{◌≡◌, ℕ, suc, ◌≤◌, ◌<◌, List, encode_utf8_all, Option, Some, None, option_map, Result, Ok, Err, IfOk, String, string_bytes}
 use Rattle.std.specs.Str.{chars}
+use Rattle.std.specs.Global.{Box}
+use Rattle.std.specs.declared.alloc.AllocError.{AllocError}
 use Rattle.std.specs.declared.alloc.Global.{Global}
 use denote.Ref.{Bor, MutBor}
 use denote.Param.Members.{Shared}
@@ -23,11 +25,13 @@ use Rattle.jt_expr.specs.declared.rows.Step.{Step}
 use Rattle.jt_expr.specs.declared.rows.Step.TheVariants.{Grown, Ended}
 use Rattle.jt_trees.specs.declared.expression.BinaryOperator.{BinaryOperator}
 use Rattle.jt_trees.specs.Expressions.{Text, Expr, levels}
-use Rattle.jt_trees.specs.ExpressionView.{expr_view}
+use Rattle.jt_trees.specs.Expressions as trees
+use Rattle.jt_trees.specs.ExpressionView.{expr_view, exprs_view, pairs_view}
+use Rattle.jt_trees.specs.declared.expression.Expr as expression
 use Rattle.jt_expr.specs.Promises.{parts_view, level_of_form}
 use Rattle.jt_expr.specs.Grammar as grammar
 use Rattle.jt_expr.specs.Grammar.{Tokens, Level, next}
-use Rattle.jt_expr.specs.Reading.{Outcome, Reader, syntax, deep, operator, read, read_at}
+use Rattle.jt_expr.specs.Reading.{Outcome, Reader, syntax, deep, operator, read, read_at, read_chain}
 use Rattle.jt_expr.specs.Elements as elements
 use Rattle.jt_expr.specs.Cursor.{ahead}
 
@@ -48,10 +52,20 @@ abbrev pub TakesName : Option (Text × Tokens) → Tokens → Option (Bor (List 
 TakesName found ts None new = (found ≡ None) × (new ≡ ts)
 TakesName found ts (Some s) new = found ≡ Some (encode_utf8_all (chars s.now), new)
 
+-- a name by the rule
+abbrev pub NamesBy : (Tokens → Option (Text × Tokens)) → Cursor → Option (Bor (List ℕ)) → Cursor
+    → Type 0
+NamesBy rule old result new = TakesName (rule (ahead old)) (ahead old) result (ahead new)
+
 -- a text, as it stands between its quotes, is taken with the sign behind it, or nothing is
 abbrev pub TakesText : Option (Text × Tokens) → Tokens → Option (Bor (List ℕ)) → Tokens → Type 0
 TakesText found ts None new = (found ≡ None) × (new ≡ ts)
 TakesText found ts (Some s) new = found ≡ Some (encode_utf8_all (unescaped (chars s.now)), new)
+
+-- a text by the rule
+abbrev pub TextsBy : (Tokens → Option (Text × Tokens)) → Cursor → Option (Bor (List ℕ)) → Cursor
+    → Type 0
+TextsBy rule old result new = TakesText (rule (ahead old)) (ahead old) result (ahead new)
 
 -- a refusal is the reader's, or want of memory
 abbrev pub Refuses : {A : Type 0} → Outcome A → ExprError → Type 0
@@ -62,6 +76,25 @@ Refuses o e.NoMemory = Unit {0}
 abbrev pub GivesWord : Outcome Text → Result (Bor (List ℕ)) ExprError → Tokens → Type 0
 GivesWord o (Ok s) new = o ≡ Ok (chars s.now, new)
 GivesWord o (Err f) new = Refuses o f
+
+-- ---- trees from their parts
+
+-- the bytes of a text's characters
+abbrev pub bytes_of : Text → Text
+bytes_of s = encode_utf8_all (chars s)
+
+abbrev pub tree_of : Part → Expr
+tree_of p = expr_view p.expr.value
+
+abbrev pub rows_of : Parts → trees.Exprs
+rows_of p = exprs_view p.items.items
+
+abbrev pub named_of : Parts → trees.Pairs
+named_of p = pairs_view p.pairs.items
+
+-- the tree is made
+abbrev pub Makes : Expr → Result (Box expression.Expr) AllocError → Type 0
+Makes t result = IfOk result (λ e. expr_view e.value ≡ t)
 
 -- ---- functions of the grammar
 
@@ -116,13 +149,34 @@ level_of_chain c.Power = grammar.power
 abbrev pub by_rule : {A : Type 0} → ((Level → Reader Expr) → ℕ → A) → ℕ → A
 by_rule rule below = rule (read below) (suc below)
 
+-- the tree that a reader reads
+abbrev pub ReadsBy : Reader Expr → Cursor → Result Part ExprError → Cursor → Type 0
+ReadsBy reader old result new = Gives (reader (ahead old)) result (ahead new)
+
 abbrev pub Follows : ((Level → Reader Expr) → ℕ → Reader Expr) → ℕ → Cursor → Result Part ExprError
     → Cursor → Type 0
-Follows rule below old result new = Gives (by_rule rule below (ahead old)) result (ahead new)
+Follows rule below = ReadsBy (by_rule rule below)
 
--- what stands between the operators of a level
+-- the same of a rule that an argument completes
+abbrev pub FollowsAt : {A : Type 0} → ((Level → Reader Expr) → ℕ → A → Reader Expr) → A → ℕ → Cursor
+    → Result Part ExprError → Cursor → Type 0
+FollowsAt rule a below = ReadsBy (by_rule rule below a)
+
+abbrev pub FollowsParts : ((Level → Reader Expr) → ℕ → Reader grammar.Parts) → ℕ → Cursor
+    → Result Parts ExprError → Cursor → Type 0
+FollowsParts rule below old result new =
+    GivesParts (by_rule rule below (ahead old)) result (ahead new)
+
+-- what a form of so many levels reads
+abbrev pub form_of : ℕ → Form → Reader Expr
+form_of below form = read below (level_of_form form)
+
+-- what stands between the operators of a level, and with these
 abbrev pub operand_of : ℕ → ChainLevel → Reader Expr
 operand_of below k = read_at (read below) (suc below) (next (level_of_chain k))
+
+abbrev pub chain_of : ℕ → ChainLevel → Reader Expr
+chain_of below k = by_rule read_chain below (level_of_chain k) (operand_of below k)
 
 -- a function value that reads what lies deeper
 pub record Nests {F : Type 0} (g : Shared F (Global × (MutBor Cursor × (ℕ × (Form × Unit {0})))) (Result Part ExprError × (MutBor Cursor × Unit {0}))) (below : ℕ) (inner : F) : Type 0 where
@@ -139,12 +193,12 @@ Around below inside (Err e.Syntax) = ⊥
 Around below inside (Err e.TooDeep) = below < inside
 Around below inside (Err e.NoMemory) = ⊥
 
--- the new tree, if its levels are allowed
+-- the new tree, if its levels are allowed: one more than lie deeper
 abbrev pub Fits : ℕ → Expr → Result Part ExprError → Type 0
-Fits n t (Ok p) = (expr_view p.expr.value ≡ t) × (levels t ≤ n)
-Fits n t (Err e.Syntax) = ⊥
-Fits n t (Err e.TooDeep) = n < levels t
-Fits n t (Err e.NoMemory) = Unit {0}
+Fits below t (Ok p) = (tree_of p ≡ t) × (levels t ≤ suc below)
+Fits below t (Err e.Syntax) = ⊥
+Fits below t (Err e.TooDeep) = suc below < levels t
+Fits below t (Err e.NoMemory) = Unit {0}
 
 -- a step from a tree
 abbrev pub GivesStep : Outcome (Option Expr) → Expr → Result Step ExprError → Tokens → Type 0
@@ -156,5 +210,4 @@ GivesStep o left (Err x) new = Refuses o x
 abbrev pub FollowsStep : ((Level → Reader Expr) → ℕ → Expr → Reader (Option Expr)) → ℕ → Part
     → Cursor → Result Step ExprError → Cursor → Type 0
 FollowsStep rule below left old result new =
-    GivesStep (by_rule rule below (expr_view left.expr.value) (ahead old))
-    (expr_view left.expr.value) result (ahead new)
+    GivesStep (by_rule rule below (tree_of left) (ahead old)) (tree_of left) result (ahead new)

@@ -6,8 +6,8 @@ ghost use Rattle.jt_scan.specs.Words.{letters_of};
 ghost use Rattle.jt_expr.specs.Front as front;
 ghost use Rattle.jt_expr.specs.Reading as reading;
 ghost use Rattle.jt_expr.specs.Grammar as grammar;
-ghost use Rattle.jt_expr.specs.Cursor.{ahead, Takes, TakesSign, TakesAName};
-ghost use Rattle.jt_expr.specs.Gives.{level_of_chain, Operates, OperatesAt, TakesName, TakesText, GivesWord};
+ghost use Rattle.jt_expr.specs.Cursor.{ahead, Passes, Takes, TakesSign, TakesAName};
+ghost use Rattle.jt_expr.specs.Gives.{level_of_chain, Operates, OperatesAt, NamesBy, TextsBy, GivesWord};
 
 use crate::error::ExprError;
 use crate::rows::ChainLevel;
@@ -84,8 +84,7 @@ impl<'a> Cursor<'a> {
     /// Takes the sign, if it stands in front.
     pub fn eat(&mut self, sign: Sign) -> bool
         ensures found { result ≡ front.sees sign (ahead self.old) }
-        ensures rest { ahead self.new
-            ≡ front.past (front.sees sign (ahead self.old)) (ahead self.old) }
+        ensures rest { Passes (front.sees sign) self.old self.new }
     {
         let found = self.sees(sign);
         if found {
@@ -97,8 +96,7 @@ impl<'a> Cursor<'a> {
     /// Takes the word, if it stands in front.
     pub fn eat_word(&mut self, word: &str) -> bool
         ensures found { result ≡ front.says (letters_of word.now) (ahead self.old) }
-        ensures rest { ahead self.new
-            ≡ front.past (front.says (letters_of word.now) (ahead self.old)) (ahead self.old) }
+        ensures rest { Passes (front.says (letters_of word.now)) self.old self.new }
     {
         let found = self.says(word);
         if found {
@@ -142,8 +140,7 @@ impl<'a> Cursor<'a> {
     /// Takes a name and the `=` behind it.
     #[tactic(auto, unfolding(crate::specs::Reading::keyword))]
     pub(crate) fn keyword(&mut self) -> Option<&'a str>
-        ensures { TakesName (reading.keyword (ahead self.old)) (ahead self.old) result
-            (ahead self.new) }
+        ensures { NamesBy reading.keyword self.old result self.new }
     {
         match self.rest {
             [Token::Name(name), Token::Sign(Sign::Assign), rest @ ..] if !is_reserved(name) => {
@@ -157,8 +154,7 @@ impl<'a> Cursor<'a> {
     /// Takes a text and the colon behind it.
     #[tactic(auto, unfolding(crate::specs::Reading::entry_key))]
     pub(crate) fn entry_key(&mut self) -> Option<&'a str>
-        ensures { TakesText (reading.entry_key (ahead self.old)) (ahead self.old) result
-            (ahead self.new) }
+        ensures { TextsBy reading.entry_key self.old result self.new }
     {
         match self.rest {
             [Token::Text(raw), Token::Sign(Sign::Colon), rest @ ..] => {

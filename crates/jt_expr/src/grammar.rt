@@ -1,12 +1,13 @@
 //! The rules of the grammar. They take the reader of what lies deeper as a parameter, so that each
 //! is proved by itself.
 
-ghost use Rattle.std.specs.Prelude.{◌≡◌, ◌≤◌, ◌<◌, ◌^◌, suc, length, codes, encode_utf8_all, IfOk};
+ghost use Rattle.std.specs.Prelude.{◌≡◌, ◌≤◌, ◌<◌, ◌^◌, suc, length, codes, IfOk};
 ghost use Rattle.std.specs.Str.{chars};
 ghost use Rattle.jt_trees.specs.Expressions as trees;
-ghost use Rattle.jt_trees.specs.ExpressionView.{is_negated, expr_view, exprs_view, pairs_view};
+ghost use Rattle.jt_trees.specs.ExpressionView.{is_negated};
 ghost use Rattle.jt_expr.specs.Front as front;
 ghost use Rattle.jt_expr.specs.Reading as spec;
+ghost use Rattle.jt_expr.specs.Reading.{opened, if_part, postscript_step, read_at, test_step};
 ghost use Rattle.jt_expr.specs.Grammar as grammar;
 ghost use Rattle.jt_expr.specs.Elements as elements;
 ghost use Rattle.jt_expr.specs.Cursor.{ahead};
@@ -15,8 +16,8 @@ ghost use Rattle.jt_expr.specs.Grammar.{Spells, Arguments};
 ghost use Rattle.jt_expr.specs.Promises.{Reads, EndsAt, OpensNone, parts_levels};
 ghost use Rattle.jt_expr.specs.Promises.{level_of_form, parts_view};
 ghost use Rattle.jt_expr.specs.Gives.{Gives, GivesParts, GivesKeyed, GivesElement, GivesKey};
-ghost use Rattle.jt_expr.specs.Gives.{Nests, Around, Fits, GivesStep, row_view};
-ghost use Rattle.jt_expr.specs.Gives.{by_rule, Follows, FollowsStep, level_of_chain, operand_of};
+ghost use Rattle.jt_expr.specs.Gives.{Nests, Around, Fits, row_view, bytes_of, tree_of, rows_of, named_of};
+ghost use Rattle.jt_expr.specs.Gives.{by_rule, ReadsBy, Follows, FollowsAt, FollowsParts, FollowsStep, form_of, level_of_chain, operand_of, chain_of};
 ghost use Rattle.jt_scan.specs.declared.segment.Sign.TheVariants as sign;
 
 use crate::cursor::Cursor;
@@ -54,8 +55,7 @@ impl<F: Fn(Global, &mut Cursor<'_>, usize, Form) -> Result<Part, ExprError>> Gra
     /// A form that lies one level deeper.
     fn inner(&self, cursor: &mut Cursor<'_>, form: Form) -> Result<Part, ExprError>
         requires { Nests F.Fn self.now.below self.now.inner }
-        ensures tree { Gives (spec.read self.now.below (level_of_form form) (ahead cursor.old))
-            result (ahead cursor.new) }
+        ensures tree { ReadsBy (form_of self.now.below form) cursor.old result cursor.new }
         ensures height { IfOk result (λ p. p.height ≤ self.now.below) }
     {
         (self.inner)(self.alloc, cursor, self.below, form)
@@ -73,8 +73,7 @@ impl<F: Fn(Global, &mut Cursor<'_>, usize, Form) -> Result<Part, ExprError>> Gra
 
     /// `a.k`
     fn attribute(&self, value: Part, name: &str) -> Result<Part, ExprError>
-        ensures { Fits (suc self.now.below) (trees.attribute (expr_view value.expr.value)
-            (encode_utf8_all (chars name.now))) result }
+        ensures { Fits self.now.below (trees.attribute (tree_of value) (bytes_of name.now)) result }
     {
         let height = self.around(value.height)?;
         let expr = making::make_attribute(self.alloc, value.expr, name)?;
@@ -83,8 +82,7 @@ impl<F: Fn(Global, &mut Cursor<'_>, usize, Form) -> Result<Part, ExprError>> Gra
 
     /// `a[b]`
     fn item(&self, value: Part, index: Part) -> Result<Part, ExprError>
-        ensures { Fits (suc self.now.below)
-            (trees.item (expr_view value.expr.value) (expr_view index.expr.value)) result }
+        ensures { Fits self.now.below (trees.item (tree_of value) (tree_of index)) result }
     {
         let height = self.around(value.height.max(index.height))?;
         let expr = making::make_item(self.alloc, value.expr, index.expr)?;
@@ -93,8 +91,8 @@ impl<F: Fn(Global, &mut Cursor<'_>, usize, Form) -> Result<Part, ExprError>> Gra
 
     /// `a(..)`
     fn call(&self, value: Part, arguments: Parts) -> Result<Part, ExprError>
-        ensures { Fits (suc self.now.below) (trees.call (expr_view value.expr.value)
-            (exprs_view arguments.items.items) (pairs_view arguments.pairs.items)) result }
+        ensures { Fits self.now.below
+            (trees.call (tree_of value) (rows_of arguments) (named_of arguments)) result }
     {
         let height = self.around(value.height.max(arguments.height))?;
         let expr = making::make_call(self.alloc, value.expr, arguments.items, arguments.pairs)?;
@@ -103,9 +101,8 @@ impl<F: Fn(Global, &mut Cursor<'_>, usize, Form) -> Result<Part, ExprError>> Gra
 
     /// `a|f(..)`
     fn filter(&self, value: Part, name: &str, arguments: Parts) -> Result<Part, ExprError>
-        ensures { Fits (suc self.now.below) (trees.filter (expr_view value.expr.value)
-            (encode_utf8_all (chars name.now)) (exprs_view arguments.items.items)
-            (pairs_view arguments.pairs.items)) result }
+        ensures { Fits self.now.below (trees.filter (tree_of value) (bytes_of name.now)
+            (rows_of arguments) (named_of arguments)) result }
     {
         let height = self.around(value.height.max(arguments.height))?;
         let expr = making::make_filter(
@@ -126,9 +123,8 @@ impl<F: Fn(Global, &mut Cursor<'_>, usize, Form) -> Result<Part, ExprError>> Gra
         name: &str,
         arguments: Parts,
     ) -> Result<Part, ExprError>
-        ensures { Fits (suc self.now.below) (trees.test (expr_view value.expr.value) (is_negated polarity)
-            (encode_utf8_all (chars name.now)) (exprs_view arguments.items.items)
-            (pairs_view arguments.pairs.items)) result }
+        ensures { Fits self.now.below (trees.test (tree_of value) (is_negated polarity)
+            (bytes_of name.now) (rows_of arguments) (named_of arguments)) result }
     {
         let height = self.around(value.height.max(arguments.height))?;
         let expr = making::make_test(
@@ -144,8 +140,7 @@ impl<F: Fn(Global, &mut Cursor<'_>, usize, Form) -> Result<Part, ExprError>> Gra
 
     /// An operator and its operands.
     fn binary(&self, op: BinaryOperator, left: Part, right: Part) -> Result<Part, ExprError>
-        ensures { Fits (suc self.now.below)
-            (trees.binary op (expr_view left.expr.value) (expr_view right.expr.value)) result }
+        ensures { Fits self.now.below (trees.binary op (tree_of left) (tree_of right)) result }
     {
         let height = self.around(left.height.max(right.height))?;
         let expr = making::make_binary(self.alloc, op, left.expr, right.expr)?;
@@ -154,8 +149,7 @@ impl<F: Fn(Global, &mut Cursor<'_>, usize, Form) -> Result<Part, ExprError>> Gra
 
     /// `a if c`
     fn when(&self, condition: Part, value: Part) -> Result<Part, ExprError>
-        ensures { Fits (suc self.now.below)
-            (trees.when (expr_view condition.expr.value) (expr_view value.expr.value)) result }
+        ensures { Fits self.now.below (trees.when (tree_of condition) (tree_of value)) result }
     {
         let height = self.around(condition.height.max(value.height))?;
         let expr = making::make_when(self.alloc, condition.expr, value.expr)?;
@@ -164,8 +158,8 @@ impl<F: Fn(Global, &mut Cursor<'_>, usize, Form) -> Result<Part, ExprError>> Gra
 
     /// `a if c else b`
     fn choice(&self, condition: Part, value: Part, other: Part) -> Result<Part, ExprError>
-        ensures { Fits (suc self.now.below) (trees.choice (expr_view condition.expr.value)
-            (expr_view value.expr.value) (expr_view other.expr.value)) result }
+        ensures { Fits self.now.below
+            (trees.choice (tree_of condition) (tree_of value) (tree_of other)) result }
     {
         let height = self.around(condition.height.max(value.height.max(other.height)))?;
         let expr = making::make_choice(self.alloc, condition.expr, value.expr, other.expr)?;
@@ -194,8 +188,8 @@ impl<F: Fn(Global, &mut Cursor<'_>, usize, Form) -> Result<Part, ExprError>> Gra
     #[tactic(auto, unfolding(crate::specs::Reading::part))]
     fn part(&self, cursor: &mut Cursor<'_>, row: Row) -> Result<Keyed, ExprError>
         requires { Nests F.Fn self.now.below self.now.inner }
-        ensures { GivesKeyed (spec.part (spec.read self.now.below) (suc self.now.below)
-            (row_view row) (ahead cursor.old)) result (ahead cursor.new) }
+        ensures { GivesKeyed (by_rule spec.part self.now.below (row_view row) (ahead cursor.old))
+            result (ahead cursor.new) }
     {
         let key = self.key(cursor, row)?;
         if key.is_none() && !row.takes_plain() {
@@ -209,8 +203,8 @@ impl<F: Fn(Global, &mut Cursor<'_>, usize, Form) -> Result<Part, ExprError>> Gra
     #[tactic(auto, unfolding(crate::specs::Elements::element, crate::specs::Reading::expect))]
     fn element(&self, cursor: &mut Cursor<'_>, row: Row) -> Result<Element, ExprError>
         requires { Nests F.Fn self.now.below self.now.inner }
-        ensures { GivesElement (elements.element (spec.read self.now.below) (suc self.now.below)
-            (row_view row) (ahead cursor.old)) result (ahead cursor.new) }
+        ensures { GivesElement (by_rule elements.element self.now.below (row_view row)
+            (ahead cursor.old)) result (ahead cursor.new) }
     {
         if cursor.eat(row.closer()) {
             return Ok(Element::Closed);
@@ -253,8 +247,7 @@ impl<F: Fn(Global, &mut Cursor<'_>, usize, Form) -> Result<Part, ExprError>> Gra
     #[tactic(auto, unfolding(crate::specs::Reading::opened, crate::specs::Reading::expect))]
     fn group(&self, cursor: &mut Cursor<'_>) -> Result<Part, ExprError>
         requires { Nests F.Fn self.now.below self.now.inner }
-        ensures { Gives (spec.opened (spec.read self.now.below) (suc self.now.below) sign.LeftParen
-            (ahead cursor.old)) result (ahead cursor.new) }
+        ensures { FollowsAt opened sign.LeftParen self.now.below cursor.old result cursor.new }
     {
         let inner = self.inner(cursor, Form::Whole)?;
         if !cursor.eat(Sign::RightParen) {
@@ -270,8 +263,7 @@ impl<F: Fn(Global, &mut Cursor<'_>, usize, Form) -> Result<Part, ExprError>> Gra
     #[tactic(auto, unfolding(crate::specs::Reading::opened))]
     fn list(&self, cursor: &mut Cursor<'_>) -> Result<Part, ExprError>
         requires { Nests F.Fn self.now.below self.now.inner }
-        ensures { Gives (spec.opened (spec.read self.now.below) (suc self.now.below)
-            sign.LeftBracket (ahead cursor.old)) result (ahead cursor.new) }
+        ensures { FollowsAt opened sign.LeftBracket self.now.below cursor.old result cursor.new }
     {
         let parts = self.row(cursor, Row::Items)?;
         Ok(Part {
@@ -284,8 +276,7 @@ impl<F: Fn(Global, &mut Cursor<'_>, usize, Form) -> Result<Part, ExprError>> Gra
     #[tactic(auto, unfolding(crate::specs::Reading::opened))]
     fn map(&self, cursor: &mut Cursor<'_>) -> Result<Part, ExprError>
         requires { Nests F.Fn self.now.below self.now.inner }
-        ensures { Gives (spec.opened (spec.read self.now.below) (suc self.now.below) sign.LeftBrace
-            (ahead cursor.old)) result (ahead cursor.new) }
+        ensures { FollowsAt opened sign.LeftBrace self.now.below cursor.old result cursor.new }
     {
         let parts = self.row(cursor, Row::Entries)?;
         Ok(Part {
@@ -387,9 +378,8 @@ impl<F: Fn(Global, &mut Cursor<'_>, usize, Form) -> Result<Part, ExprError>> Gra
         form: Form,
     ) -> Result<Part, ExprError>
         requires { Nests F.Fn self.now.below self.now.inner }
-        ensures { Gives
-            (elements.under op (spec.read self.now.below (level_of_form form) (ahead cursor.old)))
-            result (ahead cursor.new) }
+        ensures { Gives (elements.under op (form_of self.now.below form (ahead cursor.old))) result
+            (ahead cursor.new) }
     {
         let value = self.inner(cursor, form)?;
         Ok(Part {
@@ -417,8 +407,7 @@ impl<F: Fn(Global, &mut Cursor<'_>, usize, Form) -> Result<Part, ExprError>> Gra
     #[tactic(auto, unfolding(crate::specs::Reading::arguments_at))]
     fn arguments(&self, cursor: &mut Cursor<'_>) -> Result<Parts, ExprError>
         requires { Nests F.Fn self.now.below self.now.inner }
-        ensures { GivesParts (by_rule spec.arguments_at self.now.below (ahead cursor.old)) result
-            (ahead cursor.new) }
+        ensures { FollowsParts spec.arguments_at self.now.below cursor.old result cursor.new }
     {
         if cursor.eat(Sign::LeftParen) {
             self.row(cursor, Row::Arguments)
@@ -431,8 +420,7 @@ impl<F: Fn(Global, &mut Cursor<'_>, usize, Form) -> Result<Part, ExprError>> Gra
     #[tactic(auto, unfolding(crate::specs::Reading::test_arguments))]
     fn test_arguments(&self, cursor: &mut Cursor<'_>) -> Result<Parts, ExprError>
         requires { Nests F.Fn self.now.below self.now.inner }
-        ensures { GivesParts (by_rule spec.test_arguments self.now.below (ahead cursor.old)) result
-            (ahead cursor.new) }
+        ensures { FollowsParts spec.test_arguments self.now.below cursor.old result cursor.new }
     {
         if !cursor.begins_argument() {
             return self.arguments(cursor);
@@ -461,9 +449,8 @@ impl<F: Fn(Global, &mut Cursor<'_>, usize, Form) -> Result<Part, ExprError>> Gra
     #[tactic(auto, unfolding(crate::specs::Reading::test_step))]
     fn test_step(&self, cursor: &mut Cursor<'_>, left: Part) -> Result<Step, ExprError>
         requires { Nests F.Fn self.now.below self.now.inner }
-        ensures { GivesStep (spec.test_step (spec.read self.now.below) (suc self.now.below)
-            (front.says (codes "not") (ahead cursor.old)) (expr_view left.expr.value)
-            (ahead cursor.old)) (expr_view left.expr.value) result (ahead cursor.new) }
+        ensures { FollowsStep (λ r n. test_step r n (front.says (codes "not") (ahead cursor.old)))
+            self.now.below left cursor.old result cursor.new }
     {
         let negated = cursor.eat_word("not");
         let name = cursor.word()?;
@@ -475,7 +462,7 @@ impl<F: Fn(Global, &mut Cursor<'_>, usize, Form) -> Result<Part, ExprError>> Gra
     #[tactic(auto, unfolding(crate::specs::Reading::postscript_step))]
     fn postscript_step(&self, cursor: &mut Cursor<'_>, left: Part) -> Result<Step, ExprError>
         requires { Nests F.Fn self.now.below self.now.inner }
-        ensures { FollowsStep spec.postscript_step self.now.below left cursor.old result cursor.new }
+        ensures { FollowsStep postscript_step self.now.below left cursor.old result cursor.new }
     {
         if cursor.eat(Sign::Pipe) {
             self.filter_step(cursor, left)
@@ -507,8 +494,7 @@ impl<F: Fn(Global, &mut Cursor<'_>, usize, Form) -> Result<Part, ExprError>> Gra
     #[tactic(auto, unfolding(crate::specs::Reading::read_at))]
     fn operand(&self, cursor: &mut Cursor<'_>, level: ChainLevel) -> Result<Part, ExprError>
         requires { Nests F.Fn self.now.below self.now.inner }
-        ensures { Gives (operand_of self.now.below level (ahead cursor.old)) result
-            (ahead cursor.new) }
+        ensures { ReadsBy (operand_of self.now.below level) cursor.old result cursor.new }
     {
         match level {
             ChainLevel::Disjunction => self.chain(cursor, ChainLevel::Conjunction),
@@ -530,9 +516,9 @@ impl<F: Fn(Global, &mut Cursor<'_>, usize, Form) -> Result<Part, ExprError>> Gra
         left: Part,
     ) -> Result<Step, ExprError>
         requires { Nests F.Fn self.now.below self.now.inner }
-        ensures { GivesStep (spec.chain_step (spec.read self.now.below) (suc self.now.below)
-            (level_of_chain level) (operand_of self.now.below level) (expr_view left.expr.value)
-            (ahead cursor.old)) (expr_view left.expr.value) result (ahead cursor.new) }
+        ensures { FollowsStep
+            (λ r n. spec.chain_step r n (level_of_chain level) (operand_of self.now.below level))
+            self.now.below left cursor.old result cursor.new }
     {
         let Some(op) = cursor.operator(level) else {
             return Ok(Step::Ended(left));
@@ -546,8 +532,7 @@ impl<F: Fn(Global, &mut Cursor<'_>, usize, Form) -> Result<Part, ExprError>> Gra
     #[tactic(auto, unfolding(crate::specs::Reading::read_chain))]
     fn chain(&self, cursor: &mut Cursor<'_>, level: ChainLevel) -> Result<Part, ExprError>
         requires { Nests F.Fn self.now.below self.now.inner }
-        ensures { Gives (by_rule spec.read_chain self.now.below (level_of_chain level)
-            (operand_of self.now.below level) (ahead cursor.old)) result (ahead cursor.new) }
+        ensures { ReadsBy (chain_of self.now.below level) cursor.old result cursor.new }
     {
         let mut left = self.operand(cursor, level)?;
         for _turn in 0..self.below + 1 {
@@ -596,8 +581,8 @@ impl<F: Fn(Global, &mut Cursor<'_>, usize, Form) -> Result<Part, ExprError>> Gra
         condition: Part,
     ) -> Result<Part, ExprError>
         requires { Nests F.Fn self.now.below self.now.inner }
-        ensures { Gives (by_rule spec.else_part self.now.below (expr_view value.expr.value)
-            (expr_view condition.expr.value) (ahead cursor.old)) result (ahead cursor.new) }
+        ensures { FollowsAt (λ r n. spec.else_part r n (tree_of value)) (tree_of condition)
+            self.now.below cursor.old result cursor.new }
     {
         if !cursor.eat_word("else") {
             return self.when(condition, value);
@@ -610,8 +595,7 @@ impl<F: Fn(Global, &mut Cursor<'_>, usize, Form) -> Result<Part, ExprError>> Gra
     #[tactic(auto, unfolding(crate::specs::Reading::if_part, crate::specs::Reading::read_at))]
     fn if_part(&self, cursor: &mut Cursor<'_>, value: Part) -> Result<Part, ExprError>
         requires { Nests F.Fn self.now.below self.now.inner }
-        ensures { Gives (spec.if_part (spec.read self.now.below) (suc self.now.below)
-            (expr_view value.expr.value) (ahead cursor.old)) result (ahead cursor.new) }
+        ensures { FollowsAt if_part (tree_of value) self.now.below cursor.old result cursor.new }
     {
         if !cursor.eat_word("if") {
             return Ok(value);
@@ -634,8 +618,8 @@ impl<F: Fn(Global, &mut Cursor<'_>, usize, Form) -> Result<Part, ExprError>> Gra
     #[tactic(auto, unfolding(crate::specs::Reading::read_at))]
     fn form(&self, cursor: &mut Cursor<'_>, form: Form) -> Result<Part, ExprError>
         requires { Nests F.Fn self.now.below self.now.inner }
-        ensures { Gives (spec.read_at (spec.read self.now.below) (suc self.now.below)
-            (level_of_form form) (ahead cursor.old)) result (ahead cursor.new) }
+        ensures { FollowsAt read_at (level_of_form form) self.now.below cursor.old result
+            cursor.new }
     {
         match form {
             Form::Whole => self.whole(cursor),
@@ -654,8 +638,8 @@ pub fn read(
     limit: u8,
     form: Form,
 ) -> Result<Part, ExprError>
-    ensures promises { Reads (λ p. expr_view p.expr.value) (Spells (level_of_form form))
-        (EndsAt (level_of_form form)) levels limit (ahead cursor.old) result (ahead cursor.new) }
+    ensures promises { Reads tree_of (Spells (level_of_form form)) (EndsAt (level_of_form form))
+        levels limit (ahead cursor.old) result (ahead cursor.new) }
 {
     read_within(alloc, cursor, usize::from(limit), form)
 }
@@ -668,8 +652,7 @@ fn read_within(
     form: Form,
 ) -> Result<Part, ExprError>
     requires { limit ≤ 2 ^ 32 }
-    ensures { Gives (spec.read limit (level_of_form form) (ahead cursor.old)) result
-        (ahead cursor.new) }
+    ensures { ReadsBy (form_of limit form) cursor.old result cursor.new }
 {
     if limit == 0 {
         return Err(ExprError::TooDeep);

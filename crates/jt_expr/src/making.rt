@@ -5,6 +5,7 @@ ghost use Rattle.jt_trees.specs.Expressions as trees;
 ghost use Rattle.jt_trees.specs.ExpressionView.{literal_view, is_negated, expr_view, exprs_view, pairs_view};
 ghost use Rattle.std.specs.Prelude.{string_bytes, encode_utf8_all};
 ghost use Rattle.std.specs.Str.{chars};
+ghost use Rattle.jt_expr.specs.Gives.{Makes, bytes_of};
 
 use jt_trees::{BinaryOperator, Expr, Literal, Polarity, UnaryOperator};
 use std::alloc::{AllocError, Global};
@@ -17,32 +18,32 @@ pub fn copy_of(alloc: Global, text: &str) -> Result<String, AllocError>
 }
 
 pub(crate) fn make_constant(alloc: Global, literal: Literal) -> Result<Box<Expr>, AllocError>
-    ensures { IfOk result (λ e. expr_view e.value ≡ trees.constant (literal_view literal)) }
+    ensures { Makes (trees.constant (literal_view literal)) result }
 {
     Ok(Box::new(alloc, Expr::Constant(literal))?)
 }
 
 pub(crate) fn make_name(alloc: Global, text: &str) -> Result<Box<Expr>, AllocError>
-    ensures { IfOk result (λ e. expr_view e.value ≡ trees.name (encode_utf8_all (chars text.now))) }
+    ensures { Makes (trees.name (bytes_of text.now)) result }
 {
     let name = copy_of(alloc, text)?;
     Ok(Box::new(alloc, Expr::Name(name))?)
 }
 
 pub(crate) fn make_group(alloc: Global, inner: Box<Expr>) -> Result<Box<Expr>, AllocError>
-    ensures { IfOk result (λ e. expr_view e.value ≡ trees.group (expr_view inner.value)) }
+    ensures { Makes (trees.group (expr_view inner.value)) result }
 {
     Ok(Box::new(alloc, Expr::Group(inner))?)
 }
 
 pub(crate) fn make_list(alloc: Global, items: Vec<Expr>) -> Result<Box<Expr>, AllocError>
-    ensures { IfOk result (λ e. expr_view e.value ≡ trees.list_of (exprs_view items.items)) }
+    ensures { Makes (trees.list_of (exprs_view items.items)) result }
 {
     Ok(Box::new(alloc, Expr::List(items))?)
 }
 
 pub(crate) fn make_map(alloc: Global, pairs: Vec<(String, Expr)>) -> Result<Box<Expr>, AllocError>
-    ensures { IfOk result (λ e. expr_view e.value ≡ trees.map_of (pairs_view pairs.items)) }
+    ensures { Makes (trees.map_of (pairs_view pairs.items)) result }
 {
     Ok(Box::new(alloc, Expr::Map(pairs))?)
 }
@@ -52,8 +53,7 @@ pub(crate) fn make_attribute(
     a: Box<Expr>,
     text: &str,
 ) -> Result<Box<Expr>, AllocError>
-    ensures { IfOk result (λ e. expr_view e.value
-        ≡ trees.attribute (expr_view a.value) (encode_utf8_all (chars text.now))) }
+    ensures { Makes (trees.attribute (expr_view a.value) (bytes_of text.now)) result }
 {
     let name = copy_of(alloc, text)?;
     Ok(Box::new(alloc, Expr::Attribute(a, name))?)
@@ -64,8 +64,7 @@ pub(crate) fn make_item(
     a: Box<Expr>,
     index: Box<Expr>,
 ) -> Result<Box<Expr>, AllocError>
-    ensures { IfOk result
-        (λ e. expr_view e.value ≡ trees.item (expr_view a.value) (expr_view index.value)) }
+    ensures { Makes (trees.item (expr_view a.value) (expr_view index.value)) result }
 {
     Ok(Box::new(alloc, Expr::Item(a, index))?)
 }
@@ -76,8 +75,8 @@ pub(crate) fn make_call(
     arguments: Vec<Expr>,
     keywords: Vec<(String, Expr)>,
 ) -> Result<Box<Expr>, AllocError>
-    ensures { IfOk result (λ e. expr_view e.value ≡ trees.call (expr_view callee.value)
-        (exprs_view arguments.items) (pairs_view keywords.items)) }
+    ensures { Makes (trees.call (expr_view callee.value) (exprs_view arguments.items)
+        (pairs_view keywords.items)) result }
 {
     let call = Expr::Call {
         callee,
@@ -94,9 +93,8 @@ pub(crate) fn make_filter(
     arguments: Vec<Expr>,
     keywords: Vec<(String, Expr)>,
 ) -> Result<Box<Expr>, AllocError>
-    ensures { IfOk result (λ e. expr_view e.value
-        ≡ trees.filter (expr_view input.value) (encode_utf8_all (chars text.now))
-        (exprs_view arguments.items) (pairs_view keywords.items)) }
+    ensures { Makes (trees.filter (expr_view input.value) (bytes_of text.now)
+        (exprs_view arguments.items) (pairs_view keywords.items)) result }
 {
     let name = copy_of(alloc, text)?;
     let filter = Expr::Filter {
@@ -116,10 +114,8 @@ pub(crate) fn make_test(
     arguments: Vec<Expr>,
     keywords: Vec<(String, Expr)>,
 ) -> Result<Box<Expr>, AllocError>
-    ensures { IfOk result (λ e. expr_view e.value
-        ≡ trees.test (expr_view value.value) (is_negated polarity)
-        (encode_utf8_all (chars text.now))
-        (exprs_view arguments.items) (pairs_view keywords.items)) }
+    ensures { Makes (trees.test (expr_view value.value) (is_negated polarity) (bytes_of text.now)
+        (exprs_view arguments.items) (pairs_view keywords.items)) result }
 {
     let name = copy_of(alloc, text)?;
     let test = Expr::Test {
@@ -137,7 +133,7 @@ pub(crate) fn make_unary(
     op: UnaryOperator,
     a: Box<Expr>,
 ) -> Result<Box<Expr>, AllocError>
-    ensures { IfOk result (λ e. expr_view e.value ≡ trees.unary op (expr_view a.value)) }
+    ensures { Makes (trees.unary op (expr_view a.value)) result }
 {
     Ok(Box::new(alloc, Expr::Unary(op, a))?)
 }
@@ -148,8 +144,7 @@ pub(crate) fn make_binary(
     left: Box<Expr>,
     right: Box<Expr>,
 ) -> Result<Box<Expr>, AllocError>
-    ensures { IfOk result (λ e. expr_view e.value
-        ≡ trees.binary operator (expr_view left.value) (expr_view right.value)) }
+    ensures { Makes (trees.binary operator (expr_view left.value) (expr_view right.value)) result }
 {
     let binary = Expr::Binary {
         operator,
@@ -164,8 +159,7 @@ pub(crate) fn make_when(
     condition: Box<Expr>,
     value: Box<Expr>,
 ) -> Result<Box<Expr>, AllocError>
-    ensures { IfOk result
-        (λ e. expr_view e.value ≡ trees.when (expr_view condition.value) (expr_view value.value)) }
+    ensures { Makes (trees.when (expr_view condition.value) (expr_view value.value)) result }
 {
     Ok(Box::new(alloc, Expr::When { condition, value })?)
 }
@@ -176,8 +170,8 @@ pub(crate) fn make_choice(
     value: Box<Expr>,
     other: Box<Expr>,
 ) -> Result<Box<Expr>, AllocError>
-    ensures { IfOk result (λ e. expr_view e.value ≡ trees.choice (expr_view condition.value)
-        (expr_view value.value) (expr_view other.value)) }
+    ensures { Makes (trees.choice (expr_view condition.value) (expr_view value.value)
+        (expr_view other.value)) result }
 {
     let choice = Expr::Choice {
         condition,

@@ -63,8 +63,7 @@ fn is_unknown_naming(naming: Naming, name: &str, named: Named) -> bool
 
 /// Whether the argument at a place of a filter gives such a name.
 fn argument_unknown(filter: FilterId, place: usize, argument: &Expr, named: Named) -> bool
-    ensures { result
-        ≡ spec.argument_unknown named (named_at filter place)
+    ensures { result ≡ spec.argument_unknown named (named_at filter place)
         (literal_text (expr_view argument.now)) }
 {
     let Some(naming) = filter.named_at(place) else {

@@ -30,14 +30,10 @@ pub fn expression(alloc: Global, tokens: &[Token<'_>], limit: u8) -> Result<Expr
         (λ x. (t : trees.Expr) → Spells whole t (map token_view tokens.now) → t ≡ expr_view x) }
     // No tree of any depth is spelled so.
     ensures syntax { IsErrOf result ExprError.Syntax
-        → (t : trees.Expr)
-        → Spells whole t (map token_view tokens.now)
-        → ⊥ }
+        → (t : trees.Expr) → Spells whole t (map token_view tokens.now) → ⊥ }
     // No tree within the levels is spelled so.
     ensures deep { IsErrOf result ExprError.TooDeep
-        → (t : trees.Expr)
-        → Spells whole t (map token_view tokens.now)
-        → limit < levels t }
+        → (t : trees.Expr) → Spells whole t (map token_view tokens.now) → limit < levels t }
 {
     read_all(alloc, tokens, limit)
 }

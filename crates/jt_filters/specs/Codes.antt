@@ -1,6 +1,6 @@
 -- What the private functions say of the bytes by which items are told apart: items that are alike
 -- have the same.
-use Rattle.std.specs.Prelude.{ℕ, ℤ, List, [], ◌∷◌, ◌++◌, map, Vec}
+use Rattle.std.specs.Prelude.{◌≡◌, ℕ, ℤ, Result, OnOk, List, [], ◌∷◌, ◌++◌, map, Vec}
 use Rattle.std.specs.declared.alloc.Global.{Global}
 use Rattle.std.specs.BTreeMap.{insert_entry}
 use Rattle.std.specs.Cmp.Lexicographic.{slice_cmp}
@@ -8,6 +8,7 @@ use Rattle.std.specs.Int.{w64, cast_unsigned, to_le_bytes}
 use Rattle.std.specs.Ordering.{nat_cmp}
 use denote.Ref.{Bor}
 use Rattle.jt_value.specs.Equality.{truth_number}
+use Rattle.jt_value.specs.declared.fault.NoMemory.{NoMemory}
 use Rattle.jt_value.specs.Tree as tree
 use Rattle.jt_value.specs.Tree.{Tree, Items, no_items, item, Entries, no_entries, entry}
 use Rattle.jt_filter_meaning.specs.Ordering.{fold}
@@ -52,6 +53,10 @@ abbrev pub item_code : Tree → List ℕ
 item_code (tree.text s) = text_code (fold s)
 item_code (tree.markup s) = text_code (fold s)
 item_code t = code t
+
+-- so many bytes more stand behind the others, where there was memory
+abbrev pub Adds : {A : Type 0} → List ℕ → Vec ℕ Global → Vec ℕ Global → Result A NoMemory → Type 0
+Adds more before after result = OnOk result (after.items ≡ before.items ++ more)
 
 -- the rows that a map holds
 abbrev pub rows_in : List (Bor (List ℕ) × Vec ℕ Global) → Rows

@@ -1,5 +1,5 @@
 -- What the private functions say of what a filter works on, and of what they answer.
-use Rattle.std.specs.Prelude.{◌≡◌, ℕ, zero, suc, List, length, Bool, ◌+◌, ℤ, ◌-◌, ◌^◌, min, true, Option, Some, None, Result, Ok, Err}
+use Rattle.std.specs.Prelude.{◌≡◌, ℕ, zero, suc, List, ◌∷◌, map, length, Bool, IfOk, ◌+◌, ℤ, ◌-◌, ◌^◌, min, true, Option, Some, None, Result, Ok, Err}
 use Rattle.std.specs.Str.{chars}
 use Rattle.jt_value.specs.Iteration.{character_items, key_items}
 use Rattle.jt_value.specs.Payload.{has_payload}
@@ -14,6 +14,12 @@ use Rattle.jt_value.specs.declared.fault.ValueError.{ValueError}
 use Rattle.jt_value.specs.declared.fault.ValueError.TheVariants as error
 use Rattle.jt_value.specs.declared.value.Value.{Value}
 use Rattle.jt_value.specs.Tree.{no_items, item}
+use Rattle.jt_filter_meaning.specs.Listing.{on_items, joined_by}
+use Rattle.jt_filter_meaning.specs.Filtering.{filtered}
+use Rattle.jt_ids.specs.declared.filter_id.FilterId.{FilterId}
+use Rattle.jt_ops.specs.Limited.{limited_by, Answers}
+use Rattle.jt_ops.specs.declared.limits.Limits.{Limits}
+use Rattle.jt_ops.specs.declared.limits.OpError.{OpError}
 use Rattle.jt_filters.specs.declared.operand.Operand.{Operand}
 use Rattle.jt_filters.specs.declared.operand.Operand.TheVariants as operand
 use Rattle.jt_filters.specs.declared.item_list.ItemList.{ItemList}
@@ -54,6 +60,18 @@ measured (Err e) = Err e
 abbrev pub chosen : Result Operand Fault → Result Tree Fault
 chosen (Ok o) = Ok (tree_of o)
 chosen (Err e) = Err e
+
+-- a filter's input and its arguments
+abbrev pub inputs : Operand → List Value → List Tree
+inputs o vs = tree_of o ∷ map view vs
+
+-- what filter `join` gives of an operand by a separator
+abbrev pub joining : Bool → Operand → Operand → Result Tree Fault
+joining autoescape separator o = on_items (joined_by autoescape (tree_of separator)) (tree_of o)
+
+-- the list of the items, where there is memory for it
+abbrev pub Lists : Items → Result Value NoMemory → Type 0
+Lists ts result = IfOk result (λ v. view v ≡ tree.list ts)
 
 -- the last of an item and those behind it
 abbrev pub last_of : Tree → Items → Tree
@@ -103,3 +121,8 @@ Builds wanted (Err error.NoMemory) = HasPayload wanted
 abbrev pub HasItems : Result Items Fault → Result ItemList Fault → Type 0
 HasItems wanted (Ok found) = wanted ≡ Ok (items_in found)
 HasItems wanted (Err f) = wanted ≡ Err f
+
+-- a call answers under the limits what a filter gives of its values
+abbrev pub Filters : Limits → FilterId → Bool → List Tree → Result Value OpError → Type 0
+Filters limits filter autoescape ts result =
+    Answers result (limited_by limits (filtered filter autoescape ts))

@@ -1,5 +1,5 @@
 -- What the private functions say of what each item gives, and of what is gathered of it.
-use Rattle.std.specs.Prelude.{◌≡◌, ℕ, ◌+◌, ◌-◌, ◌^◌, min, max, Bool, ◌∷◌, map, length, option_map, Result, Ok, Err}
+use Rattle.std.specs.Prelude.{◌≡◌, ℕ, ◌+◌, ◌-◌, ◌^◌, min, max, Bool, ◌∷◌, map, length, option_map, IfOk, Result, Ok, Err}
 use Rattle.jt_value.specs.declared.fault.Fault.{Fault}
 use Rattle.jt_value.specs.declared.fault.ValueError.{ValueError}
 use Rattle.jt_value.specs.declared.fault.ValueError.TheVariants as error
@@ -31,6 +31,10 @@ abbrev pub judging : Result Judge Fault → Result (Tree → Result Bool Fault) 
 judging (Ok j) = Ok (judges j)
 judging (Err fault) = Err fault
 
+-- so it is, and its test has as many arguments as it takes
+abbrev pub MakesJudge : Result (Tree → Result Bool Fault) Fault → Result Judge Fault → Type 0
+MakesJudge wanted made = (judging made ≡ wanted) × IfOk made Judges
+
 -- whether an item is kept
 abbrev pub kept : Selection → Tree → Result Bool Fault
 kept s t = passing s.passes (judged (judges s.judge) (part_of (option_map (λ k. k.now) s.key) t))
@@ -50,6 +54,10 @@ Gives (change.Filter c) = Unit {0}
 abbrev pub changing : Result Change Fault → Result (Tree → Result Items Fault) Fault
 changing (Ok c) = Ok (gives c)
 changing (Err fault) = Err fault
+
+-- so it is, and its test has as many arguments as it takes
+abbrev pub Changes : Result (Tree → Result Items Fault) Fault → Result Change Fault → Type 0
+Changes wanted made = (changing made ≡ wanted) × IfOk made Gives
 
 -- the size and the nesting of items, each the greatest number of its type where it is greater
 abbrev pub row_measured : Result Items Fault → Result (ℕ × ℕ) Fault

@@ -8,7 +8,6 @@ ghost use Rattle.jt_filters.specs.Operands.{tree_of, chosen};
 ghost use Rattle.jt_filter_meaning.specs.Single as single;
 
 use crate::operand::Operand;
-use jt_ops::entry;
 use jt_value::{Fault, Value};
 
 /// Filter `attr`: the item at a key that is a text.
@@ -30,8 +29,8 @@ pub(crate) fn attribute<'a>(operand: Operand<'a>, key: &Value) -> Result<Operand
 pub(crate) fn item_of<'a>(operand: Operand<'a>, key: &str) -> Result<Operand<'a>, Fault>
     ensures { chosen result ≡ item_of (tree_of operand.entry) (tree.text key.now) }
 {
-    if let Some(entries) = operand.as_map() {
-        return Ok(or_undefined(entry(entries, key)));
+    if let Some(map) = operand.as_map() {
+        return Ok(or_undefined(map.get(key)));
     }
     if operand.is_undefined() {
         Err(Fault::Undefined)

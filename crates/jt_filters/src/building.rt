@@ -1,8 +1,8 @@
 //! What a filter gives, built. Its size and nesting are tested before.
-ghost use Rattle.std.specs.Prelude.{◌∷◌, [], map};
+ghost use Rattle.std.specs.Prelude.{◌∷◌, []};
 ghost use Rattle.jt_value.specs.View.{view};
 ghost use Rattle.jt_filter_meaning.specs.Single.{single};
-ghost use Rattle.jt_filters.specs.Operands.{tree_of, Builds};
+ghost use Rattle.jt_filters.specs.Operands.{tree_of, inputs, Builds};
 ghost use Rattle.jt_filters.specs.Operands as operands;
 
 use crate::attributes::attribute;
@@ -27,8 +27,7 @@ pub(crate) fn build(
     arguments: &[Value],
     autoescape: bool,
 ) -> Result<Value, ValueError>
-    ensures { Builds (single filter autoescape (tree_of operand.entry ∷ map view arguments.now))
-        result }
+    ensures { Builds (single filter autoescape (inputs operand.entry arguments.now)) result }
 {
     match arguments {
         [] => build_one(alloc, filter, operand, autoescape),

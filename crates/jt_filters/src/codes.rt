@@ -1,10 +1,10 @@
 //! Codes of items: bytes by which they are told apart. Items that are alike have the same code, and
 //! others another one.
-ghost use Rattle.std.specs.Prelude.{◌≡◌, ◌++◌, ◌∷◌, [], IfOk, OnOk};
+ghost use Rattle.std.specs.Prelude.{◌≡◌, ◌∷◌, [], IfOk};
 ghost use Rattle.jt_value.specs.Tree as tree;
 ghost use Rattle.jt_value.specs.View.{view, items_view, entries_view};
 ghost use Rattle.jt_filters.specs.Codes as codes;
-ghost use Rattle.jt_filters.specs.Codes.{code, item_code, number_code, text_code, rows, rows_in};
+ghost use Rattle.jt_filters.specs.Codes.{code, item_code, number_code, text_code, rows, rows_in, Adds};
 ghost use Rattle.jt_filters.specs.Operands.{tree_of};
 ghost use Rattle.jt_filter_meaning.specs.Ordering.{fold};
 
@@ -28,7 +28,7 @@ pub(crate) fn code_of(alloc: Global, item: Operand<'_>) -> Result<Vec<u8>, NoMem
 
 /// Puts the code of a text's fold behind some bytes.
 fn push_folded(alloc: Global, bytes: &mut Vec<u8>, text: &str) -> Result<(), NoMemory>
-    ensures { OnOk result (bytes.new.items ≡ bytes.old.items ++ text_code (fold text.now)) }
+    ensures { Adds (text_code (fold text.now)) bytes.old bytes.new result }
 {
     let mut folded = String::from_str(alloc, text)?;
     folded.make_ascii_lowercase();
@@ -37,7 +37,7 @@ fn push_folded(alloc: Global, bytes: &mut Vec<u8>, text: &str) -> Result<(), NoM
 
 /// Puts the code of an operand behind some bytes.
 fn push_operand(alloc: Global, bytes: &mut Vec<u8>, operand: Operand<'_>) -> Result<(), NoMemory>
-    ensures { OnOk result (bytes.new.items ≡ bytes.old.items ++ code (tree_of operand.entry)) }
+    ensures { Adds (code (tree_of operand.entry)) bytes.old bytes.new result }
 {
     match operand {
         Operand::Undefined => push_byte(bytes, 1),
@@ -49,7 +49,7 @@ fn push_operand(alloc: Global, bytes: &mut Vec<u8>, operand: Operand<'_>) -> Res
 
 /// Puts a byte behind the others.
 fn push_byte(bytes: &mut Vec<u8>, byte: u8) -> Result<(), NoMemory>
-    ensures { OnOk result (bytes.new.items ≡ bytes.old.items ++ byte ∷ []) }
+    ensures { Adds (byte ∷ []) bytes.old bytes.new result }
 {
     bytes.push(byte)?;
     Ok(())
@@ -57,7 +57,7 @@ fn push_byte(bytes: &mut Vec<u8>, byte: u8) -> Result<(), NoMemory>
 
 /// Puts the code of a number behind some bytes.
 fn push_number(bytes: &mut Vec<u8>, number: i64) -> Result<(), NoMemory>
-    ensures { OnOk result (bytes.new.items ≡ bytes.old.items ++ number_code number) }
+    ensures { Adds (number_code number) bytes.old bytes.new result }
 {
     bytes.push(3)?;
     bytes.extend_from_slice(&number.to_le_bytes())?;
@@ -66,7 +66,7 @@ fn push_number(bytes: &mut Vec<u8>, number: i64) -> Result<(), NoMemory>
 
 /// Puts the code of a text behind some bytes.
 fn push_text(bytes: &mut Vec<u8>, text: &str) -> Result<(), NoMemory>
-    ensures { OnOk result (bytes.new.items ≡ bytes.old.items ++ text_code text.now) }
+    ensures { Adds (text_code text.now) bytes.old bytes.new result }
 {
     bytes.push(4)?;
     bytes.extend_from_slice(text.as_bytes())?;
@@ -77,7 +77,7 @@ fn push_text(bytes: &mut Vec<u8>, text: &str) -> Result<(), NoMemory>
 /// Puts the code of a value behind some bytes.
 #[cycle(codes)]
 fn push_value(alloc: Global, bytes: &mut Vec<u8>, value: &Value) -> Result<(), NoMemory>
-    ensures { OnOk result (bytes.new.items ≡ bytes.old.items ++ code (view value.now)) }
+    ensures { Adds (code (view value.now)) bytes.old bytes.new result }
 {
     match value {
         Value::Undefined => push_byte(bytes, 1),
@@ -94,8 +94,7 @@ fn push_value(alloc: Global, bytes: &mut Vec<u8>, value: &Value) -> Result<(), N
 /// Puts the code of a list of items behind some bytes.
 #[cycle(codes)]
 fn push_items(alloc: Global, bytes: &mut Vec<u8>, items: &[Value]) -> Result<(), NoMemory>
-    ensures { OnOk result
-        (bytes.new.items ≡ bytes.old.items ++ code (tree.list (items_view items.now))) }
+    ensures { Adds (code (tree.list (items_view items.now))) bytes.old bytes.new result }
 {
     push_byte(bytes, 5)?;
     for item in items {
@@ -123,8 +122,7 @@ fn rows_of(alloc: Global, entries: &[(String, Value)]) -> Result<BTreeMap<&str, 
 
 /// Puts the code of a map's rows behind some bytes.
 fn push_rows(bytes: &mut Vec<u8>, rows: BTreeMap<&str, Vec<u8>>) -> Result<(), NoMemory>
-    ensures { OnOk result
-        (bytes.new.items ≡ bytes.old.items ++ 6 ∷ codes.rows_code (rows_in rows.entry.entries)) }
+    ensures { Adds (6 ∷ codes.rows_code (rows_in rows.entry.entries)) bytes.old bytes.new result }
 {
     let mut rows = rows;
     push_byte(bytes, 6)?;

@@ -1,10 +1,10 @@
 //! Filters on values.
-ghost use Rattle.std.specs.Prelude.{◌≡◌, ◌∷◌, true, map, length, nat_le};
+ghost use Rattle.std.specs.Prelude.{◌≡◌, true, map, length, nat_le};
 ghost use Rattle.jt_value.specs.View.{view};
 ghost use Rattle.jt_ops.specs.Limited.{limited_by, Answers};
 ghost use Rattle.jt_ids.specs.FilterTable.{least_values, most_values};
 ghost use Rattle.jt_filter_meaning.specs.Filtering.{filtered};
-ghost use Rattle.jt_filters.specs.Operands.{tree_of, measured, Builds};
+ghost use Rattle.jt_filters.specs.Operands.{inputs, measured, Builds, Filters};
 
 use crate::building::build;
 use crate::mapping::{mapped, mapped_measure};
@@ -60,8 +60,7 @@ fn applied(
     autoescape: bool,
     limits: Limits,
 ) -> Result<Value, OpError>
-    ensures { Answers result (limited_by limits
-        (filtered filter autoescape (tree_of operand.entry ∷ map view arguments.now))) }
+    ensures { Filters limits filter autoescape (inputs operand.entry arguments.now) result }
 {
     match (filter, arguments) {
         (FilterId::Unique, []) => unique_under(alloc, operand, limits),
@@ -79,8 +78,7 @@ fn measured_and_built(
     autoescape: bool,
     limits: Limits,
 ) -> Result<Value, OpError>
-    ensures { Answers result (limited_by limits
-        (filtered filter autoescape (tree_of operand.entry ∷ map view arguments.now))) }
+    ensures { Filters limits filter autoescape (inputs operand.entry arguments.now) result }
 {
     let (size, nesting) = match filter_measure(alloc, filter, operand, arguments, autoescape) {
         Ok(measure) => measure,
@@ -104,8 +102,7 @@ fn filter_measure(
     arguments: &[Value],
     autoescape: bool,
 ) -> Result<(u64, u32), Fault>
-    ensures { result
-        ≡ measured (filtered filter autoescape (tree_of operand.entry ∷ map view arguments.now)) }
+    ensures { result ≡ measured (filtered filter autoescape (inputs operand.entry arguments.now)) }
 {
     if filter.may_be_inner() {
         measure(alloc, filter, operand, arguments, autoescape)
@@ -122,8 +119,7 @@ fn filter_value(
     arguments: &[Value],
     autoescape: bool,
 ) -> Result<Value, ValueError>
-    ensures { Builds (filtered filter autoescape (tree_of operand.entry ∷ map view arguments.now))
-        result }
+    ensures { Builds (filtered filter autoescape (inputs operand.entry arguments.now)) result }
 {
     if filter.may_be_inner() {
         build(alloc, filter, operand, arguments, autoescape)

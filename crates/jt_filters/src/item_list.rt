@@ -76,8 +76,8 @@ pub(crate) fn items_of(operand: Operand<'_>) -> Result<ItemList<'_>, Fault>
     if let Some(text) = operand.as_text() {
         return Ok(ItemList::Characters(text));
     }
-    if let Some(entries) = operand.as_map() {
-        return Ok(ItemList::Keys(entries));
+    if let Some(map) = operand.as_map() {
+        return Ok(ItemList::Keys(map.entries()));
     }
     if operand.is_undefined() {
         Ok(ItemList::Values(&[]))

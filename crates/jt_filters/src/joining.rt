@@ -5,8 +5,8 @@ ghost use Rattle.jt_filters.specs.Operands as operands;
 ghost use Rattle.jt_escape.specs.Joining.{IsAnswer, piece, joined_text};
 ghost use Rattle.jt_escape.specs.Joining as joins;
 ghost use Rattle.jt_value.specs.View.{view, items_view};
-ghost use Rattle.jt_filter_meaning.specs.Listing.{on_items, joined_by};
-ghost use Rattle.jt_filters.specs.Operands.{tree_of, items_in, measured, text_length, led_length};
+ghost use Rattle.jt_filter_meaning.specs.Listing.{joined_by};
+ghost use Rattle.jt_filters.specs.Operands.{tree_of, items_in, joining, measured, text_length, led_length};
 
 use crate::item_list::{ItemList, items_of};
 use crate::listing::values;
@@ -24,9 +24,7 @@ pub(crate) fn join_measure(
     separator: Operand<'_>,
     autoescape: bool,
 ) -> Result<(u64, u32), Fault>
-    ensures { result
-        ≡ measured
-        (on_items (joined_by autoescape (tree_of separator.entry)) (tree_of operand.entry)) }
+    ensures { result ≡ measured (joining autoescape separator.entry operand.entry) }
 {
     let items = items_of(operand)?;
     text_measure(joined_len(items, separator, escapes(items, separator, autoescape)))
@@ -113,8 +111,7 @@ pub(crate) fn join(
     separator: Operand<'_>,
     autoescape: bool,
 ) -> Result<Value, ValueError>
-    ensures { IsAnswer
-        (on_items (joined_by autoescape (tree_of separator.entry)) (tree_of operand.entry)) result }
+    ensures { IsAnswer (joining autoescape separator.entry operand.entry) result }
 {
     let items = items_of(operand)?;
     let separator = separator.value(alloc)?;

@@ -129,8 +129,8 @@ fn turned(items: Vec<Value>) -> Vec<Value>
 pub(crate) fn pairs_of_measure(operand: Operand<'_>) -> Result<(u64, u32), Fault>
     ensures { result ≡ measured (pairs_of (tree_of operand.entry)) }
 {
-    if let Some(entries) = operand.as_map() {
-        return Ok(pair_list_measure(entries));
+    if let Some(map) = operand.as_map() {
+        return Ok(pair_list_measure(map.entries()));
     }
     if operand.is_undefined() {
         Ok((1, 1))
@@ -144,8 +144,8 @@ pub(crate) fn pairs_of_measure(operand: Operand<'_>) -> Result<(u64, u32), Fault
 pub(crate) fn items(alloc: Global, operand: Operand<'_>) -> Result<Value, ValueError>
     ensures { IsAnswer (pairs_of (tree_of operand.entry)) result }
 {
-    if let Some(entries) = operand.as_map() {
-        return Ok(Value::list(alloc, pairs(alloc, entries)?)?);
+    if let Some(map) = operand.as_map() {
+        return Ok(Value::list(alloc, pairs(alloc, map.entries())?)?);
     }
     if operand.is_undefined() {
         Ok(Value::list(alloc, Vec::new(alloc))?)
@@ -160,7 +160,7 @@ pub(crate) fn dictsort_measure(operand: Operand<'_>) -> Result<(u64, u32), Fault
     ensures { result ≡ measured (sorted_pairs (tree_of operand.entry)) }
 {
     match operand.as_map() {
-        Some(entries) => Ok(pair_list_measure(entries)),
+        Some(map) => Ok(pair_list_measure(map.entries())),
         None => Err(operand.misfit()),
     }
 }
@@ -171,7 +171,7 @@ pub(crate) fn dictsort(alloc: Global, operand: Operand<'_>) -> Result<Value, Val
     ensures { IsAnswer (sorted_pairs (tree_of operand.entry)) result }
 {
     match operand.as_map() {
-        Some(entries) => Ok(sorted_entries(alloc, entries)?),
+        Some(map) => Ok(sorted_entries(alloc, map.entries())?),
         None => Err(operand.misfit().into()),
     }
 }

@@ -7,7 +7,7 @@ ghost use Rattle.jt_filter_meaning.specs.Mapping as the;
 ghost use Rattle.jt_ids.specs.TestTable.{test_of_name};
 ghost use Rattle.jt_filter_meaning.specs.Mapping.{named_by, filter_named, gathered, gathered_by, as_list};
 ghost use Rattle.jt_filters.specs.Operands.{tree_of, items_in, measured, Builds};
-ghost use Rattle.jt_filters.specs.Rows.{Judges, judging, gives, Gives, changing, row_measured, RowFault};
+ghost use Rattle.jt_filters.specs.Rows.{gives, Gives, row_measured, Changes, MakesJudge, RowFault};
 
 use crate::inner::{Change, InnerCall, Judge, Selection};
 use crate::item_list::{ItemList, items_of};
@@ -126,8 +126,7 @@ pub(crate) fn change_of(
     arguments: &[Value],
     autoescape: bool,
 ) -> Result<Change<'_>, Fault>
-    ensures is { changing result ≡ the.giving filter autoescape (map view arguments.now) }
-    ensures fits { IfOk result Gives }
+    ensures { Changes (the.giving filter autoescape (map view arguments.now)) result }
 {
     match filter {
         FilterId::Map => mapping(arguments, autoescape),
@@ -147,10 +146,8 @@ fn keeping<'a>(
     key: Option<&'a str>,
     arguments: &'a [Value],
 ) -> Result<Change<'a>, Fault>
-    ensures is { changing result
-        ≡ the.keeping passes (option_map (λ k. k.now) key.entry)
-        (the.judgement (map view arguments.now)) }
-    ensures fits { IfOk result Gives }
+    ensures { let judged = the.judgement (map view arguments.now) in
+        Changes (the.keeping passes (option_map (λ k. k.now) key.entry) judged) result }
 {
     let judge = judge_of(arguments)?;
     Ok(Change::Keep(Selection { passes, key, judge }))
@@ -158,8 +155,7 @@ fn keeping<'a>(
 
 /// The same of the item's attribute, whose key comes first.
 fn selecting_by(passes: bool, arguments: &[Value]) -> Result<Change<'_>, Fault>
-    ensures is { changing result ≡ the.selecting_by passes (map view arguments.now) }
-    ensures fits { IfOk result Gives }
+    ensures { Changes (the.selecting_by passes (map view arguments.now)) result }
 {
     match arguments {
         [key, arguments @ ..] => match key.as_text() {
@@ -172,8 +168,7 @@ fn selecting_by(passes: bool, arguments: &[Value]) -> Result<Change<'_>, Fault>
 
 /// The attribute of a key.
 fn attributes(arguments: &[Value]) -> Result<Change<'_>, Fault>
-    ensures is { changing result ≡ the.attributes (map view arguments.now) }
-    ensures fits { IfOk result Gives }
+    ensures { Changes (the.attributes (map view arguments.now)) result }
 {
     match arguments {
         [key] => match key.as_text() {
@@ -186,8 +181,7 @@ fn attributes(arguments: &[Value]) -> Result<Change<'_>, Fault>
 
 /// What a filter gives that is called by its name, with the arguments behind it.
 fn mapping(arguments: &[Value], autoescape: bool) -> Result<Change<'_>, Fault>
-    ensures is { changing result ≡ the.mapping autoescape (map view arguments.now) }
-    ensures fits { IfOk result Gives }
+    ensures { Changes (the.mapping autoescape (map view arguments.now)) result }
 {
     match arguments {
         [name, arguments @ ..] => match inner_filter(name) {
@@ -200,9 +194,7 @@ fn mapping(arguments: &[Value], autoescape: bool) -> Result<Change<'_>, Fault>
 
 /// What a filter gives that may be called with so many arguments.
 fn called(filter: FilterId, arguments: &[Value], autoescape: bool) -> Result<Change<'_>, Fault>
-    ensures is { changing result
-        ≡ the.mapping_by (Some filter) autoescape (map view arguments.now) }
-    ensures fits { IfOk result Gives }
+    ensures { Changes (the.mapping_by (Some filter) autoescape (map view arguments.now)) result }
 {
     if filter.takes(arguments.len() + 1) {
         Ok(Change::Filter(InnerCall {
@@ -253,8 +245,7 @@ fn named_test(name: &Value) -> Option<TestId>
 
 /// The judgement by a test's name and its arguments, or by truth where there is no name.
 fn judge_of(arguments: &[Value]) -> Result<Judge<'_>, Fault>
-    ensures is { judging result ≡ the.judgement (map view arguments.now) }
-    ensures fits { IfOk result Judges }
+    ensures { MakesJudge (the.judgement (map view arguments.now)) result }
 {
     match arguments {
         [] => Ok(Judge::Truth),
@@ -267,8 +258,7 @@ fn judge_of(arguments: &[Value]) -> Result<Judge<'_>, Fault>
 
 /// The judgement by a test, if it takes so many arguments.
 fn tested(test: TestId, arguments: &[Value]) -> Result<Judge<'_>, Fault>
-    ensures is { judging result ≡ the.judgement_of (Some test) (map view arguments.now) }
-    ensures fits { IfOk result Judges }
+    ensures { MakesJudge (the.judgement_of (Some test) (map view arguments.now)) result }
 {
     if test.takes(arguments.len() + 1) {
         Ok(Judge::Test(test, arguments))

@@ -1,9 +1,9 @@
 //! The size and the nesting of what a filter gives, each the greatest number where it is greater.
 //! They need no memory: `unique` is slower where it is refused.
-ghost use Rattle.std.specs.Prelude.{◌≡◌, ◌∷◌, [], map};
+ghost use Rattle.std.specs.Prelude.{◌≡◌, ◌∷◌, []};
 ghost use Rattle.jt_value.specs.View.{view};
 ghost use Rattle.jt_filter_meaning.specs.Single.{single};
-ghost use Rattle.jt_filters.specs.Operands.{tree_of, measured};
+ghost use Rattle.jt_filters.specs.Operands.{tree_of, inputs, measured};
 ghost use Rattle.jt_filters.specs.Operands as operands;
 
 use crate::attributes::attribute;
@@ -28,8 +28,7 @@ pub(crate) fn measure(
     arguments: &[Value],
     autoescape: bool,
 ) -> Result<(u64, u32), Fault>
-    ensures { result
-        ≡ measured (single filter autoescape (tree_of operand.entry ∷ map view arguments.now)) }
+    ensures { result ≡ measured (single filter autoescape (inputs operand.entry arguments.now)) }
 {
     match arguments {
         [] => measure_one(alloc, filter, operand, autoescape),

@@ -2,14 +2,14 @@
 ghost use Rattle.std.specs.Prelude.{◌≡◌, ◌-◌, ◌^◌, min, option_map, IfOk, IfErr, Some, None};
 ghost use Rattle.jt_value.specs.Payload.{text_of, items_of_list, entries_of_map};
 ghost use Rattle.jt_value.specs.Tree.{truth, printed, size, nesting};
-ghost use Rattle.jt_value.specs.View.{items_view, entries_view};
+ghost use Rattle.jt_value.specs.View.{items_view};
 ghost use Rattle.jt_ops.specs.Operands as operands;
 ghost use Rattle.jt_ops.specs.Testing as testing;
 ghost use Rattle.jt_filter_meaning.specs.Kinds.{is_plain};
 ghost use Rattle.jt_filters.specs.Operands.{tree_of, number_of, plain_of, Copies};
 
 use itoa::Buffer;
-use jt_value::{Fault, NoMemory, Value};
+use jt_value::{Fault, NoMemory, Value, ValueMap};
 use std::alloc::Global;
 
 /// A value that is lent, or undefined, a number or a plain text, as a character or a key, that
@@ -44,13 +44,12 @@ impl<'a> Operand<'a> {
         }
     }
 
-    /// The entries of a map.
-    pub(crate) fn as_map(self) -> Option<&'a [(String, Value)]>
-        ensures { option_map (λ s. entries_view s.now) result
-            ≡ entries_of_map (tree_of self.entry) }
+    /// The map that this is.
+    pub(crate) fn as_map(self) -> Option<&'a ValueMap>
+        ensures { option_map (λ m. m.now) result ≡ entries_of_map (tree_of self.entry) }
     {
         match self {
-            Operand::Value(value) => value.as_map(),
+            Operand::Value(Value::Map(map)) => Some(&**map),
             _ => None,
         }
     }

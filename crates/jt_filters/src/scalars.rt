@@ -95,8 +95,8 @@ pub(crate) fn length(operand: Operand<'_>) -> Result<Operand<'_>, Fault>
     if let Some(items) = operand.as_list() {
         return counted(items.len());
     }
-    if let Some(entries) = operand.as_map() {
-        return counted(entries.len());
+    if let Some(map) = operand.as_map() {
+        return counted(map.entries().len());
     }
     if operand.is_undefined() {
         counted(0)

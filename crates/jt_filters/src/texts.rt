@@ -1,7 +1,7 @@
 //! Filters on printed texts: the size and the nesting of what each gives, and what it gives.
 ghost use Rattle.std.specs.Prelude.{◌≡◌, ℕ, List, reverse, IfOk, Ok, string_bytes};
 ghost use Rattle.jt_value.specs.Tree as tree;
-ghost use Rattle.std.specs.Str.{chars, str_to_ascii_lowercase, str_to_ascii_uppercase};
+ghost use Rattle.std.specs.Str.{chars, str_to_ascii_lowercase as lowercase, str_to_ascii_uppercase as uppercase};
 ghost use Rattle.jt_value.specs.View.{view};
 ghost use Rattle.jt_escape.specs.Joining.{IsAnswer};
 ghost use Rattle.jt_ops.specs.Pieces.{of_kind, written};
@@ -19,12 +19,9 @@ use std::alloc::Global;
 #[tactic(auto, using(crate::proofs::Measured::unchanged_measured, crate::proofs::Measured::lower_measured, crate::proofs::Measured::upper_measured, crate::proofs::Measured::capitalized_measured, crate::proofs::Measured::safe_measured))]
 pub(crate) fn printed_measure(operand: Operand<'_>) -> Result<(u64, u32), Fault>
     ensures same { result ≡ measured (keeping_kind unchanged (tree_of operand.entry)) }
-    ensures lower { result
-        ≡ measured (keeping_kind str_to_ascii_lowercase (tree_of operand.entry)) }
-    ensures upper { result
-        ≡ measured (keeping_kind str_to_ascii_uppercase (tree_of operand.entry)) }
-    ensures capitalized { result
-        ≡ measured (keeping_kind texts.capitalized (tree_of operand.entry)) }
+    ensures lower { result ≡ measured (keeping_kind lowercase (tree_of operand.entry)) }
+    ensures upper { result ≡ measured (keeping_kind uppercase (tree_of operand.entry)) }
+    ensures capital { result ≡ measured (keeping_kind texts.capitalized (tree_of operand.entry)) }
     ensures safe { result ≡ measured (texts.safe (tree_of operand.entry)) }
 {
     let mut buffer = Buffer::new();
@@ -126,7 +123,7 @@ pub(crate) fn force_escape(alloc: Global, operand: Operand<'_>) -> Result<Value,
 
 /// Filter `lower`.
 pub(crate) fn lower(alloc: Global, operand: Operand<'_>) -> Result<Value, ValueError>
-    ensures { IsAnswer (keeping_kind str_to_ascii_lowercase (tree_of operand.entry)) result }
+    ensures { IsAnswer (keeping_kind lowercase (tree_of operand.entry)) result }
 {
     let mut buffer = Buffer::new();
     let mut text = String::from_str(alloc, operand.shown(&mut buffer)?)?;
@@ -136,7 +133,7 @@ pub(crate) fn lower(alloc: Global, operand: Operand<'_>) -> Result<Value, ValueE
 
 /// Filter `upper`.
 pub(crate) fn upper(alloc: Global, operand: Operand<'_>) -> Result<Value, ValueError>
-    ensures { IsAnswer (keeping_kind str_to_ascii_uppercase (tree_of operand.entry)) result }
+    ensures { IsAnswer (keeping_kind uppercase (tree_of operand.entry)) result }
 {
     let mut buffer = Buffer::new();
     let mut text = String::from_str(alloc, operand.shown(&mut buffer)?)?;

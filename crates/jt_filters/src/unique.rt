@@ -12,7 +12,7 @@ ghost use Rattle.jt_filter_meaning.specs.Listing.{on_items};
 ghost use Rattle.jt_filters.specs.Operands.{tree_of, items_in, measured, front};
 ghost use Rattle.jt_filter_meaning.specs.Ordering.{distinct, unseen};
 ghost use Rattle.jt_filter_meaning.specs.Ordering as ordering;
-ghost use Rattle.jt_filters.specs.Seen.{operand_items, Knows};
+ghost use Rattle.jt_filters.specs.Seen.{operand_items, Knows, KnowsNext, Before};
 
 use crate::codes::code_of;
 use crate::item_list::{ItemList, items_of};
@@ -137,22 +137,11 @@ fn unseen_measure(all: ItemList<'_>) -> (u64, u32)
 /// one of them.
 #[tactic(auto, using(crate::proofs::Alike::left_size, crate::proofs::Alike::kept_size, crate::proofs::Alike::left_nesting, crate::proofs::Alike::kept_nesting))]
 fn item_measure(item: Operand<'_>, all: ItemList<'_>, count: usize) -> (u64, u32)
-    ensures size { (rest : Items)
-        → joined_items (front count (items_in all.entry)) (tree.item (tree_of item.entry) rest)
-        ≡ items_in all.entry
-        → min (result.0 + items_size (unseen (front (count + 1) (items_in all.entry)) rest))
-        (2 ^ 64 - 1)
-        ≡ min (items_size
-        (unseen (front count (items_in all.entry)) (tree.item (tree_of item.entry) rest)))
-        (2 ^ 64 - 1) }
-    ensures nesting { (rest : Items)
-        → joined_items (front count (items_in all.entry)) (tree.item (tree_of item.entry) rest)
-        ≡ items_in all.entry
-        → min (max result.1 (items_nesting (unseen (front (count + 1) (items_in all.entry)) rest)))
-        (2 ^ 32 - 1)
-        ≡ min (items_nesting
-        (unseen (front count (items_in all.entry)) (tree.item (tree_of item.entry) rest)))
-        (2 ^ 32 - 1) }
+    ensures size { Before count (items_in all.entry) (tree_of item.entry) (λ left behind.
+        min (result.0 + items_size behind) (2 ^ 64 - 1) ≡ min (items_size left) (2 ^ 64 - 1)) }
+    ensures nesting { Before count (items_in all.entry) (tree_of item.entry) (λ left behind.
+        min (max result.1 (items_nesting behind)) (2 ^ 32 - 1)
+        ≡ min (items_nesting left) (2 ^ 32 - 1)) }
 {
     if has_alike(item, all, count) {
         (0, 0)
@@ -216,17 +205,11 @@ fn push_new<'a>(
     count: usize,
 ) -> Result<(), NoMemory>
     requires { Knows seen.old (front count (items_in all)) }
-    ensures known { OnOk result ((rest : Items)
-        → joined_items (front count (items_in all.entry)) (tree.item (tree_of item.entry) rest)
-        ≡ items_in all.entry
-        → Knows seen.new (front (count + 1) (items_in all.entry))) }
-    ensures firsts { OnOk result ((rest : Items)
-        → joined_items (front count (items_in all.entry)) (tree.item (tree_of item.entry) rest)
-        ≡ items_in all.entry
-        → joined_items (operand_items firsts.new.items)
-        (unseen (front (count + 1) (items_in all.entry)) rest)
-        ≡ joined_items (operand_items firsts.old.items)
-        (unseen (front count (items_in all.entry)) (tree.item (tree_of item.entry) rest))) }
+    ensures known { OnOk result
+        (KnowsNext seen.new count (items_in all.entry) (tree_of item.entry)) }
+    ensures firsts { OnOk result (Before count (items_in all.entry) (tree_of item.entry)
+        (λ left behind. joined_items (operand_items firsts.new.items) behind
+        ≡ joined_items (operand_items firsts.old.items) left)) }
 {
     if !was_seen(alloc, seen, item, all, count)? {
         firsts.push(item)?;
@@ -245,10 +228,8 @@ fn was_seen<'a>(
     requires { Knows seen.old (front count (items_in all)) }
     ensures like { IfOk result
         (λ b. b ≡ ordering.has_alike (tree_of item.entry) (front count (items_in all.entry))) }
-    ensures known { OnOk result ((rest : Items)
-        → joined_items (front count (items_in all.entry)) (tree.item (tree_of item.entry) rest)
-        ≡ items_in all.entry
-        → Knows seen.new (front (count + 1) (items_in all.entry))) }
+    ensures known { OnOk result
+        (KnowsNext seen.new count (items_in all.entry) (tree_of item.entry)) }
 {
     let code = code_of(alloc, item)?;
     if let Some(first) = seen.get(code.as_slice()).copied() {

@@ -1,6 +1,6 @@
 -- When parts are a code that has a spelling.
 use Rattle.std.proofs.Common.{◌≡◌, ℕ, ◌+◌, ◌-◌, ◌*◌, min, ◌<◌, ◌≤◌, ◌^◌, Bool, true, false, List, [], ◌∷◌, ◌++◌, length, Option, Some, refl, ap, subst, arith, rules}
-use Rattle.std.specs.Prelude.{◌&&◌, ◌↔◌, not, nat_lt, IsUtf8}
+use Rattle.std.specs.Prelude.{◌&&◌, ◌↔◌, not, IsUtf8}
 use Rattle.std.specs.Int.{w16, w32, w64, to_le_bytes}
 use Rattle.std.specs.List.{flat_map, AllByRecursion}
 use Rattle.std.proofs.lemmas.List.{length-append}
@@ -13,8 +13,7 @@ use Rattle.jt_image.specs.declared.version.Version.TheVariants as version
 use Rattle.jt_image.specs.Code.{Constant, Name, Section, Spot, Code}
 use Rattle.jt_image.specs.Spelling.{magic, version_number, name_bytes, constant_bytes, header_bytes, wire_of, instruction_bytes, template_bytes, spot_bytes, place_bytes, spelling}
 use Rattle.jt_image.specs.IsCode.{IsName, IsTemplate, IsConstant, IsSection, total_len, HasEntry, IsCode, max_count, max_locals, max_instructions, max_bytes}
-use Rattle.jt_image.specs.Reading.{is_used, may_follow}
-use Rattle.jt_image.specs.Parts.{AreInOrder, IsUnitInOrder, HasTables, KeepsLimits, IsRefusal, IsWritable, IsHeld, Starts, IsShort, AreTemplates, IsShortText}
+use Rattle.jt_image.specs.Parts.{is_next, AreInOrder, IsUnitInOrder, HasTables, KeepsLimits, IsRefusal, IsWritable, IsHeld, Starts, IsShort, AreTemplates, IsShortText}
 use Rattle.jt_image.proofs.Found.{AllGood, wide16, wide32, wide64}
 use Rattle.jt_image.proofs.Sound.{IsNamed, code_bytes}
 use Rattle.jt_image.proofs.Whole.{are_names, ascend, distinct, HasFirst}
@@ -77,10 +76,6 @@ are_named globals (n ∷ ns) short slots some = (record { slot = slots.0; some =
 
 pub all_named : (globals : ℕ) (ns : List Name) → AllByRecursion IsShort ns → AreInOrder globals ns → AllGood (IsNamed globals) [] ns
 all_named globals ns short h = search (arith, rules, are_named, named, all_clear, first_starts)
-
--- the test of a name behind others
-abbrev pub is_next : ℕ → List Name → Name → Bool
-is_next globals before n = nat_lt n.slot globals && (not (is_used n.slot before) && may_follow before n.text)
 
 and_true : (a b : Bool) → (a && b) ≡ true → (a ≡ true) × (b ≡ true)
 and_true true b e = (refl, e)

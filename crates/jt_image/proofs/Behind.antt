@@ -1,10 +1,8 @@
 -- What is read behind the instructions is spelled so, and what is spelled there is read.
-use Rattle.std.proofs.Common.{◌≡◌, ℕ, zero, suc, ◌<◌, ◌≤◌, ◌^◌, Bool, true, false, eqb, List, [], ◌∷◌, ◌++◌, length, Ok, Err, refl, sym, ap, subst, ◌∙◌, arith, append_assoc, nat_cmp, if◌then◌else◌, rules}
-use Rattle.std.specs.Prelude.{◌==◌, ◌&&◌, nat_le, IsUtf8}
+use Rattle.std.proofs.Common.{◌≡◌, ℕ, zero, suc, ◌<◌, ◌≤◌, ◌^◌, Bool, true, false, eqb, List, [], ◌∷◌, ◌++◌, length, Ok, Err, refl, sym, ap, subst, ◌∙◌, arith, append_assoc, if◌then◌else◌, rules, Option, Some, None}
+use Rattle.std.specs.Prelude.{◌==◌, ◌&&◌, nat_le}
 use Rattle.std.specs.Int.{w16, w32, to_le_bytes}
 use Rattle.std.specs.List.{flat_map, AllByRecursion}
-use Rattle.std.specs.Ordering.{is_lt}
-use Rattle.std.specs.Cmp.Lexicographic.{slice_cmp}
 use Rattle.std.proofs.lemmas.Bool.{ltb-true, leb-true, eqb-true, lt-ltb, le-leb}
 use Rattle.std.proofs.lemmas.Bool.Decides.{nat_tests}
 use Rattle.jt_image.specs.declared.error.ImageError.TheVariants.{BadTable, BadVersion}
@@ -13,9 +11,10 @@ use Rattle.jt_image.specs.declared.version.Version.TheVariants as version
 use Rattle.jt_image.specs.Code.{Spot}
 use Rattle.jt_image.specs.Spelling.{version_number, template_bytes, spot_bytes, place_bytes}
 use Rattle.jt_image.specs.IsCode.{IsTemplate, AscendTexts, IsLine, IsSpot, IsPlaced}
-use Rattle.jt_image.specs.Reading.{◌>>=◌, check, number_at, text_at, version_at, may_follow_texts, template_at, templates_at, all_templates_at, template_number_at, is_line, line_at, spot_at, spots_at, Back, back_at}
-use Rattle.jt_image.proofs.Found.{AllOk, all_map, bind_from, check_all, cond_all, IsBytes, Takes, Takes-then, Takes-as, Found, IsText, text_found, wide16, wide32, number_found, AllGood, Many, many_found}
-use Rattle.jt_image.proofs.Whole.{above_some}
+use Rattle.jt_image.specs.Reading.{◌>>=◌, check, number_at, text_at, version_at, follows, last_text, text_behind, template_at, templates_at, all_templates_at, template_number_at, is_line, line_at, spot_at, spots_at, Back, back_at}
+use Rattle.jt_image.proofs.Found.{AllOk, all_map, bind_from, check_all, cond_all, IsBytes, Takes, Takes-then, Takes-as, Found, wide16, wide32, number_found, AllGood, Many, many_found}
+use Rattle.jt_image.proofs.Sound.{IsNext, next_found}
+use Rattle.jt_image.proofs.Whole.{last_push, follows_some}
 use Rattle.jt_image.proofs.Again.{number_again, text_again, bind_again, many_again}
 
 and_true : (a b : Bool) → (a && b) ≡ true → (a ≡ true) × (b ≡ true)
@@ -44,47 +43,33 @@ version_again version.Two rest = bind_again (number_at w16 (to_le_bytes w16 2 ++
 -- ---- templates
 
 -- a text that may stand behind these
-pub record IsNextText (before : List (List ℕ)) (t : List ℕ) : Type 0 where
-  pub fits : length t < 2 ^ 16
-  pub utf8 : IsUtf8 t
-  pub follows : may_follow_texts before t ≡ true
+abbrev pub IsNextText : List (List ℕ) → List ℕ → Type 0
+IsNextText before t = IsNext (last_text before) t
 
 pub template_found : (before : List (List ℕ)) (bytes : List ℕ) → IsBytes bytes → Found template_bytes (IsNextText before) bytes (template_at before bytes)
-unfolding template_at
-template_found before bytes fits =
-    let P : List ℕ × List ℕ → Type 0 = λ t. Takes bytes (template_bytes t.0) t.1 × IsNextText before t.0 in
-    bind_from (number_at w16 bytes) (λ len. text_at len.0 len.1 >>= λ t. check (may_follow_texts before t.0) BadTable (Ok t)) (λ s. Takes bytes (to_le_bytes w16 s.0) s.1 × (s.0 < 2 ^ 16)) P (number_found w16 (2 ^ 16) wide16 bytes fits) (λ len l.
-    bind_from (text_at len.0 len.1) (λ t. check (may_follow_texts before t.0) BadTable (Ok t)) (λ t. Takes len.1 t.0 t.1 × IsText len.0 t.0) P (text_found len.0 len.1 l.0.fits) (λ t u.
-    check_all (may_follow_texts before t.0) BadTable (Ok t) P (λ e. (
-      Takes-as bytes (to_le_bytes w16 len.0 ++ t.0) (template_bytes t.0) t.1 (ap (λ (n : ℕ). to_le_bytes w16 n ++ t.0) (sym u.1.0)) (Takes-then bytes (to_le_bytes w16 len.0) len.1 t.0 t.1 l.0 u.0),
-      record { fits = omega (arith, u.1.0, l.1); utf8 = u.1.1; follows = e },
-    ))))
+template_found before bytes fits = next_found (last_text before) bytes fits
 
-pub template_again : (before : List (List ℕ)) (t rest : List ℕ) → IsNextText before t → template_at before (template_bytes t ++ rest) ≡ Ok (t, rest)
-unfolding template_at
-template_again before t rest h =
-    ap (template_at before) (append_assoc (to_le_bytes w16 (length t)) t rest)
-    ∙ bind_again (number_at w16 (to_le_bytes w16 (length t) ++ (t ++ rest))) (λ len. text_at len.0 len.1 >>= λ t. check (may_follow_texts before t.0) BadTable (Ok t)) (length t) (t ++ rest) (Ok (t, rest)) (number_again w16 (2 ^ 16) wide16 (length t) (t ++ rest) h.fits)
-    (bind_again (text_at (length t) (t ++ rest)) (λ t. check (may_follow_texts before t.0) BadTable (Ok t)) t rest (Ok (t, rest)) (text_again t rest h.utf8)
-    (check_again (may_follow_texts before t) BadTable (Ok (t, rest)) h.follows))
+pub next_again : (last : Option (List ℕ)) (t rest : List ℕ) → IsNext last t → text_behind last (template_bytes t ++ rest) ≡ Ok (t, rest)
+unfolding text_behind
+next_again last t rest h =
+    ap (text_behind last) (append_assoc (to_le_bytes w16 (length t)) t rest)
+    ∙ bind_again (number_at w16 (to_le_bytes w16 (length t) ++ (t ++ rest))) (λ len. text_at len.0 len.1 >>= λ t. check (follows last t.0) BadTable (Ok t)) (length t) (t ++ rest) (Ok (t, rest)) (number_again w16 (2 ^ 16) wide16 (length t) (t ++ rest) h.fits)
+    (bind_again (text_at (length t) (t ++ rest)) (λ t. check (follows last t.0) BadTable (Ok t)) t rest (Ok (t, rest)) (text_again t rest h.utf8)
+    (check_again (follows last t) BadTable (Ok (t, rest)) h.follows))
 
-pub may_follow_texts-push : (before : List (List ℕ)) (s t : List ℕ) → may_follow_texts (before ++ s ∷ []) t ≡ is_lt (slice_cmp nat_cmp s t)
-may_follow_texts-push [] s t = refl
-may_follow_texts-push (r ∷ []) s t = refl
-may_follow_texts-push (r ∷ q ∷ ss) s t = may_follow_texts-push (q ∷ ss) s t
+template_again : (before : List (List ℕ)) (t rest : List ℕ) → IsNextText before t → template_at before (template_bytes t ++ rest) ≡ Ok (t, rest)
+template_again before t rest h = next_again (last_text before) t rest h
 
-follows_some : (before : List (List ℕ)) (t : List ℕ) → may_follow_texts before t ≡ true → 0 < length t
-follows_some [] t e = ltb-true _ _ e
-follows_some (s ∷ []) t e = above_some s t e
-follows_some (s ∷ r ∷ ss) t e = follows_some (r ∷ ss) t e
+follows-push : (before : List (List ℕ)) (s t : List ℕ) → follows (last_text (before ++ s ∷ [])) t ≡ follows (Some s) t
+follows-push before s t = ap (λ (o : Option (List ℕ)). follows o t) (last_push None before s)
 
 pub are_templates : (before ts : List (List ℕ)) → AllGood IsNextText before ts → AllByRecursion IsTemplate ts
 are_templates before [] h = tt
-are_templates before (t ∷ ts) h = (record { some = follows_some before t h.0.follows; fits = h.0.fits; utf8 = h.0.utf8 }, are_templates (before ++ t ∷ []) ts h.1)
+are_templates before (t ∷ ts) h = (record { some = follows_some (last_text before) t h.0.follows; fits = h.0.fits; utf8 = h.0.utf8 }, are_templates (before ++ t ∷ []) ts h.1)
 
 ascend_from : (t : List ℕ) (before ts : List (List ℕ)) → AllGood IsNextText (before ++ t ∷ []) ts → AscendTexts (t ∷ ts)
 ascend_from t before [] h = tt
-ascend_from t before (s ∷ ts) h = (sym (may_follow_texts-push before t s) ∙ h.0.follows, ascend_from s (before ++ t ∷ []) ts h.1)
+ascend_from t before (s ∷ ts) h = (sym (follows-push before t s) ∙ h.0.follows, ascend_from s (before ++ t ∷ []) ts h.1)
 
 pub ascend_texts : (ts : List (List ℕ)) → AllGood IsNextText [] ts → AscendTexts ts
 ascend_texts [] h = tt
@@ -93,11 +78,11 @@ ascend_texts (t ∷ ts) h = ascend_from t [] ts h.1
 -- the first of these may stand behind those before
 abbrev pub StartsTexts : List (List ℕ) → List (List ℕ) → Type 0
 StartsTexts before [] = Unit {0}
-StartsTexts before (t ∷ ts) = may_follow_texts before t ≡ true
+StartsTexts before (t ∷ ts) = follows (last_text before) t ≡ true
 
 next_starts : (before : List (List ℕ)) (t : List ℕ) (ts : List (List ℕ)) → AscendTexts (t ∷ ts) → StartsTexts (before ++ t ∷ []) ts
 next_starts before t [] h = tt
-next_starts before t (s ∷ ts) h = may_follow_texts-push before t s ∙ h.0
+next_starts before t (s ∷ ts) h = follows-push before t s ∙ h.0
 
 rest_ascends : (t : List ℕ) (ts : List (List ℕ)) → AscendTexts (t ∷ ts) → AscendTexts ts
 rest_ascends t [] h = tt

@@ -17,14 +17,14 @@ use Rattle.jt_image.specs.declared.instruction.Instruction.TheVariants as op
 use Rattle.jt_image.specs.declared.wire.Instr.{Instr}
 use Rattle.jt_image.specs.declared.version.Version.{Version}
 use Rattle.jt_image.specs.Code.{Constant, undefined, nothing, truth_value, number, text, markup, Name, Section, Code}
-use Rattle.jt_image.specs.Spelling.{magic, version_number, name_bytes, constant_bytes, header_bytes, wire_of, wire_bytes, instruction_bytes, spelling}
+use Rattle.jt_image.specs.Spelling.{magic, version_number, name_bytes, template_bytes, constant_bytes, header_bytes, wire_of, wire_bytes, instruction_bytes, spelling}
 use Rattle.jt_image.specs.IsCode.{IsName, Ascend, AreDistinct, IsConstant, IsInstruction, IsSection, total_len, HasEntry, IsCode, max_locals, max_instructions, max_bytes}
-use Rattle.jt_image.specs.Reading.{◌>>=◌, Gives, check, number_at, byte_at, text_at, is_used, may_follow, slot_at, name_text_at, name_at, names_at, long_text_at, constant_of, constant_at, constants_at, Header, header_total, is_first, parameters_at, kind_at, locals_at, len_at, header_of, header_at, headers_at, known, known_of, instruction_of, instruction_at, instructions_at, section_of, section_at, sections_at, magic_at, version_at, start_at, Back, back_at, units_at, all_names_at, all_constants_at, code_of}
+use Rattle.jt_image.specs.Reading.{◌>>=◌, Gives, check, number_at, byte_at, text_at, is_used, follows, last_name, text_behind, slot_at, name_at, names_at, long_text_at, constant_of, constant_at, constants_at, Header, header_total, is_first, parameters_at, kind_at, locals_at, len_at, header_of, header_at, headers_at, known, known_of, instruction_of, instruction_at, instructions_at, section_of, section_at, sections_at, magic_at, version_at, start_at, Back, back_at, units_at, all_names_at, all_constants_at, code_of}
 use Rattle.jt_image.proofs.ReaderParts.{header_total-push, is_first-push, is_used-push}
 use Rattle.jt_image.proofs.Found.{wide16, wide32, wide64, AllGood}
-use Rattle.jt_image.proofs.Sound.{wire_from, good_instruction, IsFree, IsNext, IsNamed, short_bytes, long_bytes, IsPlain, IsHeader, head_bytes, code_bytes, head_of, HasCode}
-use Rattle.jt_image.proofs.Whole.{may_follow-push, AreNames, good_constant, AreConstants, good_header, HasFirst, AreUnits, head_spelled, length-map_of}
-use Rattle.jt_image.proofs.Behind.{version_again, back_bytes, back_again}
+use Rattle.jt_image.proofs.Sound.{wire_from, good_instruction, IsFree, IsNamed, long_bytes, IsPlain, IsHeader, head_bytes, code_bytes, head_of, HasCode}
+use Rattle.jt_image.proofs.Whole.{last_name-push, AreNames, good_constant, AreConstants, good_header, HasFirst, AreUnits, head_spelled, length-map_of}
+use Rattle.jt_image.proofs.Behind.{version_again, next_again, back_bytes, back_again}
 use Rattle.jt_image.proofs.Again.{number_again, text_again, bind_again, many_again, each_again}
 
 -- a test that holds
@@ -42,20 +42,12 @@ slot_again globals before slot rest small h =
     bind_again (number_at w16 (to_le_bytes w16 slot ++ rest)) (λ s. check (nat_lt s.0 globals && not (is_used s.0 before)) BadTable (Ok s)) slot rest (Ok (slot, rest)) (number_again w16 (2 ^ 16) wide16 slot rest (omega (arith, h.below, small)))
     (check_again (nat_lt slot globals && not (is_used slot before)) BadTable (Ok (slot, rest)) test)
 
-name_text_again : (before : List Name) (t rest : List ℕ) → IsNext before t → name_text_at before (short_bytes t ++ rest) ≡ Ok (t, rest)
-unfolding name_text_at
-name_text_again before t rest h =
-    ap (name_text_at before) (append_assoc (to_le_bytes w16 (length t)) t rest)
-    ∙ bind_again (number_at w16 (to_le_bytes w16 (length t) ++ (t ++ rest))) (λ len. text_at len.0 len.1 >>= λ t. check (may_follow before t.0) BadTable (Ok t)) (length t) (t ++ rest) (Ok (t, rest)) (number_again w16 (2 ^ 16) wide16 (length t) (t ++ rest) h.fits)
-    (bind_again (text_at (length t) (t ++ rest)) (λ t. check (may_follow before t.0) BadTable (Ok t)) t rest (Ok (t, rest)) (text_again t rest h.utf8)
-    (check_again (may_follow before t) BadTable (Ok (t, rest)) h.follows))
-
 name_again : (globals : ℕ) → globals < 2 ^ 16 → (before : List Name) (n : Name) (rest : List ℕ) → IsNamed globals before n → name_at globals before (name_bytes n ++ rest) ≡ Ok (n, rest)
 unfolding name_at
 name_again globals small before n rest h =
-    ap (name_at globals before) (append_assoc (to_le_bytes w16 n.slot) (short_bytes n.text) rest)
-    ∙ bind_again (slot_at globals before (to_le_bytes w16 n.slot ++ (short_bytes n.text ++ rest))) (λ slot. name_text_at before slot.1 >>= λ t. Ok (record { slot = slot.0; text = t.0 }, t.1)) n.slot (short_bytes n.text ++ rest) (Ok (n, rest)) (slot_again globals before n.slot (short_bytes n.text ++ rest) small h.slot)
-    (bind_again (name_text_at before (short_bytes n.text ++ rest)) (λ t. Ok (record { slot = n.slot; text = t.0 }, t.1)) n.text rest (Ok (n, rest)) (name_text_again before n.text rest h.next) refl)
+    ap (name_at globals before) (append_assoc (to_le_bytes w16 n.slot) (template_bytes n.text) rest)
+    ∙ bind_again (slot_at globals before (to_le_bytes w16 n.slot ++ (template_bytes n.text ++ rest))) (λ slot. text_behind (last_name before) slot.1 >>= λ t. Ok (record { slot = slot.0; text = t.0 }, t.1)) n.slot (template_bytes n.text ++ rest) (Ok (n, rest)) (slot_again globals before n.slot (template_bytes n.text ++ rest) small h.slot)
+    (bind_again (text_behind (last_name before) (template_bytes n.text ++ rest)) (λ t. Ok (record { slot = n.slot; text = t.0 }, t.1)) n.text rest (Ok (n, rest)) (next_again (last_name before) n.text rest h.next) refl)
 
 -- none of these slots has a name yet
 abbrev pub IsClear : List Name → List Name → Type 0
@@ -64,7 +56,7 @@ IsClear before ns = AllByRecursion (λ m. is_used m.slot before ≡ false) ns
 -- the first of these may stand behind those before
 abbrev pub Starts : List Name → List Name → Type 0
 Starts before [] = Unit {0}
-Starts before (n ∷ ns) = may_follow before n.text ≡ true
+Starts before (n ∷ ns) = follows (last_name before) n.text ≡ true
 
 unequal : (a b : ℕ) → a ≢ b → eqb a b ≡ false
 unequal a b ne = grind (arith, nat_tests)
@@ -75,7 +67,7 @@ still_clear before n (m ∷ ns) clear ne = search (arith, rules, unequal, is_use
 
 next_starts : (before : List Name) (n : Name) (ns : List Name) → Ascend (n ∷ ns) → Starts (before ++ n ∷ []) ns
 next_starts before n [] h = tt
-next_starts before n (m ∷ ns) h = may_follow-push before n m.text ∙ h.0
+next_starts before n (m ∷ ns) h = ap (λ (o : Option (List ℕ)). follows o m.text) (last_name-push before n) ∙ h.0
 
 rest_ascends : (n : Name) (ns : List Name) → Ascend (n ∷ ns) → Ascend ns
 rest_ascends n [] h = tt

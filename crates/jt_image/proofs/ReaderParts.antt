@@ -1,25 +1,24 @@
 -- Names, texts and headers in the reader, as the definitions see them.
-use Rattle.std.proofs.Common.{◌≡◌, ℕ, ◌+◌, ◌-◌, ◌++◌, false, true, ◌<◌, ◌≤◌, Bool, take, drop, ltb, ◌≢◌, Ok, Err, List, [], ◌∷◌, length, get_or, set, refl, map, sym, ap, ◌∙◌, arith, nat_cmp, rules}
-use Rattle.std.specs.Prelude.{◌==◌, ◌||◌}
+use Rattle.std.proofs.Common.{◌≡◌, ℕ, ◌+◌, ◌-◌, ◌++◌, false, true, ◌<◌, ◌≤◌, Bool, take, drop, ltb, ◌≢◌, Ok, Err, List, [], ◌∷◌, length, get_or, set, refl, map, sym, arith, Some, None, rules, zero, suc, subst}
+use Rattle.std.specs.Prelude.{◌==◌, ◌||◌, replicate}
 use Rattle.std.specs.Str.{IsUtf8, is_utf8}
 use Rattle.std.proofs.lemmas.Str.{is_utf8-from_IsUtf8, IsUtf8-from_is_utf8}
 use Rattle.std.proofs.lemmas.Bool.{le-ltb, cases_eq}
 use Rattle.std.proofs.lemmas.Bool.Decides.{nat_tests}
-use Rattle.std.proofs.lemmas.List.{length-set, get_or-set_same, get_or-set_other}
+use Rattle.std.proofs.lemmas.List.{length-set, get_or-set_same, get_or-set_other, length-replicate}
 use Rattle.jt_image.specs.declared.error.ImageError.TheVariants.{BadText}
-use Rattle.std.specs.Ordering.{is_lt}
-use Rattle.std.specs.Cmp.Lexicographic.{slice_cmp}
+use Rattle.std.specs.List.{last_or}
 use Rattle.jt_image.specs.Code as code
-use Rattle.jt_image.specs.Reading.{Header, IsTable, is_used, may_follow, may_follow_texts, text_at, header_total, is_first}
+use Rattle.jt_image.specs.Reading.{Header, IsTable, is_used, text_at, header_total, is_first}
 
-last_of : {A : Type 0} (m l : A) (ns : List A) (d : A) → get_or (m ∷ l ∷ ns) (length (m ∷ l ∷ ns) - 1) d ≡ get_or (l ∷ ns) (length (l ∷ ns) - 1) d
-last_of m l ns d = search (arith, rules)
+last_from : {A B : Type 0} (view : A → B) (x : A) (xs : List A) (d : A) → last_or (Some (view x)) (map view xs) ≡ Some (view (get_or (x ∷ xs) (length xs) d))
+last_from view x [] d = refl
+last_from view x (y ∷ ys) d = last_from view y ys d
 
--- what may follow names is told by the last of them, however they are held
-pub may_follow_last : {A : Type 0} (view : A → code.Name) (ns : List A) (d : A) (t : List ℕ) → 0 < length ns → may_follow (map view ns) t ≡ is_lt (slice_cmp nat_cmp (view (get_or ns (length ns - 1) d)).text t)
-may_follow_last view [] d t lt = absurd (omega arith)
-may_follow_last view (m ∷ []) d t lt = refl
-may_follow_last view (m ∷ l ∷ ns) d t lt = may_follow_last view (l ∷ ns) d t (omega arith) ∙ sym (ap (λ x. is_lt (slice_cmp nat_cmp (view x).text t)) (last_of m l ns d))
+-- the last of what is seen is seen of the last
+pub last_seen : {A B : Type 0} (view : A → B) (xs : List A) (d : A) → 0 < length xs → last_or None (map view xs) ≡ Some (view (get_or xs (length xs - 1) d))
+last_seen view [] d lt = absurd (omega arith)
+last_seen view (x ∷ xs) d lt = let e : length (x ∷ xs) - 1 ≡ length xs = omega arith in rw e (last_from view x xs d)
 
 pub header_total-push : (hs : List Header) (h : Header) → header_total (hs ++ h ∷ []) ≡ header_total hs + h.len
 header_total-push [] h = omega arith
@@ -64,9 +63,10 @@ other_slot n s ne false = grind (arith, nat_tests)
 pub IsTable-push : (used : List Bool) (globals : ℕ) (ns : List code.Name) (n : code.Name) → n.slot < globals → IsTable used globals ns → IsTable (set used n.slot true) globals (ns ++ n ∷ [])
 IsTable-push used globals ns n lt t = search (arith, rules, length-set, cases_eq, get_or, get_or-set_same, is_used-push, same_slot, get_or-set_other, other_slot)
 
--- ---- templates
+none_used : (n s : ℕ) → get_or (replicate n false) s false ≡ false
+none_used zero s = refl
+none_used (suc n) zero = refl
+none_used (suc n) (suc s) = none_used n s
 
-pub may_follow_last_text : {A : Type 0} (view : A → List ℕ) (ts : List A) (d : A) (t : List ℕ) → 0 < length ts → may_follow_texts (map view ts) t ≡ is_lt (slice_cmp nat_cmp (view (get_or ts (length ts - 1) d)) t)
-may_follow_last_text view [] d t lt = absurd (omega arith)
-may_follow_last_text view (s ∷ []) d t lt = refl
-may_follow_last_text view (s ∷ r ∷ ts) d t lt = may_follow_last_text view (r ∷ ts) d t (omega arith) ∙ sym (ap (λ x. is_lt (slice_cmp nat_cmp (view x) t)) (last_of s r ts d))
+pub IsTable-start : (used : List Bool) (globals : ℕ) → used ≡ replicate globals false → IsTable used globals []
+IsTable-start used globals e = subst (λ (us : List Bool). IsTable us globals []) (sym e) (record { len = length-replicate globals false; each = λ s lt. none_used globals s })

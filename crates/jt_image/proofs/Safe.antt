@@ -8,7 +8,7 @@ use Rattle.std.proofs.lemmas.List.{length-set}
 use Rattle.jt_value.specs.Tree as tree
 use Rattle.jt_value.specs.declared.fault.Fault.{Fault}
 use Rattle.jt_value.specs.declared.fault.Fault.TheVariants as faults
-use Rattle.jt_value.specs.Tree.{Tree, Items, truth, printed}
+use Rattle.jt_value.specs.Tree.{Tree, Items, truth}
 use Rattle.jt_image.specs.declared.instruction.Instruction.{Instruction}
 use Rattle.jt_image.specs.declared.instruction.Instruction.TheVariants as op
 use Rattle.jt_image.specs.declared.kind.Kind.TheVariants as kind
@@ -21,9 +21,9 @@ use Rattle.jt_image.specs.Effect.{Shape, Leads, require, pops, pops_many, pops_f
 use Rattle.jt_image.specs.Typed.{Shapes, Equal, HasSame, IsTypedBy, IsTyped}
 use Rattle.jt_image.specs.Loops.{trees_of, loop_over, keeping, field_of}
 use Rattle.jt_image.specs.Config as config
-use Rattle.jt_image.specs.Config.{Budget, Outcome, Frame, Entry, value, frame, capture, kind_of, State, Caller, Machine, Config}
+use Rattle.jt_image.specs.Config.{Budget, Frame, Entry, value, frame, capture, kind_of, State, Caller, Machine, Config}
 use Rattle.jt_image.specs.Step as step
-use Rattle.jt_image.specs.Step.{Demand, no_demand, pushing, pushing_all, greatest, emitting, calling, Plain, goes, faults_by, broken, with_entries, push, on_value, on_values, on_frame, on_capture, as_frame, push_given, makes, put, put_printed, shown, slot, constant_value, text_of, operated, filtered_by, tested_by, begins, told_by, piled, spreads, unpacks, closes, listed, mapped, plain, Action, ends, faulty, wrong, at_point, straight, jump_on, turns, locals_of, entered, calls_unit, Given, nothing, result, disorder, given_by, resumed, back_to, action, in_tables, strict, cost, fetch}
+use Rattle.jt_image.specs.Step.{Demand, no_demand, pushing, pushing_all, greatest, emitting, calling, Plain, goes, faults_by, broken, with_entries, push, on_value, on_values, on_frame, on_capture, as_frame, push_given, makes, put, put_printed, constant_value, text_of, begins, told_by, piled, unpacks, closes, listed, mapped, Action, ends, faulty, wrong, straight, locals_of, entered, calls_unit, nothing, given_by, resumed, back_to, strict, cost, fetch}
 use Rattle.jt_image.specs.Run.{Next, Goes, Ends, Wrong, unless, spends, placed, next}
 
 -- the kinds of the entries

@@ -13,9 +13,9 @@ use Rattle.jt_image.specs.declared.instruction.Instruction.{Instruction}
 use Rattle.jt_image.specs.declared.instruction.Instruction.TheVariants as op
 use Rattle.jt_image.specs.declared.wire.Instr.{Instr}
 use Rattle.jt_image.specs.Code.{Constant, number, text, markup, Name, Section}
-use Rattle.jt_image.specs.Spelling.{name_bytes, constant_bytes, wire_of, wire_bytes, instruction_bytes}
+use Rattle.jt_image.specs.Spelling.{name_bytes, template_bytes, constant_bytes, wire_of, wire_bytes, instruction_bytes}
 use Rattle.jt_image.specs.IsCode.{total_len, IsConstant, IsInstruction, max_locals, max_instructions}
-use Rattle.jt_image.specs.Reading.{◌>>=◌, check, number_at, byte_at, text_at, is_used, may_follow, slot_at, name_text_at, name_at, long_text_at, constant_of, constant_at, Header, parameters_at, kind_at, locals_at, len_at, header_of, uses_none, uses_c, uses_a, uses_ab, uses_ac, instruction_of, known, known_of, instruction_at, instructions_at, section_of, section_at, sections_at, header_total, many_at, each_at}
+use Rattle.jt_image.specs.Reading.{◌>>=◌, check, number_at, byte_at, text_at, is_used, follows, last_name, text_behind, slot_at, name_at, long_text_at, constant_of, constant_at, Header, parameters_at, kind_at, locals_at, len_at, header_of, uses_none, uses_c, uses_a, uses_ab, uses_ac, instruction_of, known, known_of, instruction_at, instructions_at, section_of, section_at, sections_at, header_total, many_at, each_at}
 use Rattle.jt_image.proofs.Found.{Read, AllOk, all_at, all_map, bind_from, check_all, cond_all, IsBytes, Takes, Takes-then, Takes-as, Found, wide16, wide32, wide64, number_found, single, byte_found, IsText, text_found, AllGood, Many, many_found, Each, each_found}
 
 and_true : (a b : Bool) → (a && b) ≡ true → (a ≡ true) × (b ≡ true)
@@ -42,41 +42,38 @@ slot_found globals before bytes fits =
     let both = and_true (nat_lt s.0 globals) (not (is_used s.0 before)) e in
     (t.0, record { below = ltb-true s.0 globals both.0; free = not_true (is_used s.0 before) both.1 })))
 
--- a text that may stand behind these names
-pub record IsNext (before : List Name) (t : List ℕ) : Type 0 where
+-- a text that may stand behind the last one of its table
+pub record IsNext (last : Option (List ℕ)) (t : List ℕ) : Type 0 where
   pub fits : length t < 2 ^ 16
   pub utf8 : IsUtf8 t
-  pub follows : may_follow before t ≡ true
-
-abbrev pub short_bytes : List ℕ → List ℕ
-short_bytes t = to_le_bytes w16 (length t) ++ t
+  pub follows : follows last t ≡ true
 
 abbrev pub long_bytes : List ℕ → List ℕ
 long_bytes t = to_le_bytes w32 (length t) ++ t
 
-name_text_found : (before : List Name) (bytes : List ℕ) → IsBytes bytes → Found short_bytes (IsNext before) bytes (name_text_at before bytes)
-unfolding name_text_at
-name_text_found before bytes fits =
-    let P : List ℕ × List ℕ → Type 0 = λ t. Takes bytes (short_bytes t.0) t.1 × IsNext before t.0 in
-    bind_from (number_at w16 bytes) (λ len. text_at len.0 len.1 >>= λ t. check (may_follow before t.0) BadTable (Ok t)) (λ s. Takes bytes (to_le_bytes w16 s.0) s.1 × (s.0 < 2 ^ 16)) P (number_found w16 (2 ^ 16) wide16 bytes fits) (λ len l.
-    bind_from (text_at len.0 len.1) (λ t. check (may_follow before t.0) BadTable (Ok t)) (λ t. Takes len.1 t.0 t.1 × IsText len.0 t.0) P (text_found len.0 len.1 l.0.fits) (λ t u.
-    check_all (may_follow before t.0) BadTable (Ok t) P (λ e. (
-      Takes-as bytes (to_le_bytes w16 len.0 ++ t.0) (short_bytes t.0) t.1 (ap (λ (n : ℕ). to_le_bytes w16 n ++ t.0) (sym u.1.0)) (Takes-then bytes (to_le_bytes w16 len.0) len.1 t.0 t.1 l.0 u.0),
+pub next_found : (last : Option (List ℕ)) (bytes : List ℕ) → IsBytes bytes → Found template_bytes (IsNext last) bytes (text_behind last bytes)
+unfolding text_behind
+next_found last bytes fits =
+    let P : List ℕ × List ℕ → Type 0 = λ t. Takes bytes (template_bytes t.0) t.1 × IsNext last t.0 in
+    bind_from (number_at w16 bytes) (λ len. text_at len.0 len.1 >>= λ t. check (follows last t.0) BadTable (Ok t)) (λ s. Takes bytes (to_le_bytes w16 s.0) s.1 × (s.0 < 2 ^ 16)) P (number_found w16 (2 ^ 16) wide16 bytes fits) (λ len l.
+    bind_from (text_at len.0 len.1) (λ t. check (follows last t.0) BadTable (Ok t)) (λ t. Takes len.1 t.0 t.1 × IsText len.0 t.0) P (text_found len.0 len.1 l.0.fits) (λ t u.
+    check_all (follows last t.0) BadTable (Ok t) P (λ e. (
+      Takes-as bytes (to_le_bytes w16 len.0 ++ t.0) (template_bytes t.0) t.1 (ap (λ (n : ℕ). to_le_bytes w16 n ++ t.0) (sym u.1.0)) (Takes-then bytes (to_le_bytes w16 len.0) len.1 t.0 t.1 l.0 u.0),
       record { fits = omega (arith, u.1.0, l.1); utf8 = u.1.1; follows = e },
     ))))
 
 -- a name behind those before
 pub record IsNamed (globals : ℕ) (before : List Name) (n : Name) : Type 0 where
   pub slot : IsFree globals before n.slot
-  pub next : IsNext before n.text
+  pub next : IsNext (last_name before) n.text
 
 pub name_found : (globals : ℕ) (before : List Name) (bytes : List ℕ) → IsBytes bytes → Found name_bytes (IsNamed globals before) bytes (name_at globals before bytes)
 unfolding name_at
 name_found globals before bytes fits =
     let P : Name × List ℕ → Type 0 = λ n. Takes bytes (name_bytes n.0) n.1 × IsNamed globals before n.0 in
-    bind_from (slot_at globals before bytes) (λ slot. name_text_at before slot.1 >>= λ t. Ok (record { slot = slot.0; text = t.0 }, t.1)) (λ s. Takes bytes (to_le_bytes w16 s.0) s.1 × IsFree globals before s.0) P (slot_found globals before bytes fits) (λ s t.
-    bind_from (name_text_at before s.1) (λ t. Ok (record { slot = s.0; text = t.0 }, t.1)) (λ t. Takes s.1 (short_bytes t.0) t.1 × IsNext before t.0) P (name_text_found before s.1 t.0.fits) (λ u v.
-    (Takes-then bytes (to_le_bytes w16 s.0) s.1 (short_bytes u.0) u.1 t.0 v.0, record { slot = t.1; next = v.1 })))
+    bind_from (slot_at globals before bytes) (λ slot. text_behind (last_name before) slot.1 >>= λ t. Ok (record { slot = slot.0; text = t.0 }, t.1)) (λ s. Takes bytes (to_le_bytes w16 s.0) s.1 × IsFree globals before s.0) P (slot_found globals before bytes fits) (λ s t.
+    bind_from (text_behind (last_name before) s.1) (λ t. Ok (record { slot = s.0; text = t.0 }, t.1)) (λ t. Takes s.1 (template_bytes t.0) t.1 × IsNext (last_name before) t.0) P (next_found (last_name before) s.1 t.0.fits) (λ u v.
+    (Takes-then bytes (to_le_bytes w16 s.0) s.1 (template_bytes u.0) u.1 t.0 v.0, record { slot = t.1; next = v.1 })))
 
 -- ---- constants
 

@@ -17,7 +17,7 @@ use Rattle.jt_image.specs.Spelling.{magic, version_number, name_bytes, instructi
 use Rattle.jt_image.specs.Reading.{◌>>=◌, check, number_at, text_at, name_at, long_text_at, constant_of, constant_at, instruction_at, instructions_at, Header, header_at, headers_at, header_total, is_first, start_at, template_at, all_templates_at, spots_at, Back, back_at, Fails}
 use Rattle.jt_image.specs.InPlace.{IsRead, read_or, bare_text_at, template_in, templates_in, HasTemplate, bare_name_at, name_in, HasName, constant_in, HasConstant, AreLast}
 use Rattle.jt_image.proofs.Found.{Read, all_at, IsBytes, IsBytes-drop, Takes, IsWide, number_found, Many, many_found, wide16}
-use Rattle.jt_image.proofs.Sound.{short_bytes, IsNamed, name_found, constant_found, instruction_found, good_instruction, head_bytes, header_found}
+use Rattle.jt_image.proofs.Sound.{IsNamed, name_found, constant_found, instruction_found, good_instruction, head_bytes, header_found}
 use Rattle.jt_image.proofs.Whole.{good_header}
 use Rattle.jt_image.proofs.WholeCode.{start_found}
 use Rattle.jt_image.proofs.Behind.{IsNextText, template_found}
@@ -57,24 +57,24 @@ is_read {A} r x after e = subst (λ (q : Read A). IsRead q) (sym e) tt
 pub read_as : {A : Type 0} (other : A) (r : Read A) (x : A) (after : List ℕ) → r ≡ Ok (x, after) → read_or other r ≡ x
 read_as {A} other r x after e = ap (λ (q : Read A). read_or other q) e
 
+-- what was read behind others stands there, and the bytes behind it are the last ones
+pub record Step {A : Type 0} (part : List ℕ → ℕ → A) (has : List ℕ → ℕ → Type 0) (bytes rest : List ℕ) (x : A) (after : List ℕ) : Type 0 where
+  pub there : has bytes (length bytes - length rest)
+  pub is : part bytes (length bytes - length rest) ≡ x
+  pub last : AreLast bytes after
+
 -- ---- names
 
 bare_again : (n : Name) (rest : List ℕ) → n.slot < 2 ^ 16 → length n.text < 2 ^ 16 → IsUtf8 n.text → bare_name_at (name_bytes n ++ rest) ≡ Ok (n, rest)
 unfolding bare_name_at
 bare_again n rest slot len utf8 =
     let r : List ℕ = n.text ++ rest in
-    ap bare_name_at (append_assoc (to_le_bytes w16 n.slot) (short_bytes n.text) rest ∙ ap (λ (b : List ℕ). to_le_bytes w16 n.slot ++ b) (append_assoc (to_le_bytes w16 (length n.text)) n.text rest))
+    ap bare_name_at (append_assoc (to_le_bytes w16 n.slot) (template_bytes n.text) rest ∙ ap (λ (b : List ℕ). to_le_bytes w16 n.slot ++ b) (append_assoc (to_le_bytes w16 (length n.text)) n.text rest))
     ∙ bind_again (number_at w16 (to_le_bytes w16 n.slot ++ (to_le_bytes w16 (length n.text) ++ r))) (λ slot. number_at w16 slot.1 >>= λ len. text_at len.0 len.1 >>= λ t. Ok (record { slot = slot.0; text = t.0 }, t.1)) n.slot (to_le_bytes w16 (length n.text) ++ r) (Ok (n, rest)) (number_again w16 (2 ^ 16) wide16 n.slot (to_le_bytes w16 (length n.text) ++ r) slot)
     (bind_again (number_at w16 (to_le_bytes w16 (length n.text) ++ r)) (λ len. text_at len.0 len.1 >>= λ t. Ok (record { slot = n.slot; text = t.0 }, t.1)) (length n.text) r (Ok (n, rest)) (number_again w16 (2 ^ 16) wide16 (length n.text) r len)
     (bind_again (text_at (length n.text) r) (λ t. Ok (record { slot = n.slot; text = t.0 }, t.1)) n.text rest (Ok (n, rest)) (text_again n.text rest utf8) refl))
 
--- a name that was read behind others stands there, and the bytes behind it are the last ones
-pub record NameStep (bytes rest : List ℕ) (n : Name) (after : List ℕ) : Type 0 where
-  pub there : HasName bytes (length bytes - length rest)
-  pub is : name_in bytes (length bytes - length rest) ≡ n
-  pub last : AreLast bytes after
-
-pub name_step : (globals : ℕ) (before : List Name) (bytes rest : List ℕ) (n : Name) (after : List ℕ) → globals < 2 ^ 16 → IsBytes bytes → AreLast bytes rest → name_at globals before rest ≡ Ok (n, after) → NameStep bytes rest n after
+pub name_step : (globals : ℕ) (before : List Name) (bytes rest : List ℕ) (n : Name) (after : List ℕ) → globals < 2 ^ 16 → IsBytes bytes → AreLast bytes rest → name_at globals before rest ≡ Ok (n, after) → Step name_in HasName bytes rest n after
 name_step globals before bytes rest n after small fits h e =
     let found = all_at (name_at globals before rest) (λ x. Takes rest (name_bytes x.0) x.1 × IsNamed globals before x.0) (n, after) e (name_found globals before rest (last_fits bytes rest fits h)) in
     let bare : bare_name_at rest ≡ Ok (n, after) = ap bare_name_at found.0.parts ∙ bare_again n after (omega (arith, found.1.slot.below, small)) found.1.next.fits found.1.next.utf8 in
@@ -93,12 +93,7 @@ bare_text_again t rest len utf8 =
     ap bare_text_at (append_assoc (to_le_bytes w16 (length t)) t rest)
     ∙ bind_again (number_at w16 (to_le_bytes w16 (length t) ++ (t ++ rest))) (λ len. text_at len.0 len.1) (length t) (t ++ rest) (Ok (t, rest)) (number_again w16 (2 ^ 16) wide16 (length t) (t ++ rest) len) (text_again t rest utf8)
 
-pub record TemplateStep (bytes rest t after : List ℕ) : Type 0 where
-  pub there : HasTemplate bytes (length bytes - length rest)
-  pub is : template_in bytes (length bytes - length rest) ≡ t
-  pub last : AreLast bytes after
-
-pub template_step : (before : List (List ℕ)) (bytes rest t after : List ℕ) → IsBytes bytes → AreLast bytes rest → template_at before rest ≡ Ok (t, after) → TemplateStep bytes rest t after
+pub template_step : (before : List (List ℕ)) (bytes rest t after : List ℕ) → IsBytes bytes → AreLast bytes rest → template_at before rest ≡ Ok (t, after) → Step template_in HasTemplate bytes rest t after
 template_step before bytes rest t after fits h e =
     let found = all_at (template_at before rest) (λ x. Takes rest (template_bytes x.0) x.1 × IsNextText before x.0) (t, after) e (template_found before rest (last_fits bytes rest fits h)) in
     let bare : bare_text_at rest ≡ Ok (t, after) = ap bare_text_at found.0.parts ∙ bare_text_again t after found.1.fits found.1.utf8 in
@@ -111,12 +106,7 @@ template_step before bytes rest t after fits h e =
 
 -- ---- constants
 
-pub record ConstantStep (bytes rest : List ℕ) (x : Constant) (after : List ℕ) : Type 0 where
-  pub there : HasConstant bytes (length bytes - length rest)
-  pub is : constant_in bytes (length bytes - length rest) ≡ x
-  pub last : AreLast bytes after
-
-pub constant_step : (bytes rest : List ℕ) (x : Constant) (after : List ℕ) → IsBytes bytes → AreLast bytes rest → constant_at rest ≡ Ok (x, after) → ConstantStep bytes rest x after
+pub constant_step : (bytes rest : List ℕ) (x : Constant) (after : List ℕ) → IsBytes bytes → AreLast bytes rest → constant_at rest ≡ Ok (x, after) → Step constant_in HasConstant bytes rest x after
 constant_step bytes rest x after fits h e =
     let found = all_at (constant_at rest) (λ y. Takes rest _ y.1 × _) (x, after) e (constant_found rest (last_fits bytes rest fits h)) in
     let here = there constant_at bytes rest x after h e in

@@ -3,7 +3,7 @@ use Rattle.std.proofs.Common.{◌≡◌, ℕ, List, [], ◌∷◌, ◌++◌, len
 use Rattle.jt_image.specs.declared.instruction.Instruction.TheVariants as op
 use Rattle.jt_image.specs.declared.version.Version.TheVariants as version
 use Rattle.jt_image.specs.Code as code
-use Rattle.jt_image.specs.Code.{Section, Spot, Code}
+use Rattle.jt_image.specs.Code.{Section, Code}
 use Rattle.jt_image.specs.Spelling.{spelling}
 use Rattle.jt_image.specs.Upgrading.{unplaced}
 

@@ -1,8 +1,8 @@
 -- What is read from all of the bytes is a code, and its spelling is the bytes.
-use Rattle.std.proofs.Common.{◌≡◌, ℕ, suc, ◌+◌, ◌<◌, ◌≤◌, ◌^◌, Bool, true, false, eqb, List, [], ◌∷◌, ◌++◌, length, map, Some, refl, sym, ap, subst, ◌∙◌, arith, append_assoc, nat_cmp, rules}
+use Rattle.std.proofs.Common.{◌≡◌, ℕ, suc, ◌+◌, ◌<◌, ◌≤◌, ◌^◌, Bool, true, false, eqb, List, [], ◌∷◌, ◌++◌, length, map, Some, refl, sym, ap, subst, ◌∙◌, arith, append_assoc, nat_cmp, rules, Option, None, option_map}
 use Rattle.std.specs.Prelude.{◌||◌, ◌≢◌, nat_lt, slice_get}
 use Rattle.std.specs.Int.{w16, to_le_bytes}
-use Rattle.std.specs.List.{flat_map, AllByRecursion}
+use Rattle.std.specs.List.{flat_map, AllByRecursion, last_or}
 use Rattle.std.specs.Ordering.{is_lt}
 use Rattle.std.specs.Cmp.Lexicographic.{slice_cmp}
 use Rattle.std.proofs.lemmas.Bool.{ltb-true}
@@ -12,36 +12,37 @@ use Rattle.jt_image.specs.declared.error.ImageError.TheVariants.{BadTable}
 use Rattle.jt_image.specs.Code.{Constant, Name, Section}
 use Rattle.jt_image.specs.Spelling.{name_bytes, constant_bytes, header_bytes}
 use Rattle.jt_image.specs.IsCode.{IsName, Ascend, AreDistinct, IsConstant, IsSection, total_len, max_instructions}
-use Rattle.jt_image.specs.Reading.{◌>>=◌, check, number_at, is_used, may_follow, name_at, names_at, constant_at, constants_at, Header, header_total, is_first, header_at, headers_at, sections_at, units_at, all_names_at, all_constants_at}
+use Rattle.jt_image.specs.Reading.{◌>>=◌, check, number_at, is_used, follows, last_name, name_at, names_at, constant_at, constants_at, Header, header_total, is_first, header_at, headers_at, sections_at, units_at, all_names_at, all_constants_at}
 use Rattle.jt_image.proofs.ReaderParts.{header_total-push}
 use Rattle.jt_image.proofs.Found.{all_map, bind_from, check_all, IsBytes, Takes, Takes-then, Takes-as, Found, wide16, number_found, AllGood, Many, many_found, Each}
 use Rattle.jt_image.proofs.Sound.{IsNamed, name_found, constant_found, IsHeader, head_bytes, header_found, code_bytes, head_of, HasCode, sections_found}
 
 -- ---- tables of names
 
-pub may_follow-push : (before : List Name) (n : Name) (t : List ℕ) → may_follow (before ++ n ∷ []) t ≡ is_lt (slice_cmp nat_cmp n.text t)
-may_follow-push [] n t = refl
-may_follow-push (m ∷ []) n t = refl
-may_follow-push (m ∷ l ∷ ns) n t = may_follow-push (l ∷ ns) n t
+pub last_push : {A : Type 0} (o : Option A) (xs : List A) (x : A) → last_or o (xs ++ x ∷ []) ≡ Some x
+last_push o [] x = refl
+last_push o (y ∷ ys) x = last_push (Some y) ys x
 
-pub above_some : (s t : List ℕ) → is_lt (slice_cmp nat_cmp s t) ≡ true → 0 < length t
+pub last_name-push : (before : List Name) (n : Name) → last_name (before ++ n ∷ []) ≡ Some n.text
+last_name-push before n = ap (option_map (λ (m : Name). m.text)) (last_push None before n)
+
+above_some : (s t : List ℕ) → is_lt (slice_cmp nat_cmp s t) ≡ true → 0 < length t
 above_some [] [] e = absurd cc
 above_some (x ∷ s) [] e = absurd cc
 above_some s (y ∷ t) e = omega arith
 
-follows_some : (before : List Name) (t : List ℕ) → may_follow before t ≡ true → 0 < length t
-follows_some [] t e = ltb-true _ _ e
-follows_some (n ∷ []) t e = above_some n.text t e
-follows_some (n ∷ m ∷ ns) t e = follows_some (m ∷ ns) t e
+pub follows_some : (last : Option (List ℕ)) (t : List ℕ) → follows last t ≡ true → 0 < length t
+follows_some None t e = ltb-true _ _ e
+follows_some (Some s) t e = above_some s t e
 
 pub are_names : (globals : ℕ) (before ns : List Name) → AllGood (IsNamed globals) before ns → AllByRecursion (IsName globals) ns
 are_names globals before [] h = tt
 are_names globals before (n ∷ ns) h =
-    (record { slot = h.0.slot.below; some = follows_some before n.text h.0.next.follows; fits = h.0.next.fits; utf8 = h.0.next.utf8 }, are_names globals (before ++ n ∷ []) ns h.1)
+    (record { slot = h.0.slot.below; some = follows_some (last_name before) n.text h.0.next.follows; fits = h.0.next.fits; utf8 = h.0.next.utf8 }, are_names globals (before ++ n ∷ []) ns h.1)
 
 ascend_from : (globals : ℕ) (n : Name) (before ns : List Name) → AllGood (IsNamed globals) (before ++ n ∷ []) ns → Ascend (n ∷ ns)
 ascend_from globals n before [] h = tt
-ascend_from globals n before (m ∷ ns) h = (sym (may_follow-push before n m.text) ∙ h.0.next.follows, ascend_from globals m (before ++ n ∷ []) ns h.1)
+ascend_from globals n before (m ∷ ns) h = (ap (λ (o : Option (List ℕ)). follows o m.text) (sym (last_name-push before n)) ∙ h.0.next.follows, ascend_from globals m (before ++ n ∷ []) ns h.1)
 
 pub ascend : (globals : ℕ) (ns : List Name) → AllGood (IsNamed globals) [] ns → Ascend ns
 ascend globals [] h = tt

@@ -146,3 +146,9 @@ pub record AreLast (bytes rest : List ℕ) : Type 0 where
   pub small : length bytes ≤ max_bytes
   pub within : length rest ≤ length bytes
   pub are : drop (length bytes - length rest) bytes ≡ rest
+
+-- what was read up to here: each of these places has its part, and these are the last of the bytes
+pub record AreRead {P : Type 0} (has : P → Type 0) (bytes : List ℕ) (places : List P)
+    (rest : List ℕ) : Type 0 where
+  pub there : AllByRecursion has places
+  pub last : AreLast bytes rest

@@ -1,5 +1,5 @@
 -- What code parts are, and what a refusal to assemble them says of it.
-use Rattle.std.specs.Prelude.{◌≡◌, ℕ, ◌<◌, ◌≤◌, ◌-◌, ◌^◌, min, List, [], ◌∷◌, ◌++◌, length, Option, Some, None, option_map, Vec, Result, OnOk, IsUtf8, FitsSigned}
+use Rattle.std.specs.Prelude.{◌≡◌, ℕ, ◌<◌, ◌≤◌, ◌-◌, ◌^◌, min, Bool, not, ◌&&◌, nat_lt, List, [], ◌∷◌, ◌++◌, length, Option, Some, None, option_map, Vec, Result, OnOk, IsUtf8, FitsSigned}
 use Rattle.std.specs.List.{AllByRecursion}
 use Rattle.std.specs.Int.{w64}
 use Rattle.std.specs.declared.alloc.Global.{Global}
@@ -11,7 +11,7 @@ use Rattle.jt_image.specs.Code.{Constant, undefined, nothing, truth_value, numbe
 use Rattle.jt_image.specs.View.{names_view, constants_view, units_view, texts_view, spots_view, IsKnownUnit}
 use Rattle.jt_image.specs.Spelling.{place_bytes, spelling}
 use Rattle.jt_image.specs.IsCode.{Ascend, AreDistinct, AscendTexts, IsSpot, IsPlaced, IsInstruction, HasEntry, total_len, max_count, max_locals, max_instructions, max_bytes}
-use Rattle.jt_image.specs.Reading.{instruction_of}
+use Rattle.jt_image.specs.Reading.{instruction_of, is_used, follows, last_name}
 
 abbrev pub in_front : {A : Type 0} → Option A → Option (List A) → Option (List A)
 in_front None ys = None
@@ -177,6 +177,13 @@ pub record IsShort (n : Name) : Type 0 where
 pub record IsShortText (t : List ℕ) : Type 0 where
   pub fits : length t < 2 ^ 16
   pub utf8 : IsUtf8 t
+
+-- whether a name may stand behind these: its slot is there and has no name yet, and its text is in
+-- order
+abbrev pub is_next : ℕ → List Name → Name → Bool
+is_next globals before n =
+    nat_lt n.slot globals
+    && (not (is_used n.slot before) && follows (last_name before) n.text)
 
 -- ---- what is put behind bytes
 

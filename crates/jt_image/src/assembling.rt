@@ -1,16 +1,17 @@
 //! Parts to images.
-ghost use Rattle.std.specs.Prelude.{◌≡◌, ◌+◌, ◌-◌, ◌*◌, ◌<◌, ◌≤◌, ◌^◌, ◌↔◌, ◌&&◌, min, not, nat_lt, List, length, string_bytes, IsTrue, IsUtf8, IfOk, IfErr, MatchResult, Some, None, Ok, Err, false};
+ghost use Rattle.std.specs.Prelude.{◌≡◌, ◌+◌, ◌-◌, ◌*◌, ◌<◌, ◌≤◌, ◌^◌, ◌↔◌, ◌&&◌, min, not, nat_lt, List, length, option_map, string_bytes, IsTrue, IsUtf8, IfOk, IfErr, MatchResult, Some, None, Ok, Err, false};
 ghost use Rattle.std.specs.List.{flat_map, AllByRecursion};
 ghost use Rattle.jt_image.specs.Code.{Code};
-ghost use Rattle.jt_image.specs.View.{names_view, constant_view, constants_view, unit_view, units_view, texts_view, spot_view, spots_view, IsKnownUnit};
+ghost use Rattle.jt_image.specs.View.{name_view, names_view, constant_view, constants_view, unit_view, units_view, texts_view, spot_view, spots_view, IsKnownUnit};
 ghost use Rattle.jt_image.specs.IsCode.{total_len, max_count, max_locals, max_instructions, max_bytes, IsSpot, IsPlaced, IsCode};
 ghost use Rattle.jt_image.specs.Spelling.{name_bytes, constant_bytes, template_bytes, place_bytes};
-ghost use Rattle.jt_image.specs.Reading.{instruction_of, is_used, may_follow, may_follow_texts, IsTable};
-ghost use Rattle.jt_image.specs.Parts.{each_of, section_of_unit, code_of_parts, code_seen, AreKnown, AreInOrder, IsUnitInOrder, AreTemplates, KeepsLimits, IsRefusal, IsWritable, IsHeld, Starts, told_len, back_bytes, HasPlaces, HasBack, FitNames, FitTexts, FitLocals, FitFields, IsShort, IsShortText};
+ghost use Rattle.jt_image.specs.Reading.{instruction_of, is_used, follows, last_text, last_name, IsTable};
+ghost use Rattle.jt_image.specs.Parts.{each_of, is_next, section_of_unit, code_of_parts, code_seen, AreKnown, AreInOrder, IsUnitInOrder, AreTemplates, KeepsLimits, IsRefusal, IsWritable, IsHeld, Starts, told_len, back_bytes, HasPlaces, HasBack, FitNames, FitTexts, FitLocals, FitFields, IsShort, IsShortText};
 ghost use Rattle.jt_image.specs.declared.error.ImageError.TheVariants.{LimitPassed, NoMemory};
 
 use crate::back::is_line;
 use crate::error::ImageError;
+use crate::fields::follows;
 use crate::image::{Constant, Image};
 use crate::limits::{MAX_BYTES, MAX_COUNT, MAX_INSTRUCTIONS, MAX_LOCALS};
 use crate::parts::{Parts, Spot, Unit};
@@ -225,12 +226,12 @@ fn units_are_in_order(units: &[Unit]) -> bool
     true
 }
 
-fn may_follow_texts(templates: &[String], text: &str) -> bool
-    ensures { result ≡ may_follow_texts (texts_view templates.now) text.now }
+fn last_text(texts: &[String]) -> Option<&str>
+    ensures { option_map (λ t. t.now) result ≡ last_text (texts_view texts.now) }
 {
-    match templates {
-        [] => !text.is_empty(),
-        [.., last] => last.as_str() < text,
+    match texts {
+        [] => None,
+        [.., last] => Some(last.as_str()),
     }
 }
 
@@ -239,7 +240,7 @@ fn templates_are_in_order(templates: &[String]) -> bool
     ensures { IsTrue result ↔ AreTemplates (texts_view templates.now) }
 {
     'templates: for (index, template) in templates.iter().enumerate() {
-        if !may_follow_texts(&templates[..index], template.as_str()) {
+        if !follows(last_text(&templates[..index]), template.as_str()) {
             return false;
         }
     }
@@ -282,26 +283,23 @@ fn places_are_in_order(parts: &Parts, instructions: u32) -> bool
         && are_placed(parts, instructions)
 }
 
-fn may_follow(names: &[(u16, String)], text: &str) -> bool
-    ensures { result ≡ may_follow (names_view names.now) text.now }
+fn last_name(names: &[(u16, String)]) -> Option<&str>
+    ensures { option_map (λ t. t.now) result ≡ last_name (names_view names.now) }
 {
     match names {
-        [] => !text.is_empty(),
-        [.., last] => last.1.as_str() < text,
+        [] => None,
+        [.., last] => Some(last.1.as_str()),
     }
 }
 
-// whether a name may stand behind these: its slot is there and has no name yet, and its text is
-// above the last
+// whether a name may stand behind these: its slot is there and has no name yet, and its text is in
+// order
 fn is_next(globals: u16, used: &[bool], before: &[(u16, String)], name: &(u16, String)) -> bool
     requires { IsTable used.now globals (names_view before.now) }
-    ensures { result
-        ≡ (nat_lt name.now.0 globals
-        && (not (is_used name.now.0 (names_view before.now))
-        && may_follow (names_view before.now) (string_bytes name.now.1))) }
+    ensures { result ≡ is_next globals (names_view before.now) (name_view name.now) }
 {
     let slot = name.0;
-    slot < globals && !used[usize::from(slot)] && may_follow(before, name.1.as_str())
+    slot < globals && !used[usize::from(slot)] && follows(last_name(before), name.1.as_str())
 }
 
 fn names_are_in_order(

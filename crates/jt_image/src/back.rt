@@ -1,16 +1,16 @@
 //! Reading what stands behind the instructions: templates and spots.
-ghost use Rattle.std.specs.Prelude.{◌≡◌, ◌≤◌, ◌==◌, ◌&&◌, nat_le, nat_lt, List, [], length, drop, IfOk, Ok, Err, true};
+ghost use Rattle.std.specs.Prelude.{◌≡◌, ◌≤◌, ◌==◌, ◌&&◌, nat_le, nat_lt, List, [], length, drop, option_map, IfOk, Ok, Err, true};
 ghost use Rattle.std.specs.Int.{w16, w32};
 ghost use Rattle.std.specs.List.{AllByRecursion};
 ghost use Rattle.jt_image.specs.IsCode.{max_line};
-ghost use Rattle.jt_image.specs.InPlace.{templates_in, HasTemplate, spots_in, AreSpots, AreLast};
+ghost use Rattle.jt_image.specs.InPlace.{templates_in, HasTemplate, spots_in, AreLast, AreRead};
 ghost use Rattle.jt_image.specs.declared.version.Version.TheVariants as variant;
-ghost use Rattle.jt_image.specs.BackView.{back_in};
+ghost use Rattle.jt_image.specs.BackView.{back_in, IsBackIn};
 ghost use Rattle.jt_image.specs.View.{spot_view};
-ghost use Rattle.jt_image.specs.Reading.{Gives, may_follow_texts, template_at, all_templates_at, template_number_at, is_line, line_at, spot_at, spots_at, back_at};
+ghost use Rattle.jt_image.specs.Reading.{Gives, last_text, all_templates_at, template_number_at, is_line, line_at, spot_at, spots_at, back_at};
 
 use crate::error::ImageError;
-use crate::fields::{text_at, u16_at, u32_at};
+use crate::fields::{text_behind, u16_at, u32_at};
 use crate::limits::MAX_LINE;
 use crate::parts::Spot;
 use crate::places::template_in;
@@ -24,32 +24,14 @@ pub(crate) struct Back {
     pub(crate) spots: u32,
 }
 
-fn may_follow(bytes: &[u8], templates: &[u32], text: &str) -> bool
+fn last_template<'a>(bytes: &'a [u8], templates: &[u32]) -> Option<&'a str>
     requires { AllByRecursion (HasTemplate bytes.now) templates.now }
-    ensures { result ≡ may_follow_texts (templates_in bytes.now templates.now) text.now }
+    ensures { option_map (λ t. t.now) result ≡ last_text (templates_in bytes.now templates.now) }
 {
     match templates {
-        [] => !text.is_empty(),
-        [.., last] => template_in(bytes, *last) < text,
+        [] => None,
+        [.., last] => Some(template_in(bytes, *last)),
     }
-}
-
-#[tactic(auto, unfolding(crate::specs::Reading::template_at))]
-fn template_at<'a>(
-    bytes: &[u8],
-    before: &[u32],
-    rest: &'a [u8],
-) -> Result<(&'a str, &'a [u8]), ImageError>
-    requires { AllByRecursion (HasTemplate bytes.now) before.now }
-    ensures { Gives (λ x. (x.0.now, x.1.now)) result
-        (template_at (templates_in bytes.now before.now) rest.now) }
-{
-    let (len, rest) = u16_at(rest)?;
-    let (text, rest) = text_at(len as usize, rest)?;
-    if !may_follow(bytes, before, text) {
-        return Err(ImageError::BadTable);
-    }
-    Ok((text, rest))
 }
 
 #[tactic(auto, unfolding(crate::specs::Reading::all_templates_at))]
@@ -58,17 +40,17 @@ fn all_templates_at<'a>(
     bytes: &[u8],
     front: &'a [u8],
 ) -> Result<(Vec<u32>, &'a [u8]), ImageError>
-    requires last { AreLast bytes.now front.now }
+    requires { AreLast bytes.now front.now }
     ensures gives { Gives (λ x. (templates_in bytes.now x.0.items, x.1.now)) result
         (all_templates_at front.now) }
-    ensures there { IfOk result (λ x. AllByRecursion (HasTemplate bytes.now) x.0.items) }
-    ensures last { IfOk result (λ x. AreLast bytes.now x.1.now) }
+    ensures read { IfOk result
+        (λ x. AreRead (HasTemplate bytes.now) bytes.now x.0.items x.1.now) }
 {
     let (count, start) = u16_at(front)?;
     let mut templates: Vec<u32> = Vec::new(alloc);
     let mut rest = start;
     'templates: for _ in 0..count {
-        let (_, after) = template_at(bytes, &templates, rest)?;
+        let (_, after) = text_behind(last_template(bytes, &templates), rest)?;
         templates.push((bytes.len() - rest.len()) as u32)?;
         rest = after;
     }
@@ -136,13 +118,10 @@ fn places_at<'a>(
     bytes: &[u8],
     front: &'a [u8],
 ) -> Result<(Back, &'a [u8]), ImageError>
-    requires last { AreLast bytes.now front.now }
+    requires { AreLast bytes.now front.now }
     ensures gives { Gives (λ x. (back_in variant.Two count bytes.now x.0, x.1.now)) result
         (back_at variant.Two count front.now) }
-    ensures templates { IfOk result
-        (λ x. AllByRecursion (HasTemplate bytes.now) x.0.templates.items) }
-    ensures spots { IfOk result (λ x.
-        AreSpots variant.Two (length x.0.templates.items) count (drop x.0.spots bytes.now)) }
+    ensures there { IfOk result (λ x. IsBackIn variant.Two count bytes.now x.0) }
 {
     let (templates, rest) = all_templates_at(alloc, bytes, front)?;
     let spots = (bytes.len() - rest.len()) as u32;
@@ -159,13 +138,10 @@ pub(crate) fn back_at<'a>(
     bytes: &[u8],
     front: &'a [u8],
 ) -> Result<(Back, &'a [u8]), ImageError>
-    requires last { AreLast bytes.now front.now }
+    requires { AreLast bytes.now front.now }
     ensures gives { Gives (λ x. (back_in version count bytes.now x.0, x.1.now)) result
         (back_at version count front.now) }
-    ensures templates { IfOk result
-        (λ x. AllByRecursion (HasTemplate bytes.now) x.0.templates.items) }
-    ensures spots { IfOk result
-        (λ x. AreSpots version (length x.0.templates.items) count (drop x.0.spots bytes.now)) }
+    ensures there { IfOk result (λ x. IsBackIn version count bytes.now x.0) }
 {
     match version {
         Version::One => {

@@ -1,10 +1,8 @@
 //! Bytes to images.
-ghost use Rattle.std.specs.Prelude.{◌≡◌, IfOk, MatchResult};
-ghost use Rattle.jt_image.specs.Code.{Code};
+ghost use Rattle.std.specs.Prelude.{◌≡◌, IfOk};
 ghost use Rattle.jt_image.specs.Spelling.{spelling};
 ghost use Rattle.jt_image.specs.IsCode.{IsCode};
-ghost use Rattle.jt_image.specs.declared.error.ImageError.TheVariants.{NoMemory};
-ghost use Rattle.jt_image.specs.Reading.{Gives, code_of};
+ghost use Rattle.jt_image.specs.Reading.{Gives, ReadsSpelling, code_of};
 
 use crate::error::ImageError;
 use crate::image::Image;
@@ -18,10 +16,7 @@ pub fn decode(alloc: Global, bytes: &[u8]) -> Result<Image, ImageError>
     // what is read is a code, and the bytes are its spelling
     ensures found { IfOk result (λ i. IsCode i × (bytes.now ≡ spelling i)) }
     // the spelling of a code is read as that code, unless memory runs out
-    ensures only { (k : Code)
-        → IsCode k
-        → bytes.now ≡ spelling k
-        → MatchResult result (λ i. i ≡ k) (λ e. e ≡ NoMemory) }
+    ensures only { ReadsSpelling (λ i. i) bytes.now result }
 {
     let places = read(alloc, bytes)?;
     let bytes = Vec::from_slice(alloc, bytes)?;

@@ -1,7 +1,7 @@
 //! Fields of an image: each reader answers a value and the bytes behind it.
-ghost use Rattle.std.specs.Prelude.{◌≡◌, ◌≤◌, List, length, take, drop, Ok, Err};
+ghost use Rattle.std.specs.Prelude.{◌≡◌, ◌≤◌, List, length, take, drop, option_map, Ok, Err};
 ghost use Rattle.std.specs.Int.{w16, w32, w64, from_le_bytes};
-ghost use Rattle.jt_image.specs.Reading.{Gives, number_at, byte_at, text_at, long_text_at, magic_at, version_at, start_at};
+ghost use Rattle.jt_image.specs.Reading.{Gives, number_at, byte_at, text_at, follows, text_behind, long_text_at, magic_at, version_at, start_at};
 
 use crate::error::ImageError;
 use crate::version::Version;
@@ -87,6 +87,34 @@ pub(crate) fn text_at(len: usize, bytes: &[u8]) -> Result<(&str, &[u8]), ImageEr
         Ok(text) => Ok((text, rest)),
         Err(_) => Err(ImageError::BadText),
     }
+}
+
+/// Whether a text may stand behind the last one of its table: it is above that one, and the first
+/// is not empty.
+pub(crate) fn follows(last: Option<&str>, text: &str) -> bool
+    ensures { result ≡ follows (option_map (λ t. t.now) last.entry) text.now }
+{
+    match last {
+        None => !text.is_empty(),
+        Some(last) => last < text,
+    }
+}
+
+/// A text behind its length, which may stand behind the last one of its table.
+#[tactic(auto, unfolding(crate::specs::Reading::text_behind))]
+pub(crate) fn text_behind<'a>(
+    last: Option<&str>,
+    bytes: &'a [u8],
+) -> Result<(&'a str, &'a [u8]), ImageError>
+    ensures { Gives (λ x. (x.0.now, x.1.now)) result
+        (text_behind (option_map (λ t. t.now) last.entry) bytes.now) }
+{
+    let (len, rest) = u16_at(bytes)?;
+    let (text, rest) = text_at(len as usize, rest)?;
+    if !follows(last, text) {
+        return Err(ImageError::BadTable);
+    }
+    Ok((text, rest))
 }
 
 /// A text behind its length.

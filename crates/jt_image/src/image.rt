@@ -2,7 +2,7 @@
 
 use crate::code::{Code, ConstantRef, PlaceRef, UnitHeader};
 use crate::instruction::Instruction;
-use crate::places::Places;
+use crate::places::{Places, Reader};
 use crate::stretch::Stretch;
 use crate::version::Version;
 use std::marker::Model;
@@ -39,6 +39,19 @@ impl Model for Image {
     ghost invariant = { λ i. Spells i.bytes.items i.places };
 }
 
+impl Image {
+    ghost use Rattle.std.specs.Prelude.{◌≡◌};
+
+    fn reader(&self) -> Reader<'_>
+        ensures { result ≡ self.now }
+    {
+        Reader {
+            bytes: &self.bytes,
+            places: &self.places,
+        }
+    }
+}
+
 impl Code for Image {
     ghost code = { λ i. i };
 
@@ -55,7 +68,7 @@ impl Code for Image {
     }
 
     fn name(&self, index: usize) -> Option<(u16, &str)> {
-        self.places.name(&self.bytes, index)
+        self.reader().name(index)
     }
 
     fn constants(&self) -> usize {
@@ -63,11 +76,11 @@ impl Code for Image {
     }
 
     fn constant(&self, index: usize) -> Option<ConstantRef<'_>> {
-        self.places.constant(&self.bytes, index)
+        self.reader().constant(index)
     }
 
     fn integer(&self, index: usize) -> Option<i64> {
-        self.places.integer(&self.bytes, index)
+        self.reader().integer(index)
     }
 
     fn units(&self) -> usize {
@@ -75,15 +88,15 @@ impl Code for Image {
     }
 
     fn unit(&self, unit: usize) -> Option<UnitHeader> {
-        self.places.unit(&self.bytes, unit)
+        self.reader().unit(unit)
     }
 
     fn instruction(&self, unit: usize, point: usize) -> Option<Instruction> {
-        self.places.instruction(&self.bytes, unit, point)
+        self.reader().instruction(unit, point)
     }
 
     fn stretch(&self, unit: usize) -> Option<Stretch<'_>> {
-        self.places.stretch(&self.bytes, unit)
+        self.reader().stretch(unit)
     }
 
     fn instructions(&self) -> usize {
@@ -95,11 +108,11 @@ impl Code for Image {
     }
 
     fn template(&self, index: usize) -> Option<&str> {
-        self.places.template(&self.bytes, index)
+        self.reader().template(index)
     }
 
     fn place(&self, unit: usize, point: usize) -> Option<PlaceRef<'_>> {
-        self.places.place(&self.bytes, unit, point)
+        self.reader().place(unit, point)
     }
 
     fn bytes(&self) -> &[u8] {
@@ -107,10 +120,10 @@ impl Code for Image {
     }
 
     fn constant_place(&self, index: usize) -> Option<usize> {
-        self.places.constant_place(&self.bytes, index)
+        self.reader().constant_place(index)
     }
 
     fn unit_place(&self, unit: usize) -> Option<usize> {
-        self.places.unit_start(&self.bytes, unit)
+        self.reader().unit_start(unit)
     }
 }

@@ -2,7 +2,7 @@
 
 use crate::code::{Code, ConstantRef, PlaceRef, UnitHeader};
 use crate::instruction::Instruction;
-use crate::places::Places;
+use crate::places::{Places, Reader};
 use crate::stretch::Stretch;
 use crate::version::Version;
 use std::marker::Model;
@@ -27,6 +27,19 @@ impl<'a> Model for View<'a> {
     ghost invariant = { λ v. Spells v.bytes.now v.places };
 }
 
+impl<'a> View<'a> {
+    ghost use Rattle.std.specs.Prelude.{◌≡◌};
+
+    fn reader(&self) -> Reader<'_>
+        ensures { result ≡ self.now }
+    {
+        Reader {
+            bytes: self.bytes,
+            places: &self.places,
+        }
+    }
+}
+
 impl<'a> Code for View<'a> {
     ghost code = { λ v. v };
 
@@ -43,7 +56,7 @@ impl<'a> Code for View<'a> {
     }
 
     fn name(&self, index: usize) -> Option<(u16, &str)> {
-        self.places.name(self.bytes, index)
+        self.reader().name(index)
     }
 
     fn constants(&self) -> usize {
@@ -51,11 +64,11 @@ impl<'a> Code for View<'a> {
     }
 
     fn constant(&self, index: usize) -> Option<ConstantRef<'_>> {
-        self.places.constant(self.bytes, index)
+        self.reader().constant(index)
     }
 
     fn integer(&self, index: usize) -> Option<i64> {
-        self.places.integer(self.bytes, index)
+        self.reader().integer(index)
     }
 
     fn units(&self) -> usize {
@@ -63,15 +76,15 @@ impl<'a> Code for View<'a> {
     }
 
     fn unit(&self, unit: usize) -> Option<UnitHeader> {
-        self.places.unit(self.bytes, unit)
+        self.reader().unit(unit)
     }
 
     fn instruction(&self, unit: usize, point: usize) -> Option<Instruction> {
-        self.places.instruction(self.bytes, unit, point)
+        self.reader().instruction(unit, point)
     }
 
     fn stretch(&self, unit: usize) -> Option<Stretch<'_>> {
-        self.places.stretch(self.bytes, unit)
+        self.reader().stretch(unit)
     }
 
     fn instructions(&self) -> usize {
@@ -83,11 +96,11 @@ impl<'a> Code for View<'a> {
     }
 
     fn template(&self, index: usize) -> Option<&str> {
-        self.places.template(self.bytes, index)
+        self.reader().template(index)
     }
 
     fn place(&self, unit: usize, point: usize) -> Option<PlaceRef<'_>> {
-        self.places.place(self.bytes, unit, point)
+        self.reader().place(unit, point)
     }
 
     fn bytes(&self) -> &[u8] {
@@ -95,10 +108,10 @@ impl<'a> Code for View<'a> {
     }
 
     fn constant_place(&self, index: usize) -> Option<usize> {
-        self.places.constant_place(self.bytes, index)
+        self.reader().constant_place(index)
     }
 
     fn unit_place(&self, unit: usize) -> Option<usize> {
-        self.places.unit_start(self.bytes, unit)
+        self.reader().unit_start(unit)
     }
 }

@@ -4,7 +4,7 @@ ghost use Rattle.std.specs.Option.{option_and_then};
 ghost use Rattle.std.specs.Int.{w16, w32, w64, from_le_bytes, cast_signed};
 ghost use Rattle.jt_image.specs.Code.{undefined};
 ghost use Rattle.jt_image.specs.Places.{place_of};
-ghost use Rattle.jt_image.specs.Readers.{constant_ref_view, header_of, number_of, instruction_at, place_ref_view, place_there, ConstantPlace, UnitStart};
+ghost use Rattle.jt_image.specs.Readers.{constant_ref_view, name_ref_view, header_of, number_of, instruction_at, place_ref_view, place_there, ConstantPlace, UnitStart};
 ghost use Rattle.jt_image.specs.View.{spot_view};
 ghost use Rattle.jt_image.specs.Reading.{text_at, long_text_at, constant_of};
 ghost use Rattle.jt_image.specs.InPlace.{IsRead, read_or, name_in, HasName, constant_in, HasConstant, section_in, HasUnit, template_in, HasTemplate, spot_in, spots_in, AreSpots, code_in, AreThere, Spells};
@@ -16,6 +16,7 @@ use crate::instruction::Instruction;
 use crate::parts::Spot;
 use crate::stretch::Stretch;
 use crate::version::Version;
+use std::marker::Model;
 
 /// How many bytes a spot takes.
 const SPOT_BYTES: usize = 6;
@@ -45,6 +46,20 @@ pub(crate) struct Places {
     pub(crate) spots: u32,
 }
 
+impl Places {
+    fn constant_at(&self, index: usize) -> Option<u32>
+        ensures { result ≡ slice_get self.now.constants.items index }
+    {
+        self.constants.get(index).copied()
+    }
+
+    fn unit_at(&self, unit: usize) -> Option<UnitPlace>
+        ensures { result ≡ slice_get self.now.units.items unit }
+    {
+        self.units.get(unit).copied()
+    }
+}
+
 // that many bytes, which were found to be a text
 fn text_in(len: usize, bytes: &[u8]) -> &str
     requires { IsRead (text_at len bytes.now) }
@@ -68,7 +83,7 @@ fn long_text_in(bytes: &[u8]) -> &str
 /// The slot and the name at a place.
 pub(crate) fn name_in(bytes: &[u8], at: u32) -> (u16, &str)
     requires { HasName bytes.now at }
-    ensures { record { slot = result.0; text = result.1.now } ≡ name_in bytes.now at }
+    ensures { name_ref_view result ≡ name_in bytes.now at }
 {
     let (_, front) = bytes.split_at(at as usize);
     let slot = u16_in(front);
@@ -158,49 +173,96 @@ fn spot_of(front: &[u8]) -> Spot
     }
 }
 
-impl Places {
+// the spot of an instruction in version 2
+fn spot_there(bytes: &[u8], places: &Places, number: usize) -> Option<Spot>
+    requires there { AreThere bytes.now places.now }
+    requires version { places.now.version ≡ variant.Two }
+    ensures { option_map spot_view result ≡ slice_get (code_in bytes.now places.now).spots number }
+{
+    if number >= places.instructions as usize {
+        return None;
+    }
+    let (_, spots) = bytes.split_at(places.spots as usize);
+    let (_, front) = spots.split_at(SPOT_BYTES * number);
+    Some(spot_of(front))
+}
+
+fn constant_start(_bytes: &[u8], places: &Places, index: usize) -> Option<usize>
+    requires { Spells _bytes.now places.now }
+    ensures { ConstantPlace (code_in _bytes.now places.now) index result }
+{
+    match places.constant_at(index) {
+        Some(at) => Some(at as usize),
+        None => None,
+    }
+}
+
+fn unit_start(_bytes: &[u8], places: &Places, unit: usize) -> Option<usize>
+    requires { Spells _bytes.now places.now }
+    ensures { UnitStart (code_in _bytes.now places.now) unit result }
+{
+    match places.unit_at(unit) {
+        Some(place) => Some(place.start as usize),
+        None => None,
+    }
+}
+
+/// The bytes of an image with the places of its parts, lent by an image or a view. Contracts see
+/// its code.
+#[derive(Drop)]
+pub(crate) struct Reader<'a> {
+    pub(crate) bytes: &'a [u8],
+    pub(crate) places: &'a Places,
+}
+
+impl<'a> Model for Reader<'a> {
+    ghost use Rattle.jt_image.specs.Code.{Code};
+
+    ghost Value = { Code };
+
+    ghost use Rattle.jt_image.specs.InPlace.{code_in, Spells};
+
+    ghost view = { λ r. code_in r.bytes.now r.places.now };
+
+    ghost invariant = { λ r. Spells r.bytes.now r.places.now };
+}
+
+impl<'a> Reader<'a> {
     /// The slot of a global, and its name.
-    pub(crate) fn name<'a>(&self, bytes: &'a [u8], index: usize) -> Option<(u16, &'a str)>
-        requires { AreThere bytes.now self.now }
-        ensures { option_map (λ n. record { slot = n.0; text = n.1.now }) result
-            ≡ slice_get (code_in bytes.now self.now).names index }
+    pub(crate) fn name(&self, index: usize) -> Option<(u16, &'a str)>
+        ensures { option_map name_ref_view result ≡ slice_get self.now.names index }
     {
-        match self.names.get(index) {
-            Some(at) => Some(name_in(bytes, *at)),
+        match self.places.names.get(index) {
+            Some(at) => Some(name_in(self.bytes, *at)),
             None => None,
         }
     }
 
     /// A constant.
-    pub(crate) fn constant<'a>(&self, bytes: &'a [u8], index: usize) -> Option<ConstantRef<'a>>
-        requires { AreThere bytes.now self.now }
-        ensures { option_map constant_ref_view result
-            ≡ slice_get (code_in bytes.now self.now).constants index }
+    pub(crate) fn constant(&self, index: usize) -> Option<ConstantRef<'a>>
+        ensures { option_map constant_ref_view result ≡ slice_get self.now.constants index }
     {
-        match self.constants.get(index) {
-            Some(at) => Some(constant_in(bytes, *at)),
+        match self.places.constants.get(index) {
+            Some(at) => Some(constant_in(self.bytes, *at)),
             None => None,
         }
     }
 
     /// A constant that is a number.
-    pub(crate) fn integer(&self, bytes: &[u8], index: usize) -> Option<i64>
-        requires { AreThere bytes.now self.now }
-        ensures { result ≡ option_and_then number_of
-            (slice_get (code_in bytes.now self.now).constants index) }
+    pub(crate) fn integer(&self, index: usize) -> Option<i64>
+        ensures { result ≡ option_and_then number_of (slice_get self.now.constants index) }
     {
-        match self.constants.get(index) {
-            Some(at) => integer_in(bytes, *at),
+        match self.places.constants.get(index) {
+            Some(at) => integer_in(self.bytes, *at),
             None => None,
         }
     }
 
     /// The numbers of a unit.
-    pub(crate) fn unit(&self, bytes: &[u8], unit: usize) -> Option<UnitHeader>
-        requires { AreThere bytes.now self.now }
-        ensures { result ≡ option_map header_of (slice_get (code_in bytes.now self.now).units unit) }
+    pub(crate) fn unit(&self, unit: usize) -> Option<UnitHeader>
+        ensures { result ≡ option_map header_of (slice_get self.now.units unit) }
     {
-        match self.units.get(unit) {
+        match self.places.units.get(unit) {
             Some(place) => Some(UnitHeader {
                 parameters: place.parameters,
                 kind: place.kind,
@@ -212,78 +274,54 @@ impl Places {
     }
 
     /// The instructions of a unit.
-    pub(crate) fn stretch<'a>(&self, bytes: &'a [u8], unit: usize) -> Option<Stretch<'a>>
-        requires { AreThere bytes.now self.now }
-        ensures { result ≡ option_map (λ u. u.code)
-            (slice_get (code_in bytes.now self.now).units unit) }
+    pub(crate) fn stretch(&self, unit: usize) -> Option<Stretch<'a>>
+        ensures { result ≡ option_map (λ u. u.code) (slice_get self.now.units unit) }
     {
-        match self.units.get(unit) {
-            Some(place) => Some(stretch_in(bytes, place)),
+        match self.places.units.get(unit) {
+            Some(place) => Some(stretch_in(self.bytes, place)),
             None => None,
         }
     }
 
     /// An instruction of a unit.
-    pub(crate) fn instruction(&self, bytes: &[u8], unit: usize, point: usize) -> Option<Instruction>
-        requires { AreThere bytes.now self.now }
-        ensures { result ≡ instruction_at (code_in bytes.now self.now) unit point }
+    pub(crate) fn instruction(&self, unit: usize, point: usize) -> Option<Instruction>
+        ensures { result ≡ instruction_at self.now unit point }
     {
-        match self.stretch(bytes, unit) {
+        match self.stretch(unit) {
             Some(stretch) => stretch.get(point),
             None => None,
         }
     }
 
     /// The name of a template.
-    pub(crate) fn template<'a>(&self, bytes: &'a [u8], index: usize) -> Option<&'a str>
-        requires { AreThere bytes.now self.now }
-        ensures { option_map (λ t. t.now) result
-            ≡ slice_get (code_in bytes.now self.now).templates index }
+    pub(crate) fn template(&self, index: usize) -> Option<&'a str>
+        ensures { option_map (λ t. t.now) result ≡ slice_get self.now.templates index }
     {
-        match self.templates.get(index) {
-            Some(at) => Some(template_in(bytes, *at)),
+        match self.places.templates.get(index) {
+            Some(at) => Some(template_in(self.bytes, *at)),
             None => None,
         }
     }
 
     // the spot of an instruction, by its number among all of them
-    fn spot(&self, bytes: &[u8], number: usize) -> Option<Spot>
-        requires { AreThere bytes.now self.now }
-        ensures { option_map spot_view result
-            ≡ slice_get (code_in bytes.now self.now).spots number }
+    fn spot(&self, number: usize) -> Option<Spot>
+        ensures { option_map spot_view result ≡ slice_get self.now.spots number }
     {
-        match self.version {
+        match self.places.version {
             Version::One => None,
-            Version::Two => self.spot_there(bytes, number),
+            Version::Two => spot_there(self.bytes, self.places, number),
         }
-    }
-
-    fn spot_there(&self, bytes: &[u8], number: usize) -> Option<Spot>
-        requires there { AreThere bytes.now self.now }
-        requires spots { AreSpots variant.Two (length self.now.templates.items) self.now.instructions
-            (drop self.now.spots bytes.now) }
-        ensures { option_map spot_view result
-            ≡ slice_get (spots_in variant.Two (length self.now.templates.items) self.now.instructions
-            (drop self.now.spots bytes.now)) number }
-    {
-        if number >= self.instructions as usize {
-            return None;
-        }
-        let (_, spots) = bytes.split_at(self.spots as usize);
-        let (_, front) = spots.split_at(SPOT_BYTES * number);
-        Some(spot_of(front))
     }
 
     // the place that a spot tells of
-    fn place_of<'a>(&self, bytes: &'a [u8], spot: Spot) -> Option<PlaceRef<'a>>
-        requires { AreThere bytes.now self.now }
+    fn place_of(&self, spot: Spot) -> Option<PlaceRef<'a>>
         ensures { option_map place_ref_view result
-            ≡ place_of (code_in bytes.now self.now).templates (spot_view spot) }
+            ≡ place_of self.now.templates (spot_view spot) }
     {
         if spot.template == 0 {
             return None;
         }
-        match self.template(bytes, usize::from(spot.template) - 1) {
+        match self.template(usize::from(spot.template) - 1) {
             Some(template) => Some(PlaceRef {
                 template,
                 line: spot.line,
@@ -292,70 +330,32 @@ impl Places {
         }
     }
 
-    fn constant_at(&self, index: usize) -> Option<u32>
-        ensures { result ≡ slice_get self.now.constants.items index }
-    {
-        self.constants.get(index).copied()
-    }
-
     /// Where a constant begins in the bytes.
-    pub(crate) fn constant_place(&self, _bytes: &[u8], index: usize) -> Option<usize>
-        requires { Spells _bytes.now self.now }
-        ensures { ConstantPlace (code_in _bytes.now self.now) index result }
+    pub(crate) fn constant_place(&self, index: usize) -> Option<usize>
+        ensures { ConstantPlace self.now index result }
     {
-        match self.constant_at(index) {
-            Some(at) => Some(at as usize),
-            None => None,
-        }
+        constant_start(self.bytes, self.places, index)
     }
 
     /// Where the instructions of a unit begin in the bytes.
-    pub(crate) fn unit_start(&self, _bytes: &[u8], unit: usize) -> Option<usize>
-        requires { Spells _bytes.now self.now }
-        ensures { UnitStart (code_in _bytes.now self.now) unit result }
+    pub(crate) fn unit_start(&self, unit: usize) -> Option<usize>
+        ensures { UnitStart self.now unit result }
     {
-        match self.unit_place(unit) {
-            Some(place) => Some(place.start as usize),
-            None => None,
-        }
-    }
-
-    fn unit_place(&self, unit: usize) -> Option<UnitPlace>
-        ensures { result ≡ slice_get self.now.units.items unit }
-    {
-        self.units.get(unit).copied()
-    }
-
-    fn place_in<'a>(&self, bytes: &'a [u8], unit: &UnitPlace, point: usize) -> Option<PlaceRef<'a>>
-        requires { AreThere bytes.now self.now }
-        ensures { option_map place_ref_view result
-            ≡ (if nat_lt point unit.now.len
-            then option_and_then (place_of (code_in bytes.now self.now).templates)
-            (slice_get (code_in bytes.now self.now).spots (unit.now.first + point))
-            else None) }
-    {
-        if point >= unit.len as usize {
-            return None;
-        }
-        match self.spot(bytes, unit.first as usize + point) {
-            Some(spot) => self.place_of(bytes, spot),
-            None => None,
-        }
+        unit_start(self.bytes, self.places, unit)
     }
 
     /// The place of an instruction of a unit.
-    pub(crate) fn place<'a>(
-        &self,
-        bytes: &'a [u8],
-        unit: usize,
-        point: usize,
-    ) -> Option<PlaceRef<'a>>
-        requires { AreThere bytes.now self.now }
-        ensures { option_map place_ref_view result
-            ≡ place_there (code_in bytes.now self.now) unit point }
+    pub(crate) fn place(&self, unit: usize, point: usize) -> Option<PlaceRef<'a>>
+        ensures { option_map place_ref_view result ≡ place_there self.now unit point }
     {
-        match self.unit_place(unit) {
-            Some(place) => self.place_in(bytes, &place, point),
+        let Some(place) = self.places.unit_at(unit) else {
+            return None;
+        };
+        if point >= place.len as usize {
+            return None;
+        }
+        match self.spot(place.first as usize + point) {
+            Some(spot) => self.place_of(spot),
             None => None,
         }
     }

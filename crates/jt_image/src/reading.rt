@@ -1,12 +1,8 @@
 //! The one pass over an image's bytes, from left to right.
-ghost use Rattle.std.specs.Prelude.{◌≡◌, ◌==◌, nat_le, List, length, IfOk, MatchResult, Ok, Err, true};
+ghost use Rattle.std.specs.Prelude.{◌≡◌, ◌==◌, nat_le, List, length, IfOk, Ok, Err, true};
 ghost use Rattle.std.specs.Int.{w16};
-ghost use Rattle.jt_image.specs.Code.{Code};
-ghost use Rattle.jt_image.specs.IsCode.{IsCode};
-ghost use Rattle.jt_image.specs.Spelling.{spelling};
-ghost use Rattle.jt_image.specs.declared.error.ImageError.TheVariants.{NoMemory};
 ghost use Rattle.jt_image.specs.InPlace.{code_in, Spells};
-ghost use Rattle.jt_image.specs.Reading.{Gives, code_of};
+ghost use Rattle.jt_image.specs.Reading.{Gives, ReadsSpelling, code_of};
 
 use crate::back::back_at;
 use crate::error::ImageError;
@@ -51,10 +47,7 @@ pub(crate) fn read(alloc: Global, bytes: &[u8]) -> Result<Places, ImageError>
     ensures gives { Gives (code_in bytes.now) result (code_of bytes.now) }
     ensures spells { IfOk result (Spells bytes.now) }
     // the spelling of a code is read as that code, unless memory runs out
-    ensures only { (k : Code)
-        → IsCode k
-        → bytes.now ≡ spelling k
-        → MatchResult result (λ p. code_in bytes.now p ≡ k) (λ e. e ≡ NoMemory) }
+    ensures only { ReadsSpelling (code_in bytes.now) bytes.now result }
 {
     read_through(alloc, bytes)
 }

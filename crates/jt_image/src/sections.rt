@@ -1,8 +1,7 @@
 //! Reading the instructions of units: what stays of them is where those of each unit begin.
 ghost use Rattle.std.specs.Prelude.{◌≡◌, ◌≤◌, length, IfOk};
-ghost use Rattle.std.specs.List.{AllByRecursion};
 ghost use Rattle.jt_image.specs.HeaderView.{header_view, headers_view};
-ghost use Rattle.jt_image.specs.InPlace.{instructions_in, section_in, sections_in, HasUnit, AreCounted, AreLast};
+ghost use Rattle.jt_image.specs.InPlace.{instructions_in, section_in, sections_in, HasUnit, AreCounted, AreLast, AreRead};
 ghost use Rattle.jt_image.specs.IsCode.{total_len, max_instructions};
 ghost use Rattle.jt_image.specs.Reading.{Gives, header_total, instructions_at, section_at, sections_at, units_at};
 
@@ -39,7 +38,7 @@ fn place_at<'a>(
     bytes: &[u8],
     front: &'a [u8],
 ) -> Result<(UnitPlace, &'a [u8]), ImageError>
-    requires last { AreLast bytes.now front.now }
+    requires { AreLast bytes.now front.now }
     ensures gives { Gives (λ x. (section_in bytes.now x.0, x.1.now)) result
         (section_at (header_view header.now) front.now) }
     ensures there { IfOk result (λ x. HasUnit bytes.now x.0) }
@@ -68,9 +67,8 @@ fn places_at<'a>(
     requires within { header_total (headers_view headers.now) ≤ max_instructions }
     ensures gives { Gives (λ x. (sections_in bytes.now x.0.items, x.1.now)) result
         (sections_at (headers_view headers.now) front.now) }
-    ensures there { IfOk result (λ x. AllByRecursion (HasUnit bytes.now) x.0.items) }
+    ensures read { IfOk result (λ x. AreRead (HasUnit bytes.now) bytes.now x.0.items x.1.now) }
     ensures counted { IfOk result (λ x. AreCounted 0 x.0.items) }
-    ensures last { IfOk result (λ x. AreLast bytes.now x.1.now) }
 {
     let mut places: Vec<UnitPlace> = Vec::new(alloc);
     let mut rest = front;
@@ -91,14 +89,14 @@ pub(crate) fn units_at<'a>(
     bytes: &[u8],
     front: &'a [u8],
 ) -> Result<(Units, &'a [u8]), ImageError>
-    requires last { AreLast bytes.now front.now }
+    requires { AreLast bytes.now front.now }
     ensures gives { Gives (λ x. (sections_in bytes.now x.0.items.items, x.1.now)) result
         (units_at front.now) }
     ensures total { IfOk result
         (λ x. x.0.instructions ≡ total_len (sections_in bytes.now x.0.items.items)) }
-    ensures there { IfOk result (λ x. AllByRecursion (HasUnit bytes.now) x.0.items.items) }
+    ensures read { IfOk result
+        (λ x. AreRead (HasUnit bytes.now) bytes.now x.0.items.items x.1.now) }
     ensures counted { IfOk result (λ x. AreCounted 0 x.0.items.items) }
-    ensures last { IfOk result (λ x. AreLast bytes.now x.1.now) }
 {
     let (count, rest) = u16_at(front)?;
     if count == 0 {

@@ -1,14 +1,14 @@
 //! Reading the tables of names and constants: what stays of them are their places in the bytes.
-ghost use Rattle.std.specs.Prelude.{◌≡◌, ◌<◌, ◌≤◌, ◌==◌, ◌&&◌, not, nat_lt, List, length, IfOk, Ok, Some, None, [], true, Err};
+ghost use Rattle.std.specs.Prelude.{◌≡◌, ◌<◌, ◌≤◌, ◌==◌, ◌&&◌, not, nat_lt, List, length, option_map, IfOk, Ok, Some, None, [], true, Err};
 ghost use Rattle.std.specs.Int.{w16, w64, cast_signed};
 ghost use Rattle.std.specs.List.{AllByRecursion};
-ghost use Rattle.jt_image.specs.InPlace.{names_in, HasName, constants_in, HasConstant, AreLast};
+ghost use Rattle.jt_image.specs.InPlace.{names_in, HasName, constants_in, HasConstant, AreLast, AreRead};
 ghost use Rattle.jt_image.specs.Readers.{constant_ref_view, name_ref_view};
-ghost use Rattle.jt_image.specs.Reading.{Gives, IsTable, is_used, may_follow, slot_at, name_text_at, name_at, names_at, all_names_at, constant_of, constant_at, all_constants_at};
+ghost use Rattle.jt_image.specs.Reading.{Gives, IsTable, is_used, last_name, slot_at, name_at, all_names_at, constant_of, constant_at, all_constants_at};
 
 use crate::code::ConstantRef;
 use crate::error::ImageError;
-use crate::fields::{long_text_at, text_at, u8_at, u16_at, u64_at};
+use crate::fields::{long_text_at, text_behind, u8_at, u16_at, u64_at};
 use crate::places::name_in;
 use std::alloc::Global;
 
@@ -36,32 +36,14 @@ fn slot_at<'a>(
     Ok((slot, rest))
 }
 
-fn may_follow(bytes: &[u8], names: &[u32], text: &str) -> bool
+fn last_name<'a>(bytes: &'a [u8], names: &[u32]) -> Option<&'a str>
     requires { AllByRecursion (HasName bytes.now) names.now }
-    ensures { result ≡ may_follow (names_in bytes.now names.now) text.now }
+    ensures { option_map (λ t. t.now) result ≡ last_name (names_in bytes.now names.now) }
 {
     match names {
-        [] => !text.is_empty(),
-        [.., last] => name_in(bytes, *last).1 < text,
+        [] => None,
+        [.., last] => Some(name_in(bytes, *last).1),
     }
-}
-
-#[tactic(auto, unfolding(crate::specs::Reading::name_text_at))]
-fn name_text_at<'a>(
-    bytes: &[u8],
-    before: &[u32],
-    rest: &'a [u8],
-) -> Result<(&'a str, &'a [u8]), ImageError>
-    requires { AllByRecursion (HasName bytes.now) before.now }
-    ensures { Gives (λ x. (x.0.now, x.1.now)) result
-        (name_text_at (names_in bytes.now before.now) rest.now) }
-{
-    let (len, rest) = u16_at(rest)?;
-    let (text, rest) = text_at(len as usize, rest)?;
-    if !may_follow(bytes, before, text) {
-        return Err(ImageError::BadTable);
-    }
-    Ok((text, rest))
 }
 
 #[tactic(auto, unfolding(crate::specs::Reading::name_at))]
@@ -79,33 +61,8 @@ fn name_at<'a>(
     ensures below { IfOk result (λ x. x.0.0 < globals) }
 {
     let (slot, rest) = slot_at(globals, used, bytes, before, rest)?;
-    let (text, rest) = name_text_at(bytes, before, rest)?;
+    let (text, rest) = text_behind(last_name(bytes, before), rest)?;
     Ok(((slot, text), rest))
-}
-
-fn names_at<'a>(
-    alloc: Global,
-    globals: u16,
-    count: u16,
-    bytes: &[u8],
-    front: &'a [u8],
-) -> Result<(Vec<u32>, &'a [u8]), ImageError>
-    requires last { AreLast bytes.now front.now }
-    ensures gives { Gives (λ x. (names_in bytes.now x.0.items, x.1.now)) result
-        (names_at globals count front.now) }
-    ensures there { IfOk result (λ x. AllByRecursion (HasName bytes.now) x.0.items) }
-    ensures last { IfOk result (λ x. AreLast bytes.now x.1.now) }
-{
-    let mut names: Vec<u32> = Vec::new(alloc);
-    let mut used = vec![in alloc; false; usize::from(globals)]?;
-    let mut rest = front;
-    'names: for _ in 0..count {
-        let (name, after) = name_at(globals, &used, bytes, &names, rest)?;
-        used[usize::from(name.0)] = true;
-        names.push((bytes.len() - rest.len()) as u32)?;
-        rest = after;
-    }
-    Ok((names, rest))
 }
 
 /// The names of globals.
@@ -116,14 +73,22 @@ pub(crate) fn all_names_at<'a>(
     bytes: &[u8],
     front: &'a [u8],
 ) -> Result<(Vec<u32>, &'a [u8]), ImageError>
-    requires last { AreLast bytes.now front.now }
+    requires { AreLast bytes.now front.now }
     ensures gives { Gives (λ x. (names_in bytes.now x.0.items, x.1.now)) result
         (all_names_at globals front.now) }
-    ensures there { IfOk result (λ x. AllByRecursion (HasName bytes.now) x.0.items) }
-    ensures last { IfOk result (λ x. AreLast bytes.now x.1.now) }
+    ensures read { IfOk result (λ x. AreRead (HasName bytes.now) bytes.now x.0.items x.1.now) }
 {
-    let (count, rest) = u16_at(front)?;
-    names_at(alloc, globals, count, bytes, rest)
+    let (count, start) = u16_at(front)?;
+    let mut names: Vec<u32> = Vec::new(alloc);
+    let mut used = vec![in alloc; false; usize::from(globals)]?;
+    let mut rest = start;
+    'names: for _ in 0..count {
+        let (name, after) = name_at(globals, &used, bytes, &names, rest)?;
+        used[usize::from(name.0)] = true;
+        names.push((bytes.len() - rest.len()) as u32)?;
+        rest = after;
+    }
+    Ok((names, rest))
 }
 
 #[tactic(auto, unfolding(crate::specs::Reading::constant_of))]
@@ -166,11 +131,11 @@ pub(crate) fn all_constants_at<'a>(
     bytes: &[u8],
     front: &'a [u8],
 ) -> Result<(Vec<u32>, &'a [u8]), ImageError>
-    requires last { AreLast bytes.now front.now }
+    requires { AreLast bytes.now front.now }
     ensures gives { Gives (λ x. (constants_in bytes.now x.0.items, x.1.now)) result
         (all_constants_at front.now) }
-    ensures there { IfOk result (λ x. AllByRecursion (HasConstant bytes.now) x.0.items) }
-    ensures last { IfOk result (λ x. AreLast bytes.now x.1.now) }
+    ensures read { IfOk result
+        (λ x. AreRead (HasConstant bytes.now) bytes.now x.0.items x.1.now) }
 {
     let (count, start) = u16_at(front)?;
     let mut constants: Vec<u32> = Vec::new(alloc);

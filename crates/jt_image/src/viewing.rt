@@ -1,10 +1,8 @@
 //! Bytes to views.
-ghost use Rattle.std.specs.Prelude.{◌≡◌, IfOk, MatchResult};
-ghost use Rattle.jt_image.specs.Code.{Code};
+ghost use Rattle.std.specs.Prelude.{◌≡◌, IfOk};
 ghost use Rattle.jt_image.specs.Spelling.{spelling};
 ghost use Rattle.jt_image.specs.IsCode.{IsCode};
-ghost use Rattle.jt_image.specs.declared.error.ImageError.TheVariants.{NoMemory};
-ghost use Rattle.jt_image.specs.Reading.{Gives, code_of};
+ghost use Rattle.jt_image.specs.Reading.{Gives, ReadsSpelling, code_of};
 
 use crate::error::ImageError;
 use crate::in_place::View;
@@ -19,10 +17,7 @@ pub fn view(alloc: Global, bytes: &[u8]) -> Result<View<'_>, ImageError>
     // what is read is a code, and the bytes are its spelling
     ensures found { IfOk result (λ v. IsCode v × (bytes.now ≡ spelling v)) }
     // the spelling of a code is read as that code, unless memory runs out
-    ensures only { (k : Code)
-        → IsCode k
-        → bytes.now ≡ spelling k
-        → MatchResult result (λ v. v ≡ k) (λ e. e ≡ NoMemory) }
+    ensures only { ReadsSpelling (λ v. v) bytes.now result }
 {
     let places = read(alloc, bytes)?;
     Ok(View { bytes, places })

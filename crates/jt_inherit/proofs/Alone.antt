@@ -21,9 +21,10 @@ use Rattle.jt_inherit.specs.declared.sets.Names.{Names}
 use Rattle.jt_inherit.specs.Ways.{AreKnown, IsWay, AddsName, BreaksAll, KnowPages}
 use Rattle.jt_inherit.specs.declared.error.ChainError.{ChainError}
 use Rattle.jt_inherit.specs.declared.error.ChainError.TheVariants as error
-use Rattle.jt_inherit.proofs.Among.{reflexive, among_front}
 use Rattle.jt_inherit.proofs.Leads.{names, length_names, name_of_slice, asked_breaks}
 use Rattle.jt_chains.proofs.Placed.{map_at, only_one}
+use Rattle.jt_inherit.proofs.Among.{of_texts, reflexive}
+use Rattle.jt_inherit.proofs.Members.{among_front}
 
 module _ (ps : List Page) (once : repeated (names (pages_view ps)) ≡ false) {n : Text} (i : ℕ) {p : Page} (at : slice_get (names (pages_view ps)) i ≡ Some n) (is_there : p ≡ get_or ps i p) where
   abbrev ts : List Template
@@ -58,4 +59,4 @@ module _ (ps : List Page) (once : repeated (names (pages_view ps)) ≡ false) {n
 -- a refusal of its source
 pub alone_breaks : (given : Given) (options : Options) (root : Text) (ts : List Template) {ks : List Text} → AreKnown given options ts ks → (n : Text) → Reaches (sources_in ts) options.autoescape (a_chain root) (a_library n)
     → (e : ChainError) → IsFaultOf e given n options → Breaks e given root options
-alone_breaks given options root ts known n r e f = search (arith, rules, among_front, reflexive, asked_breaks)
+alone_breaks given options root ts known n r e f = search (arith, rules, among_front of_texts, reflexive, asked_breaks)

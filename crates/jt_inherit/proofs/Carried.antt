@@ -16,10 +16,11 @@ use Rattle.jt_inherit.specs.Checks.{lacks_body, lacks_next}
 use Rattle.jt_inherit.specs.Kept.{their_blocks, their_macros, any_double, any_lacks_macros, names_from, imported_names}
 use Rattle.jt_chains.specs.Rules as rules
 use Rattle.jt_chains.specs.Rules.{Asks, Reaches, here, InSomeChain, is_whole, way, BadName, ExtendsCycle, ChainTooLong, DoubleBlock, RequiredNotGiven, NoSuper, IncludeCycle, MacroTwice, NoMacro, NotALibrary}
-use Rattle.jt_inherit.proofs.Among.{reflexive, or_true, or_false, both_false, among_front, among_behind}
 use Rattle.jt_inherit.proofs.Growing.{Carries, carries_up, front_carried, up_more, up_some, flat-append, on_way, on_first, on_libraries, way_more, home_more, included_more, reaches_more, reaches_next, asked_more}
 use Rattle.jt_inherit.proofs.Imported.{all_imported, own_named}
 use Rattle.jt_inherit.proofs.OnWay.{and_true}
+use Rattle.jt_inherit.proofs.Among.{of_texts, reflexive}
+use Rattle.jt_inherit.proofs.Members.{among_behind, among_front, both_false, or_false, or_true}
 
 -- ---- tests of the first elements
 
@@ -35,7 +36,7 @@ none_front p (x ∷ xs) ys h =
 
 pub repeated_front : (xs ys : List Text) → repeated xs ≡ true → repeated (xs ++ ys) ≡ true
 repeated_front [] ys h = absurd (cc)
-repeated_front (x ∷ xs) ys h = search (arith, rules, repeated_front xs ys, among_front, or_true)
+repeated_front (x ∷ xs) ys h = search (arith, rules, repeated_front xs ys, among_front of_texts, or_true)
 
 both_true : (a b : Bool) → (a && b) ≡ true → (a ≡ true) × (b ≡ true)
 both_true true b h = (refl, h)
@@ -183,15 +184,15 @@ module _ (s r : Sources) where
   all_imports : (ts : List Template) → Carries s r (flat_map (λ t. libraries_in t.body) ts) → Within (flat_map (λ t. imported_names s t.body) ts) (flat_map (λ t. imported_names r t.body) ts)
   all_imports [] g = none
   all_imports (t ∷ ts) g = within_both
-      (in_imports t.body (λ m a. g m (among_front m (libraries_in t.body) (flat_map (λ u. libraries_in u.body) ts) a)))
-      (all_imports ts (λ m a. g m (among_behind m (libraries_in t.body) (flat_map (λ u. libraries_in u.body) ts) a)))
+      (in_imports t.body (λ m a. g m (among_front of_texts m (libraries_in t.body) (flat_map (λ u. libraries_in u.body) ts) a)))
+      (all_imports ts (λ m a. g m (among_behind of_texts m (libraries_in t.body) (flat_map (λ u. libraries_in u.body) ts) a)))
 
   all_lacking : (ts : List Template) → Carries s r (flat_map (λ t. libraries_in t.body) ts) → any_lacks_macros s ts ≡ true → any_lacks_macros r ts ≡ true
   all_lacking [] g h = h
-  all_lacking (t ∷ ts) g h = by (rules.lacks_macros s t.body) refl (all_lacking ts (λ m a. g m (among_behind m (libraries_in t.body) (flat_map (λ u. libraries_in u.body) ts) a)))
+  all_lacking (t ∷ ts) g h = by (rules.lacks_macros s t.body) refl (all_lacking ts (λ m a. g m (among_behind of_texts m (libraries_in t.body) (flat_map (λ u. libraries_in u.body) ts) a)))
     where
       by : (c : Bool) → rules.lacks_macros s t.body ≡ c → (any_lacks_macros s ts ≡ true → any_lacks_macros r ts ≡ true) → (rules.lacks_macros r t.body || any_lacks_macros r ts) ≡ true
-      by true e f = ap (λ c. c || any_lacks_macros r ts) (lacking t.body (λ m a. g m (among_front m (libraries_in t.body) (flat_map (λ u. libraries_in u.body) ts) a)) e)
+      by true e f = ap (λ c. c || any_lacks_macros r ts) (lacking t.body (λ m a. g m (among_front of_texts m (libraries_in t.body) (flat_map (λ u. libraries_in u.body) ts) a)) e)
       by false e f = or_true (rules.lacks_macros r t.body) (any_lacks_macros r ts) (f (sym (ap (λ c. c || any_lacks_macros s ts) e) ∙ h))
 
 -- the names that are given
@@ -336,7 +337,7 @@ module _ (s r : Sources) (e : Bool) (entry : Home) (g : (n : Text) (b : Body) �
           let f : Template → List Text = λ u. libraries_in u.body in
           ap (any_lacks_macros r) more.1
           ∙ any_front (λ u. rules.lacks_macros r u.body) (templates s h) more.0
-          (all_lacking s r (templates s h) (λ k a. on_libraries s r e entry g h p k (ap (λ vs. among k (flat_map f vs)) more.1 ∙ ap (among k) (flat-append f (templates s h) more.0) ∙ among_front k (flat_map f (templates s h)) (flat_map f more.0) a)) t)
+          (all_lacking s r (templates s h) (λ k a. on_libraries s r e entry g h p k (ap (λ vs. among k (flat_map f vs)) more.1 ∙ ap (among k) (flat-append f (templates s h) more.0) ∙ among_front of_texts k (flat_map f (templates s h)) (flat_map f more.0) a)) t)
 
   pub not_a_library : NotALibrary s e entry → NotALibrary r e entry
   not_a_library x = search (arith, rules, there, on_way, reflexive)

@@ -25,7 +25,8 @@ use Rattle.jt_chains.specs.declared.parts.Block.{Block}
 use Rattle.jt_chains.specs.Rules.{is_required, lacks_super, is_empty}
 use Rattle.jt_chains.specs.Supers.{calls_super}
 use Rattle.jt_inherit.specs.SetView.{texts}
-use Rattle.jt_inherit.proofs.Among.{same, reflexive, symmetric, or_false, or_true, both_false, among_next, once_more}
+use Rattle.jt_inherit.proofs.Among.{of_texts, reflexive, same, symmetric}
+use Rattle.jt_inherit.proofs.Members.{among_next, both_false, once_more, or_false, or_true}
 
 -- ---- a set of texts
 
@@ -49,7 +50,7 @@ name_more m n k u x =
 
 pub again : (x : Text) (xs ys : List Text) → among x xs ≡ true → repeated (xs ++ x ∷ ys) ≡ true
 again x [] ys h = absurd (cc)
-again x (y ∷ xs) ys h = search (arith, rules, again x xs ys, same, among_next, or_true)
+again x (y ∷ xs) ys h = search (arith, rules, again x xs ys, same, among_next of_texts, or_true)
 
 -- ---- the nearest body
 
@@ -174,7 +175,7 @@ module _ {X : Type 0} (f : X → Text) (xs : List X) (i : ℕ) (x : X) (lt : i <
   repeat_goes ks ms b e o k m off =
       let taken : map f (take (i + 1) xs) ≡ map f (take i xs) ++ f x ∷ [] = ap (map f) (take_next xs i x lt is) ∙ map-append f (take i xs) (x ∷ []) in (
         λ y. among_set ks ms (map f (take i xs)) (f x) e m y ∙ ap (among y) (sym taken),
-        ap repeated taken ∙ once_more (f x) (map f (take i xs)) o (sym (e (f x)) ∙ sym k ∙ off),
+        ap repeated taken ∙ once_more of_texts (f x) (map f (take i xs)) o (sym (e (f x)) ∙ sym k ∙ off),
       )
 
 -- ---- bodies in a row

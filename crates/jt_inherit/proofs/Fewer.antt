@@ -10,8 +10,8 @@ use Rattle.jt_chains.specs.Includes.{needs_by, needs_in, needs_under, included, 
 use Rattle.jt_chains.specs.Rules.{Reaches, here, through}
 use Rattle.jt_chains.specs.Weights.{templates_weight, chains_weight}
 use Rattle.jt_inherit.specs.Found.{twice}
-use Rattle.jt_inherit.proofs.Among.{both_false}
-use Rattle.jt_inherit.proofs.Homes.{same, reflexive, listed_front, listed_behind, no_more}
+use Rattle.jt_inherit.proofs.Homes.{of_homes, reflexive, same}
+use Rattle.jt_inherit.proofs.Members.{among_behind, among_front, both_false, no_more}
 
 -- ---- tags
 
@@ -111,8 +111,8 @@ module _ (sources : Sources) where
   listed_flat h k (g ∷ gs) e i = by (same_home g k) refl e (λ f. listed_flat h k gs f i)
     where
       by : (b : Bool) → same_home g k ≡ b → (b || listed k gs) ≡ true → (listed k gs ≡ true → listed h (flat_map (included sources) gs) ≡ true) → listed h (included sources g ++ flat_map (included sources) gs) ≡ true
-      by true is f later = listed_front h (included sources g) (flat_map (included sources) gs) (subst (λ x. listed h (included sources x) ≡ true) (sym (same g k is)) i)
-      by false is f later = listed_behind h (included sources g) (flat_map (included sources) gs) (later f)
+      by true is f later = among_front of_homes h (included sources g) (flat_map (included sources) gs) (subst (λ x. listed h (included sources x) ≡ true) (sym (same g k is)) i)
+      by false is f later = among_behind of_homes h (included sources g) (flat_map (included sources) gs) (later f)
 
 -- ---- the whole
 
@@ -129,7 +129,7 @@ pub few_chains : (sources : Sources) (escaping : Bool) (entry : Home) (rest : Li
     → 7 * length (entry ∷ rest) ≤ chains_weight sources (entry ∷ rest) + 7
 few_chains sources escaping entry rest o reached =
     let order = entry ∷ rest in
-    let fewer = no_more rest (flat_map (included sources) order) (once_in_order sources rest o.1.1) (λ h e. placed h e (tagged sources escaping order o (reached h (later sources h (same_home entry h) rest e)) (ap (λ b. b || listed entry rest) (reflexive entry)))) in
+    let fewer = no_more of_homes rest (flat_map (included sources) order) (once_in_order sources rest o.1.1) (λ h e. placed h e (tagged sources escaping order o (reached h (later sources h (same_home entry h) rest e)) (ap (λ b. b || listed entry rest) (reflexive entry)))) in
     omega (arith, fewer, includes_weigh sources order)
   where
     placed : (h : Home) → listed h rest ≡ true → (h ≡ entry) ⊎ HasTag sources (entry ∷ rest) h → listed h (flat_map (included sources) (entry ∷ rest)) ≡ true

@@ -20,8 +20,6 @@ use Rattle.jt_chains.specs.Rules.{Asks, Reaches, here, asked, way}
 use Rattle.jt_inherit.specs.Ways.{AreKnown, IsWay}
 use Rattle.jt_inherit.specs.declared.error.ChainError.{ChainError}
 use Rattle.jt_inherit.specs.declared.error.ChainError.TheVariants as error
-use Rattle.jt_inherit.proofs.Among.{same, both_false, among_front, among_behind}
-use Rattle.jt_inherit.proofs.Homes.{only_listed, place_listed}
 use Rattle.jt_inherit.proofs.Imported.{all_imports, imports_needed, imports_chosen, all_includes, includes_chosen, none_imported}
 use Rattle.jt_inherit.proofs.Following.{met_grows, numbers_grow, chosen-append}
 use Rattle.jt_inherit.proofs.Growing.{reach_more, ask_more, reaches_next}
@@ -33,6 +31,9 @@ use Rattle.jt_chains.specs.Pages.{page_view, pages_view}
 use Rattle.jt_inherit.specs.SetView.{key_view, keys_view}
 use Rattle.jt_inherit.specs.declared.sets.HomeKey.{HomeKey}
 use Rattle.jt_chains.specs.declared.pages.Page.{Page}
+use Rattle.jt_inherit.proofs.Among.{of_texts, same}
+use Rattle.jt_inherit.proofs.Homes.{of_homes}
+use Rattle.jt_inherit.proofs.Members.{among_behind, among_front, both_false, only_among, placed_among}
 
 -- ---- templates at places
 
@@ -110,10 +111,10 @@ module _ (ts : List Template) (e : Bool) (h : Home) (is : List ℕ) (w : IsWay t
 
   -- each template on the way, and each that is included or imported
   pub asks_way : (n : Text) → among n (names (templates_at ts is)) ≡ true → among n (asked (sources_in ts) e true h) ≡ true
-  asks_way n a = ap (among n) (asked_way true) ∙ among_front n (names (templates_at ts is)) (needed true (needs_along ts is)) a
+  asks_way n a = ap (among n) (asked_way true) ∙ among_front of_texts n (names (templates_at ts is)) (needed true (needs_along ts is)) a
 
   pub asks_needed : (all : Bool) (n : Text) → among n (needed all (needs_along ts is)) ≡ true → among n (asked (sources_in ts) e all h) ≡ true
-  asks_needed all n a = ap (among n) (asked_way all) ∙ among_behind n (names (templates_at ts is)) (needed all (needs_along ts is)) a
+  asks_needed all n a = ap (among n) (asked_way all) ∙ among_behind of_texts n (names (templates_at ts is)) (needed all (needs_along ts is)) a
 
 pub none_read : (given : Given) (options : Options) (ts : List Template) (n : Text) → AllByRecursion (IsRead given options) ts → given n ≡ None → among n (names ts) ≡ false
 none_read given options [] n a e = refl
@@ -122,7 +123,7 @@ none_read given options (t ∷ ts) n a e = search (arith, rules, none_read given
 -- what may be missing, and is, stays so
 chosen_same : (given : Given) (ks ms : List Text) → ((n : Text) → given n ≡ None → among n (ks ++ ms) ≡ false) → (ns : List Need) → AllByRecursion (IsMet given ks) ns → chosen (ks ++ ms) ns ≡ chosen ks ns
 chosen_same given ks ms absent [] a = refl
-chosen_same given ks ms absent (n ∷ ns) a = search (arith, rules, among_front, chosen_same given ks ms absent ns a.1)
+chosen_same given ks ms absent (n ∷ ns) a = search (arith, rules, among_front of_texts, chosen_same given ks ms absent ns a.1)
 
 -- ---- those that were followed
 
@@ -179,7 +180,7 @@ at_front (y ∷ xs) ys (suc i) x e = at_front xs ys i x e
 module _ {given : Given} {options : Options} {root : Text} {ts0 : List Template} {ks0 : List Text} {hs : List Home} {ws ns : List (List ℕ)} (f : AreFound given options root ts0 ks0 hs ws ns) {h : Home} (at : slice_get hs (length ws) ≡ Some h)
     {ts1 : List Template} (more : (m1 : List Template) × (ts1 ≡ ts0 ++ m1)) {is : List ℕ} (w : IsWay ts1 h is None) where
   pub reached_here : Reaches (sources_in ts1) options.autoescape (a_chain root) h
-  reached_here = reach_more ts0 ts1 more.0 options.autoescape (a_chain root) h more.1 (f.reached h (place_listed hs (length ws) h at))
+  reached_here = reach_more ts0 ts1 more.0 options.autoescape (a_chain root) h more.1 (f.reached h (placed_among of_homes hs (length ws) h at))
 
   -- a refusal of what it includes or imports
   pub need_breaks : AreKnown given options ts1 (names ts1) → (e : ChainError) → (e ≡ error.NoMemory) ⊎ IsNeedFault given options (needs_along ts1 is) e → Breaks e given root options
@@ -265,7 +266,7 @@ found_first given options entry root ts ks hs ws ns eh er et ek ew en =
       first = refl;
       once = refl;
       few = omega arith;
-      reached = λ x a. subst (λ z. Reaches (sources_in []) options.autoescape (a_chain entry) z) (only_listed (a_chain entry) x a) here;
+      reached = λ x a. subst (λ z. Reaches (sources_in []) options.autoescape (a_chain entry) z) (only_among of_homes (a_chain entry) x a) here;
       followed = tt;
     }))))))
 

@@ -14,18 +14,9 @@ use Rattle.jt_inherit.specs.Needs.{Need, needed, need_home, need_view, needs_vie
 use Rattle.jt_inherit.specs.declared.error.ChainError.{ChainError}
 use Rattle.jt_inherit.specs.declared.error.ChainError.TheVariants as error
 use Rattle.jt_inherit.specs.declared.statements.Include.{Include}
-use Rattle.jt_inherit.proofs.Among as names
-use Rattle.jt_inherit.proofs.Among.{reflexive, or_true, or_false, both_false, among_front, among_behind, among_cases, only_among}
-use Rattle.jt_inherit.proofs.Homes.{once_more, listed_front, listed_behind, listed_cases, chain_among}
-
--- ---- names among others
-
-pub text_among : (xs : List Text) (i : ℕ) (x : Text) → slice_get xs i ≡ Some x → among x xs ≡ true
-text_among [] i x e = absurd (cc)
-text_among (y ∷ xs) zero x e =
-    let h : y ≡ x = cc in
-    ap (λ b. b || among x xs) (ap (λ z. bytes_eq z x) h ∙ reflexive x)
-text_among (y ∷ xs) (suc i) x e = or_true (bytes_eq y x) (among x xs) (text_among xs i x e)
+use Rattle.jt_inherit.proofs.Among.{of_texts, reflexive}
+use Rattle.jt_inherit.proofs.Homes.{chain_among, of_homes}
+use Rattle.jt_inherit.proofs.Members.{among_behind, among_cases, among_front, both_false, once_more, only_among, or_false}
 
 -- ---- those that are known
 
@@ -48,7 +39,7 @@ next_there hs x i once few at = record { more = []; grown = sym (append-nil hs);
 
 -- one that is new
 pub next_new : (old new : List Home) (x : Home) (i : ℕ) → new ≡ old ++ x ∷ [] → twice old ≡ false → listed x old ≡ false → length (chains_of new) ≤ 1024 → i ≡ length old → AreNext old new (x ∷ []) (i ∷ [])
-next_new old new x i is once h few at = search (arith, rules, once_more, listed_cases, last_at)
+next_new old new x i is once h few at = search (arith, rules, once_more of_homes, among_cases of_homes, last_at)
 
 at_front : (xs ys : List Home) (i : ℕ) (x : Home) → slice_get xs i ≡ Some x → slice_get (xs ++ ys) i ≡ Some x
 at_front [] ys i x e = absurd (cc)
@@ -62,18 +53,18 @@ numbers_grow xs ys (i ∷ is) [] e = absurd (cc)
 numbers_grow xs ys (i ∷ is) (n ∷ ns) e = search (arith, rules, at_front, numbers_grow xs ys is ns)
 
 pub next_both : (a b c xs ys : List Home) (is js : List ℕ) → AreNext a b xs is → AreNext b c ys js → AreNext a c (xs ++ ys) (is ++ js)
-next_both a b c xs ys is js p q = search (arith, rules, append_assoc, listed_front, listed_behind, map-append, numbers_grow)
+next_both a b c xs ys is js p q = search (arith, rules, append_assoc, among_front of_homes, among_behind of_homes, map-append, numbers_grow)
 
 -- a refusal at a name is one of all names
 pub fault_later : (a b xs ys zs : List Home) (is : List ℕ) (e : ChainError) → AreNext a b xs is → IsNextFault b ys e → IsNextFault a (xs ++ (ys ++ zs)) e
-fault_later a b xs ys zs is e p f = search (arith, rules, listed_front, listed_behind)
+fault_later a b xs ys zs is e p f = search (arith, rules, among_front of_homes, among_behind of_homes)
 
 pub too_many : (old : List Home) (n : Text) → twice old ≡ false → length (chains_of old) ≡ 1024 → listed (a_chain n) old ≡ false → TooMany old (a_chain n ∷ [])
 too_many old n once len new = (
   chains_of old ++ n ∷ [],
   omega (arith, length-append (chains_of old) (n ∷ []), len),
-  names.once_more n (chains_of old) (chains_once old once) (sym (chain_among n old) ∙ new),
-  λ m a. ⊎_elim (λ p. inl (chain_among m old ∙ p)) (λ q. inr (ap (λ b. b || false) (ap (λ z. bytes_eq z m) (only_among n m q) ∙ names.reflexive m))) (among_cases m (chains_of old) (n ∷ []) a),
+  once_more of_texts n (chains_of old) (chains_once old once) (sym (chain_among n old) ∙ new),
+  λ m a. ⊎_elim (λ p. inl (chain_among m old ∙ p)) (λ q. inr (ap (λ b. b || false) (ap (λ z. bytes_eq z m) (only_among of_texts n m q) ∙ reflexive m))) (among_cases of_texts m (chains_of old) (n ∷ []) a),
 )
   where
     chains_once : (hs : List Home) → twice hs ≡ false → repeated (chains_of hs) ≡ false
@@ -117,7 +108,7 @@ chosen_all ks ns k d lt =
 
 pub met_grows : (given : Given) (ks ms : List Text) (ns : List Need) → AllByRecursion (IsMet given ks) ns → AllByRecursion (IsMet given (ks ++ ms)) ns
 met_grows given ks ms [] a = tt
-met_grows given ks ms (n ∷ ns) a = (⊎_elim (λ p. inl (among_front n.name ks ms p)) (λ q. inr q) a.0, met_grows given ks ms ns a.1)
+met_grows given ks ms (n ∷ ns) a = (⊎_elim (λ p. inl (among_front of_texts n.name ks ms p)) (λ q. inr q) a.0, met_grows given ks ms ns a.1)
 
 pub met_turn : (P : Need → Type 0) (ns : List Include) (k : ℕ) (d : Include) → k < length ns → AllByRecursion P (needs_view (take k ns)) → P (need_view (get_or ns k d)) → AllByRecursion P (needs_view (take (k + 1) ns))
 met_turn P ns k d lt a p = subst (λ (l : List Include). AllByRecursion P (needs_view l)) (sym (take_more ns k d lt)) (more (take k ns) a)
@@ -145,7 +136,7 @@ asked_at all [] k d lt e = absurd (omega arith)
 asked_at all (n ∷ ns) zero d lt e =
     ap (λ b. among n.name.now ((if b then n.name.now ∷ [] else []) ++ needed all (needs_view ns))) e ∙ ap (λ b. b || among n.name.now (needed all (needs_view ns))) (reflexive n.name.now)
 asked_at all (n ∷ ns) (suc k) d lt e =
-    among_behind (get_or ns k d).name.now (if all || not n.ignoring then n.name.now ∷ [] else []) (needed all (needs_view ns)) (asked_at all ns k d (omega arith) e)
+    among_behind of_texts (get_or ns k d).name.now (if all || not n.ignoring then n.name.now ∷ [] else []) (needed all (needs_view ns)) (asked_at all ns k d (omega arith) e)
 
 pub need_fault : (given : Given) (options : Options) (ns : List Include) (ms : List Need) (k : ℕ) (d : Include) (e : ChainError) → needs_view ns ≡ ms → k < length ns → IsFaultAt given options (need_view (get_or ns k d)) e
     → IsNeedFault given options ms e

@@ -1,5 +1,5 @@
 -- Chains and libraries that reach one another, and ask for names, do so when more is read.
-use Rattle.std.proofs.Common.{◌≡◌, ℕ, zero, suc, ◌≤◌, arith, map, Bool, true, false, ◌||◌, List, [], ◌∷◌, ◌++◌, refl, sym, ap, subst, ◌∙◌, Option, Some, None, rules}
+use Rattle.std.proofs.Common.{◌≡◌, ℕ, zero, suc, ◌≤◌, arith, map, Bool, true, false, ◌||◌, List, [], ◌∷◌, ◌++◌, refl, sym, ap, subst, ◌∙◌, Option, Some, None, string_bytes, rules}
 use Rattle.std.specs.Prelude.{flat_map, filter}
 use Rattle.std.specs.Option.{is_some}
 use Rattle.std.specs.Str.{bytes_eq}
@@ -15,9 +15,13 @@ use Rattle.jt_chains.specs.declared.pages.Page.{Page}
 use Rattle.jt_scan.specs.declared.options.Options.{Options}
 use Rattle.jt_inherit.specs.Chains.{Given}
 use Rattle.jt_inherit.specs.Ways.{BreaksAll, Grow}
+use Rattle.jt_inherit.specs.SetView.{key_view}
 use Rattle.jt_inherit.specs.declared.error.ChainError.{ChainError}
-use Rattle.jt_inherit.proofs.Among.{same, reflexive, or_true, among_front, among_behind, among_cases}
+use Rattle.jt_inherit.specs.declared.sets.HomeKey.{HomeKey}
 use Rattle.jt_inherit.proofs.Leads.{more_sources}
+use Rattle.jt_inherit.proofs.Among.{of_texts, reflexive, same}
+use Rattle.jt_inherit.proofs.HomeSets.{is_chain}
+use Rattle.jt_inherit.proofs.Members.{among_behind, among_cases, among_front, or_true}
 
 -- ---- what is among the names that pass a test
 
@@ -132,17 +136,17 @@ library_more s r n g = by (s n) refl
 
 module _ (s r : Sources) (e : Bool) (entry : Home) (g : (n : Text) (b : Body) → Asks r e entry n → s n ≡ Some b → r n ≡ Some b) where
   pub on_way : (h : Home) → Reaches r e entry h → Carries s r (way r e h)
-  on_way h p n a b = g n b (h, p, among_front n (way r e h) (flat_map (λ t. needs_in true t.body) (templates r h) ++ libraries r h) a)
+  on_way h p n a b = g n b (h, p, among_front of_texts n (way r e h) (flat_map (λ t. needs_in true t.body) (templates r h) ++ libraries r h) a)
 
   -- the first 64 names are among the first 65
   pub on_first : (h : Text) → Reaches r e entry (a_chain h) → Carries s r (names_up r 64 (Some h))
   on_first h p n a b =
       let more = up_more r 65 64 (Some h) (omega arith) in
-      on_way (a_chain h) p n (ap (among n) more.1 ∙ among_front n (names_up r 64 (Some h)) more.0 a) b
+      on_way (a_chain h) p n (ap (among n) more.1 ∙ among_front of_texts n (names_up r 64 (Some h)) more.0 a) b
 
   -- the libraries of a home
   pub on_libraries : (h : Home) → Reaches r e entry h → Carries s r (libraries r h)
-  on_libraries h p n a b = g n b (h, p, among_behind n (way r e h) (flat_map (λ t. needs_in true t.body) (templates r h) ++ libraries r h) (among_behind n (flat_map (λ t. needs_in true t.body) (templates r h)) (libraries r h) a))
+  on_libraries h p n a b = g n b (h, p, among_behind of_texts n (way r e h) (flat_map (λ t. needs_in true t.body) (templates r h) ++ libraries r h) (among_behind of_texts n (flat_map (λ t. needs_in true t.body) (templates r h)) (libraries r h) a))
 
   -- its way and its templates are the first ones
   pub way_more : (h : Home) → Reaches r e entry h → (rest : List Text) × (way r e h ≡ way s e h ++ rest)
@@ -161,15 +165,15 @@ module _ (s r : Sources) (e : Bool) (entry : Home) (g : (n : Text) (b : Body) �
   libraries_more (a_library n) p = ([], refl)
 
   pub needs_more : (all : Bool) (h : Home) → Reaches r e entry h → (n : Text) → among n (flat_map (λ t. needs_in all t.body) (templates s h)) ≡ true → among n (flat_map (λ t. needs_in all t.body) (templates r h)) ≡ true
-  needs_more all h p n a = search (arith, rules, home_more, flat-append, among_front)
+  needs_more all h p n a = search (arith, rules, home_more, flat-append, among_front of_texts)
 
   pub imports_more : (h : Home) → Reaches r e entry h → (n : Text) → among n (libraries s h) ≡ true → among n (libraries r h) ≡ true
   imports_more h p n a =
       let more = libraries_more h p in
-      ap (among n) more.1 ∙ among_front n (libraries s h) more.0 a
+      ap (among n) more.1 ∙ among_front of_texts n (libraries s h) more.0 a
 
   pub asked_more : (all : Bool) (h : Home) → Reaches r e entry h → (n : Text) → among n (asked s e all h) ≡ true → among n (asked r e all h) ≡ true
-  asked_more all h p n a = search (arith, rules, way_more, among_front, among_behind, needs_more, imports_more, among_cases)
+  asked_more all h p n a = search (arith, rules, way_more, among_front of_texts, among_behind of_texts, needs_more, imports_more, among_cases of_texts)
 
   -- those of them that have a source
   sourced : (h : Home) → Reaches r e entry h → (xs ys : List Text) → ((n : Text) → among n xs ≡ true → among n ys ≡ true) → ((n : Text) → among n ys ≡ true → Asks r e entry n) → (n : Text) → among n (with_source s xs) ≡ true → among n (with_source r ys) ≡ true
@@ -186,8 +190,8 @@ module _ (s r : Sources) (e : Bool) (entry : Home) (g : (n : Text) (b : Body) �
       let mine = flat_map (λ t. needs_in true t.body) (templates s h) in
       let ours = flat_map (λ t. needs_in true t.body) (templates r h) in
       homes_among m (with_source s mine) (with_source s (libraries s h)) (with_source r ours) (with_source r (libraries r h))
-      (sourced h p mine ours (needs_more true h p) (λ n q. (h, p, among_behind n (way r e h) (ours ++ libraries r h) (among_front n ours (libraries r h) q))))
-      (sourced h p (libraries s h) (libraries r h) (imports_more h p) (λ n q. (h, p, among_behind n (way r e h) (ours ++ libraries r h) (among_behind n ours (libraries r h) q)))) a
+      (sourced h p mine ours (needs_more true h p) (λ n q. (h, p, among_behind of_texts n (way r e h) (ours ++ libraries r h) (among_front of_texts n ours (libraries r h) q))))
+      (sourced h p (libraries s h) (libraries r h) (imports_more h p) (λ n q. (h, p, among_behind of_texts n (way r e h) (ours ++ libraries r h) (among_behind of_texts n ours (libraries r h) q)))) a
 
   pub reaches_more : {h k : Home} → Reaches r e entry h → Reaches s e h k → Reaches r e h k
   reaches_more p here = here
@@ -209,3 +213,7 @@ ask_more ts us more e h n grown i =
 -- what breaks each chain that reaches this one when more is read, breaks each that reached it before
 pub breaks_more : (given : Given) (options : Options) (ps qs : List Page) → Grow ps qs → (h : Home) (e : ChainError) → BreaksAll given options qs h e → BreaksAll given options ps h e
 breaks_more given options ps qs more h e b root r = b root (reach_more (pages_view ps) (pages_view qs) more.0 options.autoescape (a_chain root) h more.1 r)
+
+pub chain_breaks : (given : Given) (options : Options) (ps qs : List Page) → Grow ps qs → (k : HomeKey) → k.is_library ≡ false → (e : ChainError) → BreaksAll given options qs (a_chain (string_bytes k.name)) e
+    → BreaksAll given options ps (key_view k) e
+chain_breaks given options ps qs more k is e b = subst (λ h. BreaksAll given options ps h e) (sym (is_chain k is)) (breaks_more given options ps qs more (a_chain (string_bytes k.name)) e b)

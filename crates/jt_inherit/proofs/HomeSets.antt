@@ -14,8 +14,8 @@ use Rattle.jt_inherit.specs.Numbers as numbers
 use Rattle.jt_inherit.specs.Numbers.{AreNumbers}
 use Rattle.jt_inherit.specs.SetView.{key_view, keys_view}
 use Rattle.jt_inherit.specs.declared.sets.HomeKey.{HomeKey}
-use Rattle.jt_inherit.proofs.Homes.{same, symmetric, chains_both}
 use Rattle.jt_inherit.proofs.Numbered.{first_none, first_found, numbers_more, numbers_same}
+use Rattle.jt_inherit.proofs.Homes.{chains_both, same, symmetric}
 
 pub any_home : (h : Home) (ks : List HomeKey) → list_any (λ k. same_home h (key_view k)) ks ≡ listed h (keys_view ks)
 any_home h [] = refl

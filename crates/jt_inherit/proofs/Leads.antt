@@ -25,8 +25,9 @@ use Rattle.jt_chains.specs.Rules.{Reaches, asked, way}
 use Rattle.jt_inherit.specs.Ways.{Leads, LeadsFrom, AreKnown, IsWay, IsWithin, AddsName, Grow}
 use Rattle.jt_inherit.specs.declared.error.ChainError.{ChainError}
 use Rattle.jt_inherit.specs.declared.error.ChainError.TheVariants as error
-use Rattle.jt_inherit.proofs.Among.{among_front, among_next, once_more, comes_again, map_more, all_more}
 use Rattle.jt_chains.proofs.Placed.{only_one, map_at, place_within}
+use Rattle.jt_inherit.proofs.Among.{all_more, map_more, of_texts}
+use Rattle.jt_inherit.proofs.Members.{among_front, among_next, comes_again, once_more}
 
 abbrev pub names : List Template → List Text
 names = map (λ t. t.name)
@@ -89,8 +90,8 @@ pub next_asked : (s : Sources) (e all : Bool) (h : Text) (ts : List Template) (n
 next_asked s e all h ts n le l =
     let k = 64 - length ts in
     let up : way s e (a_chain h) ≡ names ts ++ names_up s (suc k) (Some n) = names_lead s 65 (suc k) (Some h) ts (Some n) (omega arith) l in
-    among_front n (way s e (a_chain h)) (flat_map (λ t. needs_in all t.body) (templates s (a_chain h)) ++ libraries s (a_chain h))
-    (subst (λ xs. among n xs ≡ true) (sym up) (among_next n (names ts) (names_up s k (parent_of (s n)))))
+    among_front of_texts n (way s e (a_chain h)) (flat_map (λ t. needs_in all t.body) (templates s (a_chain h)) ++ libraries s (a_chain h))
+    (subst (λ xs. among n xs ≡ true) (sym up) (among_next of_texts n (names ts) (names_up s k (parent_of (s n)))))
 
 -- ---- templates at places, as more are read
 
@@ -143,7 +144,7 @@ all_at_places P ts (i ∷ is) a = by (slice_get ts i) refl (all_at_places P ts i
 
 pub known_more : (given : Given) (options : Options) (ts : List Template) (ks : List Text) (t : Template) → AreKnown given options ts ks → among t.name ks ≡ false → IsRead given options t → IsOnly given options t → IsWithin given t
     → AreKnown given options (ts ++ t ∷ []) (ks ++ t.name ∷ [])
-known_more given options ts ks t k new r only i = search (arith, rules, all_more, map_more, once_more)
+known_more given options ts ks t k new r only i = search (arith, rules, all_more, map_more, once_more of_texts)
 
 pub last_at : {X : Type 0} (xs : List X) (x : X) → slice_get (xs ++ x ∷ []) (length xs) ≡ Some x
 last_at [] x = refl
@@ -164,7 +165,7 @@ way_grows ts us h is p w = search (arith, rules, templates_grow, places_grow, fr
 
 pub way_next : (ts : List Template) (h : Text) (is : List ℕ) (i : ℕ) (t : Template) (n : Text) → IsWay ts (a_chain h) is (Some n) → slice_get ts i ≡ Some t → t.name ≡ n → among n (names (templates_at ts is)) ≡ false
     → repeated (names ts) ≡ false → length is < 64 → IsWay ts (a_chain h) (is ++ i ∷ []) (extends_of t.body)
-way_next ts h is i t n w at is_named new once lt = search (arith, rules, templates_more, all_more, slice_get_within, leads_more, only_one, map_more, once_more, length-append)
+way_next ts h is i t n w at is_named new once lt = search (arith, rules, templates_more, all_more, slice_get_within, leads_more, only_one, map_more, once_more of_texts, length-append)
 
 -- ---- a chain that is reached, and what is wrong on its way
 
@@ -211,7 +212,7 @@ module _ {given : Given} {options : Options} {root : Text} {ts : List Template} 
         templates = ts;
         read = known.read;
         only = known.only;
-        holds = (a_chain h, r, (h, refl, length us + 1, ap repeated up ∙ comes_again n (names us) there));
+        holds = (a_chain h, r, (h, refl, length us + 1, ap repeated up ∙ comes_again of_texts n (names us) there));
       }
 
   pub long_breaks : {is : List ℕ} {n : Text} → IsWay ts (a_chain h) is (Some n) → length is ≡ 64 → among n (names (templates_at ts is)) ≡ false → Breaks error.ChainTooLong given root options
@@ -224,7 +225,7 @@ module _ {given : Given} {options : Options} {root : Text} {ts : List Template} 
         templates = ts;
         read = known.read;
         only = known.only;
-        holds = inl (a_chain h, r, subst (λ xs. ((length xs == 65) && not (repeated xs)) ≡ true) (sym up) (sixty_five n us len (once_more n (names us) w.once new)));
+        holds = inl (a_chain h, r, subst (λ xs. ((length xs == 65) && not (repeated xs)) ≡ true) (sym up) (sixty_five n us len (once_more of_texts n (names us) w.once new)));
       }
     where
       sixty_five : (n : Text) (us : List Template) → length us ≡ 64 → repeated (names us ++ n ∷ []) ≡ false → ((length (names us ++ n ∷ []) == 65) && not (repeated (names us ++ n ∷ []))) ≡ true
@@ -292,8 +293,8 @@ module _ (ps qs : List Page) (more : Grow ps qs) (is : List ℕ) {js : List ℕ}
       ap (λ l. names (templates_at us l)) longer ∙ ap names (templates_more us is i (page_view p) held) ∙ map_more (λ (u : Template). u.name) (templates_at us is) (page_view p)
       ∙ ap (λ l. names l ++ string_bytes p.name ∷ []) (ap (λ l. templates_at l is) more.1 ∙ templates_grow ts more.0 is places) in
       ⊎_elim
-      (λ q. ⊎_elim (λ r. inl r) (λ r. inr (ap (among x) theirs ∙ among_front x (names (templates_at ts is)) (string_bytes p.name ∷ []) r)) (before x q))
-      (λ q. inr (ap (among x) theirs ∙ ap (λ y. among x (names (templates_at ts is) ++ y ∷ [])) (named ∙ sym q) ∙ among_next x (names (templates_at ts is)) []))
+      (λ q. ⊎_elim (λ r. inl r) (λ r. inr (ap (among x) theirs ∙ among_front of_texts x (names (templates_at ts is)) (string_bytes p.name ∷ []) r)) (before x q))
+      (λ q. inr (ap (among x) theirs ∙ ap (λ y. among x (names (templates_at ts is) ++ y ∷ [])) (named ∙ sym q) ∙ among_next of_texts x (names (templates_at ts is)) []))
       (last x a)
 
   pub way_step : {h : Text} {o : Option Text} → IsWay ts (a_chain h) is (Some n) → among n (names (templates_at ts is)) ≡ false → length is < 64 → repeated (names us) ≡ false → o ≡ extends_of (body_of p.template) → (k0 k1 k2 : Names)

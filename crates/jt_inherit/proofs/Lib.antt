@@ -15,6 +15,7 @@ pub mod Lasting
 pub mod Leads
 pub mod Lengths
 pub mod Listed
+pub mod Members
 pub mod NameSets
 pub mod Naming
 pub mod Needed

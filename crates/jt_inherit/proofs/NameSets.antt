@@ -10,8 +10,8 @@ use Rattle.jt_trees.specs.Expressions.{Text}
 use Rattle.jt_chains.specs.Tables.{Table}
 use Rattle.jt_inherit.specs.Numbers.{AreNumbers, is_text}
 use Rattle.jt_inherit.specs.SetView.{strings}
-use Rattle.jt_inherit.proofs.Among.{same, symmetric}
 use Rattle.jt_inherit.proofs.Numbered.{first_none, first_found, numbers_more}
+use Rattle.jt_inherit.proofs.Among.{same, symmetric}
 
 any_string : (x : Text) (ks : List (String Global)) → list_any (is_text x) ks ≡ among x (strings ks)
 any_string x [] = refl

@@ -15,8 +15,9 @@ use Rattle.jt_chains.specs.Pages.{names_at}
 use Rattle.jt_chains.specs.Weights.{templates_weight}
 use Rattle.jt_inherit.specs.Small.{templates_len, source_len}
 use Rattle.jt_inherit.specs.Ways.{Leads, IsWithin}
-use Rattle.jt_inherit.proofs.Among.{same, or_true, both_false}
 use Rattle.jt_inherit.proofs.Leads.{names}
+use Rattle.jt_inherit.proofs.Among.{same}
+use Rattle.jt_inherit.proofs.Members.{both_false, or_true}
 
 -- ---- names on the way
 

@@ -10,8 +10,8 @@ use Rattle.jt_chains.specs.Includes.{included, AllIn, InOrder}
 use Rattle.jt_chains.specs.Places.{home_at}
 use Rattle.jt_chains.specs.Rules.{Reaches, here, through}
 use Rattle.jt_inherit.specs.Found.{twice}
-use Rattle.jt_inherit.proofs.Among.{or_true, or_false, both_false}
-use Rattle.jt_inherit.proofs.Homes.{same, reflexive}
+use Rattle.jt_inherit.proofs.Homes.{reflexive, same}
+use Rattle.jt_inherit.proofs.Members.{both_false, or_false, or_true}
 
 equal : (i j : ℕ) → (i == j) ≡ true → i ≡ j
 equal i j e = grind (arith, nat_tests)

@@ -14,11 +14,12 @@ use Rattle.jt_chains.specs.Rules.{Asks, here, asked, KeepsRules}
 use Rattle.jt_chains.specs.View.{Seen, sources_of}
 use Rattle.jt_inherit.specs.declared.error.ChainError.{ChainError}
 use Rattle.jt_inherit.specs.declared.error.ChainError.TheVariants as error
-use Rattle.jt_inherit.proofs.Among.{same, or_true}
 use Rattle.jt_inherit.proofs.Carried as carried
 use Rattle.jt_inherit.proofs.Finding.{some_source}
 use Rattle.jt_inherit.proofs.Growing.{asks_more, asked_more, reaches_more}
 use Rattle.jt_inherit.proofs.Leads.{names}
+use Rattle.jt_inherit.proofs.Among.{same}
+use Rattle.jt_inherit.proofs.Members.{or_true}
 
 pub any_at : (p : Text → Bool) (x : Text) (xs : List Text) → among x xs ≡ true → p x ≡ true → list_any p xs ≡ true
 any_at p x [] a t = absurd (cc)

@@ -12,14 +12,14 @@ or_true : (a b : Bool) → b ≡ true → (a || b) ≡ true
 or_true true b h = refl
 or_true false b h = h
 
-pub in_condition : (bs : List Branch) (i : ℕ) (b : Branch) → i < length bs → b ≡ get_or bs i b → has_super (expr_view b.1) ≡ true → branches_super (branches_view (drop i bs)) ≡ true
+pub in_condition : (bs : List Branch) (i : ℕ) (b : Branch) → i < length bs → b ≡ get_or bs i b → has_super (expr_view b.condition) ≡ true → branches_super (branches_view (drop i bs)) ≡ true
 in_condition bs i b lt is h =
-    ap branches_super (branches_left bs i b lt is) ∙ ap (λ c. c || (calls_super (body_view b.2.items) || branches_super (branches_view (drop (i + 1) bs)))) h
+    ap branches_super (branches_left bs i b lt is) ∙ ap (λ c. c || (calls_super (body_view b.body.items) || branches_super (branches_view (drop (i + 1) bs)))) h
 
-pub in_body : (bs : List Branch) (i : ℕ) (b : Branch) → i < length bs → b ≡ get_or bs i b → calls_super (body_view b.2.items) ≡ true → branches_super (branches_view (drop i bs)) ≡ true
+pub in_body : (bs : List Branch) (i : ℕ) (b : Branch) → i < length bs → b ≡ get_or bs i b → calls_super (body_view b.body.items) ≡ true → branches_super (branches_view (drop i bs)) ≡ true
 in_body bs i b lt is h =
     ap branches_super (branches_left bs i b lt is)
-    ∙ or_true (has_super (expr_view b.1)) (calls_super (body_view b.2.items) || branches_super (branches_view (drop (i + 1) bs))) (ap (λ c. c || branches_super (branches_view (drop (i + 1) bs))) h)
+    ∙ or_true (has_super (expr_view b.condition)) (calls_super (body_view b.body.items) || branches_super (branches_view (drop (i + 1) bs))) (ap (λ c. c || branches_super (branches_view (drop (i + 1) bs))) h)
 
 pub in_if : (s : Stmt) (bs : Vec Branch Global) (other : Vec Stmt Global) → s ≡ If bs other → stmt_super (stmt_view s) ≡ (branches_super (branches_view bs.items) || calls_super (body_view other.items))
 in_if s bs other is = ap stmt_super (ap stmt_view is ∙ view_If bs other)

@@ -10,9 +10,10 @@ use Rattle.jt_chains.specs.Rules.{Reaches}
 use Rattle.jt_chains.specs.Weights.{templates_weight, chains_weight}
 use Rattle.jt_inherit.specs.Chains.{Given}
 use Rattle.jt_inherit.specs.Small.{templates_len, libraries_len, chains_len}
-use Rattle.jt_inherit.proofs.Among.{same, reflexive, or_true, or_false, both_false, among_front, among_behind, without, still_among}
 use Rattle.jt_inherit.proofs.Fewer.{HasTag, tagged, needed, not_false}
 use Rattle.jt_inherit.proofs.Growing.{among_passes, libraries_listed}
+use Rattle.jt_inherit.proofs.Among.{of_texts, reflexive, same}
+use Rattle.jt_inherit.proofs.Members.{among_behind, among_front, both_false, or_false, or_true, still_among, without}
 
 -- ---- what is in an ascending list
 
@@ -65,21 +66,21 @@ module _ (given : Given) (s : Sources) where
   is_imported n k (a_chain m ∷ hs) e a = by (bytes_eq m k) refl (λ f. is_imported n k hs f a)
     where
       by : (b : Bool) → bytes_eq m k ≡ b → (listed (a_chain k) hs ≡ true → among n (imported_by hs) ≡ true) → among n (ascending (libraries s (a_chain m)) ++ imported_by hs) ≡ true
-      by true q r = among_front n (ascending (libraries s (a_chain m))) (imported_by hs) (here_all (libraries s (a_chain m)) n [] (ap (λ x. among n (libraries s (a_chain x))) (same m k q) ∙ a))
-      by false q r = among_behind n (ascending (libraries s (a_chain m))) (imported_by hs) (r (sym (ap (λ b. b || listed (a_chain k) hs) q) ∙ e))
+      by true q r = among_front of_texts n (ascending (libraries s (a_chain m))) (imported_by hs) (here_all (libraries s (a_chain m)) n [] (ap (λ x. among n (libraries s (a_chain x))) (same m k q) ∙ a))
+      by false q r = among_behind of_texts n (ascending (libraries s (a_chain m))) (imported_by hs) (r (sym (ap (λ b. b || listed (a_chain k) hs) q) ∙ e))
 
   len_both : (xs ys : List Text) → libraries_len given s (xs ++ ys) ≡ libraries_len given s xs + libraries_len given s ys
   len_both [] ys = omega arith
   len_both (x ∷ xs) ys = omega (arith, len_both xs ys)
 
-  one_less : (x : Text) (ys : List Text) → among x ys ≡ true → libraries_len given s ys ≡ templates_len given (templates s (a_library x)) + libraries_len given s (without x ys)
+  one_less : (x : Text) (ys : List Text) → among x ys ≡ true → libraries_len given s ys ≡ templates_len given (templates s (a_library x)) + libraries_len given s (without of_texts x ys)
   one_less x [] a = absurd cc
-  one_less x (y ∷ ys) a = search (arith, rules, one_less x ys, without, same)
+  one_less x (y ∷ ys) a = search (arith, rules, one_less x ys, same)
 
   -- different libraries among others are no longer than these
   no_longer : (xs ys : List Text) → repeated xs ≡ false → ((x : Text) → among x xs ≡ true → among x ys ≡ true) → libraries_len given s xs ≤ libraries_len given s ys
   no_longer [] ys once f = omega arith
-  no_longer (x ∷ xs) ys once f = search (arith, rules, or_false, one_less, reflexive, no_longer xs (without x ys), without, still_among, or_true, same)
+  no_longer (x ∷ xs) ys once f = search (arith, rules, or_false, one_less, reflexive, no_longer xs (without of_texts x ys), still_among of_texts, or_true, same)
 
   -- the templates of the chains alone
   own_len : List Home → ℕ

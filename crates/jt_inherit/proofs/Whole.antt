@@ -41,18 +41,18 @@ use Rattle.jt_inherit.specs.declared.discovery.Found.{Found}
 use Rattle.jt_inherit.specs.declared.error.ChainError.{ChainError}
 use Rattle.jt_inherit.specs.declared.error.ChainError.TheVariants as error
 use Rattle.jt_chains.specs.declared.linked.Home as linked
-use Rattle.jt_inherit.proofs.Among.{same, both_false, or_true, or_false, among_cases, no_more}
 use Rattle.jt_inherit.proofs.Carried.{given_names}
 use Rattle.jt_inherit.proofs.Fewer.{few_chains}
 use Rattle.jt_inherit.proofs.Finding.{none_read, few_way, way_names, asked_way, placed_templates, included_is, whole_way, some_source}
-use Rattle.jt_inherit.proofs.Following.{text_among}
-use Rattle.jt_inherit.proofs.Homes.{place_listed, chain_among}
 use Rattle.jt_inherit.proofs.Imported.{all_imported, none_given, none_lacking}
 use Rattle.jt_inherit.proofs.Leads.{names, few_templates, all_at_places}
 use Rattle.jt_inherit.proofs.OnWay.{never, and_false, and_true, too_few, few_names, all_named, have_sources, all_among, repeated_up, weigh, names_placed}
 use Rattle.jt_inherit.proofs.Ordered.{home_among, number_of, names_in_order, reached_in_order, no_cycle, first_in_order, named_among}
 use Rattle.jt_inherit.proofs.Weighed.{all_weigh}
 use Rattle.jt_chains.proofs.Placed.{given_templates}
+use Rattle.jt_inherit.proofs.Among.{of_texts, same}
+use Rattle.jt_inherit.proofs.Homes.{chain_among, of_homes}
+use Rattle.jt_inherit.proofs.Members.{among_cases, both_false, no_more, or_false, or_true, placed_among}
 
 -- ---- chains by their numbers
 
@@ -104,7 +104,7 @@ next_within given ts hs (g ∷ gs) (w ∷ ws) (n ∷ ns) a =
 numbered_among : (hs : List Home) (j : ℕ) (js : List ℕ) (ns : List Home) → map (slice_get hs) js ≡ map Some ns → graph.among j js ≡ true → listed (home_at hs j) ns ≡ true
 numbered_among hs j [] ns e a = absurd (cc)
 numbered_among hs j (k ∷ js) [] e a = absurd (cc)
-numbered_among hs j (k ∷ js) (n ∷ ns) e a = search (arith, rules, numbered_among hs j js ns, nat_tests, place_listed, or_true)
+numbered_among hs j (k ∷ js) (n ∷ ns) e a = search (arith, rules, numbered_among hs j js ns, nat_tests, placed_among of_homes, or_true)
 
 none_next : (ns : Graph) (i j : ℕ) → length ns ≤ i → graph.among j (next_of ns i) ≡ true → ⊥
 none_next [] i j le a = cc
@@ -189,7 +189,7 @@ module _ (given : Given) (options : Options) (ts : List Template) {ks : List Tex
     all_asked P a f x i = ⊎_elim
         (λ p. all_among P (templates_at ts is) x a p)
         (λ q. needs_met given ts P f (needs_along ts is) met x q)
-        (among_cases x (names (templates_at ts is)) (needed true (needs_along ts is)) (sym (ap (among x) (asked_way ts options.autoescape h is w true)) ∙ i))
+        (among_cases of_texts x (names (templates_at ts is)) (needed true (needs_along ts is)) (sym (ap (among x) (asked_way ts options.autoescape h is w true)) ∙ i))
 
 -- ---- all chains and libraries
 
@@ -297,7 +297,7 @@ module _ {given : Given} {options : Options} {entry : Text} {ts : List Template}
           never ((length (way (sources_in ts) options.autoescape y.0) == 65) && not (repeated (way (sources_in ts) options.autoescape y.0)))
           (ap (λ xs. (length xs == 65) && not (repeated xs)) (way_names ts options.autoescape y.0 k.0 k.1) ∙ too_few (length (names us)) (not (repeated (names us))) (omega (arith, le, length-map us (λ (t : Template). t.name)))) y.2)
           (λ y.
-          let le = no_more y.0 (chains_of hs) (not_true (repeated y.0) y.2) (λ n a. sym (chain_among n hs) ∙ in_homes (a_chain n) (ordered (y.3 n a))) in
+          let le = no_more of_texts y.0 (chains_of hs) (not_true (repeated y.0) y.2) (λ n a. sym (chain_among n hs) ∙ in_homes (a_chain n) (ordered (y.3 n a))) in
           let gt : 1024 < length y.0 = y.1 in
           let most = f.few in
           omega (arith, le, gt, most))
@@ -344,7 +344,7 @@ module _ {given : Given} {options : Options} {entry : Text} {ts : List Template}
       where
         each_known : (us : List Template) → ((x : Text) → among x (names us) ≡ true → among x (names ts) ≡ true) → AllByRecursion (λ t. (among t.name (names ts) ≡ true) ⊎ (given t.name ≡ None)) us
         each_known [] g = tt
-        each_known (u ∷ us) g = (inl (g u.name (text_among (names (u ∷ us)) 0 u.name refl)), each_known us (λ x p. g x (or_true (bytes_eq u.name x) (among x (names us)) p)))
+        each_known (u ∷ us) g = (inl (g u.name (placed_among of_texts (names (u ∷ us)) 0 u.name refl)), each_known us (λ x p. g x (or_true (bytes_eq u.name x) (among x (names us)) p)))
 
     -- the templates are those that are asked for and that the library has
     templates_asked : (n : Text) → (among n (names ts) ≡ true) ↔ (Asks (sources_in ts) options.autoescape (a_chain entry) n × (given n ≢ None))

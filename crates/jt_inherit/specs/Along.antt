@@ -3,6 +3,8 @@
 use Rattle.std.specs.Prelude.{ℕ, List, ◌++◌}
 use Rattle.jt_chains.specs.Along.{along}
 use Rattle.jt_chains.specs.Chain.{Template}
+use Rattle.jt_chains.specs.Pages.{pages_view}
+use Rattle.jt_chains.specs.declared.pages.Page.{Page}
 use Rattle.jt_inherit.specs.Needs.{Need, includes_in, imports_in}
 
 abbrev pub includes_along : List Template → List ℕ → List Need
@@ -14,3 +16,6 @@ imports_along ts = along ts (λ n b. imports_in b)
 -- the includes come first
 abbrev pub needs_along : List Template → List ℕ → List Need
 needs_along ts is = includes_along ts is ++ imports_along ts is
+
+abbrev pub needs_of : List Page → List ℕ → List Need
+needs_of ps = needs_along (pages_view ps)

@@ -8,20 +8,23 @@ use Rattle.jt_trees.specs.Texts.{among, repeated}
 use Rattle.jt_trees.specs.Expressions.{Text}
 use Rattle.jt_scan.specs.declared.options.Options.{Options}
 use Rattle.jt_chains.specs.Along.{templates_at}
-use Rattle.jt_inherit.specs.Along.{needs_along}
+use Rattle.jt_inherit.specs.Along.{needs_along, needs_of}
 use Rattle.jt_chains.specs.Chain as chain
 use Rattle.jt_chains.specs.Chain.{Template, a_chain, a_library, home_name, listed, sources_in}
 use Rattle.jt_inherit.specs.Chains.{Given}
 use Rattle.jt_inherit.specs.Faults.{IsFaultOf}
-use Rattle.jt_inherit.specs.Kept.{BreakOne}
+use Rattle.jt_inherit.specs.Kept.{BreakOne, KeepAll}
 use Rattle.jt_chains.specs.Names.{IsName}
-use Rattle.jt_inherit.specs.Needs.{Need, need_home, needed}
+use Rattle.jt_inherit.specs.Needs.{Need, need_home, need_view, needed}
 use Rattle.jt_chains.specs.Pages.{pages_view, home_view}
 use Rattle.jt_chains.specs.Places.{home_at}
 use Rattle.jt_chains.specs.Rules.{max_chains, Asks, Reaches}
 use Rattle.jt_inherit.specs.Sets.{names_view, homes_view}
 use Rattle.jt_inherit.specs.Ways.{AreKnown, IsWay}
 use Rattle.jt_inherit.specs.declared.discovery.Found.{Found}
+use Rattle.jt_inherit.specs.declared.sets.Names.{Names}
+use Rattle.jt_inherit.specs.declared.statements.Include.{Include}
+use Rattle.jt_chains.specs.declared.pages.Page.{Page}
 use Rattle.jt_inherit.specs.declared.error.ChainError.{ChainError}
 use Rattle.jt_chains.specs.declared.linked.Home.{Home}
 use Rattle.jt_inherit.specs.declared.error.ChainError.TheVariants as error
@@ -65,6 +68,11 @@ chains_of [] = []
 chains_of (a_chain n ∷ hs) = n ∷ chains_of hs
 chains_of (a_library n ∷ hs) = chains_of hs
 
+-- homes, each once, with few chains among them
+pub record AreHomes (hs : List chain.Home) : Type 0 where
+  pub once : twice hs ≡ false
+  pub few : length (chains_of hs) ≤ max_chains
+
 -- homes with some more, each once, and the numbers of these
 pub record AreNext (old new names : List chain.Home) (numbers : List ℕ) : Type 0 where
   pub more : List chain.Home
@@ -92,6 +100,23 @@ AddsNext old new names before after =
 
 abbrev pub IsNextFault : List chain.Home → List chain.Home → ChainError → Type 0
 IsNextFault old names e = (e ≡ error.NoMemory) ⊎ ((e ≡ error.ChainTooLong) × TooMany old names)
+
+-- the refusal of one home more: there are as many chains as may be, and it is one
+abbrev pub IsPutFault : List chain.Home → chain.Home → Text → ChainError → Type 0
+IsPutFault old h n e =
+    (e ≡ error.NoMemory)
+    ⊎ ((e ≡ error.ChainTooLong) × (length (chains_of old) ≡ max_chains) × (h ≡ a_chain n))
+
+-- the refusal of what is needed, or want of memory
+abbrev pub IsNeedRefusal : Given → Options → List Need → ChainError → Type 0
+IsNeedRefusal given options ns e = (e ≡ error.NoMemory) ⊎ IsNeedFault given options ns e
+
+-- what one include or import leads to, and what the templates at some places do
+abbrev pub leads_to : Names → Include → List chain.Home
+leads_to ks n = chosen (names_view ks) (need_view n ∷ [])
+
+abbrev pub lead_to : Names → List Page → List ℕ → List chain.Home
+lead_to ks ps is = chosen (names_view ks) (needs_of ps is)
 
 -- the way of a chain or library was read, and what its templates include and import; these are the
 -- numbers of what it leads to
@@ -129,6 +154,15 @@ found_templates f = pages_view f.pages.items
 
 abbrev pub found_homes : Found → List chain.Home
 found_homes f = homes_view f.homes
+
+abbrev pub found_ways : Found → List (List ℕ)
+found_ways f = graph_of f.ways.items
+
+-- the templates of each keep the rules
+abbrev pub AllKeep : Bool → Found → Type 0
+AllKeep escaping f =
+    let ts = found_templates f in
+    AllByRecursion (λ way. KeepAll (sources_in ts) escaping (templates_at ts way)) (found_ways f)
 
 -- the entry's name
 abbrev pub root_of : Found → Text

@@ -1,6 +1,6 @@
 -- What only private clauses cite: the includes and imports of a template, in the order of the
 -- source.
-use Rattle.std.specs.Prelude.{Bool, true, false, not, ◌||◌, if◌then◌else◌, List, [], ◌∷◌, ◌++◌, map}
+use Rattle.std.specs.Prelude.{◌≡◌, Bool, true, false, not, ◌||◌, if◌then◌else◌, List, [], ◌∷◌, ◌++◌, map}
 use Rattle.jt_trees.specs.Expressions.{Text}
 use Rattle.jt_trees.specs.Statements.{Stmt, choose, for_each, set_block, with_values, filter_block, autoescape, macro, include, import_as, import_from, block, Body, end, stmt, Branches, no_branches, branch}
 use Rattle.jt_chains.specs.Chain.{Home, a_chain, a_library}
@@ -59,3 +59,7 @@ need_view n = record { name = n.name.now; ignoring = n.ignoring; library = n.is_
 
 abbrev pub needs_view : List Include → List Need
 needs_view = map need_view
+
+-- these stand behind those that were found
+abbrev pub AddsNeeds : List Include → List Include → List Need → Type 0
+AddsNeeds old new ns = needs_view new ≡ needs_view old ++ ns

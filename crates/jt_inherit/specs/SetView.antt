@@ -1,5 +1,5 @@
 -- What only private clauses cite: what contracts see of sets of texts and of homes.
-use Rattle.std.specs.Prelude.{List, map, string_bytes, if◌then◌else◌}
+use Rattle.std.specs.Prelude.{◌≡◌, ◌++◌, ℕ, Bool, false, List, map, slice_get, string_bytes, if◌then◌else◌, Option, Some, MatchOption}
 use Rattle.std.specs.declared.string.String.{String}
 use Rattle.std.specs.declared.alloc.Global.{Global}
 use denote.Ref.{Bor}
@@ -10,6 +10,10 @@ use Rattle.jt_inherit.specs.declared.sets.HomeKey.{HomeKey}
 abbrev pub texts : List (Bor Text) → List Text
 texts ks = map (λ k. k.now) ks
 
+-- these stand behind those that were there
+abbrev pub AddsTexts : List (Bor Text) → List (Bor Text) → List Text → Type 0
+AddsTexts old new xs = texts new ≡ texts old ++ xs
+
 abbrev pub strings : List (String Global) → List Text
 strings ks = map string_bytes ks
 
@@ -18,3 +22,7 @@ key_view k = if k.is_library then a_library (string_bytes k.name) else a_chain (
 
 abbrev pub keys_view : List HomeKey → List Home
 keys_view = map key_view
+
+-- the number of an item among others, or none where it isn't there
+abbrev pub FindsIn : {A : Type 0} → (A → List A → Bool) → List A → A → Option ℕ → Type 0
+FindsIn is xs x found = MatchOption found (is x xs ≡ false) (λ i. slice_get xs i ≡ Some x)

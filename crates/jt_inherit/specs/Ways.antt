@@ -1,7 +1,8 @@
 -- What only private clauses cite: ways: how templates lead from one name to another.
-use Rattle.std.specs.Prelude.{◌≡◌, ℕ, ◌≤◌, ◌⊎◌, ◌++◌, true, false, IsTrue, List, [], ◌∷◌, Option, Some, None, length, map}
+use Rattle.std.specs.Prelude.{◌≡◌, ℕ, ◌≤◌, ◌⊎◌, ◌++◌, true, false, IsTrue, List, [], ◌∷◌, Option, Some, None, length, map, Result, Ok, Err, Vec}
 use Rattle.std.specs.Coded.{×_prop, Coded-set, coded_bool, coded_list, coded_ℕ}
 use Rattle.std.specs.List.{AllByRecursion}
+use Rattle.std.specs.declared.alloc.Global.{Global}
 use Rattle.jt_trees.specs.Sizes.{body_bytes}
 use Rattle.jt_trees.specs.Texts.{among, repeated}
 use Rattle.jt_trees.specs.Expressions.{Text}
@@ -106,3 +107,22 @@ BreaksAll given options ps h e =
     (root : Text)
     → Reaches (sources_in (pages_view ps)) options.autoescape (a_chain root) h
     → Breaks e given root options
+
+-- the templates of a chain or a library are read, or the refusal breaks each chain from which it is
+-- reached
+abbrev pub Reads : Given → Options → List Page → List Page → Names → Names → Home
+    → Result (Vec ℕ Global) ChainError → Type 0
+Reads given options before after old new h (Ok is) =
+    HasRead given options before after old new h is.items
+Reads given options before after old new h (Err e) = BreaksAll given options before h e
+
+-- what is known of templates, with others in front of them, is known of these
+abbrev pub StayKnown : Given → Options → List Page → List Page → Names → Names → Type 0
+StayKnown given options before after old new =
+    (ts : List Template)
+    → AreKnown given options (ts ++ pages_view before) (names_view old)
+    → AreKnown given options (ts ++ pages_view after) (names_view new)
+
+-- more names stand behind those that were there
+abbrev pub HaveGrown : Names → Names → Type 0
+HaveGrown old new = (more : List Text) × (names_view new ≡ names_view old ++ more)

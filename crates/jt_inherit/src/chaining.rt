@@ -3,14 +3,11 @@
 ghost use Rattle.std.specs.Prelude.{◌≡◌, ◌+◌, ◌*◌, ◌<◌, ◌≤◌, length, OnOk, IfOk, IfErr, MatchResult};
 ghost use Rattle.std.specs.List.{AllByRecursion};
 ghost use Rattle.jt_graph.specs.Graph.{next_of};
-ghost use Rattle.jt_graph.specs.View.{graph_of};
 ghost use Rattle.jt_trees.specs.Sizes.{body_bytes};
 ghost use Rattle.jt_trees.specs.Expressions.{Text};
-ghost use Rattle.jt_chains.specs.Along.{ArePlaces, templates_at};
+ghost use Rattle.jt_chains.specs.Along.{ArePlaces};
 ghost use Rattle.jt_inherit.specs.Chains.{IsChain};
-ghost use Rattle.jt_inherit.specs.Found.{BreaksAt, HasHomes, found_homes, found_templates};
-ghost use Rattle.jt_inherit.specs.Kept.{KeepAll};
-ghost use Rattle.jt_chains.specs.Chain.{sources_in};
+ghost use Rattle.jt_inherit.specs.Found.{AllKeep, BreaksAt, HasHomes, found_homes, found_templates, found_ways};
 ghost use Rattle.jt_chains.specs.Pages.{home_view};
 ghost use Rattle.jt_chains.specs.Places.{home_at};
 ghost use Rattle.jt_inherit.specs.Refusals.{Breaks};
@@ -85,13 +82,10 @@ pub fn chain<L: Library>(
 fn check_chains(alloc: Global, found: &Found, escaping: bool) -> Result<(), ChainError>
     requires named { AreNamed (found_templates found.now) (names_view found.now.names) }
     requires places { AllByRecursion (ArePlaces (found_templates found.now))
-        (graph_of found.now.ways.items) }
-    ensures kept { OnOk result (AllByRecursion
-        (λ way. KeepAll (sources_in (found_templates found.now)) escaping
-        (templates_at (found_templates found.now) way))
-        (graph_of found.now.ways.items)) }
+        (found_ways found.now) }
+    ensures kept { OnOk result (AllKeep escaping found.now) }
     ensures broken { IfErr result
-        (λ e. BreaksAt escaping (found_templates found.now) (graph_of found.now.ways.items) e) }
+        (BreaksAt escaping (found_templates found.now) (found_ways found.now)) }
 {
     for way in &found.ways {
         let shelf = Shelf {
@@ -108,7 +102,7 @@ fn homes_in(alloc: Global, found: &Found, order: &[usize]) -> Result<Vec<Home>, 
     requires all { length found.now.ways.items ≡ length (found_homes found.now) }
     requires within { AllByRecursion (λ i. i < length found.now.ways.items) order.now }
     ensures { IfOk result (λ homes.
-        HasHomes (found_homes found.now) (graph_of found.now.ways.items) order.now homes.items) }
+        HasHomes (found_homes found.now) (found_ways found.now) order.now homes.items) }
 {
     let mut homes = Vec::with_capacity(alloc, order.len())?;
     for number in order {
@@ -123,7 +117,7 @@ fn home_of(alloc: Global, found: &Found, number: usize) -> Result<Home, AllocErr
     requires within { number < length found.now.ways.items }
     ensures home { IfOk result (λ h. home_view h ≡ home_at (found_homes found.now) number) }
     ensures templates { IfOk result
-        (λ h. h.templates.items ≡ next_of (graph_of found.now.ways.items) number) }
+        (λ h. h.templates.items ≡ next_of (found_ways found.now) number) }
 {
     let home = &found.homes.as_slice()[number];
     Ok(Home {

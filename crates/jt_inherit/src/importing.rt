@@ -1,6 +1,6 @@
 //! What the imports of a chain give.
 
-ghost use Rattle.std.specs.Prelude.{◌≡◌, ◌++◌, map, IfOk};
+ghost use Rattle.std.specs.Prelude.{◌≡◌, map, IfOk};
 ghost use Rattle.jt_trees.specs.StatementView.{body_view, given_view};
 ghost use Rattle.jt_chains.specs.Along.{ArePlaces};
 ghost use Rattle.jt_chains.specs.Chain.{a_library, macros};
@@ -9,7 +9,7 @@ ghost use Rattle.jt_chains.specs.Rules as rules;
 ghost use Rattle.jt_inherit.specs.Kept as spec;
 ghost use Rattle.jt_inherit.specs.Kept.{names_from, imported_names, their_names};
 ghost use Rattle.jt_inherit.specs.Given.{IsGiven, macros_held, its_sources, its_templates};
-ghost use Rattle.jt_inherit.specs.SetView.{texts};
+ghost use Rattle.jt_inherit.specs.SetView.{AddsTexts, texts};
 
 use crate::shelf::Shelf;
 use jt_chains::{Macro, Page, macros_at};
@@ -85,8 +85,8 @@ fn add_from<'a>(
     names: &'a [(String, String)],
     given: &mut Vec<&'a str>,
 ) -> Result<(), AllocError>
-    ensures { IfOk result (λ _. texts given.new.items
-        ≡ texts given.old.items ++ names_from (macros_held page.now) (given_view names.now)) }
+    ensures { IfOk result (λ _. AddsTexts given.old.items given.new.items
+        (names_from (macros_held page.now) (given_view names.now))) }
 {
     for (name, one) in names {
         if page.gives(name) {
@@ -103,8 +103,8 @@ fn add_given<'a>(
     names: &'a [(String, String)],
     given: &mut Vec<&'a str>,
 ) -> Result<(), AllocError>
-    ensures { IfOk result (λ _. texts given.new.items ≡ texts given.old.items ++ names_from
-        (macros (its_sources shelf.entry) (a_library library.now)) (given_view names.now)) }
+    ensures { IfOk result (λ _. AddsTexts given.old.items given.new.items (names_from
+        (macros (its_sources shelf.entry) (a_library library.now)) (given_view names.now))) }
 {
     match library_page(shelf, library) {
         Some(page) => add_from(page, names, given),
@@ -118,8 +118,8 @@ fn add_imported<'a>(
     body: &'a [Stmt],
     given: &mut Vec<&'a str>,
 ) -> Result<(), AllocError>
-    ensures { IfOk result (λ _. texts given.new.items
-        ≡ texts given.old.items ++ imported_names (its_sources shelf.entry) (body_view body.now)) }
+    ensures { IfOk result (λ _. AddsTexts given.old.items given.new.items
+        (imported_names (its_sources shelf.entry) (body_view body.now))) }
 {
     for statement in body {
         match statement {

@@ -1,18 +1,17 @@
 //! What the templates of a chain include and import: the templates, and the chains and libraries
 //! that they are.
 
-ghost use Rattle.std.specs.Prelude.{◌≡◌, ◌≤◌, ◌++◌, ◌∷◌, [], ◌⊎◌, true, false, List, length, OnOk, IfOk, IfErr, IsTrue, string_bytes};
+ghost use Rattle.std.specs.Prelude.{◌≡◌, ◌≤◌, ◌++◌, ◌∷◌, [], true, false, length, OnOk, IfOk, IfErr, string_bytes};
 ghost use Rattle.std.specs.List.{AllByRecursion};
-ghost use Rattle.jt_trees.specs.Expressions.{Text};
 ghost use Rattle.jt_chains.specs.Along.{ArePlaces};
-ghost use Rattle.jt_inherit.specs.Along.{includes_along, imports_along, needs_along};
-ghost use Rattle.jt_chains.specs.Chain.{Template, a_chain, listed};
-ghost use Rattle.jt_inherit.specs.Found.{IsMet, IsFaultAt, IsNeedFault, AreNext, AddsNext, IsNextFault, chosen, chains_of, twice};
-ghost use Rattle.jt_inherit.specs.Needs.{need_home, need_view, needed, needs_view};
+ghost use Rattle.jt_inherit.specs.Along.{includes_along, imports_along, needs_of};
+ghost use Rattle.jt_chains.specs.Chain.{listed};
+ghost use Rattle.jt_inherit.specs.Found.{IsMet, IsFaultAt, IsNeedRefusal, IsPutFault, AreHomes, AreNext, AddsNext, IsNextFault, chains_of, lead_to, leads_to};
+ghost use Rattle.jt_inherit.specs.Needs.{AddsNeeds, need_home, need_view, needed, needs_view};
 ghost use Rattle.jt_chains.specs.Pages.{pages_view};
 ghost use Rattle.jt_inherit.specs.SetView.{key_view};
 ghost use Rattle.jt_inherit.specs.Sets.{homes_view, names_view};
-ghost use Rattle.jt_inherit.specs.Ways.{AreKnown, AddsName, KnowPages, AddsNames};
+ghost use Rattle.jt_inherit.specs.Ways.{AreKnown, AddsName, HaveGrown, KnowPages, AddsNames, StayKnown};
 
 use crate::error::ChainError;
 use crate::library::Library;
@@ -51,8 +50,8 @@ fn add_imports_at<'a>(
     found: &mut Vec<Include<'a>>,
 ) -> Result<(), AllocError>
     requires { ArePlaces (pages_view pages.now) places.now }
-    ensures { IfOk result (λ _. needs_view found.new.items
-        ≡ needs_view found.old.items ++ imports_along (pages_view pages.now) places.now) }
+    ensures { IfOk result (λ _. AddsNeeds found.old.items found.new.items
+        (imports_along (pages_view pages.now) places.now)) }
 {
     for place in places {
         add_imports(found, pages[*place].template.body())?;
@@ -67,8 +66,7 @@ fn needs_at<'a>(
     places: &[usize],
 ) -> Result<Vec<Include<'a>>, AllocError>
     requires { ArePlaces (pages_view pages.now) places.now }
-    ensures { IfOk result
-        (λ found. needs_view found.items ≡ needs_along (pages_view pages.now) places.now) }
+    ensures { IfOk result (λ found. needs_view found.items ≡ needs_of pages.now places.now) }
 {
     let mut found = includes_at(alloc, pages, places)?;
     add_imports_at(pages, places, &mut found)?;
@@ -85,13 +83,9 @@ fn read_include<L: Library>(
     library: &L,
     options: Options,
 ) -> Result<(), ChainError>
-    ensures known { OnOk result ((ts : List Template)
-        → AreKnown (L.sources library.now) options (ts ++ pages_view fresh.old.items)
-        (names_view names.old)
-        → AreKnown (L.sources library.now) options (ts ++ pages_view fresh.new.items)
-        (names_view names.new)) }
-    ensures grown { OnOk result
-        ((more : List Text) × (names_view names.new ≡ names_view names.old ++ more)) }
+    ensures known { OnOk result (StayKnown (L.sources library.now) options fresh.old.items
+        fresh.new.items names.old names.new) }
+    ensures grown { OnOk result (HaveGrown names.old names.new) }
     ensures from { OnOk result (AddsName names.old names.new include.entry.name.now) }
     ensures met { OnOk result
         (IsMet (L.sources library.now) (names_view names.new) (need_view include.entry)) }
@@ -125,14 +119,12 @@ pub(crate) fn read_includes<L: Library>(
     ensures known { IfOk result (λ fresh. AreKnown (L.sources library.now) options
         (pages_view pages.now ++ pages_view fresh.items) (names_view names.new)) }
     // what is new is included or imported
-    ensures from { OnOk result (AddsNames names.old names.new
-        (needed true (needs_along (pages_view pages.now) way.now))) }
+    ensures from { OnOk result
+        (AddsNames names.old names.new (needed true (needs_of pages.now way.now))) }
     ensures met { OnOk result (AllByRecursion
-        (IsMet (L.sources library.now) (names_view names.new))
-        (needs_along (pages_view pages.now) way.now)) }
-    ensures refused { IfErr result (λ e. (e ≡ ChainError.NoMemory)
-        ⊎ IsNeedFault (L.sources library.now) options
-        (needs_along (pages_view pages.now) way.now) e) }
+        (IsMet (L.sources library.now) (names_view names.new)) (needs_of pages.now way.now)) }
+    ensures refused { IfErr result
+        (IsNeedRefusal (L.sources library.now) options (needs_of pages.now way.now)) }
 {
     let found = needs_at(alloc, pages, way)?;
     let mut fresh = Vec::new(alloc);
@@ -156,13 +148,10 @@ fn home_of(alloc: Global, include: Include<'_>) -> Result<HomeKey, AllocError>
 fn put_new(alloc: Global, homes: &mut Homes, home: HomeKey) -> Result<(), ChainError>
     requires new { listed (key_view home) (homes_view homes.old) ≡ false }
     requires few { length (chains_of (homes_view homes.old)) ≤ MAX_CHAINS }
-    ensures put { OnOk result
-        (homes_view homes.new ≡ homes_view homes.old ++ key_view home ∷ []) }
+    ensures put { OnOk result (homes_view homes.new ≡ homes_view homes.old ++ key_view home ∷ []) }
     ensures few { OnOk result (length (chains_of (homes_view homes.new)) ≤ MAX_CHAINS) }
-    ensures refused { IfErr result (λ e. (e ≡ ChainError.NoMemory)
-        ⊎ ((e ≡ ChainError.ChainTooLong)
-        × (length (chains_of (homes_view homes.old)) ≡ MAX_CHAINS)
-        × (key_view home ≡ a_chain (string_bytes home.name)))) }
+    ensures refused { IfErr result
+        (IsPutFault (homes_view homes.old) (key_view home) (string_bytes home.name)) }
 {
     if home.is_library {
         homes.put(alloc, home)?;
@@ -177,12 +166,10 @@ fn put_new(alloc: Global, homes: &mut Homes, home: HomeKey) -> Result<(), ChainE
 
 /// The number of a chain or a library, which is put behind the others where it is new.
 fn number_of(alloc: Global, homes: &mut Homes, home: HomeKey) -> Result<usize, ChainError>
-    requires once { twice (homes_view homes.old) ≡ false }
-    requires few { length (chains_of (homes_view homes.old)) ≤ MAX_CHAINS }
+    requires { AreHomes (homes_view homes.old) }
     ensures next { IfOk result (λ i. AreNext (homes_view homes.old)
         (homes_view homes.new) (key_view home ∷ []) (i ∷ [])) }
-    ensures refused { IfErr result
-        (λ e. IsNextFault (homes_view homes.old) (key_view home ∷ []) e) }
+    ensures refused { IfErr result (IsNextFault (homes_view homes.old) (key_view home ∷ [])) }
 {
     if let Some(number) = homes.find(&home) {
         return Ok(number);
@@ -200,13 +187,11 @@ fn add_number(
     numbers: &mut Vec<usize>,
     include: Include<'_>,
 ) -> Result<(), ChainError>
-    requires once { twice (homes_view homes.old) ≡ false }
-    requires few { length (chains_of (homes_view homes.old)) ≤ MAX_CHAINS }
+    requires { AreHomes (homes_view homes.old) }
     ensures next { OnOk result (AddsNext (homes_view homes.old) (homes_view homes.new)
-        (chosen (names_view names.now) (need_view include.entry ∷ []))
-        numbers.old.items numbers.new.items) }
-    ensures refused { IfErr result (λ e. IsNextFault (homes_view homes.old)
-        (chosen (names_view names.now) (need_view include.entry ∷ [])) e) }
+        (leads_to names.now include.entry) numbers.old.items numbers.new.items) }
+    ensures refused { IfErr result
+        (IsNextFault (homes_view homes.old) (leads_to names.now include.entry)) }
 {
     let Some(_place) = names.find(include.name) else {
         return Ok(());
@@ -227,14 +212,11 @@ pub(crate) fn next_homes(
     way: &[usize],
 ) -> Result<Vec<usize>, ChainError>
     requires places { ArePlaces (pages_view pages.now) way.now }
-    requires once { twice (homes_view homes.old) ≡ false }
-    requires few { length (chains_of (homes_view homes.old)) ≤ MAX_CHAINS }
-    ensures next { IfOk result (λ numbers. AreNext (homes_view homes.old)
-        (homes_view homes.new)
-        (chosen (names_view names.now) (needs_along (pages_view pages.now) way.now))
-        numbers.items) }
-    ensures refused { IfErr result (λ e. IsNextFault (homes_view homes.old)
-        (chosen (names_view names.now) (needs_along (pages_view pages.now) way.now)) e) }
+    requires homes { AreHomes (homes_view homes.old) }
+    ensures next { IfOk result (λ numbers. AreNext (homes_view homes.old) (homes_view homes.new)
+        (lead_to names.now pages.now way.now) numbers.items) }
+    ensures refused { IfErr result
+        (IsNextFault (homes_view homes.old) (lead_to names.now pages.now way.now)) }
 {
     let found = needs_at(alloc, pages, way)?;
     let mut numbers = Vec::new(alloc);

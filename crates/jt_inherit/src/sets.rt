@@ -2,11 +2,11 @@
 //! chooses the names, so that they are found by their order: no choice makes that slow, as it would
 //! a hash.
 
-ghost use Rattle.std.specs.Prelude.{◌≡◌, ◌^◌, ◌<◌, ◌++◌, ◌∷◌, [], false, length, slice_get, Some, MatchOption, OnOk, string_bytes};
+ghost use Rattle.std.specs.Prelude.{◌≡◌, ◌^◌, ◌<◌, ◌++◌, ◌∷◌, [], false, length, OnOk, string_bytes};
 ghost use Rattle.jt_trees.specs.Texts.{among};
 ghost use Rattle.jt_chains.specs.Chain.{listed};
 ghost use Rattle.jt_inherit.specs.Numbers.{AreNumbers, AreNumbers-prop, is_text, is_chain, is_library};
-ghost use Rattle.jt_inherit.specs.SetView.{strings, key_view, keys_view};
+ghost use Rattle.jt_inherit.specs.SetView.{FindsIn, strings, key_view, keys_view};
 
 use std::alloc::{AllocError, Global};
 use std::collections::BTreeMap;
@@ -30,6 +30,8 @@ pub(crate) struct Names {
 }
 
 impl Names {
+    ghost use Rattle.jt_inherit.specs.Sets.{names_view};
+
     /// None.
     pub(crate) fn new(alloc: Global) -> Names
         ensures { result.items.items ≡ [] }
@@ -42,17 +44,15 @@ impl Names {
 
     /// The number of a name.
     pub(crate) fn find(&self, name: &str) -> Option<usize>
-        ensures { MatchOption result (among name.now (strings self.now.items.items) ≡ false)
-            (λ i. slice_get (strings self.now.items.items) i ≡ Some name.now) }
+        ensures { FindsIn among (strings self.now.items.items) name.now result }
     {
         self.numbers.get(name).copied()
     }
 
     /// Puts a name that isn't there behind the others.
     pub(crate) fn put(&mut self, alloc: Global, name: &str) -> Result<(), AllocError>
-        requires { among name.now (strings self.old.items.items) ≡ false }
-        ensures { OnOk result
-            (strings self.new.items.items ≡ strings self.old.items.items ++ name.now ∷ []) }
+        requires { among name.now (names_view self.old) ≡ false }
+        ensures { OnOk result (names_view self.new ≡ names_view self.old ++ name.now ∷ []) }
     {
         let number = self.items.len();
         let key = String::from_str(alloc, name)?;
@@ -81,6 +81,7 @@ pub(crate) struct Homes {
 
 impl Homes {
     ghost use Rattle.jt_inherit.specs.Found.{chains_of};
+    ghost use Rattle.jt_inherit.specs.Sets.{homes_view};
 
     /// None.
     pub(crate) fn new(alloc: Global) -> Homes
@@ -110,9 +111,7 @@ impl Homes {
 
     /// The number of a chain or a library.
     pub(crate) fn find(&self, home: &HomeKey) -> Option<usize>
-        ensures { MatchOption result
-            (listed (key_view home.now) (keys_view self.now.items.items) ≡ false)
-            (λ i. slice_get (keys_view self.now.items.items) i ≡ Some (key_view home.now)) }
+        ensures { FindsIn listed (keys_view self.now.items.items) (key_view home.now) result }
     {
         if home.is_library {
             return self.libraries.get(home.name.as_str()).copied();
@@ -122,9 +121,8 @@ impl Homes {
 
     /// Puts a chain or a library that isn't there behind the others.
     pub(crate) fn put(&mut self, alloc: Global, home: HomeKey) -> Result<(), AllocError>
-        requires { listed (key_view home) (keys_view self.old.items.items) ≡ false }
-        ensures { OnOk result (keys_view self.new.items.items
-            ≡ keys_view self.old.items.items ++ key_view home ∷ []) }
+        requires { listed (key_view home) (homes_view self.old) ≡ false }
+        ensures { OnOk result (homes_view self.new ≡ homes_view self.old ++ key_view home ∷ []) }
     {
         let number = self.items.len();
         let name = String::from_str(alloc, &home.name)?;
@@ -141,7 +139,7 @@ impl Homes {
 
     /// How many of them are chains.
     pub(crate) fn count_chains(&self) -> usize
-        ensures { result ≡ length (chains_of (keys_view self.now.items.items)) }
+        ensures { result ≡ length (chains_of (homes_view self.now)) }
     {
         let mut count = 0;
         for home in &self.items {

@@ -1,12 +1,12 @@
 //! What the statements of a template name: the template that it extends, and those that it
 //! includes or imports.
 
-ghost use Rattle.std.specs.Prelude.{◌≡◌, ◌++◌, option_map, IfOk};
+ghost use Rattle.std.specs.Prelude.{◌≡◌, option_map, IfOk};
 ghost use Rattle.jt_trees.specs.StatementView.{stmt_view, body_view};
 ghost use Rattle.jt_chains.specs.Chain.{extends_of};
-ghost use Rattle.jt_inherit.specs.Needs.{includes_of, includes_in, imports_in, library_need, need_view, needs_view};
+ghost use Rattle.jt_inherit.specs.Needs.{includes_of, includes_in, imports_in, library_need, need_view, AddsNeeds};
 
-use jt_trees::Stmt;
+use jt_trees::{Branch, Stmt};
 use std::alloc::AllocError;
 
 /// An include or an import: the template's name, whether it may be missing, and whether it is
@@ -36,8 +36,8 @@ pub(crate) fn add_includes<'a>(
     found: &mut Vec<Include<'a>>,
     body: &'a [Stmt],
 ) -> Result<(), AllocError>
-    ensures { IfOk result (λ _. needs_view found.new.items
-        ≡ needs_view found.old.items ++ includes_in (body_view body.now)) }
+    ensures { IfOk result
+        (λ _. AddsNeeds found.old.items found.new.items (includes_in (body_view body.now))) }
 {
     for statement in body {
         add_statement(found, statement)?;
@@ -48,8 +48,8 @@ pub(crate) fn add_includes<'a>(
 /// Adds those of one statement.
 #[cycle(includes)]
 fn add_statement<'a>(found: &mut Vec<Include<'a>>, statement: &'a Stmt) -> Result<(), AllocError>
-    ensures { IfOk result (λ _. needs_view found.new.items
-        ≡ needs_view found.old.items ++ includes_of (stmt_view statement.now)) }
+    ensures { IfOk result
+        (λ _. AddsNeeds found.old.items found.new.items (includes_of (stmt_view statement.now))) }
 {
     match statement {
         Stmt::Data(_)
@@ -67,7 +67,7 @@ fn add_statement<'a>(found: &mut Vec<Include<'a>>, statement: &'a Stmt) -> Resul
             Ok(())
         }
         Stmt::If(branches, other) => {
-            for (_, _, body) in branches {
+            for Branch { body, .. } in branches {
                 add_includes(found, body)?;
             }
             add_includes(found, other)?;
@@ -103,8 +103,8 @@ pub(crate) fn add_imports<'a>(
     found: &mut Vec<Include<'a>>,
     body: &'a [Stmt],
 ) -> Result<(), AllocError>
-    ensures { IfOk result (λ _. needs_view found.new.items
-        ≡ needs_view found.old.items ++ imports_in (body_view body.now)) }
+    ensures { IfOk result
+        (λ _. AddsNeeds found.old.items found.new.items (imports_in (body_view body.now))) }
 {
     for statement in body {
         match statement {

@@ -5,7 +5,7 @@ ghost use Rattle.jt_trees.specs.ExpressionView.{expr_view, exprs_view, pairs_vie
 ghost use Rattle.jt_chains.specs.Supers as spec;
 ghost use Rattle.jt_trees.specs.StatementView.{stmt_view, body_view, branches_view, filtering_view, filterings_view};
 
-use jt_trees::{Expr, Filtering, Stmt};
+use jt_trees::{Branch, Expr, Filtering, Stmt};
 
 /// Whether an expression is the name `super`.
 fn is_super(expr: &Expr) -> bool
@@ -138,7 +138,11 @@ fn statement_super(statement: &Stmt) -> bool
         | Stmt::Block { .. } => false,
         Stmt::Print(_, value) | Stmt::Set { value, .. } => has_super(value),
         Stmt::If(branches, other) => {
-            for (_, condition, body) in branches {
+            for Branch {
+                condition,
+                body,
+                ..
+            } in branches {
                 if has_super(condition) {
                     return true;
                 }

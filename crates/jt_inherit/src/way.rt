@@ -1,12 +1,12 @@
 //! The way from a chain's entry to the root, and the template of a library.
 
-ghost use Rattle.std.specs.Prelude.{◌≡◌, map, IfOk, IfErr, option_map, string_bytes};
+ghost use Rattle.std.specs.Prelude.{◌≡◌, map, IfOk, option_map, string_bytes};
 ghost use Rattle.jt_trees.specs.Texts.{among};
 ghost use Rattle.jt_trees.specs.StatementView.{body_of};
 ghost use Rattle.jt_chains.specs.Along.{ArePlaces, templates_at};
-ghost use Rattle.jt_chains.specs.Chain.{a_chain, a_library, extends_of};
+ghost use Rattle.jt_chains.specs.Chain.{a_library, extends_of};
 ghost use Rattle.jt_chains.specs.Pages.{pages_view};
-ghost use Rattle.jt_inherit.specs.Ways.{BreaksAll, HasRead, KnowPages};
+ghost use Rattle.jt_inherit.specs.Ways.{KnowPages, Reads};
 ghost use Rattle.jt_inherit.specs.SetView.{key_view};
 
 use crate::error::ChainError;
@@ -46,40 +46,6 @@ fn parent_name(alloc: Global, page: &Page) -> Result<Option<String>, AllocError>
     }
 }
 
-/// Reads the templates from a chain's entry to the root: their places.
-fn read_way<L: Library>(
-    alloc: Global,
-    names: &mut Names,
-    pages: &mut Vec<Page>,
-    entry: &str,
-    library: &L,
-    options: Options,
-) -> Result<Vec<usize>, ChainError>
-    requires { KnowPages (L.sources library.now) options pages.old.items names.old }
-    ensures read { IfOk result (λ is. HasRead (L.sources library.now) options pages.old.items
-        pages.new.items names.old names.new (a_chain entry.now) is.items) }
-    ensures refused { IfErr result
-        (BreaksAll (L.sources library.now) options pages.old.items (a_chain entry.now)) }
-{
-    let mut way = Vec::new(alloc);
-    let mut name = String::from_str(alloc, entry)?;
-    for _turn in 0..MAX_TEMPLATES {
-        if is_on_way(pages, &way, &name) {
-            return Err(ChainError::ExtendsCycle);
-        }
-        let place = read_place(alloc, names, pages, &name, library, options)?;
-        way.push(place)?;
-        match parent_name(alloc, &pages[place])? {
-            Some(parent) => name = parent,
-            None => return Ok(way),
-        }
-    }
-    if is_on_way(pages, &way, &name) {
-        return Err(ChainError::ExtendsCycle);
-    }
-    Err(ChainError::ChainTooLong)
-}
-
 /// Reads the template of a library: its place.
 fn read_library<L: Library>(
     alloc: Global,
@@ -90,10 +56,8 @@ fn read_library<L: Library>(
     options: Options,
 ) -> Result<Vec<usize>, ChainError>
     requires { KnowPages (L.sources library.now) options pages.old.items names.old }
-    ensures read { IfOk result (λ is. HasRead (L.sources library.now) options pages.old.items
-        pages.new.items names.old names.new (a_library name.now) is.items) }
-    ensures refused { IfErr result
-        (BreaksAll (L.sources library.now) options pages.old.items (a_library name.now)) }
+    ensures { Reads (L.sources library.now) options pages.old.items pages.new.items names.old
+        names.new (a_library name.now) result }
 {
     let place = read_place(alloc, names, pages, name, library, options)?;
     if !holds_macros(pages[place].template.body()) {
@@ -114,13 +78,27 @@ pub(crate) fn read_home<L: Library>(
     options: Options,
 ) -> Result<Vec<usize>, ChainError>
     requires { KnowPages (L.sources library.now) options pages.old.items names.old }
-    ensures read { IfOk result (λ is. HasRead (L.sources library.now) options pages.old.items
-        pages.new.items names.old names.new (key_view home.now) is.items) }
-    ensures refused { IfErr result
-        (BreaksAll (L.sources library.now) options pages.old.items (key_view home.now)) }
+    ensures { Reads (L.sources library.now) options pages.old.items pages.new.items names.old
+        names.new (key_view home.now) result }
 {
     if home.is_library {
         return read_library(alloc, names, pages, &home.name, library, options);
     }
-    read_way(alloc, names, pages, &home.name, library, options)
+    let mut way = Vec::new(alloc);
+    let mut name = String::from_str(alloc, &home.name)?;
+    for _turn in 0..MAX_TEMPLATES {
+        if is_on_way(pages, &way, &name) {
+            return Err(ChainError::ExtendsCycle);
+        }
+        let place = read_place(alloc, names, pages, &name, library, options)?;
+        way.push(place)?;
+        match parent_name(alloc, &pages[place])? {
+            Some(parent) => name = parent,
+            None => return Ok(way),
+        }
+    }
+    if is_on_way(pages, &way, &name) {
+        return Err(ChainError::ExtendsCycle);
+    }
+    Err(ChainError::ChainTooLong)
 }

@@ -19,7 +19,8 @@ use Rattle.jt_rules.specs.World.{World}
 use Rattle.jt_resolved.specs.Slots.{global}
 use Rattle.jt_meaning.specs.Layout.{in_globals, slot_in, globals_from, counted_from, of_macro, of_body, entry_keys, place_of, first_default, default_place, numbered_of, names, block_parameters, is_scoped, unit, defaults_of}
 use Rattle.jt_meaning.specs.Resolve.{first_body}
-use Rattle.jt_layout.specs.Front.{Stands, its_world, its_order, its_home}
+use Rattle.jt_layout.specs.Front.{Stands}
+use Rattle.jt_layout.specs.Homes.{its_world, its_order, its_home}
 use Rattle.jt_layout.specs.Laid.{is_library, IsCalled, IsGiven}
 use Rattle.jt_layout.specs.Places.{home_named, first_of, defaults_from, nexts}
 use Rattle.jt_layout.specs.declared.front.Front.{Front}

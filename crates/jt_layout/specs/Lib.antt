@@ -1,4 +1,5 @@
 pub mod Front
+pub mod Homes
 pub mod Laid
 pub mod Names
 pub mod Places

@@ -1,5 +1,5 @@
 -- What only private clauses cite: places of names and homes in lists, and the names of chains.
-use Rattle.std.specs.Prelude.{ℕ, suc, ◌+◌, Bool, List, [], ◌∷◌, ◌++◌, length, flat_map, Option, Some, None, if◌then◌else◌, filter, Vec}
+use Rattle.std.specs.Prelude.{◌≡◌, ℕ, suc, ◌+◌, Bool, List, [], ◌∷◌, ◌++◌, length, flat_map, Option, Some, None, if◌then◌else◌, filter, Vec}
 use Rattle.std.specs.declared.alloc.Global.{Global}
 use Rattle.std.specs.Ordering.{nat_cmp}
 use Rattle.std.specs.Cmp.Lexicographic.{slice_cmp}
@@ -15,11 +15,16 @@ use Rattle.jt_rules.specs.World.{World}
 use Rattle.jt_meaning.specs.Layout.{names_in}
 use Rattle.jt_meaning.specs.Resolve.{next_given}
 use Rattle.jt_names.specs.Names.{texts}
+use Rattle.jt_layout.specs.Names.{place_in}
 
 -- the place of the first of these texts that is x, where they have the places from one on
 abbrev pub first_of : Text → ℕ → List Text → Option ℕ
 first_of x n [] = None
 first_of x n (y ∷ ys) = if bytes_eq y x then Some n else first_of x (suc n) ys
+
+-- a place for each of these names: that of the first one, where they have the places from one on
+abbrev pub ArePlaces : ℕ → List Text → BTreeMap (Bor Text) ℕ → Type 0
+ArePlaces n xs m = (x : Text) → place_in m x ≡ first_of x n xs
 
 -- the chain or the library of a name
 abbrev pub home_named : Bool → Text → Home

@@ -5,17 +5,14 @@ ghost use Rattle.std.specs.List.{list_any};
 ghost use Rattle.std.specs.Option.{is_some};
 ghost use Rattle.std.specs.Str.{bytes_eq};
 ghost use Rattle.jt_trees.specs.Expressions.{Text};
-ghost use Rattle.jt_chains.specs.Chain.{Template, all_bodies};
+ghost use Rattle.jt_chains.specs.Chain.{Template};
 ghost use Rattle.jt_chains.specs.Parts.{block_view};
-ghost use Rattle.jt_chains.specs.Places.{home_at};
 ghost use Rattle.jt_chains.specs.Uses as uses;
-ghost use Rattle.jt_chains.specs.View.{chain_view, sources_of};
-ghost use Rattle.jt_rules.specs.World.{world_of};
-ghost use Rattle.jt_meaning.specs.Layout.{counted_from, numbered_of, is_scoped};
-ghost use Rattle.jt_meaning.specs.Resolve.{first_body};
+ghost use Rattle.jt_meaning.specs.Layout.{counted_from, is_scoped};
 ghost use Rattle.jt_names.specs.Names.{texts};
+ghost use Rattle.jt_layout.specs.Homes.{its_world, its_sources, its_home, its_bodies, bodies_kept};
 ghost use Rattle.jt_layout.specs.Names.{place_in};
-ghost use Rattle.jt_layout.specs.Places.{nexts, first_of};
+ghost use Rattle.jt_layout.specs.Places.{nexts, ArePlaces};
 
 use crate::index::Index;
 use crate::lists::{block_names, list_of};
@@ -26,8 +23,7 @@ use std::alloc::Global;
 
 /// The first body of each block.
 fn first_bodies<'a>(alloc: Global, blocks: &[Block<'a>]) -> Result<Index<'a>, NoMemory>
-    ensures { IfOk result (λ i. (x : Text)
-        → place_in i.places x ≡ first_of x 0 (map (λ k. k.name.now) blocks.now)) }
+    ensures { IfOk result (λ i. ArePlaces 0 (map (λ k. k.name.now) blocks.now) i.places) }
 {
     let names = block_names(alloc, blocks)?;
     Index::of(alloc, &names, 0)
@@ -88,19 +84,15 @@ pub(crate) fn bodies_of<'a>(
     home: usize,
 ) -> Result<Bodies<'a>, NoMemory>
     requires { home < length chain.now.homes.items }
-    ensures all { IfOk result (λ b. map (block_view (chain_view chain.now).templates) b.all.items
-        ≡ all_bodies (sources_of (chain_view chain.now)) chain.now.autoescape
-        (home_at (chain_view chain.now).order home)) }
-    ensures firsts { IfOk result (λ b. (x : Text)
-        → place_in b.firsts.places x ≡ first_of x 0 (map (λ k. k.name.now) b.all.items)) }
-    ensures nexts { IfOk result (λ b. b.nexts.items
-        ≡ nexts (counted_from 0 (all_bodies (sources_of (chain_view chain.now)) chain.now.autoescape
-        (home_at (chain_view chain.now).order home)))) }
+    ensures all { IfOk result (λ b. bodies_kept chain.now b.all.items ≡ its_bodies chain.now home) }
+    ensures firsts { IfOk result
+        (λ b. ArePlaces 0 (map (λ k. k.name.now) b.all.items) b.firsts.places) }
+    ensures nexts { IfOk result
+        (λ b. b.nexts.items ≡ nexts (counted_from 0 (its_bodies chain.now home))) }
     ensures names { IfOk result (λ b. texts b.scope_names.items
-        ≡ uses.scope_names (sources_of (chain_view chain.now))
-        (home_at (chain_view chain.now).order home)) }
-    ensures scoped { IfOk result (λ b. (x : Text) → is_some (place_in b.scoped.places x) ≡
-        is_scoped (world_of (chain_view chain.now)) (home_at (chain_view chain.now).order home) x) }
+        ≡ uses.scope_names (its_sources chain.now) (its_home chain.now home)) }
+    ensures scoped { IfOk result (λ b. (x : Text) → is_some (place_in b.scoped.places x)
+        ≡ is_scoped (its_world chain.now) (its_home chain.now home) x) }
 {
     let scope_names = list_of(alloc, scope_names(alloc, chain, home)?)?;
     let all = chain.blocks(alloc, home)?;

@@ -1,18 +1,14 @@
 //! The names of chains, from the last one to the first.
 
 ghost use Rattle.std.specs.Prelude.{◌≡◌, ◌<◌, ◌+◌, false, [], length, drop, IfOk, if◌then◌else◌, string_bytes};
-ghost use Rattle.std.specs.Option.{is_none};
 ghost use Rattle.std.specs.Str.{bytes_eq};
 ghost use Rattle.jt_trees.specs.Texts.{all_inserted};
 ghost use Rattle.jt_trees.specs.Expressions.{Text};
 ghost use Rattle.jt_chains.specs.Chain.{a_chain, same_home};
 ghost use Rattle.jt_chains.specs.Pages.{home_view};
-ghost use Rattle.jt_chains.specs.Places.{home_at};
-ghost use Rattle.jt_chains.specs.View.{chain_view, sources_of};
-ghost use Rattle.jt_rules.specs.World.{world_of};
-ghost use Rattle.jt_meaning.specs.Layout.{in_globals, names_in};
+ghost use Rattle.jt_meaning.specs.Layout.{in_globals};
 ghost use Rattle.jt_names.specs.Names.{texts};
-ghost use Rattle.jt_layout.specs.Names.{place_in};
+ghost use Rattle.jt_layout.specs.Homes.{its_world, its_order, its_home, AreSources, AreNames};
 ghost use Rattle.jt_layout.specs.Places.{all_names, names_at};
 
 use crate::includes::included_names;
@@ -101,15 +97,10 @@ fn names_of_chain<'a>(
     behind: &Gathered<'a>,
 ) -> Result<Vec<&'a str>, AllocError>
     requires stands { home < length chain.now.homes.items }
-    requires sources { (x : Text)
-        → is_none (place_in sources.now.places x) ≡ is_none (sources_of (chain_view chain.now) x) }
-    requires behind { (x : Text)
-        → names_at behind.now.names x
-        ≡ names_in (world_of (chain_view chain.now)) (drop (home + 1) (chain_view chain.now).order)
-        (a_chain x) }
-    ensures { IfOk result (λ ns. texts ns.items ≡ all_names (world_of (chain_view chain.now))
-        (drop (home + 1) (chain_view chain.now).order)
-        (home_at (chain_view chain.now).order home)) }
+    requires sources { AreSources chain.now sources.now.places }
+    requires behind { AreNames chain.now (drop (home + 1) (its_order chain.now)) behind.now.names }
+    ensures { IfOk result (λ ns. texts ns.items ≡ all_names (its_world chain.now)
+        (drop (home + 1) (its_order chain.now)) (its_home chain.now home)) }
 {
     let mut names = own_names(alloc, chain, home)?;
     let included = included_names(alloc, chain, home)?;
@@ -128,11 +119,8 @@ pub(crate) fn gather<'a>(
     chain: &'a Chain,
     sources: &Index<'a>,
 ) -> Result<Gathered<'a>, NoMemory>
-    requires { (x : Text)
-        → is_none (place_in sources.now.places x) ≡ is_none (sources_of (chain_view chain.now) x) }
-    ensures { IfOk result (λ g. (x : Text)
-        → names_at g.names x
-        ≡ names_in (world_of (chain_view chain.now)) (chain_view chain.now).order (a_chain x)) }
+    requires { AreSources chain.now sources.now.places }
+    ensures { IfOk result (λ g. AreNames chain.now (its_order chain.now) g.names) }
 {
     let mut gathered = Gathered::new(alloc);
     let mut left = chain.homes.len();

@@ -4,12 +4,11 @@ ghost use Rattle.std.specs.Prelude.{◌≡◌, ◌<◌, ◌++◌, true, length, 
 ghost use Rattle.jt_trees.specs.StatementView.{stmt_view, body_view};
 ghost use Rattle.jt_chains.specs.Chain.{templates};
 ghost use Rattle.jt_chains.specs.Includes.{needs_by, needs_in};
-ghost use Rattle.jt_chains.specs.Places.{home_at};
-ghost use Rattle.jt_chains.specs.View.{chain_view, sources_of};
 ghost use Rattle.jt_names.specs.Names.{texts};
+ghost use Rattle.jt_layout.specs.Homes.{its_sources, its_home};
 
 use jt_chains::Chain;
-use jt_trees::Stmt;
+use jt_trees::{Branch, Stmt};
 use std::alloc::{AllocError, Global};
 
 /// Adds the names that statements include, as often as they stand there.
@@ -42,7 +41,7 @@ fn add_statement<'a>(found: &mut Vec<&'a str>, statement: &'a Stmt) -> Result<()
             Ok(())
         }
         Stmt::If(branches, other) => {
-            for (_, _, body) in branches {
+            for Branch { body, .. } in branches {
                 add_included(found, body)?;
             }
             add_included(found, other)?;
@@ -69,9 +68,8 @@ pub(crate) fn included_names(
     home: usize,
 ) -> Result<Vec<&str>, AllocError>
     requires { home < length chain.now.homes.items }
-    ensures { IfOk result (λ ns. texts ns.items
-        ≡ flat_map (λ t. needs_in true t.body) (templates (sources_of (chain_view chain.now))
-        (home_at (chain_view chain.now).order home))) }
+    ensures { IfOk result (λ ns. texts ns.items ≡ flat_map (λ t. needs_in true t.body)
+        (templates (its_sources chain.now) (its_home chain.now home))) }
 {
     let layers = chain.layers(alloc, home)?;
     let mut found = Vec::new(alloc);

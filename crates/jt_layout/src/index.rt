@@ -5,7 +5,7 @@ ghost use Rattle.jt_names.specs.Names.{texts};
 ghost use Rattle.std.specs.Str.{bytes_eq};
 ghost use Rattle.jt_trees.specs.Expressions.{Text};
 ghost use Rattle.jt_layout.specs.Names.{place_in};
-ghost use Rattle.jt_layout.specs.Places.{first_of};
+ghost use Rattle.jt_layout.specs.Places.{ArePlaces};
 
 use crate::count::more;
 use jt_value::NoMemory;
@@ -30,8 +30,7 @@ impl<'a> Index<'a> {
 
     /// The places of names, from one on; the first of a name counts.
     pub(crate) fn of(alloc: Global, names: &[&'a str], first: usize) -> Result<Self, NoMemory>
-        ensures { IfOk result
-            (λ i. (x : Text) → place_in i.places x ≡ first_of x first (texts names.now)) }
+        ensures { IfOk result (λ i. ArePlaces first (texts names.now) i.places) }
     {
         let mut index = Index::new(alloc);
         let mut left = names.len();

@@ -1,18 +1,13 @@
 //! Lays out the chains and libraries that an entry's includes and imports reach.
 
-ghost use Rattle.std.specs.Prelude.{◌≡◌, ◌<◌, ◌+◌, ℕ, true, false, length, drop, IfOk, get_or};
-ghost use Rattle.std.specs.Option.{is_none};
-ghost use Rattle.jt_trees.specs.Expressions.{Text};
-ghost use Rattle.jt_chains.specs.Chain.{a_chain};
+ghost use Rattle.std.specs.Prelude.{◌≡◌, ◌<◌, ◌+◌, length, IfOk};
 ghost use Rattle.jt_chains.specs.Pages.{home_view};
-ghost use Rattle.jt_chains.specs.View.{chain_view};
 ghost use Rattle.jt_rules.specs.World.{World};
 ghost use Rattle.jt_meaning.specs.Layout as layout;
 ghost use Rattle.jt_names.specs.Names.{texts};
-ghost use Rattle.jt_layout.specs.Front.{Stands, its_world, its_order, its_home};
-ghost use Rattle.jt_layout.specs.Laid.{IsLaid, IsLaidOut};
-ghost use Rattle.jt_layout.specs.Places.{names_at};
-ghost use Rattle.jt_layout.specs.declared.laid.Laid.{Laid};
+ghost use Rattle.jt_layout.specs.Front.{StandsAt, IsLaidAt, AreLaid};
+ghost use Rattle.jt_layout.specs.Homes.{its_world, its_order, its_names, AreNames};
+ghost use Rattle.jt_layout.specs.Laid.{IsLaidOut};
 
 use crate::bodies::bodies_of;
 use crate::count::more;
@@ -92,14 +87,10 @@ fn lay_chain<'a>(
     front: Front,
 ) -> Result<Placed<'a>, NoMemory>
     requires stands { home < length chain.now.homes.items }
-    requires named { texts names.items
-        ≡ layout.names (its_world chain.now) (its_order chain.now) (its_home chain.now home) }
-    requires front { Stands (its_world chain.now) (its_order chain.now)
-        (drop home (its_order chain.now)) front }
-    ensures laid { IfOk result (λ p. IsLaid (its_world chain.now) (its_order chain.now)
-        (chain_view chain.now).templates (its_home chain.now home) p.laid) }
-    ensures behind { IfOk result (λ p. Stands (its_world chain.now) (its_order chain.now)
-        (drop (home + 1) (its_order chain.now)) p.behind) }
+    requires named { texts names.items ≡ its_names chain.now home }
+    requires front { StandsAt chain.now home front }
+    ensures laid { IfOk result (λ p. IsLaidAt chain.now home p.laid) }
+    ensures behind { IfOk result (λ p. StandsAt chain.now (home + 1) p.behind) }
 {
     let itself = &chain.homes[home];
     let slots = Index::of(alloc, &names, front.slot)?;
@@ -151,14 +142,8 @@ fn lay_chains<'a>(
     chain: &'a Chain,
     mut gathered: Gathered<'a>,
 ) -> Result<Tables<'a>, NoMemory>
-    requires { (x : Text)
-        → names_at gathered.names x
-        ≡ layout.names (its_world chain.now) (its_order chain.now) (a_chain x) }
-    ensures each { IfOk result (λ t. (i : ℕ) (l : Laid)
-        → i < length t.homes.items
-        → l ≡ get_or t.homes.items i l
-        → IsLaid (its_world chain.now) (its_order chain.now) (chain_view chain.now).templates
-        (its_home chain.now i) l) }
+    requires { AreNames chain.now (its_order chain.now) gathered.names }
+    ensures each { IfOk result (λ t. AreLaid chain.now t.homes.items) }
     ensures all { IfOk result (λ t. length t.homes.items ≡ length chain.now.homes.items) }
     ensures units { IfOk result
         (λ t. t.units ≡ length (layout.keys (its_world chain.now) (its_order chain.now))) }

@@ -1,14 +1,11 @@
 //! The macros of a chain by their names, and the places of their defaults.
 
 ghost use Rattle.std.specs.Prelude.{◌≡◌, ◌<◌, ◌+◌, List, length, map, IfOk};
-ghost use Rattle.jt_trees.specs.Expressions.{Text};
-ghost use Rattle.jt_chains.specs.Chain.{Template, macros};
+ghost use Rattle.jt_chains.specs.Chain.{Template};
 ghost use Rattle.jt_chains.specs.Parts.{macro_view};
-ghost use Rattle.jt_chains.specs.Places.{home_at};
-ghost use Rattle.jt_chains.specs.View.{chain_view, sources_of};
 ghost use Rattle.jt_meaning.specs.Layout.{defaults_of};
-ghost use Rattle.jt_layout.specs.Names.{place_in};
-ghost use Rattle.jt_layout.specs.Places.{first_of, defaults_from};
+ghost use Rattle.jt_layout.specs.Homes.{its_macros, macros_kept};
+ghost use Rattle.jt_layout.specs.Places.{ArePlaces, defaults_from};
 
 use crate::count::more;
 use crate::index::Index;
@@ -57,17 +54,13 @@ pub(crate) fn macros_of<'a>(
     first: usize,
 ) -> Result<Macros<'a>, NoMemory>
     requires { home < length chain.now.homes.items }
-    ensures all { IfOk result (λ m. map (macro_view (chain_view chain.now).templates) m.all.items ≡
-        macros (sources_of (chain_view chain.now)) (home_at (chain_view chain.now).order home)) }
-    ensures called { IfOk result (λ m. (x : Text)
-        → place_in m.called.places x ≡ first_of x 0 (map (λ k. k.name.now) m.all.items)) }
-    ensures defaults { IfOk result (λ m. m.defaults.places.items
-        ≡ defaults_from first
-        (macros (sources_of (chain_view chain.now)) (home_at (chain_view chain.now).order home))) }
-    ensures ended { IfOk result (λ m. m.defaults.end
-        ≡ first
-        + length (defaults_of
-        (macros (sources_of (chain_view chain.now)) (home_at (chain_view chain.now).order home)))) }
+    ensures all { IfOk result (λ m. macros_kept chain.now m.all.items ≡ its_macros chain.now home) }
+    ensures called { IfOk result
+        (λ m. ArePlaces 0 (map (λ k. k.name.now) m.all.items) m.called.places) }
+    ensures defaults { IfOk result
+        (λ m. m.defaults.places.items ≡ defaults_from first (its_macros chain.now home)) }
+    ensures ended { IfOk result
+        (λ m. m.defaults.end ≡ first + length (defaults_of (its_macros chain.now home))) }
 {
     let all = chain.macros(alloc, home)?;
     let names = macro_names(alloc, &all)?;

@@ -1,6 +1,6 @@
 -- Instructions that are put behind others with the places of their tags, and jumps that are written
 -- when their target is known.
-use Rattle.std.specs.Prelude.{◌≡◌, ℕ, ◌+◌, ◌<◌, ◌≤◌, ◌^◌, false, List, ◌++◌, length, map, Option, Some, None, option_map, slice_set}
+use Rattle.std.specs.Prelude.{◌≡◌, ℕ, ◌+◌, ◌<◌, ◌≤◌, ◌^◌, false, List, ◌++◌, length, map, Option, Some, None, option_map, slice_set, Result, OnOk}
 use Rattle.std.specs.List.{AllByRecursion}
 use Rattle.jt_image.specs.declared.instruction.Instruction.{Instruction}
 use Rattle.jt_image.specs.declared.instruction.Instruction.TheVariants as op
@@ -47,6 +47,24 @@ pub record Puts (templates : List Text) (old : Emitter) (a : Asm) (new : Emitter
   pub place : HasPlace old.limit (length old.code.items) a → old.overflowed ≡ false
       → new.overflowed ≡ false
 
+-- a count of entries, as far as fields have place for it
+pub record StandsFor (n h : ℕ) : Type 0 where
+  pub same : n < 2 ^ 32 → n ≡ h
+  pub above : 2 ^ 32 ≤ n → 2 ^ 32 ≤ h
+
+-- where it goes well, this code comes behind the old one, whatever the templates are; or so at each
+-- height for which the count stands
+abbrev pub PutsFor : {E : Type 0} → Emitter → (List Text → Asm) → Result (Unit {0}) E → Emitter
+    → Type 0
+PutsFor old code result new =
+    OnOk result ((templates : List Text) → Puts templates old (code templates) new)
+
+abbrev pub PutsAt : {E : Type 0} → ℕ → Emitter → (List Text → ℕ → Asm) → Result (Unit {0}) E
+    → Emitter → Type 0
+PutsAt above old code result new =
+    OnOk result ((templates : List Text) (h : ℕ) → StandsFor above h
+    → Puts templates old (code templates h) new)
+
 -- a jump behind the others, at this point; it has no place
 pub record Reserves (old : Emitter) (jump : Instruction) (point : ℕ) (new : Emitter) : Type 0 where
   pub at : point ≡ length old.code.items
@@ -72,8 +90,3 @@ pub record EndsTurns (old : Emitter) (top : ℕ) (new : Emitter) : Type 0 where
   pub back : Emitter
   pub goes : (templates : List Text) → Puts templates old (one None (op.Jump top)) back
   pub patches : Patches back top (op.LoopNext (length back.code.items)) new
-
--- a count of entries, as far as fields have place for it
-pub record StandsFor (n h : ℕ) : Type 0 where
-  pub same : n < 2 ^ 32 → n ≡ h
-  pub above : 2 ^ 32 ≤ n → 2 ^ 32 ≤ h

@@ -78,7 +78,7 @@ impl Emitter {
     }
 
     /// Puts a jump behind the others that is written when its target is known, and gives its point.
-    pub fn reserve(&mut self, jump: Instruction) -> Result<usize, AllocError>
+    fn reserve(&mut self, jump: Instruction) -> Result<usize, AllocError>
         ensures { IfOk result (λ point. Reserves self.old jump point self.new) }
     {
         let point = self.code.len();
@@ -87,7 +87,7 @@ impl Emitter {
     }
 
     /// Puts an instruction in place of the one at a point; nothing where the code ends before that.
-    pub fn patch(&mut self, point: usize, instruction: Option<Instruction>)
+    fn patch(&mut self, point: usize, instruction: Option<Instruction>)
         ensures { (i : Instruction) → Given instruction i → Patches self.old point i self.new }
     {
         match instruction {

@@ -1,13 +1,12 @@
 //! The code of resolved expressions.
 
-ghost use Rattle.std.specs.Prelude.{◌≡◌, ℕ, List, OnOk};
+ghost use Rattle.std.specs.Prelude.{◌≡◌};
 ghost use Rattle.jt_resolved.specs.Size.{row_count};
-ghost use Rattle.jt_trees.specs.Expressions.{Text};
 ghost use Rattle.jt_resolved.specs.Slots as slots;
 ghost use Rattle.jt_resolved.specs.Slots.{none};
 ghost use Rattle.jt_resolved.specs.View.{expr_view, row_view};
 ghost use Rattle.jt_lower.specs.Lower.{expr_asm, row_asm};
-ghost use Rattle.jt_lower.specs.Emission.{StandsFor, tag_view, Puts};
+ghost use Rattle.jt_lower.specs.Emission.{tag_view, PutsAt};
 
 use crate::emitter::Emitter;
 use crate::instructions::{call_of, constant_of, flag, load_of, made_of, store_of, told_of};
@@ -24,9 +23,8 @@ pub fn emit_expression(
     expr: &SlotExpr,
     above: usize,
 ) -> Result<(), AllocError>
-    ensures { OnOk result ((templates : List Text) (h : ℕ)
-        → StandsFor above h
-        → Puts templates code.old (expr_asm (tag_view templates tag) (expr_view expr.now) h) code.new) }
+    ensures { PutsAt above code.old (λ templates. expr_asm (tag_view templates tag)
+        (expr_view expr.now)) result code.new }
 {
     match expr {
         SlotExpr::Pooled(place) => {
@@ -79,10 +77,8 @@ fn emit_conjunction(
     right: &SlotExpr,
     above: usize,
 ) -> Result<(), AllocError>
-    ensures { OnOk result ((templates : List Text) (h : ℕ)
-        → StandsFor above h
-        → Puts templates code.old
-        (expr_asm (tag_view templates tag) (slots.conjunction (expr_view left.now) (expr_view right.now)) h) code.new) }
+    ensures { PutsAt above code.old (λ templates. expr_asm (tag_view templates tag)
+        (slots.conjunction (expr_view left.now) (expr_view right.now))) result code.new }
 {
     emit_expression(code, tag, left, above)?;
     code.put(tag, Some(Instruction::Dup))?;
@@ -104,10 +100,8 @@ fn emit_disjunction(
     right: &SlotExpr,
     above: usize,
 ) -> Result<(), AllocError>
-    ensures { OnOk result ((templates : List Text) (h : ℕ)
-        → StandsFor above h
-        → Puts templates code.old
-        (expr_asm (tag_view templates tag) (slots.disjunction (expr_view left.now) (expr_view right.now)) h) code.new) }
+    ensures { PutsAt above code.old (λ templates. expr_asm (tag_view templates tag)
+        (slots.disjunction (expr_view left.now) (expr_view right.now))) result code.new }
 {
     emit_expression(code, tag, left, above)?;
     code.put(tag, Some(Instruction::Dup))?;
@@ -129,11 +123,8 @@ fn emit_choice(
     other: &SlotExpr,
     above: usize,
 ) -> Result<(), AllocError>
-    ensures { OnOk result ((templates : List Text) (h : ℕ)
-        → StandsFor above h
-        → Puts templates code.old (expr_asm (tag_view templates tag)
-        (slots.choice (expr_view condition.now) (expr_view taken.now) (expr_view other.now)) h)
-        code.new) }
+    ensures { PutsAt above code.old (λ templates. expr_asm (tag_view templates tag) (slots.choice
+        (expr_view condition.now) (expr_view taken.now) (expr_view other.now))) result code.new }
 {
     emit_expression(code, tag, condition, above)?;
     let choice = code.begin_choice()?;
@@ -165,9 +156,8 @@ pub fn emit_row(
     row: &[(Option<usize>, SlotExpr)],
     above: usize,
 ) -> Result<(), AllocError>
-    ensures { OnOk result ((templates : List Text) (h : ℕ)
-        → StandsFor above h
-        → Puts templates code.old (row_asm (tag_view templates tag) (row_view row.now none) h) code.new) }
+    ensures { PutsAt above code.old (λ templates. row_asm (tag_view templates tag)
+        (row_view row.now none)) result code.new }
 {
     let mut top = above;
     for (kept, expr) in row {

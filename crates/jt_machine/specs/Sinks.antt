@@ -1,5 +1,6 @@
 -- What sinks take of the bytes that they are given.
 use Rattle.std.specs.Prelude.{◌≡◌, ◌≢◌, ℕ, List, [], ◌++◌, Option, Result, Ok, Err}
+use Rattle.std.specs.Result.{MatchResult}
 use Rattle.std.specs.Io.{WritesAtMost}
 use Rattle.std.specs.Io.KnownBytes.{Appends, WriteAppends}
 use Rattle.std.specs.declared.io.Error.{Error}
@@ -13,6 +14,11 @@ pub record TookTo (rest all : List ℕ) (old new : Option (List ℕ)) : Type 0 w
 -- a sink has taken a beginning of these bytes
 abbrev pub TookFront : List ℕ → Option (List ℕ) → Option (List ℕ) → Type 0
 TookFront all old new = (rest : List ℕ) × TookTo rest all old new
+
+-- a sink has taken all of these bytes, or a beginning of them where it refused a piece
+abbrev pub HasPut : {A E : Type 0} → Result A E → List ℕ → Option (List ℕ) → Option (List ℕ)
+    → Type 0
+HasPut r all old new = MatchResult r (λ _. Appends old new all) (λ _. TookFront all old new)
 
 -- what a writer answers to a piece is a failure: an error, or that it took nothing though there is
 -- something

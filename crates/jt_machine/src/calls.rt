@@ -7,7 +7,7 @@ ghost use Rattle.jt_image.specs.Run.{Wrong};
 ghost use Rattle.jt_machine.specs.Entries.{values_view};
 ghost use Rattle.jt_machine.specs.Parts.{call as call_next, return_from, went_back, back_with};
 ghost use Rattle.jt_machine.specs.StackView.{caller_view};
-ghost use Rattle.jt_machine.specs.View.{config_view, IsNext, given_view};
+ghost use Rattle.jt_machine.specs.View.{config_view, IsNext, given_view, IsReady};
 
 use crate::entries::Entry;
 use crate::limits::passed_limit;
@@ -43,8 +43,7 @@ pub(crate) fn call<C: Code>(
     unit: u32,
 ) -> Result<Option<Outcome>, NoMemory>
     requires whole { IsCode (C.code code.now) }
-    requires not_wrong { call_next (C.code code.now) unit (config_view state.old) ≢ Wrong }
-    requires room { state.old.point + 1 < 2 ^ 64 }
+    requires ready { IsReady (call_next (C.code code.now) unit (config_view state.old)) state.old }
     // Only a call that begins takes memory.
     ensures { IsNext result state.new (call_next (C.code code.now) unit (config_view state.old)) }
 {

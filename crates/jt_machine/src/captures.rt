@@ -2,9 +2,8 @@
 ghost use Rattle.std.specs.Prelude.{◌≡◌, ◌≢◌, ◌∷◌, [], ◌+◌, ◌<◌, ◌^◌, if◌then◌else◌, IfOk, OnOk, string_bytes};
 ghost use Rattle.jt_value.specs.Tree as tree;
 ghost use Rattle.jt_value.specs.View.{view};
-ghost use Rattle.jt_image.specs.Run.{Wrong};
 ghost use Rattle.jt_machine.specs.Parts.{open_capture as open_next, close_capture as close_next};
-ghost use Rattle.jt_machine.specs.View.{config_view, IsNext, outer_view};
+ghost use Rattle.jt_machine.specs.View.{config_view, IsNext, outer_view, IsReady};
 
 use crate::entries::Entry;
 use crate::limits::flat_limit;
@@ -35,7 +34,7 @@ pub(crate) fn open_capture(alloc: Global, state: &mut State) -> Result<Option<Ou
     state.stack.push(Entry::Capture)?;
     let around = mem::replace(&mut state.buffer, String::new(alloc));
     push_outer(&mut state.outer, around)?;
-    step_on(state)
+    Ok(step_on(state))
 }
 
 // Takes the buffer around the open one.
@@ -63,8 +62,7 @@ fn captured(text: String, marked: bool) -> Result<Value, NoMemory>
 
 /// Closes the buffer that was opened last, and puts its text on top, as markup if it is to be.
 pub(crate) fn close_capture(state: &mut State, marked: bool) -> Result<Option<Outcome>, NoMemory>
-    requires not_wrong { close_next marked (config_view state.old) ≢ Wrong }
-    requires room { state.old.point + 1 < 2 ^ 64 }
+    requires { IsReady (close_next marked (config_view state.old)) state.old }
     // Only a text within the limits takes memory.
     ensures { IsNext result state.new (close_next marked (config_view state.old)) }
 {

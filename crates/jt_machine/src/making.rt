@@ -1,5 +1,5 @@
 //! Instructions that make one value of several.
-ghost use Rattle.std.specs.Prelude.{◌≡◌, ◌≢◌, ◌≤◌, ◌+◌, ◌*◌, ◌-◌, ◌/◌, ◌<◌, ◌^◌, ◌∷◌, [], true, length, map, nat_le, take, List, Result, Some, None, IfOk};
+ghost use Rattle.std.specs.Prelude.{◌≡◌, ◌≤◌, ◌+◌, ◌<◌, ◌^◌, ◌∷◌, [], true, length, map, nat_le, take, List, Result, Some, None, IfOk};
 ghost use Rattle.jt_value.specs.Tree as tree;
 ghost use Rattle.jt_value.specs.Tree.{Tree};
 ghost use Rattle.jt_value.specs.View.{view};
@@ -13,10 +13,10 @@ ghost use Rattle.jt_filter_meaning.specs.Filtering.{filtered as filtered_of};
 ghost use Rattle.jt_ids.specs.FilterTable.{least_values, most_values};
 ghost use Rattle.jt_image.specs.Ids.{operator_of, filter_of, test_of};
 ghost use Rattle.jt_image.specs.Step.{listed, mapped};
-ghost use Rattle.jt_image.specs.Run.{Wrong, limit_of};
+ghost use Rattle.jt_image.specs.Run.{limit_of};
 ghost use Rattle.jt_machine.specs.Activations.{with_running};
 ghost use Rattle.jt_machine.specs.Parts.{make, made, operate as operate_next, apply_filter as filter_next, apply_test as test_next, answering, push as pushes, step_on as steps_on, values_at, below};
-ghost use Rattle.jt_machine.specs.View.{budget_view, config_view, IsNext, continues, values_on, HasValues, AreSized, AreFew};
+ghost use Rattle.jt_machine.specs.View.{budget_view, config_view, IsNext, continues, values_on, HasValues, IsReady, IsBounded};
 
 use crate::limits::list_limit;
 use crate::maps::{map_of, map_refusal};
@@ -56,8 +56,7 @@ pub(crate) fn take_values(
 // does not suffice. The values stay.
 fn pay_values(state: &mut State, count: usize) -> Option<Outcome>
     requires has { HasValues count state.old.stack.running }
-    requires sized { AreSized state.old }
-    requires few { AreFew state.old }
+    requires bounded { IsBounded state.old }
     ensures rest { (f : List Tree → Result Tree Fault)
         → make count f (config_view state.old) ≡ continues result state.new (made count f) }
     ensures same { state.new ≡ record state.old { left = state.new.left } }
@@ -165,10 +164,8 @@ pub(crate) fn operate(
     state: &mut State,
     operator: u8,
 ) -> Result<Option<Outcome>, NoMemory>
-    requires not_wrong { operate_next operator (config_view state.old) ≢ Wrong }
-    requires sized { AreSized state.old }
-    requires few { AreFew state.old }
-    requires room { state.old.point + 1 < 2 ^ 64 }
+    requires ready { IsReady (operate_next operator (config_view state.old)) state.old }
+    requires bounded { IsBounded state.old }
     // Only a value within the limits takes memory.
     ensures { IsNext result state.new (operate_next operator (config_view state.old)) }
 {
@@ -259,10 +256,8 @@ pub(crate) fn apply_filter(
     count: usize,
     flag: u32,
 ) -> Result<Option<Outcome>, NoMemory>
-    requires not_wrong { filter_next id count flag (config_view state.old) ≢ Wrong }
-    requires sized { AreSized state.old }
-    requires few { AreFew state.old }
-    requires room { state.old.point + 1 < 2 ^ 64 }
+    requires ready { IsReady (filter_next id count flag (config_view state.old)) state.old }
+    requires bounded { IsBounded state.old }
     // Only a value within the limits takes memory.
     ensures { IsNext result state.new (filter_next id count flag (config_view state.old)) }
 {
@@ -298,10 +293,8 @@ pub(crate) fn apply_test(
     id: u8,
     count: usize,
 ) -> Result<Option<Outcome>, NoMemory>
-    requires not_wrong { test_next id count (config_view state.old) ≢ Wrong }
-    requires sized { AreSized state.old }
-    requires few { AreFew state.old }
-    requires room { state.old.point + 1 < 2 ^ 64 }
+    requires ready { IsReady (test_next id count (config_view state.old)) state.old }
+    requires bounded { IsBounded state.old }
     ensures { IsNext result state.new (test_next id count (config_view state.old)) }
 {
     let Some(id) = test_by(id) else {
@@ -322,10 +315,8 @@ pub(crate) fn make_list(
     state: &mut State,
     count: usize,
 ) -> Result<Option<Outcome>, NoMemory>
-    requires not_wrong { make count listed (config_view state.old) ≢ Wrong }
-    requires sized { AreSized state.old }
-    requires few { AreFew state.old }
-    requires room { state.old.point + 1 < 2 ^ 64 }
+    requires ready { IsReady (make count listed (config_view state.old)) state.old }
+    requires bounded { IsBounded state.old }
     // Only a list within the limits takes memory.
     ensures { IsNext result state.new (make count listed (config_view state.old)) }
 {
@@ -346,10 +337,8 @@ pub(crate) fn make_map(
     state: &mut State,
     count: usize,
 ) -> Result<Option<Outcome>, NoMemory>
-    requires not_wrong { make count mapped (config_view state.old) ≢ Wrong }
-    requires sized { AreSized state.old }
-    requires few { AreFew state.old }
-    requires room { state.old.point + 1 < 2 ^ 64 }
+    requires ready { IsReady (make count mapped (config_view state.old)) state.old }
+    requires bounded { IsBounded state.old }
     // Only a map within the limits takes memory.
     ensures { IsNext result state.new (make count mapped (config_view state.old)) }
 {

@@ -1,5 +1,5 @@
 //! Maps of keys and values in turn.
-ghost use Rattle.std.specs.Prelude.{◌≡◌, ◌<◌, ◌∷◌, [], true, length, map, reverse, List, Ok, IfOk, IfSome, IfNone, OnOk};
+ghost use Rattle.std.specs.Prelude.{◌≡◌, ◌<◌, ◌∷◌, [], true, length, map, reverse, Ok, IfOk, IfSome, IfNone, OnOk};
 ghost use Rattle.std.specs.List.{list_all};
 ghost use Rattle.jt_value.specs.Tree.{Tree, Entries, no_entries};
 ghost use Rattle.jt_value.specs.View.{view, entries_view};

@@ -1,11 +1,11 @@
 //! The parts of a step.
-ghost use Rattle.std.specs.Prelude.{◌≡◌, ◌+◌, ◌/◌, ◌<◌, ◌≤◌, ◌^◌, IsOk, None};
+ghost use Rattle.std.specs.Prelude.{◌≡◌, ◌+◌, ◌/◌, ◌<◌, ◌≤◌, ◌^◌, None};
 ghost use Rattle.jt_value.specs.Tree.{size};
 ghost use Rattle.jt_value.specs.View.{view};
 ghost use Rattle.jt_image.specs.Config.{Config};
 ghost use Rattle.jt_image.specs.Run.{Next, limit_of};
 ghost use Rattle.jt_machine.specs.Parts.{step_on as steps_on, pay as pays, push as pushes, put as puts};
-ghost use Rattle.jt_machine.specs.View.{budget_view, config_view, IsNext, continues};
+ghost use Rattle.jt_machine.specs.View.{budget_view, config_view, next_view, IsNext, continues};
 
 use crate::entries::Entry;
 use crate::limits::passed_limit;
@@ -13,14 +13,13 @@ use crate::outcome::Outcome;
 use crate::state::State;
 use jt_value::{NoMemory, Value};
 
-/// Goes to the instruction behind. It takes no memory.
-pub(crate) fn step_on(state: &mut State) -> Result<Option<Outcome>, NoMemory>
+/// Goes to the instruction behind.
+pub(crate) fn step_on(state: &mut State) -> Option<Outcome>
     requires { state.old.point + 1 < 2 ^ 64 }
-    ensures next { IsNext result state.new (steps_on (config_view state.old)) }
-    ensures memory { IsOk result }
+    ensures { steps_on (config_view state.old) ≡ next_view result state.new }
 {
     state.point += 1;
-    Ok(None)
+    None
 }
 
 /// Takes the cost, or says that it does not suffice.
@@ -68,7 +67,7 @@ pub(crate) fn push_fitting(state: &mut State, value: Value) -> Result<Option<Out
     ensures { IsNext result state.new (pushes (view value) (config_view state.old) steps_on) }
 {
     state.stack.push(Entry::Value(value))?;
-    step_on(state)
+    Ok(step_on(state))
 }
 
 /// Puts a text into the buffer and goes on, or says that it does not fit.
@@ -81,5 +80,5 @@ pub(crate) fn put(state: &mut State, text: &str) -> Result<Option<Outcome>, NoMe
         return Ok(Some(Outcome::Spent(spent)));
     }
     state.buffer.push_str(text)?;
-    step_on(state)
+    Ok(step_on(state))
 }

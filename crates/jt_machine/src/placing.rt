@@ -22,7 +22,8 @@ fn owned(alloc: Global, place: PlaceRef<'_>) -> Result<Place, NoMemory>
 
 fn faulted(alloc: Global, fault: Fault, place: Option<PlaceRef<'_>>) -> Result<Outcome, NoMemory>
     ensures is { IfOk result (λ o. Ends (outcome_view o)
-        ≡ placed (option_map place_ref_view place.entry) (Ends (outcome_view (Outcome.Fault fault None)))) }
+        ≡ placed (option_map place_ref_view place.entry)
+        (Ends (outcome_view (Outcome.Fault fault None)))) }
     ensures memory { OnErr result (HasPlace (option_map place_ref_view place.entry)) }
 {
     match place {
@@ -42,7 +43,8 @@ pub(crate) fn with_place<C: Code>(
     ensures is { IfOk result (λ o. Ends (outcome_view o)
         ≡ placed (place_there (C.code code.now) unit point) (Ends (outcome_view outcome))) }
     // Only a fault that has a place takes memory.
-    ensures memory { OnErr result (IsFaultAt (place_there (C.code code.now) unit point) (outcome_view outcome)) }
+    ensures memory { OnErr result
+        (IsFaultAt (place_there (C.code code.now) unit point) (outcome_view outcome)) }
 {
     match outcome {
         Outcome::Fault(fault, _) => faulted(alloc, fault, code.place(unit, point)),

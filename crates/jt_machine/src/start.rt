@@ -1,5 +1,5 @@
 //! How a run starts: the context is tested, and fills the globals.
-ghost use Rattle.std.specs.Prelude.{◌≡◌, ◌+◌, ◌<◌, ◌^◌, IfOk, OnOk, OnErr, Some, length, option_map, slice_get, slice_set, unwrap_or, replicate};
+ghost use Rattle.std.specs.Prelude.{◌≡◌, ◌+◌, ◌<◌, ◌^◌, IfOk, OnOk, OnErr, length, option_map, slice_set, unwrap_or, replicate};
 ghost use Rattle.jt_value.specs.Tree as tree;
 ghost use Rattle.jt_value.specs.View.{view};
 ghost use Rattle.jt_value.specs.Pairs.{look};

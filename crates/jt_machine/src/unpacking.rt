@@ -1,5 +1,5 @@
 //! Values unpacked.
-ghost use Rattle.std.specs.Prelude.{◌≡◌, ◌≢◌, ◌+◌, ◌-◌, ◌<◌, ◌^◌, min, map, IfOk, IfSome, IfNone, OnOk};
+ghost use Rattle.std.specs.Prelude.{◌≡◌, ◌+◌, ◌-◌, ◌<◌, ◌^◌, min, map, IfOk, IfSome, IfNone, OnOk};
 ghost use Rattle.std.specs.Str.{chars};
 ghost use Rattle.jt_value.specs.Tree as tree;
 ghost use Rattle.jt_value.specs.Iteration.{character_items, key_items, items_of_tree};
@@ -7,12 +7,12 @@ ghost use Rattle.jt_value.specs.View.{view, entries_view};
 ghost use Rattle.jt_image.specs.Config.{Config};
 ghost use Rattle.jt_image.specs.Loops.{trees_of};
 ghost use Rattle.jt_image.specs.Step.{greatest, piled};
-ghost use Rattle.jt_image.specs.Run.{Ends, Wrong};
+ghost use Rattle.jt_image.specs.Run.{Ends};
 ghost use Rattle.jt_machine.specs.Activations.{with_running};
 ghost use Rattle.jt_machine.specs.Entries.{values_view};
 ghost use Rattle.jt_machine.specs.Iterating.{AreFitting};
 ghost use Rattle.jt_machine.specs.Parts.{iterating, piled_on, spread as spread_next, unpack as unpack_next};
-ghost use Rattle.jt_machine.specs.View.{budget_view, config_view, IsNext, outcome_view, AreSized};
+ghost use Rattle.jt_machine.specs.View.{budget_view, config_view, IsNext, outcome_view, AreSized, IsReady};
 
 use crate::entries::Entry;
 use crate::items::{count_of, items_of};
@@ -137,7 +137,7 @@ fn push_values(state: &mut State, values: Vec<Value>) -> Result<Option<Outcome>,
         (piled_on (values_view values.items) (config_view state.old)) }
 {
     push_all(&mut state.stack, values)?;
-    step_on(state)
+    Ok(step_on(state))
 }
 
 // Puts the items of a value on top and goes on, if there are that many, or says how the run ends.
@@ -167,9 +167,8 @@ pub(crate) fn unpack(
     state: &mut State,
     count: u32,
 ) -> Result<Option<Outcome>, NoMemory>
-    requires not_wrong { unpack_next count (config_view state.old) ≢ Wrong }
+    requires ready { IsReady (unpack_next count (config_view state.old)) state.old }
     requires sized { AreSized state.old }
-    requires room { state.old.point + 1 < 2 ^ 64 }
     // Only items that are put take memory.
     ensures { IsNext result state.new (unpack_next count (config_view state.old)) }
 {

@@ -1,6 +1,6 @@
 //! Runs whose text is written in pieces.
-ghost use Rattle.std.specs.Prelude.{◌≡◌, ◌≢◌, [], ◌<◌, ◌^◌, true, false, IfOk, IfErr, OnOk, OnErr, string_bytes};
-ghost use Rattle.std.specs.Io.KnownBytes.{Appends};
+ghost use Rattle.std.specs.Prelude.{◌≡◌, [], true, false, IfOk, IfErr, OnOk, OnErr, string_bytes};
+ghost use Rattle.std.specs.Result.{is_err};
 ghost use Rattle.jt_value.specs.Pairs.{Pairs};
 ghost use Rattle.jt_value.specs.ContextView.{pairs_of};
 ghost use Rattle.jt_image.specs.IsCode.{IsCode};
@@ -9,7 +9,7 @@ ghost use Rattle.jt_image.specs.Config as config;
 ghost use Rattle.jt_image.specs.Run.{IsSafe};
 ghost use Rattle.jt_machine.specs.Emitting.{HasWritten, HasBegun, outcome_of, emitted_by, config_behind, text_written};
 ghost use Rattle.jt_machine.specs.Growing.{MayWant};
-ghost use Rattle.jt_machine.specs.Sinks.{TookFront};
+ghost use Rattle.jt_machine.specs.Sinks.{HasPut};
 ghost use Rattle.jt_machine.specs.View.{budget_view, config_view, outcome_view};
 
 use crate::at_once::hurry;
@@ -136,15 +136,12 @@ fn write_code<C: Code, W: Sink>(
 // Puts what stands in the outermost buffer, and empties the buffer.
 fn send<W: Sink>(state: &mut State, sink: &mut W) -> Result<(), SinkFailed>
     requires { W.failed sink.old ≡ false }
-    ensures all { OnOk result
-        (Appends (W.taken sink.old) (W.taken sink.new) (emitted_by (config_view state.old))) }
+    ensures put { HasPut result (emitted_by (config_view state.old))
+        (W.taken sink.old) (W.taken sink.new) }
     ensures emptied { OnOk result (config_behind (emitted_by (config_view state.old))
         (config_view state.new)
         ≡ config_view state.old) }
-    ensures works { OnOk result (W.failed sink.new ≡ false) }
-    ensures front { OnErr result
-        (TookFront (emitted_by (config_view state.old)) (W.taken sink.old) (W.taken sink.new)) }
-    ensures fails { OnErr result (W.failed sink.new ≡ true) }
+    ensures fails { W.failed sink.new ≡ is_err result }
 {
     match state.outer.first_mut() {
         Some(outermost) => drain(outermost, sink),
@@ -155,13 +152,9 @@ fn send<W: Sink>(state: &mut State, sink: &mut W) -> Result<(), SinkFailed>
 // Puts what stands in a buffer, and empties it.
 fn drain<W: Sink>(buffer: &mut String, sink: &mut W) -> Result<(), SinkFailed>
     requires { W.failed sink.old ≡ false }
-    ensures all { OnOk result
-        (Appends (W.taken sink.old) (W.taken sink.new) (string_bytes buffer.old)) }
+    ensures put { HasPut result (string_bytes buffer.old) (W.taken sink.old) (W.taken sink.new) }
     ensures emptied { OnOk result (string_bytes buffer.new ≡ []) }
-    ensures works { OnOk result (W.failed sink.new ≡ false) }
-    ensures front { OnErr result
-        (TookFront (string_bytes buffer.old) (W.taken sink.old) (W.taken sink.new)) }
-    ensures fails { OnErr result (W.failed sink.new ≡ true) }
+    ensures fails { W.failed sink.new ≡ is_err result }
 {
     put_all(sink, buffer.as_bytes())?;
     buffer.clear();
@@ -173,12 +166,9 @@ fn close<W: Sink>(outcome: Outcome, sink: &mut W) -> Result<Ended, SinkFailed>
     requires { W.failed sink.old ≡ false }
     ensures ended { IfOk result
         (λ e. outcome_of e (text_written (outcome_view outcome)) ≡ outcome_view outcome) }
-    ensures all { OnOk result
-        (Appends (W.taken sink.old) (W.taken sink.new) (text_written (outcome_view outcome))) }
-    ensures works { OnOk result (W.failed sink.new ≡ false) }
-    ensures front { OnErr result
-        (TookFront (text_written (outcome_view outcome)) (W.taken sink.old) (W.taken sink.new)) }
-    ensures fails { OnErr result (W.failed sink.new ≡ true) }
+    ensures put { HasPut result (text_written (outcome_view outcome))
+        (W.taken sink.old) (W.taken sink.new) }
+    ensures fails { W.failed sink.new ≡ is_err result }
 {
     match outcome {
         Outcome::Text(text) => {

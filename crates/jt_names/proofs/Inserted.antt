@@ -56,7 +56,7 @@ pub statement_added : (ss : List Stmt) (i : ℕ) (s : Stmt) (ns ns' : List Text)
 statement_added ss i s ns ns' lt is e = search (arith, rules, inserted_both, statements_left)
 
 pub branch_added : (bs : List Branch) (i : ℕ) (b : Branch) (ns ns' : List Text) → i < length bs → b ≡ get_or bs i b
-    → ns' ≡ all_inserted (body_names (parsed.body_view b.2.items)) (all_inserted (expr_names (written.expr_view b.1)) ns)
+    → ns' ≡ all_inserted (body_names (parsed.body_view b.body.items)) (all_inserted (expr_names (written.expr_view b.condition)) ns)
     → all_inserted (branch_names (parsed.branches_view (drop (i + 1) bs))) ns' ≡ all_inserted (branch_names (parsed.branches_view (drop i bs))) ns
 branch_added bs i b ns ns' lt is e = search (arith, rules, inserted_both, branches_left)
 

@@ -5,10 +5,15 @@ use Rattle.std.specs.declared.alloc.Global.{Global}
 use Rattle.std.specs.declared.vec.Vec.{Vec}
 use denote.Ref.{Bor}
 use Rattle.jt_trees.specs.Expressions.{Text}
+use Rattle.jt_trees.specs.StatementView.{parameters_view}
 use Rattle.jt_trees.specs.Texts.{all_inserted}
+use Rattle.jt_trees.specs.declared.statement.Parameter.{Parameter}
 
 abbrev pub texts : List (Bor Text) → List Text
 texts ks = map (λ k. k.now) ks
+
+abbrev pub parameter_names : List Parameter → List Text
+parameter_names ps = map (λ p. p.name) (parameters_view ps)
 
 -- these go into a set
 abbrev pub Puts : BTreeSet (Bor Text) → BTreeSet (Bor Text) → List Text → Type 0

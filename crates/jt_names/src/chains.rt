@@ -4,9 +4,9 @@ ghost use Rattle.std.specs.Prelude.{◌≡◌, ◌<◌, ◌≤◌, [], length, I
 ghost use Rattle.jt_trees.specs.Texts.{ascending};
 ghost use Rattle.jt_trees.specs.StatementView.{body_view};
 ghost use Rattle.jt_chains.specs.Chain.{a_library};
-ghost use Rattle.jt_chains.specs.Places.{home_at};
 ghost use Rattle.jt_chains.specs.Uses as uses;
-ghost use Rattle.jt_chains.specs.View.{chain_view, sources_of};
+ghost use Rattle.jt_chains.specs.Uses.{own_names};
+ghost use Rattle.jt_chains.specs.View.{home_in, its_sources};
 ghost use Rattle.jt_names.specs.Names.{texts};
 
 use crate::own::{add_name, add_statements};
@@ -19,12 +19,9 @@ use std::collections::BTreeSet;
 
 /// The different names that a chain reads or binds. A chain that isn't there has none.
 pub fn own_names(alloc: Global, chain: &Chain, home: usize) -> Result<BTreeSet<&str>, AllocError>
-    ensures there { home < length chain.now.homes.items
-        → IfOk result (λ s. texts s.keys
-        ≡ ascending (uses.own_names (sources_of (chain_view chain.now))
-        (home_at (chain_view chain.now).order home))) }
-    ensures nowhere { length chain.now.homes.items ≤ home
-        → IfOk result (λ s. texts s.keys ≡ []) }
+    ensures there { home < length chain.now.homes.items → IfOk result (λ s.
+        texts s.keys ≡ ascending (own_names (its_sources chain.now) (home_in chain.now home))) }
+    ensures nowhere { length chain.now.homes.items ≤ home → IfOk result (λ s. texts s.keys ≡ []) }
 {
     let mut names = BTreeSet::new(alloc);
     let layers = chain.layers(alloc, home)?;
@@ -41,8 +38,7 @@ pub fn library_names<'a>(
     library: &str,
 ) -> Result<BTreeSet<&'a str>, AllocError>
     ensures { IfOk result (λ s. texts s.keys
-        ≡ ascending (uses.own_names (sources_of (chain_view chain.now))
-        (a_library library.now))) }
+        ≡ ascending (own_names (its_sources chain.now) (a_library library.now))) }
 {
     let mut names = BTreeSet::new(alloc);
     add_statements(&mut names, chain.library_body(library))?;
@@ -51,12 +47,9 @@ pub fn library_names<'a>(
 
 /// The different names that the scopes of a chain bind. A chain that isn't there has none.
 pub fn scope_names(alloc: Global, chain: &Chain, home: usize) -> Result<BTreeSet<&str>, AllocError>
-    ensures there { home < length chain.now.homes.items
-        → IfOk result (λ s. texts s.keys
-        ≡ uses.scope_names (sources_of (chain_view chain.now))
-        (home_at (chain_view chain.now).order home)) }
-    ensures nowhere { length chain.now.homes.items ≤ home
-        → IfOk result (λ s. texts s.keys ≡ []) }
+    ensures there { home < length chain.now.homes.items → IfOk result (λ s.
+        texts s.keys ≡ uses.scope_names (its_sources chain.now) (home_in chain.now home)) }
+    ensures nowhere { length chain.now.homes.items ≤ home → IfOk result (λ s. texts s.keys ≡ []) }
 {
     let mut found = Vec::new(alloc);
     let layers = chain.layers(alloc, home)?;

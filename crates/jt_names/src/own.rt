@@ -1,14 +1,14 @@
 //! The different names that a chain reads or binds.
 
-ghost use Rattle.std.specs.Prelude.{◌≡◌, ◌++◌, if◌then◌else◌, [], map, option_map, IfOk, IsOk};
+ghost use Rattle.std.specs.Prelude.{◌≡◌, ◌++◌, if◌then◌else◌, [], option_map, IfOk, IsOk};
 ghost use Rattle.jt_trees.specs.ExpressionView.{expr_view, exprs_view, pairs_view};
 ghost use Rattle.jt_trees.specs.Texts.{inserted};
 ghost use Rattle.jt_chains.specs.Chain.{is_loop};
-ghost use Rattle.jt_trees.specs.StatementView.{stmt_view, body_view, branches_view, names_view, filterings_view, parameters_view};
+ghost use Rattle.jt_trees.specs.StatementView.{stmt_view, body_view, branches_view, names_view, filterings_view};
 ghost use Rattle.jt_chains.specs.Uses.{expr_names, row_names, pair_names, condition_names, filtering_names, stmt_names, body_names, branch_names, keywords};
-ghost use Rattle.jt_names.specs.Names.{Puts, texts};
+ghost use Rattle.jt_names.specs.Names.{Puts, parameter_names, texts};
 
-use jt_trees::{Expr, Filtering, Parameter, Stmt};
+use jt_trees::{Branch, Expr, Filtering, Parameter, Stmt};
 use std::alloc::AllocError;
 use std::collections::BTreeSet;
 
@@ -199,8 +199,7 @@ fn add_parameters<'a>(
     names: &mut BTreeSet<&'a str>,
     parameters: &'a [Parameter],
 ) -> Result<(), AllocError>
-    ensures { IfOk result (λ _. Puts names.old names.new (map (λ p. p.name)
-        (parameters_view parameters.now))) }
+    ensures { IfOk result (λ _. Puts names.old names.new (parameter_names parameters.now)) }
 {
     for parameter in parameters {
         add_name(names, parameter.name.as_str())?;
@@ -288,12 +287,16 @@ fn add_set<'a>(
 #[cycle(add)]
 fn add_branches<'a>(
     names: &mut BTreeSet<&'a str>,
-    branches: &'a [(u32, Expr, Vec<Stmt>)],
+    branches: &'a [Branch<Stmt>],
 ) -> Result<(), AllocError>
     ensures { IfOk result (λ _. Puts names.old names.new
         (branch_names (branches_view branches.now))) }
 {
-    for (_, condition, body) in branches {
+    for Branch {
+        condition,
+        body,
+        ..
+    } in branches {
         add_expression(names, condition)?;
         add_statements(names, body)?;
     }

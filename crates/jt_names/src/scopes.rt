@@ -1,14 +1,14 @@
 //! The names that scopes bind: targets of loops, parameters, values of `with`, and what is set in a
 //! scope.
 
-ghost use Rattle.std.specs.Prelude.{◌++◌, map, IfOk};
+ghost use Rattle.std.specs.Prelude.{◌++◌, IfOk};
 ghost use Rattle.jt_trees.specs.ExpressionView.{pairs_view};
 ghost use Rattle.jt_chains.specs.Uses.{keywords, set_in, scope_names_by, scope_names_in};
-ghost use Rattle.jt_trees.specs.StatementView.{stmt_view, body_view, parameters_view};
-ghost use Rattle.jt_names.specs.Names.{Adds};
+ghost use Rattle.jt_trees.specs.StatementView.{stmt_view, body_view};
+ghost use Rattle.jt_names.specs.Names.{Adds, parameter_names};
 
 use crate::sets::{add_sets, add_targets};
-use jt_trees::{Expr, Parameter, Stmt};
+use jt_trees::{Branch, Expr, Parameter, Stmt};
 use std::alloc::AllocError;
 
 /// Adds the keys of pairs.
@@ -26,8 +26,7 @@ fn add_parameters<'a>(
     found: &mut Vec<&'a str>,
     parameters: &'a [Parameter],
 ) -> Result<(), AllocError>
-    ensures { IfOk result (λ _. Adds found.old found.new (map (λ p. p.name)
-        (parameters_view parameters.now))) }
+    ensures { IfOk result (λ _. Adds found.old found.new (parameter_names parameters.now)) }
 {
     for parameter in parameters {
         found.push(parameter.name.as_str())?;
@@ -64,7 +63,7 @@ fn add_scope<'a>(found: &mut Vec<&'a str>, statement: &'a Stmt) -> Result<(), Al
 {
     match statement {
         Stmt::If(branches, other) => {
-            for (_, _, body) in branches {
+            for Branch { body, .. } in branches {
                 add_scopes(found, body)?;
             }
             add_scopes(found, other)?;

@@ -5,7 +5,7 @@ ghost use Rattle.jt_chains.specs.Uses.{set_by, set_in};
 ghost use Rattle.jt_trees.specs.StatementView.{stmt_view, body_view, names_view};
 ghost use Rattle.jt_names.specs.Names.{Adds};
 
-use jt_trees::Stmt;
+use jt_trees::{Branch, Stmt};
 use std::alloc::AllocError;
 
 /// Adds the names of targets.
@@ -44,7 +44,7 @@ fn add_set<'a>(found: &mut Vec<&'a str>, statement: &'a Stmt) -> Result<(), Allo
             Ok(())
         }
         Stmt::If(branches, other) => {
-            for (_, _, body) in branches {
+            for Branch { body, .. } in branches {
                 add_sets(found, body)?;
             }
             add_sets(found, other)?;

@@ -1,5 +1,5 @@
 -- Numbers: all of ℤ, and a fault where the result has no 64 signed bits.
-use Rattle.std.specs.Prelude.{ℕ, zero, suc, ◌^◌, ◌/◌, ℤ, pos, negsuc, ◌+ℤ◌, ◌-ℤ◌, ◌*ℤ◌, neg_ℤ, Bool, true, false, Result, Ok, Err, nat_lt, if◌then◌else◌}
+use Rattle.std.specs.Prelude.{◌≡◌, ℕ, zero, suc, ◌^◌, ◌/◌, ℤ, pos, negsuc, ◌+ℤ◌, ◌-ℤ◌, ◌*ℤ◌, neg_ℤ, Bool, true, false, Result, Ok, Err, nat_lt, if◌then◌else◌}
 use Rattle.std.specs.Int.{div_ceil, int_pow}
 use Rattle.jt_value.specs.declared.fault.Fault.{Fault}
 use Rattle.jt_value.specs.declared.fault.Fault.TheVariants.{BadType, Overflow, ZeroDivide}
@@ -29,7 +29,8 @@ difference x y = in_range (x -ℤ y)
 abbrev pub product : ℤ → ℤ → Result ℤ Fault
 product x y = in_range (x *ℤ y)
 
--- x / y rounded down: the sizes' quotient, rounded down where the signs agree, and up and negated where they differ
+-- x / y rounded down: the sizes' quotient, rounded down where the signs agree, and up and negated
+-- where they differ
 abbrev pub floor : ℤ → ℤ → ℤ
 floor (pos a) (pos b) = pos (a / b)
 floor (pos a) (negsuc b) = neg_ℤ (pos (div_ceil a (suc b)))
@@ -70,7 +71,15 @@ abbrev pub on_numbers : (ℤ → ℤ → Result ℤ Fault) → Tree → Tree →
 on_numbers compute (number x) (number y) = as_number (compute x y)
 on_numbers compute x y = Err (misfit x y)
 
+-- the fault of two values that no operation on two numbers takes
+abbrev pub NoNumbers : Tree → Tree → Fault → Type 0
+NoNumbers t u fault = (compute : ℤ → ℤ → Result ℤ Fault) → on_numbers compute t u ≡ Err fault
+
 -- an operation on one number; no other value fits
 abbrev pub on_number : (ℤ → Result ℤ Fault) → Tree → Result Tree Fault
 on_number compute (number x) = as_number (compute x)
 on_number compute x = Err (misfit_of_one x)
+
+-- the fault of a value that no operation on one number takes
+abbrev pub NoNumber : Tree → Fault → Type 0
+NoNumber t fault = (compute : ℤ → Result ℤ Fault) → on_number compute t ≡ Err fault

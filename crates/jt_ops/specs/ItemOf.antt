@@ -7,7 +7,8 @@ use Rattle.jt_value.specs.declared.fault.Fault.TheVariants.{Undefined}
 use Rattle.jt_value.specs.Entries.{entry_of}
 use Rattle.jt_value.specs.Tree.{Tree, undefined, number, text, markup, list, map, Items, no_items, item}
 
--- the place that an index names among some items, the first at 0; a negative index counts from the end, the last at -1
+-- the place that an index names among some items, the first at 0; a negative index counts from the
+-- end, the last at -1
 abbrev pub place : ℤ → ℕ → Option ℕ
 place (pos i) count = if nat_lt i count then Some i else None
 place (negsuc i) count = if nat_lt i count then Some (count - 1 - i) else None
@@ -25,16 +26,21 @@ item_at (item t ts) (suc i) = item_at ts i
 abbrev pub indexed_item : Items → ℤ → Option Tree
 indexed_item ts i = option_and_then (item_at ts) (place i (items_count ts))
 
--- the character that an index names, as a plain text, if there is one
+-- the character that an index names, if there is one
+abbrev pub nth_character : List ℕ → ℤ → Option ℕ
+nth_character s i = option_and_then (slice_get (chars s)) (place i (length (chars s)))
+
+-- the same as a plain text
 abbrev pub indexed_character : List ℕ → ℤ → Option Tree
-indexed_character s i = option_map (λ c. text (encode_utf8 c)) (option_and_then (slice_get (chars s)) (place i (length (chars s))))
+indexed_character s i = option_map (λ c. text (encode_utf8 c)) (nth_character s i)
 
 -- undefined where there is none
 abbrev pub or_undefined : Option Tree → Tree
 or_undefined found = unwrap_or found undefined
 
--- the value of a map's key, the first where the key is doubled; an item of a list, or a character of a text, by its index;
--- undefined where there is none, and for every other pair; undefined itself has no items
+-- the value of a map's key, the first where the key is doubled; an item of a list, or a character
+-- of a text, by its index; undefined where there is none, and for every other pair; undefined
+-- itself has no items
 abbrev pub item_of : Tree → Tree → Result Tree Fault
 item_of undefined k = Err Undefined
 item_of (map es) (text k) = Ok (or_undefined (entry_of k es))

@@ -1,5 +1,5 @@
 -- What an operation gives under limits of size and nesting.
-use Rattle.std.specs.Prelude.{◌≡◌, ℕ, true, Result, Ok, Err, nat_lt, if◌then◌else◌}
+use Rattle.std.specs.Prelude.{◌≡◌, ℕ, ◌-◌, ◌^◌, min, true, Result, Ok, Err, nat_lt, if◌then◌else◌}
 use Rattle.jt_value.specs.Payload.{has_payload}
 use Rattle.jt_value.specs.Tree.{Tree, size, nesting}
 use Rattle.jt_value.specs.View.{view}
@@ -11,11 +11,14 @@ use Rattle.jt_ops.specs.declared.limits.OpError.TheVariants as error
 use Rattle.jt_value.specs.declared.fault.ValueError.{ValueError}
 use Rattle.jt_value.specs.declared.fault.ValueError.TheVariants as value_error
 
--- the fault if there is one; else TooLarge where the result's size passes its limit; else TooDeep where its nesting does; else the result
+-- the fault if there is one; else TooLarge where the result's size passes its limit; else TooDeep
+-- where its nesting does; else the result
 abbrev pub limited : ℕ → ℕ → Result Tree Fault → Result Tree OpError
 limited most deepest (Err fault) = Err (error.Fault fault)
 limited most deepest (Ok t) =
-    if nat_lt most (size t) then Err error.TooLarge else (if nat_lt deepest (nesting t) then Err error.TooDeep else Ok t)
+    if nat_lt most (size t)
+    then Err error.TooLarge
+    else (if nat_lt deepest (nesting t) then Err error.TooDeep else Ok t)
 
 abbrev pub limited_by : Limits → Result Tree Fault → Result Tree OpError
 limited_by limits given = limited limits.size limits.nesting given
@@ -25,14 +28,24 @@ abbrev pub NeedsMemory : Result Tree OpError → Type 0
 NeedsMemory (Ok t) = has_payload t ≡ true
 NeedsMemory (Err e) = ⊥
 
--- A call answers what the operation gives. Want of memory it answers only where it would give a value with a payload: so no fault
--- and no limit is behind it.
+-- A call answers what the operation gives. Want of memory it answers only where it would give a
+-- value with a payload: so no fault and no limit is behind it.
 abbrev pub Answers : Result Value OpError → Result Tree OpError → Type 0
 Answers (Ok value) wanted = wanted ≡ Ok (view value)
 Answers (Err (error.Fault fault)) wanted = wanted ≡ Err (error.Fault fault)
 Answers (Err error.TooLarge) wanted = wanted ≡ Err error.TooLarge
 Answers (Err error.TooDeep) wanted = wanted ≡ Err error.TooDeep
 Answers (Err error.NoMemory) wanted = NeedsMemory wanted
+
+-- the same of a value that there is: it, or what the limits refuse
+abbrev pub AnswersWith : Limits → Tree → Result Value OpError → Type 0
+AnswersWith limits t result = Answers result (limited_by limits (Ok t))
+
+-- what holds of each value of this size and this nesting, where either may stand at the greatest
+-- number of its type for one that is greater
+abbrev pub OfMeasure : ℕ → ℕ → (Tree → Type 0) → Type 0
+OfMeasure s n P =
+    (t : Tree) → s ≡ min (size t) (2 ^ 64 - 1) → n ≡ min (nesting t) (2 ^ 32 - 1) → P t
 
 -- why a value could not be printed, as an operation's error
 abbrev pub of_value_error : ValueError → OpError

@@ -13,7 +13,8 @@ begins_with hay [] = true
 begins_with [] (n ∷ ns) = false
 begins_with (h ∷ hs) (n ∷ ns) = h == n && begins_with hs ns
 
--- whether the first text stands somewhere in the second: as bytes of UTF-8 or as characters is the same
+-- whether the first text stands somewhere in the second: as bytes of UTF-8 or as characters is the
+-- same
 abbrev pub occurs_in : List ℕ → List ℕ → Bool
 occurs_in needle [] = begins_with [] needle
 occurs_in needle (h ∷ hs) = begins_with (h ∷ hs) needle || occurs_in needle hs
@@ -23,8 +24,8 @@ abbrev pub has_item : Tree → Items → Bool
 has_item t no_items = false
 has_item t (item u us) = equal t u || has_item t us
 
--- `t in u`: nothing is in undefined; a text in a text; an item of a list; a key of a map, which no other value than a text is;
--- and what has no items has no members
+-- `t in u`: nothing is in undefined; a text in a text; an item of a list; a key of a map, which no
+-- other value than a text is; and what has no items has no members
 abbrev pub is_in : Tree → Tree → Result Bool Fault
 is_in t undefined = Ok false
 is_in t nothing = Err NotIterable

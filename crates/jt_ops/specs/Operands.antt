@@ -1,5 +1,5 @@
--- Operands that fit no case of an operation: the fault is Undefined if one of them is undefined, else BadType.
--- `misfit` of jt_value's `Order` says it of two operands.
+-- Operands that fit no case of an operation: the fault is Undefined if one of them is undefined,
+-- else BadType. `misfit` of jt_value's `Order` says it of two operands.
 use Rattle.jt_value.specs.Tree.{Tree, undefined}
 use Rattle.jt_value.specs.declared.fault.Fault.{Fault}
 use Rattle.jt_value.specs.declared.fault.Fault.TheVariants as fault

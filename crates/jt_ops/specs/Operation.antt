@@ -18,7 +18,8 @@ abbrev pub as_truth : Result Bool Fault → Result Tree Fault
 as_truth (Ok b) = Ok (truth_value b)
 as_truth (Err fault) = Err fault
 
--- an operator on its operands, the left one first; a call never has another number of them than the operator takes
+-- an operator on its operands, the left one first; a call never has another number of them than the
+-- operator takes
 abbrev pub operation : OpId → List Tree → Result Tree Fault
 operation op.Add (t ∷ u ∷ []) = added t u
 operation op.Subtract (t ∷ u ∷ []) = on_numbers difference t u

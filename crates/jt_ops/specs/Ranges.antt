@@ -16,7 +16,8 @@ natural (negsuc n) = 0
 abbrev pub distance : ℤ → ℤ → ℕ
 distance x y = natural (y -ℤ x)
 
--- how many of the numbers from start by a step lie before stop: upwards below it, downwards above it
+-- how many of the numbers from start by a step lie before stop: upwards below it, downwards above
+-- it
 abbrev pub range_count : ℤ → ℤ → ℤ → ℕ
 range_count start stop (pos step) = div_ceil (distance start stop) step
 range_count start stop (negsuc step) = div_ceil (distance stop start) (suc step)
@@ -31,7 +32,8 @@ abbrev pub numbers_between : ℤ → ℤ → ℤ → Result Tree Fault
 numbers_between start stop (pos zero) = Err Range
 numbers_between start stop step = Ok (list (stepped (range_count start stop step) start step))
 
--- `range` of a stop, of a start and a stop, and of these and a step: numbers alone; the start is 0 and the step 1 where they aren't given
+-- `range` of a stop, of a start and a stop, and of these and a step: numbers alone; the start is 0
+-- and the step 1 where they aren't given
 abbrev pub ranged : List Tree → Result Tree Fault
 ranged (number stop ∷ []) = numbers_between (pos 0) stop (pos 1)
 ranged (number start ∷ number stop ∷ []) = numbers_between start stop (pos 1)

@@ -76,7 +76,8 @@ turned_round (Err fault) = Err fault
 abbrev pub is_odd : Tree → Result Bool Fault
 is_odd t = turned_round (is_even t)
 
--- a test of its values, the tested one first; a call never has another number of them than the test takes
+-- a test of its values, the tested one first; a call never has another number of them than the test
+-- takes
 abbrev pub tested : TestId → List Tree → Result Bool Fault
 tested test.Boolean (t ∷ []) = Ok (is_truth_value t)
 tested test.Defined (t ∷ []) = Ok (not (is_undefined t))

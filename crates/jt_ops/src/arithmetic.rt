@@ -1,11 +1,10 @@
 //! Operators on numbers. A result without 64 signed bits is an overflow.
-ghost use Rattle.std.specs.Prelude.{◌≡◌, ◌≤◌, ◌<◌, ◌≢◌, unsigned_abs, ◌-ℤ◌, ◌*ℤ◌, ℤ, pos, Result, Ok, Err, IfOk, IfErr};
+ghost use Rattle.std.specs.Prelude.{◌≡◌, ◌≤◌, ◌<◌, ◌≢◌, unsigned_abs, ◌-ℤ◌, ◌*ℤ◌, pos, Ok, IfOk, IfErr};
 ghost use Rattle.std.specs.Int.{int_pow};
 ghost use Rattle.jt_value.specs.Tree.{number};
 ghost use Rattle.jt_value.specs.Tree as tree;
 ghost use Rattle.jt_value.specs.View.{view};
-ghost use Rattle.jt_value.specs.declared.fault.Fault.{Fault};
-ghost use Rattle.jt_ops.specs.Arithmetic.{as_number, on_numbers, on_number, in_range, floor};
+ghost use Rattle.jt_ops.specs.Arithmetic.{as_number, on_numbers, on_number, in_range, floor, NoNumbers, NoNumber};
 ghost use Rattle.jt_ops.specs.Arithmetic as arithmetic;
 
 use crate::operands::{misfit, misfit_of_one};
@@ -16,6 +15,7 @@ use jt_value::{Fault, Value};
 /// # Errors
 ///
 /// `Overflow` where it has no 64 bits with a sign.
+#[inline(always)]
 #[tactic(auto, using(crate::proofs::Numbers::in_range_is))]
 pub fn sum(x: i64, y: i64) -> Result<i64, Fault>
     ensures { result ≡ arithmetic.sum x y }
@@ -28,6 +28,7 @@ pub fn sum(x: i64, y: i64) -> Result<i64, Fault>
 /// # Errors
 ///
 /// `Overflow` where it has no 64 bits with a sign.
+#[inline(always)]
 #[tactic(auto, using(crate::proofs::Numbers::in_range_is))]
 pub fn difference(x: i64, y: i64) -> Result<i64, Fault>
     ensures { result ≡ arithmetic.difference x y }
@@ -40,6 +41,7 @@ pub fn difference(x: i64, y: i64) -> Result<i64, Fault>
 /// # Errors
 ///
 /// `Overflow` where it has no 64 bits with a sign.
+#[inline(always)]
 #[tactic(auto, using(crate::proofs::Numbers::in_range_is))]
 pub fn product(x: i64, y: i64) -> Result<i64, Fault>
     ensures { result ≡ arithmetic.product x y }
@@ -48,6 +50,7 @@ pub fn product(x: i64, y: i64) -> Result<i64, Fault>
 }
 
 /// The number of a size, with the sign of another number.
+#[inline(always)]
 fn with_sign(sign: i64, size: u64) -> Result<i64, Fault>
     ensures { result ≡ in_range (arithmetic.with_sign sign size) }
 {
@@ -79,6 +82,7 @@ fn quotient(x: i64, y: i64) -> Result<i64, Fault>
 
 /// The size of what the rounded quotient leaves. That it has the divisor's sign and is smaller is
 /// what rounding down means.
+#[inline(always)]
 fn rest_size(x: i64, y: i64) -> u64
     requires { pos 0 ≢ y }
     ensures left { x -ℤ (floor x y *ℤ y) ≡ arithmetic.with_sign y result }
@@ -100,6 +104,7 @@ fn rest_size(x: i64, y: i64) -> u64
 /// # Errors
 ///
 /// `ZeroDivide` where the divisor is 0.
+#[inline(always)]
 pub fn remainder(x: i64, y: i64) -> Result<i64, Fault>
     ensures { result ≡ arithmetic.remainder x y }
 {
@@ -139,8 +144,7 @@ fn great_power(x: i64, exponent: u64) -> Result<i64, Fault>
 /// The numbers of two operands.
 fn numbers(left: &Value, right: &Value) -> Result<(i64, i64), Fault>
     ensures ok { IfOk result (λ n. (view left.now ≡ number n.0) × (view right.now ≡ number n.1)) }
-    ensures err { IfErr result (λ f. (compute : ℤ → ℤ → Result ℤ Fault)
-        → on_numbers compute (view left.now) (view right.now) ≡ Err f) }
+    ensures err { IfErr result (NoNumbers (view left.now) (view right.now)) }
 {
     match (left, right) {
         (Value::Int(x), Value::Int(y)) => Ok((*x, *y)),
@@ -151,8 +155,7 @@ fn numbers(left: &Value, right: &Value) -> Result<(i64, i64), Fault>
 /// The number of an operand.
 fn number(operand: &Value) -> Result<i64, Fault>
     ensures ok { IfOk result (λ n. view operand.now ≡ tree.number n) }
-    ensures err { IfErr result (λ f. (compute : ℤ → Result ℤ Fault)
-        → on_number compute (view operand.now) ≡ Err f) }
+    ensures err { IfErr result (NoNumber (view operand.now)) }
 {
     match operand {
         Value::Int(x) => Ok(*x),

@@ -1,13 +1,12 @@
 //! Items of values: of a map by its key, of a list and a text by an index.
-ghost use Rattle.std.specs.Prelude.{◌≡◌, length, Ok, IfOk, option_map, option_copied, slice_get, string_bytes, encode_utf8};
-ghost use Rattle.std.specs.Option.{option_and_then};
+ghost use Rattle.std.specs.Prelude.{◌≡◌, length, IfOk, option_map, option_copied, slice_get, encode_utf8};
 ghost use Rattle.std.specs.Str.{chars};
 ghost use Rattle.jt_value.specs.Entries.{entry_of};
 ghost use Rattle.jt_value.specs.Tree as tree;
-ghost use Rattle.jt_value.specs.View.{view, items_view, entries_view};
+ghost use Rattle.jt_value.specs.View.{view, items_view};
 ghost use Rattle.jt_ops.specs.ItemOf.{item_of, item_at, indexed_item, indexed_character, or_undefined};
 ghost use Rattle.jt_ops.specs.ItemOf as items;
-ghost use Rattle.jt_ops.specs.Limited.{limited_by, Answers};
+ghost use Rattle.jt_ops.specs.Limited.{limited_by, Answers, AnswersWith};
 
 use crate::limits::{Limits, OpError, allow, copy_within, made, within};
 use jt_value::{Fault, NoMemory, Value, ValueMap};
@@ -37,8 +36,7 @@ pub(crate) fn item(
 
 /// A copy of what was found, undefined where that is nothing.
 fn found(alloc: Global, found: Option<&Value>, limits: Limits) -> Result<Value, OpError>
-    ensures { Answers result
-        (limited_by limits (Ok (or_undefined (option_map view (option_copied found.entry))))) }
+    ensures { AnswersWith limits (or_undefined (option_map view (option_copied found.entry))) result }
 {
     match found {
         Some(value) => copy_within(alloc, value, limits),
@@ -48,23 +46,9 @@ fn found(alloc: Global, found: Option<&Value>, limits: Limits) -> Result<Value, 
 
 /// A copy of the first value of a key, undefined where there is none.
 fn keyed(alloc: Global, map: &ValueMap, name: &str, limits: Limits) -> Result<Value, OpError>
-    ensures { Answers result
-        (limited_by limits (Ok (or_undefined (entry_of name.now map.now)))) }
+    ensures { AnswersWith limits (or_undefined (entry_of name.now map.now)) result }
 {
     found(alloc, map.get(name), limits)
-}
-
-/// The first value of a key among entries, which are gone through one by one. Where the map is at
-/// hand, `ValueMap::get` takes less time.
-pub fn entry<'a>(entries: &'a [(String, Value)], key: &str) -> Option<&'a Value>
-    ensures { option_map view (option_copied result) ≡ entry_of key.now (entries_view entries.now) }
-{
-    for entry in entries {
-        if entry.0.as_str() == key {
-            return Some(&entry.1);
-        }
-    }
-    None
 }
 
 /// The place that an index names among some items.
@@ -105,8 +89,7 @@ fn at(items: &[Value], place: usize) -> Option<&Value>
 
 /// The character that an index names, as a plain text.
 fn character(alloc: Global, text: &str, index: i64, limits: Limits) -> Result<Value, OpError>
-    ensures { Answers result
-        (limited_by limits (Ok (or_undefined (indexed_character text.now index)))) }
+    ensures { AnswersWith limits (or_undefined (indexed_character text.now index)) result }
 {
     match nth_character(text, index) {
         Some(c) => single(alloc, c, limits),
@@ -116,7 +99,7 @@ fn character(alloc: Global, text: &str, index: i64, limits: Limits) -> Result<Va
 
 /// A character as a plain text, measured before it is built.
 fn single(alloc: Global, c: char, limits: Limits) -> Result<Value, OpError>
-    ensures { Answers result (limited_by limits (Ok (tree.text (encode_utf8 c)))) }
+    ensures { AnswersWith limits (tree.text (encode_utf8 c)) result }
 {
     allow(c.len_utf8() as u64 + 1, 0, limits)?;
     made(text_of(alloc, c))
@@ -124,9 +107,7 @@ fn single(alloc: Global, c: char, limits: Limits) -> Result<Value, OpError>
 
 /// The character that an index names.
 fn nth_character(text: &str, index: i64) -> Option<char>
-    ensures { result
-        ≡ option_and_then (slice_get (chars text.now))
-        (items.place index (length (chars text.now))) }
+    ensures { result ≡ items.nth_character text.now index }
 {
     match place(index, character_count(text)) {
         Some(place) => character_at(text, place),

@@ -3,8 +3,8 @@ ghost use Rattle.std.specs.Prelude.{◌≡◌, ◌-◌, ◌^◌, min, Ok, Err, I
 ghost use Rattle.jt_value.specs.Tree as tree;
 ghost use Rattle.jt_value.specs.Payload.{joined_items};
 ghost use Rattle.jt_value.specs.View.{view, items_view};
-ghost use Rattle.jt_ops.specs.Joining.{added, multiplied, joined, joined_escaping};
-ghost use Rattle.jt_ops.specs.Limited.{limited_by, Answers};
+ghost use Rattle.jt_ops.specs.Joining.{added, both, multiplied, joined, joined_escaping};
+ghost use Rattle.jt_ops.specs.Limited.{limited_by, Answers, AnswersWith};
 
 use crate::arithmetic::{product, sum};
 use crate::limits::{Limits, OpError, allow, made, number_within};
@@ -134,7 +134,8 @@ pub(crate) fn join_escaping(
     }
 }
 
-/// Operator `+`, for operands that nothing else needs. Where both are lists, the left one takes the items.
+/// Operator `+`, for operands that nothing else needs. Where both are lists, the left one takes the
+/// items.
 pub(crate) fn add_owned(
     alloc: Global,
     left: Value,
@@ -156,10 +157,10 @@ fn add_lent(alloc: Global, left: Value, right: Value, limits: Limits) -> Result<
     add(alloc, &left, &right, limits)
 }
 
-/// A list with the items of another behind its own. Where other values share it, they keep what they have.
+/// A list with the items of another behind its own. Where other values share it, they keep what
+/// they have.
 fn appended(mut list: Rc<ValueList>, more: &ValueList, limits: Limits) -> Result<Value, OpError>
-    ensures { Answers result
-        (limited_by limits (Ok (tree.list (joined_items list.value more.now)))) }
+    ensures { AnswersWith limits (both list.value more.now) result }
 {
     append_within(&mut list, more, limits)?;
     Ok(Value::List(list))
@@ -168,10 +169,8 @@ fn appended(mut list: Rc<ValueList>, more: &ValueList, limits: Limits) -> Result
 /// Puts the items of another list behind a list's own, under the limits.
 fn append_within(list: &mut Rc<ValueList>, more: &ValueList, limits: Limits) -> Result<(), OpError>
     ensures ok { OnOk result
-        (limited_by limits (Ok (tree.list (joined_items list.old.value more.now)))
-        ≡ Ok (tree.list list.new.value)) }
-    ensures refused { IfErr result (λ e. Answers (Err e)
-        (limited_by limits (Ok (tree.list (joined_items list.old.value more.now))))) }
+        (limited_by limits (Ok (both list.old.value more.now)) ≡ Ok (tree.list list.new.value)) }
+    ensures refused { IfErr result (λ e. AnswersWith limits (both list.old.value more.now) (Err e)) }
 {
     let measure = joined_measure(list, more);
     allow(measure.0, measure.1, limits)?;
@@ -194,7 +193,7 @@ fn joined_lists(
     more: &ValueList,
     limits: Limits,
 ) -> Result<Value, OpError>
-    ensures { Answers result (limited_by limits (Ok (tree.list (joined_items list.now more.now)))) }
+    ensures { AnswersWith limits (both list.now more.now) result }
 {
     let (size, nesting) = joined_measure(list, more);
     allow(size, nesting, limits)?;
@@ -203,8 +202,7 @@ fn joined_lists(
 
 /// The list of copies of the items of two lists.
 fn joined_copies(alloc: Global, items: &[Value], more: &[Value]) -> Result<Value, NoMemory>
-    ensures { IfOk result (λ v. view v
-        ≡ tree.list (joined_items (items_view items.now) (items_view more.now))) }
+    ensures { IfOk result (λ v. view v ≡ both (items_view items.now) (items_view more.now)) }
 {
     let mut joined = Vec::with_capacity(alloc, items.len() + more.len())?;
     append_copies(&mut joined, items)?;
@@ -216,10 +214,8 @@ fn joined_copies(alloc: Global, items: &[Value], more: &[Value]) -> Result<Value
 /// greater.
 #[tactic(auto, using(jt_value::proofs::Lists::joined_size, jt_value::proofs::Lists::joined_nesting))]
 fn joined_measure(list: &ValueList, more: &ValueList) -> (u64, u32)
-    ensures size { result.0
-        ≡ min (tree.size (tree.list (joined_items list.now more.now))) (2 ^ 64 - 1) }
-    ensures nesting { result.1
-        ≡ min (tree.nesting (tree.list (joined_items list.now more.now))) (2 ^ 32 - 1) }
+    ensures size { result.0 ≡ min (tree.size (both list.now more.now)) (2 ^ 64 - 1) }
+    ensures nesting { result.1 ≡ min (tree.nesting (both list.now more.now)) (2 ^ 32 - 1) }
 {
     (
         list.size().saturating_add(more.size() - 1),

@@ -19,7 +19,7 @@ mod testing;
 mod text;
 
 pub use arithmetic::{difference, product, remainder, sum};
-pub use item::{character_count, entry};
+pub use item::character_count;
 pub use jt_ids::{OpId, TestId};
 pub use limits::{Limits, OpError, allow, copy_within, within};
 pub use operators::{binary, binary_owned, unary};

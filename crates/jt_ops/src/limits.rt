@@ -1,12 +1,12 @@
 //! Limits of an operation's result, and why an operation has none.
-ghost use Rattle.std.specs.Prelude.{◌≡◌, ◌-◌, ◌^◌, min, true, Result, Ok, Err, OnOk, IfOk, IfErr};
+ghost use Rattle.std.specs.Prelude.{◌≡◌, true, Result, Ok, Err, OnOk, IfOk, IfErr};
 ghost use Rattle.jt_value.specs.Payload.{has_payload};
 ghost use Rattle.jt_value.specs.Tree.{Tree};
-ghost use Rattle.jt_value.specs.Tree as tree;
 ghost use Rattle.jt_value.specs.View.{view};
 ghost use Rattle.jt_ops.specs.declared.limits.OpError.{OpError};
+ghost use Rattle.jt_ops.specs.declared.limits.OpError.TheVariants as error;
 ghost use Rattle.jt_ops.specs.Arithmetic.{as_number};
-ghost use Rattle.jt_ops.specs.Limited.{limited_by, Answers};
+ghost use Rattle.jt_ops.specs.Limited.{limited_by, of_value_error, Answers, OfMeasure};
 ghost use Rattle.jt_ops.specs.Operation.{as_truth};
 
 use jt_value::{Fault, NoMemory, Value, ValueError};
@@ -38,8 +38,6 @@ pub enum OpError {
 }
 
 impl From<Fault> for OpError {
-    ghost use Rattle.jt_ops.specs.declared.limits.OpError.TheVariants as error;
-
     ghost from_gives = { λ fault e. e ≡ error.Fault fault };
 
     fn from(fault: Fault) -> OpError {
@@ -48,8 +46,6 @@ impl From<Fault> for OpError {
 }
 
 impl From<NoMemory> for OpError {
-    ghost use Rattle.jt_ops.specs.declared.limits.OpError.TheVariants as error;
-
     ghost from_gives = { λ _ e. e ≡ error.NoMemory };
 
     fn from(_e: NoMemory) -> OpError {
@@ -58,8 +54,6 @@ impl From<NoMemory> for OpError {
 }
 
 impl From<ValueError> for OpError {
-    ghost use Rattle.jt_ops.specs.Limited.{of_value_error};
-
     ghost from_gives = { λ error e. e ≡ of_value_error error };
 
     fn from(error: ValueError) -> OpError {
@@ -71,8 +65,6 @@ impl From<ValueError> for OpError {
 }
 
 impl From<AllocError> for OpError {
-    ghost use Rattle.jt_ops.specs.declared.limits.OpError.TheVariants as error;
-
     ghost from_gives = { λ _ e. e ≡ error.NoMemory };
 
     fn from(_e: AllocError) -> OpError {
@@ -81,8 +73,6 @@ impl From<AllocError> for OpError {
 }
 
 impl<T: Drop> From<AllocFailed<T>> for OpError {
-    ghost use Rattle.jt_ops.specs.declared.limits.OpError.TheVariants as error;
-
     ghost from_gives = { λ _ e. e ≡ error.NoMemory };
 
     fn from(_e: AllocFailed<T>) -> OpError {
@@ -93,14 +83,8 @@ impl<T: Drop> From<AllocFailed<T>> for OpError {
 /// Tests the size and nesting of a result that need not be built yet. Either stands at the greatest
 /// number of its type where the true one is greater.
 pub fn allow(size: u64, nesting: u32, limits: Limits) -> Result<(), OpError>
-    ensures ok { (t : Tree)
-        → size ≡ min (tree.size t) (2 ^ 64 - 1)
-        → nesting ≡ min (tree.nesting t) (2 ^ 32 - 1)
-        → OnOk result (limited_by limits (Ok t) ≡ Ok t) }
-    ensures refused { (t : Tree)
-        → size ≡ min (tree.size t) (2 ^ 64 - 1)
-        → nesting ≡ min (tree.nesting t) (2 ^ 32 - 1)
-        → IfErr result (λ e. limited_by limits (Ok t) ≡ Err e) }
+    ensures ok { OfMeasure size nesting (λ t. OnOk result (limited_by limits (Ok t) ≡ Ok t)) }
+    ensures refused { OfMeasure size nesting (λ t. IfErr result (λ e. limited_by limits (Ok t) ≡ Err e)) }
 {
     if size > u64::from(limits.size) {
         return Err(OpError::TooLarge);

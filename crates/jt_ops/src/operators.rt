@@ -55,8 +55,8 @@ pub fn binary(
     }
 }
 
-/// An operator of two operands that nothing else needs, under limits: what `binary` gives. The sum of
-/// two lists is built in the left one, where no other value shares it.
+/// An operator of two operands that nothing else needs, under limits: what `binary` gives. The sum
+/// of two lists is built in the left one, where no other value shares it.
 ///
 /// # Errors
 ///

@@ -3,7 +3,7 @@ ghost use Rattle.std.specs.Prelude.{◌≡◌, ◌≢◌, ◌≤◌, ◌<◌, �
 ghost use Rattle.std.specs.Int.{w64};
 ghost use Rattle.jt_value.specs.Tree as tree;
 ghost use Rattle.jt_value.specs.View.{view, items_view};
-ghost use Rattle.jt_ops.specs.Limited.{limited_by, Answers};
+ghost use Rattle.jt_ops.specs.Limited.{limited_by, Answers, AnswersWith};
 ghost use Rattle.jt_ops.specs.Ranges.{ranged, numbers_between, range_count, stepped};
 ghost use Rattle.jt_ops.specs.Ranges as ranges;
 
@@ -104,8 +104,7 @@ fn list_of(
     limits: Limits,
 ) -> Result<Value, OpError>
     requires { pos 0 ≢ step }
-    ensures { let count = range_count start stop step in
-        Answers result (limited_by limits (Ok (tree.list (stepped count start step)))) }
+    ensures { AnswersWith limits (tree.list (stepped (range_count start stop step) start step)) result }
 {
     let count = count(start, stop, step);
     allow(count.saturating_add(1), 1, limits)?;

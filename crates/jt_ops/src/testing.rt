@@ -47,7 +47,8 @@ pub fn test_of(test: TestId, value: &Value, arguments: &[Value]) -> Result<bool,
     }
 }
 
-/// Whether a test is true of a plain text, with the test's argument where it takes one: as of a value of that text.
+/// Whether a test is true of a plain text, with the test's argument where it takes one: as of a
+/// value of that text.
 ///
 /// # Errors
 ///

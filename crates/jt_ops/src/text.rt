@@ -5,7 +5,7 @@ ghost use Rattle.jt_value.specs.View.{view};
 ghost use Rattle.jt_escape.specs.Escaping.{escaped, escaped_byte};
 ghost use Rattle.jt_ops.specs.Pieces.{of_kind, written};
 ghost use Rattle.jt_ops.specs.Joining.{times};
-ghost use Rattle.jt_ops.specs.Limited.{limited_by, Answers};
+ghost use Rattle.jt_ops.specs.Limited.{AnswersWith};
 
 use crate::limits::{Limits, OpError, allow, made};
 use jt_escape::escape_into;
@@ -94,8 +94,7 @@ pub(crate) fn concatenated(
     kind: TextKind,
     limits: Limits,
 ) -> Result<Value, OpError>
-    ensures { let text = written left.now ++ written right.now in
-        Answers result (limited_by limits (Ok (of_kind kind text))) }
+    ensures { AnswersWith limits (of_kind kind (written left.now ++ written right.now)) result }
 {
     let len = left.len().saturating_add(right.len());
     allow(len.saturating_add(1), 0, limits)?;
@@ -127,8 +126,7 @@ pub(crate) fn repeated(
     kind: TextKind,
     limits: Limits,
 ) -> Result<Value, OpError>
-    ensures { Answers result
-        (limited_by limits (Ok (of_kind kind (repeat (times number) text.now)))) }
+    ensures { AnswersWith limits (of_kind kind (repeat (times number) text.now)) result }
 {
     let count = repetitions(text, number);
     let len = (text.len() as u64).saturating_mul(count);

@@ -13,10 +13,8 @@ use Rattle.jt_parse.specs.declared.error.ParseError.{ParseError}
 use Rattle.jt_parse.specs.declared.error.ParseError.TheVariants as e
 use Rattle.jt_trees.specs.declared.statement.Stmt.{Stmt}
 use Rattle.jt_trees.specs.declared.statement.Stmt.TheVariants.{If}
+use Rattle.jt_trees.proofs.Left.{Branch}
 use Rattle.jt_trees.proofs.StatementViews.{view_If}
-
-abbrev pub Branch : Type 0
-Branch = ℕ × Expr × Vec Stmt Global
 
 -- ---- one behind the other
 
@@ -42,7 +40,7 @@ fault_behind o p r none g = subst (λ q. GivesNames q r) (sym (option_right o p 
 
 -- what is found in one branch
 abbrev branch_at : Branch → Found
-branch_at b = option_or (unknown_in b.0 (λ u. has_unknown u (expr_view b.1))) (body_unknown (body_view b.2.items))
+branch_at b = option_or (unknown_in b.line (λ u. has_unknown u (expr_view b.condition))) (body_unknown (body_view b.body.items))
 
 -- what is left of branches
 branches_left : (bs : List Branch) (i : ℕ) (b : Branch) → i < length bs → b ≡ get_or bs i b
@@ -51,23 +49,23 @@ branches_left bs i b lt is =
     ap (λ (z : List Branch). branch_unknown (branches_view z)) (drop_more bs i b lt)
     ∙ ap (λ (z : Branch). option_or (branch_at z) (branch_unknown (branches_view (drop (i + 1) bs)))) (sym is)
 
-pub branch_known : (bs : List Branch) (i : ℕ) (b : Branch) → i < length bs → b ≡ get_or bs i b → unknown_in b.0 (λ u. has_unknown u (expr_view b.1)) ≡ None → body_unknown (body_view b.2.items) ≡ None
+pub branch_known : (bs : List Branch) (i : ℕ) (b : Branch) → i < length bs → b ≡ get_or bs i b → unknown_in b.line (λ u. has_unknown u (expr_view b.condition)) ≡ None → body_unknown (body_view b.body.items) ≡ None
     → branch_unknown (branches_view (drop i bs)) ≡ branch_unknown (branches_view (drop (i + 1) bs))
 branch_known bs i b lt is c d =
     branches_left bs i b lt is
-    ∙ option_right (branch_at b) (branch_unknown (branches_view (drop (i + 1) bs))) (option_right (unknown_in b.0 (λ u. has_unknown u (expr_view b.1))) (body_unknown (body_view b.2.items)) c ∙ d)
+    ∙ option_right (branch_at b) (branch_unknown (branches_view (drop (i + 1) bs))) (option_right (unknown_in b.line (λ u. has_unknown u (expr_view b.condition))) (body_unknown (body_view b.body.items)) c ∙ d)
 
 branch_refused : (bs : List Branch) (i : ℕ) (b : Branch) (f : ParseError) → i < length bs → b ≡ get_or bs i b → GivesNames (branch_at b) (Err f) → GivesNames (branch_unknown (branches_view (drop i bs))) (Err f)
 branch_refused bs i b f lt is g =
     subst (λ o. GivesNames o (Err f)) (sym (branches_left bs i b lt is)) (fault_first (branch_at b) (branch_unknown (branches_view (drop (i + 1) bs))) f g)
 
-pub condition_refused : (bs : List Branch) (i : ℕ) (b : Branch) (f : ParseError) → i < length bs → b ≡ get_or bs i b → GivesNames (unknown_in b.0 (λ u. has_unknown u (expr_view b.1))) (Err f)
+pub condition_refused : (bs : List Branch) (i : ℕ) (b : Branch) (f : ParseError) → i < length bs → b ≡ get_or bs i b → GivesNames (unknown_in b.line (λ u. has_unknown u (expr_view b.condition))) (Err f)
     → GivesNames (branch_unknown (branches_view (drop i bs))) (Err f)
-condition_refused bs i b f lt is g = branch_refused bs i b f lt is (fault_first (unknown_in b.0 (λ u. has_unknown u (expr_view b.1))) (body_unknown (body_view b.2.items)) f g)
+condition_refused bs i b f lt is g = branch_refused bs i b f lt is (fault_first (unknown_in b.line (λ u. has_unknown u (expr_view b.condition))) (body_unknown (body_view b.body.items)) f g)
 
-pub inside_refused : (bs : List Branch) (i : ℕ) (b : Branch) (f : ParseError) → i < length bs → b ≡ get_or bs i b → unknown_in b.0 (λ u. has_unknown u (expr_view b.1)) ≡ None → GivesNames (body_unknown (body_view b.2.items)) (Err f)
+pub inside_refused : (bs : List Branch) (i : ℕ) (b : Branch) (f : ParseError) → i < length bs → b ≡ get_or bs i b → unknown_in b.line (λ u. has_unknown u (expr_view b.condition)) ≡ None → GivesNames (body_unknown (body_view b.body.items)) (Err f)
     → GivesNames (branch_unknown (branches_view (drop i bs))) (Err f)
-inside_refused bs i b f lt is c g = branch_refused bs i b f lt is (fault_behind (unknown_in b.0 (λ u. has_unknown u (expr_view b.1))) (body_unknown (body_view b.2.items)) (Err f) c g)
+inside_refused bs i b f lt is c g = branch_refused bs i b f lt is (fault_behind (unknown_in b.line (λ u. has_unknown u (expr_view b.condition))) (body_unknown (body_view b.body.items)) (Err f) c g)
 
 -- ---- an `if`
 

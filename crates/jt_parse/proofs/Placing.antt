@@ -16,7 +16,7 @@ abbrev pub placed_by : Option Position → Body → Bool
 placed_by None b = is_placed b
 placed_by (Some p) b = body_placed (position_view p) b
 
-pub branch_misplaced : (q : positions.Position) (bs : List Branch) (i : ℕ) (b : Branch) → i < length bs → b ≡ get_or bs i b → body_placed q (body_view b.2.items) ≡ false → branches_placed q (branches_view (drop i bs)) ≡ false
+pub branch_misplaced : (q : positions.Position) (bs : List Branch) (i : ℕ) (b : Branch) → i < length bs → b ≡ get_or bs i b → body_placed q (body_view b.body.items) ≡ false → branches_placed q (branches_view (drop i bs)) ≡ false
 branch_misplaced q bs i b lt is bad = ap (branches_placed q) (branches_left bs i b lt is) ∙ ap (λ c. c && branches_placed q (branches_view (drop (i + 1) bs))) bad
 
 choice_is : (p : positions.Position) (s : Stmt) (bs : Vec Branch Global) (other : Vec Stmt Global) → s ≡ If bs other

@@ -5,13 +5,14 @@ use Rattle.jt_trees.specs.ExpressionView.{expr_view}
 use Rattle.jt_trees.specs.StatementView.{stmt_view, body_view, branches_view}
 use Rattle.jt_trees.specs.declared.expression.Expr.{Expr}
 use Rattle.jt_trees.specs.declared.statement.Stmt.{Stmt}
+use Rattle.jt_trees.proofs.Left.{Branch}
 use Rattle.jt_parse.specs.Reading.{then_one, then_branch}
 
 pub body-push : (ss : List Stmt) (x : Stmt) → body_view (ss ++ x ∷ []) ≡ then_one (body_view ss) (stmt_view x)
 body-push [] x = refl
 body-push (y ∷ ss) x = ap (trees.stmt (stmt_view y)) (body-push ss x)
 
-pub branches-push : (bs : List (ℕ × Expr × Vec Stmt Global)) (b : ℕ × Expr × Vec Stmt Global)
-    → branches_view (bs ++ b ∷ []) ≡ then_branch (branches_view bs) b.0 (expr_view b.1) (body_view b.2.items)
+pub branches-push : (bs : List Branch) (b : Branch)
+    → branches_view (bs ++ b ∷ []) ≡ then_branch (branches_view bs) b.line (expr_view b.condition) (body_view b.body.items)
 branches-push [] b = refl
-branches-push (c ∷ bs) b = ap (trees.branch c.0 (expr_view c.1) (body_view c.2.items)) (branches-push bs b)
+branches-push (c ∷ bs) b = ap (trees.branch c.line (expr_view c.condition) (body_view c.body.items)) (branches-push bs b)

@@ -1,12 +1,17 @@
 -- What only private clauses cite: what the functions of the parser give.
-use Rattle.std.specs.Prelude.{◌≡◌, ℕ, ◌≤◌, ◌<◌, List, map, reverse, Bool, true, false, Some, None, Result, Ok, Err, Vec}
+use Rattle.std.specs.Prelude.{◌≡◌, ℕ, ◌≤◌, ◌<◌, List, ◌∷◌, map, reverse, Bool, true, false, Some, None, Result, Ok, Err, Vec}
 use Rattle.std.specs.declared.alloc.Global.{Global}
 use Rattle.jt_trees.specs.ExpressionView.{expr_view}
+use Rattle.jt_scan.specs.Cut as cut
+use Rattle.jt_scan.specs.View.{token_view}
+use Rattle.jt_scan.specs.declared.segment.Token.{Token}
 use Rattle.jt_expr.specs.declared.error.ExprError.{ExprError}
 use Rattle.jt_expr.specs.declared.error.ExprError.TheVariants as fault
 use Rattle.jt_expr.specs.declared.named.Named.{Named}
 use Rattle.jt_expr.specs.declared.named.Named.TheVariants as named
-use Rattle.jt_parse.specs.Names.{Found, body_unknown}
+use Rattle.jt_parse.specs.Kept.{Piece}
+use Rattle.jt_parse.specs.Names.{Found, body_unknown, unknown_in}
+use Rattle.jt_parse.specs.Refusals.{max_levels}
 use Rattle.jt_parse.specs.Positions.{is_placed}
 use Rattle.jt_trees.specs.Statements.{Body}
 use Rattle.jt_parse.specs.Reading as reading
@@ -35,6 +40,10 @@ GivesOnly view Form height limit (Err (e.UnknownFilter line)) = ⊥
 GivesOnly view Form height limit (Err (e.UnknownTest line)) = ⊥
 GivesOnly view Form height limit (Err e.NoMemory) = Unit {0}
 
+-- the tokens of a tag
+abbrev pub seen : List Token → List cut.Token
+seen = map token_view
+
 -- a refusal is one of the relation, or want of memory
 abbrev pub Refuses : {A : Type 0} → (Result A Fault → Type 0) → ParseError → Type 0
 Refuses O (e.Syntax line) = O (Err syntax)
@@ -60,6 +69,10 @@ open_stmt_view f = open_stmt_by (body_view f.before.items) f.line f.kind
 abbrev pub open_stmts_view : List Open → List OpenStmt
 open_stmts_view fs = reverse (map open_stmt_view fs)
 
+-- one more is open than before
+abbrev pub Opens : Open → List Open → List Open → Type 0
+Opens f old new = open_stmts_view new ≡ open_stmt_view f ∷ open_stmts_view old
+
 abbrev pub state_view : Parser → State
 state_view p = state (body_view p.body.items) (open_stmts_view p.open_stmts.items)
 
@@ -67,6 +80,22 @@ abbrev pub GivesState : (Result State Fault → Type 0) → Result (Unit {0}) Pa
     → Type 0
 GivesState O (Ok u) new = O (Ok (state_view new))
 GivesState O (Err f) new = Refuses O f
+
+-- the state by a rule, from that before
+abbrev pub Moves : (State → Result State Fault → Type 0) → Parser → Result (Unit {0}) ParseError
+    → Parser → Type 0
+Moves rule old result new = GivesState (rule (state_view old)) result new
+
+-- the state behind these pieces
+abbrev pub RunsOver : List Piece → Parser → Result (Unit {0}) ParseError → Parser → Type 0
+RunsOver ps = Moves (λ s. reading.Runs max_levels s ps)
+
+-- of the state its statements, and what is open
+abbrev pub body_in : Parser → Body
+body_in p = body_view p.body.items
+
+abbrev pub open_in : Parser → List OpenStmt
+open_in p = open_stmts_view p.open_stmts.items
 
 abbrev pub GivesBody : (Result Body Fault → Type 0) → Result (Vec Stmt Global) ParseError → Type 0
 GivesBody O (Ok b) = O (Ok (body_view b.items))
@@ -86,6 +115,10 @@ GivesNames found (Err (e.TooDeep line)) = ⊥
 GivesNames found (Err (e.UnknownFilter line)) = found ≡ Some (line, named.Filter)
 GivesNames found (Err (e.UnknownTest line)) = found ≡ Some (line, named.Test)
 GivesNames found (Err e.NoMemory) = ⊥
+
+-- the same in one tag
+abbrev pub GivesNamesIn : ℕ → (Named → Bool) → Result (Unit {0}) ParseError → Type 0
+GivesNamesIn line unknown = GivesNames (unknown_in line unknown)
 
 -- statements stand where they may, or the refusal says that they don't
 abbrev pub GivesPositions : Bool → Result (Unit {0}) ParseError → Type 0

@@ -42,9 +42,8 @@ pub(crate) fn head(
     levels: u8,
     line: u32,
 ) -> Result<Head, ParseError>
-    ensures { GivesOnly head_view
-        (λ h. Says line h (word_token (chars word.now) ∷ map token_view tokens.now)) head_levels
-        (suc levels) result }
+    ensures { GivesOnly head_view (λ h. Says line h
+        (word_token (chars word.now) ∷ map token_view tokens.now)) head_levels (suc levels) result }
 {
     match read_head(alloc, word, tokens, levels, line) {
         Ok(head) => Ok(head),

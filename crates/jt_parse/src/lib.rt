@@ -17,6 +17,7 @@ mod tags;
 
 pub use error::ParseError;
 pub use jt_trees::{
-    BinaryOperator, Expr, Filtering, Literal, Parameter, Stmt, Template, UnaryOperator,
+    BinaryOperator, Branch, Expr, Filtering, Literal, Missing, NamesAround, Parameter, Polarity,
+    Stmt, Template, UnaryOperator,
 };
 pub use parser::parse;

@@ -5,11 +5,11 @@ ghost use Rattle.jt_trees.specs.ExpressionView.{expr_view, pairs_view};
 ghost use Rattle.jt_expr.specs.Named.{has_unknown, pairs_have_unknown};
 ghost use Rattle.jt_parse.specs.Names as spec;
 ghost use Rattle.jt_trees.specs.StatementView.{stmt_view, body_view, filtering_view, filterings_view};
-ghost use Rattle.jt_parse.specs.Gives.{GivesNames};
+ghost use Rattle.jt_parse.specs.Gives.{GivesNames, GivesNamesIn};
 
 use crate::error::ParseError;
 use jt_expr::{Named, any_unknown, any_unknown_pair, has_unknown, is_filter_unknown};
-use jt_trees::{Expr, Filtering, Stmt};
+use jt_trees::{Branch, Expr, Filtering, Stmt};
 
 /// Refuses a tag of the line, if a filter or a test in it has no meaning.
 fn check_tag(line: u32, filters: bool, tests: bool) -> Result<(), ParseError>
@@ -26,7 +26,7 @@ fn check_tag(line: u32, filters: bool, tests: bool) -> Result<(), ParseError>
 
 /// The same for a tag with one expression.
 fn check_expression(line: u32, expr: &Expr) -> Result<(), ParseError>
-    ensures { GivesNames (spec.unknown_in line (λ u. has_unknown u (expr_view expr.now))) result }
+    ensures { GivesNamesIn line (λ u. has_unknown u (expr_view expr.now)) result }
 {
     let filters = has_unknown(expr, Named::Filter);
     let tests = has_unknown(expr, Named::Test);
@@ -45,8 +45,8 @@ fn condition_unknown(condition: &Option<Expr>, named: Named) -> bool
 
 /// The same for the tag of a loop.
 fn check_loop(line: u32, over: &Expr, condition: &Option<Expr>) -> Result<(), ParseError>
-    ensures { GivesNames (spec.unknown_in line (λ u. has_unknown u (expr_view over.now)
-        || spec.condition_unknown u (option_map expr_view condition.now))) result }
+    ensures { GivesNamesIn line (λ u. has_unknown u (expr_view over.now)
+        || spec.condition_unknown u (option_map expr_view condition.now)) result }
 {
     let filters = has_unknown(over, Named::Filter) || condition_unknown(condition, Named::Filter);
     let tests = has_unknown(over, Named::Test) || condition_unknown(condition, Named::Test);
@@ -55,8 +55,7 @@ fn check_loop(line: u32, over: &Expr, condition: &Option<Expr>) -> Result<(), Pa
 
 /// The same for a tag with values.
 fn check_values(line: u32, values: &Vec<(String, Expr)>) -> Result<(), ParseError>
-    ensures { GivesNames
-        (spec.unknown_in line (λ u. pairs_have_unknown u (pairs_view values.now.items))) result }
+    ensures { GivesNamesIn line (λ u. pairs_have_unknown u (pairs_view values.now.items)) result }
 {
     let filters = any_unknown_pair(values, Named::Filter);
     let tests = any_unknown_pair(values, Named::Test);
@@ -86,8 +85,7 @@ fn filterings_unknown(filters: &Vec<Filtering>, named: Named) -> bool
 
 /// The same for a filter tag.
 fn check_filters(line: u32, filters: &Vec<Filtering>) -> Result<(), ParseError>
-    ensures { GivesNames
-        (spec.unknown_in line (λ u. spec.filterings_unknown u (filterings_view filters.now.items)))
+    ensures { GivesNamesIn line (λ u. spec.filterings_unknown u (filterings_view filters.now.items))
         result }
 {
     let unknown_filters = filterings_unknown(filters, Named::Filter);
@@ -119,7 +117,11 @@ fn check_statement(statement: &Stmt) -> Result<(), ParseError>
         | Stmt::Extends(_, _) => Ok(()),
         Stmt::Print(line, value) | Stmt::Set { line, value, .. } => check_expression(*line, value),
         Stmt::If(branches, other) => {
-            for (line, condition, body) in branches {
+            for Branch {
+                line,
+                condition,
+                body,
+            } in branches {
                 check_expression(*line, condition)?;
                 check_body(body)?;
             }

@@ -1,30 +1,34 @@
 //! Statements that are open.
 
-ghost use Rattle.std.specs.Prelude.{◌≡◌, ◌∷◌, [], List, map, bytes_eq, IfOk, MatchOption};
+ghost use Rattle.std.specs.Prelude.{◌≡◌, ◌∷◌, [], List, bytes_eq, IfOk, MatchOption};
 ghost use Rattle.std.specs.Str.{chars};
-ghost use Rattle.jt_scan.specs.View.{token_view};
 ghost use Rattle.jt_trees.specs.ExpressionView.{expr_view};
-ghost use Rattle.jt_trees.specs.Statements as trees;
+ghost use Rattle.jt_trees.specs.Statements.{Body, choose, end};
 ghost use Rattle.jt_parse.specs.Tags as tags;
 ghost use Rattle.jt_parse.specs.Reading as reading;
 ghost use Rattle.jt_trees.specs.StatementView.{stmt_view, body_view, branches_view};
 ghost use Rattle.jt_parse.specs.HeadView.{loop_view, opening_view};
-ghost use Rattle.jt_parse.specs.Gives.{open_stmt_view, open_stmt_by, open_stmts_view};
+ghost use Rattle.jt_parse.specs.Gives.{Opens, seen, open_stmt_view, open_stmt_by, open_stmts_view};
 
 use crate::expression::is_name;
 use crate::heads::{Loop, Opening};
 use jt_scan::{Token, is_word};
-use jt_trees::{Expr, Stmt};
+use jt_trees::{Branch, Expr, Stmt};
 use std::alloc::{AllocError, Global};
 use std::mem;
 
 /// What is open.
 #[derive(Drop)]
 pub enum OpenKind {
-    /// A branch of an `if`: the branches before it, its line and its condition.
-    Branch(Vec<(u32, Expr, Vec<Stmt>)>, u32, Expr),
+    /// A branch of an `if`.
+    Branch {
+        /// Those before it.
+        branches: Vec<Branch<Stmt>>,
+        line: u32,
+        condition: Expr,
+    },
     /// The else part of an `if` with these branches.
-    Else(Vec<(u32, Expr, Vec<Stmt>)>),
+    Else(Vec<Branch<Stmt>>),
     /// A loop.
     Loop(Loop),
     /// The else part of a loop with this inside.
@@ -54,25 +58,26 @@ pub(crate) fn push_statement(body: &mut Vec<Stmt>, statement: Stmt) -> Result<()
 
 /// One branch behind the others.
 pub(crate) fn push_branch(
-    branches: &mut Vec<(u32, Expr, Vec<Stmt>)>,
+    branches: &mut Vec<Branch<Stmt>>,
     line: u32,
     condition: Expr,
     body: Vec<Stmt>,
 ) -> Result<(), AllocError>
-    ensures { IfOk result (λ u. branches_view branches.new.items
-        ≡ reading.then_branch (branches_view branches.old.items) line (expr_view condition)
-        (body_view body.items)) }
+    ensures { IfOk result (λ u. branches_view branches.new.items ≡ reading.then_branch
+        (branches_view branches.old.items) line (expr_view condition) (body_view body.items)) }
 {
-    branches.push((line, condition, body))?;
+    branches.push(Branch {
+        line,
+        condition,
+        body,
+    })?;
     Ok(())
 }
 
 /// Takes the innermost open_stmt.
 pub(crate) fn pop_open_stmt(open_stmts: &mut Vec<OpenStmt>) -> Option<OpenStmt>
     ensures { MatchOption result (open_stmts_view open_stmts.old.items ≡ [])
-        (λ f.
-        open_stmts_view open_stmts.old.items
-        ≡ open_stmt_view f ∷ open_stmts_view open_stmts.new.items) }
+        (λ f. Opens f open_stmts.new.items open_stmts.old.items) }
 {
     open_stmts.pop()
 }
@@ -82,19 +87,15 @@ pub(crate) fn push_open_stmt(
     open_stmts: &mut Vec<OpenStmt>,
     open_stmt: OpenStmt,
 ) -> Result<(), AllocError>
-    ensures { IfOk result
-        (λ u.
-        open_stmts_view open_stmts.new.items
-        ≡ open_stmt_view open_stmt ∷ open_stmts_view open_stmts.old.items) }
+    ensures { IfOk result (λ u. Opens open_stmt open_stmts.old.items open_stmts.new.items) }
 {
     open_stmts.push(open_stmt)?;
     Ok(())
 }
 
 /// The statement of branches and an else part.
-fn if_statement(branches: Vec<(u32, Expr, Vec<Stmt>)>, other: Vec<Stmt>) -> Stmt
-    ensures { stmt_view result
-        ≡ trees.choose (branches_view branches.items) (body_view other.items) }
+fn if_statement(branches: Vec<Branch<Stmt>>, other: Vec<Stmt>) -> Stmt
+    ensures { stmt_view result ≡ choose (branches_view branches.items) (body_view other.items) }
 {
     Stmt::If(branches, other)
 }
@@ -159,14 +160,13 @@ fn enclosing(line: u32, opening: Opening, body: Vec<Stmt>) -> Stmt
 /// The statement of branches whose last one ends, with no else part.
 fn ended_branch(
     alloc: Global,
-    branches: Vec<(u32, Expr, Vec<Stmt>)>,
+    branches: Vec<Branch<Stmt>>,
     line: u32,
     condition: Expr,
     body: Vec<Stmt>,
 ) -> Result<Stmt, AllocError>
-    ensures { IfOk result (λ s. stmt_view s
-        ≡ trees.choose (reading.then_branch (branches_view branches.items) line
-        (expr_view condition) (body_view body.items)) trees.end) }
+    ensures { IfOk result (λ s. stmt_view s ≡ choose (reading.then_branch
+        (branches_view branches.items) line (expr_view condition) (body_view body.items)) end) }
 {
     let mut branches = branches;
     push_branch(&mut branches, line, condition, body)?;
@@ -175,13 +175,15 @@ fn ended_branch(
 
 /// The statement that ends.
 fn finished(alloc: Global, line: u32, kind: OpenKind, body: Vec<Stmt>) -> Result<Stmt, AllocError>
-    ensures { (before : trees.Body) → IfOk result (λ s. stmt_view s
+    ensures { (before : Body) → IfOk result (λ s. stmt_view s
         ≡ reading.finished (body_view body.items) (open_stmt_by before line kind)) }
 {
     match kind {
-        OpenKind::Branch(branches, first, condition) => {
-            ended_branch(alloc, branches, first, condition, body)
-        }
+        OpenKind::Branch {
+            branches,
+            line: first,
+            condition,
+        } => ended_branch(alloc, branches, first, condition, body),
         OpenKind::Else(branches) => Ok(if_statement(branches, body)),
         OpenKind::Loop(head) => Ok(for_statement(line, head, body, Vec::new(alloc))),
         OpenKind::LoopElse(head, inside) => Ok(for_statement(line, head, inside, body)),
@@ -225,7 +227,7 @@ pub(crate) fn unclosed(open_stmts: Vec<OpenStmt>) -> Option<u32>
 
 /// Whether the tokens behind the word end a statement: there are none, or a block's name.
 fn names_end(opening: &Opening, tokens: &[Token<'_>]) -> bool
-    ensures { result ≡ reading.names_end (opening_view opening.now) (map token_view tokens.now) }
+    ensures { result ≡ reading.names_end (opening_view opening.now) (seen tokens.now) }
 {
     match (opening, tokens) {
         (_, []) => true,
@@ -250,13 +252,11 @@ fn is_end_of(opening: &Opening, word: &str) -> bool
 
 /// Whether the tag with this word ends the open_stmt.
 pub(crate) fn ends_open_stmt(open_stmt: &OpenStmt, word: &str, tokens: &[Token<'_>]) -> bool
-    ensures { result
-        ≡ reading.ends_open_stmt (chars word.now) (map token_view tokens.now)
+    ensures { result ≡ reading.ends_open_stmt (chars word.now) (seen tokens.now)
         (open_stmt_view open_stmt.now) }
 {
     match &open_stmt.kind {
-        OpenKind::Branch(_, _, _) | OpenKind::Else(_) => is_word(word, "endif")
-            && tokens.is_empty(),
+        OpenKind::Branch { .. } | OpenKind::Else(_) => is_word(word, "endif") && tokens.is_empty(),
         OpenKind::Loop(_) | OpenKind::LoopElse(_, _) => is_word(word, "endfor")
             && tokens.is_empty(),
         OpenKind::Opening(opening) => is_end_of(opening, word) && names_end(opening, tokens),

@@ -3,10 +3,10 @@
 //! The segments are read one after the other, and each statement that is open is kept in a row of
 //! open_stmts, so that no source, however deep, reaches the end of the stack.
 
-ghost use Rattle.std.specs.Prelude.{◌≡◌, ◌≤◌, ◌-◌, suc, length, nat_lt, None, true, false, [], ◌∷◌, map, IfOk, IfErr, MatchResult};
+ghost use Rattle.std.specs.Prelude.{◌≡◌, ◌≤◌, ◌-◌, suc, length, nat_lt, None, true, false, [], ◌∷◌, IfOk, IfErr, MatchResult};
 ghost use Rattle.std.specs.Str.{chars};
-ghost use Rattle.jt_scan.specs.Cut as cut;
-ghost use Rattle.jt_scan.specs.View.{token_view, segment_view, cut_of};
+ghost use Rattle.jt_scan.specs.Cut.{weight_of};
+ghost use Rattle.jt_scan.specs.View.{segment_view, cut_of};
 ghost use Rattle.jt_parse.specs.Names.{body_unknown};
 ghost use Rattle.jt_trees.specs.Statements as trees;
 ghost use Rattle.jt_trees.specs.Statements.{Body, body_levels, body_weight};
@@ -15,11 +15,12 @@ ghost use Rattle.jt_parse.specs.Bytes.{bytes_of};
 ghost use Rattle.jt_parse.specs.Grammar.{Spelled};
 ghost use Rattle.jt_parse.specs.Kept as kept;
 ghost use Rattle.jt_parse.specs.Reading as reading;
+ghost use Rattle.jt_parse.specs.Reading.{HeadTag, PrintTag};
 ghost use Rattle.jt_trees.specs.StatementView.{body_of};
-ghost use Rattle.jt_parse.specs.View.{reads_of};
+ghost use Rattle.jt_parse.specs.View.{pieces_of};
 ghost use Rattle.jt_parse.specs.HeadView.{head_view};
 ghost use Rattle.jt_parse.specs.SideView.{side_view};
-ghost use Rattle.jt_parse.specs.Gives.{GivesState, GivesBody, GivesKnown, open_stmt_by, open_stmt_view, open_stmts_view, state_view};
+ghost use Rattle.jt_parse.specs.Gives.{GivesState, GivesBody, GivesKnown, Moves, RunsOver, body_in, open_in, seen, open_stmt_by, open_stmt_view, open_stmts_view, state_view};
 ghost use Rattle.jt_parse.specs.Refusals.{IsRefusal, max_levels};
 ghost use Rattle.jt_parse.specs.declared.error.ParseError.TheVariants as error;
 
@@ -76,9 +77,7 @@ fn depth(open_stmts: &Vec<OpenStmt>) -> usize
 impl Parser {
     /// `{{ e }}`
     fn print_tag(&mut self, line: u32, tokens: &[Token<'_>]) -> Result<(), ParseError>
-        ensures { GivesState
-            (reading.PrintTag max_levels line (map token_view tokens.now) (state_view self.old))
-            result self.new }
+        ensures { Moves (PrintTag max_levels line (seen tokens.now)) self.old result self.new }
     {
         let levels = levels_left(depth(&self.open_stmts), line)?;
         let printed = expression(self.alloc, tokens, levels, line)?;
@@ -88,9 +87,8 @@ impl Parser {
 
     /// One open statement more.
     fn open(&mut self, line: u32, kind: OpenKind) -> Result<(), AllocError>
-        ensures { IfOk result (λ u. state_view self.new
-            ≡ reading.state trees.end
-            (open_stmt_by (state_view self.old).body line kind ∷ (state_view self.old).open_stmts)) }
+        ensures { IfOk result (λ u. state_view self.new ≡ reading.state trees.end
+            (open_stmt_by (body_in self.old) line kind ∷ open_in self.old)) }
     {
         let before = mem::replace(&mut self.body, Vec::new(self.alloc));
         push_open_stmt(&mut self.open_stmts, OpenStmt { before, line, kind })
@@ -105,7 +103,12 @@ impl Parser {
             Head::Statement(statement) => push_statement(&mut self.body, statement),
             Head::If(condition) => {
                 let branches = Vec::new(self.alloc);
-                self.open(line, OpenKind::Branch(branches, line, condition))
+                let kind = OpenKind::Branch {
+                    branches,
+                    line,
+                    condition,
+                };
+                self.open(line, kind)
             }
             Head::Loop(head) => self.open(line, OpenKind::Loop(head)),
             Head::Opening(opening) => self.open(line, OpenKind::Opening(opening)),
@@ -114,8 +117,8 @@ impl Parser {
 
     /// The first tag of a statement.
     fn head_tag(&mut self, line: u32, word: &str, tokens: &[Token<'_>]) -> Result<(), ParseError>
-        ensures { GivesState (reading.HeadTag max_levels line (chars word.now)
-            (map token_view tokens.now) (state_view self.old)) result self.new }
+        ensures { Moves (HeadTag max_levels line (chars word.now) (seen tokens.now)) self.old
+            result self.new }
     {
         let levels = levels_left(depth(&self.open_stmts), line)?;
         let head = head(self.alloc, word, tokens, levels, line)?;
@@ -125,8 +128,8 @@ impl Parser {
 
     /// `{% elif c %}`
     fn elif_tag(&mut self, line: u32, tokens: &[Token<'_>]) -> Result<(), ParseError>
-        ensures { GivesState (reading.ElifTag max_levels line (map token_view tokens.now)
-            (state_view self.old).body (state_view self.old).open_stmts) result self.new }
+        ensures { GivesState (reading.ElifTag max_levels line (seen tokens.now)
+            (body_in self.old) (open_in self.old)) result self.new }
     {
         let Some(open_stmt) = pop_open_stmt(&mut self.open_stmts) else {
             return Err(ParseError::Syntax { line });
@@ -136,7 +139,12 @@ impl Parser {
             line: opening,
             kind,
         } = open_stmt;
-        let OpenKind::Branch(mut branches, first, condition) = kind else {
+        let OpenKind::Branch {
+            mut branches,
+            line: first,
+            condition,
+        } = kind
+        else {
             return Err(ParseError::Syntax { line });
         };
         let levels = levels_left(depth(&self.open_stmts), line)?;
@@ -146,7 +154,11 @@ impl Parser {
         let open_stmt = OpenStmt {
             before,
             line: opening,
-            kind: OpenKind::Branch(branches, line, next),
+            kind: OpenKind::Branch {
+                branches,
+                line,
+                condition: next,
+            },
         };
         push_open_stmt(&mut self.open_stmts, open_stmt)?;
         Ok(())
@@ -154,9 +166,8 @@ impl Parser {
 
     /// What the else part of a open_stmt is read in.
     fn else_by(&mut self, line: u32) -> Result<(), ParseError>
-        ensures { GivesState
-            (λ o. o ≡ reading.else_by (state_view self.old).body (state_view self.old).open_stmts)
-            result self.new }
+        ensures { GivesState (λ o. o ≡ reading.else_by (body_in self.old) (open_in self.old)) result
+            self.new }
     {
         let Some(open_stmt) = pop_open_stmt(&mut self.open_stmts) else {
             return Err(ParseError::Syntax { line });
@@ -167,7 +178,11 @@ impl Parser {
             kind,
         } = open_stmt;
         let kind = match kind {
-            OpenKind::Branch(mut branches, first, condition) => {
+            OpenKind::Branch {
+                mut branches,
+                line: first,
+                condition,
+            } => {
                 let body = mem::replace(&mut self.body, Vec::new(self.alloc));
                 push_branch(&mut branches, first, condition, body)?;
                 OpenKind::Else(branches)
@@ -190,9 +205,8 @@ impl Parser {
     /// `{% else %}`
     #[tactic(auto, unfolding(crate::specs::Reading::else_tag))]
     fn else_tag(&mut self, line: u32, tokens: &[Token<'_>]) -> Result<(), ParseError>
-        ensures { GivesState (λ o. o
-            ≡ reading.else_tag (map token_view tokens.now) (state_view self.old).body
-            (state_view self.old).open_stmts) result self.new }
+        ensures { GivesState (λ o. o ≡ reading.else_tag (seen tokens.now)
+            (body_in self.old) (open_in self.old)) result self.new }
     {
         if !tokens.is_empty() {
             return Err(ParseError::Syntax { line });
@@ -209,10 +223,8 @@ impl Parser {
         word: &str,
         tokens: &[Token<'_>],
     ) -> Result<(), ParseError>
-        ensures { GivesState (λ o. o
-            ≡ reading.end_tag (chars word.now) (map token_view tokens.now)
-            (state_view self.old).body (open_stmt_view open_stmt ∷ (state_view self.old).open_stmts)) result
-            self.new }
+        ensures { GivesState (λ o. o ≡ reading.end_tag (chars word.now) (seen tokens.now)
+            (body_in self.old) (open_stmt_view open_stmt ∷ open_in self.old)) result self.new }
     {
         if !ends_open_stmt(&open_stmt, word, tokens) {
             drop(open_stmt);
@@ -224,9 +236,8 @@ impl Parser {
     /// A tag that ends a statement.
     #[tactic(auto, unfolding(crate::specs::Reading::end_tag))]
     fn end_tag(&mut self, line: u32, word: &str, tokens: &[Token<'_>]) -> Result<(), ParseError>
-        ensures { GivesState (λ o. o
-            ≡ reading.end_tag (chars word.now) (map token_view tokens.now)
-            (state_view self.old).body (state_view self.old).open_stmts) result self.new }
+        ensures { GivesState (λ o. o ≡ reading.end_tag (chars word.now) (seen tokens.now)
+            (body_in self.old) (open_in self.old)) result self.new }
     {
         match pop_open_stmt(&mut self.open_stmts) {
             Some(open_stmt) => self.close(open_stmt, line, word, tokens),
@@ -237,8 +248,8 @@ impl Parser {
     /// A block tag, by its first word.
     #[tactic(auto, unfolding(crate::specs::Reading::role))]
     fn block_tag(&mut self, line: u32, word: &str, tokens: &[Token<'_>]) -> Result<(), ParseError>
-        ensures { GivesState (reading.BlockTag (reading.role (chars word.now)) max_levels line
-            (chars word.now) (map token_view tokens.now) (state_view self.old)) result self.new }
+        ensures { Moves (reading.BlockTag (reading.role (chars word.now)) max_levels line
+            (chars word.now) (seen tokens.now)) self.old result self.new }
     {
         if is_word(word, "elif") {
             self.elif_tag(line, tokens)
@@ -254,7 +265,7 @@ impl Parser {
     /// A tag.
     fn tag(&mut self, kind: TagKind, line: u32, tokens: &[Token<'_>]) -> Result<(), ParseError>
         ensures { GivesState (reading.Steps max_levels (state_view self.old)
-            (kept.tag kind line (map token_view tokens.now))) result self.new }
+            (kept.tag kind line (seen tokens.now))) result self.new }
     {
         match kind {
             TagKind::Variable => self.print_tag(line, tokens),
@@ -267,9 +278,7 @@ impl Parser {
 
     /// What is left of a text.
     fn text(&mut self, text: &str) -> Result<(), ParseError>
-        ensures { GivesState
-            (reading.Runs max_levels (state_view self.old) (kept.with_text (chars text.now) []))
-            result self.new }
+        ensures { RunsOver (kept.with_text (chars text.now) []) self.old result self.new }
     {
         if text.is_empty() {
             return Ok(());
@@ -281,9 +290,8 @@ impl Parser {
 
     /// One segment, between two sides.
     fn step(&mut self, segment: &Segment<'_>, left: Side, right: Side) -> Result<(), ParseError>
-        ensures { GivesState (reading.Runs max_levels (state_view self.old)
-            (kept.with_segment segment.now.options (side_view left) (side_view right)
-            (segment_view segment.now) [])) result self.new }
+        ensures { RunsOver (kept.with_segment segment.now.options (side_view left) (side_view right)
+            (segment_view segment.now) []) self.old result self.new }
     {
         let options = segment.options;
         match &segment.part {
@@ -301,7 +309,7 @@ impl Parser {
 
 /// The tree that all the segments spell, as the reader has it.
 fn read(alloc: Global, segments: &[Segment<'_>]) -> Result<Vec<Stmt>, ParseError>
-    ensures { GivesBody (reading.Parsed max_levels (kept.pieces (reads_of segments.now))) result }
+    ensures { GivesBody (reading.Parsed max_levels (pieces_of segments.now)) result }
 {
     let mut parser = Parser {
         alloc,
@@ -323,7 +331,7 @@ fn read(alloc: Global, segments: &[Segment<'_>]) -> Result<Vec<Stmt>, ParseError
 
 /// The same, if each statement stands where it may, and each filter and each test has a meaning.
 fn read_known(alloc: Global, segments: &[Segment<'_>]) -> Result<Template, ParseError>
-    ensures { GivesKnown (reading.Parsed max_levels (kept.pieces (reads_of segments.now))) result }
+    ensures { GivesKnown (reading.Parsed max_levels (pieces_of segments.now)) result }
 {
     let body = read(alloc, segments)?;
     check_positions(&body)?;
@@ -338,17 +346,14 @@ fn read_known(alloc: Global, segments: &[Segment<'_>]) -> Result<Template, Parse
 /// line is that of the tag in which the fault was found, and of a statement that is never closed
 /// its first tag's.
 pub fn parse(alloc: Global, segments: &[Segment<'_>]) -> Result<Template, ParseError>
-    ensures spelled { IfOk result (λ t. Spelled (body_of t) (kept.pieces (reads_of segments.now))
-        × (body_levels (body_of t) ≤ max_levels)) }
+    ensures spelled { IfOk result (λ t.
+        Spelled (body_of t) (pieces_of segments.now) × (body_levels (body_of t) ≤ max_levels)) }
     ensures known { IfOk result (λ t. body_unknown (body_of t) ≡ None) }
-    ensures only { (b : Body)
-        → Spelled b (kept.pieces (reads_of segments.now))
-        → body_levels b ≤ max_levels
+    ensures only { (b : Body) → Spelled b (pieces_of segments.now) → body_levels b ≤ max_levels
         → body_unknown b ≡ None
         → MatchResult result (λ t. body_of t ≡ b) (λ e. e ≡ error.NoMemory) }
-    ensures refused { IfErr result (λ e. IsRefusal e (kept.pieces (reads_of segments.now))) }
-    ensures weighs { IfOk result
-        (λ t. body_weight (body_of t) ≤ cut.weight_of (cut_of segments.now)) }
+    ensures refused { IfErr result (λ e. IsRefusal e (pieces_of segments.now)) }
+    ensures weighs { IfOk result (λ t. body_weight (body_of t) ≤ weight_of (cut_of segments.now)) }
     ensures short { IfOk result (λ t. body_bytes (body_of t) ≤ bytes_of (cut_of segments.now)) }
 {
     expression_laws();

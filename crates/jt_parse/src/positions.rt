@@ -9,7 +9,7 @@ ghost use Rattle.jt_trees.specs.StatementView.{stmt_view, body_view};
 ghost use Rattle.jt_parse.specs.PositionView.{position_view};
 
 use crate::error::ParseError;
-use jt_trees::{Expr, Stmt};
+use jt_trees::{Branch, Stmt};
 
 /// Where a statement stands.
 #[derive(Clone, Copy, PartialEq, Eq)]
@@ -104,18 +104,14 @@ fn allow(allowed: bool, line: u32) -> Result<(), u32>
 }
 
 /// The line of the first of some branches.
-fn first_line(branches: &Vec<(u32, Expr, Vec<Stmt>)>) -> u32 {
-    match branches.first() {
-        Some((line, _, _)) => *line,
-        None => 1,
-    }
+fn first_line(branches: &[Branch<Stmt>]) -> u32 {
+    branches.first().map_or(1, |branch| branch.line)
 }
 
 /// The line of the first statement that stands where it may not, if there is one.
 #[cycle(positions)]
 fn body_placed(body: &Vec<Stmt>, position: Position) -> Result<(), u32>
-    ensures { is_ok result
-        ≡ spec.body_placed (position_view position) (body_view body.now.items) }
+    ensures { is_ok result ≡ spec.body_placed (position_view position) (body_view body.now.items) }
 {
     for statement in body {
         statement_placed(statement, position)?;
@@ -135,7 +131,7 @@ fn statement_placed(statement: &Stmt, position: Position) -> Result<(), u32>
         Stmt::Extends(line, _) => Err(*line),
         Stmt::If(branches, other) => {
             allow(!is_child(position), first_line(branches))?;
-            for (_, _, body) in branches {
+            for Branch { body, .. } in branches {
                 body_placed(body, within(position))?;
             }
             body_placed(other, within(position))

@@ -13,8 +13,8 @@ ghost use Rattle.jt_scan.specs.Words.{letters_of};
 ghost use Rattle.jt_trees.specs.Statements.{condition_levels};
 ghost use Rattle.jt_parse.specs.Tags.{Separated, IsName, IsValue, IsFiltering, IsParameter, IsImported};
 ghost use Rattle.jt_parse.specs.Tags.{Parameters, Condition, Context, missing_words, defaults_last};
-ghost use Rattle.jt_parse.specs.Readers as readers;
 ghost use Rattle.jt_parse.specs.Readers.{TakesForm, TakesFlat, TakesHead};
+ghost use Rattle.jt_parse.specs.Readers.{Anything, GivesPair, GivesText, IsDefault, IsGiven, IsLiteral, IsText, IsWithout, NoImported, NoParameter, NoSign, NoToken, NoWord, ReadsHead, TakesWord, most, one_filtering_levels, value_levels};
 ghost use Rattle.jt_trees.specs.StatementView.{is_ignored, are_seen, names_view, given_view, filtering_view, filterings_view, parameter_view, parameters_view};
 ghost use Rattle.jt_parse.specs.HeadView.{value_view, values_view, imported_view};
 
@@ -26,7 +26,7 @@ use std::alloc::Global;
 
 /// Takes the word, which must stand in front.
 fn expect_word(cursor: &mut Cursor<'_>, word: &str) -> Result<(), ExprError>
-    ensures { readers.TakesWord (letters_of word.now) (ahead cursor.old) result (ahead cursor.new) }
+    ensures { TakesWord (letters_of word.now) (ahead cursor.old) result (ahead cursor.new) }
 {
     if cursor.eat_word(word) {
         Ok(())
@@ -37,7 +37,7 @@ fn expect_word(cursor: &mut Cursor<'_>, word: &str) -> Result<(), ExprError>
 
 /// A name.
 fn target(alloc: Global, cursor: &mut Cursor<'_>) -> Result<String, ExprError>
-    ensures { TakesFlat string_bytes IsName readers.Anything cursor.old result cursor.new }
+    ensures { TakesFlat string_bytes IsName Anything cursor.old result cursor.new }
 {
     let name = cursor.name()?;
     Ok(copy_of(alloc, name)?)
@@ -46,7 +46,7 @@ fn target(alloc: Global, cursor: &mut Cursor<'_>) -> Result<String, ExprError>
 /// `a, b`
 fn targets(alloc: Global, cursor: &mut Cursor<'_>) -> Result<Vec<String>, ExprError>
     ensures { TakesFlat (λ v. names_view v.items) (Separated IsName sign.Comma)
-        (readers.NoSign sign.Comma) cursor.old result cursor.new }
+        (NoSign sign.Comma) cursor.old result cursor.new }
 {
     let mut found = Vec::new(alloc);
     for _turn in 0..cursor.left() {
@@ -75,7 +75,7 @@ fn expression(
 
 /// `a = e`
 fn value(alloc: Global, cursor: &mut Cursor<'_>, levels: u8) -> Result<(String, Expr), ExprError>
-    ensures { TakesForm value_view IsValue (EndsAt whole) readers.value_levels levels cursor.old
+    ensures { TakesForm value_view IsValue (EndsAt whole) value_levels levels cursor.old
         result cursor.new }
 {
     let name = target(alloc, cursor)?;
@@ -90,8 +90,8 @@ fn values(
     cursor: &mut Cursor<'_>,
     levels: u8,
 ) -> Result<Vec<(String, Expr)>, ExprError>
-    ensures { TakesForm (λ v. values_view v.items) (Separated IsValue sign.Comma) readers.NoToken
-        (readers.most readers.value_levels) levels cursor.old result cursor.new }
+    ensures { TakesForm (λ v. values_view v.items) (Separated IsValue sign.Comma) NoToken
+        (most value_levels) levels cursor.old result cursor.new }
 {
     let mut found = Vec::new(alloc);
     for _turn in 0..cursor.left() {
@@ -106,7 +106,7 @@ fn values(
 
 /// `f(a)`
 fn filtering(alloc: Global, cursor: &mut Cursor<'_>, levels: u8) -> Result<Filtering, ExprError>
-    ensures { TakesForm filtering_view IsFiltering OpensNone readers.one_filtering_levels levels
+    ensures { TakesForm filtering_view IsFiltering OpensNone one_filtering_levels levels
         cursor.old result cursor.new }
 {
     let name = target(alloc, cursor)?;
@@ -124,9 +124,8 @@ fn filterings(
     cursor: &mut Cursor<'_>,
     levels: u8,
 ) -> Result<Vec<Filtering>, ExprError>
-    ensures { TakesForm (λ v. filterings_view v.items) (Separated IsFiltering sign.Pipe)
-        readers.NoToken (readers.most readers.one_filtering_levels) levels cursor.old result
-        cursor.new }
+    ensures { TakesForm (λ v. filterings_view v.items) (Separated IsFiltering sign.Pipe) NoToken
+        (most one_filtering_levels) levels cursor.old result cursor.new }
 {
     let mut found = Vec::new(alloc);
     for _turn in 0..cursor.left() {
@@ -141,8 +140,7 @@ fn filterings(
 
 /// A number, a text or a constant.
 fn literal(alloc: Global, cursor: &mut Cursor<'_>) -> Result<Literal, ExprError>
-    ensures { TakesFlat literal_view readers.IsLiteral readers.Anything cursor.old result
-        cursor.new }
+    ensures { TakesFlat literal_view IsLiteral Anything cursor.old result cursor.new }
 {
     match cursor.take() {
         Some(Token::Number(number)) => Ok(Literal::Number(number)),
@@ -157,7 +155,7 @@ fn literal(alloc: Global, cursor: &mut Cursor<'_>) -> Result<Literal, ExprError>
 
 /// A parameter's default, if it has one.
 fn default_of(alloc: Global, cursor: &mut Cursor<'_>) -> Result<Option<Literal>, ExprError>
-    ensures { TakesFlat (option_map literal_view) readers.IsDefault (readers.NoSign sign.Assign)
+    ensures { TakesFlat (option_map literal_view) IsDefault (NoSign sign.Assign)
         cursor.old result cursor.new }
 {
     if !cursor.eat(Sign::Assign) {
@@ -169,7 +167,7 @@ fn default_of(alloc: Global, cursor: &mut Cursor<'_>) -> Result<Option<Literal>,
 
 /// `a`, or `a = 1`
 fn parameter(alloc: Global, cursor: &mut Cursor<'_>) -> Result<Parameter, ExprError>
-    ensures { TakesFlat parameter_view IsParameter (readers.NoSign sign.Assign) cursor.old result
+    ensures { TakesFlat parameter_view IsParameter (NoSign sign.Assign) cursor.old result
         cursor.new }
 {
     let name = target(alloc, cursor)?;
@@ -180,7 +178,7 @@ fn parameter(alloc: Global, cursor: &mut Cursor<'_>) -> Result<Parameter, ExprEr
 /// `a, b = 1`
 fn parameter_row(alloc: Global, cursor: &mut Cursor<'_>) -> Result<Vec<Parameter>, ExprError>
     ensures { TakesFlat (λ v. parameters_view v.items) (Separated IsParameter sign.Comma)
-        readers.NoParameter cursor.old result cursor.new }
+        NoParameter cursor.old result cursor.new }
 {
     let mut found = Vec::new(alloc);
     for _turn in 0..cursor.left() {
@@ -210,7 +208,7 @@ fn defaults_are_last(parameters: &[Parameter]) -> bool
 
 /// The parameters of a macro, up to the closing parenthesis.
 fn parameters(alloc: Global, cursor: &mut Cursor<'_>) -> Result<Vec<Parameter>, ExprError>
-    ensures { TakesFlat (λ v. parameters_view v.items) Parameters readers.Anything cursor.old result
+    ensures { TakesFlat (λ v. parameters_view v.items) Parameters Anything cursor.old result
         cursor.new }
 {
     if cursor.eat(Sign::RightParen) {
@@ -226,7 +224,7 @@ fn parameters(alloc: Global, cursor: &mut Cursor<'_>) -> Result<Vec<Parameter>, 
 
 /// The condition of a loop, if it has one.
 fn condition(alloc: Global, cursor: &mut Cursor<'_>, levels: u8) -> Result<Option<Expr>, ExprError>
-    ensures { TakesForm (option_map expr_view) Condition readers.NoToken condition_levels levels
+    ensures { TakesForm (option_map expr_view) Condition NoToken condition_levels levels
         cursor.old result cursor.new }
 {
     if !cursor.eat_word("if") {
@@ -238,7 +236,7 @@ fn condition(alloc: Global, cursor: &mut Cursor<'_>, levels: u8) -> Result<Optio
 
 /// A text literal.
 fn text(alloc: Global, cursor: &mut Cursor<'_>) -> Result<String, ExprError>
-    ensures { TakesFlat string_bytes readers.IsText readers.Anything cursor.old result cursor.new }
+    ensures { TakesFlat string_bytes IsText Anything cursor.old result cursor.new }
 {
     match cursor.take() {
         Some(Token::Text(raw)) => Ok(text_value(alloc, raw)?),
@@ -248,7 +246,7 @@ fn text(alloc: Global, cursor: &mut Cursor<'_>) -> Result<String, ExprError>
 
 /// `ignore missing`, or nothing.
 fn missing(cursor: &mut Cursor<'_>) -> Result<Missing, ExprError>
-    ensures { TakesFlat is_ignored (λ b x. x ≡ missing_words b) (readers.NoWord (codes "ignore"))
+    ensures { TakesFlat is_ignored (λ b x. x ≡ missing_words b) (NoWord (codes "ignore"))
         cursor.old result cursor.new }
 {
     if !cursor.eat_word("ignore") {
@@ -260,7 +258,7 @@ fn missing(cursor: &mut Cursor<'_>) -> Result<Missing, ExprError>
 
 /// `with context`, `without context`, or nothing.
 fn context(cursor: &mut Cursor<'_>) -> Result<NamesAround, ExprError>
-    ensures { TakesFlat are_seen Context readers.NoToken cursor.old result cursor.new }
+    ensures { TakesFlat are_seen Context NoToken cursor.old result cursor.new }
 {
     if cursor.eat_word("with") {
         expect_word(cursor, "context")?;
@@ -298,7 +296,7 @@ fn for_head(alloc: Global, cursor: &mut Cursor<'_>, levels: u8) -> Result<Head, 
 
 /// The one name of a text that is captured.
 fn only_name(names: Vec<String>) -> Result<Head, ExprError>
-    ensures { readers.GivesText (names_view names.items) result }
+    ensures { GivesText (names_view names.items) result }
 {
     let mut names = names;
     let Some(name) = names.pop() else {
@@ -392,7 +390,7 @@ fn include_head(alloc: Global, cursor: &mut Cursor<'_>, line: u32) -> Result<Hea
 
 /// The name behind `as`, if one is given.
 fn given(alloc: Global, cursor: &mut Cursor<'_>) -> Result<Option<String>, ExprError>
-    ensures { TakesFlat (option_map string_bytes) readers.IsGiven (readers.NoWord (codes "as"))
+    ensures { TakesFlat (option_map string_bytes) IsGiven (NoWord (codes "as"))
         cursor.old result cursor.new }
 {
     if !cursor.eat_word("as") {
@@ -408,7 +406,7 @@ fn given_or(
     name: String,
     given: Option<String>,
 ) -> Result<(String, String), ExprError>
-    ensures { readers.GivesPair (string_bytes name) (option_map string_bytes given) result }
+    ensures { GivesPair (string_bytes name) (option_map string_bytes given) result }
 {
     match given {
         Some(given) => Ok((name, given)),
@@ -421,7 +419,7 @@ fn given_or(
 
 /// `a`, or `a as b`
 fn imported(alloc: Global, cursor: &mut Cursor<'_>) -> Result<(String, String), ExprError>
-    ensures { TakesFlat imported_view IsImported (readers.NoWord (codes "as")) cursor.old result
+    ensures { TakesFlat imported_view IsImported (NoWord (codes "as")) cursor.old result
         cursor.new }
 {
     let name = target(alloc, cursor)?;
@@ -432,7 +430,7 @@ fn imported(alloc: Global, cursor: &mut Cursor<'_>) -> Result<(String, String), 
 /// `a, b as c`
 fn imported_row(alloc: Global, cursor: &mut Cursor<'_>) -> Result<Vec<(String, String)>, ExprError>
     ensures { TakesFlat (λ v. given_view v.items) (Separated IsImported sign.Comma)
-        readers.NoImported cursor.old result cursor.new }
+        NoImported cursor.old result cursor.new }
 {
     let mut found = Vec::new(alloc);
     for _turn in 0..cursor.left() {
@@ -447,8 +445,7 @@ fn imported_row(alloc: Global, cursor: &mut Cursor<'_>) -> Result<Vec<(String, S
 
 /// Whether `without context` is said.
 fn without(cursor: &mut Cursor<'_>) -> Result<bool, ExprError>
-    ensures { TakesFlat (λ b. b) readers.IsWithout (readers.NoWord (codes "without")) cursor.old
-        result cursor.new }
+    ensures { TakesFlat (λ b. b) IsWithout (NoWord (codes "without")) cursor.old result cursor.new }
 {
     if !cursor.eat_word("without") {
         return Ok(false);
@@ -556,7 +553,7 @@ pub(crate) fn read_head(
     levels: u8,
     line: u32,
 ) -> Result<Head, ExprError>
-    ensures { readers.ReadsHead line levels (chars word.now) (map token_view tokens.now) result [] }
+    ensures { ReadsHead line levels (chars word.now) (map token_view tokens.now) result [] }
 {
     let mut cursor = Cursor::new(tokens);
     let found = head(alloc, &mut cursor, levels, line, word)?;

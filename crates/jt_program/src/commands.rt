@@ -22,10 +22,7 @@ pub fn context_of(alloc: Global, bytes: &[u8]) -> Result<Context, Failure>
     let Ok(text) = std::str::from_utf8(bytes) else {
         return Err(Failure::Context(ContextError::NotJson));
     };
-    match context_from_json(alloc, text) {
-        Ok(context) => Ok(context),
-        Err(error) => Err(no_context(error)),
-    }
+    context_from_json(alloc, text).map_err(no_context)
 }
 
 /// The bytes of the image of the template of a name.

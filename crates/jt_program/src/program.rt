@@ -273,10 +273,9 @@ pub(crate) fn bytes_at<F: Files>(files: &F, path: String) -> Result<Vec<u8>, Fai
     ensures err { IfErr result
         (λ e. IsUnread (F.known files.now) (IsPath (string_bytes path)) None (Err e)) }
 {
-    match files.read(path.as_str()) {
-        Ok(bytes) => Ok(bytes),
-        Err(error) => Err(no_file(error, path)),
-    }
+    files
+        .read(path.as_str())
+        .map_err(|error| no_file(error, path))
 }
 
 /// Makes `bytes` the contents of the file at `path`.
@@ -286,10 +285,9 @@ fn put_at<F: Files>(files: &mut F, path: String, bytes: &[u8]) -> Result<(), Fai
     ensures err { IfErr result
         (λ e. IsUnread (F.known files.old) (IsPath (string_bytes path)) None (Err e)) }
 {
-    match files.write(path.as_str(), bytes) {
-        Ok(()) => Ok(()),
-        Err(error) => Err(no_file(error, path)),
-    }
+    files
+        .write(path.as_str(), bytes)
+        .map_err(|error| no_file(error, path))
 }
 
 /// The names of the files directly in `dir`, in the order of their bytes.

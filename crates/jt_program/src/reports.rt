@@ -1,6 +1,5 @@
 //! What the program says on standard error.
 ghost use Rattle.std.specs.Prelude.{◌≡◌, ◌++◌, codes, option_map};
-ghost use Rattle.jt_value.specs.FaultText.{fault_text};
 ghost use Rattle.jt_machine.specs.View.{place_view};
 ghost use Rattle.jt_turns.specs.Shown.{escape, one_line, shown};
 ghost use Rattle.jt_program.specs.Ending.{code_of, status_of};
@@ -53,7 +52,7 @@ fn say_fault<E: Sink>(errors: &mut E, fault: Fault, place: Option<&Place>)
     ensures { TookUnlessFailed (fault_line fault (option_map (λ q. place_view q.now) place.entry))
         (E.taken errors.old) (E.taken errors.new) (E.failed errors.new) }
 {
-    let name = fault_name(fault);
+    let name = fault.text();
     match place {
         None => say(errors, &["jt: fault ", name]),
         Some(place) => {
@@ -152,21 +151,4 @@ fn put<E: Sink>(errors: &mut E, bytes: &[u8]) -> Result<(), SinkFailed>
         result }
 {
     put_all(errors, bytes)
-}
-
-/// The code and the name of a fault.
-fn fault_name(fault: Fault) -> &'static str
-    ensures { result.now ≡ fault_text fault }
-{
-    match fault {
-        Fault::BadType => "F1 BadType",
-        Fault::Undefined => "F2 Undefined",
-        Fault::Overflow => "F3 Overflow",
-        Fault::ZeroDivide => "F4 ZeroDivide",
-        Fault::Unprintable => "F5 Unprintable",
-        Fault::NotIterable => "F6 NotIterable",
-        Fault::Unpack => "F7 Unpack",
-        Fault::Range => "F8 Range",
-        Fault::BadArgument => "F9 BadArgument",
-    }
 }

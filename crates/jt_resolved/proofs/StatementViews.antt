@@ -8,6 +8,7 @@ use Rattle.jt_resolved.specs.View.{Front, slot_view, targets_view, place_view, e
 use Rattle.jt_resolved.specs.declared.program.Place.{Place}
 use Rattle.jt_resolved.specs.declared.program.Slot.{Slot}
 use Rattle.jt_resolved.specs.declared.program.Targets.{Targets}
+use Rattle.jt_resolved.specs.declared.program.SlotBranch.{SlotBranch}
 use Rattle.jt_resolved.specs.declared.program.SlotExpr.{SlotExpr}
 use Rattle.jt_resolved.specs.declared.program.SlotStmt.{SlotStmt, the_lemmas, fold-roll-SlotStmt}
 use Rattle.jt_resolved.specs.declared.program.SlotStmt.TheOpen.{SlotStmt-F}
@@ -16,23 +17,23 @@ use Rattle.jt_resolved.specs.declared.program.SlotStmt.TheVariants.{rolls-If, ro
 use Rattle.jt_resolved.proofs.ExpressionViews.{Entry}
 
 abbrev pub SBranch : Type 0
-SBranch = Place × SlotExpr × Vec SlotStmt Global
+SBranch = SlotBranch SlotStmt
 
 abbrev Shown : Type 0
-Shown = Place × SlotExpr × Vec Front Global
+Shown = SlotBranch Front
 
 module _ (templates : List Text) where
   -- a view of each branch that keeps place and condition, and shows each statement inside
-  choice_map : (g : SBranch → Shown) → ((b : SBranch) → (g b).0 ≡ b.0) → ((b : SBranch) → (g b).1 ≡ b.1) → ((b : SBranch) → (g b).2.items ≡ map (stmt_view templates) b.2.items)
+  choice_map : (g : SBranch → Shown) → ((b : SBranch) → (g b).place ≡ b.place) → ((b : SBranch) → (g b).condition ≡ b.condition) → ((b : SBranch) → (g b).body.items ≡ map (stmt_view templates) b.body.items)
       → (bs : List SBranch) (other : Front) (behind : SBody ℕ) → choice_front templates (map g bs) other behind ≡ choice_view templates bs other behind
   choice_map g p q r [] other behind = refl
   choice_map g p q r (b ∷ bs) other behind =
       let rest = choice_front templates (map g bs) other slots.end in
       let shown = λ (l : Place) (e : SlotExpr) (fs : List Front) (z : SBody ℕ). slots.stmt (slots.if_else (place_view templates l) (expr_view e) (body_front fs slots.end) z) behind in
-      ap (λ (l : Place). shown l (g b).1 (g b).2.items rest) (p b)
-      ∙ ap (λ (e : SlotExpr). shown b.0 e (g b).2.items rest) (q b)
-      ∙ ap (λ (fs : List Front). shown b.0 b.1 fs rest) (r b)
-      ∙ ap (λ (z : SBody ℕ). shown b.0 b.1 (map (stmt_view templates) b.2.items) z) (choice_map g p q r bs other slots.end)
+      ap (λ (l : Place). shown l (g b).condition (g b).body.items rest) (p b)
+      ∙ ap (λ (e : SlotExpr). shown b.place e (g b).body.items rest) (q b)
+      ∙ ap (λ (fs : List Front). shown b.place b.condition fs rest) (r b)
+      ∙ ap (λ (z : SBody ℕ). shown b.place b.condition (map (stmt_view templates) b.body.items) z) (choice_map g p q r bs other slots.end)
 
   pub view_If : (bs : Vec SBranch Global) (other : Vec SlotStmt Global) (behind : SBody ℕ) → stmt_view templates (s.If bs other) behind ≡ choice_view templates bs.items (body_view templates other.items) behind
   view_If bs other behind =
@@ -68,7 +69,7 @@ module _ (templates : List Text) where
 
   -- a branch in front of the other part of a choice
   abbrev pub joined : SBranch → SBody ℕ → Front
-  joined b other behind = slots.stmt (slots.if_else (place_view templates b.0) (expr_view b.1) (body_view templates b.2.items slots.end) other) behind
+  joined b other behind = slots.stmt (slots.if_else (place_view templates b.place) (expr_view b.condition) (body_view templates b.body.items slots.end) other) behind
 
   pub choice_push : (bs : List SBranch) (b : SBranch) (other : Front) (behind : SBody ℕ) → choice_view templates (bs ++ b ∷ []) other behind ≡ choice_view templates bs (joined b (other slots.end)) behind
   choice_push [] b other behind = refl

@@ -17,7 +17,9 @@ use Rattle.jt_resolved.specs.declared.program.Maker.{Maker}
 use Rattle.jt_resolved.specs.declared.program.Maker.TheVariants as m
 use Rattle.jt_resolved.specs.declared.program.Targets.{Targets}
 use Rattle.jt_resolved.specs.declared.program.Targets.TheVariants as t
+use Rattle.jt_resolved.specs.declared.program.SlotBranch.{SlotBranch}
 use Rattle.jt_resolved.specs.declared.program.SlotExpr.{SlotExpr, fold-SlotExpr}
+use Rattle.jt_resolved.specs.declared.program.SlotBranch.{SlotBranch}
 use Rattle.jt_resolved.specs.declared.program.SlotExpr.TheOpen.{SlotExpr-F}
 use Rattle.jt_resolved.specs.declared.program.SlotStmt.{SlotStmt, fold-SlotStmt}
 use Rattle.jt_resolved.specs.declared.program.SlotStmt.TheOpen.{SlotStmt-F}
@@ -93,11 +95,12 @@ module _ (templates : List Text) where
   place_view p = record { template = unwrap_or (slice_get templates p.template) []; line = p.line }
 
   -- each branch has the later ones in its other part, and the last one the else part
-  abbrev pub choice_front : List (Place × SlotExpr × Vec Front Global) → Front → Front
+  abbrev pub choice_front : List (SlotBranch Front) → Front → Front
   choice_front [] other behind = other behind
   choice_front (b ∷ bs) other behind =
-      slots.stmt (slots.if_else (place_view b.0) (expr_view b.1) (body_front b.2.items slots.end)
-      (choice_front bs other slots.end)) behind
+      slots.stmt
+      (slots.if_else (place_view b.place) (expr_view b.condition)
+      (body_front b.body.items slots.end) (choice_front bs other slots.end)) behind
 
   -- one statement, with each statement inside already seen as what it puts in front
   abbrev pub stmt_step : SlotStmt-F Front → Front
@@ -124,11 +127,12 @@ module _ (templates : List Text) where
   abbrev pub body_view : List SlotStmt → Front
   body_view ss = body_front (map stmt_view ss)
 
-  abbrev pub choice_view : List (Place × SlotExpr × Vec SlotStmt Global) → Front → Front
+  abbrev pub choice_view : List (SlotBranch SlotStmt) → Front → Front
   choice_view [] other behind = other behind
   choice_view (b ∷ bs) other behind =
-      slots.stmt (slots.if_else (place_view b.0) (expr_view b.1) (body_view b.2.items slots.end)
-      (choice_view bs other slots.end)) behind
+      slots.stmt
+      (slots.if_else (place_view b.place) (expr_view b.condition)
+      (body_view b.body.items slots.end) (choice_view bs other slots.end)) behind
 
   abbrev pub routine_view : Routine → slots.Routine ℕ
   routine_view r =

@@ -6,4 +6,6 @@
 
 mod program;
 
-pub use program::{Field, Maker, Place, Program, Routine, Slot, SlotExpr, SlotStmt, Targets};
+pub use program::{
+    Field, Maker, Place, Program, Routine, Slot, SlotBranch, SlotExpr, SlotStmt, Targets,
+};

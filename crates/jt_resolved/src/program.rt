@@ -99,6 +99,15 @@ pub enum Targets {
     Several(Vec<Option<Slot>>),
 }
 
+/// A branch of a choice, with statements of type `S`.
+#[derive(Drop)]
+pub struct SlotBranch<S> {
+    /// The place of its tag.
+    pub place: Place,
+    pub condition: SlotExpr,
+    pub body: Vec<S>,
+}
+
 /// A statement.
 #[derive(Drop)]
 pub enum SlotStmt {
@@ -116,9 +125,8 @@ pub enum SlotStmt {
         targets: Targets,
         value: SlotExpr,
     },
-    /// The branches, each with the place of its tag, its condition and statements, and the else
-    /// part.
-    If(Vec<(Place, SlotExpr, Vec<SlotStmt>)>, Vec<SlotStmt>),
+    /// The branches of a choice, and the else part.
+    If(Vec<SlotBranch<SlotStmt>>, Vec<SlotStmt>),
     /// What takes the items, what is gone over, the condition, the statements of a turn, and the
     /// else part.
     For {

@@ -52,10 +52,7 @@ fn image_of(alloc: Global, words: &str) -> Result<Verified, Fail> {
     for word in words.split(' ') {
         bytes.extend_from_slice(&[word.parse::<u8>()?, 0, 0, 0])?;
     }
-    match verify(alloc, decode(alloc, &bytes)?) {
-        Ok(verified) => Ok(verified),
-        Err(_) => Err(Fail::from("verify")),
-    }
+    verify(alloc, decode(alloc, &bytes)?).map_err(|_| Fail::from("verify"))
 }
 
 // How a run is answered, whether the sink has failed, and what is written, where the writer takes so

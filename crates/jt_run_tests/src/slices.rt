@@ -37,10 +37,7 @@ fn machine(alloc: Global, budget: Budget) -> Result<Machine, Fail> {
     let Ok(verified) = verify(alloc, decode(alloc, &N)?) else {
         return Err(Fail::from("verify"));
     };
-    match Machine::start(alloc, verified, &context, budget) {
-        Ok(machine) => Ok(machine),
-        Err(_) => Err(Fail::from("start")),
-    }
+    Machine::start(alloc, verified, &context, budget).map_err(|_| Fail::from("start"))
 }
 
 // What two advances of so many instructions answer, whether an outcome is lent then, and the

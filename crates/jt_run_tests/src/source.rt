@@ -1,7 +1,6 @@
 //! What a source is compiled to.
 
-ghost use Rattle.std.specs.Prelude.{Some, None, if◌then◌else◌};
-ghost use Rattle.std.specs.Str.{bytes_eq};
+ghost use Rattle.std.specs.Prelude.{Some};
 
 use jt_codegen::compile;
 use jt_inherit::Library;
@@ -10,17 +9,17 @@ use jt_verify::{Verified, verify};
 use std::alloc::Global;
 use std::test::Fail;
 
-/// The only template, under the name `t`.
+/// The only source, under every name.
 #[derive(Drop)]
 struct Only<'a> {
     source: &'a str,
 }
 
 impl Library for Only<'_> {
-    ghost sources = { λ only name. if bytes_eq name "t" then Some only.source.now else None };
+    ghost sources = { λ only _. Some only.source.now };
 
-    fn source(&self, name: &str) -> Option<&str> {
-        if name == "t" { Some(self.source) } else { None }
+    fn source(&self, _name: &str) -> Option<&str> {
+        Some(self.source)
     }
 }
 
@@ -29,8 +28,5 @@ pub(crate) fn verified_of(alloc: Global, source: &str) -> Result<Verified, Fail>
     let Ok(image) = compile(alloc, "t", &Only { source }, Options::new()) else {
         return Err(Fail::from("compile"));
     };
-    match verify(alloc, image) {
-        Ok(verified) => Ok(verified),
-        Err(_) => Err(Fail::from("verify")),
-    }
+    verify(alloc, image).map_err(|_| Fail::from("verify"))
 }

@@ -1,7 +1,7 @@
 -- What the scanner's own clauses see of the parts of tokens. Private clauses and proofs alone cite
 -- it.
-use Rattle.std.specs.Prelude.{◌≡◌, ℕ, List, [], ◌∷◌, Option, Some, None, MatchOption, Result, Ok, MatchResult}
-use Rattle.std.specs.Str.{chars}
+use Rattle.std.specs.Prelude.{◌≡◌, ℕ, ◌-◌, ◌^◌, min, Bool, true, false, List, [], ◌∷◌, Option, Some, None, MatchOption, Result, Ok, MatchResult}
+use Rattle.std.specs.Str.{chars, encode_utf8_all}
 use denote.Ref.{Bor}
 use Rattle.jt_scan.specs.declared.error.ScanError.{ScanError}
 use Rattle.jt_scan.specs.declared.tokens.Front.{Front}
@@ -34,15 +34,44 @@ piece_text p.Nothing = []
 piece_text (p.Character c) = c ∷ []
 piece_text (p.Pair c) = 92 ∷ c ∷ []
 
+-- its bytes
+abbrev pub bytes_of : Piece → List ℕ
+bytes_of p = encode_utf8_all (piece_text p)
+
+-- the number, or the greatest of 64 bits where it is greater
+abbrev pub capped : ℕ → ℕ
+capped n = min n (2 ^ 64 - 1)
+
+-- a text in two: what stands before the first place where the test holds, and what stands from
+-- there on
+abbrev pub IsSplit : (Text → Bool) → List ℕ → Bor (List ℕ) × Bor (List ℕ) → Type 0
+IsSplit test text result =
+    scanning.clear_run test (chars text) ≡ (chars result.0.now, chars result.1.now)
+
+-- what is behind a word that stands in front, or nothing
+abbrev pub IsRest : Option Text → Option (Bor (List ℕ)) → Type 0
+IsRest found result = MatchOption result (found ≡ None) (λ rest. found ≡ Some (chars rest.now))
+
+-- the base that is named in front, with the digits behind it, or nothing
+abbrev pub NamesBase : Text → Option (ℕ × Bor (List ℕ)) → Type 0
+NamesBase x result =
+    MatchOption result (literal.names_base x ≡ false)
+    (λ p.
+    (literal.names_base x ≡ true)
+    × (scanning.based_at x ≡ scanning.digits_at p.0 0 (chars p.1.now)))
+
 -- what stands in front, with what is behind it, or nothing
 abbrev pub IsFound : {A B : Type 0} → (A → B) → Option (B × List ℕ) → Option (A × Bor (List ℕ))
     → Type 0
 IsFound view found result =
     MatchOption result (found ≡ None) (λ p. found ≡ Some (view p.0, chars p.1.now))
 
--- the same of an outcome, or its refusal
+-- an outcome, or its refusal
+abbrev pub IsOutcome : {A B : Type 0} → (A → B) → Result B ScanError → Result A ScanError → Type 0
+IsOutcome view outcome result =
+    MatchResult result (λ v. outcome ≡ Ok (view v)) (λ e. scanning.IsGiven e outcome)
+
+-- the same of an outcome with what is behind it
 abbrev pub IsRead : {A B : Type 0} → (A → B) → scanning.Outcome B
     → Result (A × Bor (List ℕ)) ScanError → Type 0
-IsRead view outcome result =
-    MatchResult result (λ p. outcome ≡ Ok (view p.0, chars p.1.now))
-    (λ e. scanning.IsGiven e outcome)
+IsRead view = IsOutcome (λ p. (view p.0, chars p.1.now))

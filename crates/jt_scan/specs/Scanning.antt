@@ -244,6 +244,10 @@ cut source (suc m) [] = Ok []
 cut source (suc m) (c ∷ cs) =
     then_cut (segment_at (line_at source (c ∷ cs)) (c ∷ cs)) (cut source m)
 
+-- the cut of a source
+abbrev pub cut_whole : Text → Result (List Segment) ScanError
+cut_whole x = cut x (length x + 1) x
+
 -- a refusal is the outcome's, where it is not a want of memory
 abbrev pub IsGiven : {A : Type 0} → ScanError → Result A ScanError → Type 0
 IsGiven NoMemory o = Unit {0}

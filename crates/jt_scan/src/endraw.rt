@@ -1,10 +1,9 @@
 //! The end of raw text.
 
-ghost use Rattle.std.specs.Prelude.{◌≡◌, codes, Some, None, MatchOption};
+ghost use Rattle.std.specs.Prelude.{◌≡◌, codes};
 ghost use Rattle.std.specs.Str.{chars};
-ghost use Rattle.jt_scan.specs.PartView.{IsFound};
+ghost use Rattle.jt_scan.specs.PartView.{IsFound, IsRest, IsSplit};
 ghost use Rattle.jt_scan.specs.Cut as cut;
-ghost use Rattle.jt_scan.specs.Scanning as spec;
 
 use crate::marks::{read_closer, read_mark};
 use crate::segment::{Marks, TagKind};
@@ -12,8 +11,7 @@ use crate::text::{before, behind_pair, behind_space, first};
 
 /// What is behind the word `endraw`, where it is in front.
 fn behind_endraw(text: &str) -> Option<&str>
-    ensures { MatchOption result (cut.after_word (codes "endraw") (chars text.now) ≡ None)
-        (λ rest. cut.after_word (codes "endraw") (chars text.now) ≡ Some (chars rest.now)) }
+    ensures { IsRest (cut.after_word (codes "endraw") (chars text.now)) result }
 {
     behind_pair(
         behind_pair(behind_pair(text, 'e', 'n')?, 'd', 'r')?,
@@ -43,8 +41,7 @@ fn ends_raw(text: &str) -> bool
 
 /// What is in front of the first `endraw` tag, and what is from there on.
 pub(crate) fn split_raw(text: &str) -> (&str, &str)
-    ensures { spec.clear_run cut.ends_raw (chars text.now)
-        ≡ (chars result.0.now, chars result.1.now) }
+    ensures { IsSplit cut.ends_raw text.now result }
 {
     let mut rest = text;
     'raw: while let Some((_c, more)) = first(rest) {

@@ -1,9 +1,9 @@
 //! Where data and comments end, found by their bytes.
 
 ghost use Rattle.std.specs.Prelude.{◌≡◌, ◌≤◌, length, slice_index, codes};
-ghost use Rattle.std.specs.Str.{chars};
 ghost use Rattle.memchr.specs.Find.{FindsNeedle, IsFirst};
 ghost use Rattle.jt_scan.specs.Cut as cut;
+ghost use Rattle.jt_scan.specs.PartView.{IsSplit};
 ghost use Rattle.jt_scan.specs.Scanning as spec;
 
 use memchr::{memchr, memmem};
@@ -46,7 +46,7 @@ fn find_opener(text: &[u8]) -> Option<usize>
 
 /// The data in front of the first opener, and what is from there on.
 pub(crate) fn split_data(text: &str) -> (&str, &str)
-    ensures { spec.clear_run cut.opens (chars text.now) ≡ (chars result.0.now, chars result.1.now) }
+    ensures { IsSplit cut.opens text.now result }
 {
     let end = find_opener(text.as_bytes()).unwrap_or(text.len());
     (&text[..end], &text[end..])
@@ -61,8 +61,7 @@ fn find_end(text: &[u8]) -> Option<usize>
 
 /// What is in front of the first `#}`, and what is from there on.
 pub(crate) fn split_comment(text: &str) -> (&str, &str)
-    ensures { spec.clear_run cut.ends_comment (chars text.now)
-        ≡ (chars result.0.now, chars result.1.now) }
+    ensures { IsSplit cut.ends_comment text.now result }
 {
     let end = find_end(text.as_bytes()).unwrap_or(text.len());
     (&text[..end], &text[end..])

@@ -1,8 +1,8 @@
 //! Numbers of a tag.
 
-ghost use Rattle.std.specs.Prelude.{◌≡◌, ◌+◌, ◌-◌, ◌*◌, ◌^◌, min, true, false, Some, None, MatchOption};
+ghost use Rattle.std.specs.Prelude.{◌≡◌, ◌+◌, ◌*◌};
 ghost use Rattle.std.specs.Str.{chars};
-ghost use Rattle.jt_scan.specs.PartView.{IsFound};
+ghost use Rattle.jt_scan.specs.PartView.{IsFound, NamesBase, capped};
 ghost use Rattle.jt_scan.specs.Literals as literal;
 ghost use Rattle.jt_scan.specs.Scanning as spec;
 
@@ -52,7 +52,7 @@ fn next_digit(text: &str, base: u32) -> Option<(u32, &str)>
 
 /// The number with one digit more, or the greatest of its type where it is greater.
 pub(crate) fn grown(number: u64, base: u32, digit: u32) -> u64
-    ensures { result ≡ min (min (number * base) (2 ^ 64 - 1) + digit) (2 ^ 64 - 1) }
+    ensures { result ≡ capped (capped (number * base) + digit) }
 {
     number
         .saturating_mul(u64::from(base))
@@ -62,7 +62,7 @@ pub(crate) fn grown(number: u64, base: u32, digit: u32) -> u64
 /// The number that the digits in front make behind those of another, or the greatest of its type
 /// where it is greater, and what is behind them.
 fn read_digits(text: &str, base: u32, start: u64) -> (u64, &str)
-    ensures value { result.0 ≡ min (spec.digits_at base start (chars text.now)).0 (2 ^ 64 - 1) }
+    ensures value { result.0 ≡ capped (spec.digits_at base start (chars text.now)).0 }
     ensures rest { chars result.1.now ≡ (spec.digits_at base start (chars text.now)).1 }
 {
     let mut number = start;
@@ -89,9 +89,7 @@ fn base_of(letter: char) -> u32
 
 /// The base whose letter is in front, where a digit of it is next, and what is behind the letter.
 fn named_base(text: &str) -> Option<(u32, &str)>
-    ensures { MatchOption result (literal.names_base (chars text.now) ≡ false)
-        (λ p. (literal.names_base (chars text.now) ≡ true)
-        × (spec.based_at (chars text.now) ≡ spec.digits_at p.0 0 (chars p.1.now))) }
+    ensures { NamesBase (chars text.now) result }
 {
     let (letter, more) = first(text)?;
     let base = base_of(letter);
@@ -102,7 +100,7 @@ fn named_base(text: &str) -> Option<(u32, &str)>
 /// The number whose first digit is given, or the greatest of its type where it is greater, and
 /// what is behind it.
 pub(crate) fn read_number(c: char, more: &str) -> (u64, &str)
-    ensures value { result.0 ≡ min (spec.number_at c (chars more.now)).0 (2 ^ 64 - 1) }
+    ensures value { result.0 ≡ capped (spec.number_at c (chars more.now)).0 }
     ensures rest { chars result.1.now ≡ (spec.number_at c (chars more.now)).1 }
 {
     if c != '0' {

@@ -1,6 +1,7 @@
 //! How templates are read.
 
-ghost use Rattle.std.specs.Prelude.{◌≡◌, true, false};
+ghost use Rattle.std.specs.Prelude.{◌≡◌};
+ghost use Rattle.jt_scan.specs.SourceView.{usual_options};
 
 /// How templates are read.
 #[derive(Clone, Copy, Debug, PartialEq, Eq)]
@@ -18,13 +19,7 @@ pub struct Options {
 impl Options {
     /// The usual options: what is printed is escaped, and an LF at the end is dropped.
     pub fn new() -> Options
-        ensures { result
-            ≡ record {
-              trim_blocks = false;
-              lstrip_blocks = false;
-              keep_trailing_newline = false;
-              autoescape = true;
-            } }
+        ensures { result ≡ usual_options }
     {
         Options {
             trim_blocks: false,

@@ -1,12 +1,13 @@
 //! Texts between quotes, and what they mean.
 
-ghost use Rattle.std.specs.Prelude.{◌≡◌, ◌-◌, ◌+◌, ◌^◌, ◌++◌, ◌&&◌, ◌==◌, not, min, length, true, false, Some, None, MatchOption, IfOk};
+ghost use Rattle.std.specs.Prelude.{◌≡◌, ◌+◌, ◌++◌, ◌&&◌, ◌==◌, not, length, true, false, MatchOption, IfOk};
 ghost use Rattle.std.specs.Str.{chars, encode_utf8_all};
 ghost use Rattle.std.specs.String.{string_bytes};
 ghost use lib.Utf8.{scalar};
 ghost use Rattle.jt_scan.specs.Literals as literal;
+ghost use Rattle.jt_scan.specs.Literals.{coded, some_digits};
 ghost use Rattle.jt_scan.specs.Scanning as spec;
-ghost use Rattle.jt_scan.specs.PartView.{escape_view, piece_text, IsFound};
+ghost use Rattle.jt_scan.specs.PartView.{escape_view, piece_text, bytes_of, capped, IsFound};
 
 use crate::numbers::{digit_value, grown, plain_digit};
 use crate::text::{before, first};
@@ -96,11 +97,10 @@ fn escape_of(c: char) -> Escape
 /// How many of so many digits are missing, the number that those in front make behind another's,
 /// or the greatest of its type where it is greater, and what is behind them.
 fn some_digits(text: &str, base: u32, most: usize, start: u64) -> (usize, u64, &str)
-    ensures missing { length (literal.some_digits base most (chars text.now)).0 + result.0 ≡ most }
+    ensures missing { length (some_digits base most (chars text.now)).0 + result.0 ≡ most }
     ensures number { result.1
-        ≡ min (literal.number_from base start (literal.some_digits base most (chars text.now)).0)
-        (2 ^ 64 - 1) }
-    ensures rest { chars result.2.now ≡ (literal.some_digits base most (chars text.now)).1 }
+        ≡ capped (literal.number_from base start (some_digits base most (chars text.now)).0) }
+    ensures rest { chars result.2.now ≡ (some_digits base most (chars text.now)).1 }
 {
     let mut missing = most;
     let mut number = start;
@@ -133,8 +133,7 @@ fn read_octal(c: char, more: &str) -> Option<(Piece, &str)>
 
 /// The character of so many hexadecimal digits in front, and what is behind them.
 fn read_hexadecimal(text: &str, digits: usize) -> Option<(Piece, &str)>
-    ensures { IsFound piece_text
-        (literal.coded digits (literal.some_digits 16 digits (chars text.now))) result }
+    ensures { IsFound piece_text (coded digits (some_digits 16 digits (chars text.now))) result }
 {
     let (missing, code, rest) = some_digits(text, 16, digits, 0);
     if missing > 0 {
@@ -185,8 +184,7 @@ pub(crate) fn has_meaning(raw: &str) -> bool
 
 /// Appends what a piece stands for.
 fn push_piece(held: &mut String, piece: Piece) -> Result<(), AllocError>
-    ensures { IfOk result
-        (λ _. string_bytes held.new ≡ string_bytes held.old ++ encode_utf8_all (piece_text piece)) }
+    ensures { IfOk result (λ _. string_bytes held.new ≡ string_bytes held.old ++ bytes_of piece) }
 {
     match piece {
         Piece::Nothing => Ok(()),

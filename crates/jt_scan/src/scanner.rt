@@ -1,8 +1,8 @@
 //! The cut of a source into segments.
 
-ghost use Rattle.std.specs.Prelude.{◌≡◌, ◌≤◌, ◌<◌, ◌+◌, ◌++◌, ◌∷◌, [], Ok, List, length, map, MatchResult, IfOk, IfErr};
+ghost use Rattle.std.specs.Prelude.{◌≡◌, ◌≤◌, ◌++◌, ◌∷◌, [], List, length, map, MatchResult, IfOk, IfErr};
 ghost use Rattle.std.specs.Str.{chars};
-ghost use Rattle.jt_scan.specs.PartView.{IsRead};
+ghost use Rattle.jt_scan.specs.PartView.{IsOutcome, IsRead};
 ghost use Rattle.jt_scan.specs.Cut as cut;
 ghost use Rattle.jt_scan.specs.Refused.{IsRefusal};
 ghost use Rattle.jt_scan.specs.Scanning as spec;
@@ -118,9 +118,7 @@ fn read_segments<'a>(
     options: Options,
 ) -> Result<Vec<Segment<'a>>, ScanError>
     requires { length text.now ≤ max_source_len }
-    ensures cut { let outcome = spec.cut (chars text.now) (length (chars text.now) + 1)
-        (chars text.now) in
-        MatchResult result (λ v. outcome ≡ Ok (cut_of v.items)) (λ e. spec.IsGiven e outcome) }
+    ensures cut { IsOutcome (λ v. cut_of v.items) (spec.cut_whole (chars text.now)) result }
     ensures options { IfOk result (λ v. HaveOptions options v.items) }
 {
     let mut segments = Vec::new(alloc);

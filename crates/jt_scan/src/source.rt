@@ -3,7 +3,7 @@
 ghost use Rattle.std.specs.Prelude.{◌≡◌, ◌+◌, ◌<◌, ◌≤◌, length, MatchResult, Err, IfOk, false};
 ghost use Rattle.std.specs.String.{string_bytes};
 ghost use Rattle.jt_scan.specs.LineEnds.{normalized, lf_ends, without_first_lf, ends_with_lf, without_last_lf};
-ghost use Rattle.jt_scan.specs.SourceView.{max_source_len};
+ghost use Rattle.jt_scan.specs.SourceView.{max_source_len, held_of};
 ghost use Rattle.jt_scan.specs.declared.error.ScanError.TheVariants as error;
 
 use crate::error::ScanError;
@@ -40,10 +40,7 @@ impl Source {
     pub fn new(alloc: Global, text: &str, options: Options) -> Result<Source, ScanError>
         ensures long { max_source_len < length text.now → result ≡ Err (error.SourceTooLong 1) }
         ensures short { length text.now ≤ max_source_len
-            → MatchResult result (λ s. s
-            ≡ record
-            { text = normalized options.keep_trailing_newline text.now; options = options })
-            (λ e. e ≡ error.NoMemory) }
+            → MatchResult result (λ s. s ≡ held_of options text.now) (λ e. e ≡ error.NoMemory) }
     {
         if text.len() > MAX_SOURCE_LEN {
             return Err(ScanError::SourceTooLong { line: 1 });

@@ -1,11 +1,12 @@
 //! The tokens of a tag.
 
-ghost use Rattle.std.specs.Prelude.{◌≡◌, ◌<◌, ◌+◌, ◌-◌, ◌^◌, false, Some, None, Ok, length, map, MatchResult};
+ghost use Rattle.std.specs.Prelude.{◌≡◌, ◌<◌, ◌+◌, ◌-◌, ◌^◌, false, length, map};
 ghost use Rattle.std.specs.Str.{chars};
 ghost use Rattle.jt_scan.specs.Cut as cut;
 ghost use Rattle.jt_scan.specs.Scanning as spec;
+ghost use Rattle.jt_scan.specs.Scanning.{quoted, enclosed_at};
 ghost use Rattle.jt_scan.specs.View.{token_view};
-ghost use Rattle.jt_scan.specs.PartView.{front_view, IsFound, IsRead};
+ghost use Rattle.jt_scan.specs.PartView.{front_view, IsFound, IsOutcome, IsRead};
 
 use crate::error::ScanError;
 use crate::marks::read_closer;
@@ -37,8 +38,7 @@ fn number_token(c: char, more: &str, line: u32) -> Result<(Token<'_>, &str), Sca
 
 /// The text whose first quote is given, and what is behind it.
 fn text_token(quote: char, more: &str, line: u32) -> Result<(Token<'_>, &str), ScanError>
-    ensures { IsRead token_view (spec.quoted line (spec.enclosed_at quote false (chars more.now)))
-        result }
+    ensures { IsRead token_view (quoted line (enclosed_at quote false (chars more.now))) result }
 {
     let Some((raw, rest)) = split_quoted(more, quote) else {
         return Err(ScanError::UnclosedText { line });
@@ -118,10 +118,8 @@ pub(crate) fn read_tokens<'a>(
     kind: TagKind,
     line: u32,
 ) -> Result<(Vec<Token<'a>>, Mark, &'a str), ScanError>
-    ensures { let outcome = spec.inside kind line (length (chars text.now) + 1) 0 (chars text.now)
-        in
-        MatchResult result (λ p. outcome ≡ Ok ((map token_view p.0.items, p.1), chars p.2.now))
-        (λ e. spec.IsGiven e outcome) }
+    ensures { IsOutcome (λ p. ((map token_view p.0.items, p.1), chars p.2.now))
+        (spec.inside kind line (length (chars text.now) + 1) 0 (chars text.now)) result }
 {
     let mut tokens = Vec::new(alloc);
     let mut rest = text;

@@ -22,11 +22,11 @@ module _ {A : Type 0} (f : trees.Stmt → List A) (F : Body → List A) (G : Bra
       ∙ ap (λ l. old ++ l) (sym (cons (stmt_view s) (body_view (drop (i + 1) ss))) ∙ ap F (sym (statements_left ss i s lt is)))
 
   pub branch_added : ((l : ℕ) (c : expressions.Expr) (b : Body) (bs : Branches) → G (trees.branch l c b bs) ≡ F b ++ G bs) → (bs : List Branch) (i : ℕ) (b : Branch) (old new : List A) → i < length bs → b ≡ get_or bs i b
-      → new ≡ old ++ F (body_view b.2.items) → new ++ G (branches_view (drop (i + 1) bs)) ≡ old ++ G (branches_view (drop i bs))
+      → new ≡ old ++ F (body_view b.body.items) → new ++ G (branches_view (drop (i + 1) bs)) ≡ old ++ G (branches_view (drop i bs))
   branch_added cons bs i b old new lt is e =
       let rest = G (branches_view (drop (i + 1) bs)) in
-      ap (λ l. l ++ rest) e ∙ append_assoc old (F (body_view b.2.items)) rest
-      ∙ ap (λ l. old ++ l) (sym (cons b.0 (expr_view b.1) (body_view b.2.items) (branches_view (drop (i + 1) bs))) ∙ ap G (sym (branches_left bs i b lt is)))
+      ap (λ l. l ++ rest) e ∙ append_assoc old (F (body_view b.body.items)) rest
+      ∙ ap (λ l. old ++ l) (sym (cons b.line (expr_view b.condition) (body_view b.body.items) (branches_view (drop (i + 1) bs))) ∙ ap G (sym (branches_left bs i b lt is)))
 
   -- the branches, and then the else part
   pub choice_added : ((bs : Branches) (b : Body) → f (trees.choose bs b) ≡ G bs ++ F b) → (s : Stmt) (bs : Vec Branch Global) (other : Vec Stmt Global) (bs' : List Branch) (other' : List Stmt) (old mid new : List A)

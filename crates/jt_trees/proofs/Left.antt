@@ -6,15 +6,16 @@ use Rattle.jt_trees.specs.ExpressionView.{expr_view, exprs_view, pairs_view}
 use Rattle.jt_trees.specs.Statements as trees
 use Rattle.jt_trees.specs.StatementView.{names_view, stmt_view, body_view, branches_view}
 use Rattle.jt_trees.specs.declared.expression.Expr.{Expr}
+use Rattle.jt_trees.specs.declared.statement.Branch as branch
 use Rattle.jt_trees.specs.declared.statement.Stmt.{Stmt}
 
 -- a key of a literal map, or a keyword, with its value
 abbrev pub Entry : Type 0
 Entry = String Global × Expr
 
--- the line of an `if` or `elif`, its condition and its body
+-- a branch of an `if`
 abbrev pub Branch : Type 0
-Branch = ℕ × Expr × Vec Stmt Global
+Branch = branch.Branch Stmt
 
 pub row_left : (ts : List Expr) (i : ℕ) (t : Expr) → i < length ts → t ≡ get_or ts i t → exprs_view (drop i ts) ≡ expressions.expr (expr_view t) (exprs_view (drop (i + 1) ts))
 row_left ts i t lt is = ap exprs_view (drop_more ts i t lt) ∙ ap (λ (z : Expr). expressions.expr (expr_view z) (exprs_view (drop (i + 1) ts))) (sym is)
@@ -29,6 +30,6 @@ pub statements_left : (ss : List Stmt) (i : ℕ) (s : Stmt) → i < length ss �
 statements_left ss i s lt is = ap body_view (drop_more ss i s lt) ∙ ap (λ (z : Stmt). trees.stmt (stmt_view z) (body_view (drop (i + 1) ss))) (sym is)
 
 pub branches_left : (bs : List Branch) (i : ℕ) (b : Branch) → i < length bs → b ≡ get_or bs i b
-    → branches_view (drop i bs) ≡ trees.branch b.0 (expr_view b.1) (body_view b.2.items) (branches_view (drop (i + 1) bs))
+    → branches_view (drop i bs) ≡ trees.branch b.line (expr_view b.condition) (body_view b.body.items) (branches_view (drop (i + 1) bs))
 branches_left bs i b lt is =
-    ap branches_view (drop_more bs i b lt) ∙ ap (λ (z : Branch). trees.branch z.0 (expr_view z.1) (body_view z.2.items) (branches_view (drop (i + 1) bs))) (sym is)
+    ap branches_view (drop_more bs i b lt) ∙ ap (λ (z : Branch). trees.branch z.line (expr_view z.condition) (body_view z.body.items) (branches_view (drop (i + 1) bs))) (sym is)

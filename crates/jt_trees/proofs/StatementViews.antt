@@ -6,6 +6,7 @@ use Rattle.jt_trees.specs.ExpressionView.{expr_view, pairs_view}
 use Rattle.jt_trees.specs.Statements as trees
 use Rattle.jt_trees.specs.StatementView.{names_view, given_view, filterings_view, parameters_view, is_ignored, are_seen, stmts_of, branches_of, stmt_step, stmt_view, body_view, branches_view}
 use Rattle.jt_trees.specs.declared.expression.Expr.{Expr}
+use Rattle.jt_trees.specs.declared.statement.Branch as branch
 use Rattle.jt_trees.specs.declared.statement.Filtering.{Filtering}
 use Rattle.jt_trees.specs.declared.statement.Parameter.{Parameter}
 use Rattle.jt_trees.specs.declared.statement.Missing.{Missing}
@@ -17,14 +18,14 @@ use Rattle.jt_trees.specs.declared.statement.Stmt.TheVariants.{rolls-Data, rolls
 use Rattle.jt_trees.proofs.Left.{Branch, Entry}
 
 -- a view of each branch that keeps line and condition, and shows each statement inside
-branches-map : (g : Branch → ℕ × Expr × Vec trees.Stmt Global) → ((b : Branch) → (g b).0 ≡ b.0) → ((b : Branch) → (g b).1 ≡ b.1)
-    → ((b : Branch) → (g b).2.items ≡ map stmt_view b.2.items) → (bs : List Branch) → branches_of (map g bs) ≡ branches_view bs
+branches-map : (g : Branch → branch.Branch trees.Stmt) → ((b : Branch) → (g b).line ≡ b.line) → ((b : Branch) → (g b).condition ≡ b.condition)
+    → ((b : Branch) → (g b).body.items ≡ map stmt_view b.body.items) → (bs : List Branch) → branches_of (map g bs) ≡ branches_view bs
 branches-map g p q r [] = refl
 branches-map g p q r (b ∷ bs) =
-    ap (λ l. trees.branch l (expr_view (g b).1) (stmts_of (g b).2.items) (branches_of (map g bs))) (p b)
-    ∙ ap (λ e. trees.branch b.0 (expr_view e) (stmts_of (g b).2.items) (branches_of (map g bs))) (q b)
-    ∙ ap (λ v. trees.branch b.0 (expr_view b.1) (stmts_of v) (branches_of (map g bs))) (r b)
-    ∙ ap (trees.branch b.0 (expr_view b.1) (body_view b.2.items)) (branches-map g p q r bs)
+    ap (λ l. trees.branch l (expr_view (g b).condition) (stmts_of (g b).body.items) (branches_of (map g bs))) (p b)
+    ∙ ap (λ e. trees.branch b.line (expr_view e) (stmts_of (g b).body.items) (branches_of (map g bs))) (q b)
+    ∙ ap (λ v. trees.branch b.line (expr_view b.condition) (stmts_of v) (branches_of (map g bs))) (r b)
+    ∙ ap (trees.branch b.line (expr_view b.condition) (body_view b.body.items)) (branches-map g p q r bs)
 
 pub view_Data : (t : String Global) → stmt_view (v.Data t) ≡ trees.data_of (string_bytes t)
 view_Data t = ap stmt_view (sym (rolls-Data t)) ∙ fold-roll-Stmt trees.Stmt stmt_step (Stmt-F.Data t)

@@ -6,6 +6,7 @@ use Rattle.jt_trees.specs.Expressions.{Text}
 use Rattle.jt_trees.specs.Statements.{Body, end, Branches, no_branches}
 use Rattle.jt_trees.specs.declared.expression.Expr.{Expr}
 use Rattle.jt_trees.specs.ExpressionView.{expr_view, exprs_view, pairs_view, literal_view}
+use Rattle.jt_trees.specs.declared.statement.Branch.{Branch}
 use Rattle.jt_trees.specs.declared.statement.Filtering.{Filtering}
 use Rattle.jt_trees.specs.declared.statement.Parameter.{Parameter}
 use Rattle.jt_trees.specs.declared.statement.Missing.{Missing}
@@ -20,9 +21,10 @@ abbrev pub stmts_of : List trees.Stmt → Body
 stmts_of [] = end
 stmts_of (s ∷ ss) = trees.stmt s (stmts_of ss)
 
-abbrev pub branches_of : List (ℕ × Expr × Vec trees.Stmt Global) → Branches
+abbrev pub branches_of : List (Branch trees.Stmt) → Branches
 branches_of [] = no_branches
-branches_of (b ∷ bs) = trees.branch b.0 (expr_view b.1) (stmts_of b.2.items) (branches_of bs)
+branches_of (b ∷ bs) =
+    trees.branch b.line (expr_view b.condition) (stmts_of b.body.items) (branches_of bs)
 
 abbrev pub names_view : List (String Global) → List Text
 names_view = map string_bytes
@@ -88,9 +90,10 @@ stmt_view = fold-Stmt trees.Stmt stmt_step
 abbrev pub body_view : List Stmt → Body
 body_view ss = stmts_of (map stmt_view ss)
 
-abbrev pub branches_view : List (ℕ × Expr × Vec Stmt Global) → Branches
+abbrev pub branches_view : List (Branch Stmt) → Branches
 branches_view [] = no_branches
-branches_view (b ∷ bs) = trees.branch b.0 (expr_view b.1) (body_view b.2.items) (branches_view bs)
+branches_view (b ∷ bs) =
+    trees.branch b.line (expr_view b.condition) (body_view b.body.items) (branches_view bs)
 
 -- the statements of a template
 abbrev pub body_of : Template → Body

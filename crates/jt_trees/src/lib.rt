@@ -9,5 +9,5 @@ mod statement;
 mod written;
 
 pub use expression::{BinaryOperator, Expr, Literal, Polarity, UnaryOperator};
-pub use statement::{Filtering, Missing, NamesAround, Parameter, Stmt, Template};
+pub use statement::{Branch, Filtering, Missing, NamesAround, Parameter, Stmt, Template};
 pub use written::{filter_of, literal_text};

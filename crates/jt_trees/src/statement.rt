@@ -57,6 +57,15 @@ impl NamesAround {
     }
 }
 
+/// A branch of an `if` or `elif`, with statements of type `S`.
+#[derive(Drop)]
+pub struct Branch<S> {
+    /// The line of its tag.
+    pub line: u32,
+    pub condition: Expr,
+    pub body: Vec<S>,
+}
+
 /// A statement. The first number is the line of its tag.
 #[derive(Drop)]
 pub enum Stmt {
@@ -64,9 +73,9 @@ pub enum Stmt {
     Data(String),
     /// `{{ e }}`
     Print(u32, Expr),
-    /// The branches of `if` and `elif`, each with its line, condition and statements, and the
-    /// else part.
-    If(Vec<(u32, Expr, Vec<Stmt>)>, Vec<Stmt>),
+    /// `{% if c %} .. {% elif d %} .. {% else %} .. {% endif %}`: the branches of `if` and `elif`,
+    /// and the else part.
+    If(Vec<Branch<Stmt>>, Vec<Stmt>),
     /// `{% for a, b in e if c %}`, what is inside, and the else part.
     For {
         line: u32,

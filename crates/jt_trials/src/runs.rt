@@ -168,8 +168,5 @@ fn restarted(rt: &HostRuntime, mut machine: Machine, context: &Context) -> Resul
     let is_lost = machine.is_lost() && machine.outcome().is_none();
     let (verified, outcome) = machine.finish();
     print!(rt; "NoMemory, lost {is_lost}, {none:?}, {more:?}, {outcome:?}, then ")?;
-    match Machine::start(rt.alloc(), verified, context, DEFAULT) {
-        Ok(machine) => Ok(machine),
-        Err(_) => Err(Stop::NoMemory),
-    }
+    Machine::start(rt.alloc(), verified, context, DEFAULT).map_err(|_| Stop::NoMemory)
 }

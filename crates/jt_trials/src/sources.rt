@@ -52,10 +52,7 @@ fn row_answers(rt: &HostRuntime, row: &str, places: Places) -> Result<(), Stop> 
 }
 
 fn context_in(alloc: Global, json: &str) -> Result<Context, Stop> {
-    match context_from_json(alloc, json) {
-        Ok(context) => Ok(context),
-        Err(_) => Err(Stop::Other),
-    }
+    context_from_json(alloc, json).map_err(|_| Stop::Other)
 }
 
 /// Prints the letters of each template of a shelf.

@@ -30,8 +30,8 @@ pub enum Fault {
 }
 
 impl Fault {
-    /// The code and the name.
-    fn text(self) -> &'static str
+    /// The code and the name, as `F2 Undefined`.
+    pub fn text(self) -> &'static str
         ensures { result.now ≡ fault_text self }
     {
         match self {

@@ -1,7 +1,7 @@
 -- What an arena of shapes holds: the lists that its nodes stand for, each once. Private clauses and
 -- proofs alone cite it.
 use Rattle.std.specs.Prelude.{◌≡◌, ◌≢◌, Bool, MatchBool, ℕ, zero, suc, ◌+◌, ◌*◌, ◌/◌, ◌%◌, ◌<◌, ◌≤◌, List, [], ◌∷◌, ◌++◌}
-use Rattle.std.specs.Prelude.{length, get_or, Option, Some, None, Result, Ok, Err, slice_get}
+use Rattle.std.specs.Prelude.{length, get_or, slice_set, Option, Some, None, Result, Ok, Err, slice_get}
 use Rattle.jt_image.specs.declared.kind.Kind.{Kind}
 use Rattle.jt_image.specs.declared.kind.Kind.TheVariants as kind
 use Rattle.jt_image.specs.declared.kind.Flaw.{Flaw}
@@ -32,6 +32,11 @@ TellsEqual a b test = MatchBool test (a ≡ b) (a ≢ b)
 -- the handle is one of the arena's
 abbrev pub IsIn : Lists → Handle → Type 0
 IsIn t h = h.node < length t
+
+-- the handle is one of the arena's, and stands for the shape
+pub record Holds (t : Lists) (h : Handle) (s : Shape) : Type 0 where
+  pub shape : shape_in t h ≡ s
+  pub within : IsIn t h
 
 -- what was there is there, with the same shape
 pub record IsKept (t r : Lists) : Type 0 where
@@ -139,3 +144,9 @@ pub record IsArena (ns : List Node) (ls : List ℕ) : Type 0 where
   pub sound : (i : ℕ) (n : Node) → slice_get ns i ≡ Some n → IsSound ns ls (lists_of ns) i n
   pub distinct : (i j : ℕ) → i < length (lists_of ns) → j < length (lists_of ns)
       → get_or (lists_of ns) i [] ≡ get_or (lists_of ns) j [] → i ≡ j
+
+-- one node more, whose number is k, and the link at the place leads to it
+pub record IsAdded (ns ms : List Node) (ls rs : List ℕ) (n : Node) (place k : ℕ) : Type 0 where
+  pub node : k ≡ length ns + 1
+  pub nodes : ms ≡ ns ++ n ∷ []
+  pub links : rs ≡ slice_set (ls ++ 0 ∷ 0 ∷ 0 ∷ []) place k

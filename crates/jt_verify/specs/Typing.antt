@@ -1,9 +1,10 @@
 -- What only private clauses cite: what the verifier's effect gives.
-use Rattle.std.specs.Prelude.{◌≡◌, ℕ, ◌<◌, ◌≤◌, List, [], ◌∷◌, ◌++◌, length}
+use Rattle.std.specs.Prelude.{◌≡◌, ℕ, ◌<◌, ◌≤◌, Bool, slice_get, List, [], ◌∷◌, ◌++◌, length}
 use Rattle.std.specs.Prelude.{Option, Some, None, Result, Ok, Err, IfOk, IsSome}
 use Rattle.std.specs.List.{AllByRecursion}
 use Rattle.jt_image.specs.declared.kind.Kind.{Kind}
 use Rattle.jt_image.specs.declared.kind.Flaw.{Flaw}
+use Rattle.jt_image.specs.declared.kind.Flaw.TheVariants as flaw
 use Rattle.jt_image.specs.Code.{Section}
 use Rattle.jt_image.specs.Effect as effects
 use Rattle.jt_image.specs.Effect.{Shape}
@@ -17,7 +18,7 @@ use Rattle.jt_verify.specs.declared.typing.EffectError.{EffectError}
 use Rattle.jt_verify.specs.declared.typing.EffectError.TheVariants as errors
 use Rattle.jt_verify.specs.declared.typing.At.{At}
 use Rattle.jt_verify.specs.Arena.{Lists, shape_in, IsIn, kind_of}
-use Rattle.jt_verify.specs.Shapes.{Takes}
+use Rattle.jt_verify.specs.Shapes.{Takes, taking}
 
 abbrev pub as_list : Option ℕ → List ℕ
 as_list None = []
@@ -85,9 +86,38 @@ GoesOn a e =
 abbrev pub Doing : Type 0
 Doing = Section → ℕ → Shape → Result effects.Leads Flaw
 
--- the instruction does that here
+-- the instruction does that here, or it does that with this shape in place of the one in front
 abbrev pub Does : At → Result Effect EffectError → Doing → Type 0
 Does a result doing =
     ((u : Section) → a.header.now ≡ header_of u
     → EffectGives a.arena.now result (doing u a.point (shape_in a.arena.now a.shape)))
     × IfOk result (GoesOn a)
+
+abbrev pub DoesWith : At → Handle → Result Effect EffectError → Doing → Type 0
+DoesWith a h result doing = Does a result (λ u p s. doing u p (shape_of a h))
+
+-- that, where the test holds; otherwise what is named is not there
+abbrev pub needing : Bool → Doing → Doing
+needing there doing u p s = effects.require there flaw.BadIndex (doing u p s)
+
+-- that, with what is below an entry of the kind, or with an entry of the kind on top
+abbrev pub below : Kind → Doing → Doing
+below k doing u p s = taking k s (doing u p)
+
+abbrev pub under : Kind → Doing → Doing
+under k doing u p s = doing u p (k ∷ s)
+
+-- that, where a loop has so many entries above it
+abbrev pub on_loop : ℕ → Doing → Doing
+on_loop above doing u p s = effects.on_frame (slice_get s above) (doing u p s)
+
+-- to the next instruction or to the target; one value in place of so many
+abbrev pub branching : ℕ → Doing
+branching target u p s = effects.branches u p target s
+
+abbrev pub making : ℕ → Doing
+making n u p s = effects.makes u p n s
+
+-- so many values on top, to the next instruction
+abbrev pub spreading : ℕ → Doing
+spreading n u p s = effects.goes_on u p (effects.pushes n s)

@@ -11,7 +11,7 @@ use Rattle.jt_image.specs.Readers.{header_of}
 use Rattle.jt_image.specs.Effect as effects
 use Rattle.jt_image.specs.Effect.{Shape, effect_at}
 use Rattle.jt_image.specs.Typed.{Shapes, Reaches, IsTypedUnit, Equal, max_entries}
-use Rattle.jt_verify.specs.Typing.{as_list, points_of, IsTall}
+use Rattle.jt_verify.specs.Typing.{as_list, points_of, IsTall, AreWithin}
 use Rattle.jt_verify.specs.Differing.{IsTooDeep, DifferBy}
 use Rattle.jt_verify.specs.Refusing.{HoldsAt}
 use Rattle.jt_verify.specs.declared.typing.Leads.{Leads}
@@ -102,6 +102,11 @@ abbrev pub Clashes : Table → ℕ → Path → Refusal → Type 0
 Clashes t n x r =
     (f : Flaw) × (r ≡ refusal.Flaw f n x.point) × ClashesAt (shape_at t x.point) x.shape f
 
+-- what is found where a path arrives: whether it ends there, or why it may not
+abbrev pub Arriving : Table → ℕ → Path → Result Bool Refusal → Type 0
+Arriving t n x (Ok is_known) = Arrives t x is_known
+Arriving t n x (Err r) = Clashes t n x r
+
 -- the effect at a point has the flaw, or it leads to q with a shape that is too long
 abbrev pub StepFlaw : Code → Section → ℕ → Shape → Flaw → ℕ → Type 0
 StepFlaw k u p s f q =
@@ -118,6 +123,11 @@ Steps t k u n p s (Err refusal.NoMemory) = Unit {0}
 -- the paths that an instruction sends; the last is followed first
 abbrev pub sent : Leads → Shape → List Path
 sent l s = map (λ p. record { point = p; shape = s }) (as_list l.target ++ as_list l.next)
+
+-- what is behind an instruction: points of the unit, and a shape of the arena
+pub record IsBehind (t : Lists) (points : ℕ) (a : After) : Type 0 where
+  pub within : AreWithin points a.leads
+  pub shape : IsIn t a.shape
 
 -- why unit n is refused
 abbrev pub RefusesUnit : Code → Section → ℕ → Refusal → Type 0
@@ -155,8 +165,16 @@ pub record Works (k : Code) (u : Section) (t : Lists) (hs : List (Option Handle)
 abbrev pub WorksOn : Code → ℕ → Work → List Waiting → Type 0
 WorksOn k n work w = Works k (unit_of k n) work.arena work.shapes.items w
 
+-- the same with a path that was taken from those of the work
+abbrev pub WorksFrom : Code → ℕ → Work → Waiting → Type 0
+WorksFrom k n work path = WorksOn k n work (work.paths.items ++ path ∷ [])
+
+-- how much work is left, with these paths in place of those of the work, or with a path more
 abbrev pub left_of : Work → List Waiting → ℕ
 left_of work w = work_left (table_in work.arena work.shapes.items) (paths_in work.arena w)
+
+abbrev pub left_from : Work → Waiting → ℕ
+left_from work path = left_of work (work.paths.items ++ path ∷ [])
 
 -- the effect at the point of a path, and why a unit is refused, by the number of the unit
 abbrev pub StepsOn : Lists → Code → ℕ → Path → Result After Refusal → Type 0

@@ -2,9 +2,11 @@
 ghost use Rattle.std.specs.Prelude.{◌≡◌, ℕ, List, ◌+◌, ◌-◌, ◌^◌, ◌<◌, ◌≤◌, [], ◌∷◌, ◌++◌, length, slice_get, slice_set, IfOk, OnOk, OnErr};
 ghost use Rattle.jt_image.specs.Effect.{may_return, pushes};
 ghost use Rattle.jt_image.specs.Typed.{max_entries};
-ghost use Rattle.jt_verify.specs.Arena.{TellsEqual, shape_in, IsIn, IsKept, StandsFor, Pops, PopsMany, kind_of, lists_of, IsArena};
+ghost use Rattle.jt_verify.specs.Arena.{TellsEqual, shape_in, IsIn, Holds, IsAdded, IsKept, StandsFor, Pops, PopsMany, kind_of, lists_of, IsArena};
 
-use crate::links::{Handle, Link, Mark, Node, digits, find, is_same, jump_on, node_at, node_of};
+use crate::links::{
+    Entry, Handle, Link, Mark, Node, digits, find, is_same, jump_on, node_at, node_of,
+};
 use jt_image::{Flaw, Kind};
 use smallvec::SmallVec;
 use std::alloc::{AllocError, Global};
@@ -108,8 +110,7 @@ impl Arena {
     pub(crate) fn push_values(&self, shape: Handle, count: u32) -> Handle
         requires within { IsIn self.now shape }
         requires small { length (shape_in self.now shape) + count ≤ max_entries + 1 }
-        ensures shape { shape_in self.now result ≡ pushes count (shape_in self.now shape) }
-        ensures within { IsIn self.now result }
+        ensures { Holds self.now result (pushes count (shape_in self.now shape)) }
     {
         Handle {
             values: shape.values + count,
@@ -129,9 +130,8 @@ impl Arena {
     pub(crate) fn push(&mut self, shape: Handle, mark: Mark) -> Result<Handle, AllocError>
         requires within { IsIn self.old shape }
         requires small { length (shape_in self.old shape) < max_entries }
-        ensures shape { IfOk result
-            (λ h. shape_in self.new h ≡ kind_of mark ∷ shape_in self.old shape) }
-        ensures within { IfOk result (λ h. IsIn self.new h) }
+        ensures ok { IfOk result
+            (λ h. Holds self.new h (kind_of mark ∷ shape_in self.old shape)) }
         ensures kept { IsKept self.old self.new }
     {
         let height = self.height(shape) as u32 + 1;
@@ -192,8 +192,7 @@ fn push_in(
     match find(
         nodes.as_slice(),
         links.as_slice(),
-        mark,
-        shape,
+        Entry { mark, below: shape },
         3 * shape.node as usize,
         digits(mark, shape.values),
     ) {
@@ -221,10 +220,8 @@ fn add(
     place: usize,
 ) -> Result<u32, AllocError>
     requires { place < length links.old.items }
-    ensures node { IfOk result (λ k. k ≡ length nodes.old.items + 1) }
-    ensures nodes { OnOk result (nodes.new.items ≡ nodes.old.items ++ added ∷ []) }
-    ensures links { IfOk result
-        (λ k. links.new.items ≡ slice_set (links.old.items ++ 0 ∷ 0 ∷ 0 ∷ []) place k) }
+    ensures ok { IfOk result (λ k.
+        IsAdded nodes.old.items nodes.new.items links.old.items links.new.items added place k) }
     ensures err { OnErr result
         ((nodes.new.items ≡ nodes.old.items) × (links.new.items ≡ links.old.items)) }
 {

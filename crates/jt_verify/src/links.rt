@@ -68,6 +68,13 @@ impl Default for Node {
     }
 }
 
+/// A mark on a shape.
+#[derive(Clone, Copy)]
+pub(crate) struct Entry {
+    pub(crate) mark: Mark,
+    pub(crate) below: Handle,
+}
+
 /// A node, or the place of the link that would lead to it.
 #[derive(Clone, Copy)]
 pub(crate) enum Link {
@@ -130,11 +137,11 @@ fn link_at(links: &[u32], place: usize) -> u32
 }
 
 // Whether a node is this mark on this handle.
-fn is_entry(node: Node, mark: Mark, below: Handle) -> bool
-    ensures { MatchBool result ((node.mark ≡ mark) × (node.below ≡ below))
-        (node.mark ≡ mark → node.below ≢ below) }
+fn is_entry(node: Node, wanted: Entry) -> bool
+    ensures { MatchBool result ((node.mark ≡ wanted.mark) × (node.below ≡ wanted.below))
+        (node.mark ≡ wanted.mark → node.below ≢ wanted.below) }
 {
-    node.mark == mark && is_same(node.below, below)
+    node.mark == wanted.mark && is_same(node.below, wanted.below)
 }
 
 /// The digits by which a mark is looked up among those on one node: the mark's, then those of the
@@ -153,23 +160,22 @@ pub(crate) fn digits(mark: Mark, values: u32) -> usize
 pub(crate) fn find(
     nodes: &[Node],
     links: &[u32],
-    mark: Mark,
-    below: Handle,
+    wanted: Entry,
     place: usize,
     digits: usize,
 ) -> Link
     requires links { AreLinks (length nodes.now) links.now }
     requires place { place < 3 * (length nodes.now + 1) }
-    ensures { Finding nodes.now links.now mark below place digits result }
+    ensures { Finding nodes.now links.now wanted.mark wanted.below place digits result }
 {
     let next = link_at(links, place);
     if next == 0 {
         return Link::Vacant(place);
     }
     let node = node_at(nodes, next);
-    if is_entry(node, mark, below) {
+    if is_entry(node, wanted) {
         return Link::To(next);
     }
     let further = 3 * next as usize + 1 + digits % 2;
-    find(nodes, links, mark, below, further, digits / 2)
+    find(nodes, links, wanted, further, digits / 2)
 }

@@ -1,11 +1,11 @@
 //! What an instruction does to a shape, and where it leads.
-ghost use Rattle.std.specs.Prelude.{◌≡◌, ◌<◌, ◌≤◌, ◌&&◌, nat_lt, length, false, option_map, slice_get};
+ghost use Rattle.std.specs.Prelude.{◌≡◌, ◌+◌, ◌^◌, ◌<◌, ◌≤◌, ◌&&◌, [], ◌∷◌, nat_lt, Ok, length, false, option_map, slice_get};
 ghost use Rattle.jt_image.specs.Code.{is_text as is_text_of};
-ghost use Rattle.jt_image.specs.Ids.{operator_of, filter_of, accepts as accepts_of, test_of, takes as takes_of};
+ghost use Rattle.jt_image.specs.Ids.{operator_of, operands_of as operands_in, filter_of, accepts as accepts_of, test_of, takes as takes_of};
 ghost use Rattle.jt_image.specs.Typed.{max_entries};
 ghost use Rattle.jt_ids.specs.OpTable.{op_operands};
-ghost use Rattle.jt_verify.specs.Arena.{shape_in, IsIn};
-ghost use Rattle.jt_verify.specs.Shapes.{Requires};
+ghost use Rattle.jt_verify.specs.Arena.{shape_in, IsIn, kind_of, Holds};
+ghost use Rattle.jt_verify.specs.Shapes.{Requires, PointIn, FindsFrame};
 
 use crate::arena::Arena;
 use crate::links::{Handle, Mark};
@@ -52,7 +52,6 @@ pub(crate) enum EffectError {
 }
 
 impl From<Flaw> for EffectError {
-    ghost use Rattle.std.specs.Prelude.{◌≡◌};
     ghost use Rattle.jt_verify.specs.declared.typing.EffectError.TheVariants as errors;
 
     ghost from_gives = { λ f e. e ≡ errors.Flaw f };
@@ -75,16 +74,12 @@ pub(crate) struct At<'a> {
 }
 
 impl At<'_> {
-    ghost use Rattle.std.specs.Prelude.{◌+◌, ◌*◌, ◌^◌, [], ◌∷◌, Ok};
     ghost use Rattle.std.specs.Option.{is_some};
-    ghost use Rattle.jt_image.specs.Effect.{require, pops, pops_frame, on_frame, pushes, calls as calls_of, goes_on as goes_on_of, makes as makes_of, jumps as jumps_of, branches as branches_of, may_return as may_return_of, effect as effect_of};
-    ghost use Rattle.jt_image.specs.Ids.{operands_of as operands_in};
+    ghost use Rattle.jt_image.specs.Effect.{require, calls as calls_of, goes_on as goes_on_of, jumps as jumps_of, may_return as may_return_of, effect as effect_of};
     ghost use Rattle.jt_image.specs.Loops.{field_of};
     ghost use Rattle.jt_image.specs.declared.kind.Kind.TheVariants as kind;
     ghost use Rattle.jt_image.specs.declared.kind.Flaw.TheVariants as flaw;
-    ghost use Rattle.jt_verify.specs.Arena.{kind_of};
-    ghost use Rattle.jt_verify.specs.Shapes.{PointIn, taking, FindsFrame};
-    ghost use Rattle.jt_verify.specs.Typing.{Does, Fits, IsHere, TakesHere, points_here, shape_of};
+    ghost use Rattle.jt_verify.specs.Typing.{Does, DoesWith, needing, below, under, on_loop, branching, making, spreading, Fits, IsHere, TakesHere, points_here, shape_of};
 
     // The shape below an entry of that kind at the top.
     fn pop(&self, wanted: Kind) -> Result<Handle, Flaw>
@@ -101,8 +96,7 @@ impl At<'_> {
     fn push(&self, shape: Handle) -> Handle
         requires within { IsHere self.now shape }
         requires small { length (shape_of self.now shape) ≤ max_entries }
-        ensures shape { shape_of self.now result ≡ kind.Value ∷ shape_of self.now shape }
-        ensures within { IsHere self.now result }
+        ensures { Holds self.now.arena.now result (kind.Value ∷ shape_of self.now shape) }
     {
         self.arena.push_values(shape, 1)
     }
@@ -170,7 +164,7 @@ impl At<'_> {
     // To the next instruction.
     fn goes_on(&self, shape: Handle) -> Result<Effect, EffectError>
         requires { IsHere self.now shape }
-        ensures { Does self.now result (λ u p s. goes_on_of u p (shape_of self.now shape)) }
+        ensures { DoesWith self.now shape result goes_on_of }
     {
         Ok(Effect::new(shape, Some(self.next()?), None))
     }
@@ -178,8 +172,7 @@ impl At<'_> {
     // To the next instruction, with a mark on top, unless the shape would be too long there.
     fn opens(&self, shape: Handle, mark: Mark) -> Result<Effect, EffectError>
         requires { IsHere self.now shape }
-        ensures { Does self.now result
-            (λ u p s. goes_on_of u p (kind_of mark ∷ shape_of self.now shape)) }
+        ensures { DoesWith self.now shape result (under (kind_of mark) goes_on_of) }
     {
         let next = self.next()?;
         self.fits(shape, 1, next)?;
@@ -198,7 +191,7 @@ impl At<'_> {
     // To the next instruction or to the target.
     fn branches(&self, target: u32, shape: Handle) -> Result<Effect, EffectError>
         requires { IsHere self.now shape }
-        ensures { Does self.now result (λ u p s. branches_of u p target (shape_of self.now shape)) }
+        ensures { DoesWith self.now shape result (branching target) }
     {
         let target = self.target(target)?;
         Ok(Effect::new(shape, Some(self.next()?), Some(target)))
@@ -206,7 +199,7 @@ impl At<'_> {
 
     // One value in place of that many, to the next instruction.
     fn makes(&self, count: usize) -> Result<Effect, EffectError>
-        ensures { Does self.now result (λ u p s. makes_of u p count s) }
+        ensures { Does self.now result (making count) }
     {
         let below = self.arena.pop_values(self.shape, count)?;
         self.goes_on(self.push(below))
@@ -215,8 +208,7 @@ impl At<'_> {
     // That many values on top, to the next instruction, unless the shape would be too long there.
     fn spreads(&self, shape: Handle, count: u32) -> Result<Effect, EffectError>
         requires { IsHere self.now shape }
-        ensures { Does self.now result
-            (λ u p s. goes_on_of u p (pushes count (shape_of self.now shape))) }
+        ensures { DoesWith self.now shape result (spreading count) }
     {
         let next = self.next()?;
         self.fits(shape, count as usize, next)?;
@@ -240,8 +232,7 @@ impl At<'_> {
 
     // A value on top, where what is named is there.
     fn loads(&self, there: bool) -> Result<Effect, EffectError>
-        ensures { Does self.now result
-            (λ u p s. require there flaw.BadIndex (goes_on_of u p (kind.Value ∷ s))) }
+        ensures { Does self.now result (needing there (under kind.Value goes_on_of)) }
     {
         require(there, Flaw::BadIndex)?;
         self.goes_on(self.push(self.shape))
@@ -249,8 +240,7 @@ impl At<'_> {
 
     // The value at the top is taken, where what is named is there.
     fn stores(&self, there: bool) -> Result<Effect, EffectError>
-        ensures { Does self.now result
-            (λ u p s. require there flaw.BadIndex (pops s (λ r. goes_on_of u p r))) }
+        ensures { Does self.now result (needing there (below kind.Value goes_on_of)) }
     {
         require(there, Flaw::BadIndex)?;
         self.goes_on(self.pop(Kind::Value)?)
@@ -258,7 +248,7 @@ impl At<'_> {
 
     // Nothing is put or taken, where what is named is there.
     fn stays(&self, there: bool) -> Result<Effect, EffectError>
-        ensures { Does self.now result (λ u p s. require there flaw.BadIndex (goes_on_of u p s)) }
+        ensures { Does self.now result (needing there goes_on_of) }
     {
         require(there, Flaw::BadIndex)?;
         self.goes_on(self.shape)
@@ -267,7 +257,7 @@ impl At<'_> {
     // The value at the top once more.
     fn copies(&self) -> Result<Effect, EffectError>
         ensures { Does self.now result
-            (λ u p s. pops s (λ r. goes_on_of u p (kind.Value ∷ kind.Value ∷ r))) }
+            (below kind.Value (under kind.Value (under kind.Value goes_on_of))) }
     {
         let _below = self.pop(Kind::Value)?;
         self.goes_on(self.push(self.shape))
@@ -275,23 +265,22 @@ impl At<'_> {
 
     // A value is tested, and both ways are open.
     fn tests(&self, target: u32) -> Result<Effect, EffectError>
-        ensures { Does self.now result (λ u p s. pops s (λ r. branches_of u p target r)) }
+        ensures { Does self.now result (below kind.Value (branching target)) }
     {
         self.branches(target, self.pop(Kind::Value)?)
     }
 
     // The result of an operator in place of its operands.
     fn operates(&self, operator: u8) -> Result<Effect, EffectError>
-        ensures { Does self.now result (λ u p s. require (is_some (operator_of operator))
-            flaw.BadIndex (makes_of u p (operands_in (operator_of operator)) s)) }
+        ensures { Does self.now result (needing (is_some (operator_of operator))
+            (making (operands_in (operator_of operator)))) }
     {
         self.makes(operands_of(operator).ok_or(Flaw::BadIndex)?)
     }
 
     // One value in place of that many, where what makes it is there.
     fn makes_by(&self, there: bool, count: u16) -> Result<Effect, EffectError>
-        ensures { Does self.now result
-            (λ u p s. require there flaw.BadIndex (makes_of u p count s)) }
+        ensures { Does self.now result (needing there (making count)) }
     {
         require(there, Flaw::BadIndex)?;
         self.makes(usize::from(count))
@@ -299,15 +288,14 @@ impl At<'_> {
 
     // A loop in place of the value that it goes over.
     fn starts(&self) -> Result<Effect, EffectError>
-        ensures { Does self.now result (λ u p s. pops s (λ r. goes_on_of u p (kind.Frame ∷ r))) }
+        ensures { Does self.now result (below kind.Value (under kind.Frame goes_on_of)) }
     {
         self.opens(self.pop(Kind::Value)?, Mark::Frame)
     }
 
     // A loop at the top stays, and both ways are open.
     fn turns(&self, target: u32) -> Result<Effect, EffectError>
-        ensures { Does self.now result
-            (λ u p s. pops_frame s (λ r. branches_of u p target (kind.Frame ∷ r))) }
+        ensures { Does self.now result (below kind.Frame (under kind.Frame (branching target))) }
     {
         let _below = self.pop(Kind::Frame)?;
         self.branches(target, self.shape)
@@ -315,8 +303,8 @@ impl At<'_> {
 
     // A field of the loop that has that many entries above it.
     fn reads(&self, field: u8, above: u32) -> Result<Effect, EffectError>
-        ensures { Does self.now result (λ u p s. require (is_some (field_of field)) flaw.BadIndex
-            (on_frame (slice_get s above) (goes_on_of u p (kind.Value ∷ s)))) }
+        ensures { Does self.now result (needing (is_some (field_of field))
+            (on_loop above (under kind.Value goes_on_of))) }
     {
         require(LoopField::by_id(field).is_some(), Flaw::BadIndex)?;
         self.finds_frame(self.shape, above)?;
@@ -325,8 +313,7 @@ impl At<'_> {
 
     // A value is taken, for the loop that has that many entries above it then.
     fn keeps(&self, above: u32) -> Result<Effect, EffectError>
-        ensures { Does self.now result
-            (λ u p s. pops s (λ r. on_frame (slice_get r above) (goes_on_of u p r))) }
+        ensures { Does self.now result (below kind.Value (on_loop above goes_on_of)) }
     {
         let below = self.pop(Kind::Value)?;
         self.finds_frame(below, above)?;
@@ -335,8 +322,7 @@ impl At<'_> {
 
     // A loop at the top stays.
     fn rewinds(&self) -> Result<Effect, EffectError>
-        ensures { Does self.now result
-            (λ u p s. pops_frame s (λ r. goes_on_of u p (kind.Frame ∷ r))) }
+        ensures { Does self.now result (below kind.Frame (under kind.Frame goes_on_of)) }
     {
         let _below = self.pop(Kind::Frame)?;
         self.goes_on(self.shape)
@@ -344,16 +330,15 @@ impl At<'_> {
 
     // A value in place of a loop or a capture.
     fn ends(&self, wanted: Kind) -> Result<Effect, EffectError>
-        ensures { Does self.now result
-            (λ u p s. taking wanted s (λ r. goes_on_of u p (kind.Value ∷ r))) }
+        ensures { Does self.now result (below wanted (under kind.Value goes_on_of)) }
     {
         self.goes_on(self.push(self.pop(wanted)?))
     }
 
     // A value in place of a capture, where the flag is one.
     fn captures(&self, flag: u8) -> Result<Effect, EffectError>
-        ensures { Does self.now result (λ u p s. require (nat_lt flag 2) flaw.BadIndex
-            (taking kind.Capture s (λ r. goes_on_of u p (kind.Value ∷ r)))) }
+        ensures { Does self.now result
+            (needing (nat_lt flag 2) (below kind.Capture (under kind.Value goes_on_of))) }
     {
         require(is_flag(flag), Flaw::BadIndex)?;
         self.ends(Kind::Capture)
@@ -361,7 +346,7 @@ impl At<'_> {
 
     // That many values in place of one.
     fn unpacks(&self, count: u32) -> Result<Effect, EffectError>
-        ensures { Does self.now result (λ u p s. pops s (λ r. goes_on_of u p (pushes count r))) }
+        ensures { Does self.now result (below kind.Value (spreading count)) }
     {
         self.spreads(self.pop(Kind::Value)?, count)
     }

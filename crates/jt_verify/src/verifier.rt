@@ -1,13 +1,12 @@
 //! The verifier: it follows each path through a unit, and keeps the shape of each point that it
 //! comes to.
-ghost use Rattle.std.specs.Prelude.{◌≡◌, ◌<◌, ◌≤◌, [], ◌∷◌, ◌++◌, length, IfOk, IfErr, OnOk, MatchResult};
+ghost use Rattle.std.specs.Prelude.{◌≡◌, ◌<◌, ◌≤◌, ◌++◌, length, IfOk, IfErr, OnOk};
 ghost use Rattle.std.specs.List.{AllByRecursion};
 ghost use Rattle.jt_image.specs.IsCode.{IsCode};
 ghost use Rattle.jt_image.specs.Typed.{IsTyped, max_entries};
 ghost use Rattle.jt_verify.specs.Arena.{shape_in, IsIn, IsKept};
 ghost use Rattle.jt_verify.specs.Differing.{Meets};
-ghost use Rattle.jt_verify.specs.Typing.{AreWithin};
-ghost use Rattle.jt_verify.specs.Working.{IsUnit, WorksOn, IsTypedAt, Arrives, Clashes, StepsOn, path_in, table_in, IsInIf, handles_sent, left_of, Refuses};
+ghost use Rattle.jt_verify.specs.Working.{IsUnit, WorksOn, IsTypedAt, WorksFrom, Arriving, StepsOn, IsBehind, path_in, table_in, IsInIf, handles_sent, left_of, left_from, Refuses};
 ghost use Rattle.jt_verify.specs.Refusing.{RefusalHolds};
 
 use crate::arena::Arena;
@@ -65,9 +64,7 @@ fn arrive(
     requires point { path.point < length shapes.now }
     requires shape { IsIn arena.now path.shape }
     requires shapes { AllByRecursion (IsInIf arena.now) shapes.now }
-    ensures { MatchResult result
-        (λ is_known. Arrives (table_in arena.now shapes.now) (path_in arena.now path) is_known)
-        (λ e. Clashes (table_in arena.now shapes.now) unit (path_in arena.now path) e) }
+    ensures { Arriving (table_in arena.now shapes.now) unit (path_in arena.now path) result }
 {
     let point = path.point;
     if arena.height(path.shape) > MAX_ENTRIES {
@@ -99,8 +96,7 @@ fn step<C: Code>(
     requires shape { IsIn arena.old path.shape }
     requires small { length (shape_in arena.old path.shape) ≤ max_entries }
     ensures steps { StepsOn arena.new (C.code code.now) unit (path_in arena.old path) result }
-    ensures within { IfOk result (λ a. AreWithin header.now.instructions a.leads) }
-    ensures shape { IfOk result (λ a. IsIn arena.new a.shape) }
+    ensures behind { IfOk result (IsBehind arena.new header.now.instructions) }
     ensures kept { IsKept arena.old arena.new }
 {
     let point = path.point;
@@ -154,11 +150,9 @@ fn follow<C: Code>(
     path: Path,
 ) -> Result<(), Refusal>
     requires unit { IsUnit (C.code code.now) unit header.now }
-    requires works { WorksOn (C.code code.now) unit work.old (work.old.paths.items ++ path ∷ []) }
+    requires works { WorksFrom (C.code code.now) unit work.old path }
     ensures ok { OnOk result (WorksOn (C.code code.now) unit work.new work.new.paths.items) }
-    ensures less { OnOk result
-        (left_of work.new work.new.paths.items
-        < left_of work.old (work.old.paths.items ++ path ∷ [])) }
+    ensures less { OnOk result (left_of work.new work.new.paths.items < left_from work.old path) }
     ensures err { IfErr result (Refuses (C.code code.now) unit) }
 {
     let is_known = arrive(&work.arena, &work.shapes, unit, path)?;

@@ -1,4 +1,4 @@
-use Rattle.std.proofs.Common.{◌≡◌, ℕ, ◌+◌, ◌<◌, ◌≤◌, List, [], length, map, drop, refl, sym, ap, ◌∙◌, subst, arith}
+use Rattle.std.proofs.Common.{◌≡◌, ℕ, ◌+◌, ◌<◌, ◌≤◌, List, [], length, map, drop, ◌∙◌, subst, arith, rules}
 use Rattle.std.specs.Prelude.{flat_map}
 use Rattle.std.proofs.lemmas.List.{at_drop_all}
 use Rattle.jt_chains.specs.Chain.{Home}
@@ -14,20 +14,10 @@ use Rattle.jt_bind.proofs.Routing.{lead_first, lead_turn, lead_last}
 use Rattle.jt_bind.proofs.homes.resolve_homes.Goals as goal
 
 pub turn_to-requires : goal.turn_to-requires
-turn_to-requires c =
-    let l = c.loop-home in
-    let same = ap (λ (ch : Chain). length (chain_view ch).order) l.invariant.same in
-    omega (arith, c.loop-home-test.true, c.homes-home-end.ensures.all, same)
+turn_to-requires c = search (arith, rules)
 
 pub loop-home-init : goal.loop-home-init
-loop-home-init c =
-    let s = c.args.tables in
-    let all = programs.routines (world_in s) (order_in s) in
-    let old = values c.args.pool.now in
-    record {
-      same = refl;
-      lead = subst (λ rs. RoutinesLead (templates_in s) all all [] rs old old) (sym c.new-routines.ensures.items) (lead_first (templates_in s) all [] old);
-    }
+loop-home-init c = search (arith, rules, lead_first)
 
 pub loop-home-preserved : goal.loop-home-preserved
 loop-home-preserved c =

@@ -3,7 +3,7 @@ use Rattle.std.proofs.lemmas.List.{at_drop_all}
 use Rattle.jt_resolved.specs.Locals.{body_locals}
 use Rattle.jt_resolved.specs.View.{body_view}
 use Rattle.jt_resolved.specs.declared.program.SlotStmt.{SlotStmt}
-use Rattle.jt_bind.specs.Stated.{Branch}
+use Rattle.jt_resolved.proofs.StatementViews.{SBranch}
 use Rattle.jt_bind.proofs.Counted.{branches_locals, max_zero, body_step, branch_step, choice_done, loop_counted, capture_counted}
 use Rattle.jt_bind.proofs.locals.+statements.Goals as goal
 
@@ -30,8 +30,8 @@ stmt_locals-returns-after-loop-condition t c = λ ts behind.
     let first = c.in_ok-most-in-If.most in
     choice_done ts c.args.statement.now behind c.in-If.branches c.in-If.other first l.most c.in-If.is
     (λ b. sym (ap (λ (z : List SlotStmt). body_locals (body_view ts z b)) c.deref.ensures.value) ∙ c.in_ok-most-in-If.ensures ts b)
-    (sym (max_zero l.most) ∙ sym (at_drop_all (λ (z : List Branch). max l.most (branches_locals ts z)) c.deref-condition-items.result.now l.condition-index (omega arith)) ∙ l.invariant ts
-    ∙ ap (λ (z : List Branch). max first (branches_locals ts z)) c.deref-condition-items.ensures.value)
+    (sym (max_zero l.most) ∙ sym (at_drop_all (λ (z : List SBranch). max l.most (branches_locals ts z)) c.deref-condition-items.result.now l.condition-index (omega arith)) ∙ l.invariant ts
+    ∙ ap (λ (z : List SBranch). max first (branches_locals ts z)) c.deref-condition-items.ensures.value)
 
 pub stmt_locals-returns-in_ok-last-in-For : goal.stmt_locals-returns-in_ok-last-in-For
 stmt_locals-returns-in_ok-last-in-For t c = λ ts behind.

@@ -1,4 +1,4 @@
-use Rattle.std.proofs.Common.{Bool, sym, subst}
+use Rattle.std.proofs.Common.{Bool, sym, subst, arith, rules}
 use Rattle.std.proofs.lemmas.Result.{IfOk-weaker}
 use Rattle.jt_resolved.specs.Slots as slots
 use Rattle.jt_meaning.specs.Resolve.{left_out}
@@ -8,10 +8,7 @@ use Rattle.jt_bind.proofs.LeadingBodies.{led_nothing}
 use Rattle.jt_bind.proofs.placing.put_missing.Goals as goal
 
 pub returns-then-ignore_missing : goal.returns-then-ignore_missing
-returns-then-ignore_missing c = λ s p.
-    let es = c.args.done.now.items in
-    let P : Bool → Type 0 = λ b. Led (templates_in s) (left_out (spot_in s c.args.spot.now) c.args.line b) es es p p in
-    subst P (sym c.if-ignore_missing.true) (led_nothing (templates_in s) es p)
+returns-then-ignore_missing c = search (arith, rules, led_nothing)
 
 pub returns : goal.returns
 returns c =

@@ -1,4 +1,4 @@
-use Rattle.std.proofs.Common.{◌+◌, ◌++◌, map, drop, ap, ◌∙◌, arith}
+use Rattle.std.proofs.Common.{◌+◌, ◌++◌, map, drop, ap, ◌∙◌, arith, rules}
 use Rattle.jt_chains.specs.Parts.{block_view}
 use Rattle.jt_chains.specs.View.{chain_view}
 use Rattle.jt_meaning.specs.Layout.{numbered_bodies}
@@ -9,12 +9,7 @@ use Rattle.jt_bind.proofs.Numbered.{numbered_end, block_routine}
 use Rattle.jt_bind.proofs.routines.resolve_blocks.Goals as goal
 
 pub returns : goal.returns
-returns c = λ left.
-    let l = c.loop-place in
-    let scope = c.args.tables.now in
-    let all = ap (map (block_view (chain_view scope.chain.now).templates)) c.deref-block-items.ensures.value ∙ c.here-here.ensures.all_blocks in
-    routines_left (templates_in scope) _ _ left _ _ _ _
-    (ap (λ z. body_routines (world_in scope) (order_in scope) (home_in scope) z ++ left) (numbered_end scope c.deref-block-items.result.now all l.place (omega arith))) (l.invariant left)
+returns c = search (arith, rules, routines_left, numbered_end)
 
 pub loop-place-preserved : goal.loop-place-preserved
 loop-place-preserved c = λ left.

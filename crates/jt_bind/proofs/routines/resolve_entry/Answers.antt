@@ -1,13 +1,10 @@
-use Rattle.std.proofs.Common.{sym, ◌∙◌}
+use Rattle.std.proofs.Common.{sym, ◌∙◌, arith, rules}
 use Rattle.jt_bind.specs.Scoped.{world_in, order_in, home_in, templates_in}
 use Rattle.jt_bind.proofs.Routing.{no_entry, one_entry}
 use Rattle.jt_bind.proofs.routines.resolve_entry.Goals as goal
 
 pub returns-then-here : goal.returns-then-here
-returns-then-here c =
-    let scope = c.args.tables.now in
-    let laid = c.here-here.ensures in
-    no_entry (templates_in scope) (world_in scope) (order_in scope) (home_in scope) (sym laid.kind ∙ c.if-here.true) _ _
+returns-then-here c = search (arith, rules, no_entry)
 
 pub returns : goal.returns
 returns c =

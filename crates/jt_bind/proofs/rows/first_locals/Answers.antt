@@ -10,7 +10,7 @@ use Rattle.jt_resolved.proofs.ExpressionViews.{view_Variable}
 use Rattle.jt_bind.proofs.rows.first_locals.Goals as goal
 
 pub returns : goal.returns
-returns c = λ xs p n.
+returns c = λ xs n p.
     let l = c.loop-local in
     of_left _ _ _ _ _ _ _ (at_drop_all (resolve.first_locals l.local) xs l.local (omega arith)) (l.invariant xs p n)
 

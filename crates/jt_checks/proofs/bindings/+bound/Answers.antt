@@ -2,8 +2,8 @@ use Rattle.std.proofs.Common.{arith, rules}
 use Rattle.jt_checks.proofs.Bound.{for_bound, set_bound, with_bound, macro_bound, choice_bound, all_bound}
 use Rattle.jt_checks.proofs.bindings.+bound.Goals as goal
 
-pub bound_by-returns-after-loop-inside : goal.bound_by-returns-after-loop-inside
-bound_by-returns-after-loop-inside t c = search (arith, rules, choice_bound)
+pub bound_by-returns-after-loop-body : goal.bound_by-returns-after-loop-body
+bound_by-returns-after-loop-body t c = search (arith, rules, choice_bound)
 
 pub bound_by-returns-in-For : goal.bound_by-returns-in-For
 bound_by-returns-in-For t c =

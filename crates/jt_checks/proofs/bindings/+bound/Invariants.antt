@@ -9,8 +9,8 @@ invariant-bound_in-loop-statement l = record {
   left : min (l.bound + body_bound (parsed.body_view (drop l.statement-index l.body))) (2 ^ 64 - 1) ≡ min (body_bound (parsed.body_view l.body)) (2 ^ 64 - 1);
 }
 
-abbrev pub invariant-bound_by-loop-inside : goal.invariant-bound_by-loop-inside
-invariant-bound_by-loop-inside l = record {
+abbrev pub invariant-bound_by-loop-body : goal.invariant-bound_by-loop-body
+invariant-bound_by-loop-body l = record {
   within : l.bound < 2 ^ 64;
-  left : min (l.bound + branch_bound (parsed.branches_view (drop l.inside-index l.inside-items))) (2 ^ 64 - 1) ≡ min (l.initial.bound + branch_bound (parsed.branches_view l.inside-items)) (2 ^ 64 - 1);
+  left : min (l.bound + branch_bound (parsed.branches_view (drop l.body-index l.body-items))) (2 ^ 64 - 1) ≡ min (l.initial.bound + branch_bound (parsed.branches_view l.body-items)) (2 ^ 64 - 1);
 }

@@ -16,7 +16,7 @@ branches_broken-returns-in-Some-2 t c =
     let s = c.args.scope.now in
     let w = within_view c.args.within in
     let b = c.loop-condition-item.result in
-    let inside = rules.body_broken (its_world s) (its_home s) (body_view b.2.items) w in
+    let inside = rules.body_broken (its_world s) (its_home s) (body_view b.body.items) w in
     branch_found (its_world s) (its_home s) w c.args.branches.now c.loop-condition.condition-index b c.in-Some-2.rule c.loop-condition-test.true c.loop-condition-item.is c.loop-condition.invariant
     (ap (λ z. option_or z inside) (sym c.in_ok-rule.ensures ∙ c.in_default.is)
     ∙ ap (λ z. rules.body_broken (its_world s) (its_home s) (body_view z) w) (sym c.deref.ensures.value) ∙ sym c.in_ok-rule-2.ensures ∙ c.in-Some-2.is)

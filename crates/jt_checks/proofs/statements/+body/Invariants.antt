@@ -16,7 +16,7 @@ abbrev pub decreases-body_broken : goal.decreases-body_broken
 decreases-body_broken l = 6 * most (λ x. size-Stmt x) l.body.now + 1
 
 abbrev pub decreases-branches_broken : goal.decreases-branches_broken
-decreases-branches_broken l = 6 * most (λ (b : Branch). most (λ x. size-Stmt x) b.2.items) l.branches.now + 2
+decreases-branches_broken l = 6 * most (λ (b : Branch). most (λ x. size-Stmt x) b.body.items) l.branches.now + 2
 
 abbrev pub decreases-or_body_broken : goal.decreases-or_body_broken
 decreases-or_body_broken l = 6 * most (λ x. size-Stmt x) l.inside.now + 2
@@ -25,7 +25,7 @@ abbrev pub decreases-turns_broken : goal.decreases-turns_broken
 decreases-turns_broken l = 6 * max (most (λ x. size-Stmt x) l.inside.now) (most (λ x. size-Stmt x) l.otherwise.now) + 2
 
 abbrev pub decreases-choice_broken : goal.decreases-choice_broken
-decreases-choice_broken l = 6 * max (most (λ (b : Branch). most (λ x. size-Stmt x) b.2.items) l.branches.now) (most (λ x. size-Stmt x) l.other.now) + 3
+decreases-choice_broken l = 6 * max (most (λ (b : Branch). most (λ x. size-Stmt x) b.body.items) l.branches.now) (most (λ x. size-Stmt x) l.other.now) + 3
 
 -- ---- what is left
 

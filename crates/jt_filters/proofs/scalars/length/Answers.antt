@@ -5,4 +5,6 @@ pub returns-in-Some-as_list : goal.returns-in-Some-as_list
 returns-in-Some-as_list c = rw (length_of_a_list _ _ c.in-Some-as_list.ensures) c.counted-in-Some-as_list.ensures
 
 pub returns-in-Some-as_map : goal.returns-in-Some-as_map
-returns-in-Some-as_map c = rw (length_of_a_map _ _ c.in-Some-as_map.ensures) c.counted-in-Some-as_map.ensures
+returns-in-Some-as_map c =
+    let is = rw (← c.entries.ensures) at c.in-Some-as_map.ensures in
+    rw (length_of_a_map _ c.entries.result.now is) c.counted-in-Some-as_map.ensures

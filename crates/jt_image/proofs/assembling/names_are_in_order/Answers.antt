@@ -1,12 +1,12 @@
 use Rattle.std.proofs.Common.{◌≡◌, ℕ, ◌+◌, [], ◌∷◌, ◌++◌, take, true, sym, ap, ◌∙◌, String, Global, arith, rules}
 use Rattle.std.proofs.lemmas.List.{take_all}
 use Rattle.jt_image.specs.View.{name_view, names_view}
-use Rattle.jt_image.specs.Parts.{IsShort}
+use Rattle.jt_image.specs.Parts.{IsShort, is_next}
 use Rattle.jt_image.proofs.Sound.{IsNamed}
 use Rattle.jt_image.proofs.ReaderParts.{IsTable-push}
 use Rattle.jt_image.proofs.Written.{each_fits}
 use Rattle.jt_image.proofs.Passed.{seen_more, good_push, good_at}
-use Rattle.jt_image.proofs.Assembled.{in_order, all_named, is_next, next_named, named_next}
+use Rattle.jt_image.proofs.Assembled.{in_order, all_named, next_named, named_next}
 use Rattle.jt_image.proofs.assembling.names_are_in_order.Goals as goal
 
 pub returns-then-not-is_next : goal.returns-then-not-is_next

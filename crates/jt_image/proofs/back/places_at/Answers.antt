@@ -13,5 +13,5 @@ returns-in_err-rest-clause-gives c = search (arith, rules, err_from_is_err_and, 
 pub returns-clause-gives : goal.returns-clause-gives
 returns-clause-gives c = search (arith, rules, back_gives)
 
-pub returns-clause-spots : goal.returns-clause-spots
-returns-clause-spots c = search (arith, rules, spots_whole)
+pub returns-clause-there : goal.returns-clause-there
+returns-clause-there c = search (arith, rules, spots_whole)

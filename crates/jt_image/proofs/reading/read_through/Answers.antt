@@ -11,7 +11,7 @@ use Rattle.jt_image.proofs.reading.read_through.Goals as goal
 pub all_names_at-requires : goal.all_names_at-requires
 all_names_at-requires c =
     let start = start_last c.args.bytes.now c.in_ok-version.version c.in_ok-version.rest.now (omega arith) (λ i. omega (arith, c.type_inv.bytes i)) c.in_ok-version.ensures in
-    record { last = number_last w16 (2 ^ 16) wide16 c.args.bytes.now c.in_ok-version.rest.now c.in_ok-globals.globals c.in_ok-globals.rest.now (λ i. omega (arith, c.type_inv.bytes i)) start c.in_ok-globals.ensures }
+    number_last w16 (2 ^ 16) wide16 c.args.bytes.now c.in_ok-version.rest.now c.in_ok-globals.globals c.in_ok-globals.rest.now (λ i. omega (arith, c.type_inv.bytes i)) start c.in_ok-globals.ensures
 
 pub returns-clause-spells : goal.returns-clause-spells
 unfolding code_of
@@ -23,13 +23,13 @@ returns-clause-spells c =
       code = found.0;
       spelled = found.1;
       there = record {
-        names = c.in_ok-names.ensures.there;
-        constants = c.in_ok-constants.ensures.there;
-        units = c.in_ok-units.ensures.there;
+        names = c.in_ok-names.ensures.read.there;
+        constants = c.in_ok-constants.ensures.read.there;
+        units = c.in_ok-units.ensures.read.there;
         instructions = c.in_ok-units.ensures.total;
         counted = c.in_ok-units.ensures.counted;
         few = omega (arith, found.0.count_templates, length-seen (template_in c.args.bytes.now) c.in_ok-back.back.templates.items);
-        templates = c.in_ok-back.ensures.templates;
-        spots = c.in_ok-back.ensures.spots;
+        templates = c.in_ok-back.ensures.there.templates;
+        spots = c.in_ok-back.ensures.there.spots;
       };
     }

@@ -25,11 +25,10 @@ places-preserved c =
     let e : sections_in c.args.bytes.now c.push.new.self.items ≡ sections_in c.args.bytes.now c.places.places.items ++ section_in c.args.bytes.now x ∷ [] = rw c.in_ok-push.ensures.items (map_push _ c.places.places.items x) in
     record {
       so_far = rw e (each_goes_on section_at header_view c.args.headers.now c.places.header-index (sections_in c.args.bytes.now c.places.places.items) c.places.rest.now (each_at section_at (headers_view c.args.headers.now) [] c.args.front.now) d (section_in c.args.bytes.now x) c.in_ok-place.after.now c.places-test.true c.in_ok-place.ensures.gives c.places.invariant.so_far);
-      there = rw c.in_ok-push.ensures.items (all_push (HasUnit c.args.bytes.now) c.places.places.items x c.places.invariant.there c.in_ok-place.ensures.there);
+      read = rw c.in_ok-push.ensures.items (record { there = all_push (HasUnit c.args.bytes.now) c.places.places.items x c.places.invariant.read.there c.in_ok-place.ensures.there; last = c.in_ok-place.ensures.last });
       counted = rw c.in_ok-push.ensures.items (counted_push c.places.places.items x c.places.invariant.counted (c.in_ok-place.ensures.counted.0 ∙ sym c.places.invariant.total));
       total = rw c.in_ok-push.ensures.items (omega (arith, unit_total-push c.places.places.items x, c.places.invariant.total, c.in_ok-place.ensures.counted.1));
       first = omega (arith, total_front c.args.headers.now c.places.header-index d c.places-test.true, c.places.invariant.first);
-      last = c.in_ok-place.ensures.last;
     }
 
 pub returns-clause-gives : goal.returns-clause-gives

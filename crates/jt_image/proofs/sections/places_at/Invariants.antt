@@ -1,6 +1,5 @@
 use Rattle.std.proofs.Common.{◌≡◌, [], take, drop}
-use Rattle.std.specs.List.{AllByRecursion}
-use Rattle.jt_image.specs.InPlace.{sections_in, HasUnit, AreCounted, AreLast}
+use Rattle.jt_image.specs.InPlace.{sections_in, HasUnit, AreCounted, AreRead}
 use Rattle.jt_image.specs.HeaderView.{headers_view}
 use Rattle.jt_image.specs.Reading.{each_at, section_at, header_total}
 use Rattle.jt_image.proofs.Counted.{unit_total}
@@ -9,9 +8,8 @@ use Rattle.jt_image.proofs.sections.places_at.Given as goal
 abbrev pub invariant-places : goal.invariant-places
 invariant-places l = record {
   so_far : each_at section_at (headers_view (drop l.header-index l.headers)) (sections_in l.bytes l.places.items) l.rest ≡ each_at section_at (headers_view l.headers) [] l.front;
-  there : AllByRecursion (HasUnit l.bytes) l.places.items;
+  read : AreRead (HasUnit l.bytes) l.bytes l.places.items l.rest;
   counted : AreCounted 0 l.places.items;
   total : unit_total l.places.items ≡ l.first;
   first : l.first ≡ header_total (headers_view (take l.header-index l.headers));
-  last : AreLast l.bytes l.rest;
 }

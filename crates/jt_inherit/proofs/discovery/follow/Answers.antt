@@ -13,9 +13,10 @@ use Rattle.jt_inherit.specs.Sets.{names_view, homes_view}
 use Rattle.jt_inherit.specs.Ways.{AreKnown}
 use Rattle.jt_inherit.specs.declared.error.ChainError.TheVariants as error
 use Rattle.jt_chains.specs.declared.pages.Page.{Page}
-use Rattle.jt_inherit.proofs.Among.{map_more}
 use Rattle.jt_inherit.proofs.Finding.{home_number, known_names, need_breaks, next_breaks, found_more, first_same, way_there, both_pages, same_needs}
-use Rattle.jt_inherit.proofs.Homes.{place_listed}
+use Rattle.jt_inherit.proofs.Among.{map_more}
+use Rattle.jt_inherit.proofs.Homes.{of_homes}
+use Rattle.jt_inherit.proofs.Members.{placed_among}
 use Rattle.jt_inherit.proofs.discovery.follow.Goals as goal
 
 pub returns-in_err-way-clause-refused : goal.returns-in_err-way-clause-refused
@@ -25,7 +26,7 @@ returns-in_err-way-clause-refused g c =
     let at = home_number f.homes.items.items c.as_slice-homes.result.now f.ways.items c.index-homes-len.result c.len.result c.as_slice-homes.ensures.keys (omega (arith, len, f.ways.ok.0))
     (omega (arith, len, f.ways.ok.0, c.requires.more, length-map f.homes.items.items key_view, ap length c.as_slice-homes.ensures.keys)) c.index-homes-len.is in
     let p = err_from_is_err_and c.from_residual.result c.from_residual.ensures.1 in
-    rw (p.1, p.2) (c.in_err-way.ensures.refused (root_of f) (c.requires.found.reached (key_view c.index-homes-len.result) (place_listed (found_homes f) (length (graph_of f.ways.items)) (key_view c.index-homes-len.result) at)))
+    rw (p.1, p.2) (c.in_err-way.ensures (root_of f) (c.requires.found.reached (key_view c.index-homes-len.result) (placed_among of_homes (found_homes f) (length (graph_of f.ways.items)) (key_view c.index-homes-len.result) at)))
 
 pub returns-in_err-fresh-clause-refused : goal.returns-in_err-fresh-clause-refused
 returns-in_err-fresh-clause-refused g c =
@@ -33,7 +34,7 @@ returns-in_err-fresh-clause-refused g c =
     let len = c.len.ensures in
     let at = home_number f.homes.items.items c.as_slice-homes.result.now f.ways.items c.index-homes-len.result c.len.result c.as_slice-homes.ensures.keys (omega (arith, len, f.ways.ok.0))
     (omega (arith, len, f.ways.ok.0, c.requires.more, length-map f.homes.items.items key_view, ap length c.as_slice-homes.ensures.keys)) c.index-homes-len.is in
-    let way = c.in_ok-way.ensures.read in
+    let way = c.in_ok-way.ensures in
     let e = c.in_err-fresh.field-0.0 in
     let p = err_from_is_err_and c.from_residual-in_err-fresh.result c.from_residual-in_err-fresh.ensures.1 in
     let fault = subst (λ l. (e ≡ error.NoMemory) ⊎ IsNeedFault (g.L.Library.sources c.args.library.now) c.args.options l e) (same_needs c.read_home.new.pages.items c.deref.result.now c.in_ok-way.way.items c.deref-2.result.now c.deref.ensures.value c.deref-2.ensures.value) c.in_err-fresh.ensures.refused in
@@ -45,7 +46,7 @@ next_homes-requires-clause-places g c =
     let len = c.len.ensures in
     let at = home_number f.homes.items.items c.as_slice-homes.result.now f.ways.items c.index-homes-len.result c.len.result c.as_slice-homes.ensures.keys (omega (arith, len, f.ways.ok.0))
     (omega (arith, len, f.ways.ok.0, c.requires.more, length-map f.homes.items.items key_view, ap length c.as_slice-homes.ensures.keys)) c.index-homes-len.is in
-    let way = c.in_ok-way.ensures.read in
+    let way = c.in_ok-way.ensures in
     let grown = both_pages c.read_home.new.pages.items c.in_ok-fresh.fresh.items c.append.new.self.items c.in_ok-append.ensures.items in
     let fresh = pages_view c.in_ok-fresh.fresh.items in
     let both = ap (λ (z : List Page). pages_view z ++ fresh) c.deref.ensures.value ∙ sym grown in
@@ -59,7 +60,7 @@ returns-in_err-next-clause-refused g c =
     let len = c.len.ensures in
     let at = home_number f.homes.items.items c.as_slice-homes.result.now f.ways.items c.index-homes-len.result c.len.result c.as_slice-homes.ensures.keys (omega (arith, len, f.ways.ok.0))
     (omega (arith, len, f.ways.ok.0, c.requires.more, length-map f.homes.items.items key_view, ap length c.as_slice-homes.ensures.keys)) c.index-homes-len.is in
-    let way = c.in_ok-way.ensures.read in
+    let way = c.in_ok-way.ensures in
     let grown = both_pages c.read_home.new.pages.items c.in_ok-fresh.fresh.items c.append.new.self.items c.in_ok-append.ensures.items in
     let fresh = pages_view c.in_ok-fresh.fresh.items in
     let both = ap (λ (z : List Page). pages_view z ++ fresh) c.deref.ensures.value ∙ sym grown in
@@ -75,7 +76,7 @@ returns-clause-found g c =
     let len = c.len.ensures in
     let at = home_number f.homes.items.items c.as_slice-homes.result.now f.ways.items c.index-homes-len.result c.len.result c.as_slice-homes.ensures.keys (omega (arith, len, f.ways.ok.0))
     (omega (arith, len, f.ways.ok.0, c.requires.more, length-map f.homes.items.items key_view, ap length c.as_slice-homes.ensures.keys)) c.index-homes-len.is in
-    let way = c.in_ok-way.ensures.read in
+    let way = c.in_ok-way.ensures in
     let grown = both_pages c.read_home.new.pages.items c.in_ok-fresh.fresh.items c.append.new.self.items c.in_ok-append.ensures.items in
     let fresh = pages_view c.in_ok-fresh.fresh.items in
     let both = ap (λ (z : List Page). pages_view z ++ fresh) c.deref.ensures.value ∙ sym grown in
@@ -101,7 +102,7 @@ returns-clause-root g c =
     let len = c.len.ensures in
     let at = home_number f.homes.items.items c.as_slice-homes.result.now f.ways.items c.index-homes-len.result c.len.result c.as_slice-homes.ensures.keys (omega (arith, len, f.ways.ok.0))
     (omega (arith, len, f.ways.ok.0, c.requires.more, length-map f.homes.items.items key_view, ap length c.as_slice-homes.ensures.keys)) c.index-homes-len.is in
-    let way = c.in_ok-way.ensures.read in
+    let way = c.in_ok-way.ensures in
     let grown = both_pages c.read_home.new.pages.items c.in_ok-fresh.fresh.items c.append.new.self.items c.in_ok-append.ensures.items in
     let fresh = pages_view c.in_ok-fresh.fresh.items in
     let both = ap (λ (z : List Page). pages_view z ++ fresh) c.deref.ensures.value ∙ sym grown in

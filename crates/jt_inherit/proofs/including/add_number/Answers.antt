@@ -3,7 +3,9 @@ use Rattle.std.proofs.lemmas.Result.{err_from_is_err_and}
 use Rattle.jt_inherit.specs.Found.{AreNext, IsNextFault}
 use Rattle.jt_inherit.specs.Needs.{need_view}
 use Rattle.jt_inherit.specs.Sets.{names_view, homes_view}
-use Rattle.jt_inherit.proofs.Following.{text_among, one_known}
+use Rattle.jt_inherit.proofs.Following.{one_known}
+use Rattle.jt_inherit.proofs.Among.{of_texts}
+use Rattle.jt_inherit.proofs.Members.{placed_among}
 use Rattle.jt_inherit.proofs.including.add_number.Goals as goal
 
 pub returns-in_err-number-clause-refused : goal.returns-in_err-number-clause-refused
@@ -13,7 +15,7 @@ returns-in_err-number-clause-refused c =
     let e = c.in_err-number.field-0.0 in
     let p = err_from_is_err_and c.from_residual-in_err-number.result c.from_residual-in_err-number.ensures.1 in
     rw (p.1, p.2)
-    (subst (λ l. IsNextFault (homes_view c.args.homes.now) l e) (sym (one_known ks n (text_among ks c.in-Some._place n.name c.in-Some.ensures)))
+    (subst (λ l. IsNextFault (homes_view c.args.homes.now) l e) (sym (one_known ks n (placed_among of_texts ks c.in-Some._place n.name c.in-Some.ensures)))
     (subst (λ h. IsNextFault (homes_view c.args.homes.now) (h ∷ []) e) c.in_ok-home.ensures c.in_err-number.ensures.refused))
 
 pub returns-clause-next : goal.returns-clause-next
@@ -25,6 +27,6 @@ returns-clause-next c =
     let i = c.in_ok-number.number in (
       i ∷ [],
       c.in_ok-push.ensures.items,
-      subst (λ l. AreNext old new l (i ∷ [])) (sym (one_known ks n (text_among ks c.in-Some._place n.name c.in-Some.ensures)))
+      subst (λ l. AreNext old new l (i ∷ [])) (sym (one_known ks n (placed_among of_texts ks c.in-Some._place n.name c.in-Some.ensures)))
           (subst (λ h. AreNext old new (h ∷ []) (i ∷ [])) c.in_ok-home.ensures c.in_ok-number.ensures.next),
     )

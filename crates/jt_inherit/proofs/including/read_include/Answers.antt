@@ -6,13 +6,13 @@ use Rattle.jt_chains.specs.Chain.{Template}
 use Rattle.jt_chains.specs.Pages.{page_view, pages_view}
 use Rattle.jt_inherit.specs.Sets.{names_view}
 use Rattle.jt_inherit.specs.Ways.{AreKnown}
-use Rattle.jt_inherit.proofs.Among.{among_next, among_last}
-use Rattle.jt_inherit.proofs.Following.{text_among}
 use Rattle.jt_inherit.proofs.Leads.{known_more, pages_more}
+use Rattle.jt_inherit.proofs.Among.{among_last, of_texts}
+use Rattle.jt_inherit.proofs.Members.{among_next, placed_among}
 use Rattle.jt_inherit.proofs.including.read_include.Goals as goal
 
 pub returns-in-Some-clause-met : goal.returns-in-Some-clause-met
-returns-in-Some-clause-met g c = inl (text_among (names_view c.args.names.now) c.in-Some._place c.args.include.name.now c.in-Some.ensures)
+returns-in-Some-clause-met g c = inl (placed_among of_texts (names_view c.args.names.now) c.in-Some._place c.args.include.name.now c.in-Some.ensures)
 
 pub returns-in_ok-add_page-in-Ok-clause-known : goal.returns-in_ok-add_page-in-Ok-clause-known
 returns-in_ok-add_page-in-Ok-clause-known g c =
@@ -30,7 +30,7 @@ pub returns-in_ok-add_page-in-Ok-clause-met : goal.returns-in_ok-add_page-in-Ok-
 returns-in_ok-add_page-in-Ok-clause-met g c =
     let ks = names_view c.args.names.now in
     let n = c.args.include.name.now in
-    inl (ap (among n) (c.in_ok-add_page-in-Ok.ensures.names ∙ ap (λ (x : Text). ks ++ x ∷ []) c.in-Ok.ensures.named) ∙ among_next n ks [])
+    inl (ap (among n) (c.in_ok-add_page-in-Ok.ensures.names ∙ ap (λ (x : Text). ks ++ x ∷ []) c.in-Ok.ensures.named) ∙ among_next of_texts n ks [])
 
 pub returns-in_ok-add_page-in-Ok-clause-from : goal.returns-in_ok-add_page-in-Ok-clause-from
 returns-in_ok-add_page-in-Ok-clause-from g c =

@@ -6,8 +6,8 @@ use Rattle.jt_trees.specs.Expressions.{Text}
 use Rattle.jt_chains.specs.Pages.{page_view, pages_view}
 use Rattle.jt_inherit.specs.Sets.{names_view}
 use Rattle.jt_inherit.specs.Ways.{AreKnown}
-use Rattle.jt_inherit.proofs.Among.{among_last}
 use Rattle.jt_inherit.proofs.Leads.{known_more, pages_more, page_last}
+use Rattle.jt_inherit.proofs.Among.{among_last}
 use Rattle.jt_inherit.proofs.shelf.read_place.Goals as goal
 
 pub returns-in-Some-clause-grown : goal.returns-in-Some-clause-grown

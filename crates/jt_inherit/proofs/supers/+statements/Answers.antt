@@ -20,7 +20,7 @@ statement_super-returns-then-calls_super t c =
     let l = c.loop-condition in
     let bs = c.deref-condition-items.result.now in
     let b = c.loop-condition-item.result in
-    let yes : calls_super (body_view b.2.items) ≡ true = ap (λ z. calls_super (body_view z)) (sym c.deref.ensures.value) ∙ sym c.calls_super.ensures ∙ c.if-calls_super.true in
+    let yes : calls_super (body_view b.body.items) ≡ true = ap (λ z. calls_super (body_view z)) (sym c.deref.ensures.value) ∙ sym c.calls_super.ensures ∙ c.if-calls_super.true in
     let found : branches_super (branches_view c.in-If.branches.items) ≡ true =
     ap (λ (z : List Branch). branches_super (branches_view z)) (sym c.deref-condition-items.ensures.value) ∙ l.invariant
     ∙ in_body bs l.condition-index b c.loop-condition-test.true c.loop-condition-item.is yes in

@@ -7,7 +7,7 @@ use Rattle.jt_chains.specs.Parts.{macro_view}
 use Rattle.jt_chains.specs.View.{chain_view}
 use Rattle.jt_meaning.specs.Layout as layout
 use Rattle.jt_names.specs.Names.{texts}
-use Rattle.jt_layout.specs.Front.{its_world, its_order, its_home}
+use Rattle.jt_layout.specs.Homes.{its_world, its_order, its_home}
 use Rattle.jt_layout.specs.Laid.{is_library}
 use Rattle.jt_layout.specs.declared.laid.Laid.{Laid}
 use Rattle.jt_chains.proofs.Placed.{name_of_home}

@@ -5,7 +5,7 @@ use Rattle.jt_chains.specs.Chain.{a_chain, listed, same_home}
 use Rattle.jt_chains.specs.Pages.{home_view}
 use Rattle.jt_chains.specs.View.{chain_view}
 use Rattle.jt_meaning.specs.Layout as layout
-use Rattle.jt_layout.specs.Front.{its_world, its_order, its_home}
+use Rattle.jt_layout.specs.Homes.{its_world, its_order, its_home}
 use Rattle.jt_layout.specs.Laid.{IsLaid}
 use Rattle.jt_layout.specs.Places.{names_at}
 use Rattle.jt_layout.specs.declared.laid.Laid.{Laid}

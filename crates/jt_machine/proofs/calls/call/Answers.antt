@@ -19,7 +19,7 @@ pub returns-in-Some-pay : goal.returns-in-Some-pay
 returns-in-Some-pay g c =
     let k = g.C.Code.code c.args.code.now in
     let x = called_is (slice_get k.units c.args.unit) c.in-Some.header c.in-Some.ensures in
-    let there = call_values c.args.unit x.0 (config_view c.args.state.now) (rw x.1 at c.requires.not_wrong) in
+    let there = call_values c.args.unit x.0 (config_view c.args.state.now) (rw x.1 at c.requires.ready.not_wrong) in
     ap (λ (o : Option Section). call_section c.args.unit o (config_view c.args.state.now)) x.1
     ∙ call_pays c.args.unit x.0 (config_view c.args.state.now) there ∙ c.in-Some-pay.ensures.rest (λ e. enter e (called c.args.unit x.0))
 
@@ -27,7 +27,7 @@ pub returns-in-Err : goal.returns-in-Err
 returns-in-Err g c =
     let k = g.C.Code.code c.args.code.now in
     let x = called_is (slice_get k.units c.args.unit) c.in-Some.header c.in-Some.ensures in
-    let there = call_values c.args.unit x.0 (config_view c.args.state.now) (rw x.1 at c.requires.not_wrong) in
+    let there = call_values c.args.unit x.0 (config_view c.args.state.now) (rw x.1 at c.requires.ready.not_wrong) in
     ap (λ (o : Option Section). call_section c.args.unit o (config_view c.args.state.now)) x.1
     ∙ call_pays c.args.unit x.0 (config_view c.args.state.now) there
     ∙ c.in_default-pay.ensures.rest (λ e. enter e (called c.args.unit x.0))
@@ -39,14 +39,14 @@ take_values-requires g c =
     let k = g.C.Code.code c.args.code.now in
     let x = called_is (slice_get k.units c.args.unit) c.in-Some.header c.in-Some.ensures in
     let n : c.from.result ≡ x.0.parameters = c.from.ensures ∙ ap (λ (h : UnitHeader). h.parameters) x.2 in
-    let there = call_values c.args.unit x.0 (config_view c.args.state.now) (rw x.1 at c.requires.not_wrong) in
+    let there = call_values c.args.unit x.0 (config_view c.args.state.now) (rw x.1 at c.requires.ready.not_wrong) in
     rw n (has_same x.0.parameters c.pay.new.state.stack.running c.args.state.now.stack.running (ap (λ (s : State). s.stack.running) c.in_default-pay.ensures.same) there)
 
 pub returns-in_err-arguments : goal.returns-in_err-arguments
 returns-in_err-arguments g c =
     let k = g.C.Code.code c.args.code.now in
     let x = called_is (slice_get k.units c.args.unit) c.in-Some.header c.in-Some.ensures in
-    let there = call_values c.args.unit x.0 (config_view c.args.state.now) (rw x.1 at c.requires.not_wrong) in
+    let there = call_values c.args.unit x.0 (config_view c.args.state.now) (rw x.1 at c.requires.ready.not_wrong) in
     let e = ap (λ (o : Option Section). call_section c.args.unit o (config_view c.args.state.now)) x.1
     ∙ call_pays c.args.unit x.0 (config_view c.args.state.now) there
     ∙ c.in_default-pay.ensures.rest (λ e. enter e (called c.args.unit x.0))
@@ -57,7 +57,7 @@ pub returns-in_err-locals : goal.returns-in_err-locals
 returns-in_err-locals g c =
     let k = g.C.Code.code c.args.code.now in
     let x = called_is (slice_get k.units c.args.unit) c.in-Some.header c.in-Some.ensures in
-    let there = call_values c.args.unit x.0 (config_view c.args.state.now) (rw x.1 at c.requires.not_wrong) in
+    let there = call_values c.args.unit x.0 (config_view c.args.state.now) (rw x.1 at c.requires.ready.not_wrong) in
     let e = ap (λ (o : Option Section). call_section c.args.unit o (config_view c.args.state.now)) x.1
     ∙ call_pays c.args.unit x.0 (config_view c.args.state.now) there
     ∙ c.in_default-pay.ensures.rest (λ e. enter e (called c.args.unit x.0))
@@ -68,7 +68,7 @@ pub returns-in_err-enter : goal.returns-in_err-enter
 returns-in_err-enter g c =
     let k = g.C.Code.code c.args.code.now in
     let x = called_is (slice_get k.units c.args.unit) c.in-Some.header c.in-Some.ensures in
-    let there = call_values c.args.unit x.0 (config_view c.args.state.now) (rw x.1 at c.requires.not_wrong) in
+    let there = call_values c.args.unit x.0 (config_view c.args.state.now) (rw x.1 at c.requires.ready.not_wrong) in
     let e = ap (λ (o : Option Section). call_section c.args.unit o (config_view c.args.state.now)) x.1
     ∙ call_pays c.args.unit x.0 (config_view c.args.state.now) there
     ∙ c.in_default-pay.ensures.rest (λ e. enter e (called c.args.unit x.0))
@@ -89,7 +89,7 @@ pub returns : goal.returns
 returns g c =
     let k = g.C.Code.code c.args.code.now in
     let x = called_is (slice_get k.units c.args.unit) c.in-Some.header c.in-Some.ensures in
-    let there = call_values c.args.unit x.0 (config_view c.args.state.now) (rw x.1 at c.requires.not_wrong) in
+    let there = call_values c.args.unit x.0 (config_view c.args.state.now) (rw x.1 at c.requires.ready.not_wrong) in
     let n : c.from.result ≡ x.0.parameters = c.from.ensures ∙ ap (λ (h : UnitHeader). h.parameters) x.2 in
     let us = map view c.in_ok-arguments.arguments.items in
     let are = values_are x.0.parameters c.pay.new.state.stack.running us c.take_values.new.stack.running (rw n at c.in_ok-arguments.ensures.taken) in

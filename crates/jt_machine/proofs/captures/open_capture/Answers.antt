@@ -10,7 +10,7 @@ returns-in-Some c = c.in-Some.ensures.rest (λ d. step_on (opened d))
 pub returns : goal.returns
 returns c =
     let e : open_capture (config_view c.args.state.now) ≡ step_on (opened (config_view c.pay.new.state)) = c.in_default.ensures.rest (λ d. step_on (opened d)) in
-    let h = rw (c.in_ok-push.ensures, c.in_ok-push_outer.ensures, c.replace-around.ensures.value, c.replace-around.ensures.after, c.new.ensures.bytes) at c.step_on.ensures.next in
+    let h = rw (c.in_ok-push.ensures, c.in_ok-push_outer.ensures, c.replace-around.ensures.value, c.replace-around.ensures.after, c.new.ensures.bytes) at c.step_on.ensures in
     rw e h
 
 pub returns-in_err-push : goal.returns-in_err-push

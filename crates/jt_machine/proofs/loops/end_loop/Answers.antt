@@ -5,11 +5,11 @@ use Rattle.jt_machine.specs.View.{config_view}
 use Rattle.jt_machine.proofs.loops.end_loop.Goals as goal
 
 pub returns-in-Some : goal.returns-in-Some
-returns-in-Some c = rw c.pop_frame-frame.ensures (c.in-Some.ensures.rest (λ e. push (truth_value (eqb c.pop_frame-frame.result.position 0)) e step_on))
+returns-in-Some c = rw c.pop_frame-frame.ensures (c.in-Some.ensures.rest (λ e. push (truth_value (eqb c.pop_frame-frame.result.value.position 0)) e step_on))
 
 pub returns : goal.returns
 returns c =
-    let e : end_loop (config_view c.args.state.now) ≡ push (truth_value (eqb c.pop_frame-frame.result.position 0)) (config_view c.pay.new.state) step_on =
-    rw c.pop_frame-frame.ensures (c.in_default.ensures.rest (λ e. push (truth_value (eqb c.pop_frame-frame.result.position 0)) e step_on)) in
-    let h = rw c.truth_value-fresh.ensures at c.push.ensures in
+    let e : end_loop (config_view c.args.state.now) ≡ push (truth_value (eqb c.pop_frame-frame.result.value.position 0)) (config_view c.pay.new.state) step_on =
+    rw c.pop_frame-frame.ensures (c.in_default.ensures.rest (λ e. push (truth_value (eqb c.pop_frame-frame.result.value.position 0)) e step_on)) in
+    let h = rw (c.truth_value-fresh.ensures, c.deref.ensures) at c.push.ensures in
     rw e h

@@ -36,7 +36,7 @@ returns c =
     λ f is. kept_next c.args.above (config_view c.args.state.now) (view c.pop.result) c.pop.new.self.running f top is ∙ (rw callers at (c.in_default.ensures.rest (λ e. step_on (with_kept (truth (view c.pop.result)) c.args.above f e)))) in
     let e = below x.0 x.1 in
     let kept = rw c.truth-truth.ensures at (c.in_ok-keep_if.ensures x.0 (rw same x.1)) in
-    let h = rw kept at c.step_on.ensures.next in
+    let h = rw kept at c.step_on.ensures in
     rw e h
 
 pub returns-in_err-keep_if : goal.returns-in_err-keep_if

@@ -8,8 +8,8 @@ use Rattle.jt_machine.specs.View.{config_view}
 use Rattle.jt_machine.proofs.Steps.{turn_frame, turned, turn_is}
 use Rattle.jt_machine.proofs.loops.next_turn.Goals as goal
 
-pub returns-in-Some-clause-next : goal.returns-in-Some-clause-next
-returns-in-Some-clause-next c =
+pub returns-in-Some : goal.returns-in-Some
+returns-in-Some c =
     let x = turn_frame c.args.target (config_view c.args.state.now) c.requires.not_wrong in
     let z = nat_lt x.top.position (length x.top.items) in
     let after : List Entry = frame (cond z (advanced x.top) x.top) ∷ x.rest in
@@ -21,19 +21,19 @@ take_turn-requires c =
     let same : c.pay.new.state.stack.running ≡ c.args.state.now.stack.running = ap (λ (s : State). s.stack.running) c.in_default.ensures.same in
     record { top = x.top; rest = x.rest; is = same ∙ x.is }
 
-pub returns-then-take_turn-clause-next : goal.returns-then-take_turn-clause-next
-returns-then-take_turn-clause-next c =
+pub returns-then-take_turn : goal.returns-then-take_turn
+returns-then-take_turn c =
     let x = turn_frame c.args.target (config_view c.args.state.now) c.requires.not_wrong in
     let same : c.pay.new.state.stack.running ≡ c.args.state.now.stack.running = ap (λ (s : State). s.stack.running) c.in_default.ensures.same in
     let h = c.take_turn.ensures.turned x.top x.rest (same ∙ x.is) in
     let t = rw c.if-take_turn.true at h in
     let e : next_turn c.args.target (config_view c.args.state.now) ≡ turned true c.args.target c.take_turn.new.self.running (config_view c.pay.new.state) =
     turn_is c.args.target (config_view c.args.state.now) x.top x.rest c.take_turn.new.self.running true x.is t.left t.entries ∙ c.in_default.ensures.rest (turned true c.args.target c.take_turn.new.self.running) in
-    let on = rw c.take_turn.ensures.callers at c.step_on.ensures.next in
+    let on = rw c.take_turn.ensures.callers at c.step_on.ensures in
     rw e on
 
-pub returns-clause-next : goal.returns-clause-next
-returns-clause-next c =
+pub returns : goal.returns
+returns c =
     let x = turn_frame c.args.target (config_view c.args.state.now) c.requires.not_wrong in
     let same : c.pay.new.state.stack.running ≡ c.args.state.now.stack.running = ap (λ (s : State). s.stack.running) c.in_default.ensures.same in
     let h = c.take_turn.ensures.turned x.top x.rest (same ∙ x.is) in

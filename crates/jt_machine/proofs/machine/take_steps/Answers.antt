@@ -25,15 +25,11 @@ step-requires-clause-not_wrong g c =
     let r = underway_gone (g.C.Code.code c.args.code.now) c.steps.state c.hurry-left.new.state c.steps.invariant.reached c.hurry-left.ensures.gone in
     (reached_sound c.code_laws.ensures (g.C.Code.code c.args.code.now) c.requires.whole c.requires.typed r.context r.budget (config_view c.hurry-left.new.state) (r.steps, r.reached)).not_wrong
 
-pub step-requires-clause-sized : goal.step-requires-clause-sized
-step-requires-clause-sized g c =
+pub step-requires-clause-bounded : goal.step-requires-clause-bounded
+step-requires-clause-bounded g c =
     let r = underway_gone (g.C.Code.code c.args.code.now) c.steps.state c.hurry-left.new.state c.steps.invariant.reached c.hurry-left.ensures.gone in
-    (reached_sound c.code_laws.ensures (g.C.Code.code c.args.code.now) c.requires.whole c.requires.typed r.context r.budget (config_view c.hurry-left.new.state) (r.steps, r.reached)).sized
-
-pub step-requires-clause-few : goal.step-requires-clause-few
-step-requires-clause-few g c =
-    let r = underway_gone (g.C.Code.code c.args.code.now) c.steps.state c.hurry-left.new.state c.steps.invariant.reached c.hurry-left.ensures.gone in
-    (reached_sound c.code_laws.ensures (g.C.Code.code c.args.code.now) c.requires.whole c.requires.typed r.context r.budget (config_view c.hurry-left.new.state) (r.steps, r.reached)).few
+    let s = (reached_sound c.code_laws.ensures (g.C.Code.code c.args.code.now) c.requires.whole c.requires.typed r.context r.budget (config_view c.hurry-left.new.state) (r.steps, r.reached)) in
+    record { sized = s.sized; few = s.few }
 
 pub step-requires-clause-depth : goal.step-requires-clause-depth
 step-requires-clause-depth g c = (underway_gone (g.C.Code.code c.args.code.now) c.steps.state c.hurry-left.new.state c.steps.invariant.reached c.hurry-left.ensures.gone).depth

@@ -11,27 +11,27 @@ use Rattle.jt_machine.proofs.making.apply_filter.Goals as goal
 
 pub pay_values-requires-clause-has : goal.pay_values-requires-clause-has
 pay_values-requires-clause-has c =
-    let is = filter_is c.args.id c.args.count c.args.flag c.in-Some.filter (config_view c.args.state.now) c.in-Some.ensures c.requires.not_wrong in
-    makes_of c.args.count (filtered_by (Some c.in-Some.filter) (c.args.flag == 1)) (config_view c.args.state.now) (λ w. c.requires.not_wrong (is.makes ∙ w))
+    let is = filter_is c.args.id c.args.count c.args.flag c.in-Some.filter (config_view c.args.state.now) c.in-Some.ensures c.requires.ready.not_wrong in
+    makes_of c.args.count (filtered_by (Some c.in-Some.filter) (c.args.flag == 1)) (config_view c.args.state.now) (λ w. c.requires.ready.not_wrong (is.makes ∙ w))
 
 pub returns-in-Some-pay_values : goal.returns-in-Some-pay_values
 returns-in-Some-pay_values c =
-    let is = filter_is c.args.id c.args.count c.args.flag c.in-Some.filter (config_view c.args.state.now) c.in-Some.ensures c.requires.not_wrong in
+    let is = filter_is c.args.id c.args.count c.args.flag c.in-Some.filter (config_view c.args.state.now) c.in-Some.ensures c.requires.ready.not_wrong in
     is.makes ∙ c.in-Some-pay_values.ensures.rest (filtered_by (Some c.in-Some.filter) (c.args.flag == 1))
 
 pub filtered-answer-requires-clause-has : goal.filtered-answer-requires-clause-has
 filtered-answer-requires-clause-has c =
-    let is = filter_is c.args.id c.args.count c.args.flag c.in-Some.filter (config_view c.args.state.now) c.in-Some.ensures c.requires.not_wrong in
-    let there = makes_of c.args.count (filtered_by (Some c.in-Some.filter) (c.args.flag == 1)) (config_view c.args.state.now) (λ w. c.requires.not_wrong (is.makes ∙ w)) in
+    let is = filter_is c.args.id c.args.count c.args.flag c.in-Some.filter (config_view c.args.state.now) c.in-Some.ensures c.requires.ready.not_wrong in
+    let there = makes_of c.args.count (filtered_by (Some c.in-Some.filter) (c.args.flag == 1)) (config_view c.args.state.now) (λ w. c.requires.ready.not_wrong (is.makes ∙ w)) in
     has_same c.args.count c.pay_values.new.state.stack.running c.args.state.now.stack.running (ap (λ (s : State). s.stack.running) c.in_default-pay_values.ensures.same) there
 
 pub filtered-answer-requires-clause-least : goal.filtered-answer-requires-clause-least
 filtered-answer-requires-clause-least c =
-    (filter_is c.args.id c.args.count c.args.flag c.in-Some.filter (config_view c.args.state.now) c.in-Some.ensures c.requires.not_wrong).least
+    (filter_is c.args.id c.args.count c.args.flag c.in-Some.filter (config_view c.args.state.now) c.in-Some.ensures c.requires.ready.not_wrong).least
 
 pub filtered-answer-requires-clause-most : goal.filtered-answer-requires-clause-most
 filtered-answer-requires-clause-most c =
-    (filter_is c.args.id c.args.count c.args.flag c.in-Some.filter (config_view c.args.state.now) c.in-Some.ensures c.requires.not_wrong).most
+    (filter_is c.args.id c.args.count c.args.flag c.in-Some.filter (config_view c.args.state.now) c.in-Some.ensures c.requires.ready.not_wrong).most
 
 pub push_answer-requires-clause-fits : goal.push_answer-requires-clause-fits
 push_answer-requires-clause-fits c =
@@ -44,7 +44,7 @@ pub returns : goal.returns
 returns c =
     let left = c.pay_values.new.state.left in
     let given = filtered c.in-Some.filter (c.args.flag == 1) (values_at c.args.count c.pay_values.new.state.stack.running) in
-    let is = filter_is c.args.id c.args.count c.args.flag c.in-Some.filter (config_view c.args.state.now) c.in-Some.ensures c.requires.not_wrong in
+    let is = filter_is c.args.id c.args.count c.args.flag c.in-Some.filter (config_view c.args.state.now) c.in-Some.ensures c.requires.ready.not_wrong in
     let a : Answers c.filtered-answer.result (limited left.size left.nesting given) = rw (c.limits_of-limits.ensures.size, c.limits_of-limits.ensures.nesting) at c.filtered-answer.ensures.answers in
     let e : apply_filter c.args.id c.args.count c.args.flag (config_view c.args.state.now) ≡ made c.args.count (filtered_by (Some c.in-Some.filter) (c.args.flag == 1)) (config_view c.pay_values.new.state) =
     is.makes ∙ c.in_default-pay_values.ensures.rest (filtered_by (Some c.in-Some.filter) (c.args.flag == 1)) in

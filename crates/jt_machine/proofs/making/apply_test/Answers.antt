@@ -11,27 +11,27 @@ use Rattle.jt_machine.proofs.making.apply_test.Goals as goal
 
 pub pay_values-requires-clause-has : goal.pay_values-requires-clause-has
 pay_values-requires-clause-has c =
-    let is = test_is c.args.id c.args.count c.in-Some.id (config_view c.args.state.now) c.in-Some.ensures c.requires.not_wrong in
-    makes_of c.args.count (tested_by (Some c.in-Some.id)) (config_view c.args.state.now) (λ w. c.requires.not_wrong (is.1 ∙ w))
+    let is = test_is c.args.id c.args.count c.in-Some.id (config_view c.args.state.now) c.in-Some.ensures c.requires.ready.not_wrong in
+    makes_of c.args.count (tested_by (Some c.in-Some.id)) (config_view c.args.state.now) (λ w. c.requires.ready.not_wrong (is.1 ∙ w))
 
 pub returns-in-Some-pay_values : goal.returns-in-Some-pay_values
 returns-in-Some-pay_values c =
-    let is = test_is c.args.id c.args.count c.in-Some.id (config_view c.args.state.now) c.in-Some.ensures c.requires.not_wrong in
+    let is = test_is c.args.id c.args.count c.in-Some.id (config_view c.args.state.now) c.in-Some.ensures c.requires.ready.not_wrong in
     is.1 ∙ c.in-Some-pay_values.ensures.rest (tested_by (Some c.in-Some.id))
 
 pub tested-requires-clause-has : goal.tested-requires-clause-has
 tested-requires-clause-has c =
-    let is = test_is c.args.id c.args.count c.in-Some.id (config_view c.args.state.now) c.in-Some.ensures c.requires.not_wrong in
-    let there = makes_of c.args.count (tested_by (Some c.in-Some.id)) (config_view c.args.state.now) (λ w. c.requires.not_wrong (is.1 ∙ w)) in
+    let is = test_is c.args.id c.args.count c.in-Some.id (config_view c.args.state.now) c.in-Some.ensures c.requires.ready.not_wrong in
+    let there = makes_of c.args.count (tested_by (Some c.in-Some.id)) (config_view c.args.state.now) (λ w. c.requires.ready.not_wrong (is.1 ∙ w)) in
     has_same c.args.count c.pay_values.new.state.stack.running c.args.state.now.stack.running (ap (λ (s : State). s.stack.running) c.in_default-pay_values.ensures.same) there
 
 pub tested-requires-clause-many : goal.tested-requires-clause-many
-tested-requires-clause-many c = (test_is c.args.id c.args.count c.in-Some.id (config_view c.args.state.now) c.in-Some.ensures c.requires.not_wrong).0
+tested-requires-clause-many c = (test_is c.args.id c.args.count c.in-Some.id (config_view c.args.state.now) c.in-Some.ensures c.requires.ready.not_wrong).0
 
 pub returns-in-Ok : goal.returns-in-Ok
 returns-in-Ok c =
     let truth = tested c.in-Some.id (values_at c.args.count c.pay_values.new.state.stack.running) in
-    let is = test_is c.args.id c.args.count c.in-Some.id (config_view c.args.state.now) c.in-Some.ensures c.requires.not_wrong in
+    let is = test_is c.args.id c.args.count c.in-Some.id (config_view c.args.state.now) c.in-Some.ensures c.requires.ready.not_wrong in
     let e : apply_test c.args.id c.args.count (config_view c.args.state.now) ≡ made c.args.count (tested_by (Some c.in-Some.id)) (config_view c.pay_values.new.state) = is.1 ∙ c.in_default-pay_values.ensures.rest (tested_by (Some c.in-Some.id)) in
     let given = truth_given c.in-Ok.truth truth c.in-Ok.ensures.answer in
     let h = rw c.in-Ok.ensures.taken at c.push.ensures in
@@ -41,7 +41,7 @@ pub returns-in-Err : goal.returns-in-Err
 returns-in-Err c =
     let left = c.pay_values.new.state.left in
     let truth = tested c.in-Some.id (values_at c.args.count c.pay_values.new.state.stack.running) in
-    let is = test_is c.args.id c.args.count c.in-Some.id (config_view c.args.state.now) c.in-Some.ensures c.requires.not_wrong in
+    let is = test_is c.args.id c.args.count c.in-Some.id (config_view c.args.state.now) c.in-Some.ensures c.requires.ready.not_wrong in
     let a : Answers (Err c.in-Err.error) (limited left.size left.nesting (as_truth truth)) = test_answers left.size left.nesting truth c.in-Err.error c.in-Err.ensures.answer in
     let e : apply_test c.args.id c.args.count (config_view c.args.state.now) ≡ made c.args.count (tested_by (Some c.in-Some.id)) (config_view c.pay_values.new.state) = is.1 ∙ c.in_default-pay_values.ensures.rest (tested_by (Some c.in-Some.id)) in
     let h = rw c.in-Err.ensures.taken at (c.push_answer.ensures (as_truth truth) a) in

@@ -11,14 +11,14 @@ use Rattle.jt_machine.proofs.Weighing.{within_texts, within_goes_on}
 use Rattle.jt_machine.proofs.making.make_map.Goals as goal
 
 pub pay_values-requires-clause-has : goal.pay_values-requires-clause-has
-pay_values-requires-clause-has c = makes_of c.args.count mapped (config_view c.args.state.now) c.requires.not_wrong
+pay_values-requires-clause-has c = makes_of c.args.count mapped (config_view c.args.state.now) c.requires.ready.not_wrong
 
 pub returns-in-Some : goal.returns-in-Some
 returns-in-Some c = c.in-Some.ensures.rest mapped
 
 pub top_entries-requires : goal.top_entries-requires
 top_entries-requires c =
-    has_same c.args.count c.pay_values.new.state.stack.running c.args.state.now.stack.running (ap (λ (s : State). s.stack.running) c.in_default.ensures.same) (makes_of c.args.count mapped (config_view c.args.state.now) c.requires.not_wrong)
+    has_same c.args.count c.pay_values.new.state.stack.running c.args.state.now.stack.running (ap (λ (s : State). s.stack.running) c.in_default.ensures.same) (makes_of c.args.count mapped (config_view c.args.state.now) c.requires.ready.not_wrong)
 
 pub returns-in-Some-map_refusal : goal.returns-in-Some-map_refusal
 returns-in-Some-map_refusal c =
@@ -28,7 +28,7 @@ returns-in-Some-map_refusal c =
 
 pub take_values-requires : goal.take_values-requires
 take_values-requires c =
-    has_same c.args.count c.pay_values.new.state.stack.running c.args.state.now.stack.running (ap (λ (s : State). s.stack.running) c.in_default.ensures.same) (makes_of c.args.count mapped (config_view c.args.state.now) c.requires.not_wrong)
+    has_same c.args.count c.pay_values.new.state.stack.running c.args.state.now.stack.running (ap (λ (s : State). s.stack.running) c.in_default.ensures.same) (makes_of c.args.count mapped (config_view c.args.state.now) c.requires.ready.not_wrong)
 
 pub returns-in_err-values : goal.returns-in_err-values
 returns-in_err-values c =

@@ -11,7 +11,7 @@ use Rattle.jt_machine.proofs.making.operate.Goals as goal
 
 pub pay_values-requires-clause-has : goal.pay_values-requires-clause-has
 pay_values-requires-clause-has c =
-    rw c.operands.ensures (makes_of (op_operands c.in-Some.operator) (operated (Some c.in-Some.operator)) (config_view c.args.state.now) (λ w. c.requires.not_wrong (operate_is c.args.operator c.in-Some.operator (config_view c.args.state.now) c.in-Some.ensures ∙ w)))
+    rw c.operands.ensures (makes_of (op_operands c.in-Some.operator) (operated (Some c.in-Some.operator)) (config_view c.args.state.now) (λ w. c.requires.ready.not_wrong (operate_is c.args.operator c.in-Some.operator (config_view c.args.state.now) c.in-Some.ensures ∙ w)))
 
 pub returns-in-Some-pay_values : goal.returns-in-Some-pay_values
 returns-in-Some-pay_values c =
@@ -19,7 +19,7 @@ returns-in-Some-pay_values c =
 
 pub operated-answer-requires : goal.operated-answer-requires
 operated-answer-requires c =
-    let there = makes_of (op_operands c.in-Some.operator) (operated (Some c.in-Some.operator)) (config_view c.args.state.now) (λ w. c.requires.not_wrong (operate_is c.args.operator c.in-Some.operator (config_view c.args.state.now) c.in-Some.ensures ∙ w)) in
+    let there = makes_of (op_operands c.in-Some.operator) (operated (Some c.in-Some.operator)) (config_view c.args.state.now) (λ w. c.requires.ready.not_wrong (operate_is c.args.operator c.in-Some.operator (config_view c.args.state.now) c.in-Some.ensures ∙ w)) in
     has_same (op_operands c.in-Some.operator) c.pay_values.new.state.stack.running c.args.state.now.stack.running (ap (λ (s : State). s.stack.running) c.in_default-pay_values.ensures.same) there
 
 pub push_answer-requires-clause-fits : goal.push_answer-requires-clause-fits

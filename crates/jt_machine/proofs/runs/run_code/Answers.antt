@@ -26,17 +26,12 @@ step-requires-clause-not_wrong g c =
     let r = reached_gone k (pairs_of c.args.context.now) (budget_view c.args.budget) c.steps.state c.hurry.new.state c.steps.invariant.reached c.hurry.ensures.gone in
     (reached_sound c.code_laws.ensures k c.requires.whole c.requires.typed (pairs_of c.args.context.now) (budget_view c.args.budget) (config_view c.hurry.new.state) r).not_wrong
 
-pub step-requires-clause-sized : goal.step-requires-clause-sized
-step-requires-clause-sized g c =
+pub step-requires-clause-bounded : goal.step-requires-clause-bounded
+step-requires-clause-bounded g c =
     let k = g.C.Code.code c.args.code.now in
     let r = reached_gone k (pairs_of c.args.context.now) (budget_view c.args.budget) c.steps.state c.hurry.new.state c.steps.invariant.reached c.hurry.ensures.gone in
-    (reached_sound c.code_laws.ensures k c.requires.whole c.requires.typed (pairs_of c.args.context.now) (budget_view c.args.budget) (config_view c.hurry.new.state) r).sized
-
-pub step-requires-clause-few : goal.step-requires-clause-few
-step-requires-clause-few g c =
-    let k = g.C.Code.code c.args.code.now in
-    let r = reached_gone k (pairs_of c.args.context.now) (budget_view c.args.budget) c.steps.state c.hurry.new.state c.steps.invariant.reached c.hurry.ensures.gone in
-    (reached_sound c.code_laws.ensures k c.requires.whole c.requires.typed (pairs_of c.args.context.now) (budget_view c.args.budget) (config_view c.hurry.new.state) r).few
+    let s = (reached_sound c.code_laws.ensures k c.requires.whole c.requires.typed (pairs_of c.args.context.now) (budget_view c.args.budget) (config_view c.hurry.new.state) r) in
+    record { sized = s.sized; few = s.few }
 
 pub step-requires-clause-depth : goal.step-requires-clause-depth
 step-requires-clause-depth g c = omega (arith, c.steps.invariant.depth, c.hurry.ensures.gone.depth, ap (λ (waiting : List Caller). length waiting) c.hurry.ensures.gone.callers)

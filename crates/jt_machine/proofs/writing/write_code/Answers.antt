@@ -25,13 +25,12 @@ steps-init g c =
     }
 
 pub step-requires-clause-not_wrong : goal.step-requires-clause-not_wrong
-step-requires-clause-not_wrong g c = (sent_gone c.code_laws.ensures (g.C.Code.code c.args.code.now) c.requires.whole c.requires.typed (pairs_of c.args.context.now) (budget_view c.args.budget) (g.W.Sink.taken c.args.sink.now) (g.W.Sink.taken c.send.new.sink) c.send.new.state c.hurry.new.state (was_sent c.code_laws.ensures (g.C.Code.code c.args.code.now) c.requires.whole c.requires.typed (pairs_of c.args.context.now) (budget_view c.args.budget) (g.W.Sink.taken c.args.sink.now) (g.W.Sink.taken c.steps.sink) (g.W.Sink.taken c.send.new.sink) (config_view c.steps.state) (config_view c.send.new.state) tt c.steps.invariant.so_far c.in_ok-send.ensures.all c.in_ok-send.ensures.emptied) c.hurry.ensures.gone).sound.not_wrong
+step-requires-clause-not_wrong g c = (sent_gone c.code_laws.ensures (g.C.Code.code c.args.code.now) c.requires.whole c.requires.typed (pairs_of c.args.context.now) (budget_view c.args.budget) (g.W.Sink.taken c.args.sink.now) (g.W.Sink.taken c.send.new.sink) c.send.new.state c.hurry.new.state (was_sent c.code_laws.ensures (g.C.Code.code c.args.code.now) c.requires.whole c.requires.typed (pairs_of c.args.context.now) (budget_view c.args.budget) (g.W.Sink.taken c.args.sink.now) (g.W.Sink.taken c.steps.sink) (g.W.Sink.taken c.send.new.sink) (config_view c.steps.state) (config_view c.send.new.state) tt c.steps.invariant.so_far c.in_ok-send.ensures.put c.in_ok-send.ensures.emptied) c.hurry.ensures.gone).sound.not_wrong
 
-pub step-requires-clause-sized : goal.step-requires-clause-sized
-step-requires-clause-sized g c = (sent_gone c.code_laws.ensures (g.C.Code.code c.args.code.now) c.requires.whole c.requires.typed (pairs_of c.args.context.now) (budget_view c.args.budget) (g.W.Sink.taken c.args.sink.now) (g.W.Sink.taken c.send.new.sink) c.send.new.state c.hurry.new.state (was_sent c.code_laws.ensures (g.C.Code.code c.args.code.now) c.requires.whole c.requires.typed (pairs_of c.args.context.now) (budget_view c.args.budget) (g.W.Sink.taken c.args.sink.now) (g.W.Sink.taken c.steps.sink) (g.W.Sink.taken c.send.new.sink) (config_view c.steps.state) (config_view c.send.new.state) tt c.steps.invariant.so_far c.in_ok-send.ensures.all c.in_ok-send.ensures.emptied) c.hurry.ensures.gone).sound.sized
-
-pub step-requires-clause-few : goal.step-requires-clause-few
-step-requires-clause-few g c = (sent_gone c.code_laws.ensures (g.C.Code.code c.args.code.now) c.requires.whole c.requires.typed (pairs_of c.args.context.now) (budget_view c.args.budget) (g.W.Sink.taken c.args.sink.now) (g.W.Sink.taken c.send.new.sink) c.send.new.state c.hurry.new.state (was_sent c.code_laws.ensures (g.C.Code.code c.args.code.now) c.requires.whole c.requires.typed (pairs_of c.args.context.now) (budget_view c.args.budget) (g.W.Sink.taken c.args.sink.now) (g.W.Sink.taken c.steps.sink) (g.W.Sink.taken c.send.new.sink) (config_view c.steps.state) (config_view c.send.new.state) tt c.steps.invariant.so_far c.in_ok-send.ensures.all c.in_ok-send.ensures.emptied) c.hurry.ensures.gone).sound.few
+pub step-requires-clause-bounded : goal.step-requires-clause-bounded
+step-requires-clause-bounded g c =
+    let s = (sent_gone c.code_laws.ensures (g.C.Code.code c.args.code.now) c.requires.whole c.requires.typed (pairs_of c.args.context.now) (budget_view c.args.budget) (g.W.Sink.taken c.args.sink.now) (g.W.Sink.taken c.send.new.sink) c.send.new.state c.hurry.new.state (was_sent c.code_laws.ensures (g.C.Code.code c.args.code.now) c.requires.whole c.requires.typed (pairs_of c.args.context.now) (budget_view c.args.budget) (g.W.Sink.taken c.args.sink.now) (g.W.Sink.taken c.steps.sink) (g.W.Sink.taken c.send.new.sink) (config_view c.steps.state) (config_view c.send.new.state) tt c.steps.invariant.so_far c.in_ok-send.ensures.put c.in_ok-send.ensures.emptied) c.hurry.ensures.gone) in
+    record { sized = s.sound.sized; few = s.sound.few }
 
 pub step-requires-clause-depth : goal.step-requires-clause-depth
 step-requires-clause-depth g c = omega (arith, c.steps.invariant.depth, ap (λ (y : Config). y.left.depth) c.in_ok-send.ensures.emptied, ap (λ (y : Config). length y.machine.callers) c.in_ok-send.ensures.emptied, c.hurry.ensures.gone.depth, ap (λ (waiting : List Caller). length waiting) c.hurry.ensures.gone.callers)
@@ -41,11 +40,11 @@ steps-preserved g c =
     let k = g.C.Code.code c.args.code.now in
     let x = pairs_of c.args.context.now in
     let b = budget_view c.args.budget in
-    let s = sent_gone c.code_laws.ensures k c.requires.whole c.requires.typed x b (g.W.Sink.taken c.args.sink.now) (g.W.Sink.taken c.send.new.sink) c.send.new.state c.hurry.new.state (was_sent c.code_laws.ensures k c.requires.whole c.requires.typed x b (g.W.Sink.taken c.args.sink.now) (g.W.Sink.taken c.steps.sink) (g.W.Sink.taken c.send.new.sink) (config_view c.steps.state) (config_view c.send.new.state) tt c.steps.invariant.so_far c.in_ok-send.ensures.all c.in_ok-send.ensures.emptied) c.hurry.ensures.gone in
+    let s = sent_gone c.code_laws.ensures k c.requires.whole c.requires.typed x b (g.W.Sink.taken c.args.sink.now) (g.W.Sink.taken c.send.new.sink) c.send.new.state c.hurry.new.state (was_sent c.code_laws.ensures k c.requires.whole c.requires.typed x b (g.W.Sink.taken c.args.sink.now) (g.W.Sink.taken c.steps.sink) (g.W.Sink.taken c.send.new.sink) (config_view c.steps.state) (config_view c.send.new.state) tt c.steps.invariant.so_far c.in_ok-send.ensures.put c.in_ok-send.ensures.emptied) c.hurry.ensures.gone in
     let e : next k (config_view c.hurry.new.state) ≡ Goes (config_view c.step.new.state) = c.in_ok-outcome.ensures.next ∙ rw c.in_default-2.is refl in
     record {
       so_far = went_on k x b (g.W.Sink.taken c.args.sink.now) (g.W.Sink.taken c.send.new.sink) (config_view c.hurry.new.state) (config_view c.step.new.state) tt s.so_far e;
-      works = c.in_ok-send.ensures.works;
+      works = c.in_ok-send.ensures.fails;
       depth = omega (arith, c.steps.invariant.depth, ap (λ (y : Config). y.left.depth) c.in_ok-send.ensures.emptied, ap (λ (y : Config). length y.machine.callers) c.in_ok-send.ensures.emptied, c.hurry.ensures.gone.depth, ap (λ (waiting : List Caller). length waiting) c.hurry.ensures.gone.callers, s.sound.depth (config_view c.step.new.state) e);
       made = c.in_ok-outcome.ensures.made;
     }
@@ -55,7 +54,7 @@ steps-smaller g c =
     let k = g.C.Code.code c.args.code.now in
     let x = pairs_of c.args.context.now in
     let b = budget_view c.args.budget in
-    let s = sent_gone c.code_laws.ensures k c.requires.whole c.requires.typed x b (g.W.Sink.taken c.args.sink.now) (g.W.Sink.taken c.send.new.sink) c.send.new.state c.hurry.new.state (was_sent c.code_laws.ensures k c.requires.whole c.requires.typed x b (g.W.Sink.taken c.args.sink.now) (g.W.Sink.taken c.steps.sink) (g.W.Sink.taken c.send.new.sink) (config_view c.steps.state) (config_view c.send.new.state) tt c.steps.invariant.so_far c.in_ok-send.ensures.all c.in_ok-send.ensures.emptied) c.hurry.ensures.gone in
+    let s = sent_gone c.code_laws.ensures k c.requires.whole c.requires.typed x b (g.W.Sink.taken c.args.sink.now) (g.W.Sink.taken c.send.new.sink) c.send.new.state c.hurry.new.state (was_sent c.code_laws.ensures k c.requires.whole c.requires.typed x b (g.W.Sink.taken c.args.sink.now) (g.W.Sink.taken c.steps.sink) (g.W.Sink.taken c.send.new.sink) (config_view c.steps.state) (config_view c.send.new.state) tt c.steps.invariant.so_far c.in_ok-send.ensures.put c.in_ok-send.ensures.emptied) c.hurry.ensures.gone in
     let e : next k (config_view c.hurry.new.state) ≡ Goes (config_view c.step.new.state) = c.in_ok-outcome.ensures.next ∙ rw c.in_default-2.is refl in
     omega (arith, s.sound.takes (config_view c.step.new.state) e, ap (λ (y : Config). y.left.fuel) c.in_ok-send.ensures.emptied, c.hurry.ensures.gone.fuel)
 
@@ -76,7 +75,7 @@ returns-in_err-send-clause-begun g c =
     let b = budget_view c.args.budget in
     let n : passed b x k.names ≡ None = sym c.in_default.ensures in
     let safe = (c.code_laws.ensures.runs k c.requires.whole c.requires.typed).safe x b in
-    let t = c.in_err-send.ensures.front in
+    let t = c.in_err-send.ensures.put in
     on_err c.from_residual-in_err-send.result (cut_short k x b (g.W.Sink.taken c.args.sink.now) (g.W.Sink.taken c.steps.sink) (g.W.Sink.taken c.send.new.sink) (config_view c.steps.state) t.1.front t.0 n safe tt c.steps.invariant.so_far t.1.parts t.1.taken)
 
 pub returns-in_err-outcome-clause-begun : goal.returns-in_err-outcome-clause-begun
@@ -88,7 +87,7 @@ returns-in_err-outcome-clause-begun g c =
     let safe = (c.code_laws.ensures.runs k c.requires.whole c.requires.typed).safe x b in
     let mid = g.W.Sink.taken c.send.new.sink in
     let d = config_view c.hurry.new.state in
-    let s = sent_gone c.code_laws.ensures k c.requires.whole c.requires.typed x b (g.W.Sink.taken c.args.sink.now) mid c.send.new.state c.hurry.new.state (was_sent c.code_laws.ensures k c.requires.whole c.requires.typed x b (g.W.Sink.taken c.args.sink.now) (g.W.Sink.taken c.steps.sink) mid (config_view c.steps.state) (config_view c.send.new.state) tt c.steps.invariant.so_far c.in_ok-send.ensures.all c.in_ok-send.ensures.emptied) c.hurry.ensures.gone in
+    let s = sent_gone c.code_laws.ensures k c.requires.whole c.requires.typed x b (g.W.Sink.taken c.args.sink.now) mid c.send.new.state c.hurry.new.state (was_sent c.code_laws.ensures k c.requires.whole c.requires.typed x b (g.W.Sink.taken c.args.sink.now) (g.W.Sink.taken c.steps.sink) mid (config_view c.steps.state) (config_view c.send.new.state) tt c.steps.invariant.so_far c.in_ok-send.ensures.put c.in_ok-send.ensures.emptied) c.hurry.ensures.gone in
     on_err c.from_residual-in_err-outcome.result (cut_short k x b (g.W.Sink.taken c.args.sink.now) mid mid d [] (emitted_by d) n safe tt s.so_far refl (Appends-nil mid))
 
 pub returns-in_err-close-clause-begun : goal.returns-in_err-close-clause-begun
@@ -101,9 +100,9 @@ returns-in_err-close-clause-begun g c =
     let mid = g.W.Sink.taken c.send.new.sink in
     let d = config_view c.hurry.new.state in
     let o = outcome_view c.in-Some-2.outcome in
-    let s = sent_gone c.code_laws.ensures k c.requires.whole c.requires.typed x b (g.W.Sink.taken c.args.sink.now) mid c.send.new.state c.hurry.new.state (was_sent c.code_laws.ensures k c.requires.whole c.requires.typed x b (g.W.Sink.taken c.args.sink.now) (g.W.Sink.taken c.steps.sink) mid (config_view c.steps.state) (config_view c.send.new.state) tt c.steps.invariant.so_far c.in_ok-send.ensures.all c.in_ok-send.ensures.emptied) c.hurry.ensures.gone in
+    let s = sent_gone c.code_laws.ensures k c.requires.whole c.requires.typed x b (g.W.Sink.taken c.args.sink.now) mid c.send.new.state c.hurry.new.state (was_sent c.code_laws.ensures k c.requires.whole c.requires.typed x b (g.W.Sink.taken c.args.sink.now) (g.W.Sink.taken c.steps.sink) mid (config_view c.steps.state) (config_view c.send.new.state) tt c.steps.invariant.so_far c.in_ok-send.ensures.put c.in_ok-send.ensures.emptied) c.hurry.ensures.gone in
     let e : next k d ≡ Ends o = c.in_ok-outcome.ensures.next ∙ rw c.in-Some-2.is refl in
-    let t = c.in_err-close.ensures.front in
+    let t = c.in_err-close.ensures.put in
     on_err c.from_residual-in_err-close.result (cut_short k x b (g.W.Sink.taken c.args.sink.now) mid (g.W.Sink.taken c.close.new.sink) d t.1.front t.0 n safe tt s.so_far (text_is k d o tt e s.empty ∙ t.1.parts) t.1.taken)
 
 pub returns-in-Some-2-clause-ended : goal.returns-in-Some-2-clause-ended
@@ -115,9 +114,9 @@ returns-in-Some-2-clause-ended g c =
     let mid = g.W.Sink.taken c.send.new.sink in
     let d = config_view c.hurry.new.state in
     let o = outcome_view c.in-Some-2.outcome in
-    let s = sent_gone c.code_laws.ensures k c.requires.whole c.requires.typed x b (g.W.Sink.taken c.args.sink.now) mid c.send.new.state c.hurry.new.state (was_sent c.code_laws.ensures k c.requires.whole c.requires.typed x b (g.W.Sink.taken c.args.sink.now) (g.W.Sink.taken c.steps.sink) mid (config_view c.steps.state) (config_view c.send.new.state) tt c.steps.invariant.so_far c.in_ok-send.ensures.all c.in_ok-send.ensures.emptied) c.hurry.ensures.gone in
+    let s = sent_gone c.code_laws.ensures k c.requires.whole c.requires.typed x b (g.W.Sink.taken c.args.sink.now) mid c.send.new.state c.hurry.new.state (was_sent c.code_laws.ensures k c.requires.whole c.requires.typed x b (g.W.Sink.taken c.args.sink.now) (g.W.Sink.taken c.steps.sink) mid (config_view c.steps.state) (config_view c.send.new.state) tt c.steps.invariant.so_far c.in_ok-send.ensures.put c.in_ok-send.ensures.emptied) c.hurry.ensures.gone in
     let e : next k d ≡ Ends o = c.in_ok-outcome.ensures.next ∙ rw c.in-Some-2.is refl in
-    whole_run k x b (g.W.Sink.taken c.args.sink.now) mid (g.W.Sink.taken c.close.new.sink) d o c.in_ok-close.field-0 n tt s.so_far s.empty e c.in_ok-close.ensures.ended c.in_ok-close.ensures.all
+    whole_run k x b (g.W.Sink.taken c.args.sink.now) mid (g.W.Sink.taken c.close.new.sink) d o c.in_ok-close.field-0 n tt s.so_far s.empty e c.in_ok-close.ensures.ended c.in_ok-close.ensures.put
 
 pub returns-in_err-state-clause-wanted : goal.returns-in_err-state-clause-wanted
 returns-in_err-state-clause-wanted g c = if_err_given c.from_residual.result _ _ (sym c.in_default.ensures, inl c.in_err-state.ensures.memory)
@@ -127,5 +126,5 @@ returns-in_err-outcome-clause-wanted g c =
     let k = g.C.Code.code c.args.code.now in
     let x = pairs_of c.args.context.now in
     let b = budget_view c.args.budget in
-    let s = sent_gone c.code_laws.ensures k c.requires.whole c.requires.typed x b (g.W.Sink.taken c.args.sink.now) (g.W.Sink.taken c.send.new.sink) c.send.new.state c.hurry.new.state (was_sent c.code_laws.ensures k c.requires.whole c.requires.typed x b (g.W.Sink.taken c.args.sink.now) (g.W.Sink.taken c.steps.sink) (g.W.Sink.taken c.send.new.sink) (config_view c.steps.state) (config_view c.send.new.state) tt c.steps.invariant.so_far c.in_ok-send.ensures.all c.in_ok-send.ensures.emptied) c.hurry.ensures.gone in
+    let s = sent_gone c.code_laws.ensures k c.requires.whole c.requires.typed x b (g.W.Sink.taken c.args.sink.now) (g.W.Sink.taken c.send.new.sink) c.send.new.state c.hurry.new.state (was_sent c.code_laws.ensures k c.requires.whole c.requires.typed x b (g.W.Sink.taken c.args.sink.now) (g.W.Sink.taken c.steps.sink) (g.W.Sink.taken c.send.new.sink) (config_view c.steps.state) (config_view c.send.new.state) tt c.steps.invariant.so_far c.in_ok-send.ensures.put c.in_ok-send.ensures.emptied) c.hurry.ensures.gone in
     if_err_given c.from_residual-in_err-outcome.result _ _ (sym c.in_default.ensures, inr (so_far_grows k x b (g.W.Sink.taken c.args.sink.now) (g.W.Sink.taken c.send.new.sink) (config_view c.hurry.new.state) tt s.so_far c.in_err-outcome.ensures.memory))

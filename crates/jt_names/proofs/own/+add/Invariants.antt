@@ -20,7 +20,7 @@ abbrev pub decreases-then_statements : goal.decreases-then_statements
 decreases-then_statements l = 3 * most (λ x. size-Stmt x) l.body.now + 2
 
 abbrev pub decreases-add_branches : goal.decreases-add_branches
-decreases-add_branches l = 3 * most (λ (b : Branch). most (λ x. size-Stmt x) b.2.items) l.branches.now + 2
+decreases-add_branches l = 3 * most (λ (b : Branch). most (λ x. size-Stmt x) b.body.items) l.branches.now + 2
 
 -- ---- what is left
 

@@ -4,7 +4,8 @@ use Rattle.std.proofs.lemmas.Result.{err_from_is_err_and}
 use Rattle.jt_parse.specs.Names.{branch_unknown}
 use Rattle.jt_trees.specs.StatementView.{branches_view}
 use Rattle.jt_parse.specs.Gives.{GivesNames}
-use Rattle.jt_parse.proofs.Checking.{Branch, condition_refused, inside_refused, branches_refused, other_checked}
+use Rattle.jt_parse.proofs.Checking.{condition_refused, inside_refused, branches_refused, other_checked}
+use Rattle.jt_trees.proofs.Left.{Branch}
 use Rattle.jt_parse.proofs.names.+names.Goals as goal
 
 pub check_statement-returns-in_err-check_expression-in-If : goal.check_statement-returns-in_err-check_expression-in-If

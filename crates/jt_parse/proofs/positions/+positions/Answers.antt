@@ -16,7 +16,7 @@ statement_placed-returns-in_err-body_placed-in-If t c =
     let q = spec.within p in
     let l = c.loop-body in
     let b = c.loop-body-item.result in
-    let bad : spec.body_placed q (body_view b.2.items) ≡ false = ap (λ z. spec.body_placed z (body_view b.2.items)) (sym c.within.ensures) ∙ sym c.in_err-body_placed-in-If.ensures in
+    let bad : spec.body_placed q (body_view b.body.items) ≡ false = ap (λ z. spec.body_placed z (body_view b.body.items)) (sym c.within.ensures) ∙ sym c.in_err-body_placed-in-If.ensures in
     ap is_ok e ∙ sym (if_misplaced p c.args.statement.now c.in-If.branches c.in-If.other c.in-If.is
     (ap (λ (z : List Branch). spec.branches_placed q (branches_view z)) (sym c.deref-body-items.ensures.value)
     ∙ l.invariant

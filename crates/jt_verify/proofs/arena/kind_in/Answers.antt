@@ -3,7 +3,7 @@ use Rattle.jt_verify.specs.Arena.{lists_of}
 use Rattle.jt_verify.proofs.Values.{value_at}
 use Rattle.jt_verify.proofs.Nodes.{node_is, kind_at_mark, kind_under_mark, kind_at_bottom, way_is, kind_far_under}
 use Rattle.jt_verify.proofs.arena.kind_in.Goals as goal
-use Rattle.jt_verify.proofs.arena.kind_in.Goals.{then-marks-test+else-rest-ne0, else-marks-test}
+use Rattle.jt_verify.proofs.arena.kind_in.Goals.{then-marks-test+else-rest-ne0}
 
 pub returns-then-under-eq0 : goal.returns-then-under-eq0
 returns-then-under-eq0 c = rw c.kind.ensures (sym (kind_at_mark c.requires.arena.1 c.marks.rest c.node_at-node.result c.marks.left (omega (arith, c.if-rest-ne0.true)) c.node_at-node.ensures (omega (arith, c.marks-test.true, c.if-under-eq0.true))) ∙ c.marks.invariant.same)

@@ -38,10 +38,10 @@ returns-in_ok-node-in-Vacant-clause-arena c =
     let f = vacant_pushed ns c.as_slice.result.now ls c.as_slice-2.result.now c.args.mark c.args.shape c.digits.result c.in-Vacant.place c.as_slice.ensures c.as_slice-2.ensures c.digits.ensures c.in-Vacant.ensures in
     let jump = c.jump_on-jump.result in
     let way = subst (λ (xs : List Node). (jump.to ≤ c.args.shape.node) × IsUnder (lists_of xs) jump.to (get_or (lists_of xs) c.args.shape.node [])) c.as_slice-in-Vacant.ensures (c.jump_on-jump.ensures.older, c.jump_on-jump.ensures.under) in
-    rw (c.in_ok-node-in-Vacant.ensures.nodes, c.in_ok-node-in-Vacant.ensures.links) (pushed ns ls c.requires.arena c.in-Vacant.place c.in_ok-node-in-Vacant.node f.0 f.1 c.args.mark c.args.shape c.args.height jump (omega (arith, c.in_ok-node-in-Vacant.ensures.node)) c.requires.within c.requires.height way f)
+    rw (c.in_ok-node-in-Vacant.ensures.ok.nodes, c.in_ok-node-in-Vacant.ensures.ok.links) (pushed ns ls c.requires.arena c.in-Vacant.place c.in_ok-node-in-Vacant.node f.0 f.1 c.args.mark c.args.shape c.args.height jump (omega (arith, c.in_ok-node-in-Vacant.ensures.ok.node)) c.requires.within c.requires.height way f)
 
 pub returns-in_ok-node-in-Vacant-clause-kept : goal.returns-in_ok-node-in-Vacant-clause-kept
-returns-in_ok-node-in-Vacant-clause-kept c = rw c.in_ok-node-in-Vacant.ensures.nodes (kept_pushed c.args.nodes.now.items (record { mark = c.args.mark; below = c.args.shape; height = c.args.height; jump = c.jump_on-jump.result }) c.requires.arena.len)
+returns-in_ok-node-in-Vacant-clause-kept c = rw c.in_ok-node-in-Vacant.ensures.ok.nodes (kept_pushed c.args.nodes.now.items (record { mark = c.args.mark; below = c.args.shape; height = c.args.height; jump = c.jump_on-jump.result }) c.requires.arena.len)
 
 pub returns-in_ok-node-in-Vacant-clause-node : goal.returns-in_ok-node-in-Vacant-clause-node
-returns-in_ok-node-in-Vacant-clause-node c = rw c.in_ok-node-in-Vacant.ensures.nodes (shape_pushed c.args.nodes.now.items (record { mark = c.args.mark; below = c.args.shape; height = c.args.height; jump = c.jump_on-jump.result }) c.requires.arena.len c.in_ok-node-in-Vacant.node (omega (arith, c.in_ok-node-in-Vacant.ensures.node)))
+returns-in_ok-node-in-Vacant-clause-node c = rw c.in_ok-node-in-Vacant.ensures.ok.nodes (shape_pushed c.args.nodes.now.items (record { mark = c.args.mark; below = c.args.shape; height = c.args.height; jump = c.jump_on-jump.result }) c.requires.arena.len c.in_ok-node-in-Vacant.node (omega (arith, c.in_ok-node-in-Vacant.ensures.ok.node)))

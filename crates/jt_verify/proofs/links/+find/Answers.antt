@@ -12,7 +12,7 @@ find-requires t c =
     (omega (arith, c.decreases, up.0, up.1, digit, c.requires.place, c.requires.links.places), (c.requires.links, omega (arith, up.1, digit)))
 
 pub returns-then-next-eq0 : goal.returns-then-next-eq0
-returns-then-next-eq0 t c = vacant_here c.args.nodes.now c.args.links.now c.args.mark c.args.below c.args.place c.args.digits (sym c.link_at-next.ensures ∙ c.if-next-eq0.true) c.requires.place
+returns-then-next-eq0 t c = vacant_here c.args.nodes.now c.args.links.now c.args.wanted.mark c.args.wanted.below c.args.place c.args.digits (sym c.link_at-next.ensures ∙ c.if-next-eq0.true) c.requires.place
 
 pub returns-then-is_entry : goal.returns-then-is_entry
 returns-then-is_entry t c = search (arith, rules, found_here)

@@ -41,10 +41,10 @@ returns-in_err-after-clause-err g c =
 pub returns-clause-ok : goal.returns-clause-ok
 returns-clause-ok g c =
     let new = rw (c.if-is_known.false, c.deref.ensures.value) at c.in_ok-is_known.ensures in
-    let within = subst (λ (h : UnitHeader). AreWithin h.instructions c.in_ok-after.after.leads) c.requires.unit.header c.in_ok-after.ensures.within in
-    rw c.in_ok-send.ensures (works_stepped c.args.work.now.paths.items c.args.path c.requires.works c.in_ok-after.ensures.kept c.in_ok-after.after.leads c.in_ok-after.after.shape c.in_ok-after.ensures.shape new.1 new.0 c.in_ok-after.ensures.steps within)
+    let within = subst (λ (h : UnitHeader). AreWithin h.instructions c.in_ok-after.after.leads) c.requires.unit.header c.in_ok-after.ensures.behind.within in
+    rw c.in_ok-send.ensures (works_stepped c.args.work.now.paths.items c.args.path c.requires.works c.in_ok-after.ensures.kept c.in_ok-after.after.leads c.in_ok-after.after.shape c.in_ok-after.ensures.behind.shape new.1 new.0 c.in_ok-after.ensures.steps within)
 
 pub returns-clause-less : goal.returns-clause-less
 returns-clause-less g c =
     let new = rw (c.if-is_known.false, c.deref.ensures.value) at c.in_ok-is_known.ensures in
-    rw c.in_ok-send.ensures (less_stepped c.args.work.now.paths.items c.args.path c.requires.works c.in_ok-after.ensures.kept c.in_ok-after.after.leads c.in_ok-after.after.shape c.in_ok-after.ensures.shape new.1)
+    rw c.in_ok-send.ensures (less_stepped c.args.work.now.paths.items c.args.path c.requires.works c.in_ok-after.ensures.kept c.in_ok-after.after.leads c.in_ok-after.after.shape c.in_ok-after.ensures.behind.shape new.1)

@@ -1,4 +1,4 @@
-use Rattle.std.proofs.Common.{List, None, sym, ap, ◌∙◌, arith}
+use Rattle.std.proofs.Common.{List, None, sym, ap, ◌∙◌, arith, rules}
 use Rattle.std.proofs.lemmas.List.{at_drop_all}
 use denote.Ref.{Bor}
 use Rattle.jt_trees.specs.Expressions.{Text}
@@ -18,7 +18,4 @@ invariant_of-result c =
     }
 
 pub loop-name-preserved : goal.loop-name-preserved
-loop-name-preserved c = λ x.
-    let l = c.loop-name in
-    placed_next c.deref-name-items.result.now l.name-index _ x l.local c.in_ok-local.local (place_in l.index.places x) (place_in c.put.new.self.places x) c.loop-name-test.true c.in_ok-local.ensures (c.in_ok-put.ensures x)
-    ∙ l.invariant x
+loop-name-preserved c = search (arith, rules, placed_next)

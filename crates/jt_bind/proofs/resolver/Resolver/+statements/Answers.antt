@@ -117,7 +117,7 @@ resolve_statement-loop-line-preserved t c = λ other.
     let T = templates_in scope in
     let rest = choice_in scope (branches_view (drop (l.line-index + 1) bs)) spot other in
     let here = choice_other T _ _ _ _ _ _ (ap (λ b. choice_in scope b spot other) (branches_left bs l.line-index x c.loop-line-test.true c.loop-line-item.is)) (l.invariant other) in
-    branch_led T _ rest (body_in scope (body_view x.2.items) spot) (line_in scope spot x.0) (expr_in scope (expr_view x.1) spot) _ _ _ _ _ _ here
+    branch_led T _ rest (body_in scope (body_view x.body.items) spot) (line_in scope spot x.line) (expr_in scope (expr_view x.condition) spot) _ _ _ _ _ _ here
     (branch_as T _ _ _ _ _ _ _ (ap (λ z. body_in scope (body_view z) spot) c.deref-in-loop-line.ensures.value) c.in_ok-resolve_branch-in-If.ensures) c.in_ok-push-in-If.ensures.items
 
 pub resolve_statement-returns-in_ok-last-in-If : goal.resolve_statement-returns-in_ok-last-in-If

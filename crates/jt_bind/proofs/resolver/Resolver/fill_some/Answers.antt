@@ -1,4 +1,4 @@
-use Rattle.std.proofs.Common.{◌≡◌, ◌+◌, ◌-◌, length, take, length-drop, List, ◌∷◌, drop, sym, ap, ◌∙◌, arith, true, false}
+use Rattle.std.proofs.Common.{◌≡◌, ◌+◌, ◌-◌, length, take, length-drop, List, ◌∷◌, drop, sym, ap, ◌∙◌, arith, true, false, rules}
 use Rattle.std.proofs.lemmas.List.{at_drop_all, take_all}
 use Rattle.jt_trees.specs.ExpressionView.{pairs_view}
 use Rattle.jt_chains.specs.Uses.{keywords}
@@ -24,16 +24,7 @@ returns c =
     (of_left _ _ _ _ _ _ _ (at_drop_all (λ (z : List Parameter). filled_some (parameters_view z) 0 xs ks) qs l.place (omega arith)) l.invariant)
 
 pub returns-then-not-is_some_given : goal.returns-then-not-is_some_given
-returns-then-not-is_some_given c =
-    let l = c.loop-place in
-    let ps = c.args.parameters.now in
-    let qs = c.behind-rest.result.now in
-    let xs = keywords (pairs_view c.args.arguments.pairs.now) in
-    let ks = locals_from c.args.self.now.spot.free xs in
-    let whole : take (length qs - l.place) (drop l.place qs) ≡ drop l.place qs = take_all (length qs - l.place) (drop l.place qs) (omega (arith, length-drop l.place qs)) in
-    let none : some_given (parameters_view (drop l.place qs)) xs ≡ false = sym (ap (λ (z : List Parameter). some_given (parameters_view z) xs) whole) ∙ sym c.is_some_given.ensures ∙ c.if-not-is_some_given.true in
-    of_whole _ _ _ _ _ _ _ (sym (filled_some_behind (parameters_view ps) (length c.args.arguments.row.now) xs ks ∙ ap (λ z. filled_some z 0 xs ks) (parameters_behind ps qs (length c.args.arguments.row.now) c.behind-rest.ensures)))
-    (of_left _ _ _ _ _ _ _ (none_filled (parameters_view (drop l.place qs)) xs ks none) l.invariant)
+returns-then-not-is_some_given c = search (arith, rules, take_all, length-drop, of_whole, filled_some_behind, parameters_behind, of_left, none_filled)
 
 pub loop-place-preserved : goal.loop-place-preserved
 loop-place-preserved c =

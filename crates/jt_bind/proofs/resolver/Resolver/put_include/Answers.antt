@@ -1,4 +1,4 @@
-use Rattle.std.proofs.Common.{◌≡◌, refl, ℕ, [], sym, ap, ◌∙◌, subst, true, false, Option}
+use Rattle.std.proofs.Common.{◌≡◌, refl, ℕ, [], sym, ap, ◌∙◌, subst, true, false, Option, arith, rules}
 use Rattle.std.specs.Option.{is_none}
 use Rattle.std.proofs.lemmas.Result.{IfOk-weaker}
 use Rattle.jt_resolved.specs.Slots as slots
@@ -26,9 +26,7 @@ returns-in_default c =
     (h T slots.none p p (no_row _ c.new.ensures.items p))) c.put_run.ensures
 
 pub at-there-requires : goal.at-there-requires
-at-there-requires c =
-    let P : Option ℕ → Type 0 = IsHomeAt (order_in c.args.self.now.tables.now) (a_chain c.args.inclusion.name.now) in
-    (subst P c.in-Some.is c.chain_place.ensures).0
+at-there-requires c = search (arith, rules)
 
 pub returns : goal.returns
 returns c =

@@ -1,7 +1,6 @@
-use Rattle.std.proofs.Common.{◌≡◌, ℕ, List, map, take, sym, ap, ◌∙◌, subst, Option, Some, None}
+use Rattle.std.proofs.Common.{◌≡◌, ℕ, List, map, take, sym, ap, ◌∙◌, subst, Option, None, arith, rules}
 use Rattle.std.specs.Prelude.{option_map}
 use Rattle.std.proofs.lemmas.List.{take_at, take-map}
-use Rattle.std.proofs.lemmas.Result.{IfOk-weaker}
 use Rattle.jt_value.specs.Tree.{Tree}
 use Rattle.jt_value.specs.View.{view}
 use Rattle.jt_trees.specs.Expressions as trees
@@ -35,18 +34,4 @@ returns-in_default c = λ k p n h.
     subst P (sym named) (subst Q cut (c.absent.ensures p))
 
 pub returns : goal.returns
-returns c =
-    let s = c.args.self.now.tables.now in
-    let spot = c.args.self.now.spot in
-    let f = filtering_view c.args.filtering.now in
-    let row : exprs_view c.as_slice-row.result.now ≡ f.arguments = ap exprs_view c.as_slice-row.ensures.value in
-    let pairs : pairs_view c.as_slice-pairs.result.now ≡ f.keywords = ap pairs_view c.as_slice-pairs.ensures.value in
-    let written = written_as c.as_str.ensures.value row pairs in
-    let named : (world_in s).filters.named f.name f.arguments f.keywords ≡ Some (filter_id c.in-Some.filter) =
-    named_is f.name f.arguments f.keywords ∙ ap (option_map filter_id) (sym written ∙ sym c.filter_of.ensures ∙ c.in-Some.is) in
-    IfOk-weaker c.resolve_filtered.result _ _ (λ e h k p n g.
-    let r = values c.resolve_filtered.new.pool in
-    let O : Option ℕ → Type 0 = λ o. IsPlaced (filtered_in s o k f.arguments f.keywords spot) (expr_view e) p r in
-    let R : trees.Exprs → Type 0 = λ ts. IsPlaced (filtered_in s (Some (filter_id c.in-Some.filter)) k ts f.keywords spot) (expr_view e) p r in
-    let S : trees.Pairs → Type 0 = λ ps. IsPlaced (filtered_in s (Some (filter_id c.in-Some.filter)) k (exprs_view c.as_slice-row.result.now) ps spot) (expr_view e) p r in
-    subst O (sym named) (subst R row (subst S pairs (h k p g)))) c.resolve_filtered.ensures
+returns c = search (arith, rules, written_as, named_is)

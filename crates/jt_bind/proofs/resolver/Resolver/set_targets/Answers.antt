@@ -1,10 +1,9 @@
-use Rattle.std.proofs.Common.{◌≡◌, Global, String, List, [], ◌∷◌, length, refl, ap, ◌∙◌, arith}
+use Rattle.std.proofs.Common.{◌≡◌, Global, String, List, [], ◌∷◌, length, refl, ◌∙◌, arith, rules}
 use Rattle.jt_trees.specs.StatementView.{names_view}
 use Rattle.jt_meaning.specs.Layout.{Table}
 use Rattle.jt_meaning.specs.Resolve.{kept_slots, set_targets}
 use Rattle.jt_resolved.specs.Slots.{several}
-use Rattle.jt_bind.specs.Scoped.{spot_in}
-use Rattle.jt_bind.proofs.resolver.Resolver.set_targets.Goals.{then-names-lt1, else-names-lt1+else-names-lt2}
+use Rattle.jt_bind.proofs.resolver.Resolver.set_targets.Goals.{else-names-lt1+else-names-lt2}
 use Rattle.jt_bind.proofs.resolver.Resolver.set_targets.Goals as goal
 
 -- where not one name is set alone, each takes an item
@@ -14,6 +13,4 @@ several_take t (k ∷ []) n = absurd (n refl)
 several_take t (k ∷ l ∷ ks) n = refl
 
 pub returns : goal.returns
-returns c =
-    ap several c.in_ok-kept_slots.ensures
-    ∙ several_take (spot_in c.args.self.now.tables.now c.args.self.now.spot).table c.args.names.now (λ e. elim c.if-names-lt1.branch [ then-names-lt1 w ↦ grind arith | else-names-lt1+else-names-lt2 w ↦ grind arith ])
+returns c = search (arith, rules, several_take)

@@ -119,4 +119,4 @@ returns c = λ p.
     let P : Option Part → Type 0 = λ o. IsPlaced (invoked_super world order sp o) (expr_view (e.Invoke u escaping row)) p p in
     let Q : slots.SlotExpr Constant → Type 0 = λ z. IsPlaced z (expr_view (e.Invoke u escaping row)) p p in
     subst P (sym (ap (part_at (numbered_bodies world h)) c.in-Some.is ∙ ap part_from left))
-    (subst Q (body_called world order h escaping (next_given behind) u es unit) (invoked_placed u escaping es row.items _ p p (c.in_ok-row.ensures xs p n) (view_Invoke u escaping row)))
+    (subst Q (body_called world order h escaping (next_given behind) u es unit) (invoked_placed u escaping es row.items _ p p (c.in_ok-row.ensures xs n p) (view_Invoke u escaping row)))

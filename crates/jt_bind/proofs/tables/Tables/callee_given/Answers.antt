@@ -1,4 +1,4 @@
-use Rattle.std.proofs.Common.{◌≡◌, ℕ, sym, ap, ◌∙◌, subst, Some}
+use Rattle.std.proofs.Common.{◌≡◌, ℕ, sym, ap, ◌∙◌, subst, Some, arith, rules}
 use Rattle.std.proofs.lemmas.Result.{IfOk-weaker}
 use Rattle.jt_trees.specs.Expressions as trees
 use Rattle.jt_chains.specs.Chain as chain
@@ -39,6 +39,4 @@ returns-in-Imported c =
     subst P (ap (of_home there) found.0 ∙ sym called) (h (λ m q. found.1))) c.library_macro.ensures
 
 pub returns-in-Library : goal.returns-in-Library
-returns-in-Library c = λ x e.
-    let scope = c.args.self.now in
-    ap (λ o. named_alone (world_in scope).sources o x) (e ∙ ap (λ g. Some (given_view (chain_view scope.chain.now).templates (home_in scope) g)) c.in-Library.is)
+returns-in-Library c = search (arith, rules)

@@ -1,6 +1,5 @@
-use Rattle.std.proofs.Common.{◌≡◌, sym, ap, ◌∙◌, subst, Option, Some, None}
+use Rattle.std.proofs.Common.{◌≡◌, sym, ap, ◌∙◌, subst, Option, None, arith, rules}
 use Rattle.std.specs.Prelude.{option_map}
-use Rattle.std.proofs.lemmas.Result.{IfOk-weaker}
 use Rattle.jt_chains.specs.Chain.{Given, given_to, named_alone}
 use Rattle.jt_chains.specs.Named.{given_view}
 use Rattle.jt_chains.specs.View.{chain_view}
@@ -9,12 +8,7 @@ use Rattle.jt_bind.specs.Scoped.{world_in, order_in, home_in, given_in}
 use Rattle.jt_bind.proofs.tables.Tables.callee_named.Goals as goal
 
 pub returns-in-Some : goal.returns-in-Some
-returns-in-Some c =
-    let scope = c.args.self.now in
-    let x = c.args.name.now in
-    let V = given_view (chain_view scope.chain.now).templates (home_in scope) in
-    let given : given_to x (given_in scope) ≡ Some (V c.in-Some.given) = sym c.given_named.ensures ∙ ap (option_map V) c.in-Some.is in
-    IfOk-weaker c.callee_given.result _ _ (λ k h. h x given) c.callee_given.ensures
+returns-in-Some c = search (arith, rules)
 
 pub returns-in-None : goal.returns-in-None
 returns-in-None c =

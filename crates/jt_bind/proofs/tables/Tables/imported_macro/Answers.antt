@@ -1,4 +1,4 @@
-use Rattle.std.proofs.Common.{◌≡◌, sym, ap, ◌∙◌, subst, Some, None}
+use Rattle.std.proofs.Common.{◌≡◌, sym, ap, ◌∙◌, subst, Some, arith, rules}
 use Rattle.std.specs.Prelude.{option_map}
 use Rattle.std.proofs.lemmas.Result.{IfOk-weaker}
 use denote.Ref.{Bor}
@@ -12,25 +12,10 @@ use Rattle.jt_bind.proofs.Imported.{called_there, member_is, no_library, private
 use Rattle.jt_bind.proofs.tables.Tables.imported_macro.Goals as goal
 
 pub returns-in_default : goal.returns-in_default
-returns-in_default c =
-    let scope = c.args.self.now in
-    let of = c.args.of.now in
-    let x = c.args.name.now in
-    let sources = (world_in scope).sources in
-    let o = given_to of (given_in scope) in
-    let none : library_of o ≡ None = sym c.library_named.ensures ∙ ap (option_map (λ (n : Bor Text). n.now)) c.in_default.is in
-    member_is sources (given_in scope) of x c.requires.not_self c.requires.not_loop ∙ no_library sources o x none
+returns-in_default c = search (arith, rules, member_is, no_library)
 
 pub returns-then-is_private : goal.returns-then-is_private
-returns-then-is_private c =
-    let scope = c.args.self.now in
-    let of = c.args.of.now in
-    let x = c.args.name.now in
-    let sources = (world_in scope).sources in
-    let o = given_to of (given_in scope) in
-    let n = c.in-Some.library.now in
-    let some : library_of o ≡ Some n = sym c.library_named.ensures ∙ ap (option_map (λ (z : Bor Text). z.now)) c.in-Some.is in
-    member_is sources (given_in scope) of x c.requires.not_self c.requires.not_loop ∙ private_is sources o x n some (sym c.is_private.ensures ∙ c.if-is_private.true)
+returns-then-is_private c = search (arith, rules, member_is, private_is)
 
 pub returns : goal.returns
 returns c =

@@ -1,4 +1,4 @@
-use Rattle.std.proofs.Common.{◌≡◌, ℕ, sym, ap, ◌∙◌, subst, Option}
+use Rattle.std.proofs.Common.{◌≡◌, ℕ, sym, ap, ◌∙◌, subst, Option, arith, rules}
 use Rattle.std.proofs.lemmas.Option.{get_or_from_slice_get}
 use Rattle.jt_trees.specs.StatementView.{parameters_view}
 use Rattle.jt_chains.specs.Parts.{macro_view}
@@ -11,14 +11,7 @@ use Rattle.jt_bind.specs.Scoped.{world_in, order_in}
 use Rattle.jt_bind.proofs.tables.Tables.macro_at.Goals as goal
 
 pub returns-in_default : goal.returns-in_default
-returns-in_default c =
-    let scope = c.args.self.now in
-    let x = c.args.name.now in
-    let h = home_at (order_in scope) c.args.home in
-    let there = c.at-there.result.now in
-    let laid = c.at-there.ensures in
-    let P : Option ℕ → Type 0 = λ o. IsCalled (world_in scope) (order_in scope) (chain_view scope.chain.now).templates h there x o in
-    ap (of_home h) (subst P (sym c.place.ensures ∙ c.in_default.is) (laid.by_names x))
+returns-in_default c = search (arith, rules)
 
 pub returns : goal.returns
 returns c =
