@@ -14,6 +14,7 @@ use crate::state::State;
 use jt_value::{NoMemory, Value};
 
 /// Goes to the instruction behind.
+#[inline(always)]
 pub(crate) fn step_on(state: &mut State) -> Option<Outcome>
     requires { state.old.point + 1 < 2 ^ 64 }
     ensures { steps_on (config_view state.old) ≡ next_view result state.new }

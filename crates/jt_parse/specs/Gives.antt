@@ -65,7 +65,7 @@ open_stmt_by before line (k.Opening o) = reading.in_opening before line (opening
 abbrev pub open_stmt_view : Open → OpenStmt
 open_stmt_view f = open_stmt_by (body_view f.before.items) f.line f.kind
 
--- the last open_stmt is the innermost
+-- the last one that is open is the innermost
 abbrev pub open_stmts_view : List Open → List OpenStmt
 open_stmts_view fs = reverse (map open_stmt_view fs)
 

@@ -74,7 +74,7 @@ pub(crate) fn push_branch(
     Ok(())
 }
 
-/// Takes the innermost open_stmt.
+/// Takes the innermost open statement.
 pub(crate) fn pop_open_stmt(open_stmts: &mut Vec<OpenStmt>) -> Option<OpenStmt>
     ensures { MatchOption result (open_stmts_view open_stmts.old.items ≡ [])
         (λ f. Opens f open_stmts.new.items open_stmts.old.items) }
@@ -82,7 +82,7 @@ pub(crate) fn pop_open_stmt(open_stmts: &mut Vec<OpenStmt>) -> Option<OpenStmt>
     open_stmts.pop()
 }
 
-/// One open_stmt more.
+/// One open statement more.
 pub(crate) fn push_open_stmt(
     open_stmts: &mut Vec<OpenStmt>,
     open_stmt: OpenStmt,
@@ -191,8 +191,8 @@ fn finished(alloc: Global, line: u32, kind: OpenKind, body: Vec<Stmt>) -> Result
     }
 }
 
-/// Ends a open_stmt, whose statements are given: they become those before it, with the one that
-/// ends behind them.
+/// Ends an open statement, whose statements are given: they become those before it, with the one
+/// that ends behind them.
 pub(crate) fn close_open_stmt(
     alloc: Global,
     open_stmt: OpenStmt,
@@ -208,7 +208,7 @@ pub(crate) fn close_open_stmt(
     push_statement(body, statement)
 }
 
-/// The line of the innermost open_stmt, if one is open.
+/// The line of the innermost open statement, if one is open.
 pub(crate) fn unclosed(open_stmts: Vec<OpenStmt>) -> Option<u32>
     ensures { MatchOption result (open_stmts_view open_stmts.items ≡ [])
         (λ l. (f : reading.OpenStmt) × (fs : List reading.OpenStmt)
@@ -250,7 +250,7 @@ fn is_end_of(opening: &Opening, word: &str) -> bool
     }
 }
 
-/// Whether the tag with this word ends the open_stmt.
+/// Whether the tag with this word ends the open statement.
 pub(crate) fn ends_open_stmt(open_stmt: &OpenStmt, word: &str, tokens: &[Token<'_>]) -> bool
     ensures { result ≡ reading.ends_open_stmt (chars word.now) (seen tokens.now)
         (open_stmt_view open_stmt.now) }

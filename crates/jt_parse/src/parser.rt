@@ -1,7 +1,7 @@
 //! The tree that the segments of a template spell.
 //!
 //! The segments are read one after the other, and each statement that is open is kept in a row of
-//! open_stmts, so that no source, however deep, reaches the end of the stack.
+//! open statements, so that no source, however deep, reaches the end of the stack.
 
 ghost use Rattle.std.specs.Prelude.{◌≡◌, ◌≤◌, ◌-◌, suc, length, nat_lt, None, true, false, [], ◌∷◌, IfOk, IfErr, MatchResult};
 ghost use Rattle.std.specs.Str.{chars};
@@ -164,7 +164,7 @@ impl Parser {
         Ok(())
     }
 
-    /// What the else part of a open_stmt is read in.
+    /// What the else part of an open statement is read in.
     fn else_by(&mut self, line: u32) -> Result<(), ParseError>
         ensures { GivesState (λ o. o ≡ reading.else_by (body_in self.old) (open_in self.old)) result
             self.new }
