@@ -120,6 +120,7 @@ pub(crate) fn constant_in(bytes: &[u8], at: u32) -> ConstantRef<'_>
 }
 
 // the number at a place, if a number stands there
+#[inline(always)]
 pub(crate) fn integer_in(bytes: &[u8], at: u32) -> Option<i64>
     requires { HasConstant bytes.now at }
     ensures { result ≡ number_of (constant_in bytes.now at) }
@@ -129,6 +130,7 @@ pub(crate) fn integer_in(bytes: &[u8], at: u32) -> Option<i64>
     integer_with(front[0], rest)
 }
 
+#[inline(always)]
 #[tactic(auto, unfolding(crate::specs::Reading::constant_of))]
 fn integer_with(tag: u8, rest: &[u8]) -> Option<i64>
     requires { IsRead (constant_of tag rest.now) }
@@ -141,6 +143,7 @@ fn integer_with(tag: u8, rest: &[u8]) -> Option<i64>
 }
 
 // the instructions of a unit
+#[inline(always)]
 pub(crate) fn stretch_in<'a>(bytes: &'a [u8], unit: &UnitPlace) -> Stretch<'a>
     requires { HasUnit bytes.now unit.now }
     ensures { result ≡ (section_in bytes.now unit.now).code }
