@@ -1,5 +1,5 @@
 //! What a filter gives, built. Its size and nesting are tested before.
-ghost use Rattle.std.specs.Prelude.{◌∷◌, [], Bool};
+ghost use Rattle.std.specs.Prelude.{◌∷◌, []};
 ghost use Rattle.jt_value.specs.View.{view};
 ghost use Rattle.jt_filter_meaning.specs.Single.{single};
 ghost use Rattle.jt_filters.specs.Operands.{tree_of, inputs, Builds};
@@ -32,7 +32,7 @@ pub(crate) fn build(
     match arguments {
         [] => build_one(alloc, filter, operand, autoescape),
         [argument] => build_two(alloc, filter, operand, argument, autoescape),
-        [first, second] => build_three(alloc, filter, operand, first, second),
+        [first, second] => build_three(alloc, filter, operand, first, second, autoescape),
         _ => Err(Fault::BadType.into()),
     }
 }
@@ -106,15 +106,16 @@ fn build_two(
     }
 }
 
-/// The same of a filter of its input and two arguments. None of these asks whether it escapes.
+/// The same of a filter of its input and two arguments.
 fn build_three(
     alloc: Global,
     filter: FilterId,
     operand: Operand<'_>,
     first: &Value,
     second: &Value,
+    autoescape: bool,
 ) -> Result<Value, ValueError>
-    ensures { (autoescape : Bool) → Builds
+    ensures { Builds
         (single filter autoescape (tree_of operand.entry ∷ view first.now ∷ view second.now ∷ []))
         result }
 {

@@ -78,9 +78,18 @@ fn measured_and_built(
 ) -> Result<Value, OpError>
     ensures { Answers result (limited_by limits (given application.entry)) }
 {
-    let (size, nesting) = application.measure(alloc).map_err(OpError::Fault)?;
-    allow(size, nesting, limits)?;
-    Ok(application.value(alloc)?)
+    let (size, nesting) = match application.measure(alloc) {
+        Ok(measure) => measure,
+        Err(fault) => return Err(OpError::Fault(fault)),
+    };
+    if let Err(error) = allow(size, nesting, limits) {
+        return Err(error);
+    }
+    match application.value(alloc) {
+        Ok(value) => Ok(value),
+        Err(ValueError::Fault(fault)) => Err(OpError::Fault(fault)),
+        Err(ValueError::NoMemory) => Err(OpError::NoMemory),
+    }
 }
 
 impl<'a> Application<'a> {
