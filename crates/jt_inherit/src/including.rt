@@ -71,7 +71,8 @@ fn read_include<L: Library>(
     ensures met { OnOk result (IsMet (L.sources origin.now.library.now)
         (names_view names.new) (need_view include.entry)) }
     ensures refused { IfErr result (λ e.
-        IsFaultAt (L.sources origin.now.library.now) origin.now.options (need_view include.entry) e) }
+        IsFaultAt (L.sources origin.now.library.now) origin.now.options
+        (need_view include.entry) e) }
 {
     if let Some(_place) = names.find(include.name) {
         return Ok(());
