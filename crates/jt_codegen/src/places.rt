@@ -133,8 +133,7 @@ fn spot_of(templates: &[String], named: &[&str], tag: Option<Place>) -> Spot
     requires few { length named.now ≤ max_count }
     requires ascend { Ascends (texts named.now) }
     requires named { IsNamed (texts named.now) (tag_view (texts_view templates.now) tag) }
-    ensures {
-        spot_view result ≡ spot_of (texts named.now) (tag_view (texts_view templates.now) tag) }
+    ensures { spot_view result ≡ spot_of (texts named.now) (tag_view (texts_view templates.now) tag) }
 {
     match tag {
         None => Spot {
