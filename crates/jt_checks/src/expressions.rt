@@ -149,7 +149,8 @@ fn library_call_broken(
     pairs: &[(String, Expr)],
 ) -> Result<Option<ScopeError>, AllocError>
     ensures { IfOk result (FindsCall scope.now within (in_library (its_sources scope.now)
-        (given_in scope.now path.entry.0.now) path.entry.1.now) (trees.name path.entry.0.now) row.now pairs.now) }
+        (given_in scope.now path.entry.0.now) path.entry.1.now) (trees.name path.entry.0.now)
+        row.now pairs.now) }
 {
     let (of, field) = path;
     let Some(Known::Library(library)) = scope.known(of) else {
@@ -172,8 +173,8 @@ fn field_call_broken(
     pairs: &[(String, Expr)],
 ) -> Result<Option<ScopeError>, AllocError>
     ensures { IfOk result (FindsCall scope.now within (named_in (its_sources scope.now)
-        (given_in scope.now path.entry.0.now) path.entry.0.now path.entry.1.now) (trees.name path.entry.0.now) row.now
-        pairs.now) }
+        (given_in scope.now path.entry.0.now) path.entry.0.now path.entry.1.now)
+        (trees.name path.entry.0.now) row.now pairs.now) }
 {
     match path {
         ("self", field) => Ok(self_broken(scope, field, row, pairs)),

@@ -4,6 +4,7 @@ use Rattle.std.specs.List.{AllByRecursion}
 use Rattle.std.proofs.lemmas.List.{drop_more, at_drop_all}
 use Rattle.std.specs.Prelude.{nat_le, option_map}
 use Rattle.std.proofs.lemmas.Bool.Decides.{nat_tests}
+use Rattle.std.proofs.Math.Bool.{and-true, and-false}
 use Rattle.jt_trees.specs.Expressions.{Text}
 use Rattle.jt_resolved.specs.Slots as slots
 use Rattle.jt_resolved.specs.Slots.{SlotStmt, SBody, end}
@@ -35,11 +36,7 @@ Passes room f o = (behind : SBody ℕ) → nat_le (body_height (f behind)) room 
 
 -- alone
 pub passes_alone : (room : ℕ) (f : Front) (o : Bool) → Passes room f o → nat_le (body_height (f end)) room ≡ o
-passes_alone room f o h = h end ∙ ap (λ z. o && z) (zero_low room) ∙ last o
-  where
-    last : (u : Bool) → (u && true) ≡ u
-    last true = refl
-    last false = refl
+passes_alone room f o h = h end ∙ ap (λ z. o && z) (zero_low room) ∙ and-true o
 
 -- a statement that is seen as this one
 pub passes_one : (room : ℕ) (f : Front) (x : SlotStmt ℕ) (o : Bool) → ((behind : SBody ℕ) → f behind ≡ slots.stmt x behind) → o ≡ nat_le (stmt_height x) room → Passes room f o
@@ -144,11 +141,7 @@ module _ (room : ℕ) (templates : List Text) where
   pub inside_high : (bs : List SBranch) (i : ℕ) (b : SBranch) (ss : List given.SlotStmt) (t u : Bool) → i < length bs → b ≡ get_or bs i b → ss ≡ b.body.items → t ≡ nat_le (expr_height (expr_view b.condition)) room
       → Passes room (body_view templates ss) u → u ≡ false → branches_low (drop i bs) ≡ false
   inside_high bs i b ss t u lt is same e f high =
-      branches_next bs i b lt is ∙ ap (λ z. z && branches_low (drop (i + 1) bs)) (branch_same b ss t u same e f ∙ ap (λ z. t && z) high ∙ none t)
-    where
-      none : (t : Bool) → (t && false) ≡ false
-      none true = refl
-      none false = refl
+      branches_next bs i b lt is ∙ ap (λ z. z && branches_low (drop (i + 1) bs)) (branch_same b ss t u same e f ∙ ap (λ z. t && z) high ∙ and-false t)
 
   pub if_view : (x : given.SlotStmt) (bs : Vec SBranch Global) (other : Vec given.SlotStmt Global) (bs' : List SBranch) (other' : List given.SlotStmt) → x ≡ v.If bs other → bs' ≡ bs.items → other' ≡ other.items → (behind : SBody ℕ) → stmt_view templates x behind ≡ choice_view templates bs' (body_view templates other') behind
   if_view x bs other bs' other' is p q behind =

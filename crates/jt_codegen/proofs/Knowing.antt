@@ -2,6 +2,7 @@
 use Rattle.std.proofs.Common.{◌≡◌, ℕ, Bool, true, false, ◌||◌, List, [], ◌∷◌, Option, Some, None, refl, arith, rules}
 use Rattle.std.specs.Prelude.{not, option_map, codes}
 use Rattle.std.specs.Str.{bytes_eq}
+use Rattle.std.proofs.lemmas.Bool.{not-false, or_parts}
 use Rattle.std.specs.Option.{is_some, option_or}
 use Rattle.std.specs.List.{AllByRecursion}
 use Rattle.jt_ids.specs.TestTable.{test_of_name}
@@ -32,13 +33,9 @@ there : {K : Type 0} (o : Option K) → is_some o ≡ true → IsThere o
 there None h = absurd cc
 there (Some k) h = tt
 
-not_false : (b : Bool) → not b ≡ false → b ≡ true
-not_false true e = refl
-not_false false e = absurd cc
-
 test_found : (x : Text) → not (is_test x) ≡ false → IsThere (test_named x)
 unfolding is_test test_named
-test_found x h = there (test_of_name x) (not_false (is_some (test_of_name x)) h)
+test_found x h = there (test_of_name x) (not-false (is_some (test_of_name x)) h)
 
 -- with its only argument by name, a filter is another one at most
 there_with_only : (o : Option FilterId) (only : Option Text) → IsThere o → IsThere (option_map filter_id (with_only o only))
@@ -54,23 +51,15 @@ filter_there x ts ps h = there_with_only (filter_of_name x) (only_name ts ps) (t
 
 -- ---- trees
 
-first : (a b : Bool) → (a || b) ≡ false → a ≡ false
-first true b h = absurd cc
-first false b h = refl
-
-second : (a b : Bool) → (a || b) ≡ false → b ≡ false
-second true b h = absurd cc
-second false b h = h
-
 -- no name that is unknown, neither of a filter nor of a test
 abbrev Clean : (Named → Bool) → Type 0
 Clean f = (u : Named) → f u ≡ false
 
 left : (f g : Named → Bool) → Clean (λ u. f u || g u) → Clean f
-left f g h = λ u. first (f u) (g u) (h u)
+left f g h = λ u. (or_parts (f u) (g u) (h u)).0
 
 right : (f g : Named → Bool) → Clean (λ u. f u || g u) → Clean g
-right f g h = λ u. second (f u) (g u) (h u)
+right f g h = λ u. (or_parts (f u) (g u) (h u)).1
 
 abbrev in_expr : Expr → Named → Bool
 in_expr e u = has_unknown u e
@@ -93,7 +82,7 @@ in_filter x ts ps u = filter_unknown u x ts ps
 -- nor do its arguments name an unknown one, but that is another matter
 filter_found : (x : Text) (ts : Exprs) (ps : Pairs) → filter_unknown n.Filter x ts ps ≡ false → IsThere (the_filters.named x ts ps)
 unfolding filter_unknown
-filter_found x ts ps h = filter_there x ts ps (not_false (is_filter x) (first (not (is_filter x)) (inside_unknown n.Filter (filter_written x ts ps) ts) h))
+filter_found x ts ps h = filter_there x ts ps (not-false (is_filter x) (or_parts (not (is_filter x)) (inside_unknown n.Filter (filter_written x ts ps) ts) h).0)
 
 mutual
   expr_known : (e : Expr) → Clean (in_expr e) → ExprKnown the_filters e

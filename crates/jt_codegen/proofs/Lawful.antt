@@ -6,6 +6,7 @@ use Rattle.std.specs.Str.{bytes_eq}
 use Rattle.std.specs.Prelude as prelude
 use Rattle.std.specs.Prelude.{map, flat_map, ◌||◌}
 use Rattle.std.proofs.lemmas.List.{length-map}
+use Rattle.std.proofs.lemmas.Bool.{or_right}
 use Rattle.jt_value.specs.Tree as tree
 use Rattle.jt_value.specs.Tree.{Tree}
 use Rattle.jt_ids.specs.declared.op_id.OpId.TheVariants as op
@@ -40,7 +41,7 @@ use Rattle.jt_meaning.proofs.Givens.{LeadsTo, called_macro}
 use Rattle.jt_meaning.proofs.Ordering.{libraries_stand}
 use Rattle.jt_meaning.proofs.Reading.{home_same, home_is}
 use Rattle.jt_lower.proofs.Fitting.{all_append}
-use Rattle.jt_codegen.proofs.Either.{either_of, or_later}
+use Rattle.jt_codegen.proofs.Either.{either_of}
 
 literal_pooled : (l : Literal) → IsPooled (literal l)
 literal_pooled l = search (arith, rules)
@@ -456,7 +457,7 @@ module _ (world : World) (order : List Home) where
         let bs = body_routines world order h (numbered_bodies world h) in
         all_append Good (chain_routines world order h) (flat_map (chain_routines world order) hs)
         (all_append Good (entry_routines world order h) (ms ++ bs) (entry_lawful h here) (all_append Good ms bs (macros_lawful h here (macros world.sources h)) (bodies_lawful h here (numbered_bodies world h))))
-        (routines_of hs (λ g j. i g (or_later (same_home h g) (listed g hs) j)))
+        (routines_of hs (λ g j. i g (or_right (same_home h g) (listed g hs) j)))
 
   defaults_pooled : (ms : List MacroBody) → AllByRecursion IsPooled (defaults_of ms)
   defaults_pooled [] = tt
