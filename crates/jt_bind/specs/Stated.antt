@@ -18,7 +18,6 @@ use Rattle.jt_resolved.specs.Pool.{Constant, condition_values, body_values, plac
 use Rattle.jt_resolved.specs.Slots as slots
 use Rattle.jt_resolved.specs.Slots.{SBody}
 use Rattle.jt_resolved.specs.View.{Front, place_view, targets_view, expr_view, choice_view}
-use Rattle.jt_resolved.specs.declared.program.Place.{Place}
 use Rattle.jt_resolved.specs.declared.program.SlotExpr.{SlotExpr}
 use Rattle.jt_resolved.specs.declared.program.SlotBranch.{SlotBranch}
 use Rattle.jt_resolved.specs.declared.program.SlotStmt.{SlotStmt}
