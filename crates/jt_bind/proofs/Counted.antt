@@ -14,7 +14,7 @@ use Rattle.jt_resolved.specs.declared.program.Targets.{Targets}
 use Rattle.jt_resolved.specs.declared.program.SlotExpr as code
 use Rattle.jt_resolved.specs.declared.program.SlotStmt as code_stmt
 use Rattle.jt_resolved.specs.declared.program.SlotStmt.TheVariants as s
-use Rattle.jt_bind.specs.Counts.{aside_locals, target_locals}
+use Rattle.jt_bind.specs.Counts.{aside_locals, target_locals, branches_locals}
 use Rattle.jt_resolved.proofs.StatementViews.{SBranch}
 use Rattle.jt_resolved.proofs.ExpressionViews.{Entry}
 use Rattle.jt_resolved.proofs.StatementViews.{view_If, view_For, view_Capture}
@@ -67,10 +67,6 @@ counted_on m m' n rest whole r e f g = omega arith
 
 -- ---- branches
 
-abbrev pub branches_locals : List Text → List SBranch → ℕ
-branches_locals templates [] = 0
-branches_locals templates (b ∷ bs) = max (max (expr_locals (expr_view b.condition)) (body_locals (body_view templates b.body.items slots.end))) (branches_locals templates bs)
-
 -- what stands for a choice, where the other part has so many
 pub choice_counted : (templates : List Text) (bs : List SBranch) (f : Front) (n : ℕ) → ((behind : SBody ℕ) → body_locals (f behind) ≡ max n (body_locals behind))
     → (behind : SBody ℕ) → body_locals (choice_view templates bs f behind) ≡ max (max (branches_locals templates bs) n) (body_locals behind)
@@ -100,14 +96,11 @@ branch_step templates bs i b us n k m m' r lt is body asked taken more so = sear
 -- ---- forms of statements
 
 module _ (templates : List Text) (x : code_stmt.SlotStmt) (behind : SBody ℕ) where
-  pub choice_done : (bs : Vec SBranch Global) (other : Vec code_stmt.SlotStmt Global) (m n : ℕ) → x ≡ s.If bs other → ((b : SBody ℕ) → body_locals (body_view templates other.items b) ≡ max m (body_locals b)) → n ≡ max m (branches_locals templates bs.items)
-      → body_locals (stmt_view templates x behind) ≡ max n (body_locals behind)
-  choice_done bs other m n is f h =
-      ap (λ (z : code_stmt.SlotStmt). body_locals (stmt_view templates z behind)) is ∙ ap body_locals (view_If templates bs other behind) ∙ choice_counted templates bs.items (body_view templates other.items) m f behind
-      ∙ ap (λ z. max z (body_locals behind)) (turned (branches_locals templates bs.items) m ∙ sym h)
-    where
-      turned : (a b : ℕ) → max a b ≡ max b a
-      turned a b = omega arith
+  pub choice_done : (bs : Vec SBranch Global) (other : Vec code_stmt.SlotStmt Global) (m n k : ℕ) → x ≡ s.If bs other → m ≡ branches_locals templates bs.items → ((b : SBody ℕ) → body_locals (body_view templates other.items b) ≡ max n (body_locals b)) → k ≡ max m n
+      → body_locals (stmt_view templates x behind) ≡ max k (body_locals behind)
+  choice_done bs other m n k is f g h =
+      ap (λ (z : code_stmt.SlotStmt). body_locals (stmt_view templates z behind)) is ∙ ap body_locals (view_If templates bs other behind) ∙ choice_counted templates bs.items (body_view templates other.items) n g behind
+      ∙ ap (λ z. max z (body_locals behind)) (ap (λ z. max z n) (sym f) ∙ sym h)
 
   pub loop_counted : (p : Place) (xs : Targets) (e : code.SlotExpr) (c : Option code.SlotExpr) (body other : Vec code_stmt.SlotStmt Global) (m n k t l r : ℕ) → x ≡ s.For p xs e c body other → m ≡ targets_locals (targets_view xs) → n ≡ expr_locals (expr_view e)
       → k ≡ condition_locals (option_map expr_view c) → ((b : SBody ℕ) → body_locals (body_view templates body.items b) ≡ max t (body_locals b)) → ((b : SBody ℕ) → body_locals (body_view templates other.items b) ≡ max l (body_locals b))

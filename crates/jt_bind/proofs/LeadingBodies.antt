@@ -148,10 +148,6 @@ module _ (templates : List Text) where
   pub choice_same : (whole : SBody Constant) (bs : List SBranch) (p : List Tree) → bs ≡ [] → ChoiceLeads templates whole whole bs p p
   choice_same whole bs p e = search (arith, rules)
 
-  -- a branch whose body is written in another form
-  pub branch_as : (pl : Place) (c : SlotExpr Constant) (a b : SBody Constant) (x : SBranch) (p q : List Tree) → a ≡ b → IsBranch templates pl c a x p q → IsBranch templates pl c b x p q
-  branch_as pl c a b x p q = let P : SBody Constant → Type 0 = λ z. IsBranch templates pl c z x p q in subst P
-
   -- a branch more
   pub branch_led : (whole rest b : SBody Constant) (pl : Place) (c : SlotExpr Constant) (x : SBranch) (bs cs : List SBranch) (p q t : List Tree)
       → ChoiceLeads templates whole (alone (slots.if_else pl c b rest)) bs p q → IsBranch templates pl c b x q t → cs ≡ bs ++ x ∷ [] → ChoiceLeads templates whole rest cs p t

@@ -1,5 +1,5 @@
 -- A program by its parts.
-use Rattle.std.proofs.Common.{◌≡◌, ℕ, List, [], ◌++◌, map, ◌∙◌, string_bytes, arith, rules}
+use Rattle.std.proofs.Common.{◌≡◌, ℕ, List, [], map, string_bytes, arith, rules}
 use Rattle.jt_value.specs.Tree.{Tree}
 use Rattle.jt_trees.specs.Expressions.{Text}
 use Rattle.jt_chains.specs.Chain.{Home}

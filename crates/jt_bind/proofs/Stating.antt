@@ -1,41 +1,37 @@
 -- What statements are resolved to, part by part.
-use Rattle.std.proofs.Common.{◌≡◌, ℕ, zero, suc, ◌+◌, ◌<◌, List, [], ◌∷◌, ◌++◌, length, map, drop, get_or, refl, sym, ap, ◌∙◌, Option, None, Vec, Global, String, string_bytes, add-one, append_assoc, arith, rules}
+use Rattle.std.proofs.Common.{◌≡◌, ℕ, zero, suc, ◌+◌, ◌<◌, List, [], ◌∷◌, ◌++◌, length, map, drop, get_or, refl, sym, ap, ◌∙◌, subst, true, Option, None, String, Global, string_bytes, add-one, append_assoc, arith, rules}
 use Rattle.std.proofs.lemmas.List.{drop_more, map-append}
 use Rattle.std.specs.Prelude.{if◌then◌else◌, option_map}
 use denote.Ref.{Bor}
 use Rattle.jt_value.specs.Tree.{Tree}
 use Rattle.jt_trees.specs.Expressions as expressions
 use Rattle.jt_trees.specs.Expressions.{Pairs, no_pairs, pair, Text}
-use Rattle.jt_trees.specs.ExpressionView.{expr_view}
-use Rattle.jt_trees.specs.declared.expression.Expr.{Expr}
 use Rattle.jt_chains.specs.Chain.{Home}
 use Rattle.jt_chains.specs.Uses.{set_in}
 use Rattle.jt_rules.specs.World.{World}
 use Rattle.jt_trees.specs.Statements as trees
 use Rattle.jt_trees.specs.Texts.{among}
-use Rattle.jt_trees.specs.StatementView.{names_view, stmt_view, body_view, branches_view}
-use Rattle.jt_trees.specs.declared.statement.Stmt.{Stmt}
-use Rattle.jt_trees.specs.declared.statement.Stmt.TheVariants as v
+use Rattle.jt_trees.specs.StatementView.{names_view}
 use Rattle.jt_value.specs.Place.{Place}
 use Rattle.jt_resolved.specs.Pool.{Constant}
 use Rattle.jt_resolved.specs.Slots as slots
 use Rattle.jt_resolved.specs.Slots.{Slot, SlotExpr, SBody, local, global, one, Targets}
-use Rattle.jt_resolved.specs.View.{slot_view}
-use Rattle.jt_resolved.specs.declared.program.SlotExpr as code
+use Rattle.jt_resolved.specs.View.{slot_view, targets_view, expr_view}
 use Rattle.jt_resolved.specs.declared.program.Slot as code_slot
 use Rattle.jt_resolved.specs.declared.program.SlotStmt.{SlotStmt}
 use Rattle.jt_meaning.specs.Layout.{Table, slot_in}
-use Rattle.jt_meaning.specs.Resolve.{Spot, read_from, followed, alone, copied, handed_on, resolved, resolved_values, resolved_condition, resolved_filters, grown, kept_slots, fresh_targets, bound_all, place}
+use Rattle.jt_meaning.specs.Meaning.{is_set}
+use Rattle.jt_meaning.specs.Resolve.{Spot, read_from, followed, alone, copied, handed_on, resolved, resolved_values, resolved_condition, resolved_filters, grown, kept_slots, bound_all, place}
 use Rattle.jt_names.specs.Names.{texts}
 use Rattle.jt_bind.specs.Chains.{Chains}
 use Rattle.jt_bind.specs.Names.{last_among}
 use Rattle.jt_bind.specs.declared.name_scope.NameScope.{NameScope}
+use Rattle.jt_bind.specs.declared.putting.Turns.{Turns}
 use Rattle.jt_bind.specs.declared.spot.Spot as code_spot
-use Rattle.jt_bind.specs.Scoped.{IsPlaced, BodyLeads, world_in, order_in, spot_in, templates_in, expr_in}
-use Rattle.jt_bind.specs.Stated.{Led, IsAsked, IsTurn, slot_if, line_in, stmt_in, body_in, choice_in, scoped_in, values_in}
+use Rattle.jt_bind.specs.Scoped.{IsPlaced, BodyLeads, world_in, order_in, spot_in, templates_in}
+use Rattle.jt_bind.specs.Stated.{Led, IsAsked, AreTurns, slot_if, line_in, stmt_in, body_in, scoped_in, values_in}
 use Rattle.jt_bind.proofs.LeadingBodies.{led_of, lead_of, lead_both}
-use Rattle.jt_trees.proofs.Left.{Branch, names_left}
-use Rattle.jt_trees.proofs.StatementViews.{view_If, view_For}
+use Rattle.jt_trees.proofs.Left.{names_left}
 use Rattle.jt_bind.proofs.Kept.{slot_kept}
 
 -- ---- copies of names
@@ -71,16 +67,10 @@ values_followed world order (pair x e ps) sp line b left = ap (slots.stmt (slots
 pub stmt_as : (s : Chains) (spot : code_spot.Spot) (x y : trees.Stmt) (ss ts : List SlotStmt) (p q : List Tree) → x ≡ y → Led (templates_in s) (stmt_in s x spot) ss ts p q → Led (templates_in s) (stmt_in s y spot) ss ts p q
 stmt_as s spot x y ss ts p q e h = led_of (templates_in s) (stmt_in s x spot) (stmt_in s y spot) ss ts p q (ap (λ z. stmt_in s z spot) e) h
 
-module _ (s : Chains) (spot : code_spot.Spot) (x : Stmt) where
-  pub if_shown : (bs : Vec Branch Global) (other : Vec Stmt Global) (cs : List Branch) (us : List Stmt) → x ≡ v.If bs other → cs ≡ bs.items → us ≡ other.items
-      → choice_in s (branches_view cs) spot (body_in s (body_view us) spot) ≡ stmt_in s (stmt_view x) spot
-  if_shown bs other cs us is e f = search (arith, rules, view_If)
-
-  pub loop_shown : (line : ℕ) (xs : Vec (String Global) Global) (e : Expr) (k : Option Expr) (body other : Vec Stmt Global) (ns ms : List (String Global)) (us os : List Stmt) (tv : Targets)
-      → x ≡ v.For line xs e k body other → ns ≡ xs.items → ms ≡ xs.items → us ≡ body.items → os ≡ other.items → tv ≡ fresh_targets spot.free (names_view ms)
-      → alone (slots.for_each (line_in s spot line) tv (expr_in s (expr_view e) spot) (resolved_condition (world_in s) (order_in s) (option_map expr_view k) (bound_all (names_view ns) (spot_in s spot)))
-      (scoped_in s (body_view us) (bound_all (names_view ns) (spot_in s spot))) (body_in s (body_view os) spot)) ≡ stmt_in s (stmt_view x) spot
-  loop_shown line xs e k body other ns ms us os tv is f g h j taken = search (arith, rules, view_For)
+-- the same where only statements that set names count
+pub set_as : (s : Chains) (spot : code_spot.Spot) (x y : trees.Stmt) (ss ts : List SlotStmt) (p q : List Tree) → x ≡ y → is_set x ≡ true → Led (templates_in s) (stmt_in s x spot) ss ts p q
+    → Led (templates_in s) (if is_set y then stmt_in s y spot else slots.end) ss ts p q
+set_as s spot x y ss ts p q e is = led_of (templates_in s) (stmt_in s x spot) (if is_set y then stmt_in s y spot else slots.end) ss ts p q (rw (sym e, is) refl)
 
 -- a filter tag: its text, and what its filters make of it
 pub filter_shown : (s : Chains) (spot : code_spot.Spot) (line : ℕ) (fs : List trees.Filtering) (b : trees.Body) (n : ℕ) → n ≡ spot.free + 1
@@ -107,10 +97,13 @@ copies_as s sp xs b es fs p e h behind = lead_of (templates_in s) _ _ behind es 
 pub scoped_as : (s : Chains) (b : trees.Body) (sp sq : Spot) (es fs : List SlotStmt) (p q : List Tree) → sp ≡ sq → Led (templates_in s) (scoped_in s b sp) es fs p q → Led (templates_in s) (scoped_in s b sq) es fs p q
 scoped_as s b sp sq es fs p q e = led_of (templates_in s) (scoped_in s b sp) (scoped_in s b sq) es fs p q (ap (scoped_in s b) e)
 
--- a loop's turn at a place that is another
-pub turn_as : (s : Chains) (b : trees.Body) (k : Option expressions.Expr) (sp sq : Spot) (d : Option code.SlotExpr) (ss : List SlotStmt) (p q r : List Tree) → sp ≡ sq → IsAsked (resolved_condition (world_in s) (order_in s) k sp) d p q → Led (templates_in s) (scoped_in s b sp) [] ss q r
-    → IsTurn s (resolved_condition (world_in s) (order_in s) k sq) (scoped_in s b sq) d ss p r
-turn_as s b k sp sq d ss p q r e h g = search (arith, rules, scoped_as)
+-- a loop's turns at a place that is another
+pub turns_as : (s : Chains) (b : trees.Body) (k : Option expressions.Expr) (sp sq : Spot) (xs : Targets) (c : SlotExpr Constant) (t : Turns) (p q r v : List Tree) → sp ≡ sq → targets_view t.targets ≡ xs → IsPlaced c (expr_view t.items) p q
+    → IsAsked (resolved_condition (world_in s) (order_in s) k sp) t.condition q r → Led (templates_in s) (scoped_in s b sp) [] t.body.items r v
+    → AreTurns s xs c (resolved_condition (world_in s) (order_in s) k sq) (scoped_in s b sq) t p v
+turns_as s b k sp sq xs c t p q r v e f h g w =
+    let P : Spot → Type 0 = λ z. IsAsked (resolved_condition (world_in s) (order_in s) k z) t.condition q r in
+    record { given = q; between = r; takes = f; goes_over = h; asked = subst P e g; taken = scoped_as s b sp sq [] t.body.items r v e w }
 
 -- ---- slots of names that are set
 

@@ -7,10 +7,12 @@ use Rattle.jt_value.specs.Place as place
 use Rattle.jt_value.specs.declared.value.Value.{Value}
 use Rattle.jt_trees.specs.Expressions as expressions
 use Rattle.jt_trees.specs.Expressions.{Text}
-use Rattle.jt_trees.specs.ExpressionView.{exprs_view, pairs_view}
+use Rattle.jt_trees.specs.ExpressionView.{expr_view, exprs_view, pairs_view}
 use Rattle.jt_trees.specs.Statements as trees
-use Rattle.jt_trees.specs.StatementView.{parameters_view}
+use Rattle.jt_trees.specs.StatementView.{parameters_view, body_view}
+use Rattle.jt_trees.specs.declared.statement.Branch.{Branch}
 use Rattle.jt_trees.specs.declared.statement.Parameter.{Parameter}
+use Rattle.jt_trees.specs.declared.statement.Stmt.{Stmt}
 use Rattle.jt_chains.specs.Chain as chain
 use Rattle.jt_chains.specs.Uses.{keywords}
 use Rattle.jt_resolved.specs.Pool.{Constant}
@@ -23,10 +25,11 @@ use Rattle.jt_meaning.specs.Layout.{Table}
 use Rattle.jt_meaning.specs.Resolve as resolve
 use Rattle.jt_meaning.specs.Resolve.{locals_from}
 use Rattle.jt_bind.specs.declared.callee.Signature.{Signature}
+use Rattle.jt_bind.specs.declared.putting.Turns.{Turns}
 use Rattle.jt_bind.specs.declared.resolver.Arguments.{Arguments}
 use Rattle.jt_bind.specs.declared.resolver.Resolver.{Resolver}
 use Rattle.jt_bind.specs.Scoped.{values, IsAdded, PutsNone, RowLeads, world_in, order_in, spot_in, templates_in, expr_in, row_in, asides_in, entries_in, filtered_in}
-use Rattle.jt_bind.specs.Stated.{IsBody, IsBranch, IsTurn, Puts, BodyLed, line_in, stmt_in, body_in, scoped_in, layer_at, values_in, condition_in}
+use Rattle.jt_bind.specs.Stated.{IsBody, IsBranch, AreTurns, Puts, BodyLed, line_in, stmt_in, body_in, scoped_in, layer_at, values_in, condition_in}
 
 -- a part of a row is put behind others, and its values at the end of a pool: what is left of it
 abbrev pub RowAdds : SRow Constant → SRow Constant → Vec (Option ℕ × SlotExpr) Global
@@ -173,17 +176,18 @@ module _ (r : Resolver) where
   BodyIs whole made old new = IsBody templates_of whole made.items (values old) (values new)
 
   -- a branch of an `if`
-  abbrev pub BranchIs : ℕ → expressions.Expr → trees.Body → SlotBranch SlotStmt → Vec Value Global
-      → Vec Value Global → Type 0
-  BranchIs line e b made old new =
-      IsBranch templates_of (line_of line) (expr_of e) (body_of b) made (values old) (values new)
+  abbrev pub BranchIs : Branch Stmt → SlotBranch SlotStmt → Vec Value Global → Vec Value Global
+      → Type 0
+  BranchIs b made old new =
+      IsBranch templates_of (line_of b.line) (expr_of (expr_view b.condition))
+      (body_of (body_view b.body.items)) made (values old) (values new)
 
-  -- the condition and the statements of a loop whose targets have these names
-  abbrev pub TurnIs : List Text → Option expressions.Expr → trees.Body
-      → Option SlotExpr × Vec SlotStmt Global → Vec Value Global → Vec Value Global → Type 0
-  TurnIs xs k b made old new =
-      IsTurn r.tables.now (condition_of k (inside_of xs)) (scoped_of b (inside_of xs)) made.0
-      made.1.items (values old) (values new)
+  -- what a loop whose targets have these names goes over, and its condition and its statements
+  abbrev pub TurnsAre : List Text → expressions.Expr → Option expressions.Expr → trees.Body → Turns
+      → Vec Value Global → Vec Value Global → Type 0
+  TurnsAre xs e k b made old new =
+      AreTurns r.tables.now (resolve.fresh_targets r.spot.free xs) (expr_of e)
+      (condition_of k (inside_of xs)) (scoped_of b (inside_of xs)) made (values old) (values new)
 
   -- all of a body is put behind other statements, and its values at the end of a pool
   abbrev pub BodyAdds : SBody Constant → Vec SlotStmt Global → Vec SlotStmt Global

@@ -62,6 +62,22 @@ abbrev pub IsAdded : slots.SlotExpr Constant → SlotExpr → Vec Value Global �
     → Type 0
 IsAdded c e old new = IsShown c e (values old) (values new)
 
+-- what is made of an expression that is placed, and of two that are placed one after the other
+abbrev pub MadeOfOne : (slots.SlotExpr Constant → slots.SlotExpr Constant) → SlotExpr → SlotExpr
+    → Type 0
+MadeOfOne made operand e =
+    (a : slots.SlotExpr Constant) (p q : List Tree)
+    → IsShown a operand p q
+    → IsShown (made a) e p q
+
+abbrev pub MadeOfTwo : (slots.SlotExpr Constant → slots.SlotExpr Constant
+    → slots.SlotExpr Constant) → SlotExpr → SlotExpr → SlotExpr → Type 0
+MadeOfTwo made left right e =
+    (a b : slots.SlotExpr Constant) (p q r : List Tree)
+    → IsShown a left p q
+    → IsShown b right q r
+    → IsShown (made a b) e p r
+
 -- one that puts no values there
 abbrev pub PutsNone : slots.SlotExpr Constant → SlotExpr → Type 0
 PutsNone c e = (p : List Tree) → IsShown c e p p

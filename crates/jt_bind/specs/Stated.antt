@@ -17,14 +17,14 @@ use Rattle.jt_value.specs.Place as place
 use Rattle.jt_resolved.specs.Pool.{Constant, condition_values, body_values, placed_condition, placed_body}
 use Rattle.jt_resolved.specs.Slots as slots
 use Rattle.jt_resolved.specs.Slots.{SBody}
-use Rattle.jt_resolved.specs.View.{Front, place_view, expr_view, choice_view}
-use Rattle.jt_resolved.specs.declared.program.Place.{Place}
+use Rattle.jt_resolved.specs.View.{Front, place_view, targets_view, expr_view, choice_view}
 use Rattle.jt_resolved.specs.declared.program.SlotExpr.{SlotExpr}
 use Rattle.jt_resolved.specs.declared.program.SlotBranch.{SlotBranch}
 use Rattle.jt_resolved.specs.declared.program.SlotStmt.{SlotStmt}
 use Rattle.jt_meaning.specs.Resolve as resolve
 use Rattle.jt_meaning.specs.Resolve.{followed}
 use Rattle.jt_bind.specs.Chains.{Chains}
+use Rattle.jt_bind.specs.declared.putting.Turns.{Turns}
 use Rattle.jt_bind.specs.declared.spot.Spot.{Spot}
 use Rattle.jt_bind.specs.Scoped.{values, IsPlaced, BodyLeads, world_in, order_in, home_in, spot_in, templates_in}
 
@@ -124,8 +124,12 @@ module _ (s : Chains) where
   values_in ps p line behind =
       resolve.resolved_values (world_in s) (order_in s) ps (spot_in s p) line behind
 
-  -- the condition and the statements of a loop's turns
-  pub record IsTurn (k : Option (slots.SlotExpr Constant)) (whole : SBody Constant) (condition : Option SlotExpr) (body : List SlotStmt) (old new : List Tree) : Type 0 where
+  -- what takes the items of a loop, what it goes over, and the condition and the statements of its
+  -- turns
+  pub record AreTurns (xs : slots.Targets) (c : slots.SlotExpr Constant) (k : Option (slots.SlotExpr Constant)) (whole : SBody Constant) (t : Turns) (old new : List Tree) : Type 0 where
+    pub given : List Tree
     pub between : List Tree
-    pub asked : IsAsked k condition old between
-    pub taken : IsBody (templates_in s) whole body between new
+    pub takes : targets_view t.targets ≡ xs
+    pub goes_over : IsPlaced c (expr_view t.items) old given
+    pub asked : IsAsked k t.condition given between
+    pub taken : IsBody (templates_in s) whole t.body.items between new

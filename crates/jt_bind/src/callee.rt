@@ -66,10 +66,8 @@ impl<'a> Tables<'a> {
             ≡ chain.given_to name.now (given_in self.now) }
     {
         let here = self.here();
-        match here.given_places.place(name) {
-            Some(place) => Some(here.given[place].given),
-            None => None,
-        }
+        let place = here.given_places.place(name)?;
+        Some(here.given[place].given)
     }
 
     /// What a name stands for that is given to something: a library itself can't be called.
@@ -163,10 +161,7 @@ impl<'a> Tables<'a> {
         ensures { option_map (λ n. n.now) result
             ≡ library_of (chain.given_to name.now (given_in self.now)) }
     {
-        match self.given_named(name) {
-            Some(given) => library_in(given),
-            None => None,
-        }
+        library_in(self.given_named(name)?)
     }
 }
 
@@ -197,8 +192,5 @@ fn library_in(given: Given<'_>) -> Option<&str>
 fn is_private(name: &str) -> bool
     ensures { result ≡ chain.is_private name.now }
 {
-    match name.as_bytes().first() {
-        Some(first) => *first == b'_',
-        None => false,
-    }
+    name.as_bytes().first().is_some_and(|first| *first == b'_')
 }

@@ -19,15 +19,16 @@ use crate::forms::{
     unary_operation,
 };
 use crate::lookup::{absent, no_value, reading};
-use crate::loops::{field_of, is_loop_name, told};
+use crate::loops::{field_of, told};
 use crate::pool::{add_text, add_value};
 use crate::resolver::{Arguments, Resolver};
 use crate::rows::row_of;
 use jt_evaluation::{filter_of, filter_parameters, test_of};
 use jt_ids::{FilterId, OpId};
 use jt_layout::more;
+use jt_names::is_loop_name;
 use jt_resolved::{Maker, SlotExpr};
-use jt_trees::{BinaryOperator, Expr};
+use jt_trees::{BinaryOperator, Expr, Polarity, UnaryOperator};
 use jt_value::{NoMemory, Value};
 
 impl<'t, 's, 'a> Resolver<'t, 's, 'a> {
@@ -67,14 +68,8 @@ impl<'t, 's, 'a> Resolver<'t, 's, 'a> {
                 name,
                 arguments: row,
                 ..
-            } => {
-                let test = self.resolve_test(value, name, row, pool)?;
-                turned(self.alloc, polarity.is_negated(), test)
-            }
-            Expr::Unary(operator, operand) => {
-                let value = self.resolve_expression(operand, pool)?;
-                on_one(self.alloc, unary_operation(*operator), value)
-            }
+            } => self.resolve_test(value, *polarity, name, row, pool),
+            Expr::Unary(operator, operand) => self.resolve_unary(*operator, operand, pool),
             Expr::Binary {
                 operator,
                 left,
@@ -151,6 +146,21 @@ impl<'t, 's, 'a> Resolver<'t, 's, 'a> {
         on_two(self.alloc, OpId::Item, whole, place)
     }
 
+    /// Resolves an operator in front of its operand.
+    #[cycle(expressions)]
+    fn resolve_unary(
+        &self,
+        operator: UnaryOperator,
+        operand: &Expr,
+        pool: &mut Vec<Value>,
+    ) -> Result<SlotExpr, NoMemory>
+        ensures { IfOk result (λ e. IsResolved self.now
+            (trees.unary operator (written.expr_view operand.now)) e pool.old pool.new) }
+    {
+        let value = self.resolve_expression(operand, pool)?;
+        on_one(self.alloc, unary_operation(operator), value)
+    }
+
     /// Resolves an operator between its operands.
     #[cycle(expressions)]
     fn resolve_binary(
@@ -210,9 +220,28 @@ impl<'t, 's, 'a> Resolver<'t, 's, 'a> {
         chosen(self.alloc, asked, first, second)
     }
 
-    /// Resolves a test that is not turned round.
+    /// Resolves a test, turned round where it says `is not`.
     #[cycle(expressions)]
     fn resolve_test(
+        &self,
+        value: &Expr,
+        polarity: Polarity,
+        name: &str,
+        row: &[Expr],
+        pool: &mut Vec<Value>,
+    ) -> Result<SlotExpr, NoMemory>
+        ensures { IfOk result (λ e. (ps : trees.Pairs)
+            → IsResolved self.now (trees.test (written.expr_view value.now)
+            (written.is_negated polarity) name.now (written.exprs_view row.now) ps) e pool.old
+            pool.new) }
+    {
+        let test = self.resolve_plain_test(value, name, row, pool)?;
+        turned(self.alloc, polarity.is_negated(), test)
+    }
+
+    /// Resolves a test that is not turned round.
+    #[cycle(expressions)]
+    fn resolve_plain_test(
         &self,
         value: &Expr,
         name: &str,

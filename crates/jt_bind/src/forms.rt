@@ -12,7 +12,7 @@ ghost use Rattle.jt_resolved.specs.Pool.{Constant};
 ghost use Rattle.jt_resolved.specs.Slots as slots;
 ghost use Rattle.jt_evaluation.specs.Values.{literal};
 ghost use Rattle.jt_bind.specs.Formed.{form_view, IsNumber};
-ghost use Rattle.jt_bind.specs.Scoped.{IsShown, IsAdded, turn_in};
+ghost use Rattle.jt_bind.specs.Scoped.{IsShown, IsAdded, MadeOfOne, MadeOfTwo, turn_in};
 
 use crate::pool::add_value;
 use jt_ids::OpId;
@@ -117,9 +117,8 @@ fn join(escaping: bool) -> OpId
 
 /// An operation on one operand.
 pub(crate) fn on_one(alloc: Global, op: OpId, operand: SlotExpr) -> Result<SlotExpr, NoMemory>
-    ensures { IfOk result (λ e. (a : slots.SlotExpr Constant) (p q : List Tree)
-        → IsShown a operand p q
-        → IsShown (slots.made (slots.operator op) (slots.item a slots.none)) e p q) }
+    ensures { IfOk result (MadeOfOne (λ a. slots.made (slots.operator op)
+        (slots.item a slots.none)) operand) }
 {
     let mut row = Vec::new(alloc);
     row.push((None, operand))?;
@@ -133,10 +132,7 @@ pub(crate) fn on_two(
     left: SlotExpr,
     right: SlotExpr,
 ) -> Result<SlotExpr, NoMemory>
-    ensures { IfOk result (λ e. (a b : slots.SlotExpr Constant) (p q r : List Tree)
-        → IsShown a left p q
-        → IsShown b right q r
-        → IsShown (resolve.operation_of op a b) e p r) }
+    ensures { IfOk result (MadeOfTwo (resolve.operation_of op) left right) }
 {
     let mut row = Vec::new(alloc);
     row.push((None, left))?;
@@ -146,9 +142,7 @@ pub(crate) fn on_two(
 
 /// Its truth turned round, where the flag says so.
 pub(crate) fn turned(alloc: Global, negated: bool, inside: SlotExpr) -> Result<SlotExpr, NoMemory>
-    ensures { IfOk result (λ e. (a : slots.SlotExpr Constant) (p q : List Tree)
-        → IsShown a inside p q
-        → IsShown (resolve.turned_round negated a) e p q) }
+    ensures { IfOk result (MadeOfOne (resolve.turned_round negated) inside) }
 {
     if negated {
         on_one(alloc, OpId::Not, inside)
@@ -164,10 +158,7 @@ pub(crate) fn formed(
     left: SlotExpr,
     right: SlotExpr,
 ) -> Result<SlotExpr, NoMemory>
-    ensures { IfOk result (λ e. (a b : slots.SlotExpr Constant) (p q r : List Tree)
-        → IsShown a left p q
-        → IsShown b right q r
-        → IsShown (resolve.in_form (form_view form) a b) e p r) }
+    ensures { IfOk result (MadeOfTwo (resolve.in_form (form_view form)) left right) }
 {
     match form {
         Form::Operation(op) => on_two(alloc, op, left, right),

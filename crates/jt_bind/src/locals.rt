@@ -126,6 +126,20 @@ fn condition_locals(condition: &Option<SlotExpr>) -> Result<usize, NoMemory>
     }
 }
 
+/// The locals of the branches of a choice.
+#[cycle(statements)]
+fn branches_locals(branches: &[SlotBranch<SlotStmt>]) -> Result<usize, NoMemory>
+    ensures { IfOk result
+        (λ n. (templates : List Text) → n ≡ counts.branches_locals templates branches.now) }
+{
+    let mut most = 0;
+    for branch in branches {
+        let asked = expr_locals(&branch.condition)?;
+        most = larger(most, larger(asked, body_locals(&branch.body)?));
+    }
+    Ok(most)
+}
+
 /// The locals of a statement.
 #[cycle(statements)]
 fn stmt_locals(statement: &SlotStmt) -> Result<usize, NoMemory>
@@ -145,16 +159,8 @@ fn stmt_locals(statement: &SlotStmt) -> Result<usize, NoMemory>
             Ok(larger(taken, expr_locals(expr)?))
         }
         SlotStmt::If(branches, other) => {
-            let mut most = body_locals(other)?;
-            for SlotBranch {
-                condition,
-                body,
-                ..
-            } in branches {
-                let asked = expr_locals(condition)?;
-                most = larger(most, larger(asked, body_locals(body)?));
-            }
-            Ok(most)
+            let first = branches_locals(branches)?;
+            Ok(larger(first, body_locals(other)?))
         }
         SlotStmt::For {
             targets,

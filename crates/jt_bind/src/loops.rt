@@ -1,8 +1,6 @@
 //! What a loop tells.
 
 ghost use Rattle.std.specs.Prelude.{◌≡◌, option_map};
-ghost use Rattle.jt_trees.specs.ExpressionView as written;
-ghost use Rattle.jt_chains.specs.Chain.{is_loop};
 ghost use Rattle.jt_meaning.specs.Resolve as resolve;
 ghost use Rattle.jt_evaluation.specs.Loops.{field_named};
 ghost use Rattle.jt_resolved.specs.View.{field_view};
@@ -10,17 +8,6 @@ ghost use Rattle.jt_bind.specs.Scoped.{PutsNone};
 
 use crate::lookup::absent;
 use jt_resolved::{Field, SlotExpr};
-use jt_trees::Expr;
-
-/// Whether an expression is the bare name `loop`.
-pub(crate) fn is_loop_name(expr: &Expr) -> bool
-    ensures { result ≡ is_loop (written.expr_view expr.now) }
-{
-    match expr {
-        Expr::Name(name) => name.as_str() == "loop",
-        _ => false,
-    }
-}
 
 /// What a loop tells by this name.
 pub(crate) fn field_of(name: &str) -> Option<Field>

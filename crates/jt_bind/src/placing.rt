@@ -7,6 +7,7 @@ ghost use Rattle.jt_meaning.specs.Layout.{slot_in};
 ghost use Rattle.jt_bind.specs.Resolving.{StmtLeads, line_of, table_of};
 ghost use Rattle.jt_bind.specs.Scoped.{PutsNone, globals_in, spot_in};
 ghost use Rattle.jt_trees.specs.Statements as trees;
+ghost use Rattle.jt_trees.specs.StatementView.{is_ignored, are_seen};
 ghost use Rattle.jt_names.specs.Names.{texts};
 ghost use Rattle.jt_value.specs.Tree.{Tree};
 ghost use Rattle.jt_bind.specs.Stated.{Puts};
@@ -17,17 +18,8 @@ use crate::resolver::Resolver;
 use crate::spot::Spot;
 use jt_layout::{Laid, more};
 use jt_resolved::{Slot, SlotExpr, SlotStmt, Targets};
+use jt_trees::{Missing, NamesAround};
 use jt_value::NoMemory;
-
-/// An `include`: the line of its tag, its name, whether the name may be missing, and whether it is
-/// handed what its names read.
-#[derive(Clone, Copy)]
-pub(crate) struct Inclusion<'e> {
-    pub line: u32,
-    pub name: &'e str,
-    pub ignore_missing: bool,
-    pub with_context: bool,
-}
 
 /// Puts an included name without a source behind other statements: nothing where it may be missing,
 /// else what prints what is absent.
@@ -100,27 +92,24 @@ impl<'t, 's, 'a> Resolver<'t, 's, 'a> {
     /// Puts an included chain behind other statements: it is handed its names.
     pub(crate) fn put_include(
         &self,
-        inclusion: Inclusion<'_>,
+        line: u32,
+        name: &str,
+        missing: Missing,
+        names: NamesAround,
         done: &mut Vec<SlotStmt>,
     ) -> Result<(), NoMemory>
         ensures { IfOk result (λ u. (p : List Tree)
-            → StmtLeads self.now (trees.include inclusion.entry.line inclusion.entry.name.now
-            inclusion.entry.ignore_missing inclusion.entry.with_context) done.old done.new p p) }
+            → StmtLeads self.now (trees.include line name.now (is_ignored missing)
+            (are_seen names)) done.old done.new p p) }
     {
-        let Inclusion {
-            line,
-            name,
-            ignore_missing,
-            with_context,
-        } = inclusion;
         if self.tables.is_missing(name) {
-            return put_missing(&self.spot, line, ignore_missing, done);
+            return put_missing(&self.spot, line, missing.is_ignored(), done);
         }
         let Some(place) = self.tables.chain_place(name) else {
             return put_run(self.tables.units(), Vec::new(self.alloc), done);
         };
         let there = self.tables.at(place);
-        self.hand_on(line, with_context, there, done)?;
+        self.hand_on(line, names.are_seen(), there, done)?;
         put_run(there.unit, Vec::new(self.alloc), done)
     }
 

@@ -9,10 +9,10 @@ ghost use Rattle.jt_trees.specs.Expressions.{Text};
 ghost use Rattle.jt_resolved.specs.Pool.{Constant, own};
 ghost use Rattle.jt_resolved.specs.Slots as slots;
 ghost use Rattle.jt_resolved.specs.View.{slot_view, targets_view};
-ghost use Rattle.jt_bind.specs.Stated.{Led, Puts, IsBody, IsAsked, ChoiceLeads, line_in};
+ghost use Rattle.jt_bind.specs.Stated.{Led, Puts, IsBody, AreTurns, ChoiceLeads, line_in};
 
 use crate::spot::Spot;
-use jt_resolved::{Place, Slot, SlotBranch, SlotExpr, SlotStmt, Targets};
+use jt_resolved::{Slot, SlotBranch, SlotExpr, SlotStmt, Targets};
 use jt_value::{NoMemory, Value};
 use std::alloc::Global;
 
@@ -45,12 +45,8 @@ pub(crate) fn put_print(
         → Puts s (alone (slots.print (line_in s spot.now line) spot.now.escaping c)) done.old
         done.new p q) }
 {
-    let place = Place {
-        template: spot.template,
-        line,
-    };
     done.push(SlotStmt::Print {
-        place,
+        place: spot.place(line),
         escaping: spot.escaping,
         value,
     })?;
@@ -70,12 +66,8 @@ pub(crate) fn put_assign(
         → Puts s (alone (slots.assign (line_in s spot.now line) (targets_view targets) c)) done.old
         done.new p q) }
 {
-    let place = Place {
-        template: spot.template,
-        line,
-    };
     done.push(SlotStmt::Assign {
-        place,
+        place: spot.place(line),
         targets,
         value,
     })?;
@@ -98,50 +90,37 @@ pub(crate) fn put_choice(
     Ok(())
 }
 
-/// The parts of a loop.
+/// What takes the items of a loop, what it goes over, and what is done at each turn.
 #[derive(Drop)]
-pub(crate) struct Loop {
+pub(crate) struct Turns {
     pub targets: Targets,
     pub items: SlotExpr,
     pub condition: Option<SlotExpr>,
     pub body: Vec<SlotStmt>,
-    pub other: Vec<SlotStmt>,
 }
 
 /// Puts a loop behind other statements.
 pub(crate) fn put_loop(
     spot: &Spot<'_, '_>,
     line: u32,
-    made: Loop,
+    turns: Turns,
+    other: Vec<SlotStmt>,
     done: &mut Vec<SlotStmt>,
 ) -> Result<(), NoMemory>
-    ensures { IfOk result (λ u. (s : Chains) (c : slots.SlotExpr Constant)
+    ensures { IfOk result (λ u. (s : Chains) (xs : slots.Targets) (c : slots.SlotExpr Constant)
         (k : Option (slots.SlotExpr Constant)) (turn last : slots.SBody Constant)
-        (p q r t v : List tree.Tree)
-        → IsShown c made.items p q
-        → IsAsked k made.condition q r
-        → IsBody (templates_in s) turn made.body.items r t
-        → IsBody (templates_in s) last made.other.items t v
-        → Puts s (alone (slots.for_each (line_in s spot.now line) (targets_view made.targets) c k
-        turn last)) done.old done.new p v) }
+        (p q r : List tree.Tree)
+        → AreTurns s xs c k turn turns p q
+        → IsBody (templates_in s) last other.items q r
+        → Puts s (alone (slots.for_each (line_in s spot.now line) xs c k turn last)) done.old
+        done.new p r) }
 {
-    let place = Place {
-        template: spot.template,
-        line,
-    };
-    let Loop {
-        targets,
-        items,
-        condition,
-        body,
-        other,
-    } = made;
     done.push(SlotStmt::For {
-        place,
-        targets,
-        over: items,
-        condition,
-        body,
+        place: spot.place(line),
+        targets: turns.targets,
+        over: turns.items,
+        condition: turns.condition,
+        body: turns.body,
         other,
     })?;
     Ok(())

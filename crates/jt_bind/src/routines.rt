@@ -1,15 +1,13 @@
 //! Resolves the routines of a chain or a library: the chain, its macros, and the bodies of its
 //! blocks.
 
-ghost use Rattle.std.specs.Prelude.{◌≡◌, IfOk, if◌then◌else◌};
+ghost use Rattle.std.specs.Prelude.{◌≡◌, IfOk};
 ghost use Rattle.jt_chains.specs.Chain.{a_chain};
-ghost use Rattle.jt_meaning.specs.Meaning.{is_set};
 ghost use Rattle.jt_meaning.specs.Resolve as resolve;
-ghost use Rattle.jt_bind.specs.Resolving.{BodyAdds, stmt_of, sets_of, routine_of, layer_of};
+ghost use Rattle.jt_bind.specs.Resolving.{BodyAdds, sets_of, routine_of, layer_of};
 ghost use Rattle.jt_bind.specs.Scoped.{world_in, order_in, home_in, spot_in, top_in};
 ghost use Rattle.jt_trees.specs.Expressions.{Text};
-ghost use Rattle.jt_trees.specs.StatementView.{stmt_view, body_view};
-ghost use Rattle.jt_resolved.specs.Slots as slots;
+ghost use Rattle.jt_trees.specs.StatementView.{body_view};
 ghost use Rattle.jt_names.specs.Names.{texts};
 ghost use Rattle.jt_bind.specs.Routines.{RoutineIs, PutsAll, AddsAll, entry_in, macros_in, blocks_in, routines_in};
 ghost use Rattle.jt_bind.specs.Stated.{BodyLed, layers_in};
@@ -38,28 +36,6 @@ fn top_spot<'s, 'a>(tables: &'s Tables<'a>, template: usize) -> Spot<'s, 'a>
     }
 }
 
-/// Whether a statement sets names.
-fn sets_names(statement: &Stmt) -> bool
-    ensures { result ≡ is_set (stmt_view statement.now) }
-{
-    match statement {
-        Stmt::Set { .. } | Stmt::SetBlock { .. } => true,
-        Stmt::Data(_)
-        | Stmt::Print(_, _)
-        | Stmt::If(_, _)
-        | Stmt::For { .. }
-        | Stmt::With { .. }
-        | Stmt::FilterBlock { .. }
-        | Stmt::Autoescape { .. }
-        | Stmt::Macro { .. }
-        | Stmt::Include { .. }
-        | Stmt::Import { .. }
-        | Stmt::From { .. }
-        | Stmt::Extends(_, _)
-        | Stmt::Block { .. } => false,
-    }
-}
-
 impl<'t, 's, 'a> Resolver<'t, 's, 'a> {
     /// Resolves a body in a scope of its own, with these parameters.
     fn resolve_routine(
@@ -81,23 +57,6 @@ impl<'t, 's, 'a> Resolver<'t, 's, 'a> {
             locals,
             body: done,
         })
-    }
-
-    /// Resolves a statement if it sets names, behind other statements.
-    fn resolve_if_set(
-        &self,
-        statement: &'a Stmt,
-        done: &mut Vec<SlotStmt>,
-        pool: &mut Vec<Value>,
-    ) -> Result<(), NoMemory>
-        ensures { IfOk result (λ u. BodyAdds self.now (if is_set (stmt_view statement.now) then
-            stmt_of self.now (stmt_view statement.now) else slots.end) done.old done.new pool.old
-            pool.new) }
-    {
-        if sets_names(statement) {
-            return self.resolve_statement(statement, done, pool);
-        }
-        Ok(())
     }
 
     /// Resolves those of statements that set names, behind other statements.
@@ -221,17 +180,6 @@ fn resolve_macros<'a>(
     Ok(())
 }
 
-/// The same names in memory of their own.
-fn names_again<'a>(alloc: Global, names: &[&'a str]) -> Result<Vec<&'a str>, NoMemory>
-    ensures { IfOk result (λ ks. texts ks.items ≡ texts names.now) }
-{
-    let mut found = Vec::with_capacity(alloc, names.len())?;
-    for name in names {
-        found.push(*name)?;
-    }
-    Ok(found)
-}
-
 /// Resolves the bodies of a chain's blocks, behind other routines.
 fn resolve_blocks<'a>(
     alloc: Global,
@@ -256,7 +204,7 @@ fn resolve_blocks<'a>(
             tables,
             spot,
         };
-        let parameters = names_again(alloc, tables.block_parameters(block.name))?;
+        let parameters = Vec::from_slice(alloc, tables.block_parameters(block.name))?;
         routines.push(resolver.resolve_routine(block.body, parameters, pool)?)?;
     }
     Ok(())

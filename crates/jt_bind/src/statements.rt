@@ -1,12 +1,13 @@
 //! Resolves statements: names to slots, and literals and data to places of a pool.
 
-ghost use Rattle.std.specs.Prelude.{ℕ, option_map, IfOk};
+ghost use Rattle.std.specs.Prelude.{ℕ, option_map, IfOk, if◌then◌else◌};
 ghost use Rattle.jt_trees.specs.ExpressionView as written;
 ghost use Rattle.jt_meaning.specs.Resolve as resolve;
-ghost use Rattle.jt_bind.specs.Resolving.{BodyAdds, BodyIs, StmtAdds, BranchIs, TurnIs, templates_of, spot_of, body_of, scoped_of, values_of, inside_of, condition_of};
+ghost use Rattle.jt_meaning.specs.Meaning.{is_set};
+ghost use Rattle.jt_bind.specs.Resolving.{BodyAdds, BodyIs, StmtAdds, BranchIs, TurnsAre, templates_of, spot_of, stmt_of, body_of, scoped_of, values_of, inside_of, condition_of};
 ghost use Rattle.jt_bind.specs.Scoped.{values, BodyLeads};
 ghost use Rattle.jt_trees.specs.Statements as trees;
-ghost use Rattle.jt_trees.specs.StatementView.{stmt_view, body_view, names_view};
+ghost use Rattle.jt_trees.specs.StatementView.{stmt_view, body_view, branches_view, names_view, filterings_view};
 ghost use Rattle.jt_resolved.specs.Pool.{Constant};
 ghost use Rattle.jt_resolved.specs.Slots as slots;
 ghost use Rattle.jt_resolved.specs.View.{slot_view};
@@ -14,15 +15,13 @@ ghost use Rattle.jt_names.specs.Names.{texts};
 ghost use Rattle.jt_bind.specs.Stated.{IsAsked};
 
 use crate::entering::{entered, keywords_of, texts_of};
-use crate::placing::Inclusion;
-use crate::putting::{Loop, put_assign, put_capture, put_choice, put_data, put_loop, put_print};
+use crate::putting::{Turns, put_assign, put_capture, put_choice, put_data, put_loop, put_print};
 use crate::resolver::Resolver;
-use crate::spot::Spot;
 use crate::targets::fresh_targets;
 use jt_layout::more;
 use jt_names::set_names;
-use jt_resolved::{Place, Slot, SlotBranch, SlotExpr, SlotStmt, Targets};
-use jt_trees::{Branch, Expr, Stmt};
+use jt_resolved::{Slot, SlotBranch, SlotExpr, SlotStmt, Targets};
+use jt_trees::{Branch, Expr, Filtering, Stmt};
 use jt_value::{NoMemory, Value};
 
 impl<'t, 's, 'a> Resolver<'t, 's, 'a> {
@@ -57,70 +56,26 @@ impl<'t, 's, 'a> Resolver<'t, 's, 'a> {
         match statement {
             Stmt::Data(text) => put_data(self.alloc, text, done, pool),
             Stmt::Print(line, value) => self.resolve_print(*line, value, done, pool),
-            Stmt::If(branches, other) => {
-                let mut made = Vec::with_capacity(self.alloc, branches.len())?;
-                for Branch {
-                    line,
-                    condition,
-                    body,
-                } in branches {
-                    made.push(self.resolve_branch(body, *line, condition, pool)?)?;
-                }
-                let last = self.resolve_whole(other, pool)?;
-                put_choice(made, last, done)
-            }
+            Stmt::If(branches, other) => self.resolve_branches(branches, other, done, pool),
             Stmt::For {
                 line,
-                targets: names,
-                over: value,
+                targets,
+                over,
                 condition,
                 body,
                 other,
             } => {
-                let items = self.resolve_expression(value, pool)?;
-                let turn = self.resolve_turn(body, names, condition, pool)?;
+                let turns = self.resolve_turns(body, targets, over, condition, pool)?;
                 let last = self.resolve_whole(other, pool)?;
-                let made = Loop {
-                    targets: fresh_targets(self.alloc, self.spot.free, names)?,
-                    items,
-                    condition: turn.0,
-                    body: turn.1,
-                    other: last,
-                };
-                put_loop(&self.spot, *line, made, done)
+                put_loop(&self.spot, *line, turns, last, done)
             }
-            Stmt::Set {
-                line,
-                targets: names,
-                value,
-            } => {
-                let given = self.resolve_expression(value, pool)?;
-                let targets = self.set_targets(names)?;
-                put_assign(&self.spot, *line, targets, given, done)
-            }
-            Stmt::SetBlock { name, body, .. } => {
-                self.resolve_text(body, self.set_slot(name), done, pool)
-            }
-            Stmt::With {
-                line,
-                values: pairs,
-                body,
-            } => {
-                self.resolve_values(*line, pairs, done, pool)?;
-                self.resolve_within(body, keywords_of(self.alloc, pairs)?, done, pool)
-            }
+            Stmt::Set { .. } | Stmt::SetBlock { .. } => self.resolve_if_set(statement, done, pool),
+            Stmt::With { line, values, body } => self.resolve_with(body, *line, values, done, pool),
             Stmt::FilterBlock {
                 line,
-                filters: filterings,
+                filters,
                 body,
-            } => {
-                let kept = Slot::Local(self.spot.free);
-                let mut inside = *self;
-                inside.spot.free = more(self.spot.free, 1)?;
-                inside.resolve_text(body, kept, done, pool)?;
-                let shown = inside.resolve_filterings(filterings, kept, pool)?;
-                put_print(&self.spot, *line, shown, done)
-            }
+            } => self.resolve_filter_block(body, *line, filters, done, pool),
             Stmt::Autoescape { escaping, body, .. } => {
                 self.resolve_escaping(body, *escaping, done, pool)
             }
@@ -133,69 +88,161 @@ impl<'t, 's, 'a> Resolver<'t, 's, 'a> {
                 name,
                 missing,
                 names,
-            } => {
-                let inclusion = Inclusion {
-                    line: *line,
-                    name,
-                    ignore_missing: missing.is_ignored(),
-                    with_context: names.are_seen(),
-                };
-                self.put_include(inclusion, done)
-            }
+            } => self.put_include(*line, name, *missing, *names, done),
             Stmt::Block { name, scoped, .. } => self.put_block(name, *scoped, done),
         }
+    }
+
+    /// Resolves a statement if it sets names, behind other statements.
+    #[cycle(statements)]
+    pub(crate) fn resolve_if_set(
+        &self,
+        statement: &'a Stmt,
+        done: &mut Vec<SlotStmt>,
+        pool: &mut Vec<Value>,
+    ) -> Result<(), NoMemory>
+        ensures { IfOk result (λ u. BodyAdds self.now (if is_set (stmt_view statement.now) then
+            stmt_of self.now (stmt_view statement.now) else slots.end) done.old done.new pool.old
+            pool.new) }
+    {
+        match statement {
+            Stmt::Set {
+                line,
+                targets: names,
+                value,
+            } => {
+                let given = self.resolve_expression(value, pool)?;
+                let targets = self.set_targets(names)?;
+                put_assign(&self.spot, *line, targets, given, done)
+            }
+            Stmt::SetBlock { name, body, .. } => {
+                self.resolve_text(body, self.set_slot(name), done, pool)
+            }
+            Stmt::Data(_)
+            | Stmt::Print(_, _)
+            | Stmt::If(_, _)
+            | Stmt::For { .. }
+            | Stmt::With { .. }
+            | Stmt::FilterBlock { .. }
+            | Stmt::Autoescape { .. }
+            | Stmt::Macro { .. }
+            | Stmt::Include { .. }
+            | Stmt::Import { .. }
+            | Stmt::From { .. }
+            | Stmt::Extends(_, _)
+            | Stmt::Block { .. } => Ok(()),
+        }
+    }
+
+    /// Resolves the branches of an `if` and its else part, behind other statements.
+    #[cycle(statements)]
+    fn resolve_branches(
+        &self,
+        branches: &'a [Branch<Stmt>],
+        other: &'a [Stmt],
+        done: &mut Vec<SlotStmt>,
+        pool: &mut Vec<Value>,
+    ) -> Result<(), NoMemory>
+        ensures { IfOk result (λ u. StmtAdds self.now (trees.choose (branches_view branches.now)
+            (body_view other.now)) done.old done.new pool.old pool.new) }
+    {
+        let mut made = Vec::with_capacity(self.alloc, branches.len())?;
+        for branch in branches {
+            made.push(self.resolve_branch(branch, pool)?)?;
+        }
+        let last = self.resolve_whole(other, pool)?;
+        put_choice(made, last, done)
     }
 
     /// Resolves a branch of an `if`.
     #[cycle(statements)]
     fn resolve_branch(
         &self,
-        body: &'a [Stmt],
-        line: u32,
-        condition: &Expr,
+        branch: &'a Branch<Stmt>,
         pool: &mut Vec<Value>,
     ) -> Result<SlotBranch<SlotStmt>, NoMemory>
-        ensures { IfOk result (λ b. BranchIs self.now line (written.expr_view condition.now)
-            (body_view body.now) b pool.old pool.new) }
+        ensures { IfOk result (λ b. BranchIs self.now branch.now b pool.old pool.new) }
     {
-        let place = Place {
-            template: self.spot.template,
-            line,
-        };
-        let asked = self.resolve_expression(condition, pool)?;
-        let taken = self.resolve_whole(body, pool)?;
+        let asked = self.resolve_expression(&branch.condition, pool)?;
+        let taken = self.resolve_whole(&branch.body, pool)?;
         Ok(SlotBranch {
-            place,
+            place: self.spot.place(branch.line),
             condition: asked,
             body: taken,
         })
     }
 
-    /// Resolves the condition and the body of a loop, where its names are in locals of their own.
+    /// Resolves what a loop goes over, and its condition and its body, where its names are in
+    /// locals of their own.
     #[cycle(statements)]
-    fn resolve_turn(
+    fn resolve_turns(
         &self,
         body: &'a [Stmt],
         names: &'a [String],
+        over: &Expr,
         condition: &Option<Expr>,
         pool: &mut Vec<Value>,
-    ) -> Result<(Option<SlotExpr>, Vec<SlotStmt>), NoMemory>
-        ensures { IfOk result (λ t. TurnIs self.now (names_view names.now)
-            (option_map written.expr_view condition.now) (body_view body.now) t pool.old
-            pool.new) }
+    ) -> Result<Turns, NoMemory>
+        ensures { IfOk result (λ t. TurnsAre self.now (names_view names.now)
+            (written.expr_view over.now) (option_map written.expr_view condition.now)
+            (body_view body.now) t pool.old pool.new) }
     {
+        let items = self.resolve_expression(over, pool)?;
         let inner = entered(self.alloc, &self.spot, texts_of(self.alloc, names)?)?;
         let inside = Resolver {
-            spot: Spot {
-                name_scopes: &inner.name_scopes,
-                free: inner.free,
-                ..self.spot
-            },
+            spot: self.spot.inside(&inner),
             ..*self
         };
         let asked = inside.resolve_condition(condition, pool)?;
         let turn = inside.resolve_inside(body, pool)?;
-        Ok((asked, turn))
+        Ok(Turns {
+            targets: fresh_targets(self.alloc, self.spot.free, names)?,
+            items,
+            condition: asked,
+            body: turn,
+        })
+    }
+
+    /// Resolves the values of a `with`, and its body in a scope that names them, behind other
+    /// statements.
+    #[cycle(statements)]
+    fn resolve_with(
+        &self,
+        body: &'a [Stmt],
+        line: u32,
+        pairs: &'a [(String, Expr)],
+        done: &mut Vec<SlotStmt>,
+        pool: &mut Vec<Value>,
+    ) -> Result<(), NoMemory>
+        ensures { IfOk result (λ u. StmtAdds self.now (trees.with_values line
+            (written.pairs_view pairs.now) (body_view body.now)) done.old done.new pool.old
+            pool.new) }
+    {
+        self.resolve_values(line, pairs, done, pool)?;
+        self.resolve_within(body, keywords_of(self.alloc, pairs)?, done, pool)
+    }
+
+    /// Resolves a body whose text is kept in a local, and puts what prints it through filters
+    /// behind it and other statements.
+    #[cycle(statements)]
+    fn resolve_filter_block(
+        &self,
+        body: &'a [Stmt],
+        line: u32,
+        filters: &[Filtering],
+        done: &mut Vec<SlotStmt>,
+        pool: &mut Vec<Value>,
+    ) -> Result<(), NoMemory>
+        ensures { IfOk result (λ u. StmtAdds self.now (trees.filter_block line
+            (filterings_view filters.now) (body_view body.now)) done.old done.new pool.old
+            pool.new) }
+    {
+        let kept = Slot::Local(self.spot.free);
+        let mut inside = *self;
+        inside.spot.free = more(self.spot.free, 1)?;
+        inside.resolve_text(body, kept, done, pool)?;
+        let shown = inside.resolve_filterings(filters, kept, pool)?;
+        put_print(&self.spot, line, shown, done)
     }
 
     /// Resolves a body in a scope of its own, where names are in locals from the first that holds
@@ -213,11 +260,7 @@ impl<'t, 's, 'a> Resolver<'t, 's, 'a> {
     {
         let inner = entered(self.alloc, &self.spot, names)?;
         let inside = Resolver {
-            spot: Spot {
-                name_scopes: &inner.name_scopes,
-                free: inner.free,
-                ..self.spot
-            },
+            spot: self.spot.inside(&inner),
             ..*self
         };
         inside.resolve_scoped(body, done, pool)
@@ -239,11 +282,7 @@ impl<'t, 's, 'a> Resolver<'t, 's, 'a> {
         self.put_copies(&names, done)?;
         let inner = entered(self.alloc, &self.spot, names)?;
         let inside = Resolver {
-            spot: Spot {
-                name_scopes: &inner.name_scopes,
-                free: inner.free,
-                ..self.spot
-            },
+            spot: self.spot.inside(&inner),
             ..*self
         };
         inside.resolve_body(body, done, pool)

@@ -32,15 +32,10 @@ impl<'t, 's, 'a> Resolver<'t, 's, 'a> {
             ≡ slot_if (last_among name.now (texts last.now.names.items) last.now.first None) place
             (slot_in name.now (table_of self.now)) }
     {
-        match last.index.place(name) {
-            Some(there) => {
-                if there == place {
-                    self.slot(name)
-                } else {
-                    None
-                }
-            }
-            None => None,
+        if last.index.place(name)? == place {
+            self.slot(name)
+        } else {
+            None
         }
     }
 

@@ -1,3 +1,4 @@
+pub mod Included
 pub mod Libraries
 pub mod Placed
 pub mod Tabled

@@ -6,31 +6,43 @@ use Rattle.jt_trees.specs.Expressions.{Text}
 use Rattle.jt_trees.specs.Statements.{Stmt, choose, for_each, set_block, with_values, filter_block, autoescape, macro, include, block, Body, end, stmt, Branches, no_branches, branch}
 use Rattle.jt_chains.specs.Chain.{Sources, Home, a_chain, a_library, listed, templates, libraries}
 
--- ---- the templates that a template includes, as often as they stand there: all, or those alone
--- that may not be missing
+-- ---- what statements include, in the order of the source: `give` tells what an include gives, by
+-- the name of its template and by whether that may be missing
 
-module _ (all : Bool) where
+module _ {A : Type 0} (give : Text → Bool → List A) where
   abbrev mutual
-    pub needs_by : Stmt → List Text
-    needs_by (include line n ignore_missing with_context) =
-        if all || not ignore_missing then n ∷ [] else []
-    needs_by (choose bs other) = needs_under bs ++ needs_in other
-    needs_by (for_each line xs e c body other) = needs_in body ++ needs_in other
-    needs_by (set_block line x body) = needs_in body
-    needs_by (with_values line ps body) = needs_in body
-    needs_by (filter_block line fs body) = needs_in body
-    needs_by (autoescape line on body) = needs_in body
-    needs_by (macro line x ps body) = needs_in body
-    needs_by (block line x scoped required body) = needs_in body
-    needs_by s = []
+    pub includes_by : Stmt → List A
+    includes_by (include line n ignore_missing with_context) = give n ignore_missing
+    includes_by (choose bs other) = includes_under bs ++ includes_in other
+    includes_by (for_each line xs e c body other) = includes_in body ++ includes_in other
+    includes_by (set_block line x body) = includes_in body
+    includes_by (with_values line ps body) = includes_in body
+    includes_by (filter_block line fs body) = includes_in body
+    includes_by (autoescape line on body) = includes_in body
+    includes_by (macro line x ps body) = includes_in body
+    includes_by (block line x scoped required body) = includes_in body
+    includes_by s = []
 
-    pub needs_in : Body → List Text
-    needs_in end = []
-    needs_in (stmt s rest) = needs_by s ++ needs_in rest
+    pub includes_in : Body → List A
+    includes_in end = []
+    includes_in (stmt s rest) = includes_by s ++ includes_in rest
 
-    pub needs_under : Branches → List Text
-    needs_under no_branches = []
-    needs_under (branch line c body rest) = needs_in body ++ needs_under rest
+    pub includes_under : Branches → List A
+    includes_under no_branches = []
+    includes_under (branch line c body rest) = includes_in body ++ includes_under rest
+
+-- the name of an include: of each, or of those alone that may not be missing
+abbrev pub need : Bool → Text → Bool → List Text
+need all n ignoring = if all || not ignoring then n ∷ [] else []
+
+abbrev pub needs_by : Bool → Stmt → List Text
+needs_by all = includes_by (need all)
+
+abbrev pub needs_in : Bool → Body → List Text
+needs_in all = includes_in (need all)
+
+abbrev pub needs_under : Bool → Branches → List Text
+needs_under all = includes_under (need all)
 
 -- of these names those with a source
 abbrev pub with_source : Sources → List Text → List Text

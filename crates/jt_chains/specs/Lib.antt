@@ -4,6 +4,7 @@ pub mod Includes
 pub mod Layers
 pub mod Named
 pub mod Names
+pub mod Needs
 pub mod Pages
 pub mod Parts
 pub mod Places

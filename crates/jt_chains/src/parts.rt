@@ -4,7 +4,7 @@ ghost use Rattle.std.specs.Prelude.{◌≡◌, ◌<◌, ◌++◌, length, IfOk};
 ghost use Rattle.jt_trees.specs.StatementView.{stmt_view, body_view};
 ghost use Rattle.jt_chains.specs.Chain.{macros, macros_in, all_bodies, blocks_of, blocks_in};
 ghost use Rattle.jt_chains.specs.Pages.{pages_view};
-ghost use Rattle.jt_chains.specs.Parts.{macros_view, blocks_view, name_at};
+ghost use Rattle.jt_chains.specs.Parts.{block_view, macros_view, blocks_view, name_at};
 ghost use Rattle.jt_chains.specs.Along.{body_at, macros_along, blocks_along};
 ghost use Rattle.jt_chains.specs.Spots.{AddsBlocks, spot_name};
 ghost use Rattle.jt_chains.specs.View.{NoneBeyond, home_in, its_sources, its_templates};
@@ -43,11 +43,34 @@ struct Spot<'a> {
     escaping: bool,
 }
 
-/// The same place, in another autoescape state.
-fn inside<'a>(spot: Spot<'a>, escaping: bool) -> Spot<'a>
-    ensures { result ≡ record spot.entry { escaping = escaping } }
-{
-    Spot { escaping, ..spot }
+impl<'a> Spot<'a> {
+    /// The same place, in another autoescape state.
+    fn inside(self, escaping: bool) -> Self
+        ensures { result ≡ record self.entry { escaping = escaping } }
+    {
+        Spot { escaping, ..self }
+    }
+
+    /// The body of a block that stands there.
+    fn block(self, name: &'a str, scoped: bool, required: bool, body: &'a [Stmt]) -> Block<'a>
+        ensures { block_view (pages_view self.entry.pages.now) result ≡ record {
+          template = spot_name self.entry;
+          name = name.now;
+          scoped = scoped;
+          required = required;
+          escaping = self.entry.escaping;
+          body = body_view body.now;
+        } }
+    {
+        Block {
+            template: self.template,
+            name,
+            scoped,
+            required,
+            escaping: self.escaping,
+            body,
+        }
+    }
 }
 
 /// Adds the macros at the top of a template.
@@ -121,19 +144,12 @@ fn add_statement<'a>(
             body,
             ..
         } => {
-            found.push(Block {
-                template: spot.template,
-                name: name.as_str(),
-                scoped: *scoped,
-                required: *required,
-                escaping: spot.escaping,
-                body: body.as_slice(),
-            })?;
+            found.push(spot.block(name, *scoped, *required, body))?;
             add_blocks(spot, body, found)?;
             Ok(())
         }
         Stmt::Autoescape { escaping, body, .. } => {
-            add_blocks(inside(spot, *escaping), body, found)
+            add_blocks(spot.inside(*escaping), body, found)
         }
         Stmt::If(branches, other) => {
             for Branch { body, .. } in branches {

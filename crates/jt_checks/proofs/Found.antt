@@ -44,17 +44,15 @@ module _ (world : World) (home : Home) (w : rules.Within) where
       → option_or r1 (option_or (rules.row_broken world home (exprs_view us) w) (rules.pairs_broken world home (pairs_view qs) w)) ≡ rules.called_broken world home (expr_view x) w
   found_inner ts ps is ef eu eq h1 = rw h1 (ap (λ z. rules.called_broken world home z w) (shown_call _ _ _ _ _ ts ps is ef eu eq))
 
-  pub found_filter : (ts : Vec Expr Global) (ps : Vec Entry Global) → world.filters ≡ the_filters → {x f : Expr} {n : Text} {us vs : List Expr} {qs rs : List Entry} {p : Box Expr Global} {y : String Global} {r1 r2 : Found}
-      → x ≡ e.Filter p y ts ps → n ≡ string_bytes y → us ≡ ts.items → qs ≡ ps.items → f ≡ p.value → vs ≡ ts.items → rs ≡ ps.items
-      → r1 ≡ rules.filter_broken the_filters (the_filters.named n (exprs_view us) (pairs_view qs)) (exprs_view us) (pairs_view qs) → r2 ≡ rules.broken world home (expr_view f) w
-      → option_or r1 (option_or r2 (option_or (rules.row_broken world home (exprs_view vs) w) (rules.pairs_broken world home (pairs_view rs) w))) ≡ rules.broken world home (expr_view x) w
-  found_filter ts ps ours is en eu eq ef ev er h1 h2 = rw (h1, h2, en, eu, eq, ef, ev, er, sym ours) (ap (λ z. rules.broken world home z w) (sym (ap expr_view is ∙ view_Filter _ _ ts ps)))
+  pub found_filter : (ts : Vec Expr Global) (ps : Vec Entry Global) → world.filters ≡ the_filters → {x : Expr} {n : Text} {us : List Expr} {qs : List Entry} {p : Box Expr Global} {y : String Global} {r : Found}
+      → x ≡ e.Filter p y ts ps → n ≡ string_bytes y → us ≡ ts.items → qs ≡ ps.items → r ≡ rules.filter_broken the_filters (the_filters.named n (exprs_view us) (pairs_view qs)) (exprs_view us) (pairs_view qs)
+      → option_or r (rules.called_broken world home (expr_view x) w) ≡ rules.broken world home (expr_view x) w
+  found_filter ts ps ours is en eu eq h = rw (h, en, eu, eq, sym ours, ap expr_view is ∙ view_Filter _ _ ts ps) refl
 
-  pub found_test : (ts : Vec Expr Global) (ps : Vec Entry Global) → {x f : Expr} {n : Text} {us vs : List Expr} {qs rs : List Entry} {p : Box Expr Global} {b : Polarity} {y : String Global} {r1 r2 : Found}
-      → x ≡ e.Test p b y ts ps → n ≡ string_bytes y → us ≡ ts.items → qs ≡ ps.items → f ≡ p.value → vs ≡ ts.items → rs ≡ ps.items
-      → r1 ≡ rules.test_broken (test_named n) (exprs_view us) (pairs_view qs) → r2 ≡ rules.broken world home (expr_view f) w
-      → option_or r1 (option_or r2 (option_or (rules.row_broken world home (exprs_view vs) w) (rules.pairs_broken world home (pairs_view rs) w))) ≡ rules.broken world home (expr_view x) w
-  found_test ts ps is en eu eq ef ev er h1 h2 = rw (h1, h2, en, eu, eq, ef, ev, er) (ap (λ z. rules.broken world home z w) (sym (ap expr_view is ∙ view_Test _ _ _ ts ps)))
+  pub found_test : (ts : Vec Expr Global) (ps : Vec Entry Global) → {x : Expr} {n : Text} {us : List Expr} {qs : List Entry} {p : Box Expr Global} {b : Polarity} {y : String Global} {r : Found}
+      → x ≡ e.Test p b y ts ps → n ≡ string_bytes y → us ≡ ts.items → qs ≡ ps.items → r ≡ rules.test_broken (test_named n) (exprs_view us) (pairs_view qs)
+      → option_or r (rules.called_broken world home (expr_view x) w) ≡ rules.broken world home (expr_view x) w
+  found_test ts ps is en eu eq h = rw (h, en, eu, eq, ap expr_view is ∙ view_Test _ _ _ ts ps) refl
 
   -- ---- rows and pairs
 

@@ -140,18 +140,19 @@ fn cycle_broken(within: Within, row: &[Expr], pairs: &[(String, Expr)]) -> Optio
     outside.or(unless(0 < given && pairs.is_empty()))
 }
 
-/// What a call of a library's macro breaks by itself.
+/// What a call of a library's macro breaks by itself, by the names of both.
 fn library_call_broken(
     scope: &Scope<'_>,
     within: Within,
-    of: &str,
-    field: &str,
+    path: (&str, &str),
     row: &[Expr],
     pairs: &[(String, Expr)],
 ) -> Result<Option<ScopeError>, AllocError>
     ensures { IfOk result (FindsCall scope.now within (in_library (its_sources scope.now)
-        (given_in scope.now of.now) field.now) (trees.name of.now) row.now pairs.now) }
+        (given_in scope.now path.entry.0.now) path.entry.1.now) (trees.name path.entry.0.now)
+        row.now pairs.now) }
 {
+    let (of, field) = path;
     let Some(Known::Library(library)) = scope.known(of) else {
         return Ok(Some(ScopeError::NotCallable));
     };
@@ -167,19 +168,19 @@ fn library_call_broken(
 fn field_call_broken(
     scope: &Scope<'_>,
     within: Within,
-    of: &str,
-    field: &str,
+    path: (&str, &str),
     row: &[Expr],
     pairs: &[(String, Expr)],
 ) -> Result<Option<ScopeError>, AllocError>
     ensures { IfOk result (FindsCall scope.now within (named_in (its_sources scope.now)
-        (given_in scope.now of.now) of.now field.now) (trees.name of.now) row.now pairs.now) }
+        (given_in scope.now path.entry.0.now) path.entry.0.now path.entry.1.now)
+        (trees.name path.entry.0.now) row.now pairs.now) }
 {
-    match (of, field) {
-        ("self", _) => Ok(self_broken(scope, field, row, pairs)),
+    match path {
+        ("self", field) => Ok(self_broken(scope, field, row, pairs)),
         ("loop", "cycle") => Ok(cycle_broken(within, row, pairs)),
         ("loop", _) => Ok(Some(ScopeError::NotCallable)),
-        _ => library_call_broken(scope, within, of, field, row, pairs),
+        _ => library_call_broken(scope, within, path, row, pairs),
     }
 }
 
@@ -198,7 +199,7 @@ fn call_broken(
     match called {
         Expr::Name(name) => name_call_broken(scope, within, name, row, pairs),
         Expr::Attribute(value, field) => match name_of(value) {
-            Some(of) => field_call_broken(scope, within, of, field, row, pairs),
+            Some(of) => field_call_broken(scope, within, (of, field), row, pairs),
             None => Ok(Some(ScopeError::NotCallable)),
         },
         _ => Ok(Some(ScopeError::NotCallable)),
@@ -241,13 +242,8 @@ pub(crate) fn broken(
     ensures { IfOk result (Finds rules.broken scope.now within (expr_view expr.now)) }
 {
     match expr {
-        Expr::Constant(_) => Ok(None),
         Expr::Name(name) => Ok(used(scope, name)),
-        Expr::Group(inside) => broken(scope, within, inside),
-        Expr::List(row) => row_broken(scope, within, row),
-        Expr::Map(pairs) => pairs_broken(scope, within, pairs),
         Expr::Attribute(value, field) => attribute_broken(scope, within, value, field),
-        Expr::Item(value, index) => both_broken(scope, within, value, index),
         Expr::Call {
             callee,
             arguments,
@@ -258,34 +254,24 @@ pub(crate) fn broken(
             or_arguments_broken(scope, within, either(first, call), arguments, keywords)
         }
         Expr::Filter {
-            input,
             name,
             arguments,
             keywords,
+            ..
         } => {
             let call = filter_broken(scope.alloc, name, arguments, keywords);
-            let input = broken(scope, within, input);
-            or_arguments_broken(scope, within, either(call, input), arguments, keywords)
+            either(call, called_broken(scope, within, expr))
         }
         Expr::Test {
-            value,
             name,
             arguments,
             keywords,
             ..
         } => {
             let call = test_broken(name, arguments, keywords);
-            let value = broken(scope, within, value);
-            or_arguments_broken(scope, within, either(Ok(call), value), arguments, keywords)
+            either(Ok(call), called_broken(scope, within, expr))
         }
-        Expr::Unary(_, operand) => broken(scope, within, operand),
-        Expr::Binary { left, right, .. } => both_broken(scope, within, left, right),
-        Expr::When { condition, value } => both_broken(scope, within, condition, value),
-        Expr::Choice {
-            condition,
-            value,
-            other,
-        } => three_broken(scope, within, condition, value, other),
+        _ => called_broken(scope, within, expr),
     }
 }
 
@@ -320,19 +306,13 @@ fn called_broken(
             arguments,
             keywords,
             ..
-        } => {
-            let input = broken(scope, within, input);
-            or_arguments_broken(scope, within, input, arguments, keywords)
-        }
+        } => value_broken(scope, within, input, arguments, keywords),
         Expr::Test {
             value,
             arguments,
             keywords,
             ..
-        } => {
-            let value = broken(scope, within, value);
-            or_arguments_broken(scope, within, value, arguments, keywords)
-        }
+        } => value_broken(scope, within, value, arguments, keywords),
         Expr::Unary(_, operand) => broken(scope, within, operand),
         Expr::Binary { left, right, .. } => both_broken(scope, within, left, right),
         Expr::When { condition, value } => both_broken(scope, within, condition, value),
@@ -392,6 +372,22 @@ fn or_arguments_broken(
     let places = row_broken(scope, within, row);
     let keywords = pairs_broken(scope, within, pairs);
     either(before, either(places, keywords))
+}
+
+/// The first rule that a value breaks, or else the arguments that are given for it.
+#[cycle(broken)]
+fn value_broken(
+    scope: &Scope<'_>,
+    within: Within,
+    value: &Expr,
+    row: &[Expr],
+    pairs: &[(String, Expr)],
+) -> Result<Option<ScopeError>, AllocError>
+    ensures { IfOk result (λ o. o ≡ option_or (tree_found scope.now within value.now)
+        (arguments_found scope.now within row.now pairs.now)) }
+{
+    let value = broken(scope, within, value);
+    or_arguments_broken(scope, within, value, row, pairs)
 }
 
 /// The first rule that an attribute breaks.

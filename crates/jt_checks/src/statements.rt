@@ -267,10 +267,7 @@ fn statement_broken(
             None => turns_broken(scope, within, body, other),
         },
         Stmt::Set { targets, value, .. } => set_broken(scope, within, targets, value),
-        Stmt::SetBlock { name, body, .. } => {
-            let target = used(scope, name);
-            or_body_broken(scope, within, target, body)
-        }
+        Stmt::SetBlock { name, body, .. } => or_body_broken(scope, within, used(scope, name), body),
         Stmt::With { values, body, .. } => {
             let head = bindings_broken(scope, within, values)?;
             or_body_broken(scope, within, head, body)

@@ -4,6 +4,7 @@ use Rattle.std.specs.List.{AllByRecursion}
 use Rattle.std.proofs.lemmas.List.{drop_more, at_drop_all}
 use Rattle.std.specs.Prelude.{nat_le, option_map}
 use Rattle.std.proofs.lemmas.Bool.Decides.{nat_tests}
+use Rattle.std.proofs.Math.Bool.{and-true, and-false}
 use Rattle.jt_trees.specs.Expressions.{Text}
 use Rattle.jt_resolved.specs.Slots as slots
 use Rattle.jt_resolved.specs.Slots.{SlotStmt, SBody, end}
@@ -17,6 +18,7 @@ use Rattle.jt_resolved.specs.declared.program.Routine as given_routine
 use Rattle.jt_resolved.specs.declared.program.SlotStmt.TheVariants as v
 use Rattle.jt_resolved.specs.Size.{expr_height, targets_height, condition_height, stmt_height, body_height}
 use Rattle.jt_resolved.proofs.StatementViews.{SBranch, view_If, view_For, view_Capture}
+use Rattle.jt_codegen.proofs.Emitting.{statements_left}
 
 -- both are few enough where the greater one is
 pub both_low : (a b c : ℕ) → nat_le (max a b) c ≡ nat_le a c && nat_le b c
@@ -34,11 +36,7 @@ Passes room f o = (behind : SBody ℕ) → nat_le (body_height (f behind)) room 
 
 -- alone
 pub passes_alone : (room : ℕ) (f : Front) (o : Bool) → Passes room f o → nat_le (body_height (f end)) room ≡ o
-passes_alone room f o h = h end ∙ ap (λ z. o && z) (zero_low room) ∙ last o
-  where
-    last : (u : Bool) → (u && true) ≡ u
-    last true = refl
-    last false = refl
+passes_alone room f o h = h end ∙ ap (λ z. o && z) (zero_low room) ∙ and-true o
 
 -- a statement that is seen as this one
 pub passes_one : (room : ℕ) (f : Front) (x : SlotStmt ℕ) (o : Bool) → ((behind : SBody ℕ) → f behind ≡ slots.stmt x behind) → o ≡ nat_le (stmt_height x) room → Passes room f o
@@ -98,7 +96,7 @@ module _ (room : ℕ) (templates : List Text) where
   split : (c x l y : ℕ) → nat_le (max (max c (max x l)) y) room ≡ (nat_le c room && (nat_le x room && nat_le l room)) && nat_le y room
   split c x l y = both_low (max c (max x l)) y room ∙ ap (λ z. z && nat_le y room) (both_low c (max x l) room ∙ ap (λ z. nat_le c room && z) (both_low x l room))
 
-  choice_passes : (bs : List SBranch) (other : Front) (o : Bool) → Passes room other o → Passes room (choice_view templates bs other) (branches_low bs && o)
+  pub choice_passes : (bs : List SBranch) (other : Front) (o : Bool) → Passes room other o → Passes room (choice_view templates bs other) (branches_low bs && o)
   choice_passes [] other o h behind = h behind
   choice_passes (b ∷ bs) other o h behind =
       let c = expr_height (expr_view b.condition) in
@@ -108,7 +106,7 @@ module _ (room : ℕ) (templates : List Text) where
       ∙ ap (λ z. (nat_le c room && (nat_le x room && ((branches_low bs && o) && z))) && nat_le (body_height behind) room) (zero_low room)
       ∙ all_of (nat_le c room) (nat_le x room) (branches_low bs) o (nat_le (body_height behind) room)
 
-  choice_high : (bs : List SBranch) (other : Front) (behind : SBody ℕ) → branches_low bs ≡ false → nat_le (body_height (choice_view templates bs other behind)) room ≡ false
+  pub choice_high : (bs : List SBranch) (other : Front) (behind : SBody ℕ) → branches_low bs ≡ false → nat_le (body_height (choice_view templates bs other behind)) room ≡ false
   choice_high [] other behind h = absurd cc
   choice_high (b ∷ bs) other behind h =
       let c = expr_height (expr_view b.condition) in
@@ -143,36 +141,19 @@ module _ (room : ℕ) (templates : List Text) where
   pub inside_high : (bs : List SBranch) (i : ℕ) (b : SBranch) (ss : List given.SlotStmt) (t u : Bool) → i < length bs → b ≡ get_or bs i b → ss ≡ b.body.items → t ≡ nat_le (expr_height (expr_view b.condition)) room
       → Passes room (body_view templates ss) u → u ≡ false → branches_low (drop i bs) ≡ false
   inside_high bs i b ss t u lt is same e f high =
-      branches_next bs i b lt is ∙ ap (λ z. z && branches_low (drop (i + 1) bs)) (branch_same b ss t u same e f ∙ ap (λ z. t && z) high ∙ none t)
-    where
-      none : (t : Bool) → (t && false) ≡ false
-      none true = refl
-      none false = refl
+      branches_next bs i b lt is ∙ ap (λ z. z && branches_low (drop (i + 1) bs)) (branch_same b ss t u same e f ∙ ap (λ z. t && z) high ∙ and-false t)
 
-  if_view : (x : given.SlotStmt) (bs : Vec SBranch Global) (other : Vec given.SlotStmt Global) (bs' : List SBranch) (other' : List given.SlotStmt) → x ≡ v.If bs other → bs' ≡ bs.items → other' ≡ other.items → (behind : SBody ℕ) → stmt_view templates x behind ≡ choice_view templates bs' (body_view templates other') behind
+  pub if_view : (x : given.SlotStmt) (bs : Vec SBranch Global) (other : Vec given.SlotStmt Global) (bs' : List SBranch) (other' : List given.SlotStmt) → x ≡ v.If bs other → bs' ≡ bs.items → other' ≡ other.items → (behind : SBody ℕ) → stmt_view templates x behind ≡ choice_view templates bs' (body_view templates other') behind
   if_view x bs other bs' other' is p q behind =
       ap (λ z. stmt_view templates z behind) is ∙ view_If templates bs other behind
       ∙ ap (λ (l : List SBranch). choice_view templates l (body_view templates other.items) behind) (sym p)
       ∙ ap (λ (l : List given.SlotStmt). choice_view templates bs' (body_view templates l) behind) (sym q)
 
-  -- a statement of branches
-  pub if_passes : (x : given.SlotStmt) (bs : Vec SBranch Global) (other : Vec given.SlotStmt Global) (bs' : List SBranch) (other' : List given.SlotStmt) (o : Bool) → x ≡ v.If bs other → bs' ≡ bs.items → other' ≡ other.items → branches_low bs' ≡ true
-      → Passes room (body_view templates other') o → Passes room (stmt_view templates x) o
-  if_passes x bs other bs' other' o is p q all h behind =
-      ap (λ b. nat_le (body_height b) room) (if_view x bs other bs' other' is p q behind) ∙ choice_passes bs' (body_view templates other') o h behind ∙ ap (λ z. (z && o) && nat_le (body_height behind) room) all
-
-  pub if_blocked : (x : given.SlotStmt) (bs : Vec SBranch Global) (other : Vec given.SlotStmt Global) (bs' : List SBranch) → x ≡ v.If bs other → bs' ≡ bs.items → branches_low bs' ≡ false → (behind : SBody ℕ) → nat_le (body_height (stmt_view templates x behind)) room ≡ false
-  if_blocked x bs other bs' is p high behind =
-      ap (λ b. nat_le (body_height b) room) (if_view x bs other bs' other.items is p refl behind) ∙ choice_high bs' (body_view templates other.items) behind high
-
   -- ---- statements, one after the other
-
-  statements_left : (ss : List given.SlotStmt) (i : ℕ) (x : given.SlotStmt) → i < length ss → x ≡ get_or ss i x → (behind : SBody ℕ) → body_view templates (drop i ss) behind ≡ stmt_view templates x (body_view templates (drop (i + 1) ss) behind)
-  statements_left ss i x lt is behind = ap (λ l. body_view templates l behind) (drop_more ss i x lt) ∙ ap (λ z. stmt_view templates z (body_view templates (drop (i + 1) ss) behind)) (sym is)
 
   pub body_next : (ss : List given.SlotStmt) (i : ℕ) (x : given.SlotStmt) (t : Bool) (behind : SBody ℕ) → i < length ss → x ≡ get_or ss i x → Passes room (stmt_view templates x) t
       → nat_le (body_height (body_view templates (drop i ss) behind)) room ≡ t && nat_le (body_height (body_view templates (drop (i + 1) ss) behind)) room
-  body_next ss i x t behind lt is h = ap (λ b. nat_le (body_height b) room) (statements_left ss i x lt is behind) ∙ h (body_view templates (drop (i + 1) ss) behind)
+  body_next ss i x t behind lt is h = ap (λ b. nat_le (body_height b) room) (statements_left templates ss i x lt is behind) ∙ h (body_view templates (drop (i + 1) ss) behind)
 
 -- ---- routines
 

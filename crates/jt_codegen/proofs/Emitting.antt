@@ -23,9 +23,10 @@ stands_itself n = record { same = λ l. refl; above = λ l. l }
 
 -- ---- statements
 
--- a statement alone in front of others
-pub emits_one : (ts : List Text) (h : ℕ) (old new : Emitter) (s : slots.SlotStmt ℕ) → Puts ts old (stmt_asm s h) new → Emits ts h old (λ behind. slots.stmt s behind) new
-emits_one ts h old new s p = λ behind final q. puts_then ts old new final (stmt_asm s h) (body_asm behind h) p q
+-- a statement that is seen as this one, in front of others
+pub emits_seen : (ts : List Text) (h : ℕ) (old new : Emitter) (x y : SlotStmt) (form : slots.SlotStmt ℕ) → x ≡ y → ((behind : SBody ℕ) → stmt_view ts y behind ≡ slots.stmt form behind) → Puts ts old (stmt_asm form h) new → Emits ts h old (stmt_view ts x) new
+emits_seen ts h old new x y form is seen p = λ behind final q.
+    subst (λ b. Puts ts old (body_asm b h) final) (sym (ap (λ z. stmt_view ts z behind) is ∙ seen behind)) (puts_then ts old new final (stmt_asm form h) (body_asm behind h) p q)
 
 pub emits_as : (ts : List Text) (h : ℕ) (old new : Emitter) (f g : Front) → ((behind : SBody ℕ) → f behind ≡ g behind) → Emits ts h old g new → Emits ts h old f new
 emits_as ts h old new f g same e = λ behind final q. subst (λ b. Puts ts old (body_asm b h) final) (sym (same behind)) (e behind final q)
@@ -38,15 +39,15 @@ emits_alone ts h old new f e = e slots.end new (puts_nothing ts new)
 abbrev pub Leads : List Text → ℕ → Emitter → Front → Emitter → Front → Type 0
 Leads ts h old all now left = (behind : SBody ℕ) (final : Emitter) → Puts ts now (body_asm (left behind) h) final → Puts ts old (body_asm (all behind) h) final
 
-module _ (templates : List Text) (h : ℕ) where
-  statements_left : (ss : List SlotStmt) (i : ℕ) (s : SlotStmt) → i < length ss → s ≡ get_or ss i s → (behind : SBody ℕ) → body_view templates (drop i ss) behind ≡ stmt_view templates s (body_view templates (drop (i + 1) ss) behind)
-  statements_left ss i s lt is behind =
-      ap (λ l. body_view templates l behind) (drop_more ss i s lt) ∙ ap (λ (x : SlotStmt). stmt_view templates x (body_view templates (drop (i + 1) ss) behind)) (sym is)
+pub statements_left : (ts : List Text) (ss : List SlotStmt) (i : ℕ) (s : SlotStmt) → i < length ss → s ≡ get_or ss i s → (behind : SBody ℕ) → body_view ts (drop i ss) behind ≡ stmt_view ts s (body_view ts (drop (i + 1) ss) behind)
+statements_left ts ss i s lt is behind =
+    ap (λ l. body_view ts l behind) (drop_more ss i s lt) ∙ ap (λ (x : SlotStmt). stmt_view ts x (body_view ts (drop (i + 1) ss) behind)) (sym is)
 
+module _ (templates : List Text) (h : ℕ) where
   pub leads_more : (ss : List SlotStmt) (i : ℕ) (s : SlotStmt) (old now new : Emitter) (all : Front) → i < length ss → s ≡ get_or ss i s → Leads templates h old all now (body_view templates (drop i ss)) → Emits templates h now (stmt_view templates s) new
       → Leads templates h old all new (body_view templates (drop (i + 1) ss))
   leads_more ss i s old now new all lt is l e = λ behind final q.
-      l behind final (subst (λ b. Puts templates now (body_asm b h) final) (sym (statements_left ss i s lt is behind)) (e (body_view templates (drop (i + 1) ss) behind) final q))
+      l behind final (subst (λ b. Puts templates now (body_asm b h) final) (sym (statements_left templates ss i s lt is behind)) (e (body_view templates (drop (i + 1) ss) behind) final q))
 
   pub leads_all : (ss : List SlotStmt) (i : ℕ) (old now : Emitter) (all : Front) → length ss ≤ i → Leads templates h old all now (body_view templates (drop i ss)) → Emits templates h old all now
   leads_all ss i old now all le l = λ behind final q.

@@ -1,9 +1,10 @@
 -- A chain that breaks no rule: its image, and what its refusals say.
-use Rattle.std.proofs.Common.{◌≡◌, ℕ, suc, ◌+◌, ◌*◌, ◌<◌, ◌≤◌, Bool, true, false, List, [], ◌∷◌, map, length, Some, refl, sym, ap, ◌∙◌, subst, arith, rules}
+use Rattle.std.proofs.Common.{◌≡◌, ℕ, suc, ◌+◌, ◌*◌, ◌<◌, ◌≤◌, Bool, true, false, List, [], ◌∷◌, map, length, Some, None, refl, sym, ap, ◌∙◌, subst, arith, rules}
 use Rattle.std.specs.Prelude.{slice_get, nat_le, IsTrue}
 use Rattle.std.specs.List.{AllByRecursion}
 use Rattle.std.proofs.lemmas.Bool.Decides.{nat_tests}
 use Rattle.jt_scan.specs.declared.options.Options.{Options}
+use Rattle.jt_image.proofs.Passed.{all_weaker}
 use Rattle.jt_image.specs.Code.{Code}
 use Rattle.jt_image.specs.IsCode.{IsCode}
 use Rattle.jt_image.specs.Typed.{max_entries}
@@ -12,7 +13,8 @@ use Rattle.jt_image.specs.Laws.{CodeLaws}
 use Rattle.jt_trees.specs.Sizes.{body_bytes}
 use Rattle.jt_trees.specs.Expressions.{Text}
 use Rattle.jt_chains.specs.Chain.{Home, a_chain, templates}
-use Rattle.jt_inherit.specs.Chains.{Given, IsChain}
+use Rattle.jt_inherit.specs.Chains.{Given, IsRead, IsChain}
+use Rattle.jt_parse.specs.Names.{body_unknown}
 use Rattle.jt_chains.specs.Includes.{InOrder}
 use Rattle.jt_chains.specs.Places.{home_at}
 use Rattle.jt_chains.specs.Rules.{Reaches}
@@ -24,15 +26,17 @@ use Rattle.jt_chains.specs.View.{Seen, sources_of}
 use Rattle.jt_inherit.specs.declared.error.ChainError.{ChainError}
 use Rattle.jt_inherit.specs.declared.error.ChainError.TheVariants as chain_error
 use Rattle.jt_rules.specs.Rules as rules
+use Rattle.jt_rules.specs.Known.{ChainsKnown}
 use Rattle.jt_rules.specs.Rules.{KeepsRules}
 use Rattle.jt_rules.specs.declared.error.ScopeError.{ScopeError}
 use Rattle.jt_rules.specs.declared.error.ScopeError.TheVariants as scope_error
 use Rattle.jt_rules.specs.World.{World, world_of}
 use Rattle.jt_meaning.specs.Bytes.{IsShort}
-use Rattle.jt_meaning.specs.Layout.{shared}
+use Rattle.jt_meaning.specs.Layout.{names, shared}
 use Rattle.jt_meaning.specs.Laws.{ProgramLaws}
 use Rattle.jt_meaning.specs.Measure.{AreFew, IsSized}
-use Rattle.jt_meaning.specs.Programs.{program, routines}
+use Rattle.jt_meaning.specs.Programs.{program, routines, count_globals}
+use Rattle.jt_evaluation.specs.TheFilters.{the_filters}
 use Rattle.jt_resolved.specs.Size.{body_height}
 use Rattle.jt_resolved.specs.Slots.{Routine, Program}
 use Rattle.jt_resolved.specs.View.{routine_view, templates_of, program_of}
@@ -48,16 +52,15 @@ use Rattle.jt_codegen.specs.Refusals.{of_chain, of_scope, of_emit, Breaks, HasPr
 use Rattle.jt_codegen.specs.Units.{FitsImage, HasFewValues, RefusesCode}
 use Rattle.jt_codegen.specs.declared.emission.EmitError.{EmitError}
 use Rattle.jt_codegen.specs.declared.emission.EmitError.TheVariants as emit_error
-use Rattle.jt_codegen.proofs.Chained.{fits, by_order}
 use Rattle.jt_codegen.proofs.Importing.{all_count}
-use Rattle.jt_codegen.proofs.Lawful.{few_globals}
+use Rattle.jt_codegen.proofs.Knowing.{chains_known}
+use Rattle.jt_codegen.proofs.Lawful.{few_globals, program_lawful}
 use Rattle.jt_codegen.proofs.Merging.{ps, moved_all}
 use Rattle.jt_codegen.proofs.Pooling.{few_values}
-use Rattle.jt_codegen.proofs.Read.{all_each, names_all, own_all, all_short}
+use Rattle.jt_codegen.proofs.Read.{names_all, own_all, all_short}
 use Rattle.jt_codegen.proofs.Routines.{parameters_few}
-use Rattle.jt_codegen.proofs.Spelled.{read_named}
+use Rattle.jt_codegen.proofs.Spelled.{IsLine, first_line, tree_said}
 use Rattle.jt_codegen.proofs.Small.{small_low, small_fits}
-use Rattle.jt_codegen.proofs.Lined.{IsLine, first_line}
 use Rattle.jt_codegen.proofs.Named.{IsTag, names_of, few_names, homes_tagged}
 use Rattle.jt_codegen.proofs.Tagged.{OnTag, program_placed}
 use Rattle.jt_codegen.proofs.Ordered.{tables}
@@ -98,29 +101,22 @@ high_of q rs b same counted e = search (arith, rules)
 
 -- a refusal of the chain
 pub chain_refused : (given : Given) (entry : Text) (options : Options) (e : ChainError) → inherit.Breaks e given entry options → ((c : Seen) → IsChain given entry options c → e ≡ chain_error.NoMemory) → Breaks given entry options (of_chain e)
-chain_refused given entry options chain_error.Missing b none = (λ e. cc, b, λ c is. let no = none c is in absurd cc)
-chain_refused given entry options chain_error.BadName b none = (λ e. cc, b, λ c is. let no = none c is in absurd cc)
-chain_refused given entry options chain_error.ExtendsCycle b none = (λ e. cc, b, λ c is. let no = none c is in absurd cc)
-chain_refused given entry options chain_error.ChainTooLong b none = (λ e. cc, b, λ c is. let no = none c is in absurd cc)
-chain_refused given entry options chain_error.DoubleBlock b none = (λ e. cc, b, λ c is. let no = none c is in absurd cc)
-chain_refused given entry options chain_error.RequiredNotGiven b none = (λ e. cc, b, λ c is. let no = none c is in absurd cc)
-chain_refused given entry options chain_error.NoSuper b none = (λ e. cc, b, λ c is. let no = none c is in absurd cc)
-chain_refused given entry options chain_error.IncludeCycle b none = (λ e. cc, b, λ c is. let no = none c is in absurd cc)
-chain_refused given entry options chain_error.MacroTwice b none = (λ e. cc, b, λ c is. let no = none c is in absurd cc)
-chain_refused given entry options chain_error.NoMacro b none = (λ e. cc, b, λ c is. let no = none c is in absurd cc)
-chain_refused given entry options chain_error.NotALibrary b none = (λ e. cc, b, λ c is. let no = none c is in absurd cc)
-chain_refused given entry options (chain_error.Scan n f) b none = (λ e. cc, b, λ c is. let no = none c is in absurd cc)
-chain_refused given entry options (chain_error.Parse n f) b none = (λ e. cc, b, λ c is. let no = none c is in absurd cc)
 chain_refused given entry options chain_error.NoMemory b none = tt
+chain_refused given entry options e b none = (λ q. cc, b, λ c is. let no = none c is in absurd cc)
 
 -- a rule of names and calls that is broken
 pub rule_refused : (given : Given) (entry : Text) (options : Options) (c : Seen) → IsOnlyChain given entry options c → (e : ScopeError) → rules.Breaks e (world_of c) c.order → Breaks given entry options (of_scope e)
-rule_refused given entry options c is scope_error.LoopOutside r = record { chain = c; is = is; fault = λ e. cc; broken = r }
-rule_refused given entry options c is scope_error.MacroAsValue r = record { chain = c; is = is; fault = λ e. cc; broken = r }
-rule_refused given entry options c is scope_error.NotCallable r = record { chain = c; is = is; fault = λ e. cc; broken = r }
-rule_refused given entry options c is scope_error.BadArguments r = record { chain = c; is = is; fault = λ e. cc; broken = r }
-rule_refused given entry options c is scope_error.TooManySlots r = record { chain = c; is = is; fault = λ e. cc; broken = r }
 rule_refused given entry options c is scope_error.NoMemory r = tt
+rule_refused given entry options c is e r = record { chain = c; is = is; fault = λ q. cc; broken = r }
+
+-- chains with the same sources are read with the same
+pub only_chain : (given : Given) (entry : Text) (options : Options) (c : Seen) → IsChain given entry options c → ((d : Seen) → IsChain given entry options d → (n : Text) → sources_of c n ≡ sources_of d n) → IsOnlyChain given entry options c
+only_chain given entry options c is one = record {
+  is = is;
+  only = λ d id.
+      let same : d.escaping ≡ c.escaping = id.escaping ∙ sym is.escaping in
+      λ i. record { filters = the_filters; sources = λ n. sym (one d id n) i; escaping = same i };
+}
 
 module _ (code : CodeLaws) (low : LowLaws) (programs : ProgramLaws) (given : Given) (entry : Text) (options : Options) (c : Seen) (the : IsOnlyChain given entry options c) (kept : KeepsRules (world_of c) c.order) where
   abbrev is : IsChain given entry options c
@@ -142,14 +138,59 @@ module _ (code : CodeLaws) (low : LowLaws) (programs : ProgramLaws) (given : Giv
   of_entry : (q : Program) → IsOf q → q ≡ program world c.order (a_chain entry)
   of_entry q same = same ∙ ap (λ (o : List Home). program world c.order (home_at o 0)) is.begins
 
-  begun : program world c.order (a_chain entry) ≡ p
-  begun = ap (λ (o : List Home). program world o (a_chain entry)) is.begins
+  is_p : (q : Program) → IsOf q → q ≡ p
+  is_p q same = of_entry q same ∙ ap (λ (o : List Home). program world o (a_chain entry)) is.begins
 
-  -- ---- its image
+  -- ---- it fits, and its code does what the chain means
+
+  ordered : InOrder world.sources order
+  ordered = subst (InOrder (sources_of c)) is.begins is.order
+
+  reached : AllByRecursion (Reaches world.sources world.escaping (a_chain entry)) order
+  reached = subst (AllByRecursion (Reaches (sources_of c) c.escaping (a_chain entry))) is.begins is.reached
+
+  known : ChainsKnown world order
+  known = chains_known c (all_weaker (IsRead given options) (λ t. body_unknown t.body ≡ None) c.templates (λ t r. r.tree.known) is.read.each) order
+
+  fits : AreLow (routines world order) → ProgramFits p
+  fits few =
+      let takes = programs.takes world (a_chain entry) is.included ordered reached is.rules (subst (KeepsRules world) is.begins kept) known in
+      low.fits (names world order (a_chain entry)) (count_globals world order order) (shared world order) (routines world order) (program_lawful world entry is.included ordered takes) few
+
+  does_right : AreLow (routines world order) → IsCode (compiled p) → IsCompiled given entry options (compiled p)
+  does_right few whole =
+      let fit = fits few in
+      let d = low.right p fit whole in
+      let means = programs.means world entry is.included ordered in
+      record {
+        chain = c;
+        is = the;
+        lawful = kept;
+        typed = low.typed p fit;
+        does = record {
+          texts = λ x b t r. let m = d.texts x b t r in (m.0, sym (means x m.0) ∙ m.1);
+          faults = λ x b f q r. let m = d.faults x b f q r in (m.0, sym (means x m.0) ∙ m.1);
+          enough_text = λ x n t e. d.enough_text x n t (means x n ∙ e);
+          enough_fault = λ x n f q e. d.enough_fault x n f q (means x n ∙ e);
+        };
+      }
+
+  lows : (q : Program) → IsOf q → Low q → AreLow (routines world order)
+  lows q same h = low.low (routines world order) (length (shared world order)) (subst Low (is_p q same) h)
+
+  pub fits_of : (q : Program) → IsOf q → Low q → ProgramFits q
+  fits_of q same h = subst ProgramFits (sym (is_p q same)) (fits (lows q same h))
+
+  pub image_compiled : (q : Program) (k : Code) → IsOf q → Low q → k ≡ compiled q → IsCode k → IsCompiled given entry options k
+  image_compiled q k same few held whole =
+      let one : compiled p ≡ k = ap compiled (sym (is_p q same)) ∙ sym held in
+      subst (IsCompiled given entry options) one (does_right (lows q same few) (subst IsCode (sym one) whole))
+
+  -- ---- its tables
 
   -- no name that is read or bound is empty
   some : AllByRecursion (λ t. AllByRecursion (λ x. 0 < length x) (body_names t.body)) c.templates
-  some = read_named given options c.templates is.read.each
+  some = all_weaker (IsRead given options) (λ t. AllByRecursion (λ x. 0 < length x) (body_names t.body)) c.templates (λ t r. (tree_said options r.source t.body r.tree).1) is.read.each
 
   -- the names of the templates of the chains, and the place of each tag
   abbrev named : List Text
@@ -160,26 +201,12 @@ module _ (code : CodeLaws) (low : LowLaws) (programs : ProgramLaws) (given : Giv
 
   pub tables_of : (q : Program) → IsOf q → HasTables (compiled q)
   tables_of q same =
-      subst (λ (r : Program). HasTables (compiled r)) (sym (of_entry q same ∙ begun))
+      subst (λ (r : Program). HasTables (compiled r)) (sym (is_p q same))
       (tables world entry is.included named tags (names_all (λ x. 0 < length x) world (own_all (λ x. 0 < length x) c.templates some) order (a_chain entry)) (programs.ascends world order (a_chain entry)) (omega (arith, few_globals world order (a_chain entry))))
 
   -- its pool isn't too long, where an image has place for its code
   pub few_of : (q : Program) → IsOf q → HasFewValues q
-  few_of q same = subst HasFewValues (sym (of_entry q same)) (few_values world c.order low (a_chain entry))
-
-  lows : (q : Program) → IsOf q → Low q → AreLow (routines world c.order)
-  lows q same h = low.low (routines world c.order) (length (shared world c.order)) (subst Low (of_entry q same) h)
-
-  -- it fits
-  pub fits_of : (q : Program) → IsOf q → Low q → ProgramFits q
-  fits_of q same h =
-      let lows_begun : AreLow (routines world order) = subst (λ (o : List Home). AreLow (routines world o)) is.begins (lows q same h) in
-      subst ProgramFits (sym (of_entry q same ∙ begun)) (fits low programs given entry options c the kept lows_begun)
-
-  pub image_compiled : (q : Program) (k : Code) → IsOf q → Low q → k ≡ compiled q → IsCode k → IsCompiled given entry options k
-  image_compiled q k same few held whole =
-      let one : compiled (program world c.order (a_chain entry)) ≡ k = ap compiled (sym (of_entry q same)) ∙ sym held in
-      subst (IsCompiled given entry options) one (by_order low programs given entry options c the kept (lows q same few) (subst IsCode (sym one) whole))
+  few_of q same = subst HasFewValues (sym (is_p q same)) (few_values world order low (a_chain entry))
 
   -- ---- refusals hold
 
@@ -202,38 +229,34 @@ module _ (code : CodeLaws) (low : LowLaws) (programs : ProgramLaws) (given : Giv
     are_few : AreFew world order
     are_few = subst (AreFew world) is.begins (programs.few c is.order (small.names c is) kept)
 
-    ordered : InOrder (sources_of c) order
-    ordered = subst (InOrder (sources_of c)) is.begins is.order
-
     sized : IsSized world order p
     sized = programs.sized world (a_chain entry) is.included ordered are_few
 
     pub low_small : (q : Program) → IsOf q → Low q
-    low_small q same = subst Low (sym (of_entry q same ∙ begun)) (small_low code low world order p sized weight)
+    low_small q same = subst Low (sym (is_p q same)) (small_low code low world order p sized weight)
 
     -- the sources of each chain and library
     counted : AllByRecursion (λ h. templates_len given (templates (sources_of c) h) ≤ 2000) order
     counted =
         let bytes : chains_len given (sources_of c) order ≤ 2000 = subst (λ (o : List Home). chains_len given (sources_of c) o ≤ 2000) is.begins (small.bytes c is) in
-        let reached : AllByRecursion (Reaches (sources_of c) c.escaping (a_chain entry)) order = subst (AllByRecursion (Reaches (sources_of c) c.escaping (a_chain entry))) is.begins is.reached in
-        all_each (λ h. templates_len given (templates (sources_of c) h) ≤ chains_len given (sources_of c) order) (λ h. templates_len given (templates (sources_of c) h) ≤ 2000) (λ h le. omega (arith, le, bytes)) order
+        all_weaker (λ h. templates_len given (templates (sources_of c) h) ≤ chains_len given (sources_of c) order) (λ h. templates_len given (templates (sources_of c) h) ≤ 2000) order (λ h le. omega (arith, le, bytes))
         (all_count given (sources_of c) c.escaping entry is.included ordered reached)
 
     module _ (short : AllByRecursion (λ t. body_bytes t.body ≤ source_len (given t.name)) c.templates) (few : 7 * length c.order ≤ chains_weight (sources_of c) c.order + 7) where
       texts : IsShort 2000 p
       texts =
-          subst (IsShort 2000) begun
+          subst (IsShort 2000) (ap (λ (o : List Home). program world o (a_chain entry)) is.begins)
           (programs.short c (a_chain entry) is.included 2000 is.begins (subst (λ (o : List Home). AllByRecursion (λ h. AllByRecursion (λ t. body_bytes t.body ≤ 2000) (templates (sources_of c) h)) o) (sym is.begins) (all_short given 2000 c.templates short order counted)))
 
       few_chains : 7 * length order ≤ chains_weight (sources_of c) order + 7
       few_chains = subst (λ (o : List Home). 7 * length o ≤ chains_weight (sources_of c) o + 7) is.begins few
 
       fitting : ProgramFits p
-      fitting = fits low programs given entry options c the kept (low.low (routines world order) (length (shared world order)) (small_low code low world order p sized weight))
+      fitting = fits (low.low (routines world order) (length (shared world order)) (small_low code low world order p sized weight))
 
       pub fits_small : (q : Program) → IsOf q → FitsImage (compiled q)
       fits_small q same =
-          subst (λ (r : Program). FitsImage (compiled r)) (sym (of_entry q same ∙ begun))
+          subst (λ (r : Program). FitsImage (compiled r)) (sym (is_p q same))
           (small_fits code low world order p sized weight texts few_chains named (few_names (sources_of c) order) tags fitting (moved_all (λ parameters kind locals. parameters ≤ 200) (ps p) (map unit_of p.routines) (parameters_few world (a_chain entry) is.included (length (shared world order)) are_few)))
 
   pub stack_not_small : (q : Program) → IsOf q → ¬ (Low q) → chains_weight (sources_of c) c.order ≤ chains_len given (sources_of c) c.order → ¬ (IsSmall given entry options)

@@ -14,6 +14,7 @@ use Rattle.jt_inherit.specs.Small.{templates_len, libraries_len, chains_len}
 use Rattle.jt_inherit.proofs.Fewer.{HasTag, needed, tagged}
 use Rattle.jt_meaning.proofs.Among.{Among, all_ascending}
 use Rattle.jt_meaning.proofs.Reading.{same_text, same_is, home_is, no_both, each_among}
+use Rattle.std.proofs.lemmas.Bool.{or_right}
 
 -- ---- the libraries that a chain leads to
 
@@ -85,11 +86,7 @@ module _ (given : Given) (s : Sources) where
     each_counts : (hs : List Home) → ((h : Home) → listed h hs ≡ true → listed h (a_chain entry ∷ rest) ≡ true) → AllByRecursion (Reaches s escaping (a_chain entry)) hs
         → AllByRecursion (λ h. templates_len given (templates s h) ≤ chains_len given s (a_chain entry ∷ rest)) hs
     each_counts [] f r = tt
-    each_counts (h ∷ hs) f r = (counts h (f h (ap (λ b. b || listed h hs) (home_is h))) r.0, each_counts hs (λ k e. f k (later (same_home h k) (listed k hs) e)) r.1)
-      where
-        later : (a b : Bool) → b ≡ true → (a || b) ≡ true
-        later true b e = refl
-        later false b e = e
+    each_counts (h ∷ hs) f r = (counts h (f h (ap (λ b. b || listed h hs) (home_is h))) r.0, each_counts hs (λ k e. f k (or_right (same_home h k) (listed k hs) e)) r.1)
 
     -- where all sources have together so many bytes, those of each chain and library have no more
     pub all_count : AllByRecursion (Reaches s escaping (a_chain entry)) (a_chain entry ∷ rest) → AllByRecursion (λ h. templates_len given (templates s h) ≤ chains_len given s (a_chain entry ∷ rest)) (a_chain entry ∷ rest)

@@ -6,6 +6,7 @@ use Rattle.std.specs.Str.{bytes_eq}
 use Rattle.std.specs.Prelude as prelude
 use Rattle.std.specs.Prelude.{map, flat_map, ◌||◌}
 use Rattle.std.proofs.lemmas.List.{length-map}
+use Rattle.std.proofs.lemmas.Bool.{or_right}
 use Rattle.jt_value.specs.Tree as tree
 use Rattle.jt_value.specs.Tree.{Tree}
 use Rattle.jt_ids.specs.declared.op_id.OpId.TheVariants as op
@@ -17,7 +18,7 @@ use Rattle.jt_evaluation.specs.Tests.{test_named}
 use Rattle.jt_evaluation.specs.Values.{literal}
 use Rattle.jt_chains.specs.Uses.{count, keywords, set_in, own_names}
 use Rattle.jt_chains.specs.Includes.{included, InOrder}
-use Rattle.jt_trees.specs.Statements.{Parameter, Filtering, Stmt, data_of, print, choose, for_each, set, set_block, with_values, filter_block, autoescape, macro, include, import_as, import_from, extends, block, Body, end, stmt, Branches, no_branches, branch}
+use Rattle.jt_trees.specs.Statements.{Parameter, Filtering, Stmt, data_of, print, choose, for_each, set, set_block, with_values, filter_block, autoescape, include, block, Body, end, stmt, Branches, no_branches, branch}
 use Rattle.jt_chains.specs.Chain.{Home, a_chain, a_library, same_home, listed, Template, templates, BlockBody, MacroBody, macros, macro_of, given, Callee, a_macro, callee, is_loop}
 use Rattle.jt_evaluation.specs.Loops.{Field, field_named}
 use Rattle.jt_evaluation.specs.Filters.{default_value, some_given}
@@ -33,13 +34,14 @@ use Rattle.jt_resolved.specs.Takes.{BodyTakes}
 use Rattle.jt_evaluation.specs.TheFilters.{the_filters}
 use Rattle.jt_resolved.specs.Pool.{Constant, own, known}
 use Rattle.jt_meaning.specs.Resolve.{value_or, read_from, turned_round, tested_by, filtered_by, in_form, field_from, followed, locals_from, fresh, fresh_targets, kept_slots, slot_of, set_targets, filled, filled_some, first_locals, reads, handed_on, Part, Spot, place, left_out, grown, bound_table, bound_all, copied, scoped, next_given, first_body, invoked_body, invoked_super, invoked, resolved, resolved_row, resolved_asides, resolved_entries, resolved_condition, resolved_filters, resolved_values, placed_body, resolved_stmt, resolved_body, resolved_choice, top_spot, resolved_sets, resolved_chain, resolved_routine, chain_routine, macro_routine}
-use Rattle.jt_lower.specs.Fits.{IsBare, IsPooled}
-use Rattle.jt_lower.specs.Lawful.{ConstantLawful, SlotLawful, ExprLawful, RowLawful, SomeLawful, SlotsLawful, TargetsLawful, ConditionLawful, BodyLawful, RoutineLawful, AreLawful}
+use Rattle.jt_lower.specs.Fits.{IsBare, OfSome, OfSlots, OfTargets, IsPooled}
+use Rattle.jt_lower.specs.Lawful.{ConstantLawful, SlotLawful, ExprLawful, RowLawful, ConditionLawful, BodyLawful, RoutineLawful, AreLawful}
 use Rattle.jt_meaning.proofs.Finding.{macro_named}
 use Rattle.jt_meaning.proofs.Givens.{LeadsTo, called_macro}
 use Rattle.jt_meaning.proofs.Ordering.{libraries_stand}
 use Rattle.jt_meaning.proofs.Reading.{home_same, home_is}
 use Rattle.jt_lower.proofs.Fitting.{all_append}
+use Rattle.jt_codegen.proofs.Either.{either_of}
 
 literal_pooled : (l : Literal) → IsPooled (literal l)
 literal_pooled l = search (arith, rules)
@@ -65,23 +67,15 @@ module _ (front globals_count : ℕ) (some : 0 < front) where
   Fine t = AllByRecursion (λ e. S e.1) t
 
   abbrev SomeFine : Option Slot → Type 0
-  SomeFine = SomeLawful front globals_count
+  SomeFine = OfSome S
 
   slot_fine : (t : Table) (x : Text) → Fine t → SomeFine (slot_in x t)
   slot_fine [] x h = tt
-  slot_fine (b ∷ bs) x h = through (bytes_eq b.0 x) (slot_fine bs x h.1)
-    where
-      through : (c : Bool) → SomeFine (slot_in x bs) → SomeFine (if c then Some b.1 else slot_in x bs)
-      through true g = h.0
-      through false g = g
+  slot_fine (b ∷ bs) x h = either_of SomeFine (bytes_eq b.0 x) (Some b.1) (slot_in x bs) h.0 (slot_fine bs x h.1)
 
   of_fine : (t : Table) (x : Text) → Fine t → S (slot_of x t)
   of_fine [] x h = tt
-  of_fine (b ∷ bs) x h = through (bytes_eq b.0 x) (of_fine bs x h.1)
-    where
-      through : (c : Bool) → S (slot_of x bs) → S (if c then b.1 else slot_of x bs)
-      through true g = h.0
-      through false g = g
+  of_fine (b ∷ bs) x h = either_of S (bytes_eq b.0 x) b.1 (slot_of x bs) h.0 (of_fine bs x h.1)
 
   value_fine : (s : Option Slot) (k : Constant) → SomeFine s → ConstantLawful front globals_count k → E (value_or s k)
   value_fine None k h g = g
@@ -106,10 +100,6 @@ module _ (front globals_count : ℕ) (some : 0 < front) where
   field_fine None = tt
   field_fine (Some f) = tt
 
-  either_fine : (b : Bool) (x y : SlotExpr Constant) → E x → E y → E (if b then x else y)
-  either_fine true x y h k = h
-  either_fine false x y h k = k
-
   turned_fine : (b : Bool) (e : SlotExpr Constant) → E e → E (turned_round b e)
   turned_fine false e h = h
   turned_fine true e h = (h, tt)
@@ -133,14 +123,9 @@ module _ (front globals_count : ℕ) (some : 0 < front) where
   some_fine : (ps : List Parameter) (m : ℕ) (xs : List Text) (ks : Table) → Fine ks → R (filled_some ps m xs ks)
   some_fine [] m xs ks h = tt
   some_fine (p ∷ ps) (suc m) xs ks h = some_fine ps m xs ks h
-  some_fine (p ∷ ps) zero xs ks h = through (some_given (p ∷ ps) xs) (some_fine ps zero xs ks h)
-    where
-      d : Constant
-      d = own (default_value p.default)
-
-      through : (b : Bool) → R (filled_some ps zero xs ks) → R (if b then slots.item (value_or (slot_in p.name ks) d) (filled_some ps zero xs ks) else slots.none)
-      through true g = (value_fine (slot_in p.name ks) d (slot_fine ks p.name h) (default_pooled p.default), g)
-      through false g = tt
+  some_fine (p ∷ ps) zero xs ks h =
+      let d : Constant = own (default_value p.default) in
+      either_of R (some_given (p ∷ ps) xs) (slots.item (value_or (slot_in p.name ks) d) (filled_some ps zero xs ks)) slots.none (value_fine (slot_in p.name ks) d (slot_fine ks p.name h) (default_pooled p.default), some_fine ps zero xs ks h) tt
 
   first_fine : (m : ℕ) (xs : List Text) → R (first_locals m xs)
   first_fine m [] = tt
@@ -158,22 +143,18 @@ module _ (front globals_count : ℕ) (some : 0 < front) where
       through None h = h
       through (Some s) h = h
 
-  fresh_each : (m : ℕ) (xs : List Text) → SlotsLawful front globals_count (fresh m xs)
+  fresh_each : (m : ℕ) (xs : List Text) → OfSlots S (fresh m xs)
   fresh_each m [] = tt
   fresh_each m (x ∷ xs) = (tt, fresh_each (suc m) xs)
 
-  fresh_fine : (m : ℕ) (xs : List Text) → TargetsLawful front globals_count (fresh_targets m xs)
+  fresh_fine : (m : ℕ) (xs : List Text) → OfTargets S (fresh_targets m xs)
   fresh_fine m xs = search (arith, rules, fresh_each)
 
-  kept_each : (t : Table) (xs : List Text) → Fine t → SlotsLawful front globals_count (kept_slots t xs)
+  kept_each : (t : Table) (xs : List Text) → Fine t → OfSlots S (kept_slots t xs)
   kept_each t [] h = tt
-  kept_each t (x ∷ xs) h = (through (among x xs) (slot_fine t x h), kept_each t xs h)
-    where
-      through : (b : Bool) → SomeFine (slot_in x t) → SomeFine (if b then None else slot_in x t)
-      through true g = tt
-      through false g = g
+  kept_each t (x ∷ xs) h = (either_of SomeFine (among x xs) None (slot_in x t) tt (slot_fine t x h), kept_each t xs h)
 
-  set_fine : (t : Table) (xs : List Text) → Fine t → TargetsLawful front globals_count (set_targets t xs)
+  set_fine : (t : Table) (xs : List Text) → Fine t → OfTargets S (set_targets t xs)
   set_fine t [] h = tt
   set_fine t (x ∷ []) h = of_fine t x h
   set_fine t (x ∷ (y ∷ ys)) h = kept_each t (x ∷ (y ∷ ys)) h
@@ -218,7 +199,7 @@ module _ (front globals_count : ℕ) (some : 0 < front) where
       fined (list_of ts) sp i t = row_fined ts sp i t slots.none tt
       fined (map_of ps) sp i t = entries_fined ps sp i t
       fined (attribute a x) sp i t =
-          either_fine (is_loop a) (field_from (field_named x)) (slots.made (slots.operator op.Item) (slots.item (resolved world order a sp) (slots.item (slots.pooled (own (tree.text x))) slots.none)))
+          either_of E (is_loop a) (field_from (field_named x)) (slots.made (slots.operator op.Item) (slots.item (resolved world order a sp) (slots.item (slots.pooled (own (tree.text x))) slots.none)))
           (field_fine (field_named x)) (fined a sp i t, (tt, tt))
       fined (item a b) sp i t = (fined a sp i t, (fined b sp i t, tt))
       fined (call f ts ps) sp i t =
@@ -274,10 +255,6 @@ module _ (front globals_count : ℕ) (some : 0 < front) where
     placed_fined sp None x t h = (tt, tt)
     placed_fined sp (Some i) x t h = ((reads_fine t (block_parameters world order sp.home x) h, reads_bare t (block_parameters world order sp.home x)), tt)
 
-    table_fine : (b : Bool) (sp : Spot) → Fine sp.table → Fine (if b then sp.table else globals world order sp.home)
-    table_fine true sp t = t
-    table_fine false sp t = globals_of_fine sp.home
-
     seen_fine : (b : Bool) (t : Table) → Fine t → Fine (if b then t else [])
     seen_fine true t h = h
     seen_fine false t h = tt
@@ -318,13 +295,10 @@ module _ (front globals_count : ℕ) (some : 0 < front) where
       stmt_fined (autoescape line on body) sp i t =
           let inner = record sp { escaping = on } in
           scope_fined body inner t (all_fined body (bound_all (set_in body) inner) i (bound_fine (set_in body) sp.free sp.table t))
-      stmt_fined (macro line x ps body) sp i t = tt
       stmt_fined (include line m missing with_context) sp i t = include_fined sp line m missing with_context (is_none (world.sources m)) t
-      stmt_fined (import_as line m x) sp i t = tt
-      stmt_fined (import_from line m xs) sp i t = tt
-      stmt_fined (extends line m) sp i t = tt
       stmt_fined (block line x is required body) sp i t =
-          placed_fined sp (first_body (numbered_of world sp.home x)) x (if is then sp.table else globals world order sp.home) (table_fine is sp t)
+          placed_fined sp (first_body (numbered_of world sp.home x)) x (if is then sp.table else globals world order sp.home) (either_of Fine is sp.table (globals world order sp.home) t (globals_of_fine sp.home))
+      stmt_fined s sp i t = tt
 
       pub all_fined : (b : Body) (sp : Spot) → listed sp.home order ≡ true → Fine sp.table → B (resolved_body world order b sp)
       all_fined end sp i t = tt
@@ -344,11 +318,7 @@ module _ (world : World) (order : List Home) where
 
   first_le : (ks : List Home) (h : Home) → first_in world order ks h ≤ count_globals world order ks
   first_le [] h = omega arith
-  first_le (k ∷ ks) h = through (same_home k h) (first_le ks h)
-    where
-      through : (b : Bool) → first_in world order ks h ≤ count_globals world order ks → (if b then 0 else length (names world order k) + first_in world order ks h) ≤ length (names world order k) + count_globals world order ks
-      through true l = omega arith
-      through false l = omega (arith, l)
+  first_le (k ∷ ks) h = either_of (λ n. n ≤ length (names world order k) + count_globals world order ks) (same_home k h) 0 (length (names world order k) + first_in world order ks h) (omega arith) (omega (arith, first_le ks h))
 
   first_few : (ks : List Home) (h : Home) → listed h ks ≡ true → first_in world order ks h + length (names world order h) ≤ count_globals world order ks
   first_few [] h e = absurd (let none : false ≡ true = e in cc)
@@ -435,15 +405,12 @@ module _ (world : World) (order : List Home) where
 
     sets_lawful : (h : Home) → listed h order ≡ true → (b : Body) (t : Text) → L (resolved_sets world order b (top_spot world order h t))
     sets_lawful h i end t = tt
-    sets_lawful h i (stmt s rest) t = which (is_set s) (sets_lawful h i rest t)
-      where
-        sp : Spot
-        sp = top_spot world order h t
-
-        which : (b : Bool) → L (resolved_sets world order rest sp) → L (if b then followed (resolved_stmt world order s sp) (resolved_sets world order rest sp) else resolved_sets world order rest sp)
-        which false r = r
-        which true r = followed_fine front_count (count_globals world order order) some_front (resolved_stmt world order s sp) (resolved_sets world order rest sp)
-            (stmt_fined front_count (count_globals world order order) some_front world order few_globals (laid_defaults ordered) s sp i (at_top h)) r
+    sets_lawful h i (stmt s rest) t =
+        let sp = top_spot world order h t in
+        let left = resolved_sets world order rest sp in
+        let own = stmt_fined front_count (count_globals world order order) some_front world order few_globals (laid_defaults ordered) s sp i (at_top h) in
+        let lawful = sets_lawful h i rest t in
+        either_of L (is_set s) (followed (resolved_stmt world order s sp) left) left (followed_fine front_count (count_globals world order order) some_front (resolved_stmt world order s sp) left own lawful) lawful
 
     chain_lawful : (h : Home) → listed h order ≡ true → (ts : List Template) → L (resolved_chain world order h ts)
     chain_lawful h i [] = tt
@@ -490,11 +457,7 @@ module _ (world : World) (order : List Home) where
         let bs = body_routines world order h (numbered_bodies world h) in
         all_append Good (chain_routines world order h) (flat_map (chain_routines world order) hs)
         (all_append Good (entry_routines world order h) (ms ++ bs) (entry_lawful h here) (all_append Good ms bs (macros_lawful h here (macros world.sources h)) (bodies_lawful h here (numbered_bodies world h))))
-        (routines_of hs (λ g j. i g (later (same_home h g) (listed g hs) j)))
-      where
-        later : (a b : Bool) → b ≡ true → (a || b) ≡ true
-        later true b e = refl
-        later false b e = e
+        (routines_of hs (λ g j. i g (or_right (same_home h g) (listed g hs) j)))
 
   defaults_pooled : (ms : List MacroBody) → AllByRecursion IsPooled (defaults_of ms)
   defaults_pooled [] = tt

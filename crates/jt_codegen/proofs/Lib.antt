@@ -1,11 +1,10 @@
-pub mod Depths
+pub mod Either
 pub mod Emitting
 pub mod Reading
 pub mod Tabled
 pub mod Below
 pub mod Lawful
 pub mod Knowing
-pub mod Chained
 pub mod Refused
 pub mod Read
 pub mod Routines
@@ -17,7 +16,6 @@ pub mod Images
 pub mod Telling
 pub mod Searching
 pub mod Tagged
-pub mod Lined
 pub mod Fewer
 pub mod Named
 pub mod Merging

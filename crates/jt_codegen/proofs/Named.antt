@@ -1,5 +1,5 @@
 -- The templates and spots of the code of chains: they are in order, and where chains are few, so are their templates.
-use Rattle.std.proofs.Common.{◌≡◌, ℕ, zero, suc, ◌+◌, ◌*◌, ◌<◌, ◌≤◌, Bool, true, false, if◌then◌else◌, List, [], ◌∷◌, ◌++◌, length, map, Option, Some, None, refl, sym, ap, arith, length-append, ⊎_elim, inl, inr}
+use Rattle.std.proofs.Common.{◌≡◌, ℕ, zero, suc, ◌+◌, ◌*◌, ◌<◌, ◌≤◌, List, [], ◌∷◌, ◌++◌, length, map, Option, Some, None, refl, sym, ap, arith, length-append, ⊎_elim, inl, inr}
 use Rattle.std.proofs.lemmas.List.{length-map}
 use Rattle.std.specs.Prelude.{flat_map}
 use Rattle.std.specs.Int.{w16, to_le_bytes}
@@ -12,6 +12,7 @@ use Rattle.jt_trees.specs.Statements.{Body}
 use Rattle.jt_chains.specs.Chain.{Sources, Home, a_chain, a_library, Template, parent_of, names_up, sources_in, template, holds_macros, library_template, templates, max_templates}
 use Rattle.jt_chains.specs.Names.{IsName}
 use Rattle.jt_inherit.specs.Chains.{Given, IsRead}
+use Rattle.jt_image.proofs.Passed.{all_weaker}
 use Rattle.jt_image.specs.Code.{Spot}
 use Rattle.jt_image.specs.IsCode.{AscendTexts, IsSpot}
 use Rattle.jt_image.specs.Parts.{AreTemplates}
@@ -21,8 +22,9 @@ use Rattle.jt_meaning.proofs.Few.{ascending_ascends}
 use Rattle.jt_lower.specs.Spots.{templates_of, spot_of}
 use Rattle.jt_lower.specs.Spots as spots
 use Rattle.jt_lower.proofs.Spots.{Among, number_within, all_here}
+use Rattle.jt_codegen.proofs.Either.{either_of}
 use Rattle.jt_codegen.proofs.Fewer.{no_more}
-use Rattle.jt_codegen.proofs.Lined.{IsLine, first_line, tree_lined}
+use Rattle.jt_codegen.proofs.Spelled.{IsLine, first_line, tree_said}
 use Rattle.jt_codegen.proofs.Read.{chain_has, all_inserted_all}
 use Rattle.jt_codegen.proofs.Tagged.{BodyLines, OnTag, IsTagged}
 
@@ -101,11 +103,7 @@ module _ (sources : Sources) where
 
   few_library : (n : Text) (o : Option Body) → length (library_template n o) ≤ 1
   few_library n None = omega arith
-  few_library n (Some b) = by (holds_macros b)
-    where
-      by : (c : Bool) → length (if c then template n (Some b) else []) ≤ 1
-      by true = omega arith
-      by false = omega arith
+  few_library n (Some b) = either_of (λ (ts : List Template). length ts ≤ 1) (holds_macros b) (template n (Some b)) [] (omega arith) (omega arith)
 
   few_templates_in : (h : Home) → length (templates sources h) ≤ 64
   few_templates_in (a_chain n) = few_up max_templates (Some n)
@@ -139,15 +137,11 @@ module _ (sources : Sources) where
       let here = map (λ t. t.name) (templates sources h) in
       (tagged ns (templates sources h) (λ x i. f x (among_left x here (names_of hs) i)) (g h), all_tagged ns hs (λ x i. f x (among_right x here (names_of hs) i)) g)
 
--- the names and lines of templates that were read
-pub read_lined : (given : Given) (options : Options) (ts : List Template) → AllByRecursion (IsRead given options) ts → AllByRecursion (λ t. IsName t.name × BodyLines IsLine t.body) ts
-read_lined given options [] h = tt
-read_lined given options (t ∷ ts) h = ((h.0.named, tree_lined options h.0.source t.body h.0.tree), read_lined given options ts h.1)
-
 pub homes_tagged : (given : Given) (options : Options) (ts : List Template) → AllByRecursion (IsRead given options) ts → (hs : List Home)
     → AllByRecursion (λ h. AllByRecursion (λ t. IsTagged (IsTag (names_of (sources_in ts) hs)) IsLine first_line t.name t.body) (templates (sources_in ts) h)) hs
 homes_tagged given options ts read hs =
-    all_tagged (sources_in ts) (names_of (sources_in ts) hs) hs (λ x i. i) (chain_has (λ m b. IsName m × BodyLines IsLine b) ts (read_lined given options ts read))
+    let lined = all_weaker (IsRead given options) (λ t. IsName t.name × BodyLines IsLine t.body) ts (λ t r. (r.named, (tree_said options r.source t.body r.tree).0)) read in
+    all_tagged (sources_in ts) (names_of (sources_in ts) hs) hs (λ x i. i) (chain_has (λ m b. IsName m × BodyLines IsLine b) ts lined)
 
 -- ---- few chains name few templates, each of which is short
 

@@ -30,14 +30,12 @@ constant_few (known i) = omega arith
 mutual
   expr_few : (e : SlotExpr Constant) → length (expr_values e) ≤ expr_size e
   expr_few (slots.pooled k) = constant_few k
-  expr_few (slots.variable s) = omega arith
-  expr_few (slots.field f) = omega arith
-  expr_few slots.absent = omega arith
   expr_few (slots.made k es) = omega (arith, row_few es)
   expr_few (slots.conjunction a b) = omega (arith, length-append (expr_values a) (expr_values b), expr_few a, expr_few b)
   expr_few (slots.disjunction a b) = omega (arith, length-append (expr_values a) (expr_values b), expr_few a, expr_few b)
   expr_few (slots.choice c a b) = omega (arith, length-append (expr_values c) (expr_values a ++ expr_values b), length-append (expr_values a) (expr_values b), expr_few c, expr_few a, expr_few b)
   expr_few (slots.invoke u escaping es) = omega (arith, row_few es)
+  expr_few e = omega arith
 
   row_few : (es : SRow Constant) → length (row_values es) ≤ row_size es
   row_few slots.none = omega arith

@@ -19,14 +19,11 @@ use Rattle.jt_chains.specs.Uses.{body_names, own_names}
 use Rattle.jt_rules.specs.World.{World}
 use Rattle.jt_meaning.specs.Layout.{in_globals, names_in}
 use Rattle.jt_lower.proofs.Fitting.{all_append}
+use Rattle.jt_codegen.proofs.Either.{either_of}
 
 pub all_flat : {A B : Type 0} (P : B → Type 0) (f : A → List B) (xs : List A) → AllByRecursion (λ x. AllByRecursion P (f x)) xs → AllByRecursion P (flat_map f xs)
 all_flat P f [] h = tt
 all_flat P f (x ∷ xs) h = all_append P (f x) (flat_map f xs) h.0 (all_flat P f xs h.1)
-
-pub all_each : {A : Type 0} (P Q : A → Type 0) → ((x : A) → P x → Q x) → (xs : List A) → AllByRecursion P xs → AllByRecursion Q xs
-all_each P Q f [] h = tt
-all_each P Q f (x ∷ xs) h = (f x h.0, all_each P Q f xs h.1)
 
 -- ---- templates of chains
 
@@ -53,11 +50,7 @@ module _ (P : Text → Body → Type 0) where
 
   library_has : (n : Text) (o : Option Body) → Has n o → AllByRecursion (λ t. P t.name t.body) (library_template n o)
   library_has n None h = tt
-  library_has n (Some b) h = by (holds_macros b)
-    where
-      by : (c : Bool) → AllByRecursion (λ t. P t.name t.body) (if c then template n (Some b) else [])
-      by true = (h, tt)
-      by false = tt
+  library_has n (Some b) h = either_of (AllByRecursion (λ t. P t.name t.body)) (holds_macros b) (template n (Some b)) [] (h, tt) tt
 
   pub chain_has : (ts : List Template) → AllByRecursion (λ t. P t.name t.body) ts → (h : Home) → AllByRecursion (λ t. P t.name t.body) (templates (sources_in ts) h)
   chain_has ts a (a_chain n) = named_have (sources_in ts) (source_has ts a) (names_up (sources_in ts) max_templates (Some n))
@@ -80,12 +73,9 @@ module _ (given : Given) (n : ℕ) where
 module _ (P : Text → Type 0) where
   inserted_all : (x : Text) (xs : List Text) → P x → AllByRecursion P xs → AllByRecursion P (inserted x xs)
   inserted_all x [] h g = (h, tt)
-  inserted_all x (y ∷ ys) h g = through (bytes_eq y x) (is_lt (slice_cmp nat_cmp x y)) (inserted_all x ys h g.1)
-    where
-      through : (b c : Bool) → AllByRecursion P (inserted x ys) → AllByRecursion P (if b then y ∷ ys else if c then x ∷ y ∷ ys else y ∷ inserted x ys)
-      through true c k = g
-      through false true k = (h, g)
-      through false false k = (g.0, k)
+  inserted_all x (y ∷ ys) h g =
+      let later = if is_lt (slice_cmp nat_cmp x y) then x ∷ y ∷ ys else y ∷ inserted x ys in
+      either_of (AllByRecursion P) (bytes_eq y x) (y ∷ ys) later g (either_of (AllByRecursion P) (is_lt (slice_cmp nat_cmp x y)) (x ∷ y ∷ ys) (y ∷ inserted x ys) (h, g) (g.0, inserted_all x ys h g.1))
 
   pub all_inserted_all : (xs ys : List Text) → AllByRecursion P xs → AllByRecursion P ys → AllByRecursion P (all_inserted xs ys)
   all_inserted_all [] ys h g = g
@@ -99,15 +89,13 @@ module _ (P : Text → Type 0) where
   globals_all (a_chain n) xs a = a
   globals_all (a_library n) xs a = tt
 
-  own_or_later : (b : Bool) (at : Home) (own later behind : List Text) → AllByRecursion P own → AllByRecursion P later → AllByRecursion P behind → AllByRecursion P (if b then in_globals at (ascending (own ++ later)) else behind)
-  own_or_later true at own later behind h g k = globals_all at (ascending (own ++ later)) (all_inserted_all (own ++ later) [] (all_append P own later h g) tt)
-  own_or_later false at own later behind h g k = k
-
   pub names_all : (world : World) → ((h : Home) → AllByRecursion P (own_names world.sources h)) → (hs : List Home) (h : Home) → AllByRecursion P (names_in world hs h)
   names_all world own [] h = tt
   names_all world own (k ∷ ks) h =
-      own_or_later (same_home k h) h (own_names world.sources h) (flat_map (names_in world ks) (included world.sources h)) (names_in world ks h) (own h)
-      (handed_all (names_in world ks) (λ m. names_all world own ks m) (included world.sources h)) (names_all world own ks h)
+      let all = own_names world.sources h ++ flat_map (names_in world ks) (included world.sources h) in
+      let later = handed_all (names_in world ks) (λ m. names_all world own ks m) (included world.sources h) in
+      either_of (AllByRecursion P) (same_home k h) (in_globals h (ascending all)) (names_in world ks h)
+      (globals_all h (ascending all) (all_inserted_all all [] (all_append P (own_names world.sources h) (flat_map (names_in world ks) (included world.sources h)) (own h) later) tt)) (names_all world own ks h)
 
   -- where each name of each template that was read is so
   pub own_all : (ts : List Template) → AllByRecursion (λ t. AllByRecursion P (body_names t.body)) ts → (h : Home) → AllByRecursion P (own_names (sources_in ts) h)

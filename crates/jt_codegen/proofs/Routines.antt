@@ -1,5 +1,5 @@
 -- The parameters and the locals of the routines of chains.
-use Rattle.std.proofs.Common.{ℕ, ◌≤◌, ◌+◌, Bool, true, false, if◌then◌else◌, List, [], ◌∷◌, ◌++◌, length, map, arith}
+use Rattle.std.proofs.Common.{ℕ, ◌≤◌, ◌+◌, List, [], ◌∷◌, ◌++◌, length, map, arith}
 use Rattle.std.proofs.lemmas.List.{length-map}
 use Rattle.std.specs.Prelude.{flat_map, filter}
 use Rattle.std.specs.List.{AllByRecursion}
@@ -17,6 +17,7 @@ use Rattle.jt_resolved.specs.Pool.{Constant, body_values, placed_routines}
 use Rattle.jt_lower.specs.Lower.{unit_of}
 use Rattle.jt_meaning.proofs.Givens.{all_own}
 use Rattle.jt_lower.proofs.Fitting.{all_append}
+use Rattle.jt_codegen.proofs.Either.{either_of}
 
 -- said of parameters and locals alone
 abbrev pub Of : {K : Type 0} → (ℕ → ℕ → Type 0) → Routine K → Type 0
@@ -76,14 +77,10 @@ abbrev Few : ℕ → ℕ → Type 0
 Few parameters locals = parameters ≤ 200
 
 pub parameters_few : (world : World) (entry : Home) (rest : List Home) (n : ℕ) → AreFew world (entry ∷ rest) → AllByRecursion (λ u. u.parameters ≤ 200) (map unit_of (placed_routines (routines world (entry ∷ rest)) n))
-parameters_few world entry rest n few = units_so Few world order (λ m. omega arith) (λ h b behind. scoped h (is_scoped world h b.name)) n (all order few)
+parameters_few world entry rest n few = units_so Few world order (λ m. omega arith) (λ h b behind. either_of (λ (xs : List Text). length xs ≤ 200) (is_scoped world h b.name) (scopes world order h) [] (few.0.names h).1 (omega arith)) n (all order few)
   where
     order : List Home
     order = entry ∷ rest
-
-    scoped : (h : Home) (b : Bool) → length (if b then scopes world order h else []) ≤ 200
-    scoped h true = (few.0.names h).1
-    scoped h false = omega arith
 
     each : (h : Home) (ms : List MacroBody) → AllByRecursion (λ m. length m.parameters ≤ 200) ms → AllByRecursion (λ m. Of Few (macro_routine world order h m)) ms
     each h [] g = tt

@@ -1,5 +1,5 @@
 -- Among texts that ascend strictly, a binary search finds how many stand before one.
-use Rattle.std.proofs.Common.{◌≡◌, ℕ, zero, suc, ◌<◌, ◌≤◌, Bool, true, false, if◌then◌else◌, List, [], ◌∷◌, length, get_or, refl, sym, ap, ◌∙◌, subst, arith, ⊎_elim}
+use Rattle.std.proofs.Common.{◌≡◌, ℕ, zero, suc, ◌<◌, ◌≤◌, Bool, false, if◌then◌else◌, List, [], ◌∷◌, length, get_or, refl, sym, ap, ◌∙◌, subst, arith, ⊎_elim}
 use Rattle.std.specs.Prelude.{Result, Ok, Err}
 use Rattle.std.specs.Result.{result_unwrap_or}
 use Rattle.std.specs.Str.{bytes_eq}
@@ -22,14 +22,8 @@ use Rattle.jt_lower.specs.Spots.{number_of}
 abbrev pub against : Text → Bor Text → Ordering
 against t k = slice_cmp nat_cmp k.now t
 
-equal_same : (x y : Text) → slice_cmp nat_cmp x y ≡ Equal → bytes_eq x y ≡ true
-equal_same x y e = sym (is_eq-slice_cmp x y) ∙ ap is_eq e
-
-less_apart : (x y : Text) → slice_cmp nat_cmp x y ≡ Less → bytes_eq x y ≡ false
-less_apart x y e = sym (is_eq-slice_cmp x y) ∙ ap is_eq e
-
-greater_apart : (x y : Text) → slice_cmp nat_cmp x y ≡ Greater → bytes_eq x y ≡ false
-greater_apart x y e = sym (is_eq-slice_cmp x y) ∙ ap is_eq e
+same_as : (x y : Text) (o : Ordering) → slice_cmp nat_cmp x y ≡ o → bytes_eq x y ≡ is_eq o
+same_as x y o e = sym (is_eq-slice_cmp x y) ∙ ap is_eq e
 
 -- ---- names that ascend rise against each text
 
@@ -56,7 +50,7 @@ higher t x y b = by (slice_cmp nat_cmp y t) refl
 
     by : (o : Ordering) → slice_cmp nat_cmp y t ≡ o → ordering_index (slice_cmp nat_cmp x t) ≤ ordering_index o
     by Less e = least (before_trans x y t b (ap is_lt e)) 0
-    by Equal e = least (subst (λ w. IsBefore x w) ((bytes_eq-Decides y t).0 (equal_same y t e)) b) 1
+    by Equal e = least (subst (λ w. IsBefore x w) ((bytes_eq-Decides y t).0 (same_as y t Equal e)) b) 1
     by Greater e = most (slice_cmp nat_cmp x t)
 
 rises : (t : Text) (ks : List (Bor Text)) → Ascends (texts ks) → IsNonDecreasingBy (λ k. ordering_index (against t k)) ks
@@ -71,12 +65,12 @@ rises t (k ∷ ks) h (suc i) (suc j) d le l = rises t ks (above_ascends k.now (t
 -- where one is this text, those before it aren't
 found : (t : Text) (ks : List (Bor Text)) → Ascends (texts ks) → (i : ℕ) → i < length ks → ((d : Bor Text) → against t (get_or ks i d) ≡ Equal) → i ≡ number_of t (texts ks)
 found t [] h i l e = absurd (omega arith)
-found t (k ∷ ks) h zero l e = sym (ap (λ (b : Bool). if b then 0 else suc (number_of t (texts ks))) (equal_same k.now t (e k)))
+found t (k ∷ ks) h zero l e = sym (ap (λ (b : Bool). if b then 0 else suc (number_of t (texts ks))) (same_as k.now t Equal (e k)))
 found t (k ∷ ks) h (suc i) l e =
-    let here : (get_or ks i k).now ≡ t = (bytes_eq-Decides (get_or ks i k).now t).0 (equal_same (get_or ks i k).now t (e k)) in
+    let here : (get_or ks i k).now ≡ t = (bytes_eq-Decides (get_or ks i k).now t).0 (same_as (get_or ks i k).now t Equal (e k)) in
     let before : IsBefore k.now t = subst (λ w. IsBefore k.now w) here (behind k.now ks h i k (omega arith)) in
     ap suc (found t ks (above_ascends k.now (texts ks) h) i (omega arith) e)
-    ∙ sym (ap (λ (b : Bool). if b then 0 else suc (number_of t (texts ks))) (less_apart k.now t (less_is (slice_cmp nat_cmp k.now t) before)))
+    ∙ sym (ap (λ (b : Bool). if b then 0 else suc (number_of t (texts ks))) (same_as k.now t Less (less_is (slice_cmp nat_cmp k.now t) before)))
 
 none : (t : Text) (ks : List (Bor Text)) → ((j : ℕ) (d : Bor Text) → j < length ks → bytes_eq (get_or ks j d).now t ≡ false) → length ks ≡ number_of t (texts ks)
 none t [] h = refl
@@ -91,11 +85,7 @@ searched t ks (Err i) h l s = none t ks (λ j d m. through j d m)
     parted : IsPartitionPoint (λ k. against t k ≡ Less) (λ k. against t k ≡ Greater) ks i
     parted = s (rises t ks h)
 
-    less : (j : ℕ) (d : Bor Text) → j < i → bytes_eq (get_or ks j d).now t ≡ false
-    less j d b = less_apart (get_or ks j d).now t (parted.0 j d (omega arith) b)
-
-    greater : (j : ℕ) (d : Bor Text) → i ≤ j → j < length ks → bytes_eq (get_or ks j d).now t ≡ false
-    greater j d a m = greater_apart (get_or ks j d).now t (parted.1 j d a m)
-
     through : (j : ℕ) (d : Bor Text) → j < length ks → bytes_eq (get_or ks j d).now t ≡ false
-    through j d m = ⊎_elim (λ e. greater j d (omega (arith, e)) m) (λ o. ⊎_elim (λ b. less j d b) (λ a. greater j d (omega (arith, a)) m) o) (cases_order j i)
+    through j d m =
+        let greater = λ (a : i ≤ j). same_as (get_or ks j d).now t Greater (parted.1 j d a m) in
+        ⊎_elim (λ e. greater (omega (arith, e))) (λ o. ⊎_elim (λ b. same_as (get_or ks j d).now t Less (parted.0 j d (omega arith) b)) (λ a. greater (omega (arith, a))) o) (cases_order j i)

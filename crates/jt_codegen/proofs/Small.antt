@@ -5,7 +5,8 @@ use Rattle.std.specs.Int.{w16, w32, w64, to_le_bytes}
 use Rattle.std.specs.List.{flat_map, AllByRecursion}
 use Rattle.std.proofs.lemmas.List.Concat.{flat_map-cons}
 use Rattle.jt_value.specs.Tree.{Tree}
-use Rattle.jt_image.specs.Code.{Name, Section, Spot}
+use Rattle.jt_image.proofs.Passed.{all_weaker, all_both}
+use Rattle.jt_image.specs.Code.{Name, Spot}
 use Rattle.jt_image.specs.declared.version.Version.TheVariants as version
 use Rattle.jt_image.specs.Spelling.{name_bytes, constant_bytes, template_bytes, spot_bytes, place_bytes}
 use Rattle.jt_image.specs.IsCode.{IsInstruction, total_len, max_count, max_locals}
@@ -32,7 +33,6 @@ use Rattle.jt_codegen.proofs.Named.{IsTag, few_templates, short_templates, templ
 use Rattle.jt_codegen.proofs.Tagged.{OnTag}
 use Rattle.jt_codegen.specs.Units.{FitsImage}
 use Rattle.jt_codegen.proofs.Merging.{ps, moved_all}
-use Rattle.jt_codegen.proofs.Read.{all_each}
 use Rattle.jt_codegen.proofs.Tabled.{numbered_len}
 use Rattle.jt_codegen.proofs.Ordered.{numbered_texts}
 
@@ -75,14 +75,10 @@ units_locals n (r ∷ rs) le h = (omega (arith, le, h.0), units_locals n rs le h
 
 -- ---- an image has place for the code of a program that fits, where the limits are kept
 
-units_writable : (us : List Section) → AllByRecursion (λ u. u.parameters ≤ 200) us → AllByRecursion (λ u. AllByRecursion IsInstruction u.code) us → AllByRecursion IsWritable us
-units_writable [] parameters written = tt
-units_writable (u ∷ us) parameters written = (record { parameters = omega (arith, parameters.0); code = written.0 }, units_writable us parameters.1 written.1)
-
 module _ (laws : CodeLaws) (low : LowLaws) (world : World) (order : List Home) (p : Program) (sized : IsSized world order p) (weight : chains_weight world.sources order ≤ 2000) where
   -- no routine needs more entries than a shape may have
   pub small_low : AllByRecursion (λ r. body_height r.body ≤ max_entries) p.routines
-  small_low = all_each (λ (r : Routine ℕ). 2 * body_height r.body ≤ max 2 (chains_weight world.sources order)) (λ r. body_height r.body ≤ max_entries) (λ r h. omega (arith, h, weight)) p.routines sized.entries
+  small_low = all_weaker (λ (r : Routine ℕ). 2 * body_height r.body ≤ max 2 (chains_weight world.sources order)) (λ r. body_height r.body ≤ max_entries) p.routines (λ r h. omega (arith, h, weight)) sized.entries
 
   module _ (short : IsShort 2000 p) (few : 7 * length order ≤ chains_weight world.sources order + 7) (ns : List Text) (named : length ns ≤ 64 * length order) (tags : AllByRecursion (OnTag (IsTag ns)) (places_of p)) where
     -- the templates that are named, and a spot for each instruction
@@ -107,17 +103,17 @@ module _ (laws : CodeLaws) (low : LowLaws) (world : World) (order : List Home) (
     limits : KeepsLimits (compiled p)
     limits = record {
       names = omega (arith, sized.names, numbered_len 0 p.names);
-      texts = numbered_texts (λ x. length x ≤ max_count) 0 p.names (all_each (λ x. length x ≤ 2000) (λ x. length x ≤ max_count) (λ x h. omega (arith, h)) p.names short.names);
+      texts = numbered_texts (λ x. length x ≤ max_count) 0 p.names (all_weaker (λ x. length x ≤ 2000) (λ x. length x ≤ max_count) p.names (λ x h. omega (arith, h)) short.names);
       constants = omega (arith, sized.constants, weight, length-map p.pool constant_of, fewer (map constant_of p.pool));
       units = omega (arith, sized.units, weight, few, length-map p.routines unit_of, length-map (map unit_of p.routines) (moved_unit (ps p)));
       locals = moved_all (λ parameters kind locals. locals ≤ max_locals) (ps p) (map unit_of p.routines) (units_locals (200 + chains_weight world.sources order) p.routines (omega (arith, weight)) sized.locals);
       instructions = omega (arith, low.sized p, sized.instructions, weight, few);
       templates = omega (arith, count_templates);
-      template_texts = all_each (λ t. length t ≤ 255) (λ t. length t ≤ max_count) (λ t h. omega (arith, h)) ts (short_templates ns (places_of p) tags);
+      template_texts = all_weaker (λ t. length t ≤ 255) (λ t. length t ≤ max_count) ts (λ t h. omega (arith, h)) (short_templates ns (places_of p) tags);
       bytes = omega (arith, laws.spelled (compiled p), spelled, templates_spelled ts (short_templates ns (places_of p) tags), count_templates, spots_spelled ss, count_spots, names_spelled 0 p.names short.names, constants_spelled p.pool short.pool, shorter (map constant_of p.pool), length-map p.routines unit_of, length-map (map unit_of p.routines) (moved_unit (ps p)), low.sized p, sized.names, sized.constants, sized.units, sized.instructions, weight, few);
     }
 
     pub small_fits : ProgramFits p → AllByRecursion (λ u. u.parameters ≤ 200) (compiled p).units → FitsImage (compiled p)
     small_fits fit parameters =
         let globals : p.globals < 2 ^ 16 = omega (arith, sized.globals, weight, few) in
-        record { globals = globals; limits = limits; writable = units_writable (compiled p).units parameters (low.written p fit globals (omega (arith, sized.constants, weight)) limits) }
+        record { globals = globals; limits = limits; writable = all_both (λ u. u.parameters ≤ 200) (λ u. AllByRecursion IsInstruction u.code) IsWritable (compiled p).units (λ u h code. record { parameters = omega (arith, h); code = code }) parameters (low.written p fit globals (omega (arith, sized.constants, weight)) limits) }

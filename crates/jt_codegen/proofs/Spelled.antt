@@ -1,5 +1,7 @@
--- No name that a tree reads or binds is empty, since none is that a source spells.
-use Rattle.std.proofs.Common.{ℕ, ◌<◌, Bool, true, false, if◌then◌else◌, List, [], ◌∷◌, ◌++◌, length, map, codes, encode_utf8_all, Option, Some, None, arith, rules}
+-- No name that a tree reads or binds is empty, since none is that a source spells; and the lines of its tags are those of its source,
+-- which has at most 1,048,576 line ends.
+use Rattle.std.proofs.Common.{ℕ, zero, suc, ◌+◌, ◌-◌, ◌*◌, ◌<◌, ◌≤◌, ap, List, [], ◌∷◌, ◌++◌, length, map, codes, encode_utf8_all, Option, Some, None, arith, rules}
+use Rattle.std.specs.Str.{chars, chars_after, continuation_len, lead_bits}
 use Rattle.std.specs.List.{AllByRecursion}
 use Rattle.std.proofs.lemmas.Str.{length-le-encodes}
 use Rattle.jt_scan.specs.declared.options.Options.{Options}
@@ -8,7 +10,14 @@ use Rattle.jt_scan.specs.declared.segment.Mark.{Mark}
 use Rattle.jt_scan.specs.declared.segment.Sign.{Sign}
 use Rattle.jt_scan.specs.declared.segment.Sign.TheVariants as s
 use Rattle.jt_scan.specs.Cut as cut
-use Rattle.jt_scan.specs.Cut.{Token, Segment, Inside, IsSegment, Cuts}
+use Rattle.jt_scan.specs.Cut.{Token, Segment, Inside, IsSegment, Cuts, lines}
+use Rattle.jt_scan.specs.LineEnds.{normalized}
+use Rattle.jt_scan.specs.SourceView.{max_source_len}
+use Rattle.jt_scan.proofs.CutLaws.{segment_found}
+use Rattle.jt_scan.proofs.EndsLaws.{never_longer}
+use Rattle.jt_scan.proofs.Turns.{ends_with, lines-append, few_lines}
+use Rattle.jt_scan.proofs.Weight.{shrinks}
+use Rattle.jt_image.specs.IsCode.{max_line}
 use Rattle.jt_trees.specs.Expressions.{Expr, Pairs, Text}
 use Rattle.jt_expr.specs.Grammar as g
 use Rattle.jt_expr.specs.Grammar.{Tokens, word, Level, operator_tokens, is_tokens, Row, Parts, no_parts, put, Spells, Goes, Primary, Arguments, TestArguments, Holds, IsPart}
@@ -19,10 +28,12 @@ use Rattle.jt_parse.specs.Tags as tags
 use Rattle.jt_parse.specs.Tags.{Separated, IsName, IsValue, pairs_of, Values, IsFiltering, IsParameter, Parameters, Opening, a_text, values, filters, escaping, a_macro, a_block, Head, a_statement, an_if, a_loop, an_opening, made, looped, Condition, Says}
 use Rattle.jt_parse.specs.Grammar as grammar
 use Rattle.jt_parse.specs.Grammar.{block, Forms, GoesOn, Otherwise}
-use Rattle.jt_chains.specs.Chain.{is_loop, Template}
-use Rattle.jt_inherit.specs.Chains.{Given, IsRead}
+use Rattle.jt_chains.specs.Chain.{is_loop}
+use Rattle.jt_inherit.specs.Chains.{scanned, IsTree}
 use Rattle.jt_chains.specs.Uses.{keywords, expr_names, row_names, pair_names, condition_names, filtering_names, stmt_names, body_names, branch_names}
 use Rattle.jt_lower.proofs.Fitting.{all_append}
+use Rattle.jt_codegen.proofs.Either.{either_of}
+use Rattle.jt_codegen.proofs.Tagged.{StmtLines, BodyLines, BranchLines}
 
 all_front : {A : Type 0} (P : A → Type 0) (xs ys : List A) → AllByRecursion P (xs ++ ys) → AllByRecursion P xs
 all_front P [] ys h = tt
@@ -36,22 +47,25 @@ all_back P (x ∷ xs) ys h = all_back P xs ys h.1
 
 abbrev IsWord : Token → Type 0
 IsWord (cut.name x) = 0 < length x
-IsWord (cut.number n) = Unit {0}
-IsWord (cut.text v) = Unit {0}
-IsWord (cut.sign k) = Unit {0}
+IsWord t = Unit {0}
 
 abbrev AreWords : Tokens → Type 0
 AreWords = AllByRecursion IsWord
 
-abbrev HasWords : Segment → Type 0
-HasWords (cut.data_of d) = Unit {0}
-HasWords (cut.tag k ms n ts) = AreWords ts
-HasWords (cut.comment ms x) = Unit {0}
-HasWords (cut.raw ms d ends) = Unit {0}
+-- a line that a tag may stand in
+abbrev pub IsLine : ℕ → Type 0
+IsLine n = (0 < n) × (n ≤ max_line)
+
+pub first_line : IsLine 1
+first_line = (omega arith, omega arith)
+
+abbrev HasTag : Segment → Type 0
+HasTag (cut.tag k ms n ts) = IsLine n × AreWords ts
+HasTag s = Unit {0}
 
 abbrev IsPiece : Piece → Type 0
 IsPiece (kept.text x) = Unit {0}
-IsPiece (kept.tag k n ts) = AreWords ts
+IsPiece (kept.tag k n ts) = IsLine n × AreWords ts
 
 abbrev ArePieces : List Piece → Type 0
 ArePieces = AllByRecursion IsPiece
@@ -64,24 +78,44 @@ inside_words (cut.closed e) = tt
 inside_words (cut.space i j) = inside_words j
 inside_words (cut.token c t i) = (token_word t, inside_words i)
 
-segment_words : {n : ℕ} {s : Segment} {x rest : List ℕ} → IsSegment n s x rest → HasWords s
-segment_words x1 = search (arith, rules, inside_words)
+segment_tag : {n : ℕ} {s : Segment} {x rest : List ℕ} → IsSegment n s x rest → IsLine n → HasTag s
+segment_tag x1 l = search (arith, rules, inside_words)
 
-cut_words : {source : List ℕ} {Ends : List ℕ → Type 0} {ss : List Segment} {x : List ℕ} → Cuts source Ends ss x → AllByRecursion HasWords ss
-cut_words (cut.no_more e) = tt
-cut_words (cut.more p c) = (segment_words p, cut_words c)
+fewer_lines : {n : ℕ} {s : Segment} {x rest : List ℕ} → IsSegment n s x rest → lines rest ≤ lines x
+fewer_lines {n} {s} {x} {rest} p =
+    let e = ends_with n s x rest (omega (arith, (shrinks p).0)) (segment_found p) in
+    omega (arith, ap lines e.1, lines-append e.0 rest)
+
+cut_tags : {source : List ℕ} {Ends : List ℕ → Type 0} {ss : List Segment} {x : List ℕ} → Cuts source Ends ss x → lines x ≤ lines source → lines source ≤ max_source_len → AllByRecursion HasTag ss
+cut_tags (cut.no_more e) le few = tt
+cut_tags (cut.more p c) le few = (segment_tag p (omega (arith, le), omega (arith, few)), cut_tags c (omega (arith, le, fewer_lines p)) few)
+
+after_short : (n c : ℕ) (bs : List ℕ) → length (chars_after n c bs) ≤ 1 + length bs
+after_short zero c [] = omega arith
+after_short zero c (b ∷ bs) = omega (arith, after_short (continuation_len b) (lead_bits b) bs)
+after_short (suc n) c [] = omega arith
+after_short (suc n) c (b ∷ bs) = omega (arith, after_short n (c * 64 + (b - 128)) bs)
+
+chars_short : (bs : List ℕ) → length (chars bs) ≤ length bs
+unfolding chars
+chars_short [] = omega arith
+chars_short (b ∷ bs) = omega (arith, after_short (continuation_len b) (lead_bits b) bs)
+
+few_in : (options : Options) (source : List ℕ) → length source ≤ max_source_len → lines (scanned options source) ≤ max_source_len
+few_in options source le =
+    omega (arith, le, few_lines (scanned options source), chars_short (normalized options.keep_trailing_newline source), never_longer options.keep_trailing_newline source)
 
 text_pieces : (x : List ℕ) (ps : List Piece) → ArePieces ps → ArePieces (with_text x ps)
 text_pieces [] ps h = h
 text_pieces (c ∷ x) ps h = (tt, h)
 
-segment_pieces : (o : Options) (left right : Side) (s : Segment) (ps : List Piece) → HasWords s → ArePieces ps → ArePieces (with_segment o left right s ps)
+segment_pieces : (o : Options) (left right : Side) (s : Segment) (ps : List Piece) → HasTag s → ArePieces ps → ArePieces (with_segment o left right s ps)
 segment_pieces o left right s ps w h = search (arith, rules, text_pieces)
 
-pieces_words : (o : Options) (left : Side) (ss : List Segment) → AllByRecursion HasWords ss → ArePieces (pieces_from left (map (λ s. (o, s)) ss))
-pieces_words o left [] h = tt
-pieces_words o left (s ∷ ss) h =
-    segment_pieces o left (side_ahead (map (λ s. (o, s)) ss)) s (pieces_from (side_behind s) (map (λ s. (o, s)) ss)) h.0 (pieces_words o (side_behind s) ss h.1)
+pieces_tags : (o : Options) (left : Side) (ss : List Segment) → AllByRecursion HasTag ss → ArePieces (pieces_from left (map (λ s. (o, s)) ss))
+pieces_tags o left [] h = tt
+pieces_tags o left (s ∷ ss) h =
+    segment_pieces o left (side_ahead (map (λ s. (o, s)) ss)) s (pieces_from (side_behind s) (map (λ s. (o, s)) ss)) h.0 (pieces_tags o (side_behind s) ss h.1)
 
 -- ---- expressions
 
@@ -102,13 +136,6 @@ AreParts p = AreNamed (row_names p.0) × AreNamed (pair_names p.1)
 put_named : (k : Option Text) (t : Expr) (p : Parts) → AreNamed (expr_names t) → AreParts p → AreParts (put k t p)
 put_named None t p h q = (both_named (expr_names t) (row_names p.0) h q.0, q.1)
 put_named (Some k) t p h q = (q.0, both_named (expr_names t) (pair_names p.1) h q.1)
-
-looped_named : (a : Expr) → AreNamed (expr_names a) → AreNamed (if is_loop a then [] else expr_names a)
-looped_named a h = through (is_loop a)
-  where
-    through : (b : Bool) → AreNamed (if b then [] else expr_names a)
-    through true = tt
-    through false = h
 
 mutual
   spells_named : {k : Level} {t : Expr} {x : Tokens} → Spells k t x → AreWords x → AreNamed (expr_names t)
@@ -143,7 +170,7 @@ mutual
       let later = (all_back IsWord (is_tokens b) (cut.name w ∷ (x ++ y)) h).1 in
       let parts = test_arguments_named d (all_front IsWord x y later) in
       goes_named i (all_back IsWord x y later) (both_named (expr_names a) (row_names ts ++ pair_names ps) n (both_named (row_names ts) (pair_names ps) parts.0 parts.1))
-  goes_named (g.attributed {a = a} i) h n = goes_named i h.1.1 (looped_named a n)
+  goes_named (g.attributed {a = a} i) h n = goes_named i h.1.1 (either_of AreNamed (is_loop a) [] (expr_names a) tt n)
   goes_named (g.indexed {a = a} {i = e} {x = x} {y = y} d i) h n =
       goes_named i (all_back IsWord x (cut.sign s.RightBracket ∷ y) h.1).1 (both_named (expr_names a) (expr_names e) n (spells_named d (all_front IsWord x (cut.sign s.RightBracket ∷ y) h.1)))
   goes_named (g.called {ts = ts} {ps = ps} {x = x} {y = y} d i) h n =
@@ -180,15 +207,12 @@ mutual
 
 -- ---- tags
 
+name_named : {x : Text} {ts : Tokens} → IsName x ts → AreWords ts → 0 < length x
+name_named (tags.a_name {x = x} r) h = encoded x h.0
+
 targets_named : {k : Sign} {xs : List Text} {ts : Tokens} → Separated IsName k xs ts → AreWords ts → AreNamed xs
-targets_named (tags.only d) h = (named d h, tt)
-  where
-    named : {x : Text} {ts : Tokens} → IsName x ts → AreWords ts → 0 < length x
-    named (tags.a_name {x = x} r) h = encoded x h.0
-targets_named (tags.also {x = x} {y = y} d e) h = (named d (all_front IsWord x _ h), targets_named e (all_back IsWord x _ h).1)
-  where
-    named : {x : Text} {ts : Tokens} → IsName x ts → AreWords ts → 0 < length x
-    named (tags.a_name {x = x} r) h = encoded x h.0
+targets_named (tags.only d) h = (name_named d h, tt)
+targets_named (tags.also {x = x} {y = y} d e) h = (name_named d (all_front IsWord x _ h), targets_named e (all_back IsWord x _ h).1)
 
 abbrev OneNamed : Text × Expr → Type 0
 OneNamed v = (0 < length v.0) × AreNamed (expr_names v.1)
@@ -241,9 +265,8 @@ abbrev OpeningNamed : Opening → Type 0
 OpeningNamed (a_text x) = 0 < length x
 OpeningNamed (values ps) = PairsNamed ps
 OpeningNamed (filters fs) = AreNamed (filtering_names fs)
-OpeningNamed (escaping on) = Unit {0}
 OpeningNamed (a_macro x ps) = AreNamed (map (λ p. p.name) ps)
-OpeningNamed (a_block x scoped required) = Unit {0}
+OpeningNamed o = Unit {0}
 
 abbrev HeadNamed : Head → Type 0
 HeadNamed (a_statement s) = AreNamed (stmt_names s)
@@ -261,13 +284,8 @@ says_named (tags.says_set {ts = ts} {e = t} {x = x} {y = y} d e) h =
 says_named (tags.says_text {x = x} r) h = encoded x h.1.0
 says_named (tags.says_with d) h = values_named d h.1
 says_named (tags.says_filter d) h = filters_named d h.1
-says_named (tags.says_autoescape on) h = tt
 says_named (tags.says_macro r d) h = parameters_named d h.1.1.1
-says_named (tags.says_include missing c) h = tt
-says_named (tags.says_import said r) h = tt
-says_named (tags.says_from said d) h = tt
-says_named tags.says_extends h = tt
-says_named (tags.says_block scoped required r) h = tt
+says_named d h = tt
 
 made_named : (line : ℕ) (o : Opening) (b : Body) → OpeningNamed o → AreNamed (body_names b) → AreNamed (stmt_names (made line o b))
 made_named line (a_text x) b h k = (h, k)
@@ -279,50 +297,65 @@ made_named line (a_block x scoped required) b h k = k
 
 -- ---- statements
 
+abbrev HeadLines : Head → Type 0
+HeadLines (a_statement s) = StmtLines IsLine s
+HeadLines o = Unit {0}
+
+says_lined : {line : ℕ} {o : Head} {ts : Tokens} → Says line o ts → IsLine line → HeadLines o
+says_lined x1 l = search (arith, rules)
+
+made_lined : (line : ℕ) (o : Opening) (b : Body) → IsLine line → BodyLines IsLine b → StmtLines IsLine (made line o b)
+made_lined a0 a1 a2 a3 a4 = search (arith, rules)
+
 mutual
-  forms_named : {b : Body} {ps : List Piece} → Forms b ps → ArePieces ps → AreNamed (body_names b)
-  forms_named grammar.nothing_more h = tt
-  forms_named (grammar.some_data f) h = forms_named f h.1
-  forms_named (grammar.a_print {body = body} {e = e} d f) h = both_named (expr_names e) (body_names body) (spells_named d h.0) (forms_named f h.1)
-  forms_named (grammar.one_tag {body = body} {s = x} d f) h = both_named (stmt_names x) (body_names body) (says_named d h.0) (forms_named f h.1)
-  forms_named (grammar.an_if_statement {body = body} {inside = inside} {other = other} {bs = bs} {c = c} {xs = xs} {ys = ys} {ps = ps} n d i j f) h =
+  forms_said : {b : Body} {ps : List Piece} → Forms b ps → ArePieces ps → BodyLines IsLine b × AreNamed (body_names b)
+  forms_said grammar.nothing_more h = (tt, tt)
+  forms_said (grammar.some_data f) h = let rest = forms_said f h.1 in ((tt, rest.0), rest.1)
+  forms_said (grammar.a_print {body = body} {e = e} d f) h =
+      let rest = forms_said f h.1 in ((h.0.0, rest.0), both_named (expr_names e) (body_names body) (spells_named d h.0.1) rest.1)
+  forms_said (grammar.one_tag {body = body} {s = x} d f) h =
+      let rest = forms_said f h.1 in ((says_lined d h.0.0, rest.0), both_named (stmt_names x) (body_names body) (says_named d h.0.1) rest.1)
+  forms_said (grammar.an_if_statement {body = body} {inside = inside} {other = other} {bs = bs} {c = c} {xs = xs} {ys = ys} {ps = ps} n d i j f) h =
       let tag : Piece = block n (word (codes "endif") ∷ []) in
       let behind = all_back IsPiece xs (ys ++ (tag ∷ ps)) h.1 in
-      let first = forms_named i (all_front IsPiece xs (ys ++ (tag ∷ ps)) h.1) in
-      let goes = goes_on_named j (all_front IsPiece ys (tag ∷ ps) behind) in
-      let rest = forms_named f (all_back IsPiece ys (tag ∷ ps) behind).1 in
-      let branches = both_named (expr_names c) (body_names inside ++ branch_names bs) (says_named d h.0) (both_named (body_names inside) (branch_names bs) first goes.0) in
-      both_named ((expr_names c ++ (body_names inside ++ branch_names bs)) ++ body_names other) (body_names body) (both_named (expr_names c ++ (body_names inside ++ branch_names bs)) (body_names other) branches goes.1) rest
-  forms_named (grammar.a_for_statement {body = body} {inside = inside} {other = other} {line = line} {l = l} {xs = xs} {ys = ys} {ps = ps} n d i j f) h =
+      let first = forms_said i (all_front IsPiece xs (ys ++ (tag ∷ ps)) h.1) in
+      let goes = goes_on_said j (all_front IsPiece ys (tag ∷ ps) behind) in
+      let rest = forms_said f (all_back IsPiece ys (tag ∷ ps) behind).1 in
+      let named = both_named (expr_names c) (body_names inside ++ branch_names bs) (says_named d h.0.1) (both_named (body_names inside) (branch_names bs) first.1 goes.1) in (
+        (((h.0.0, first.0, goes.0), goes.2), rest.0),
+        both_named ((expr_names c ++ (body_names inside ++ branch_names bs)) ++ body_names other) (body_names body) (both_named (expr_names c ++ (body_names inside ++ branch_names bs)) (body_names other) named goes.3) rest.1,
+      )
+  forms_said (grammar.a_for_statement {body = body} {inside = inside} {other = other} {line = line} {l = l} {xs = xs} {ys = ys} {ps = ps} n d i j f) h =
       let tag : Piece = block n (word (codes "endfor") ∷ []) in
       let behind = all_back IsPiece xs (ys ++ (tag ∷ ps)) h.1 in
-      let first = forms_named i (all_front IsPiece xs (ys ++ (tag ∷ ps)) h.1) in
-      let goes = otherwise_named j (all_front IsPiece ys (tag ∷ ps) behind) in
-      let rest = forms_named f (all_back IsPiece ys (tag ∷ ps) behind).1 in
-      let head = says_named d h.0 in
-      both_named (stmt_names (looped line l inside other)) (body_names body)
-      (both_named (expr_names l.over) (l.targets ++ (condition_names l.condition ++ (body_names inside ++ body_names other))) head.0
-      (both_named l.targets (condition_names l.condition ++ (body_names inside ++ body_names other)) head.1
-      (both_named (condition_names l.condition) (body_names inside ++ body_names other) head.2 (both_named (body_names inside) (body_names other) first goes)))) rest
-  forms_named (grammar.enclosed {body = body} {inside = inside} {line = line} {o = o} {us = us} {xs = xs} {ps = ps} n d i e f) h =
+      let first = forms_said i (all_front IsPiece xs (ys ++ (tag ∷ ps)) h.1) in
+      let goes = otherwise_said j (all_front IsPiece ys (tag ∷ ps) behind) in
+      let rest = forms_said f (all_back IsPiece ys (tag ∷ ps) behind).1 in
+      let head = says_named d h.0.1 in (
+        ((h.0.0, first.0, goes.0), rest.0),
+        both_named (stmt_names (looped line l inside other)) (body_names body)
+            (both_named (expr_names l.over) (l.targets ++ (condition_names l.condition ++ (body_names inside ++ body_names other))) head.0
+            (both_named l.targets (condition_names l.condition ++ (body_names inside ++ body_names other)) head.1
+            (both_named (condition_names l.condition) (body_names inside ++ body_names other) head.2 (both_named (body_names inside) (body_names other) first.1 goes.1)))) rest.1,
+      )
+  forms_said (grammar.enclosed {body = body} {inside = inside} {line = line} {o = o} {us = us} {xs = xs} {ps = ps} n d i e f) h =
       let tag : Piece = block n us in
-      let first = forms_named i (all_front IsPiece xs (tag ∷ ps) h.1) in
-      let rest = forms_named f (all_back IsPiece xs (tag ∷ ps) h.1).1 in
-      both_named (stmt_names (made line o inside)) (body_names body) (made_named line o inside (says_named d h.0) first) rest
+      let first = forms_said i (all_front IsPiece xs (tag ∷ ps) h.1) in
+      let rest = forms_said f (all_back IsPiece xs (tag ∷ ps) h.1).1 in
+      ((made_lined line o inside h.0.0 first.0, rest.0), both_named (stmt_names (made line o inside)) (body_names body) (made_named line o inside (says_named d h.0.1) first.1) rest.1)
 
-  goes_on_named : {bs : Branches} {other : Body} {ys : List Piece} → GoesOn bs other ys → ArePieces ys → AreNamed (branch_names bs) × AreNamed (body_names other)
-  goes_on_named (grammar.no_elif o) h = (tt, otherwise_named o h)
-  goes_on_named (grammar.an_elif {inside = inside} {bs = bs} {c = c} {xs = xs} {ys = ys} d i j) h =
-      let goes = goes_on_named j (all_back IsPiece xs ys h.1) in
-      let first = forms_named i (all_front IsPiece xs ys h.1) in
-      (both_named (expr_names c) (body_names inside ++ branch_names bs) (spells_named d h.0.1) (both_named (body_names inside) (branch_names bs) first goes.0), goes.1)
+  goes_on_said : {bs : Branches} {other : Body} {ys : List Piece} → GoesOn bs other ys → ArePieces ys → BranchLines IsLine bs × AreNamed (branch_names bs) × BodyLines IsLine other × AreNamed (body_names other)
+  goes_on_said (grammar.no_elif o) h = let last = otherwise_said o h in (tt, tt, last.0, last.1)
+  goes_on_said (grammar.an_elif {inside = inside} {bs = bs} {c = c} {xs = xs} {ys = ys} d i j) h =
+      let goes = goes_on_said j (all_back IsPiece xs ys h.1) in
+      let first = forms_said i (all_front IsPiece xs ys h.1) in
+      ((h.0.0, first.0, goes.0), both_named (expr_names c) (body_names inside ++ branch_names bs) (spells_named d h.0.1.1) (both_named (body_names inside) (branch_names bs) first.1 goes.1), goes.2, goes.3)
 
-  otherwise_named : {other : Body} {ys : List Piece} → Otherwise other ys → ArePieces ys → AreNamed (body_names other)
-  otherwise_named grammar.no_else h = tt
-  otherwise_named (grammar.an_else f) h = forms_named f h.1
+  otherwise_said : {other : Body} {ys : List Piece} → Otherwise other ys → ArePieces ys → BodyLines IsLine other × AreNamed (body_names other)
+  otherwise_said grammar.no_else h = (tt, tt)
+  otherwise_said (grammar.an_else f) h = forms_said f h.1
 
--- ---- templates that were read
+-- ---- of a tree that was read
 
-pub read_named : (given : Given) (options : Options) (ts : List Template) → AllByRecursion (IsRead given options) ts → AllByRecursion (λ t. AreNamed (body_names t.body)) ts
-read_named given options [] h = tt
-read_named given options (t ∷ ts) h = (forms_named h.0.tree.spelled.0 (pieces_words options kept.nothing h.0.tree.segments (cut_words h.0.tree.cut)), read_named given options ts h.1)
+pub tree_said : (options : Options) (source : List ℕ) (b : Body) → IsTree options source b → BodyLines IsLine b × AreNamed (body_names b)
+tree_said options source b t = forms_said t.spelled.0 (pieces_tags options kept.nothing t.segments (cut_tags t.cut (omega arith) (few_in options source t.limited)))

@@ -4,7 +4,6 @@ use Rattle.std.specs.Prelude.{option_map, flat_map}
 use Rattle.std.proofs.lemmas.List.{map-append, drop_more, at_drop_all}
 use Rattle.jt_image.specs.Code.{Section, Code}
 use Rattle.jt_image.specs.declared.instruction.Instruction.{Instruction}
-use Rattle.jt_image.specs.declared.wire.Instr.{Instr}
 use Rattle.jt_image.specs.Reading.{instruction_of}
 use Rattle.jt_image.specs.IsCode.{total_len, max_instructions}
 use Rattle.jt_image.specs.declared.parts.Unit as given
@@ -12,6 +11,8 @@ use Rattle.jt_image.specs.View.{names_view, constants_view, texts_view, spots_vi
 use Rattle.jt_image.specs.Parts.{in_front, each_of, section_of_unit, code_with, code_of_parts}
 use Rattle.jt_image.specs.declared.parts.Parts.{Parts}
 use Rattle.jt_constants.specs.Merged.{moved_unit}
+use Rattle.jt_constants.proofs.Front.{each_len}
+use Rattle.std.proofs.lemmas.Option.{same_Some}
 use Rattle.jt_trees.specs.Expressions.{Text}
 use Rattle.jt_resolved.specs.View.{routine_view, templates_of, program_of}
 use Rattle.jt_resolved.specs.declared.program.Routine.{Routine}
@@ -27,25 +28,11 @@ use Rattle.jt_codegen.proofs.Merging.{ps, units_fit}
 use Rattle.jt_codegen.specs.declared.emission.EmitError.{EmitError}
 use Rattle.jt_codegen.specs.declared.emission.EmitError.TheVariants as error
 
--- ---- names
-
 -- ---- units
 
 total_snoc : (us : List Section) (u : Section) → total_len (us ++ u ∷ []) ≡ total_len us + length u.code
 total_snoc [] u = omega arith
 total_snoc (v ∷ us) u = omega (arith, total_snoc us u)
-
-read_len : (xs : List Instr) (is : List Instruction) → each_of instruction_of xs ≡ Some is → length xs ≡ length is
-read_len [] is e = let none : [] ≡ is = (let same : Some [] ≡ Some is = e in cc) in ap length none
-read_len (x ∷ xs) is e = through (instruction_of x) (each_of instruction_of xs) refl e (λ js f. read_len xs js f)
-  where
-    through : (o : Option Instruction) (p : Option (List Instruction)) → each_of instruction_of xs ≡ p → in_front o p ≡ Some is → ((js : List Instruction) → each_of instruction_of xs ≡ Some js → length xs ≡ length js) → suc (length xs) ≡ length is
-    through None p q f more = absurd (let same : None ≡ Some is = f in cc)
-    through (Some i) None q f more = absurd (let same : None ≡ Some is = f in cc)
-    through (Some i) (Some js) q f more =
-        let same : Some (i ∷ js) ≡ Some is = f in
-        let is_it : i ∷ js ≡ is = cc in
-        ap suc (more js q) ∙ ap length is_it
 
 -- a unit has as many instructions as are read
 section_len : (u : given.Unit) (s : Section) → section_of_unit u ≡ Some s → length u.code.items ≡ length s.code
@@ -56,10 +43,7 @@ section_len u s e = through (each_of instruction_of u.code.items) refl e
 
     through : (o : Option (List Instruction)) → each_of instruction_of u.code.items ≡ o → option_map with_code o ≡ Some s → length u.code.items ≡ length s.code
     through None q f = absurd (let same : None ≡ Some s = f in cc)
-    through (Some is) q f =
-        let same : Some (with_code is) ≡ Some s = f in
-        let is_it : with_code is ≡ s = cc in
-        read_len u.code.items is q ∙ ap (λ (t : Section). length t.code) is_it
+    through (Some is) q f = sym (each_len instruction_of (λ i. i) u.code.items is q) ∙ ap (λ (t : Section). length t.code) (same_Some (with_code is) s f)
 
 module _ (templates : List Text) where
   abbrev pub unit : Routine → Section
@@ -77,17 +61,14 @@ module _ (templates : List Text) where
     pub fits : FitUnits max_instructions (units all) → FitUnits n (units left)
 
   each_snoc : (us : List given.Unit) (u : given.Unit) (front : List Section) (s : Section) → each_of section_of_unit us ≡ Some front → section_of_unit u ≡ Some s → each_of section_of_unit (us ++ u ∷ []) ≡ Some (front ++ s ∷ [])
-  each_snoc [] u front s e is = let none : [] ≡ front = (let same : Some [] ≡ Some front = e in cc) in ap (λ o. in_front o (Some [])) is ∙ ap (λ l. Some (l ++ s ∷ [])) none
+  each_snoc [] u front s e is = ap (λ o. in_front o (Some [])) is ∙ ap (λ l. Some (l ++ s ∷ [])) (same_Some [] front e)
   each_snoc (v ∷ us) u front s e is = through (section_of_unit v) (each_of section_of_unit us) refl e (λ ts f. each_snoc us u ts s f is)
     where
       through : (o : Option Section) (p : Option (List Section)) → each_of section_of_unit us ≡ p → in_front o p ≡ Some front → ((ts : List Section) → each_of section_of_unit us ≡ Some ts → each_of section_of_unit (us ++ u ∷ []) ≡ Some (ts ++ s ∷ []))
           → in_front o (each_of section_of_unit (us ++ u ∷ [])) ≡ Some (front ++ s ∷ [])
       through None p q f more = absurd (let same : None ≡ Some front = f in cc)
       through (Some t) None q f more = absurd (let same : None ≡ Some front = f in cc)
-      through (Some t) (Some ts) q f more =
-          let same : Some (t ∷ ts) ≡ Some front = f in
-          let is_it : t ∷ ts ≡ front = cc in
-          ap (in_front (Some t)) (more ts q) ∙ ap (λ l. Some (l ++ s ∷ [])) is_it
+      through (Some t) (Some ts) q f more = ap (in_front (Some t)) (more ts q) ∙ ap (λ l. Some (l ++ s ∷ [])) (same_Some (t ∷ ts) front f)
 
   pub made_more : (us : List given.Unit) (u : given.Unit) (n : ℕ) (rs : List Routine) (i : ℕ) (r : Routine) → i < length rs → r ≡ get_or rs i r → section_of_unit u ≡ Some (unit r) → length u.code.items ≤ n → Made us n rs (drop i rs) → Made (us ++ u ∷ []) (n - length u.code.items) rs (drop (i + 1) rs)
   made_more us u n rs i r lt is e within m =

@@ -6,7 +6,7 @@ use Rattle.std.specs.List.{AllByRecursion}
 use Rattle.std.specs.Option.{is_none}
 use Rattle.jt_value.specs.Place.{Place}
 use Rattle.jt_trees.specs.Expressions.{Text, Pairs, no_pairs, pair}
-use Rattle.jt_trees.specs.Statements.{Stmt, data_of, print, choose, for_each, set, set_block, with_values, filter_block, autoescape, macro, include, import_as, import_from, extends, block, Body, end, stmt, Branches, no_branches, branch}
+use Rattle.jt_trees.specs.Statements.{Stmt, data_of, print, choose, for_each, set, set_block, with_values, filter_block, autoescape, macro, include, block, Body, end, stmt, Branches, no_branches, branch}
 use Rattle.jt_chains.specs.Chain.{Home, a_chain, a_library, Template, templates, BlockBody, blocks_of, blocks_in, blocks_under, MacroBody, macros_in, macros}
 use Rattle.jt_chains.specs.Uses.{keywords, set_in}
 use Rattle.jt_rules.specs.World.{World}
@@ -20,13 +20,13 @@ use Rattle.jt_resolved.specs.Pool.{Constant, placed_stmt, placed_body as pooled_
 use Rattle.jt_lower.specs.Asm.{Asm, nil, one, both, choose as either, when, each, invoke, places}
 use Rattle.jt_lower.specs.Lower.{expr_asm, row_asm, stores_asm, take_asm, kept_asm, stmt_asm, body_asm, routine_places, places_of}
 use Rattle.jt_lower.proofs.Fitting.{all_append}
+use Rattle.jt_codegen.proofs.Either.{either_of}
 
 -- ---- the lines of the tags of a tree that a place may have
 
 module _ (L : ℕ → Type 0) where
   abbrev mutual
     pub StmtLines : Stmt → Type 0
-    StmtLines (data_of t) = Unit {0}
     StmtLines (print line e) = L line
     StmtLines (choose bs other) = BranchLines bs × BodyLines other
     StmtLines (for_each line xs e c body other) = L line × BodyLines body × BodyLines other
@@ -37,10 +37,8 @@ module _ (L : ℕ → Type 0) where
     StmtLines (autoescape line on body) = BodyLines body
     StmtLines (macro line x ps body) = BodyLines body
     StmtLines (include line n ignore_missing with_context) = L line
-    StmtLines (import_as line n x) = Unit {0}
-    StmtLines (import_from line n xs) = Unit {0}
-    StmtLines (extends line n) = Unit {0}
     StmtLines (block line x is_scoped required body) = BodyLines body
+    StmtLines s = Unit {0}
 
     pub BodyLines : Body → Type 0
     BodyLines end = Unit {0}
@@ -93,15 +91,13 @@ module _ (P : Place → Type 0) where
 
   mutual
     expr_placed : (e : SlotExpr ℕ) (o : Option Place) (h : ℕ) → OnTag o → AsmPlaced (expr_asm o e h)
-    expr_placed (slots.pooled i) o h t = t
-    expr_placed (slots.variable s) o h t = t
-    expr_placed (slots.field f) o h t = t
     expr_placed slots.absent o h t = tt
     expr_placed (slots.made k es) o h t = (row_placed es o h t, t)
     expr_placed (slots.conjunction a b) o h t = (expr_placed a o h t, (t, ((t, expr_placed b o h t), tt)))
     expr_placed (slots.disjunction a b) o h t = (expr_placed a o h t, (t, (tt, (t, expr_placed b o h t))))
     expr_placed (slots.choice c a b) o h t = (expr_placed c o h t, (expr_placed a o h t, expr_placed b o h t))
     expr_placed (slots.invoke u escaping es) o h t = (t, (row_placed es o (suc h) t, (t, t)))
+    expr_placed e o h t = t
 
     row_placed : (es : SRow ℕ) (o : Option Place) (h : ℕ) → OnTag o → AsmPlaced (row_asm o es h)
     row_placed slots.none o h t = tt
@@ -233,12 +229,9 @@ module _ (P : Place → Type 0) where
         stmt_placed (autoescape line on body) sp h l =
             let inner = record sp { escaping = on } in
             scope_placed (set_in body) inner (resolved_body world order body) h (body_placed body (bound_all (set_in body) inner) h l)
-        stmt_placed (macro line x ps body) sp h l = tt
         stmt_placed (include line m missing with_context) sp h l = include_placed sp line m (unit world order (of_chain m)) missing with_context (is_none (world.sources m)) (h line l)
-        stmt_placed (import_as line m x) sp h l = tt
-        stmt_placed (import_from line m xs) sp h l = tt
-        stmt_placed (extends line m) sp h l = tt
         stmt_placed (block line x is required body) sp h l = block_placed sp (first_body (numbered_of world sp.home x)) x (if is then sp.table else globals world order sp.home) h
+        stmt_placed s sp h l = tt
 
         body_placed : (b : Body) (sp : Spot) → IsHere sp.template → BodyLines L b → B (resolved_body world order b sp)
         body_placed end sp h l = tt
@@ -252,11 +245,10 @@ module _ (P : Place → Type 0) where
 
       sets_placed : (b : Body) (sp : Spot) → IsHere sp.template → BodyLines L b → B (resolved_sets world order b sp)
       sets_placed end sp h l = tt
-      sets_placed (stmt s rest) sp h l = which (is_set s) (sets_placed rest sp h l.1)
-        where
-          which : (b : Bool) → B (resolved_sets world order rest sp) → B (if b then followed (resolved_stmt world order s sp) (resolved_sets world order rest sp) else resolved_sets world order rest sp)
-          which false r = r
-          which true r = followed_placed (resolved_stmt world order s sp) (resolved_sets world order rest sp) (stmt_placed s sp h l.0) r
+      sets_placed (stmt s rest) sp h l =
+          let left = resolved_sets world order rest sp in
+          let placed = sets_placed rest sp h l.1 in
+          either_of B (is_set s) (followed (resolved_stmt world order s sp) left) left (followed_placed (resolved_stmt world order s sp) left (stmt_placed s sp h l.0) placed) placed
 
       chain_placed : (h : Home) (ts : List Template) → AllByRecursion (λ t. IsTagged t.name t.body) ts → B (resolved_chain world order h ts)
       chain_placed h [] g = tt
@@ -285,20 +277,7 @@ module _ (P : Place → Type 0) where
       macros_tagged : (t : Text) → IsHere t → (b : Body) → BodyLines L b → AllByRecursion (λ m. IsTagged m.template m.body) (macros_in t b)
       macros_tagged t h end l = tt
       macros_tagged t h (stmt (macro line x ps body) rest) l = (record { here = h; lines = l.0 }, macros_tagged t h rest l.1)
-      macros_tagged t h (stmt (data_of d) rest) l = macros_tagged t h rest l.1
-      macros_tagged t h (stmt (print line e) rest) l = macros_tagged t h rest l.1
-      macros_tagged t h (stmt (choose bs other) rest) l = macros_tagged t h rest l.1
-      macros_tagged t h (stmt (for_each line xs e c body other) rest) l = macros_tagged t h rest l.1
-      macros_tagged t h (stmt (set line xs e) rest) l = macros_tagged t h rest l.1
-      macros_tagged t h (stmt (set_block line x body) rest) l = macros_tagged t h rest l.1
-      macros_tagged t h (stmt (with_values line ps body) rest) l = macros_tagged t h rest l.1
-      macros_tagged t h (stmt (filter_block line fs body) rest) l = macros_tagged t h rest l.1
-      macros_tagged t h (stmt (autoescape line on body) rest) l = macros_tagged t h rest l.1
-      macros_tagged t h (stmt (include line m missing with_context) rest) l = macros_tagged t h rest l.1
-      macros_tagged t h (stmt (import_as line m x) rest) l = macros_tagged t h rest l.1
-      macros_tagged t h (stmt (import_from line m xs) rest) l = macros_tagged t h rest l.1
-      macros_tagged t h (stmt (extends line m) rest) l = macros_tagged t h rest l.1
-      macros_tagged t h (stmt (block line x is required body) rest) l = macros_tagged t h rest l.1
+      macros_tagged t h (stmt s rest) l = macros_tagged t h rest l.1
 
       abbrev Blocks : List BlockBody → Type 0
       Blocks = AllByRecursion (λ b. IsTagged b.template b.body)
@@ -316,13 +295,7 @@ module _ (P : Place → Type 0) where
         blocks_tagged t h (with_values line ps body) on l = inner_tagged t h body on l.1
         blocks_tagged t h (filter_block line fs body) on l = inner_tagged t h body on l.1
         blocks_tagged t h (macro line x ps body) on l = inner_tagged t h body on l
-        blocks_tagged t h (data_of d) on l = tt
-        blocks_tagged t h (print line e) on l = tt
-        blocks_tagged t h (set line xs e) on l = tt
-        blocks_tagged t h (include line m missing with_context) on l = tt
-        blocks_tagged t h (import_as line m x) on l = tt
-        blocks_tagged t h (import_from line m xs) on l = tt
-        blocks_tagged t h (extends line m) on l = tt
+        blocks_tagged t h s on l = tt
 
         inner_tagged : (t : Text) → IsHere t → (b : Body) (on : Bool) → BodyLines L b → Blocks (blocks_in t b on)
         inner_tagged t h end on l = tt

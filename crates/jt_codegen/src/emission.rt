@@ -3,9 +3,11 @@
 ghost use Rattle.std.specs.Prelude.{◌≡◌, ◌≤◌, List, Some, length, option_map, IfOk, IfErr};
 ghost use Rattle.jt_image.specs.Parts.{section_of_unit};
 ghost use Rattle.jt_trees.specs.Expressions.{Text};
+ghost use Rattle.jt_image.specs.declared.instruction.Instruction.TheVariants as op;
 ghost use Rattle.jt_resolved.specs.Slots as slots;
-ghost use Rattle.jt_resolved.specs.View.{slot_view, targets_view, place_view, expr_view, stmt_view, body_view, routine_view};
-ghost use Rattle.jt_lower.specs.Lower.{kept_asm, stmt_asm, unit_of, routine_places};
+ghost use Rattle.jt_resolved.specs.View.{slot_view, targets_view, place_view, expr_view, stmt_view, body_view, choice_view, routine_view};
+ghost use Rattle.jt_lower.specs.Asm.{one, both, when, each};
+ghost use Rattle.jt_lower.specs.Lower.{turn_asm, kept_asm, stmt_asm, body_asm, unit_of, routine_places};
 ghost use Rattle.jt_lower.specs.Emission.{tag_view, places_view, PutsFor, PutsAt};
 ghost use Rattle.jt_codegen.specs.Statements.{EmitsAt, Closes};
 ghost use Rattle.jt_codegen.specs.Units.{Refuses};
@@ -71,7 +73,7 @@ pub(crate) fn emit_unit(alloc: Global, routine: &Routine, left: usize) -> Result
         → Refuses e left (unit_of (routine_view templates routine.now))) }
 {
     let mut code = Emitter::new(alloc, left);
-    emit_statements(alloc, &mut code, &routine.body, 0)?;
+    emit_statements(&mut code, &routine.body, 0)?;
     code.put(None, Some(Instruction::Return))?;
     let Ok(parameters) = u8::try_from(routine.parameters) else {
         return Err(EmitError::CodeTooLong);
@@ -135,6 +137,23 @@ fn emit_printed(
     Ok(())
 }
 
+/// Puts the code of an assignment behind the others.
+fn emit_assigned(
+    code: &mut Emitter,
+    tag: Place,
+    targets: &Targets,
+    expr: &SlotExpr,
+    above: usize,
+) -> Result<(), AllocError>
+    ensures { PutsAt above code.old (λ templates h. stmt_asm (slots.assign
+        (place_view templates tag) (targets_view targets.now) (expr_view expr.now)) h)
+        result code.new }
+{
+    emit_expression(code, Some(tag), expr, above)?;
+    emit_targets(code, Some(tag), targets)?;
+    Ok(())
+}
+
 /// Lets the jumps at these points go behind all instructions.
 fn close_all(code: &mut Emitter, ends: &[usize])
     ensures { Closes code.old ends.now code.new }
@@ -146,19 +165,11 @@ fn close_all(code: &mut Emitter, ends: &[usize])
 
 /// Puts the code of a statement behind the others, with so many entries above the innermost loop.
 #[cycle(statements)]
-fn emit_statement(
-    alloc: Global,
-    code: &mut Emitter,
-    statement: &SlotStmt,
-    above: usize,
-) -> Result<(), AllocError>
+fn emit_statement(code: &mut Emitter, statement: &SlotStmt, above: usize) -> Result<(), AllocError>
     ensures { EmitsAt above code.old (λ texts. stmt_view texts statement.now) result code.new }
 {
     match statement {
-        SlotStmt::PutPooled(place) => {
-            code.put(None, data_of(*place))?;
-            Ok(())
-        }
+        SlotStmt::PutPooled(place) => code.put(None, data_of(*place)),
         SlotStmt::Print {
             place: tag,
             escaping,
@@ -168,28 +179,8 @@ fn emit_statement(
             place: tag,
             targets,
             value: expr,
-        } => {
-            emit_expression(code, Some(*tag), expr, above)?;
-            emit_targets(code, Some(*tag), targets)?;
-            Ok(())
-        }
-        SlotStmt::If(branches, other) => {
-            let mut ends = Vec::new(alloc);
-            for SlotBranch {
-                place: tag,
-                condition,
-                body,
-            } in branches {
-                emit_expression(code, Some(*tag), condition, above)?;
-                let choice = code.begin_choice()?;
-                emit_statements(alloc, code, body, above)?;
-                let last = code.end_branch(choice)?;
-                ends.push(last)?;
-            }
-            emit_statements(alloc, code, other, above)?;
-            close_all(code, &ends);
-            Ok(())
-        }
+        } => emit_assigned(code, *tag, targets, expr, above),
+        SlotStmt::If(branches, other) => emit_branches(code, branches, other, above),
         SlotStmt::For {
             place: tag,
             targets,
@@ -198,15 +189,18 @@ fn emit_statement(
             body,
             other,
         } => {
-            emit_loop(
-                alloc, code, *tag, targets, iterated, condition, body, other, above,
-            )
+            emit_expression(code, Some(*tag), iterated, above)?;
+            code.put(Some(*tag), Some(Instruction::LoopStart))?;
+            emit_condition(code, Some(*tag), targets, condition)?;
+            emit_turns(code, Some(*tag), targets, body)?;
+            emit_otherwise(code, Some(*tag), other, above)?;
+            Ok(())
         }
         SlotStmt::Capture {
             escaping,
             slot,
             body,
-        } => emit_capture(alloc, code, *escaping, *slot, body, above),
+        } => emit_capture(code, *escaping, *slot, body, above),
         SlotStmt::Run(routine, row) => {
             emit_row(code, None, row, above)?;
             code.put(None, call_of(*routine))?;
@@ -215,34 +209,67 @@ fn emit_statement(
     }
 }
 
-/// Puts the code of a loop behind the others: its turns, and what stands for none.
+/// Puts the code of branches behind the others, and of what stands for none of them.
 #[cycle(statements)]
-fn emit_loop(
-    alloc: Global,
+fn emit_branches(
     code: &mut Emitter,
-    tag: Place,
-    targets: &Targets,
-    iterated: &SlotExpr,
-    condition: &Option<SlotExpr>,
-    body: &[SlotStmt],
+    branches: &[SlotBranch<SlotStmt>],
     other: &[SlotStmt],
     above: usize,
 ) -> Result<(), AllocError>
-    ensures { PutsAt above code.old (λ templates h. stmt_asm (slots.for_each
-        (place_view templates tag) (targets_view targets.now) (expr_view iterated.now)
-        (option_map expr_view condition.now) (body_view templates body.now slots.end)
-        (body_view templates other.now slots.end)) h) result code.new }
+    ensures { EmitsAt above code.old (λ texts. choice_view texts branches.now
+        (body_view texts other.now)) result code.new }
 {
-    emit_expression(code, Some(tag), iterated, above)?;
-    code.put(Some(tag), Some(Instruction::LoopStart))?;
-    emit_condition(code, Some(tag), targets, condition)?;
+    let mut ends = Vec::new(*code.places.allocator());
+    for SlotBranch {
+        place: tag,
+        condition,
+        body,
+    } in branches {
+        emit_expression(code, Some(*tag), condition, above)?;
+        let choice = code.begin_choice()?;
+        emit_statements(code, body, above)?;
+        let last = code.end_branch(choice)?;
+        ends.push(last)?;
+    }
+    emit_statements(code, other, above)?;
+    close_all(code, &ends);
+    Ok(())
+}
+
+/// Puts the turns of the loop at the top behind the others.
+#[cycle(statements)]
+fn emit_turns(
+    code: &mut Emitter,
+    tag: Option<Place>,
+    targets: &Targets,
+    body: &[SlotStmt],
+) -> Result<(), AllocError>
+    ensures { PutsFor code.old (λ templates. each (turn_asm (tag_view templates tag)
+        (targets_view targets.now) (body_asm (body_view templates body.now slots.end) 0)))
+        result code.new }
+{
     let top = code.begin_turns()?;
-    emit_item(code, Some(tag), targets)?;
-    emit_statements(alloc, code, body, 0)?;
+    emit_item(code, tag, targets)?;
+    emit_statements(code, body, 0)?;
     code.end_turns(top)?;
-    code.put(Some(tag), Some(Instruction::LoopEnd))?;
+    Ok(())
+}
+
+/// Puts the end of a loop behind the others, and what stands for no turn.
+#[cycle(statements)]
+fn emit_otherwise(
+    code: &mut Emitter,
+    tag: Option<Place>,
+    other: &[SlotStmt],
+    above: usize,
+) -> Result<(), AllocError>
+    ensures { PutsAt above code.old (λ templates h. both (one (tag_view templates tag) op.LoopEnd)
+        (when (body_asm (body_view templates other.now slots.end) h))) result code.new }
+{
+    code.put(tag, Some(Instruction::LoopEnd))?;
     let choice = code.begin_choice()?;
-    emit_statements(alloc, code, other, above)?;
+    emit_statements(code, other, above)?;
     code.end_when(choice);
     Ok(())
 }
@@ -250,7 +277,6 @@ fn emit_loop(
 /// Puts the code of a capture behind the others: the text of its body goes into the slot.
 #[cycle(statements)]
 fn emit_capture(
-    alloc: Global,
     code: &mut Emitter,
     escaping: bool,
     slot: Slot,
@@ -262,7 +288,7 @@ fn emit_capture(
 {
     let captured = flag(escaping);
     code.put(None, Some(Instruction::CaptureBegin))?;
-    emit_statements(alloc, code, body, above.saturating_add(1))?;
+    emit_statements(code, body, above.saturating_add(1))?;
     code.put(None, Some(Instruction::CaptureEnd { flag: captured }))?;
     code.put(None, store_of(slot))?;
     Ok(())
@@ -270,16 +296,11 @@ fn emit_capture(
 
 /// Puts the code of statements behind the others.
 #[cycle(statements)]
-fn emit_statements(
-    alloc: Global,
-    code: &mut Emitter,
-    body: &[SlotStmt],
-    above: usize,
-) -> Result<(), AllocError>
+fn emit_statements(code: &mut Emitter, body: &[SlotStmt], above: usize) -> Result<(), AllocError>
     ensures { EmitsAt above code.old (λ texts. body_view texts body.now) result code.new }
 {
     for statement in body {
-        emit_statement(alloc, code, statement, above)?;
+        emit_statement(code, statement, above)?;
     }
     Ok(())
 }

@@ -6,7 +6,7 @@ ghost use Rattle.jt_trees.specs.Expressions.{Text};
 ghost use Rattle.jt_resolved.specs.Size.{targets_height, condition_height, body_height};
 ghost use Rattle.jt_resolved.specs.Slots as slots;
 ghost use Rattle.jt_resolved.specs.Slots.{SBody};
-ghost use Rattle.jt_resolved.specs.View.{targets_view, expr_view, stmt_view, body_view, routine_view};
+ghost use Rattle.jt_resolved.specs.View.{targets_view, expr_view, stmt_view, body_view, choice_view, routine_view};
 
 use jt_lower::{fits_expression, fits_row};
 use jt_resolved::{Routine, SlotBranch, SlotExpr, SlotStmt, Targets};
@@ -46,21 +46,7 @@ fn fits_statement(statement: &SlotStmt, room: usize) -> bool
             value: expr,
             ..
         } => fits_expression(expr, room) && fits_targets(targets, room),
-        SlotStmt::If(branches, other) => {
-            for SlotBranch {
-                condition,
-                body,
-                ..
-            } in branches {
-                if !fits_expression(condition, room) {
-                    return false;
-                }
-                if !fits_body(body, room) {
-                    return false;
-                }
-            }
-            fits_body(other, room)
-        }
+        SlotStmt::If(branches, other) => fits_branches(branches, other, room),
         SlotStmt::For {
             targets,
             over: iterated,
@@ -79,6 +65,28 @@ fn fits_statement(statement: &SlotStmt, room: usize) -> bool
         SlotStmt::Capture { body, .. } => room >= 1 && fits_body(body, room - 1),
         SlotStmt::Run(_, row) => fits_row(row, room),
     }
+}
+
+/// Whether branches, and what stands for none of them, need at most so many entries.
+#[cycle(entries)]
+fn fits_branches(branches: &[SlotBranch<SlotStmt>], other: &[SlotStmt], room: usize) -> bool
+    ensures { (templates : List Text) (behind : SBody ℕ)
+        → nat_le (body_height (choice_view templates branches.now (body_view templates other.now)
+        behind)) room ≡ result && nat_le (body_height behind) room }
+{
+    for SlotBranch {
+        condition,
+        body,
+        ..
+    } in branches {
+        if !fits_expression(condition, room) {
+            return false;
+        }
+        if !fits_body(body, room) {
+            return false;
+        }
+    }
+    fits_body(other, room)
 }
 
 /// Whether statements need at most so many entries.

@@ -30,10 +30,7 @@ pub(crate) fn image_of(alloc: Global, program: &Program) -> Result<Image, EmitEr
     ensures refused { IfErr result (λ e. RefusesCode e (compiled (program_of program.now))) }
 {
     let parts = parts_of(alloc, program)?;
-    match assemble(alloc, parts) {
-        Ok(image) => Ok(image),
-        Err((_, refusal)) => Err(refused_by(refusal)),
-    }
+    assemble(alloc, parts).map_err(|(_, refusal)| refused_by(refusal))
 }
 
 /// Why no code is made where parts are no image: all but want of memory is want of place.

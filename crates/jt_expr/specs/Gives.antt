@@ -28,7 +28,7 @@ use Rattle.jt_trees.specs.Expressions.{Text, Expr, levels}
 use Rattle.jt_trees.specs.Expressions as trees
 use Rattle.jt_trees.specs.ExpressionView.{expr_view, exprs_view, pairs_view}
 use Rattle.jt_trees.specs.declared.expression.Expr as expression
-use Rattle.jt_expr.specs.Promises.{parts_view, level_of_form}
+use Rattle.jt_expr.specs.Promises.{tree_of, parts_view, level_of_form}
 use Rattle.jt_expr.specs.Grammar as grammar
 use Rattle.jt_expr.specs.Grammar.{Tokens, Level, next}
 use Rattle.jt_expr.specs.Reading.{Outcome, Reader, syntax, deep, operator, read, read_at, read_chain}
@@ -82,9 +82,6 @@ GivesWord o (Err f) new = Refuses o f
 -- the bytes of a text's characters
 abbrev pub bytes_of : Text → Text
 bytes_of s = encode_utf8_all (chars s)
-
-abbrev pub tree_of : Part → Expr
-tree_of p = expr_view p.expr.value
 
 abbrev pub rows_of : Parts → trees.Exprs
 rows_of p = exprs_view p.items.items

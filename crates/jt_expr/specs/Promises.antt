@@ -6,14 +6,18 @@ use Rattle.jt_scan.specs.Cut as cut
 use Rattle.jt_scan.specs.Cut.{tokens_weight}
 use Rattle.jt_expr.specs.declared.error.ExprError.{ExprError}
 use Rattle.jt_expr.specs.declared.error.ExprError.TheVariants as e
+use Rattle.jt_expr.specs.declared.part.Part.{Part}
 use Rattle.jt_expr.specs.declared.part.Parts.{Parts as Row}
 use Rattle.jt_expr.specs.declared.rows.Form.{Form}
 use Rattle.jt_expr.specs.declared.rows.Form.TheVariants as f
 use Rattle.jt_trees.specs.Expressions.{Expr, exprs_levels, pairs_levels, weight}
 use Rattle.jt_trees.specs.Sizes.{expr_bytes}
 use Rattle.jt_expr.specs.Sizes.{tokens_bytes}
-use Rattle.jt_trees.specs.ExpressionView.{exprs_view, pairs_view}
+use Rattle.jt_trees.specs.ExpressionView.{expr_view, exprs_view, pairs_view}
 use Rattle.jt_expr.specs.Grammar.{Tokens, word, Level, whole, disjunction, inversion, signed, postfix, Parts, Spells}
+
+abbrev pub tree_of : Part → Expr
+tree_of p = expr_view p.expr.value
 
 abbrev pub parts_view : Row → Parts
 parts_view p = (exprs_view p.items.items, pairs_view p.pairs.items)

@@ -14,9 +14,9 @@ ghost use Rattle.jt_expr.specs.Cursor.{ahead};
 ghost use Rattle.jt_trees.specs.Expressions.{levels};
 ghost use Rattle.jt_expr.specs.Grammar.{Spells, Arguments};
 ghost use Rattle.jt_expr.specs.Promises.{Reads, EndsAt, OpensNone, parts_levels};
-ghost use Rattle.jt_expr.specs.Promises.{level_of_form, parts_view};
+ghost use Rattle.jt_expr.specs.Promises.{level_of_form, parts_view, tree_of};
 ghost use Rattle.jt_expr.specs.Gives.{Gives, GivesParts, GivesKeyed, GivesElement, GivesKey};
-ghost use Rattle.jt_expr.specs.Gives.{Nests, Around, Fits, row_view, bytes_of, tree_of, rows_of, named_of};
+ghost use Rattle.jt_expr.specs.Gives.{Nests, Around, Fits, row_view, bytes_of, rows_of, named_of};
 ghost use Rattle.jt_expr.specs.Gives.{by_rule, ReadsBy, Follows, FollowsAt, FollowsParts, FollowsStep, form_of, level_of_chain, operand_of, chain_of};
 ghost use Rattle.jt_scan.specs.declared.segment.Sign.TheVariants as sign;
 
@@ -95,7 +95,7 @@ impl<F: Fn(Global, &mut Cursor<'_>, usize, Form) -> Result<Part, ExprError>> Gra
             (trees.call (tree_of value) (rows_of arguments) (named_of arguments)) result }
     {
         let height = self.around(value.height.max(arguments.height))?;
-        let expr = making::make_call(self.alloc, value.expr, arguments.items, arguments.pairs)?;
+        let expr = making::make_call(self.alloc, value.expr, arguments)?;
         Ok(Part { expr, height })
     }
 
@@ -105,13 +105,7 @@ impl<F: Fn(Global, &mut Cursor<'_>, usize, Form) -> Result<Part, ExprError>> Gra
             (rows_of arguments) (named_of arguments)) result }
     {
         let height = self.around(value.height.max(arguments.height))?;
-        let expr = making::make_filter(
-            self.alloc,
-            value.expr,
-            name,
-            arguments.items,
-            arguments.pairs,
-        )?;
+        let expr = making::make_filter(self.alloc, value.expr, name, arguments)?;
         Ok(Part { expr, height })
     }
 
@@ -127,14 +121,7 @@ impl<F: Fn(Global, &mut Cursor<'_>, usize, Form) -> Result<Part, ExprError>> Gra
             (bytes_of name.now) (rows_of arguments) (named_of arguments)) result }
     {
         let height = self.around(value.height.max(arguments.height))?;
-        let expr = making::make_test(
-            self.alloc,
-            value.expr,
-            polarity,
-            name,
-            arguments.items,
-            arguments.pairs,
-        )?;
+        let expr = making::make_test(self.alloc, value.expr, polarity, name, arguments)?;
         Ok(Part { expr, height })
     }
 

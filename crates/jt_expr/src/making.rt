@@ -5,8 +5,9 @@ ghost use Rattle.jt_trees.specs.Expressions as trees;
 ghost use Rattle.jt_trees.specs.ExpressionView.{literal_view, is_negated, expr_view, exprs_view, pairs_view};
 ghost use Rattle.std.specs.Prelude.{string_bytes, encode_utf8_all};
 ghost use Rattle.std.specs.Str.{chars};
-ghost use Rattle.jt_expr.specs.Gives.{Makes, bytes_of};
+ghost use Rattle.jt_expr.specs.Gives.{Makes, bytes_of, named_of, rows_of};
 
+use crate::part::Parts;
 use jt_trees::{BinaryOperator, Expr, Literal, Polarity, UnaryOperator};
 use std::alloc::{AllocError, Global};
 
@@ -72,16 +73,14 @@ pub(crate) fn make_item(
 pub(crate) fn make_call(
     alloc: Global,
     callee: Box<Expr>,
-    arguments: Vec<Expr>,
-    keywords: Vec<(String, Expr)>,
+    row: Parts,
 ) -> Result<Box<Expr>, AllocError>
-    ensures { Makes (trees.call (expr_view callee.value) (exprs_view arguments.items)
-        (pairs_view keywords.items)) result }
+    ensures { Makes (trees.call (expr_view callee.value) (rows_of row) (named_of row)) result }
 {
     let call = Expr::Call {
         callee,
-        arguments,
-        keywords,
+        arguments: row.items,
+        keywords: row.pairs,
     };
     Ok(Box::new(alloc, call)?)
 }
@@ -90,18 +89,17 @@ pub(crate) fn make_filter(
     alloc: Global,
     input: Box<Expr>,
     text: &str,
-    arguments: Vec<Expr>,
-    keywords: Vec<(String, Expr)>,
+    row: Parts,
 ) -> Result<Box<Expr>, AllocError>
-    ensures { Makes (trees.filter (expr_view input.value) (bytes_of text.now)
-        (exprs_view arguments.items) (pairs_view keywords.items)) result }
+    ensures { Makes (trees.filter (expr_view input.value) (bytes_of text.now) (rows_of row)
+        (named_of row)) result }
 {
     let name = copy_of(alloc, text)?;
     let filter = Expr::Filter {
         input,
         name,
-        arguments,
-        keywords,
+        arguments: row.items,
+        keywords: row.pairs,
     };
     Ok(Box::new(alloc, filter)?)
 }
@@ -111,19 +109,18 @@ pub(crate) fn make_test(
     value: Box<Expr>,
     polarity: Polarity,
     text: &str,
-    arguments: Vec<Expr>,
-    keywords: Vec<(String, Expr)>,
+    row: Parts,
 ) -> Result<Box<Expr>, AllocError>
     ensures { Makes (trees.test (expr_view value.value) (is_negated polarity) (bytes_of text.now)
-        (exprs_view arguments.items) (pairs_view keywords.items)) result }
+        (rows_of row) (named_of row)) result }
 {
     let name = copy_of(alloc, text)?;
     let test = Expr::Test {
         value,
         polarity,
         name,
-        arguments,
-        keywords,
+        arguments: row.items,
+        keywords: row.pairs,
     };
     Ok(Box::new(alloc, test)?)
 }

@@ -16,10 +16,7 @@ use Rattle.jt_value.specs.declared.value.Value.{Value}
 use Rattle.jt_value.specs.Tree.{no_items, item}
 use Rattle.jt_filter_meaning.specs.Listing.{on_items, joined_by}
 use Rattle.jt_filter_meaning.specs.Filtering.{filtered}
-use Rattle.jt_ids.specs.declared.filter_id.FilterId.{FilterId}
-use Rattle.jt_ops.specs.Limited.{limited_by, Answers}
-use Rattle.jt_ops.specs.declared.limits.Limits.{Limits}
-use Rattle.jt_ops.specs.declared.limits.OpError.{OpError}
+use Rattle.jt_filters.specs.declared.filters.Application.{Application}
 use Rattle.jt_filters.specs.declared.operand.Operand.{Operand}
 use Rattle.jt_filters.specs.declared.operand.Operand.TheVariants as operand
 use Rattle.jt_filters.specs.declared.item_list.ItemList.{ItemList}
@@ -122,7 +119,6 @@ abbrev pub HasItems : Result Items Fault → Result ItemList Fault → Type 0
 HasItems wanted (Ok found) = wanted ≡ Ok (items_in found)
 HasItems wanted (Err f) = wanted ≡ Err f
 
--- a call answers under the limits what a filter gives of its values
-abbrev pub Filters : Limits → FilterId → Bool → List Tree → Result Value OpError → Type 0
-Filters limits filter autoescape ts result =
-    Answers result (limited_by limits (filtered filter autoescape ts))
+-- what an application gives
+abbrev pub given : Application → Result Tree Fault
+given a = filtered a.filter a.autoescape (inputs a.operand a.arguments.now)

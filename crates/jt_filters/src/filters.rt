@@ -4,7 +4,7 @@ ghost use Rattle.jt_value.specs.View.{view};
 ghost use Rattle.jt_ops.specs.Limited.{limited_by, Answers};
 ghost use Rattle.jt_ids.specs.FilterTable.{least_values, most_values};
 ghost use Rattle.jt_filter_meaning.specs.Filtering.{filtered};
-ghost use Rattle.jt_filters.specs.Operands.{inputs, measured, Builds, Filters};
+ghost use Rattle.jt_filters.specs.Operands.{given, measured, Builds};
 
 use crate::building::build;
 use crate::mapping::{mapped, mapped_measure};
@@ -15,6 +15,15 @@ use jt_ids::FilterId;
 use jt_ops::{Limits, OpError, allow};
 use jt_value::{Fault, Value, ValueError};
 use std::alloc::Global;
+
+/// A filter with what it is applied to.
+#[derive(Clone, Copy)]
+struct Application<'a> {
+    filter: FilterId,
+    operand: Operand<'a>,
+    arguments: &'a [Value],
+    autoescape: bool,
+}
 
 /// What a filter gives of its values, the input first, under limits. `autoescape` says whether
 /// `join` keeps markup. The result's size and nesting are tested before it is built.
@@ -37,34 +46,26 @@ pub fn apply(
 {
     match values {
         [value, arguments @ ..] => {
-            applied(
-                alloc,
+            let application = Application {
                 filter,
-                Operand::Value(value),
+                operand: Operand::Value(value),
                 arguments,
                 autoescape,
-                limits,
-            )
+            };
+            applied(alloc, application, limits)
         }
         _ => unreachable!(),
     }
 }
 
-/// The same of an operand and the filter's arguments. `unique` finds its items once for its measure
-/// and its value.
-fn applied(
-    alloc: Global,
-    filter: FilterId,
-    operand: Operand<'_>,
-    arguments: &[Value],
-    autoescape: bool,
-    limits: Limits,
-) -> Result<Value, OpError>
-    ensures { Filters limits filter autoescape (inputs operand.entry arguments.now) result }
+/// What an application gives under limits. `unique` finds its items once for its measure and its
+/// value.
+fn applied(alloc: Global, application: Application<'_>, limits: Limits) -> Result<Value, OpError>
+    ensures { Answers result (limited_by limits (given application.entry)) }
 {
-    match (filter, arguments) {
-        (FilterId::Unique, []) => unique_under(alloc, operand, limits),
-        _ => measured_and_built(alloc, filter, operand, arguments, autoescape, limits),
+    match (application.filter, application.arguments) {
+        (FilterId::Unique, []) => unique_under(alloc, application.operand, limits),
+        _ => measured_and_built(alloc, application, limits),
     }
 }
 
@@ -72,58 +73,67 @@ fn applied(
 #[tactic(auto, using(crate::proofs::Applied::faulty, crate::proofs::Applied::needs_memory))]
 fn measured_and_built(
     alloc: Global,
-    filter: FilterId,
-    operand: Operand<'_>,
-    arguments: &[Value],
-    autoescape: bool,
+    application: Application<'_>,
     limits: Limits,
 ) -> Result<Value, OpError>
-    ensures { Filters limits filter autoescape (inputs operand.entry arguments.now) result }
+    ensures { Answers result (limited_by limits (given application.entry)) }
 {
-    let (size, nesting) = match filter_measure(alloc, filter, operand, arguments, autoescape) {
+    let (size, nesting) = match application.measure(alloc) {
         Ok(measure) => measure,
         Err(fault) => return Err(OpError::Fault(fault)),
     };
     if let Err(error) = allow(size, nesting, limits) {
         return Err(error);
     }
-    match filter_value(alloc, filter, operand, arguments, autoescape) {
+    match application.value(alloc) {
         Ok(value) => Ok(value),
         Err(ValueError::Fault(fault)) => Err(OpError::Fault(fault)),
         Err(ValueError::NoMemory) => Err(OpError::NoMemory),
     }
 }
 
-/// The measure of what a filter gives, of those that call others too.
-fn filter_measure(
-    alloc: Global,
-    filter: FilterId,
-    operand: Operand<'_>,
-    arguments: &[Value],
-    autoescape: bool,
-) -> Result<(u64, u32), Fault>
-    ensures { result ≡ measured (filtered filter autoescape (inputs operand.entry arguments.now)) }
-{
-    if filter.may_be_inner() {
-        measure(alloc, filter, operand, arguments, autoescape)
-    } else {
-        mapped_measure(alloc, filter, operand, arguments, autoescape)
+impl<'a> Application<'a> {
+    /// The measure of what it gives, of filters that call others too.
+    fn measure(self, alloc: Global) -> Result<(u64, u32), Fault>
+        ensures { result ≡ measured (given self.entry) }
+    {
+        if self.filter.may_be_inner() {
+            return measure(
+                alloc,
+                self.filter,
+                self.operand,
+                self.arguments,
+                self.autoescape,
+            );
+        }
+        mapped_measure(
+            alloc,
+            self.filter,
+            self.operand,
+            self.arguments,
+            self.autoescape,
+        )
     }
-}
 
-/// What a filter gives, of those that call others too.
-fn filter_value(
-    alloc: Global,
-    filter: FilterId,
-    operand: Operand<'_>,
-    arguments: &[Value],
-    autoescape: bool,
-) -> Result<Value, ValueError>
-    ensures { Builds (filtered filter autoescape (inputs operand.entry arguments.now)) result }
-{
-    if filter.may_be_inner() {
-        build(alloc, filter, operand, arguments, autoescape)
-    } else {
-        mapped(alloc, filter, operand, arguments, autoescape)
+    /// What it gives, of filters that call others too.
+    fn value(self, alloc: Global) -> Result<Value, ValueError>
+        ensures { Builds (given self.entry) result }
+    {
+        if self.filter.may_be_inner() {
+            return build(
+                alloc,
+                self.filter,
+                self.operand,
+                self.arguments,
+                self.autoescape,
+            );
+        }
+        mapped(
+            alloc,
+            self.filter,
+            self.operand,
+            self.arguments,
+            self.autoescape,
+        )
     }
 }

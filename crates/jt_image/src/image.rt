@@ -1,10 +1,7 @@
 //! An image, which contracts see as its code.
 
-use crate::code::{Code, ConstantRef, PlaceRef, UnitHeader};
-use crate::instruction::Instruction;
+use crate::code::Code;
 use crate::places::{Places, Reader};
-use crate::stretch::Stretch;
-use crate::version::Version;
 use std::marker::Model;
 
 /// A constant.
@@ -39,91 +36,14 @@ impl Model for Image {
     ghost invariant = { λ i. Spells i.bytes.items i.places };
 }
 
-impl Image {
-    ghost use Rattle.std.specs.Prelude.{◌≡◌};
+impl Code for Image {
+    ghost code = { λ i. i };
 
-    fn reader(&self) -> Reader<'_>
-        ensures { result ≡ self.now }
-    {
+    #[inline(always)]
+    fn reader(&self) -> Reader<'_> {
         Reader {
             bytes: &self.bytes,
             places: &self.places,
         }
-    }
-}
-
-impl Code for Image {
-    ghost code = { λ i. i };
-
-    fn version(&self) -> Version {
-        self.places.version
-    }
-
-    fn globals(&self) -> u16 {
-        self.places.globals
-    }
-
-    fn names(&self) -> usize {
-        self.places.names.len()
-    }
-
-    fn name(&self, index: usize) -> Option<(u16, &str)> {
-        self.reader().name(index)
-    }
-
-    fn constants(&self) -> usize {
-        self.places.constants.len()
-    }
-
-    fn constant(&self, index: usize) -> Option<ConstantRef<'_>> {
-        self.reader().constant(index)
-    }
-
-    fn integer(&self, index: usize) -> Option<i64> {
-        self.reader().integer(index)
-    }
-
-    fn units(&self) -> usize {
-        self.places.units.len()
-    }
-
-    fn unit(&self, unit: usize) -> Option<UnitHeader> {
-        self.reader().unit(unit)
-    }
-
-    fn instruction(&self, unit: usize, point: usize) -> Option<Instruction> {
-        self.reader().instruction(unit, point)
-    }
-
-    fn stretch(&self, unit: usize) -> Option<Stretch<'_>> {
-        self.reader().stretch(unit)
-    }
-
-    fn instructions(&self) -> usize {
-        self.places.instructions as usize
-    }
-
-    fn templates(&self) -> usize {
-        self.places.templates.len()
-    }
-
-    fn template(&self, index: usize) -> Option<&str> {
-        self.reader().template(index)
-    }
-
-    fn place(&self, unit: usize, point: usize) -> Option<PlaceRef<'_>> {
-        self.reader().place(unit, point)
-    }
-
-    fn bytes(&self) -> &[u8] {
-        &self.bytes
-    }
-
-    fn constant_place(&self, index: usize) -> Option<usize> {
-        self.reader().constant_place(index)
-    }
-
-    fn unit_place(&self, unit: usize) -> Option<usize> {
-        self.reader().unit_start(unit)
     }
 }

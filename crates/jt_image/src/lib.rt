@@ -47,6 +47,7 @@ pub use laws::code_laws;
 pub use limits::{MAX_COUNT, MAX_ENTRIES, MAX_INSTRUCTIONS};
 pub use loop_field::LoopField;
 pub use parts::{Parts, Spot, Unit};
+pub use places::Reader;
 pub use stretch::Stretch;
 pub use upgrading::upgrade;
 pub use version::Version;

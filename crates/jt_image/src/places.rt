@@ -110,7 +110,7 @@ fn constant_with(tag: u8, rest: &[u8]) -> ConstantRef<'_>
     }
 }
 
-fn constant_in(bytes: &[u8], at: u32) -> ConstantRef<'_>
+pub(crate) fn constant_in(bytes: &[u8], at: u32) -> ConstantRef<'_>
     requires { HasConstant bytes.now at }
     ensures { constant_ref_view result ≡ constant_in bytes.now at }
 {
@@ -120,7 +120,8 @@ fn constant_in(bytes: &[u8], at: u32) -> ConstantRef<'_>
 }
 
 // the number at a place, if a number stands there
-fn integer_in(bytes: &[u8], at: u32) -> Option<i64>
+#[inline(always)]
+pub(crate) fn integer_in(bytes: &[u8], at: u32) -> Option<i64>
     requires { HasConstant bytes.now at }
     ensures { result ≡ number_of (constant_in bytes.now at) }
 {
@@ -129,6 +130,7 @@ fn integer_in(bytes: &[u8], at: u32) -> Option<i64>
     integer_with(front[0], rest)
 }
 
+#[inline(always)]
 #[tactic(auto, unfolding(crate::specs::Reading::constant_of))]
 fn integer_with(tag: u8, rest: &[u8]) -> Option<i64>
     requires { IsRead (constant_of tag rest.now) }
@@ -141,7 +143,8 @@ fn integer_with(tag: u8, rest: &[u8]) -> Option<i64>
 }
 
 // the instructions of a unit
-fn stretch_in<'a>(bytes: &'a [u8], unit: &UnitPlace) -> Stretch<'a>
+#[inline(always)]
+pub(crate) fn stretch_in<'a>(bytes: &'a [u8], unit: &UnitPlace) -> Stretch<'a>
     requires { HasUnit bytes.now unit.now }
     ensures { result ≡ (section_in bytes.now unit.now).code }
 {
@@ -187,7 +190,7 @@ fn spot_there(bytes: &[u8], places: &Places, number: usize) -> Option<Spot>
     Some(spot_of(front))
 }
 
-fn constant_start(_bytes: &[u8], places: &Places, index: usize) -> Option<usize>
+pub(crate) fn constant_start(_bytes: &[u8], places: &Places, index: usize) -> Option<usize>
     requires { Spells _bytes.now places.now }
     ensures { ConstantPlace (code_in _bytes.now places.now) index result }
 {
@@ -197,7 +200,7 @@ fn constant_start(_bytes: &[u8], places: &Places, index: usize) -> Option<usize>
     }
 }
 
-fn unit_start(_bytes: &[u8], places: &Places, unit: usize) -> Option<usize>
+pub(crate) fn unit_start(_bytes: &[u8], places: &Places, unit: usize) -> Option<usize>
     requires { Spells _bytes.now places.now }
     ensures { UnitStart (code_in _bytes.now places.now) unit result }
 {
@@ -210,7 +213,7 @@ fn unit_start(_bytes: &[u8], places: &Places, unit: usize) -> Option<usize>
 /// The bytes of an image with the places of its parts, lent by an image or a view. Contracts see
 /// its code.
 #[derive(Drop)]
-pub(crate) struct Reader<'a> {
+pub struct Reader<'a> {
     pub(crate) bytes: &'a [u8],
     pub(crate) places: &'a Places,
 }
@@ -228,81 +231,6 @@ impl<'a> Model for Reader<'a> {
 }
 
 impl<'a> Reader<'a> {
-    /// The slot of a global, and its name.
-    pub(crate) fn name(&self, index: usize) -> Option<(u16, &'a str)>
-        ensures { option_map name_ref_view result ≡ slice_get self.now.names index }
-    {
-        match self.places.names.get(index) {
-            Some(at) => Some(name_in(self.bytes, *at)),
-            None => None,
-        }
-    }
-
-    /// A constant.
-    pub(crate) fn constant(&self, index: usize) -> Option<ConstantRef<'a>>
-        ensures { option_map constant_ref_view result ≡ slice_get self.now.constants index }
-    {
-        match self.places.constants.get(index) {
-            Some(at) => Some(constant_in(self.bytes, *at)),
-            None => None,
-        }
-    }
-
-    /// A constant that is a number.
-    pub(crate) fn integer(&self, index: usize) -> Option<i64>
-        ensures { result ≡ option_and_then number_of (slice_get self.now.constants index) }
-    {
-        match self.places.constants.get(index) {
-            Some(at) => integer_in(self.bytes, *at),
-            None => None,
-        }
-    }
-
-    /// The numbers of a unit.
-    pub(crate) fn unit(&self, unit: usize) -> Option<UnitHeader>
-        ensures { result ≡ option_map header_of (slice_get self.now.units unit) }
-    {
-        match self.places.units.get(unit) {
-            Some(place) => Some(UnitHeader {
-                parameters: place.parameters,
-                kind: place.kind,
-                locals: place.locals,
-                instructions: place.len as usize,
-            }),
-            None => None,
-        }
-    }
-
-    /// The instructions of a unit.
-    pub(crate) fn stretch(&self, unit: usize) -> Option<Stretch<'a>>
-        ensures { result ≡ option_map (λ u. u.code) (slice_get self.now.units unit) }
-    {
-        match self.places.units.get(unit) {
-            Some(place) => Some(stretch_in(self.bytes, place)),
-            None => None,
-        }
-    }
-
-    /// An instruction of a unit.
-    pub(crate) fn instruction(&self, unit: usize, point: usize) -> Option<Instruction>
-        ensures { result ≡ instruction_at self.now unit point }
-    {
-        match self.stretch(unit) {
-            Some(stretch) => stretch.get(point),
-            None => None,
-        }
-    }
-
-    /// The name of a template.
-    pub(crate) fn template(&self, index: usize) -> Option<&'a str>
-        ensures { option_map (λ t. t.now) result ≡ slice_get self.now.templates index }
-    {
-        match self.places.templates.get(index) {
-            Some(at) => Some(template_in(self.bytes, *at)),
-            None => None,
-        }
-    }
-
     // the spot of an instruction, by its number among all of them
     fn spot(&self, number: usize) -> Option<Spot>
         ensures { option_map spot_view result ≡ slice_get self.now.spots number }
@@ -321,27 +249,11 @@ impl<'a> Reader<'a> {
         if spot.template == 0 {
             return None;
         }
-        match self.template(usize::from(spot.template) - 1) {
-            Some(template) => Some(PlaceRef {
-                template,
-                line: spot.line,
-            }),
-            None => None,
-        }
-    }
-
-    /// Where a constant begins in the bytes.
-    pub(crate) fn constant_place(&self, index: usize) -> Option<usize>
-        ensures { ConstantPlace self.now index result }
-    {
-        constant_start(self.bytes, self.places, index)
-    }
-
-    /// Where the instructions of a unit begin in the bytes.
-    pub(crate) fn unit_start(&self, unit: usize) -> Option<usize>
-        ensures { UnitStart self.now unit result }
-    {
-        unit_start(self.bytes, self.places, unit)
+        let at = self.places.templates.get(usize::from(spot.template) - 1)?;
+        Some(PlaceRef {
+            template: template_in(self.bytes, *at),
+            line: spot.line,
+        })
     }
 
     /// The place of an instruction of a unit.

@@ -1,9 +1,9 @@
 -- Chains and libraries that were followed: what is known of them stays as more is found.
-use Rattle.std.proofs.Common.{◌≡◌, ℕ, zero, suc, ◌<◌, ◌≤◌, Bool, true, false, cond, List, [], ◌∷◌, ◌++◌, length, map, refl, sym, ap, subst, ◌∙◌, arith, ◌⊎◌, ⊎_elim, Some, None, get_or, Vec, Global, rules}
+use Rattle.std.proofs.Common.{◌≡◌, ℕ, zero, suc, ◌<◌, ◌≤◌, Bool, true, false, cond, List, [], ◌∷◌, ◌++◌, length, map, refl, sym, ap, subst, ◌∙◌, arith, ◌⊎◌, ⊎_elim, Option, Some, None, Vec, Global, rules}
 use Rattle.std.specs.Prelude.{slice_get, flat_map, filter, unwrap_or}
 use Rattle.std.specs.List.{AllByRecursion}
 use Rattle.std.specs.Option.{is_some, option_to_list}
-use Rattle.std.proofs.lemmas.List.{append-nil, append_assoc, length-map}
+use Rattle.std.proofs.lemmas.List.{append-nil, append_assoc, length-map, map-append}
 use Rattle.jt_scan.specs.declared.options.Options.{Options}
 use Rattle.jt_trees.specs.Texts.{among}
 use Rattle.jt_trees.specs.Expressions.{Text}
@@ -12,8 +12,8 @@ use Rattle.jt_inherit.specs.Along.{imports_along, needs_along}
 use Rattle.jt_chains.specs.Chain.{Home, a_chain, a_library, home_name, listed, Template, templates, libraries, libraries_in, sources_in}
 use Rattle.jt_inherit.specs.Chains.{Given, IsRead}
 use Rattle.jt_inherit.specs.Found.{AreNext, IsMet, IsNeedFault, IsNextFault, IsFollowed, AreFollowed, AreFound, chosen}
-use Rattle.jt_chains.specs.Includes.{included, needs_in}
-use Rattle.jt_inherit.specs.Needs.{Need, needed, library_need, includes_in, imports_in}
+use Rattle.jt_chains.specs.Includes.{included, includes_in, needs_in}
+use Rattle.jt_chains.specs.Needs.{Need, include_need, library_need, needed}
 use Rattle.jt_chains.specs.Places.{home_at}
 use Rattle.jt_inherit.specs.Refusals.{Breaks}
 use Rattle.jt_chains.specs.Rules.{Asks, Reaches, here, asked, way}
@@ -24,12 +24,10 @@ use Rattle.jt_inherit.proofs.Imported.{all_imports, imports_needed, imports_chos
 use Rattle.jt_inherit.proofs.Following.{met_grows, numbers_grow, chosen-append}
 use Rattle.jt_inherit.proofs.Growing.{reach_more, ask_more, reaches_next}
 use Rattle.jt_inherit.proofs.Leads.{names, names_to_root, templates_grow, way_grows, few_templates, templates_to_root, asked_breaks}
-use Rattle.jt_inherit.proofs.Needed.{by_templates, needed-append}
-use Rattle.jt_chains.proofs.Placed.{along_templates, map_at}
+use Rattle.jt_chains.proofs.Included.{by_templates, needed-append}
+use Rattle.jt_chains.proofs.Placed.{along_templates}
 use Rattle.jt_graph.specs.View.{graph_of}
 use Rattle.jt_chains.specs.Pages.{page_view, pages_view}
-use Rattle.jt_inherit.specs.SetView.{key_view, keys_view}
-use Rattle.jt_inherit.specs.declared.sets.HomeKey.{HomeKey}
 use Rattle.jt_chains.specs.declared.pages.Page.{Page}
 use Rattle.jt_inherit.proofs.Among.{of_texts, same}
 use Rattle.jt_inherit.proofs.Homes.{of_homes}
@@ -50,15 +48,15 @@ placed_templates ts (i ∷ is) a =
     ap (λ o. o ∷ map (slice_get ts) is) e ∙ ap (λ l. Some p.0 ∷ l) (placed_templates ts is a.1)
     ∙ sym (ap (λ o. map Some (option_to_list o ++ templates_at ts is)) e)
 
-pub includes_told : (ts : List Template) (is : List ℕ) → ArePlaces ts is → needs_along ts is ≡ flat_map (λ t. includes_in t.body) (templates_at ts is) ++ map library_need (flat_map (λ t. libraries_in t.body) (templates_at ts is))
+pub includes_told : (ts : List Template) (is : List ℕ) → ArePlaces ts is → needs_along ts is ≡ flat_map (λ t. includes_in include_need t.body) (templates_at ts is) ++ map library_need (flat_map (λ t. libraries_in t.body) (templates_at ts is))
 includes_told ts is a =
     let us = templates_at ts is in
-    ap (λ l. l ++ imports_along ts is) (along_templates (λ n b. includes_in b) ts is us (placed_templates ts is a))
-    ∙ ap (λ l. flat_map (λ (t : Template). includes_in t.body) us ++ l) (along_templates (λ n b. imports_in b) ts is us (placed_templates ts is a) ∙ all_imports us)
+    ap (λ l. l ++ imports_along ts is) (along_templates (λ n b. includes_in include_need b) ts is us (placed_templates ts is a))
+    ∙ ap (λ l. flat_map (λ (t : Template). includes_in include_need t.body) us ++ l) (along_templates (λ n b. map library_need (libraries_in b)) ts is us (placed_templates ts is a) ∙ all_imports us)
 
 pub includes_grow : (ts us : List Template) (is : List ℕ) → ArePlaces ts is → ArePlaces (ts ++ us) is → needs_along (ts ++ us) is ≡ needs_along ts is
 includes_grow ts us is a b =
-    includes_told (ts ++ us) is b ∙ ap (λ vs. flat_map (λ (t : Template). includes_in t.body) vs ++ map library_need (flat_map (λ (t : Template). libraries_in t.body) vs)) (templates_grow ts us is a) ∙ sym (includes_told ts is a)
+    includes_told (ts ++ us) is b ∙ ap (λ vs. flat_map (λ (t : Template). includes_in include_need t.body) vs ++ map library_need (flat_map (λ (t : Template). libraries_in t.body) vs)) (templates_grow ts us is a) ∙ sym (includes_told ts is a)
 
 -- ---- what has a source
 
@@ -83,7 +81,7 @@ included_is ts h is w =
     let s = sources_in ts in
     let us = templates_at ts is in
     let ks = names ts in
-    let ns = flat_map (λ (t : Template). includes_in t.body) us in
+    let ns = flat_map (λ (t : Template). includes_in include_need t.body) us in
     let ls = flat_map (λ (t : Template). libraries_in t.body) us in
     let chains : filter (λ m. is_some (s m)) (flat_map (λ t. needs_in true t.body) (templates s h)) ≡ filter (λ m. among m ks) (needed true ns) =
     ap (λ vs. filter (λ m. is_some (s m)) (flat_map (λ (t : Template). needs_in true t.body) vs)) (whole_way ts h is w) ∙ ap (filter (λ m. is_some (s m))) (sym (by_templates true us))
@@ -279,20 +277,19 @@ followed_len given ts hs [] (w ∷ ws) (n ∷ ns) a = absurd a
 followed_len given ts hs (g ∷ gs) (w ∷ ws) (n ∷ ns) a = omega (arith, followed_len given ts hs gs ws ns a.1)
 
 -- the one that is next
-pub home_number : (keys ks : List HomeKey) (ws : List (Vec ℕ Global)) (k : HomeKey) (i : ℕ) → ks ≡ keys → i ≡ length ws → i < length ks → k ≡ get_or ks i k → slice_get (keys_view keys) (length (graph_of ws)) ≡ Some (key_view k)
-home_number keys ks ws k i e at lt is =
-    let len : length (graph_of ws) ≡ i = length-map ws (λ (v : Vec ℕ Global). v.items) ∙ sym at in
-    ap (λ z. slice_get (keys_view z) (length (graph_of ws))) (sym e) ∙ ap (slice_get (keys_view ks)) len ∙ map_at key_view ks i k lt is
+pub home_number : (hs : List Home) (ws : List (Vec ℕ Global)) (o : Option Home) (i : ℕ) → i ≡ length ws → slice_get hs i ≡ o → slice_get hs (length (graph_of ws)) ≡ o
+home_number hs ws o i at e = ap (slice_get hs) (length-map ws (λ (v : Vec ℕ Global). v.items) ∙ sym at) ∙ e
 
 pub known_names : (given : Given) (options : Options) (ts : List Template) (ks : List Text) → AreKnown given options ts ks → AreKnown given options ts (names ts)
 known_names given options ts ks k = record { read = k.read; only = k.only; within = k.within; named = refl }
 
-pub both_pages : (ps qs rs : List Page) → rs ≡ ps ++ qs → pages_view rs ≡ pages_view ps ++ pages_view qs
-both_pages ps qs rs e = ap pages_view e ∙ both ps
-  where
-    both : (zs : List Page) → pages_view (zs ++ qs) ≡ pages_view zs ++ pages_view qs
-    both [] = refl
-    both (z ∷ zs) = ap (λ l. page_view z ∷ l) (both zs)
+-- templates with some more behind them, where they are known
+module _ {given : Given} {options : Options} {ks : List Text} (ps qs : List Page) {rs ds : List Page} (same_pages : ds ≡ ps) (more : rs ≡ ps ++ qs) (known : AreKnown given options (pages_view ds ++ pages_view qs) ks) where
+  pub both_pages : pages_view rs ≡ pages_view ps ++ pages_view qs
+  both_pages = ap pages_view more ∙ map-append page_view ps qs
+
+  pub both_known : AreKnown given options (pages_view rs) ks
+  both_known = subst (λ ts. AreKnown given options ts ks) (ap (λ (zs : List Page). pages_view zs ++ pages_view qs) same_pages ∙ sym both_pages) known
 
 -- the same needs, of the same templates at the same places
 pub same_needs : (ps qs : List Page) (is js : List ℕ) → qs ≡ ps → js ≡ is → needs_along (pages_view qs) js ≡ needs_along (pages_view ps) is

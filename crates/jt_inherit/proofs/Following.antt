@@ -10,10 +10,10 @@ use Rattle.jt_trees.specs.Expressions.{Text}
 use Rattle.jt_inherit.specs.Chains.{Given}
 use Rattle.jt_chains.specs.Chain.{Home, a_chain, a_library, listed}
 use Rattle.jt_inherit.specs.Found.{AreNext, AddsNext, TooMany, IsNextFault, IsMet, IsFaultAt, IsNeedFault, known_of, chosen, chains_of, twice}
-use Rattle.jt_inherit.specs.Needs.{Need, needed, need_home, need_view, needs_view}
+use Rattle.jt_chains.specs.Needs.{Need, needed, need_home, need_view, needs_view}
 use Rattle.jt_inherit.specs.declared.error.ChainError.{ChainError}
 use Rattle.jt_inherit.specs.declared.error.ChainError.TheVariants as error
-use Rattle.jt_inherit.specs.declared.statements.Include.{Include}
+use Rattle.jt_chains.specs.declared.includes.Include.{Include}
 use Rattle.jt_inherit.proofs.Among.{of_texts, reflexive}
 use Rattle.jt_inherit.proofs.Homes.{chain_among, of_homes}
 use Rattle.jt_inherit.proofs.Members.{among_behind, among_cases, among_front, both_false, once_more, only_among, or_false}

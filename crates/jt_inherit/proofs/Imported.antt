@@ -11,34 +11,14 @@ use Rattle.jt_chains.specs.Chain.{Sources, Home, a_chain, a_library, Template, h
 use Rattle.jt_chains.specs.Rules.{lacks_macros}
 use Rattle.jt_inherit.specs.Found.{chosen}
 use Rattle.jt_inherit.specs.Kept.{names_from, imported_names}
-use Rattle.jt_inherit.specs.Needs as needs
-use Rattle.jt_inherit.specs.Needs.{Need, library_need, need_home, needed, includes_of, includes_in, includes_under}
+use Rattle.jt_chains.specs.Includes.{includes_by, includes_in, includes_under}
+use Rattle.jt_chains.specs.Needs.{Need, include_need, library_need, needed}
 
 -- ---- the imports of a template
 
-pub imports_are : (b : Body) → needs.imports_in b ≡ map library_need (libraries_in b)
-imports_are trees.end = refl
-imports_are (trees.stmt (trees.import_as line n x) rest) = ap (λ l. library_need n ∷ l) (imports_are rest)
-imports_are (trees.stmt (trees.import_from line n xs) rest) = ap (λ l. library_need n ∷ l) (imports_are rest)
-imports_are (trees.stmt (trees.data_of t) rest) = imports_are rest
-imports_are (trees.stmt (trees.print line e) rest) = imports_are rest
-imports_are (trees.stmt (trees.choose bs other) rest) = imports_are rest
-imports_are (trees.stmt (trees.for_each line xs e c body other) rest) = imports_are rest
-imports_are (trees.stmt (trees.set line xs e) rest) = imports_are rest
-imports_are (trees.stmt (trees.set_block line x body) rest) = imports_are rest
-imports_are (trees.stmt (trees.with_values line ps body) rest) = imports_are rest
-imports_are (trees.stmt (trees.filter_block line fs body) rest) = imports_are rest
-imports_are (trees.stmt (trees.autoescape line on body) rest) = imports_are rest
-imports_are (trees.stmt (trees.macro line x ps body) rest) = imports_are rest
-imports_are (trees.stmt (trees.include line n i c) rest) = imports_are rest
-imports_are (trees.stmt (trees.extends line x) rest) = imports_are rest
-imports_are (trees.stmt (trees.block line x scoped required body) rest) = imports_are rest
-
-pub all_imports : (ts : List Template) → flat_map (λ t. needs.imports_in t.body) ts ≡ map library_need (flat_map (λ t. libraries_in t.body) ts)
+pub all_imports : (ts : List Template) → flat_map (λ t. map library_need (libraries_in t.body)) ts ≡ map library_need (flat_map (λ t. libraries_in t.body) ts)
 all_imports [] = refl
-all_imports (t ∷ ts) =
-    ap (λ l. l ++ flat_map (λ (u : Template). needs.imports_in u.body) ts) (imports_are t.body) ∙ ap (λ l. map library_need (libraries_in t.body) ++ l) (all_imports ts)
-    ∙ sym (map-append library_need (libraries_in t.body) (flat_map (λ (u : Template). libraries_in u.body) ts))
+all_imports (t ∷ ts) = ap (λ l. map library_need (libraries_in t.body) ++ l) (all_imports ts) ∙ sym (map-append library_need (libraries_in t.body) (flat_map (λ (u : Template). libraries_in u.body) ts))
 
 -- each needs its library
 pub imports_needed : (all : Bool) (ns : List Text) → needed all (map library_need ns) ≡ ns
@@ -60,9 +40,9 @@ both [] ms a b = b
 both (n ∷ ns) ms a b = (a.0, both ns ms a.1 b)
 
 mutual
-  by_statement : (s : trees.Stmt) → AreIncludes (includes_of s)
-  by_statement (trees.choose bs other) = both (includes_under bs) (includes_in other) (by_branches bs) (by_body other)
-  by_statement (trees.for_each line xs e c body other) = both (includes_in body) (includes_in other) (by_body body) (by_body other)
+  by_statement : (s : trees.Stmt) → AreIncludes (includes_by include_need s)
+  by_statement (trees.choose bs other) = both (includes_under include_need bs) (includes_in include_need other) (by_branches bs) (by_body other)
+  by_statement (trees.for_each line xs e c body other) = both (includes_in include_need body) (includes_in include_need other) (by_body body) (by_body other)
   by_statement (trees.set_block line x body) = by_body body
   by_statement (trees.with_values line ps body) = by_body body
   by_statement (trees.filter_block line fs body) = by_body body
@@ -71,17 +51,17 @@ mutual
   by_statement (trees.block line x scoped required body) = by_body body
   by_statement a0 = search (arith, rules)
 
-  by_body : (b : Body) → AreIncludes (includes_in b)
+  by_body : (b : Body) → AreIncludes (includes_in include_need b)
   by_body trees.end = tt
-  by_body (trees.stmt s rest) = both (includes_of s) (includes_in rest) (by_statement s) (by_body rest)
+  by_body (trees.stmt s rest) = both (includes_by include_need s) (includes_in include_need rest) (by_statement s) (by_body rest)
 
-  by_branches : (bs : Branches) → AreIncludes (includes_under bs)
+  by_branches : (bs : Branches) → AreIncludes (includes_under include_need bs)
   by_branches trees.no_branches = tt
-  by_branches (trees.branch line c body rest) = both (includes_in body) (includes_under rest) (by_body body) (by_branches rest)
+  by_branches (trees.branch line c body rest) = both (includes_in include_need body) (includes_under include_need rest) (by_body body) (by_branches rest)
 
-pub all_includes : (ts : List Template) → AreIncludes (flat_map (λ t. includes_in t.body) ts)
+pub all_includes : (ts : List Template) → AreIncludes (flat_map (λ t. includes_in include_need t.body) ts)
 all_includes [] = tt
-all_includes (t ∷ ts) = both (includes_in t.body) (flat_map (λ (u : Template). includes_in u.body) ts) (by_body t.body) (all_includes ts)
+all_includes (t ∷ ts) = both (includes_in include_need t.body) (flat_map (λ (u : Template). includes_in include_need u.body) ts) (by_body t.body) (all_includes ts)
 
 pub includes_chosen : (ks : List Text) (ns : List Need) → AreIncludes ns → chosen ks ns ≡ map a_chain (filter (λ n. among n ks) (needed true ns))
 includes_chosen ks [] a = refl

@@ -18,7 +18,6 @@ pub mod Listed
 pub mod Members
 pub mod NameSets
 pub mod Naming
-pub mod Needed
 pub mod OnWay
 pub mod Numbered
 pub mod Ordered

@@ -25,7 +25,7 @@ use Rattle.jt_inherit.specs.Found.{chains_of, AreFound, IsFound, found_templates
 use Rattle.jt_chains.specs.Includes.{included, InOrder}
 use Rattle.jt_inherit.specs.Kept.{KeepAll, BreakOne, their_blocks, their_names, any_double, any_lacks_macros}
 use Rattle.jt_chains.specs.Names.{IsName}
-use Rattle.jt_inherit.specs.Needs.{Need, needed}
+use Rattle.jt_chains.specs.Needs.{Need, needed}
 use Rattle.jt_chains.specs.Pages.{home_view, AreWhole}
 use Rattle.jt_chains.specs.Places.{home_at}
 use Rattle.jt_inherit.specs.Refusals.{Breaks}

@@ -23,22 +23,21 @@ IsFault (error.Parse n e) name options source =
 IsFault error.NoMemory name options source = Unit {0}
 IsFault e name options source = ⊥
 
+-- the template of the name, which a refusal tells, has a source of which this holds, and which
+-- spells no tree
+abbrev pub HasFaulty : Text → Given → Text → Options → (Text → Type 0) → Type 0
+HasFaulty told given name options P =
+    (told ≡ name)
+    × ((source : Text) × (given name ≡ Some source) × P source × HasNoTree options source)
+
 -- the refusal is one of the template of this name
 abbrev pub IsFaultOf : ChainError → Given → Text → Options → Type 0
 IsFaultOf error.BadName given name options = IsName name → ⊥
 IsFaultOf error.Missing given name options = given name ≡ None
 IsFaultOf (error.Scan n e) given name options =
-    (string_bytes n ≡ name)
-    × ((source : Text)
-    × (given name ≡ Some source)
-    × IsUncut e options source
-    × HasNoTree options source)
+    HasFaulty (string_bytes n) given name options (IsUncut e options)
 IsFaultOf (error.Parse n e) given name options =
-    (string_bytes n ≡ name)
-    × ((source : Text)
-    × (given name ≡ Some source)
-    × IsUnspelled e options source
-    × HasNoTree options source)
+    HasFaulty (string_bytes n) given name options (IsUnspelled e options)
 IsFaultOf error.NoMemory given name options = Unit {0}
 IsFaultOf e given name options = ⊥
 

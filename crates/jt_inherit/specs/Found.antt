@@ -15,7 +15,7 @@ use Rattle.jt_inherit.specs.Chains.{Given}
 use Rattle.jt_inherit.specs.Faults.{IsFaultOf}
 use Rattle.jt_inherit.specs.Kept.{BreakOne, KeepAll}
 use Rattle.jt_chains.specs.Names.{IsName}
-use Rattle.jt_inherit.specs.Needs.{Need, need_home, need_view, needed}
+use Rattle.jt_chains.specs.Needs.{Need, need_home, need_view, needed}
 use Rattle.jt_chains.specs.Pages.{pages_view, home_view}
 use Rattle.jt_chains.specs.Places.{home_at}
 use Rattle.jt_chains.specs.Rules.{max_chains, Asks, Reaches}
@@ -23,7 +23,7 @@ use Rattle.jt_inherit.specs.Sets.{names_view, homes_view}
 use Rattle.jt_inherit.specs.Ways.{AreKnown, IsWay}
 use Rattle.jt_inherit.specs.declared.discovery.Found.{Found}
 use Rattle.jt_inherit.specs.declared.sets.Names.{Names}
-use Rattle.jt_inherit.specs.declared.statements.Include.{Include}
+use Rattle.jt_chains.specs.declared.includes.Include.{Include}
 use Rattle.jt_chains.specs.declared.pages.Page.{Page}
 use Rattle.jt_inherit.specs.declared.error.ChainError.{ChainError}
 use Rattle.jt_chains.specs.declared.linked.Home.{Home}

@@ -8,7 +8,7 @@ use Rattle.jt_trees.specs.Statements.{Body}
 use Rattle.jt_chains.specs.Chain.{Sources, Home, a_chain}
 use Rattle.jt_chains.specs.Rules.{Missing, BadName, ExtendsCycle, ChainTooLong, DoubleBlock, RequiredNotGiven, NoSuper, IncludeCycle, MacroTwice, NoMacro, NotALibrary}
 use Rattle.jt_inherit.specs.Chains.{Given, IsRead}
-use Rattle.jt_inherit.specs.Refusals.{Shows, IsMissing}
+use Rattle.jt_inherit.specs.Refusals.{ShowsRule, IsMissing}
 
 -- trees of a library's sources: one of each name of a template whose source spells a tree, and no
 -- others
@@ -20,11 +20,11 @@ pub record IsReading (given : Given) (options : Options) (s : Sources) : Type 0 
 
 -- where the rule is shown to be broken, it is broken in each reading
 abbrev pub IsLasting : (Sources → Bool → Home → Type 0) → Type 0
-IsLasting Breaks =
+IsLasting Rule =
     (given : Given) (options : Options) (entry : Text) (s : Sources)
     → IsReading given options s
-    → Shows given options (λ r. Breaks r options.autoescape (a_chain entry))
-    → Breaks s options.autoescape (a_chain entry)
+    → ShowsRule Rule given entry options
+    → Rule s options.autoescape (a_chain entry)
 
 pub record RefusalLaws : Type 0 where
   pub missing : (given : Given) (options : Options) (entry : Text) (s : Sources)

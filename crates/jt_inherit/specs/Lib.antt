@@ -7,7 +7,6 @@ pub mod Given
 pub mod Kept
 pub mod Laws
 pub mod Lines
-pub mod Needs
 pub mod Numbers
 pub mod Refusals
 pub mod Refused

@@ -1,7 +1,7 @@
 -- What a refusal says of a library and an entry. What has been read shows the broken rule:
 -- templates that are not read count as names without a source, which breaks no rule but the one
 -- that a source is missing: a library that isn't read lacks no macro and holds nothing else.
-use Rattle.std.specs.Prelude.{◌≡◌, ◌≢◌, ◌<◌, false, IsTrue, List, Some, None, length, map, string_bytes}
+use Rattle.std.specs.Prelude.{◌≡◌, ◌≢◌, ◌<◌, Bool, false, IsTrue, List, Some, None, length, map, string_bytes}
 use Rattle.std.specs.List.{AllByRecursion}
 use Rattle.jt_scan.specs.Cut.{Segment, IsCut}
 use Rattle.jt_scan.specs.Refused as scanner
@@ -15,7 +15,7 @@ use Rattle.jt_trees.specs.Texts.{among}
 use Rattle.jt_trees.specs.Expressions.{Text}
 use Rattle.jt_parse.specs.declared.error.ParseError.{ParseError}
 use Rattle.jt_parse.specs.declared.error.ParseError.TheVariants as parse_error
-use Rattle.jt_chains.specs.Chain.{Sources, a_chain, Template, sources_in}
+use Rattle.jt_chains.specs.Chain.{Sources, Home, a_chain, Template, sources_in}
 use Rattle.jt_inherit.specs.Chains.{Given, scanned, HasNoTree, AreRead, IsOnly}
 use Rattle.jt_chains.specs.Rules as rules
 use Rattle.jt_chains.specs.Rules.{Somewhere, asked}
@@ -60,31 +60,26 @@ pub record IsMissing (given : Given) (entry : Text) (options : Options) : Type 0
       (λ h. IsTrue (among name (asked sources options.autoescape false h))))
   pub found : given name ≡ None
 
+-- the rule of chains is shown to be broken
+abbrev pub ShowsRule : (Sources → Bool → Home → Type 0) → Given → Text → Options → Type 0
+ShowsRule Rule given entry options =
+    Shows given options (λ s. Rule s options.autoescape (a_chain entry))
+
 -- the refusal holds; want of memory is no claim
 abbrev pub Breaks : ChainError → Given → Text → Options → Type 0
-Breaks error.Missing given entry options = IsMissing given entry options
-Breaks error.BadName given entry options =
-    Shows given options (λ s. rules.BadName s options.autoescape (a_chain entry))
-Breaks error.ExtendsCycle given entry options =
-    Shows given options (λ s. rules.ExtendsCycle s options.autoescape (a_chain entry))
-Breaks error.ChainTooLong given entry options =
-    Shows given options (λ s. rules.ChainTooLong s options.autoescape (a_chain entry))
-Breaks error.DoubleBlock given entry options =
-    Shows given options (λ s. rules.DoubleBlock s options.autoescape (a_chain entry))
-Breaks error.RequiredNotGiven given entry options =
-    Shows given options (λ s. rules.RequiredNotGiven s options.autoescape (a_chain entry))
-Breaks error.NoSuper given entry options =
-    Shows given options (λ s. rules.NoSuper s options.autoescape (a_chain entry))
-Breaks error.IncludeCycle given entry options =
-    Shows given options (λ s. rules.IncludeCycle s options.autoescape (a_chain entry))
-Breaks error.MacroTwice given entry options =
-    Shows given options (λ s. rules.MacroTwice s options.autoescape (a_chain entry))
-Breaks error.NoMemory given entry options = Unit {0}
-Breaks error.NoMacro given entry options =
-    Shows given options (λ s. rules.NoMacro s options.autoescape (a_chain entry))
-Breaks error.NotALibrary given entry options =
-    Shows given options (λ s. rules.NotALibrary s options.autoescape (a_chain entry))
-Breaks (error.Scan n e) given entry options =
+Breaks error.Missing = IsMissing
+Breaks error.BadName = ShowsRule rules.BadName
+Breaks error.ExtendsCycle = ShowsRule rules.ExtendsCycle
+Breaks error.ChainTooLong = ShowsRule rules.ChainTooLong
+Breaks error.DoubleBlock = ShowsRule rules.DoubleBlock
+Breaks error.RequiredNotGiven = ShowsRule rules.RequiredNotGiven
+Breaks error.NoSuper = ShowsRule rules.NoSuper
+Breaks error.IncludeCycle = ShowsRule rules.IncludeCycle
+Breaks error.MacroTwice = ShowsRule rules.MacroTwice
+Breaks error.NoMemory = λ given entry options. Unit {0}
+Breaks error.NoMacro = ShowsRule rules.NoMacro
+Breaks error.NotALibrary = ShowsRule rules.NotALibrary
+Breaks (error.Scan n e) = λ given entry options.
     HasFault given entry options (string_bytes n) (IsUncut e options)
-Breaks (error.Parse n e) given entry options =
+Breaks (error.Parse n e) = λ given entry options.
     HasFault given entry options (string_bytes n) (IsUnspelled e options)

@@ -19,7 +19,7 @@ ghost use Rattle.jt_chains.specs.View.{Seen, chain_view, sources_of};
 
 use crate::discovery::{Found, discover};
 use crate::error::ChainError;
-use crate::library::Library;
+use crate::library::{Library, Origin};
 use crate::rules::check_rules;
 use crate::shelf::Shelf;
 use jt_chains::{Chain, Home, places_by_name};
@@ -65,7 +65,7 @@ pub fn chain<L: Library>(
     ensures few { IfOk result (λ c. 7 * length (chain_view c).order
         ≤ chains_weight (sources_of (chain_view c)) (chain_view c).order + 7) }
 {
-    let found = discover(alloc, entry, library, options)?;
+    let found = discover(alloc, entry, &Origin { library, options })?;
     check_chains(alloc, &found, options.autoescape)?;
     let order = order(alloc, &found.next)?;
     let homes = homes_in(alloc, &found, &order)?;
@@ -119,7 +119,7 @@ fn home_of(alloc: Global, found: &Found, number: usize) -> Result<Home, AllocErr
     ensures templates { IfOk result
         (λ h. h.templates.items ≡ next_of (found_ways found.now) number) }
 {
-    let home = &found.homes.as_slice()[number];
+    let home = found.homes.get(number);
     Ok(Home {
         name: String::from_str(alloc, &home.name)?,
         is_library: home.is_library,

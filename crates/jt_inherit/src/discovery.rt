@@ -6,11 +6,10 @@ ghost use Rattle.jt_inherit.specs.Refusals.{Breaks};
 
 use crate::error::ChainError;
 use crate::including::{next_homes, read_includes};
-use crate::library::Library;
+use crate::library::{Library, Origin};
 use crate::sets::{HomeKey, Homes, Names};
 use crate::way::read_home;
 use jt_chains::Page;
-use jt_scan::Options;
 use std::alloc::{AllocError, Global};
 
 /// What was found so far.
@@ -54,35 +53,20 @@ fn begin(alloc: Global, entry: &str) -> Result<Found, AllocError>
 fn follow<L: Library>(
     alloc: Global,
     found: &mut Found,
-    library: &L,
-    options: Options,
+    origin: &Origin<'_, L>,
 ) -> Result<(), ChainError>
-    requires found { IsFound (L.sources library.now) options found.old }
+    requires found { IsFound (L.sources origin.now.library.now) origin.now.options found.old }
     requires more { length found.old.ways.items < length (found_homes found.old) }
-    ensures found { OnOk result (IsFound (L.sources library.now) options found.new) }
+    ensures found { OnOk result
+        (IsFound (L.sources origin.now.library.now) origin.now.options found.new) }
     ensures one { OnOk result (length found.new.ways.items ≡ length found.old.ways.items + 1) }
     ensures root { OnOk result (root_of found.new ≡ root_of found.old) }
     ensures refused { IfErr result
-        (λ e. Breaks e (L.sources library.now) (root_of found.old) options) }
+        (λ e. Breaks e (L.sources origin.now.library.now) (root_of found.old) origin.now.options) }
 {
-    let homes = found.homes.as_slice();
-    let home = &homes[found.ways.len()];
-    let way = read_home(
-        alloc,
-        &mut found.names,
-        &mut found.pages,
-        home,
-        library,
-        options,
-    )?;
-    let mut fresh = read_includes(
-        alloc,
-        &mut found.names,
-        &found.pages,
-        &way,
-        library,
-        options,
-    )?;
+    let home = found.homes.get(found.ways.len());
+    let way = read_home(alloc, &mut found.names, &mut found.pages, home, origin)?;
+    let mut fresh = read_includes(alloc, &mut found.names, &found.pages, &way, origin)?;
     found.pages.append(&mut fresh)?;
     let next = next_homes(alloc, &found.names, &mut found.homes, &found.pages, &way)?;
     found.ways.push(way)?;
@@ -94,17 +78,17 @@ fn follow<L: Library>(
 pub(crate) fn discover<L: Library>(
     alloc: Global,
     entry: &str,
-    library: &L,
-    options: Options,
+    origin: &Origin<'_, L>,
 ) -> Result<Found, ChainError>
-    ensures found { IfOk result (IsFound (L.sources library.now) options) }
+    ensures found { IfOk result (IsFound (L.sources origin.now.library.now) origin.now.options) }
     ensures all { IfOk result (λ f. length f.ways.items ≡ length (found_homes f)) }
     ensures root { IfOk result (λ f. root_of f ≡ entry.now) }
-    ensures refused { IfErr result (λ e. Breaks e (L.sources library.now) entry.now options) }
+    ensures refused { IfErr result
+        (λ e. Breaks e (L.sources origin.now.library.now) entry.now origin.now.options) }
 {
     let mut found = begin(alloc, entry)?;
     'chains: while found.ways.len() < found.homes.len() {
-        follow(alloc, &mut found, library, options)?;
+        follow(alloc, &mut found, origin)?;
     }
     Ok(found)
 }

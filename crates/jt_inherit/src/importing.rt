@@ -38,7 +38,8 @@ fn has_not(page: &Page, names: &[(String, String)]) -> bool
 
 /// Whether `from` asks for a macro that the library lacks.
 fn lacks_one(shelf: Shelf<'_>, library: &str, names: &[(String, String)]) -> bool
-    ensures { result ≡ rules.lacks_one (its_sources shelf.entry) library.now (given_view names.now) }
+    ensures { result
+        ≡ rules.lacks_one (its_sources shelf.entry) library.now (given_view names.now) }
 {
     match library_page(shelf, library) {
         Some(page) => page.is_library() && has_not(page, names),

@@ -4,44 +4,26 @@
 ghost use Rattle.std.specs.Prelude.{◌≡◌, ◌≤◌, ◌++◌, ◌∷◌, [], true, false, length, OnOk, IfOk, IfErr, string_bytes};
 ghost use Rattle.std.specs.List.{AllByRecursion};
 ghost use Rattle.jt_chains.specs.Along.{ArePlaces};
-ghost use Rattle.jt_inherit.specs.Along.{includes_along, imports_along, needs_of};
+ghost use Rattle.jt_inherit.specs.Along.{imports_along, needs_of};
 ghost use Rattle.jt_chains.specs.Chain.{listed};
 ghost use Rattle.jt_inherit.specs.Found.{IsMet, IsFaultAt, IsNeedRefusal, IsPutFault, AreHomes, AreNext, AddsNext, IsNextFault, chains_of, lead_to, leads_to};
-ghost use Rattle.jt_inherit.specs.Needs.{AddsNeeds, need_home, need_view, needed, needs_view};
+ghost use Rattle.jt_chains.specs.Needs.{AddsNeeds, need_home, need_view, needed, needs_view};
 ghost use Rattle.jt_chains.specs.Pages.{pages_view};
 ghost use Rattle.jt_inherit.specs.SetView.{key_view};
 ghost use Rattle.jt_inherit.specs.Sets.{homes_view, names_view};
 ghost use Rattle.jt_inherit.specs.Ways.{AreKnown, AddsName, HaveGrown, KnowPages, AddsNames, StayKnown};
 
 use crate::error::ChainError;
-use crate::library::Library;
+use crate::library::{Library, Origin};
 use crate::reading::read_page;
 use crate::sets::{HomeKey, Homes, Names};
 use crate::shelf::add_page;
-use crate::statements::{Include, add_imports, add_includes};
-use jt_chains::Page;
-use jt_scan::Options;
+use crate::statements::add_imports;
+use jt_chains::{Include, Page, includes_at};
 use std::alloc::{AllocError, Global};
 
 /// The greatest number of chains that an entry may reach, its own among them.
 const MAX_CHAINS: usize = 1024;
-
-/// The includes of the templates at these places.
-fn includes_at<'a>(
-    alloc: Global,
-    pages: &'a [Page],
-    places: &[usize],
-) -> Result<Vec<Include<'a>>, AllocError>
-    requires { ArePlaces (pages_view pages.now) places.now }
-    ensures { IfOk result
-        (λ found. needs_view found.items ≡ includes_along (pages_view pages.now) places.now) }
-{
-    let mut found = Vec::new(alloc);
-    for place in places {
-        add_includes(&mut found, pages[*place].template.body())?;
-    }
-    Ok(found)
-}
 
 /// Adds the imports of the templates at these places.
 fn add_imports_at<'a>(
@@ -80,22 +62,22 @@ fn read_include<L: Library>(
     names: &mut Names,
     fresh: &mut Vec<Page>,
     include: Include<'_>,
-    library: &L,
-    options: Options,
+    origin: &Origin<'_, L>,
 ) -> Result<(), ChainError>
-    ensures known { OnOk result (StayKnown (L.sources library.now) options fresh.old.items
-        fresh.new.items names.old names.new) }
+    ensures known { OnOk result (StayKnown (L.sources origin.now.library.now) origin.now.options
+        fresh.old.items fresh.new.items names.old names.new) }
     ensures grown { OnOk result (HaveGrown names.old names.new) }
     ensures from { OnOk result (AddsName names.old names.new include.entry.name.now) }
-    ensures met { OnOk result
-        (IsMet (L.sources library.now) (names_view names.new) (need_view include.entry)) }
-    ensures refused { IfErr result
-        (λ e. IsFaultAt (L.sources library.now) options (need_view include.entry) e) }
+    ensures met { OnOk result (IsMet (L.sources origin.now.library.now)
+        (names_view names.new) (need_view include.entry)) }
+    ensures refused { IfErr result (λ e.
+        IsFaultAt (L.sources origin.now.library.now) origin.now.options
+        (need_view include.entry) e) }
 {
     if let Some(_place) = names.find(include.name) {
         return Ok(());
     }
-    match read_page(alloc, include.name, library, options) {
+    match read_page(alloc, include.name, origin) {
         Ok(page) => {
             add_page(alloc, names, fresh, page)?;
             Ok(())
@@ -111,25 +93,28 @@ pub(crate) fn read_includes<L: Library>(
     names: &mut Names,
     pages: &[Page],
     way: &[usize],
-    library: &L,
-    options: Options,
+    origin: &Origin<'_, L>,
 ) -> Result<Vec<Page>, ChainError>
-    requires known { KnowPages (L.sources library.now) options pages.now names.old }
+    requires known { KnowPages (L.sources origin.now.library.now) origin.now.options
+        pages.now names.old }
     requires places { ArePlaces (pages_view pages.now) way.now }
-    ensures known { IfOk result (λ fresh. AreKnown (L.sources library.now) options
+    ensures known { IfOk result (λ fresh.
+        AreKnown (L.sources origin.now.library.now) origin.now.options
         (pages_view pages.now ++ pages_view fresh.items) (names_view names.new)) }
     // what is new is included or imported
     ensures from { OnOk result
         (AddsNames names.old names.new (needed true (needs_of pages.now way.now))) }
     ensures met { OnOk result (AllByRecursion
-        (IsMet (L.sources library.now) (names_view names.new)) (needs_of pages.now way.now)) }
+        (IsMet (L.sources origin.now.library.now) (names_view names.new))
+        (needs_of pages.now way.now)) }
     ensures refused { IfErr result
-        (IsNeedRefusal (L.sources library.now) options (needs_of pages.now way.now)) }
+        (IsNeedRefusal (L.sources origin.now.library.now) origin.now.options
+        (needs_of pages.now way.now)) }
 {
     let found = needs_at(alloc, pages, way)?;
     let mut fresh = Vec::new(alloc);
     for include in &found {
-        read_include(alloc, names, &mut fresh, *include, library, options)?;
+        read_include(alloc, names, &mut fresh, *include, origin)?;
     }
     Ok(fresh)
 }

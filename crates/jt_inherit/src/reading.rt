@@ -11,7 +11,7 @@ ghost use Rattle.jt_chains.specs.Pages.{page_view};
 ghost use Rattle.jt_inherit.specs.Ways.{IsWithin};
 
 use crate::error::ChainError;
-use crate::library::Library;
+use crate::library::{Library, Origin};
 use crate::names::is_name;
 use jt_chains::Page;
 use jt_parse::{ParseError, parse};
@@ -23,23 +23,25 @@ use std::alloc::Global;
 pub(crate) fn read_page<L: Library>(
     alloc: Global,
     name: &str,
-    library: &L,
-    options: Options,
+    origin: &Origin<'_, L>,
 ) -> Result<Page, ChainError>
     ensures named { IfOk result (λ p. string_bytes p.name ≡ name.now) }
-    ensures read { IfOk result (λ p. IsRead (L.sources library.now) options (page_view p)) }
-    ensures only { IfOk result (λ p. IsOnly (L.sources library.now) options (page_view p)) }
-    ensures within { IfOk result (λ p. IsWithin (L.sources library.now) (page_view p)) }
-    ensures refused { IfErr result (λ e. IsFaultOf e (L.sources library.now) name.now options) }
+    ensures read { IfOk result (λ p.
+        IsRead (L.sources origin.now.library.now) origin.now.options (page_view p)) }
+    ensures only { IfOk result (λ p.
+        IsOnly (L.sources origin.now.library.now) origin.now.options (page_view p)) }
+    ensures within { IfOk result (λ p. IsWithin (L.sources origin.now.library.now) (page_view p)) }
+    ensures refused { IfErr result (λ e.
+        IsFaultOf e (L.sources origin.now.library.now) name.now origin.now.options) }
     ensures missing { result ≡ Err ChainError.Missing → IsName name.now }
 {
     if !is_name(name) {
         return Err(ChainError::BadName);
     }
-    let Some(source) = library.source(name) else {
+    let Some(source) = origin.library.source(name) else {
         return Err(ChainError::Missing);
     };
-    let template = template_of(alloc, name, source, options)?;
+    let template = template_of(alloc, name, source, origin.options)?;
     let name = String::from_str(alloc, name)?;
     Ok(Page::new(alloc, name, template)?)
 }

@@ -2,7 +2,7 @@
 //! chooses the names, so that they are found by their order: no choice makes that slow, as it would
 //! a hash.
 
-ghost use Rattle.std.specs.Prelude.{◌≡◌, ◌^◌, ◌<◌, ◌++◌, ◌∷◌, [], false, length, OnOk, string_bytes};
+ghost use Rattle.std.specs.Prelude.{◌≡◌, ◌^◌, ◌<◌, ◌++◌, ◌∷◌, [], false, length, slice_get, Some, OnOk, string_bytes};
 ghost use Rattle.jt_trees.specs.Texts.{among};
 ghost use Rattle.jt_chains.specs.Chain.{listed};
 ghost use Rattle.jt_inherit.specs.Numbers.{AreNumbers, AreNumbers-prop, is_text, is_chain, is_library};
@@ -102,11 +102,12 @@ impl Homes {
         self.items.len()
     }
 
-    /// They by their numbers.
-    pub(crate) fn as_slice(&self) -> &[HomeKey]
-        ensures keys { result.now ≡ self.now.items.items }
+    /// The one of a number.
+    pub(crate) fn get(&self, number: usize) -> &HomeKey
+        requires { number < length self.now.items.items }
+        ensures { slice_get (homes_view self.now) number ≡ Some (key_view result.now) }
     {
-        &self.items
+        &self.items[number]
     }
 
     /// The number of a chain or a library.

@@ -8,11 +8,10 @@ ghost use Rattle.jt_inherit.specs.Ways.{AddsName, Grow, KnowPages, AreNamed, Are
 ghost use Rattle.jt_inherit.specs.Sets.{names_view};
 
 use crate::error::ChainError;
-use crate::library::Library;
+use crate::library::{Library, Origin};
 use crate::reading::read_page;
 use crate::sets::Names;
 use jt_chains::Page;
-use jt_scan::Options;
 use std::alloc::{AllocError, Global};
 
 /// The templates that were read, each once, with their names beside them.
@@ -47,23 +46,24 @@ pub(crate) fn read_place<L: Library>(
     names: &mut Names,
     pages: &mut Vec<Page>,
     name: &str,
-    library: &L,
-    options: Options,
+    origin: &Origin<'_, L>,
 ) -> Result<usize, ChainError>
-    requires { KnowPages (L.sources library.now) options pages.old.items names.old }
-    ensures known { OnOk result
-        (KnowPages (L.sources library.now) options pages.new.items names.new) }
+    requires { KnowPages (L.sources origin.now.library.now) origin.now.options
+        pages.old.items names.old }
+    ensures known { OnOk result (KnowPages (L.sources origin.now.library.now) origin.now.options
+        pages.new.items names.new) }
     ensures grown { OnOk result (Grow pages.old.items pages.new.items) }
     ensures from { OnOk result (AddsName names.old names.new name.now) }
     ensures place { IfOk result
         (λ i. slice_get (map (λ t. t.name) (pages_view pages.new.items)) i ≡ Some name.now) }
-    ensures refused { IfErr result (λ e. IsFaultOf e (L.sources library.now) name.now options) }
+    ensures refused { IfErr result (λ e.
+        IsFaultOf e (L.sources origin.now.library.now) name.now origin.now.options) }
 {
     if let Some(place) = names.find(name) {
         return Ok(place);
     }
     let place = pages.len();
-    let page = read_page(alloc, name, library, options)?;
+    let page = read_page(alloc, name, origin)?;
     add_page(alloc, names, pages, page)?;
     Ok(place)
 }

@@ -10,12 +10,11 @@ ghost use Rattle.jt_inherit.specs.Ways.{KnowPages, Reads};
 ghost use Rattle.jt_inherit.specs.SetView.{key_view};
 
 use crate::error::ChainError;
-use crate::library::Library;
+use crate::library::{Library, Origin};
 use crate::sets::{HomeKey, Names};
 use crate::shelf::read_place;
 use crate::statements::parent_of;
 use jt_chains::{Page, holds_macros};
-use jt_scan::Options;
 use std::alloc::{AllocError, Global};
 
 /// The greatest number of templates in a chain.
@@ -52,14 +51,14 @@ fn read_library<L: Library>(
     names: &mut Names,
     pages: &mut Vec<Page>,
     name: &str,
-    library: &L,
-    options: Options,
+    origin: &Origin<'_, L>,
 ) -> Result<Vec<usize>, ChainError>
-    requires { KnowPages (L.sources library.now) options pages.old.items names.old }
-    ensures { Reads (L.sources library.now) options pages.old.items pages.new.items names.old
-        names.new (a_library name.now) result }
+    requires { KnowPages (L.sources origin.now.library.now) origin.now.options
+        pages.old.items names.old }
+    ensures { Reads (L.sources origin.now.library.now) origin.now.options pages.old.items
+        pages.new.items names.old names.new (a_library name.now) result }
 {
-    let place = read_place(alloc, names, pages, name, library, options)?;
+    let place = read_place(alloc, names, pages, name, origin)?;
     if !holds_macros(pages[place].template.body()) {
         return Err(ChainError::NotALibrary);
     }
@@ -74,15 +73,15 @@ pub(crate) fn read_home<L: Library>(
     names: &mut Names,
     pages: &mut Vec<Page>,
     home: &HomeKey,
-    library: &L,
-    options: Options,
+    origin: &Origin<'_, L>,
 ) -> Result<Vec<usize>, ChainError>
-    requires { KnowPages (L.sources library.now) options pages.old.items names.old }
-    ensures { Reads (L.sources library.now) options pages.old.items pages.new.items names.old
-        names.new (key_view home.now) result }
+    requires { KnowPages (L.sources origin.now.library.now) origin.now.options
+        pages.old.items names.old }
+    ensures { Reads (L.sources origin.now.library.now) origin.now.options pages.old.items
+        pages.new.items names.old names.new (key_view home.now) result }
 {
     if home.is_library {
-        return read_library(alloc, names, pages, &home.name, library, options);
+        return read_library(alloc, names, pages, &home.name, origin);
     }
     let mut way = Vec::new(alloc);
     let mut name = String::from_str(alloc, &home.name)?;
@@ -90,7 +89,7 @@ pub(crate) fn read_home<L: Library>(
         if is_on_way(pages, &way, &name) {
             return Err(ChainError::ExtendsCycle);
         }
-        let place = read_place(alloc, names, pages, &name, library, options)?;
+        let place = read_place(alloc, names, pages, &name, origin)?;
         way.push(place)?;
         match parent_name(alloc, &pages[place])? {
             Some(parent) => name = parent,

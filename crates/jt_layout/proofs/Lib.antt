@@ -4,6 +4,5 @@ pub mod Firsts
 pub mod Fronts
 pub mod FirstGiven
 pub mod Homes
-pub mod Included
 pub mod Named
 pub mod Tables

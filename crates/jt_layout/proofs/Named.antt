@@ -1,6 +1,6 @@
 -- Names that are put in order, and names of chains.
 use Rattle.std.proofs.Common.{◌≡◌, ℕ, ◌+◌, ◌<◌, Bool, true, false, cond, length, drop, get_or, Vec, Global, if◌then◌else◌, List, [], ◌∷◌, ◌++◌, map, refl, sym, ap, ◌∙◌, Option, Some, append_assoc, arith, rules}
-use Rattle.std.specs.Prelude.{flat_map, filter}
+use Rattle.std.specs.Prelude.{flat_map}
 use Rattle.std.specs.Option.{is_some, is_none}
 use Rattle.std.specs.Str.{bytes_eq}
 use Rattle.std.specs.BTreeSet.{insert_key}
@@ -10,8 +10,10 @@ use Rattle.jt_trees.specs.Expressions.{Text}
 use Rattle.jt_trees.specs.Texts.{all_inserted, ascending}
 use Rattle.jt_chains.specs.Chain.{Home, a_chain, a_library, same_home, Sources, templates}
 use Rattle.jt_chains.specs.Includes.{included, needs_in, with_source}
+use Rattle.jt_chains.specs.Needs.{needed, needs_view}
 use Rattle.jt_chains.specs.Places.{home_at}
 use Rattle.jt_chains.specs.Uses.{own_names}
+use Rattle.jt_chains.specs.declared.includes.Include.{Include}
 use Rattle.jt_rules.specs.World.{World}
 use Rattle.jt_meaning.specs.Layout.{in_globals, names_in}
 use Rattle.jt_names.specs.Names.{texts}
@@ -36,22 +38,22 @@ names_put false v o = refl
 some_from_none : {A B : Type 0} (o : Option A) (p : Option B) → is_none o ≡ is_none p → is_some o ≡ is_some p
 some_from_none a0 a1 e = search (arith, rules)
 
-module _ (N : Text → List Text) (sources : Sources) (ks : List (Bor Text)) (i : ℕ) (d : Bor Text) (lt : i < length ks) where
-  abbrev k : Bor Text
-  k = get_or ks i d
+module _ (N : Text → List Text) (sources : Sources) (ks : List Include) (i : ℕ) (d : Include) (lt : i < length ks) where
+  abbrev k : Text
+  k = (get_or ks i d).name.now
 
-  abbrev pub those : List (Bor Text) → List Text
-  those l = flat_map N (filter (λ m. is_some (sources m)) (texts l))
+  abbrev pub those : List Include → List Text
+  those l = flat_map N (with_source sources (needed true (needs_view l)))
 
-  here : those (drop i ks) ≡ flat_map N (cond (is_some (sources k.now)) (k.now ∷ filter (λ m. is_some (sources m)) (texts (drop (i + 1) ks))) (filter (λ m. is_some (sources m)) (texts (drop (i + 1) ks))))
+  here : those (drop i ks) ≡ flat_map N (cond (is_some (sources k)) (k ∷ with_source sources (needed true (needs_view (drop (i + 1) ks)))) (with_source sources (needed true (needs_view (drop (i + 1) ks)))))
   here = ap those (drop_more ks i d lt)
 
   -- a chain that is there, and one that isn't
-  pub chain_turn : (p : Option ℕ) (old new : List Text) → is_none p ≡ is_none (sources k.now) → is_some p ≡ true → new ≡ all_inserted (N k.now) old
+  pub chain_turn : (p : Option ℕ) (old new : List Text) → is_none p ≡ is_none (sources k) → is_some p ≡ true → new ≡ all_inserted (N k) old
       → all_inserted (those (drop (i + 1) ks)) new ≡ all_inserted (those (drop i ks)) old
   chain_turn p old new q s e = search (arith, rules, some_from_none, inserted_both, here)
 
-  pub none_turn : (p : Option ℕ) (old : List Text) → is_none p ≡ is_none (sources k.now) → is_some p ≡ false
+  pub none_turn : (p : Option ℕ) (old : List Text) → is_none p ≡ is_none (sources k) → is_some p ≡ false
       → all_inserted (those (drop (i + 1) ks)) old ≡ all_inserted (those (drop i ks)) old
   none_turn p old q s = search (arith, rules, some_from_none, here)
 

@@ -11,7 +11,7 @@ use Rattle.jt_chains.specs.Pages.{home_view, page_view, pages_view}
 use Rattle.jt_chains.specs.Parts.{macro_view, block_view}
 use Rattle.jt_chains.specs.Places.{home_at}
 use Rattle.jt_chains.specs.Uses as uses
-use Rattle.jt_chains.specs.View.{chain_view, sources_of}
+use Rattle.jt_chains.specs.View.{chain_view, home_in, sources_of}
 use Rattle.jt_chains.specs.declared.linked.Chain.{Chain}
 use Rattle.jt_chains.specs.declared.pages.Page.{Page}
 use Rattle.jt_chains.specs.declared.parts.Block.{Block}
@@ -20,7 +20,7 @@ use Rattle.jt_resolved.specs.Slots.{global}
 use Rattle.jt_meaning.specs.Layout.{in_globals, slot_in, globals_from, counted_from, of_macro, of_body, entry_keys, place_of, first_default, default_place, numbered_of, names, block_parameters, is_scoped, unit, defaults_of}
 use Rattle.jt_meaning.specs.Resolve.{first_body}
 use Rattle.jt_layout.specs.Front.{Stands}
-use Rattle.jt_layout.specs.Homes.{its_world, its_order, its_home}
+use Rattle.jt_layout.specs.Homes.{its_world, its_order}
 use Rattle.jt_layout.specs.Laid.{is_library, IsCalled, IsGiven}
 use Rattle.jt_layout.specs.Places.{home_named, first_of, defaults_from, nexts}
 use Rattle.jt_layout.specs.declared.front.Front.{Front}
@@ -59,7 +59,7 @@ module _ (c : Chain) (i : ℕ) (lt : i < length c.homes.items) (f : Front) where
   ts = (chain_view c).templates
 
   abbrev h : Home
-  h = its_home c i
+  h = home_in c i
 
   abbrev pub rest : List Home
   rest = drop (i + 1) O
@@ -141,14 +141,14 @@ module _ (c : Chain) (i : ℕ) (lt : i < length c.homes.items) where
   inside : i < length (its_order c)
   inside = omega (arith, lt, length-map c.homes.items home_view)
 
-  pub listed_left : listed (its_home c i) (drop i (its_order c)) ≡ true
-  listed_left = ap (listed (its_home c i)) (homes_left (its_order c) i inside) ∙ ap (λ b. b || listed (its_home c i) (drop (i + 1) (its_order c))) (itself (its_home c i))
+  pub listed_left : listed (home_in c i) (drop i (its_order c)) ≡ true
+  listed_left = ap (listed (home_in c i)) (homes_left (its_order c) i inside) ∙ ap (λ b. b || listed (home_in c i) (drop (i + 1) (its_order c))) (itself (home_in c i))
 
   -- what is behind it is another one
-  pub left_turn : (x : Home) → listed x (drop (i + 1) (its_order c)) ≡ true → (same_home (its_home c i) x ≡ false) × (listed x (drop i (its_order c)) ≡ true)
+  pub left_turn : (x : Home) → listed x (drop (i + 1) (its_order c)) ≡ true → (same_home (home_in c i) x ≡ false) × (listed x (drop i (its_order c)) ≡ true)
   left_turn x a = (
-    apart (its_home c i) (drop (i + 1) (its_order c)) (ap (λ k. not (listed (its_home c i) (drop k (its_order c)))) (add-one i) ∙ new_at (sources_of (chain_view c)) (its_order c) i inside c.order) x a,
-    ap (listed x) (homes_left (its_order c) i inside) ∙ or_right (same_home (its_home c i) x) (listed x (drop (i + 1) (its_order c))) a,
+    apart (home_in c i) (drop (i + 1) (its_order c)) (ap (λ k. not (listed (home_in c i) (drop k (its_order c)))) (add-one i) ∙ new_at (sources_of (chain_view c)) (its_order c) i inside c.order) x a,
+    ap (listed x) (homes_left (its_order c) i inside) ∙ or_right (same_home (home_in c i) x) (listed x (drop (i + 1) (its_order c))) a,
   )
 
 -- the names that are handed out for a chain or a library

@@ -2,10 +2,11 @@
 use Rattle.std.specs.Prelude.{◌≡◌, ℕ, ◌+◌, ◌<◌, true, List, length, drop, flat_map, get_or}
 use Rattle.jt_trees.specs.Expressions.{Text}
 use Rattle.jt_chains.specs.Chain.{Home, a_chain, listed}
+use Rattle.jt_chains.specs.View.{home_in, its_templates}
 use Rattle.jt_chains.specs.declared.linked.Chain.{Chain}
 use Rattle.jt_rules.specs.World.{World}
 use Rattle.jt_meaning.specs.Layout.{Key, of_chain, of_macro, of_body, chain_keys, place_of, keys, unit, first_in, first_slot, default_in, default_place}
-use Rattle.jt_layout.specs.Homes.{its_world, its_order, its_templates, its_home}
+use Rattle.jt_layout.specs.Homes.{its_world, its_order}
 use Rattle.jt_layout.specs.Laid.{IsLaid}
 use Rattle.jt_layout.specs.declared.front.Front.{Front}
 use Rattle.jt_layout.specs.declared.laid.Laid.{Laid}
@@ -33,7 +34,7 @@ module _ (c : Chain) where
 
   -- its table, and the tables of the first chains and libraries
   abbrev pub IsLaidAt : ℕ → Laid → Type 0
-  IsLaidAt i l = IsLaid (its_world c) (its_order c) (its_templates c) (its_home c i) l
+  IsLaidAt i l = IsLaid (its_world c) (its_order c) (its_templates c) (home_in c i) l
 
   abbrev pub AreLaid : List Laid → Type 0
   AreLaid ls = (i : ℕ) (l : Laid) → i < length ls → l ≡ get_or ls i l → IsLaidAt i l

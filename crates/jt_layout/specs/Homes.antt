@@ -1,20 +1,16 @@
 -- What only private clauses cite: what a chain is read with, and what stands in its chains and
 -- libraries.
-use Rattle.std.specs.Prelude.{◌≡◌, ℕ, List, map, Vec}
+use Rattle.std.specs.Prelude.{◌≡◌, ℕ, List, Vec}
 use Rattle.std.specs.declared.alloc.Global.{Global}
 use Rattle.std.specs.BTreeMap.{BTreeMap}
 use Rattle.std.specs.Option.{is_none}
 use denote.Ref.{Bor}
 use Rattle.jt_trees.specs.Expressions.{Text}
-use Rattle.jt_chains.specs.Chain.{Sources, Home, a_chain, Template, BlockBody, MacroBody, Given, macros, given, all_bodies}
+use Rattle.jt_chains.specs.Chain.{Home, a_chain, BlockBody, MacroBody, Given, macros, given, all_bodies}
 use Rattle.jt_chains.specs.Named.{names_view}
-use Rattle.jt_chains.specs.Parts.{macro_view, block_view}
-use Rattle.jt_chains.specs.Places.{home_at}
-use Rattle.jt_chains.specs.View.{chain_view, sources_of}
+use Rattle.jt_chains.specs.View.{chain_view, home_in, its_sources, its_templates}
 use Rattle.jt_chains.specs.declared.given.Named.{Named}
 use Rattle.jt_chains.specs.declared.linked.Chain.{Chain}
-use Rattle.jt_chains.specs.declared.parts.Block.{Block}
-use Rattle.jt_chains.specs.declared.parts.Macro.{Macro}
 use Rattle.jt_rules.specs.World.{World, world_of}
 use Rattle.jt_meaning.specs.Layout.{names, names_in}
 use Rattle.jt_layout.specs.Names.{place_in}
@@ -24,47 +20,32 @@ module _ (c : Chain) where
   abbrev pub its_world : World
   its_world = world_of (chain_view c)
 
-  abbrev pub its_sources : Sources
-  its_sources = sources_of (chain_view c)
-
-  abbrev pub its_templates : List Template
-  its_templates = (chain_view c).templates
-
-  -- the chains and libraries, and the one at a place
+  -- the chains and libraries
   abbrev pub its_order : List Home
   its_order = (chain_view c).order
-
-  abbrev pub its_home : ℕ → Home
-  its_home i = home_at its_order i
 
   -- ---- what stands in the one at a place, and what the code keeps of it
 
   abbrev pub its_names : ℕ → List Text
-  its_names i = names its_world its_order (its_home i)
+  its_names i = names its_world its_order (home_in c i)
 
   abbrev pub its_macros : ℕ → List MacroBody
-  its_macros i = macros its_sources (its_home i)
-
-  abbrev pub macros_kept : List Macro → List MacroBody
-  macros_kept ms = map (macro_view its_templates) ms
+  its_macros i = macros (its_sources c) (home_in c i)
 
   abbrev pub its_given : ℕ → List (Text × Given)
-  its_given i = given its_sources (its_home i)
+  its_given i = given (its_sources c) (home_in c i)
 
   abbrev pub given_kept : ℕ → List Named → List (Text × Given)
-  given_kept i gs = names_view its_templates (its_home i) gs
+  given_kept i gs = names_view (its_templates c) (home_in c i) gs
 
   abbrev pub its_bodies : ℕ → List BlockBody
-  its_bodies i = all_bodies its_sources c.autoescape (its_home i)
-
-  abbrev pub bodies_kept : List Block → List BlockBody
-  bodies_kept bs = map (block_view its_templates) bs
+  its_bodies i = all_bodies (its_sources c) c.autoescape (home_in c i)
 
   -- ---- what is found by names
 
   -- a place for each template that was read
   abbrev pub AreSources : BTreeMap (Bor Text) ℕ → Type 0
-  AreSources m = (x : Text) → is_none (place_in m x) ≡ is_none (its_sources x)
+  AreSources m = (x : Text) → is_none (place_in m x) ≡ is_none (its_sources c x)
 
   -- the names of the chains that are left, and none of the others
   abbrev pub AreNames : List Home → BTreeMap (Bor Text) (Vec (Bor Text) Global) → Type 0

@@ -6,11 +6,12 @@ ghost use Rattle.std.specs.Option.{is_some};
 ghost use Rattle.std.specs.Str.{bytes_eq};
 ghost use Rattle.jt_trees.specs.Expressions.{Text};
 ghost use Rattle.jt_chains.specs.Chain.{Template};
-ghost use Rattle.jt_chains.specs.Parts.{block_view};
+ghost use Rattle.jt_chains.specs.Parts.{block_view, blocks_view};
 ghost use Rattle.jt_chains.specs.Uses as uses;
 ghost use Rattle.jt_meaning.specs.Layout.{counted_from, is_scoped};
 ghost use Rattle.jt_names.specs.Names.{texts};
-ghost use Rattle.jt_layout.specs.Homes.{its_world, its_sources, its_home, its_bodies, bodies_kept};
+ghost use Rattle.jt_chains.specs.View.{home_in, its_sources, its_templates};
+ghost use Rattle.jt_layout.specs.Homes.{its_world, its_bodies};
 ghost use Rattle.jt_layout.specs.Names.{place_in};
 ghost use Rattle.jt_layout.specs.Places.{nexts, ArePlaces};
 
@@ -84,15 +85,16 @@ pub(crate) fn bodies_of<'a>(
     home: usize,
 ) -> Result<Bodies<'a>, NoMemory>
     requires { home < length chain.now.homes.items }
-    ensures all { IfOk result (λ b. bodies_kept chain.now b.all.items ≡ its_bodies chain.now home) }
+    ensures all { IfOk result
+        (λ b. blocks_view (its_templates chain.now) b.all.items ≡ its_bodies chain.now home) }
     ensures firsts { IfOk result
         (λ b. ArePlaces 0 (map (λ k. k.name.now) b.all.items) b.firsts.places) }
     ensures nexts { IfOk result
         (λ b. b.nexts.items ≡ nexts (counted_from 0 (its_bodies chain.now home))) }
     ensures names { IfOk result (λ b. texts b.scope_names.items
-        ≡ uses.scope_names (its_sources chain.now) (its_home chain.now home)) }
+        ≡ uses.scope_names (its_sources chain.now) (home_in chain.now home)) }
     ensures scoped { IfOk result (λ b. (x : Text) → is_some (place_in b.scoped.places x)
-        ≡ is_scoped (its_world chain.now) (its_home chain.now home) x) }
+        ≡ is_scoped (its_world chain.now) (home_in chain.now home) x) }
 {
     let scope_names = list_of(alloc, scope_names(alloc, chain, home)?)?;
     let all = chain.blocks(alloc, home)?;

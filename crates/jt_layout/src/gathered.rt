@@ -8,10 +8,10 @@ ghost use Rattle.jt_chains.specs.Chain.{a_chain, same_home};
 ghost use Rattle.jt_chains.specs.Pages.{home_view};
 ghost use Rattle.jt_meaning.specs.Layout.{in_globals};
 ghost use Rattle.jt_names.specs.Names.{texts};
-ghost use Rattle.jt_layout.specs.Homes.{its_world, its_order, its_home, AreSources, AreNames};
+ghost use Rattle.jt_chains.specs.View.{home_in};
+ghost use Rattle.jt_layout.specs.Homes.{its_world, its_order, AreSources, AreNames};
 ghost use Rattle.jt_layout.specs.Places.{all_names, names_at};
 
-use crate::includes::included_names;
 use crate::index::Index;
 use crate::lists::list_of;
 use jt_chains::{Chain, Home};
@@ -100,15 +100,15 @@ fn names_of_chain<'a>(
     requires sources { AreSources chain.now sources.now.places }
     requires behind { AreNames chain.now (drop (home + 1) (its_order chain.now)) behind.now.names }
     ensures { IfOk result (λ ns. texts ns.items ≡ all_names (its_world chain.now)
-        (drop (home + 1) (its_order chain.now)) (its_home chain.now home)) }
+        (drop (home + 1) (its_order chain.now)) (home_in chain.now home)) }
 {
     let mut names = own_names(alloc, chain, home)?;
-    let included = included_names(alloc, chain, home)?;
-    for name in &included {
-        if sources.place(name).is_none() {
+    let included = chain.includes(alloc, home)?;
+    for include in &included {
+        if sources.place(include.name).is_none() {
             continue;
         }
-        behind.add_to(&mut names, name)?;
+        behind.add_to(&mut names, include.name)?;
     }
     list_of(alloc, names)
 }

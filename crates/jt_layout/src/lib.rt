@@ -11,7 +11,6 @@ mod front;
 mod gathered;
 mod given;
 mod home_tables;
-mod includes;
 mod index;
 mod laid;
 mod laying;

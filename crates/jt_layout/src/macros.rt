@@ -2,9 +2,10 @@
 
 ghost use Rattle.std.specs.Prelude.{◌≡◌, ◌<◌, ◌+◌, List, length, map, IfOk};
 ghost use Rattle.jt_chains.specs.Chain.{Template};
-ghost use Rattle.jt_chains.specs.Parts.{macro_view};
+ghost use Rattle.jt_chains.specs.Parts.{macro_view, macros_view};
+ghost use Rattle.jt_chains.specs.View.{its_templates};
 ghost use Rattle.jt_meaning.specs.Layout.{defaults_of};
-ghost use Rattle.jt_layout.specs.Homes.{its_macros, macros_kept};
+ghost use Rattle.jt_layout.specs.Homes.{its_macros};
 ghost use Rattle.jt_layout.specs.Places.{ArePlaces, defaults_from};
 
 use crate::count::more;
@@ -54,7 +55,8 @@ pub(crate) fn macros_of<'a>(
     first: usize,
 ) -> Result<Macros<'a>, NoMemory>
     requires { home < length chain.now.homes.items }
-    ensures all { IfOk result (λ m. macros_kept chain.now m.all.items ≡ its_macros chain.now home) }
+    ensures all { IfOk result
+        (λ m. macros_view (its_templates chain.now) m.all.items ≡ its_macros chain.now home) }
     ensures called { IfOk result
         (λ m. ArePlaces 0 (map (λ k. k.name.now) m.all.items) m.called.places) }
     ensures defaults { IfOk result

@@ -13,10 +13,10 @@ use Rattle.jt_resolved.specs.Locals.{slot_locals, slots_locals, targets_locals, 
 use Rattle.jt_resolved.specs.Pool.{Constant, own, known, constant_values, expr_values, row_values, condition_values, stmt_values, body_values, routines_values, placed, placed_expr, placed_row, placed_condition, placed_stmt, placed_body, placed_routine, placed_routines}
 use Rattle.jt_resolved.specs.Size.{row_count, expr_height, row_height, condition_height, stmt_height, body_height, expr_size, row_size, condition_size, stmt_size, body_size, routines_size}
 use Rattle.jt_image.specs.Typed.{max_entries}
-use Rattle.jt_lower.specs.Fits.{MakerFits, TakesRow, IsBare, SlotFits, ExprFits, RowFits, SlotsFit, TargetsFit, ConditionFits, TextFits, StmtFits, BodyFits, RoutineFits, IsPooled, ProgramFits}
+use Rattle.jt_lower.specs.Fits.{OfSlots, OfTargets, MakerFits, TakesRow, IsBare, SlotFits, ExprFits, RowFits, ConditionFits, TextFits, StmtFits, BodyFits, RoutineFits, IsPooled, ProgramFits}
 use Rattle.jt_evaluation.specs.TheFilters.{the_filters}
 use Rattle.jt_resolved.specs.Takes.{MakerTakes, HasParameters, ExprTakes, RowTakes, ConditionTakes, StmtTakes, BodyTakes}
-use Rattle.jt_lower.specs.Lawful.{ConstantLawful, TextLawful, SlotLawful, ExprLawful, RowLawful, SlotsLawful, TargetsLawful, ConditionLawful, StmtLawful, BodyLawful, RoutineLawful, program_with, AreLawful, AreLow}
+use Rattle.jt_lower.specs.Lawful.{ConstantLawful, TextLawful, SlotLawful, ExprLawful, RowLawful, ConditionLawful, StmtLawful, BodyLawful, RoutineLawful, program_with, AreLawful, AreLow}
 
 -- ---- values at their places in a pool
 
@@ -247,12 +247,12 @@ module _ (names : List Text) (globals : ℕ) (front : List Tree) (rs : List (Rou
           (expr_fits e inside n t.0 h.0 (pool_front p.pool n (expr_values e) (row_values es) at) (omega (arith, le)), row_fits es inside (n + length (expr_values e)) t.1 h.1 (pool_back p.pool n (expr_values e) (row_values es) at) (omega (arith, le)))
       row_fits (slots.aside i e es) inside n t h at le = search (arith, rules, expr_fits e inside n t.0 h.0, pool_front, row_fits es inside (n + length (expr_values e)) t.1 h.1, pool_back)
 
-    each_fits : (ss : List (Option Slot)) → SlotsLawful before globals ss → slots_locals ss ≤ count → SlotsFit p count ss
+    each_fits : (ss : List (Option Slot)) → OfSlots (SlotLawful before globals) ss → slots_locals ss ≤ count → OfSlots (SlotFits p count) ss
     each_fits [] h le = tt
     each_fits (None ∷ ss) h le = (tt, each_fits ss h.1 le)
     each_fits (Some s ∷ ss) h le = (slot_fits s h.0 (omega (arith, le)), each_fits ss h.1 (omega (arith, le)))
 
-    targets_fit : (xs : Targets) → TargetsLawful before globals xs → targets_locals xs ≤ count → TargetsFit p count xs
+    targets_fit : (xs : Targets) → OfTargets (SlotLawful before globals) xs → targets_locals xs ≤ count → OfTargets (SlotFits p count) xs
     targets_fit (slots.one s) h le = slot_fits s h le
     targets_fit (slots.several ss) h le = each_fits ss h le
 

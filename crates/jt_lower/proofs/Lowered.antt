@@ -36,7 +36,7 @@ use Rattle.jt_resolved.specs.Slots.{Slot, local, global, Maker, SlotExpr, SRow, 
 use Rattle.jt_lower.specs.Asm.{Asm, one, both, choose, when, each, invoke, Ran, does, bad, and_then, of_plain, turns, of_written, run}
 use Rattle.jt_resolved.specs.Size.{row_count}
 use Rattle.jt_lower.specs.Lower.{half, maker, told_as, flag, load_of, store_of, expr_asm, row_asm, store_if_of, stores_asm, take_asm, turn_asm, over_asm, kept_asm, stmt_asm, body_asm, unit_of, lowered}
-use Rattle.jt_lower.specs.Fits.{MakerFits, TakesRow, SlotFits, ExprFits, RowFits, SomeFits, SlotsFit, TargetsFit, ConditionFits, StmtFits, BodyFits}
+use Rattle.jt_lower.specs.Fits.{OfSlots, OfSome, OfTargets, MakerFits, TakesRow, SlotFits, ExprFits, RowFits, ConditionFits, StmtFits, BodyFits}
 use Rattle.jt_lower.proofs.Told.{listed_same, has_field, IsTurn, told_same}
 use Rattle.jt_lower.proofs.Does.{Does, same_run, same_meaning, then_does, then_gives, finished, carried, mapped_does, placed, either, and_then_assoc}
 
@@ -170,12 +170,12 @@ module _ (p : Program) (call : SCalls) (has : HasPool (lowered p) p.pool) (keep 
       → (code (one q (store_of s)) (at_bufs (value v ∷ es) bs m) ≡ does (at_bufs es bs (store s v m))) × Kept out (store s v m)
   store_does a0 v q es bs out m fit w = search (arith, rules, put_same, put_len)
 
-  store_if_does : (s : Option Slot) (v : Tree) (q : Option Place) (es : List Entry) (bs : List (List ℕ)) (out : Text) (m : Memory) → SomeFits p count s → Kept out m
+  store_if_does : (s : Option Slot) (v : Tree) (q : Option Place) (es : List Entry) (bs : List (List ℕ)) (out : Text) (m : Memory) → OfSome (SlotFits p count) s → Kept out m
       → (code (one q (store_if_of s)) (at_bufs (value v ∷ es) bs m) ≡ does (at_bufs es bs (store_if s v m))) × Kept out (store_if s v m)
   store_if_does None v q es bs out m fit w = (refl, w)
   store_if_does (Some s) v q es bs out m fit w = store_does s v q es bs out m fit w
 
-  stores_do : (ss : List (Option Slot)) (vs : List Tree) (q : Option Place) (es : List Entry) (bs : List (List ℕ)) (out : Text) (m : Memory) → length vs ≡ length ss → SlotsFit p count ss → Kept out m
+  stores_do : (ss : List (Option Slot)) (vs : List Tree) (q : Option Place) (es : List Entry) (bs : List (List ℕ)) (out : Text) (m : Memory) → length vs ≡ length ss → OfSlots (SlotFits p count) ss → Kept out m
       → Does q (Kept out) (at_bufs es bs) (code (stores_asm q ss) (at_bufs (piled vs es) bs m)) (store_each ss vs m)
   stores_do [] [] q es bs out m e fit w = (refl, w)
   stores_do [] (v ∷ vs) q es bs out m e fit w = absurd (omega arith)
@@ -184,7 +184,7 @@ module _ (p : Program) (call : SCalls) (has : HasPool (lowered p) p.pool) (keep 
       then_gives q (Kept out) (at_bufs (value v ∷ es) bs) (Kept out) (at_bufs es bs) (code (stores_asm q ss) (at_bufs (piled vs (value v ∷ es)) bs m)) (store_each ss vs m) (code (one q (store_if_of s))) (store_if s v)
       (stores_do ss vs q (value v ∷ es) bs out m (omega arith) fit.1 w) (λ n w'. store_if_does s v q es bs out n fit.0 w')
 
-  spread_does : (b : Bool) (ss : List (Option Slot)) (vs : List Tree) (q : Option Place) (es : List Entry) (bs : List (List ℕ)) (out : Text) (m : Memory) (fs : List Entry) → (length vs == length ss) ≡ b → SlotsFit p count ss → Kept out m
+  spread_does : (b : Bool) (ss : List (Option Slot)) (vs : List Tree) (q : Option Place) (es : List Entry) (bs : List (List ℕ)) (out : Text) (m : Memory) (fs : List Entry) → (length vs == length ss) ≡ b → OfSlots (SlotFits p count) ss → Kept out m
       → Does q (Kept out) (at_bufs es bs) (and_then (of_plain q (spreads (length ss) vs es (at_bufs fs bs m))) (code (stores_asm q ss))) (store_each ss vs m)
   spread_does true ss vs q es bs out m fs e fit w =
       same_run q (Kept out) (at_bufs es bs) _ (code (stores_asm q ss) (at_bufs (piled vs es) bs m)) (store_each ss vs m)
@@ -194,14 +194,14 @@ module _ (p : Program) (call : SCalls) (has : HasPool (lowered p) p.pool) (keep 
       same_meaning q (Kept out) (at_bufs es bs) _ (store_each ss vs m) (fails faults.Unpack None) (wrong_count ss vs m (eq_untold (length vs) (length ss) e))
       (ap (λ t. and_then (of_plain q (if t then goes (with_entries (at_bufs fs bs m) (piled vs es)) (step.pushing_all vs) else step.faults_by faults.Unpack)) (code (stores_asm q ss))) e)
 
-  unpack_does : (r : Result Items Fault) (ss : List (Option Slot)) (q : Option Place) (es : List Entry) (bs : List (List ℕ)) (out : Text) (m : Memory) (fs : List Entry) → SlotsFit p count ss → Kept out m
+  unpack_does : (r : Result Items Fault) (ss : List (Option Slot)) (q : Option Place) (es : List Entry) (bs : List (List ℕ)) (out : Text) (m : Memory) (fs : List Entry) → OfSlots (SlotFits p count) ss → Kept out m
       → Does q (Kept out) (at_bufs es bs) (and_then (of_plain q (unpacks (length ss) r es (at_bufs fs bs m))) (code (stores_asm q ss))) (bind (checked (result_listed r)) (λ vs. store_each ss vs m))
   unpack_does (Ok ts) ss q es bs out m fs fit w =
       subst (λ vs. Does q (Kept out) (at_bufs es bs) (and_then (of_plain q (spreads (length ss) (trees_of ts) es (at_bufs fs bs m))) (code (stores_asm q ss))) (store_each ss vs m)) (listed_same ts)
       (spread_does (length (trees_of ts) == length ss) ss (trees_of ts) q es bs out m fs refl fit w)
   unpack_does (Err e) ss q es bs out m fs fit w = refl
 
-  take_does : (xs : Targets) (v : Tree) (q : Option Place) (es : List Entry) (bs : List (List ℕ)) (out : Text) (m : Memory) → TargetsFit p count xs → Kept out m
+  take_does : (xs : Targets) (v : Tree) (q : Option Place) (es : List Entry) (bs : List (List ℕ)) (out : Text) (m : Memory) → OfTargets (SlotFits p count) xs → Kept out m
       → Does q (Kept out) (at_bufs es bs) (code (take_asm q xs) (at_bufs (value v ∷ es) bs m)) (take xs v m)
   take_does (slots.one s) v q es bs out m fit w = store_does s v q es bs out m fit w
   take_does (slots.several ss) v q es bs out m fit w = unpack_does (items_of_tree v) ss q es bs out m (value v ∷ es) fit w
@@ -367,7 +367,7 @@ module _ (p : Program) (call : SCalls) (has : HasPool (lowered p) p.pool) (keep 
   one_more_kept false v out x w = w
 
   -- the first pass over the items: those are kept for which the condition holds
-  sift_does : (c : SlotExpr ℕ) (xs : Targets) (q : Option Place) (es : List Entry) (bs : List (List ℕ)) (out : Text) (all vs done : List Tree) (b : ℕ) (kept : List Tree) (m : Memory) → TargetsFit p count xs → ExprFits p count false c
+  sift_does : (c : SlotExpr ℕ) (xs : Targets) (q : Option Place) (es : List Entry) (bs : List (List ℕ)) (out : Text) (all vs done : List Tree) (b : ℕ) (kept : List Tree) (m : Memory) → OfTargets (SlotFits p count) xs → ExprFits p count false c
       → all ≡ done ++ vs → b ≡ length done → Kept out m → IsOpen bs
       → Does q (KeptItems out) (SiftedOn all kept es bs) (turns (code (turn_asm q xs (both (expr_asm q c 0) (one q (op.LoopKeep 0))))) (length vs) (at_bufs (framed all b kept es) bs m)) (Sifts c xs vs m)
   sift_does c xs q es bs out all [] done b kept m fx fc e n w opened =
@@ -396,7 +396,7 @@ module _ (p : Program) (call : SCalls) (has : HasPool (lowered p) p.pool) (keep 
       (sift_does c xs q es bs out all vs (done ++ v ∷ []) (suc b) kept' r.memory fx fc (e ∙ sym (append_assoc done (v ∷ []) vs)) (omega (arith, n, length-append done (v ∷ []))) w2 opened)
       (λ y w3. (one_more (tree.truth r.value) all kept v es bs y, one_more_kept (tree.truth r.value) v out y w3)))))))
 
-  keep_does : (c : Option (SlotExpr ℕ)) (xs : Targets) (q : Option Place) (es : List Entry) (bs : List (List ℕ)) (out : Text) (vs : List Tree) (m : Memory) → TargetsFit p count xs → ConditionFits p count c → Kept out m → IsOpen bs
+  keep_does : (c : Option (SlotExpr ℕ)) (xs : Targets) (q : Option Place) (es : List Entry) (bs : List (List ℕ)) (out : Text) (vs : List Tree) (m : Memory) → OfTargets (SlotFits p count) xs → ConditionFits p count c → Kept out m → IsOpen bs
       → Does q (KeptItems out) (LoopOn es bs) (code (kept_asm q xs c) (at_bufs (frame (loop_over vs) ∷ es) bs m)) (skept the_filters (tree_at p.pool) call c xs vs m)
   keep_does None xs q es bs out vs m fx fc w opened = (refl, w)
   keep_does (Some c) xs q es bs out vs m fx fc w opened =
@@ -448,7 +448,7 @@ module _ (p : Program) (call : SCalls) (has : HasPool (lowered p) p.pool) (keep 
   shown_does false v q es pre bufs m w = printed_does false (tree.printed v) q es pre bufs m w
 
   -- the turns of a loop
-  rounds_do : (xs : Targets) (tag : Place) (body : Asm) (means : Option Loop → Memory → Got Memory) (es : List Entry) (pre : Text) (bufs : List (List ℕ)) (all : List Tree) → TargetsFit p count xs
+  rounds_do : (xs : Targets) (tag : Place) (body : Asm) (means : Option Loop → Memory → Got Memory) (es : List Entry) (pre : Text) (bufs : List (List ℕ)) (all : List Tree) → OfTargets (SlotFits p count) xs
       → ((b : ℕ) (m : Memory) → suc b ≤ length all → Sized m → Does None Sized (at_memory (framed all (suc b) [] es) pre bufs) (code body (at_memory (framed all (suc b) [] es) pre bufs m)) (means (Some (record { items = all; before = b })) m))
       → (vs done : List Tree) (b : ℕ) (m : Memory) → all ≡ done ++ vs → b ≡ length done → Sized m
       → Does None Sized (at_memory (framed all (length all) [] es) pre bufs) (turns (code (turn_asm (Some tag) xs body)) (length vs) (at_memory (framed all b [] es) pre bufs m)) (sturns means xs tag all b vs m)
@@ -474,7 +474,7 @@ module _ (p : Program) (call : SCalls) (has : HasPool (lowered p) p.pool) (keep 
       (λ y w2. rounds_do xs tag body means es pre bufs all fx hb vs (done ++ v ∷ []) (suc b) y (e ∙ sym (append_assoc done (v ∷ []) vs)) (omega (arith, n, length-append done (v ∷ []))) w2)))
 
   -- the turns, or the other part
-  over_does : (xs : Targets) (tag : Place) (body other : Asm) (means : Option Loop → Memory → Got Memory) (otherwise : Memory → Got Memory) (es : List Entry) (pre : Text) (bufs : List (List ℕ)) → TargetsFit p count xs
+  over_does : (xs : Targets) (tag : Place) (body other : Asm) (means : Option Loop → Memory → Got Memory) (otherwise : Memory → Got Memory) (es : List Entry) (pre : Text) (bufs : List (List ℕ)) → OfTargets (SlotFits p count) xs
       → ((all : List Tree) (b : ℕ) (m : Memory) → suc b ≤ length all → Sized m → Does None Sized (at_memory (framed all (suc b) [] es) pre bufs) (code body (at_memory (framed all (suc b) [] es) pre bufs m)) (means (Some (record { items = all; before = b })) m))
       → ((m : Memory) → Sized m → Does None Sized (at_memory es pre bufs) (code other (at_memory es pre bufs m)) (otherwise m))
       → (vs : List Tree) (m : Memory) → Sized m → Does None Sized (at_memory es pre bufs) (code (over_asm (Some tag) xs body other) (at_memory (frame (loop_over vs) ∷ es) pre bufs m)) (sgone_over means otherwise xs tag vs m)

@@ -25,7 +25,7 @@ use Rattle.jt_resolved.specs.Slots.{Slot, local, global, Maker, SlotExpr, SRow, 
 use Rattle.jt_lower.specs.Asm.{Asm, nil, one, both, choose, when, each, invoke, flat}
 use Rattle.jt_resolved.specs.Size.{row_count, expr_height, row_height, targets_height, condition_height, stmt_height, body_height}
 use Rattle.jt_lower.specs.Lower.{maker, told_as, flag, load_of, store_of, expr_asm, row_asm, store_if_of, stores_asm, take_asm, turn_asm, over_asm, kept_asm, stmt_asm, body_asm, unit_of, constant_of, lowered}
-use Rattle.jt_lower.specs.Fits.{MakerFits, TakesRow, SlotFits, ExprFits, RowFits, SomeFits, SlotsFit, TargetsFit, ConditionFits, TextFits, StmtFits, BodyFits, RoutineFits, ProgramFits}
+use Rattle.jt_lower.specs.Fits.{OfSlots, OfSome, OfTargets, MakerFits, TakesRow, SlotFits, ExprFits, RowFits, ConditionFits, TextFits, StmtFits, BodyFits, RoutineFits, ProgramFits}
 use Rattle.jt_lower.proofs.Told.{has_field}
 use Rattle.jt_lower.proofs.Lowered.{lt_true, eq_true, has_operator, has_test, halved}
 
@@ -259,7 +259,7 @@ module _ (p : Program) (count : ℕ) where
   stores (local i) S f u q l room = required _ flaw.BadIndex _ (lt_true i u.locals (omega (arith, f, l))) ∙ goes u q S room
   stores (global i) S f u q l room = required _ flaw.BadIndex _ (lt_true i p.globals f) ∙ goes u q S room
 
-  stores_if : (s : Option Slot) (S : Shape) → SomeFits p count s → Plainly (store_if_of s) (kind.Value ∷ S) S
+  stores_if : (s : Option Slot) (S : Shape) → OfSome (SlotFits p count) s → Plainly (store_if_of s) (kind.Value ∷ S) S
   stores_if None S f u q l room = goes u q S room
   stores_if (Some s) S f u q l room = stores s S f u q l room
 
@@ -286,11 +286,11 @@ module _ (p : Program) (count : ℕ) where
   emits true S u q l room = goes u q S room
   emits false S u q l room = goes u q S room
 
-  stores_types : (ss : List (Option Slot)) (o : Option Place) (S : Shape) → SlotsFit p count ss → length S + length ss ≤ max_entries → Leading (stores_asm o ss) (pushes (length ss) S) S
+  stores_types : (ss : List (Option Slot)) (o : Option Place) (S : Shape) → OfSlots (SlotFits p count) ss → length S + length ss ≤ max_entries → Leading (stores_asm o ss) (pushes (length ss) S) S
   stores_types [] o S f le = refl
   stores_types (s ∷ ss) o S f le = search (arith, rules, stack_on (length ss) S, stores_types ss o, stores_if s S f.0)
 
-  take_types : (xs : Targets) (o : Option Place) (S : Shape) → TargetsFit p count xs → length S + targets_height xs ≤ max_entries → Leading (take_asm o xs) (kind.Value ∷ S) S
+  take_types : (xs : Targets) (o : Option Place) (S : Shape) → OfTargets (SlotFits p count) xs → length S + targets_height xs ≤ max_entries → Leading (take_asm o xs) (kind.Value ∷ S) S
   take_types (slots.one s) o S f le = (omega arith, stores s S f)
   take_types (slots.several ss) o S f le = (pushes (length ss) S, (omega arith, λ u q l room. goes u q (pushes (length ss) S) room), stores_types ss o S f (omega arith))
 
@@ -351,14 +351,14 @@ module _ (p : Program) (count : ℕ) where
         (kind.Value ∷ S, expr_types e o inside h S f.1 fr (omega arith), (S, (omega (arith, some_height e), stores (local i) S f.0), row_types r o inside h S f.2 fr (omega arith)))
 
   -- a turn, above the loop
-  turn_types : (xs : Targets) (o : Option Place) (body : Asm) (S : Shape) → TargetsFit p count xs → length S + (1 + targets_height xs) ≤ max_entries → Leading body (kind.Frame ∷ S) (kind.Frame ∷ S) → Leading (turn_asm o xs body) (kind.Frame ∷ S) (kind.Frame ∷ S)
+  turn_types : (xs : Targets) (o : Option Place) (body : Asm) (S : Shape) → OfTargets (SlotFits p count) xs → length S + (1 + targets_height xs) ≤ max_entries → Leading body (kind.Frame ∷ S) (kind.Frame ∷ S) → Leading (turn_asm o xs body) (kind.Frame ∷ S) (kind.Frame ∷ S)
   turn_types xs o body S f le h = (
     kind.Frame ∷ S,
     (kind.Value ∷ kind.Frame ∷ S, (omega (arith, some_targets xs), gets of_loop.Item 0 (kind.Frame ∷ S) refl), take_types xs o (kind.Frame ∷ S) f (omega arith)),
     h,
   )
 
-  over_types : (xs : Targets) (o : Option Place) (body other : Asm) (S : Shape) → TargetsFit p count xs → length S + (1 + targets_height xs) ≤ max_entries → Leading body (kind.Frame ∷ S) (kind.Frame ∷ S) → Leading other S S → Leading (over_asm o xs body other) (kind.Frame ∷ S) S
+  over_types : (xs : Targets) (o : Option Place) (body other : Asm) (S : Shape) → OfTargets (SlotFits p count) xs → length S + (1 + targets_height xs) ≤ max_entries → Leading body (kind.Frame ∷ S) (kind.Frame ∷ S) → Leading other S S → Leading (over_asm o xs body other) (kind.Frame ∷ S) S
   over_types xs o body other S f le hb ho =
       let low : length (kind.Frame ∷ S) ≤ max_entries = omega (arith, le) in (
         kind.Frame ∷ S,
@@ -366,7 +366,7 @@ module _ (p : Program) (count : ℕ) where
         (kind.Value ∷ S, (low, λ u q l room. goes u q (kind.Value ∷ S) room), (S, refl, omega (arith, le), refl, ho)),
       )
 
-  kept_types : (c : Option (SlotExpr ℕ)) (xs : Targets) (o : Option Place) (S : Shape) → TargetsFit p count xs → ConditionFits p count c → length S + (1 + targets_height xs) ≤ max_entries → length S + (1 + condition_height c) ≤ max_entries → Leading (kept_asm o xs c) (kind.Frame ∷ S) (kind.Frame ∷ S)
+  kept_types : (c : Option (SlotExpr ℕ)) (xs : Targets) (o : Option Place) (S : Shape) → OfTargets (SlotFits p count) xs → ConditionFits p count c → length S + (1 + targets_height xs) ≤ max_entries → length S + (1 + condition_height c) ≤ max_entries → Leading (kept_asm o xs c) (kind.Frame ∷ S) (kind.Frame ∷ S)
   kept_types None xs o S f g le lc = refl
   kept_types (Some c) xs o S f g le lc =
       let low : length (kind.Frame ∷ S) ≤ max_entries = omega (arith, le) in

@@ -28,7 +28,7 @@ use Rattle.jt_constants.specs.Merged.{moved_unit}
 use Rattle.jt_constants.proofs.Sizes.{units_len, units_room}
 use Rattle.jt_lower.specs.Asm.{Asm, nil, one, both, choose, when, each, invoke, flat}
 use Rattle.jt_lower.specs.Lower.{half, flag, maker, told_as, load_of, store_of, store_if_of, expr_asm, row_asm, stores_asm, take_asm, kept_asm, stmt_asm, body_asm, unit_of, constant_of, lowered, compiled}
-use Rattle.jt_lower.specs.Fits.{MakerFits, TakesRow, SlotFits, ExprFits, RowFits, SomeFits, SlotsFit, TargetsFit, ConditionFits, StmtFits, BodyFits, RoutineFits, ProgramFits}
+use Rattle.jt_lower.specs.Fits.{OfSlots, OfSome, OfTargets, MakerFits, TakesRow, SlotFits, ExprFits, RowFits, ConditionFits, StmtFits, BodyFits, RoutineFits, ProgramFits}
 use Rattle.jt_lower.proofs.Sized.{asm_size, flat_size}
 use Rattle.jt_lower.proofs.Fitting.{all_append}
 
@@ -127,22 +127,22 @@ module _ (p : Program) (locals : ℕ) (pool : length p.pool ≤ 2 ^ 32) (globals
     row_plain inside (slots.item e es) o h f low = (expr_plain inside e o h f.0 (omega (arith, low)), row_plain inside es o (suc h) f.1 (omega (arith, low)))
     row_plain inside (slots.aside i e es) o h f low = (expr_plain inside e o h f.1 (omega (arith, low)), (omega (arith, f.0, stored), row_plain inside es o h f.2 (omega (arith, low))))
 
-  some_plain : (s : Option Slot) → SomeFits p locals s → IsInstruction (store_if_of s)
+  some_plain : (s : Option Slot) → OfSome (SlotFits p locals) s → IsInstruction (store_if_of s)
   some_plain None f = tt
   some_plain (Some s) f = store_plain s f
 
-  stores_plain : (ss : List (Option Slot)) (o : Option Place) → SlotsFit p locals ss → Plain (stores_asm o ss)
+  stores_plain : (ss : List (Option Slot)) (o : Option Place) → OfSlots (SlotFits p locals) ss → Plain (stores_asm o ss)
   stores_plain [] o f = tt
   stores_plain (s ∷ ss) o f = (stores_plain ss o f.1, some_plain s f.0)
 
-  take_plain : (xs : Targets) (o : Option Place) → TargetsFit p locals xs → targets_height xs ≤ max_entries → Plain (take_asm o xs)
+  take_plain : (xs : Targets) (o : Option Place) → OfTargets (SlotFits p locals) xs → targets_height xs ≤ max_entries → Plain (take_asm o xs)
   take_plain (slots.one s) o f low = store_plain s f
   take_plain (slots.several ss) o f low = (omega (arith, low), stores_plain ss o f)
 
   item_plain : (o : Option Place) → Plain (one o (op.LoopGet 0 0))
   item_plain o = (omega arith, omega arith)
 
-  kept_plain : (c : Option (SlotExpr ℕ)) (xs : Targets) (o : Option Place) → TargetsFit p locals xs → targets_height xs ≤ max_entries → ConditionFits p locals c → condition_height c ≤ max_entries → Plain (kept_asm o xs c)
+  kept_plain : (c : Option (SlotExpr ℕ)) (xs : Targets) (o : Option Place) → OfTargets (SlotFits p locals) xs → targets_height xs ≤ max_entries → ConditionFits p locals c → condition_height c ≤ max_entries → Plain (kept_asm o xs c)
   kept_plain None xs o f low g under = tt
   kept_plain (Some c) xs o f low g under = (((item_plain o, take_plain xs o f low), (expr_plain false c o 0 g (omega (arith, under)), omega arith)), tt)
 

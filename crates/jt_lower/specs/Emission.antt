@@ -1,6 +1,6 @@
 -- Instructions that are put behind others with the places of their tags, and jumps that are written
 -- when their target is known.
-use Rattle.std.specs.Prelude.{◌≡◌, ℕ, ◌+◌, ◌<◌, ◌≤◌, ◌^◌, false, List, ◌++◌, length, map, Option, Some, None, option_map, slice_set, Result, OnOk}
+use Rattle.std.specs.Prelude.{◌≡◌, ℕ, ◌+◌, ◌<◌, ◌≤◌, ◌^◌, Bool, true, false, not, List, ◌++◌, length, map, Option, Some, None, option_map, slice_set, Result, OnOk}
 use Rattle.std.specs.List.{AllByRecursion}
 use Rattle.jt_image.specs.declared.instruction.Instruction.{Instruction}
 use Rattle.jt_image.specs.declared.instruction.Instruction.TheVariants as op
@@ -9,9 +9,11 @@ use Rattle.jt_image.specs.Spelling.{wire_of}
 use Rattle.jt_image.specs.IsCode.{IsInstruction}
 use Rattle.jt_value.specs.Place.{Place}
 use Rattle.jt_trees.specs.Expressions.{Text}
+use Rattle.jt_resolved.specs.Slots.{SlotExpr}
 use Rattle.jt_resolved.specs.View.{place_view}
 use Rattle.jt_resolved.specs.declared.program.Place as given
-use Rattle.jt_lower.specs.Asm.{Asm, one, flat, places}
+use Rattle.jt_lower.specs.Asm.{Asm, nil, one, both, choose, flat, places}
+use Rattle.jt_lower.specs.Lower.{expr_asm}
 use Rattle.jt_lower.specs.declared.emitter.Emitter.{Emitter}
 
 -- the place of a tag, if there is one; its template is one of these
@@ -90,3 +92,13 @@ pub record EndsTurns (old : Emitter) (top : ℕ) (new : Emitter) : Type 0 where
   pub back : Emitter
   pub goes : (templates : List Text) → Puts templates old (one None (op.Jump top)) back
   pub patches : Patches back top (op.LoopNext (length back.code.items)) new
+
+-- the expression in place of the value at the top, where that is wanted
+abbrev pub side_asm : Option Place → SlotExpr ℕ → Bool → ℕ → Asm
+side_asm o e true h = both (one o op.Drop) (expr_asm o e h)
+side_asm o e false h = nil
+
+-- the expression in place of the value at the top, where that is so
+abbrev pub instead_asm : Option Place → SlotExpr ℕ → Bool → ℕ → Asm
+instead_asm o e so h =
+    both (one o op.Dup) (choose (side_asm o e so h) (side_asm o e (not so) h))

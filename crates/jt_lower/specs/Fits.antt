@@ -36,6 +36,19 @@ IsBare (slots.item (slots.variable s) es) = IsBare es
 IsBare (slots.item e es) = ⊥
 IsBare (slots.aside i e es) = ⊥
 
+-- said of the slot, if there is one; of each of them; and of what takes a value
+abbrev pub OfSome : (Slot → Type 0) → Option Slot → Type 0
+OfSome P None = Unit {0}
+OfSome P (Some s) = P s
+
+abbrev pub OfSlots : (Slot → Type 0) → List (Option Slot) → Type 0
+OfSlots P [] = Unit {0}
+OfSlots P (s ∷ ss) = OfSome P s × OfSlots P ss
+
+abbrev pub OfTargets : (Slot → Type 0) → Targets → Type 0
+OfTargets P (slots.one s) = P s
+OfTargets P (slots.several ss) = OfSlots P ss
+
 -- in a program, in a routine of so many locals
 module _ (p : Program) (locals : ℕ) where
   abbrev pub SlotFits : Slot → Type 0
@@ -61,18 +74,6 @@ module _ (p : Program) (locals : ℕ) where
     RowFits inside (slots.item e es) = ExprFits inside e × RowFits inside es
     RowFits inside (slots.aside i e es) = (i < locals) × ExprFits inside e × RowFits inside es
 
-  abbrev pub SomeFits : Option Slot → Type 0
-  SomeFits None = Unit {0}
-  SomeFits (Some s) = SlotFits s
-
-  abbrev pub SlotsFit : List (Option Slot) → Type 0
-  SlotsFit [] = Unit {0}
-  SlotsFit (s ∷ ss) = SomeFits s × SlotsFit ss
-
-  abbrev pub TargetsFit : Targets → Type 0
-  TargetsFit (slots.one s) = SlotFits s
-  TargetsFit (slots.several ss) = SlotsFit ss
-
   -- a condition sees no loop
   abbrev pub ConditionFits : Option (SlotExpr ℕ) → Type 0
   ConditionFits None = Unit {0}
@@ -86,11 +87,11 @@ module _ (p : Program) (locals : ℕ) where
     pub StmtFits : Bool → SlotStmt ℕ → Type 0
     StmtFits inside (slots.put_pooled i) = TextFits i
     StmtFits inside (slots.print q escaping e) = ExprFits inside e
-    StmtFits inside (slots.assign q xs e) = TargetsFit xs × ExprFits inside e
+    StmtFits inside (slots.assign q xs e) = OfTargets SlotFits xs × ExprFits inside e
     StmtFits inside (slots.if_else q c a b) =
         ExprFits inside c × BodyFits inside a × BodyFits inside b
     StmtFits inside (slots.for_each q xs e c body other) =
-        TargetsFit xs
+        OfTargets SlotFits xs
         × ExprFits inside e
         × ConditionFits c
         × BodyFits true body

@@ -1,6 +1,6 @@
 -- What resolving must keep beside what each operation takes, before constants have their places in
 -- the pool: then the program fits.
-use Rattle.std.specs.Prelude.{◌≡◌, ℕ, ◌<◌, ◌≤◌, false, List, [], ◌∷◌, ◌++◌, length, Option, Some, None, slice_get}
+use Rattle.std.specs.Prelude.{◌≡◌, ℕ, ◌<◌, ◌≤◌, false, List, ◌++◌, length, Option, Some, None, slice_get}
 use Rattle.std.specs.List.{AllByRecursion}
 use Rattle.jt_value.specs.Tree as tree
 use Rattle.jt_value.specs.Tree.{Tree}
@@ -13,7 +13,7 @@ use Rattle.jt_resolved.specs.Takes.{BodyTakes}
 use Rattle.jt_resolved.specs.Locals.{body_locals}
 use Rattle.jt_resolved.specs.Pool.{Constant, own, known, routines_values, placed_routines}
 use Rattle.jt_resolved.specs.Size.{body_height}
-use Rattle.jt_lower.specs.Fits.{IsBare, IsPooled}
+use Rattle.jt_lower.specs.Fits.{IsBare, OfTargets, IsPooled}
 
 -- Under so many values in front of the pool, and so many globals. Locals need no law: a routine has
 -- as many as its body uses.
@@ -48,18 +48,6 @@ module _ (front globals : ℕ) where
     RowLawful (slots.item e es) = ExprLawful e × RowLawful es
     RowLawful (slots.aside i e es) = ExprLawful e × RowLawful es
 
-  abbrev pub SomeLawful : Option Slot → Type 0
-  SomeLawful None = Unit {0}
-  SomeLawful (Some s) = SlotLawful s
-
-  abbrev pub SlotsLawful : List (Option Slot) → Type 0
-  SlotsLawful [] = Unit {0}
-  SlotsLawful (s ∷ ss) = SomeLawful s × SlotsLawful ss
-
-  abbrev pub TargetsLawful : Targets → Type 0
-  TargetsLawful (slots.one s) = SlotLawful s
-  TargetsLawful (slots.several ss) = SlotsLawful ss
-
   abbrev pub ConditionLawful : Option (SlotExpr Constant) → Type 0
   ConditionLawful None = Unit {0}
   ConditionLawful (Some c) = ExprLawful c
@@ -68,10 +56,14 @@ module _ (front globals : ℕ) where
     pub StmtLawful : SlotStmt Constant → Type 0
     StmtLawful (slots.put_pooled k) = TextLawful k
     StmtLawful (slots.print q escaping e) = ExprLawful e
-    StmtLawful (slots.assign q xs e) = TargetsLawful xs × ExprLawful e
+    StmtLawful (slots.assign q xs e) = OfTargets SlotLawful xs × ExprLawful e
     StmtLawful (slots.if_else q c a b) = ExprLawful c × BodyLawful a × BodyLawful b
     StmtLawful (slots.for_each q xs e c body other) =
-        TargetsLawful xs × ExprLawful e × ConditionLawful c × BodyLawful body × BodyLawful other
+        OfTargets SlotLawful xs
+        × ExprLawful e
+        × ConditionLawful c
+        × BodyLawful body
+        × BodyLawful other
     StmtLawful (slots.capture escaping s body) = SlotLawful s × BodyLawful body
     StmtLawful (slots.run u es) = RowLawful es × IsBare es
 

@@ -2,11 +2,11 @@
 
 ghost use Rattle.std.specs.Prelude.{◌≡◌};
 ghost use Rattle.jt_resolved.specs.Size.{row_count};
-ghost use Rattle.jt_resolved.specs.Slots as slots;
 ghost use Rattle.jt_resolved.specs.Slots.{none};
 ghost use Rattle.jt_resolved.specs.View.{expr_view, row_view};
+ghost use Rattle.jt_lower.specs.Asm.{choose};
 ghost use Rattle.jt_lower.specs.Lower.{expr_asm, row_asm};
-ghost use Rattle.jt_lower.specs.Emission.{tag_view, PutsAt};
+ghost use Rattle.jt_lower.specs.Emission.{tag_view, side_asm, instead_asm, PutsAt};
 
 use crate::emitter::Emitter;
 use crate::instructions::{call_of, constant_of, flag, load_of, made_of, store_of, told_of};
@@ -27,31 +27,31 @@ pub fn emit_expression(
         (expr_view expr.now)) result code.new }
 {
     match expr {
-        SlotExpr::Pooled(place) => {
-            code.put(tag, constant_of(*place))?;
-            Ok(())
-        }
-        SlotExpr::Variable(slot) => {
-            code.put(tag, load_of(*slot))?;
-            Ok(())
-        }
-        SlotExpr::Field(told) => {
-            code.put(tag, told_of(*told, above))?;
-            Ok(())
-        }
+        SlotExpr::Pooled(place) => code.put(tag, constant_of(*place)),
+        SlotExpr::Variable(slot) => code.put(tag, load_of(*slot)),
+        SlotExpr::Field(told) => code.put(tag, told_of(*told, above)),
         SlotExpr::Absent => Ok(()),
         SlotExpr::Made(made, row) => {
             emit_row(code, tag, row, above)?;
             code.put(tag, made_of(*made, count_values(row)))?;
             Ok(())
         }
-        SlotExpr::Conjunction(left, right) => emit_conjunction(code, tag, left, right, above),
-        SlotExpr::Disjunction(left, right) => emit_disjunction(code, tag, left, right, above),
+        SlotExpr::Conjunction(left, right) => {
+            emit_expression(code, tag, left, above)?;
+            emit_instead(code, tag, right, true, above)
+        }
+        SlotExpr::Disjunction(left, right) => {
+            emit_expression(code, tag, left, above)?;
+            emit_instead(code, tag, right, false, above)
+        }
         SlotExpr::Choice {
             condition,
             value: taken,
             other,
-        } => emit_choice(code, tag, condition, taken, other, above),
+        } => {
+            emit_expression(code, tag, condition, above)?;
+            emit_choice(code, tag, taken, other, above)
+        }
         SlotExpr::Invoke {
             routine,
             escaping,
@@ -67,66 +67,60 @@ pub fn emit_expression(
     }
 }
 
-/// Puts the code of `and` behind the others: the left value, and the right one in its place where
-/// that is true.
+/// Puts a test of the value at the top behind the others, and an expression in place of that value
+/// where it is so.
 #[cycle(expressions)]
-fn emit_conjunction(
+fn emit_instead(
     code: &mut Emitter,
     tag: Option<Place>,
-    left: &SlotExpr,
-    right: &SlotExpr,
+    expr: &SlotExpr,
+    so: bool,
     above: usize,
 ) -> Result<(), AllocError>
-    ensures { PutsAt above code.old (λ templates. expr_asm (tag_view templates tag)
-        (slots.conjunction (expr_view left.now) (expr_view right.now))) result code.new }
+    ensures { PutsAt above code.old (λ templates. instead_asm (tag_view templates tag)
+        (expr_view expr.now) so) result code.new }
 {
-    emit_expression(code, tag, left, above)?;
     code.put(tag, Some(Instruction::Dup))?;
     let choice = code.begin_choice()?;
-    code.put(tag, Some(Instruction::Drop))?;
-    emit_expression(code, tag, right, above)?;
+    emit_side(code, tag, expr, so, above)?;
     let last = code.end_branch(choice)?;
+    emit_side(code, tag, expr, !so, above)?;
     code.close(last);
     Ok(())
 }
 
-/// Puts the code of `or` behind the others: the left value, and the right one in its place where
-/// that is false.
+/// Puts an expression in place of the value at the top behind the others, where that is wanted.
 #[cycle(expressions)]
-fn emit_disjunction(
+fn emit_side(
     code: &mut Emitter,
     tag: Option<Place>,
-    left: &SlotExpr,
-    right: &SlotExpr,
+    expr: &SlotExpr,
+    wanted: bool,
     above: usize,
 ) -> Result<(), AllocError>
-    ensures { PutsAt above code.old (λ templates. expr_asm (tag_view templates tag)
-        (slots.disjunction (expr_view left.now) (expr_view right.now))) result code.new }
+    ensures { PutsAt above code.old (λ templates. side_asm (tag_view templates tag)
+        (expr_view expr.now) wanted) result code.new }
 {
-    emit_expression(code, tag, left, above)?;
-    code.put(tag, Some(Instruction::Dup))?;
-    let choice = code.begin_choice()?;
-    let last = code.end_branch(choice)?;
-    code.put(tag, Some(Instruction::Drop))?;
-    emit_expression(code, tag, right, above)?;
-    code.close(last);
+    if wanted {
+        code.put(tag, Some(Instruction::Drop))?;
+        emit_expression(code, tag, expr, above)?;
+    }
     Ok(())
 }
 
-/// Puts the code of a choice behind the others: the condition, and one of two values.
+/// Puts a test behind the others, and one of two values.
 #[cycle(expressions)]
 fn emit_choice(
     code: &mut Emitter,
     tag: Option<Place>,
-    condition: &SlotExpr,
     taken: &SlotExpr,
     other: &SlotExpr,
     above: usize,
 ) -> Result<(), AllocError>
-    ensures { PutsAt above code.old (λ templates. expr_asm (tag_view templates tag) (slots.choice
-        (expr_view condition.now) (expr_view taken.now) (expr_view other.now))) result code.new }
+    ensures { PutsAt above code.old (λ templates h. choose
+        (expr_asm (tag_view templates tag) (expr_view taken.now) h)
+        (expr_asm (tag_view templates tag) (expr_view other.now) h)) result code.new }
 {
-    emit_expression(code, tag, condition, above)?;
     let choice = code.begin_choice()?;
     emit_expression(code, tag, taken, above)?;
     let last = code.end_branch(choice)?;

@@ -16,3 +16,4 @@ pub mod Made
 pub mod Growing
 pub mod Numbers
 pub mod Members
+pub mod FilterCalls

@@ -1,5 +1,5 @@
 //! Instructions that make one value of several.
-ghost use Rattle.std.specs.Prelude.{◌≡◌, ◌≤◌, ◌+◌, ◌<◌, ◌^◌, ◌∷◌, [], true, length, map, nat_le, take, List, Result, Some, None, IfOk};
+ghost use Rattle.std.specs.Prelude.{◌≡◌, ◌≤◌, ◌+◌, ◌<◌, ◌^◌, ◌∷◌, [], true, length, map, take, List, Result, Some, None, IfOk};
 ghost use Rattle.jt_value.specs.Tree as tree;
 ghost use Rattle.jt_value.specs.Tree.{Tree};
 ghost use Rattle.jt_value.specs.View.{view};
@@ -9,12 +9,11 @@ ghost use Rattle.jt_ops.specs.Operation.{operation};
 ghost use Rattle.jt_ids.specs.OpTable.{op_operands};
 ghost use Rattle.jt_ops.specs.Testing.{as_answer, tested as tested_of};
 ghost use Rattle.jt_ids.specs.TestTable.{test_values};
-ghost use Rattle.jt_filter_meaning.specs.Filtering.{filtered as filtered_of};
-ghost use Rattle.jt_ids.specs.FilterTable.{least_values, most_values};
 ghost use Rattle.jt_image.specs.Ids.{operator_of, filter_of, test_of};
 ghost use Rattle.jt_image.specs.Step.{listed, mapped};
 ghost use Rattle.jt_image.specs.Run.{limit_of};
 ghost use Rattle.jt_machine.specs.Activations.{with_running};
+ghost use Rattle.jt_machine.specs.FilterCalls.{IsCallable, called};
 ghost use Rattle.jt_machine.specs.Parts.{make, made, operate as operate_next, apply_filter as filter_next, apply_test as test_next, answering, push as pushes, step_on as steps_on, values_at, below};
 ghost use Rattle.jt_machine.specs.View.{budget_view, config_view, IsNext, continues, values_on, HasValues, IsReady, IsBounded};
 
@@ -180,22 +179,30 @@ pub(crate) fn operate(
     push_answer(state, answer)
 }
 
+// A filter as an instruction calls it: with so many values, and whether it escapes.
+#[derive(Clone, Copy)]
+struct FilterCall {
+    filter: FilterId,
+    count: usize,
+    escaping: bool,
+}
+
 // What a filter gives on its values, which are taken from the top.
 fn filtered(
     alloc: Global,
-    filter: FilterId,
+    call: FilterCall,
     stack: &mut Stack,
-    count: usize,
-    escaping: bool,
     limits: Limits,
 ) -> Result<Value, OpError>
-    requires has { HasValues count stack.old.running }
-    requires least { nat_le (least_values filter) count ≡ true }
-    requires most { nat_le count (most_values filter) ≡ true }
-    ensures answers { Answers result
-        (limited_by limits (filtered_of filter escaping (values_at count stack.old.running))) }
-    ensures taken { stack.new ≡ with_running (below count stack.old.running) stack.old }
+    requires { IsCallable call stack.old.running }
+    ensures answers { Answers result (limited_by limits (called call stack.old.running)) }
+    ensures taken { stack.new ≡ with_running (below call.count stack.old.running) stack.old }
 {
+    let FilterCall {
+        filter,
+        count,
+        escaping,
+    } = call;
     if count == 1 {
         let value = pop_one(stack);
         return apply(alloc, filter, &[value], escaping, limits);
@@ -208,7 +215,7 @@ fn filtered(
         let (value, first, second) = pop_three(stack);
         return apply(alloc, filter, &[value, first, second], escaping, limits);
     }
-    filtered_many(alloc, filter, stack, count, escaping, limits)
+    filtered_many(alloc, call, stack, limits)
 }
 
 // The same of any number of values. They stand in a row of as many as a filter can take, so that no
@@ -216,22 +223,23 @@ fn filtered(
 #[inline(never)]
 fn filtered_many(
     alloc: Global,
-    filter: FilterId,
+    call: FilterCall,
     stack: &mut Stack,
-    count: usize,
-    escaping: bool,
     limits: Limits,
 ) -> Result<Value, OpError>
-    requires has { HasValues count stack.old.running }
-    requires least { nat_le (least_values filter) count ≡ true }
-    requires most { nat_le count (most_values filter) ≡ true }
-    ensures answers { Answers result
-        (limited_by limits (filtered_of filter escaping (values_at count stack.old.running))) }
-    ensures taken { stack.new ≡ with_running (below count stack.old.running) stack.old }
+    requires { IsCallable call stack.old.running }
+    ensures answers { Answers result (limited_by limits (called call stack.old.running)) }
+    ensures taken { stack.new ≡ with_running (below call.count stack.old.running) stack.old }
 {
     let mut row: [Value; 255] = from_fn(|_| Value::Undefined);
-    fill_row(stack, &mut row, count);
-    apply(alloc, filter, &row[..count], escaping, limits)
+    fill_row(stack, &mut row, call.count);
+    apply(
+        alloc,
+        call.filter,
+        &row[..call.count],
+        call.escaping,
+        limits,
+    )
 }
 
 // Takes that many values from the top into the first places of a row, the deepest first.
@@ -267,8 +275,13 @@ pub(crate) fn apply_filter(
     if let Some(outcome) = pay_values(state, count) {
         return Ok(Some(outcome));
     }
+    let call = FilterCall {
+        filter,
+        count,
+        escaping: flag == 1,
+    };
     let limits = limits_of(&state.left);
-    let answer = filtered(alloc, filter, &mut state.stack, count, flag == 1, limits);
+    let answer = filtered(alloc, call, &mut state.stack, limits);
     push_answer(state, answer)
 }
 

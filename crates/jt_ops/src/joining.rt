@@ -1,9 +1,10 @@
 //! Sums, products and joins of texts and lists.
-ghost use Rattle.std.specs.Prelude.{◌≡◌, ◌-◌, ◌^◌, min, Ok, Err, IfOk, IfErr, OnOk};
+ghost use Rattle.std.specs.Prelude.{◌≡◌, ◌-◌, ◌^◌, ◌++◌, min, Ok, Err, IfOk, IfErr, OnOk};
 ghost use Rattle.jt_value.specs.Tree as tree;
 ghost use Rattle.jt_value.specs.Payload.{joined_items};
 ghost use Rattle.jt_value.specs.View.{view, items_view};
 ghost use Rattle.jt_ops.specs.Joining.{added, both, multiplied, joined, joined_escaping};
+ghost use Rattle.jt_ops.specs.Pieces.{written};
 ghost use Rattle.jt_ops.specs.Limited.{limited_by, Answers, AnswersWith};
 
 use crate::arithmetic::{product, sum};
@@ -14,6 +15,25 @@ use itoa::Buffer;
 use jt_value::{NoMemory, Value, ValueList};
 use std::alloc::Global;
 use std::rc::Rc;
+
+/// The plain text of two pieces.
+fn plain(alloc: Global, left: Piece<'_>, right: Piece<'_>, limits: Limits) -> Result<Value, OpError>
+    ensures { AnswersWith limits (tree.text (written left.entry ++ written right.entry)) result }
+{
+    concatenated(alloc, &left, &right, TextKind::Plain, limits)
+}
+
+/// The markup of two pieces.
+fn markup(
+    alloc: Global,
+    left: Piece<'_>,
+    right: Piece<'_>,
+    limits: Limits,
+) -> Result<Value, OpError>
+    ensures { AnswersWith limits (tree.markup (written left.entry ++ written right.entry)) result }
+{
+    concatenated(alloc, &left, &right, TextKind::Markup, limits)
+}
 
 /// Operator `+`.
 pub(crate) fn add(
@@ -26,42 +46,14 @@ pub(crate) fn add(
 {
     match (left, right) {
         (Value::Int(x), Value::Int(y)) => number_within(sum(*x, *y), limits),
-        (Value::Text(s), Value::Text(t)) => {
-            concatenated(
-                alloc,
-                &Piece::Raw(s),
-                &Piece::Raw(t),
-                TextKind::Plain,
-                limits,
-            )
-        }
+        (Value::Text(s), Value::Text(t)) => plain(alloc, Piece::Raw(s), Piece::Raw(t), limits),
         (Value::Text(s), Value::Markup(t)) => {
-            concatenated(
-                alloc,
-                &Piece::Escaped(s),
-                &Piece::Raw(t),
-                TextKind::Markup,
-                limits,
-            )
+            markup(alloc, Piece::Escaped(s), Piece::Raw(t), limits)
         }
         (Value::Markup(s), Value::Text(t)) => {
-            concatenated(
-                alloc,
-                &Piece::Raw(s),
-                &Piece::Escaped(t),
-                TextKind::Markup,
-                limits,
-            )
+            markup(alloc, Piece::Raw(s), Piece::Escaped(t), limits)
         }
-        (Value::Markup(s), Value::Markup(t)) => {
-            concatenated(
-                alloc,
-                &Piece::Raw(s),
-                &Piece::Raw(t),
-                TextKind::Markup,
-                limits,
-            )
-        }
+        (Value::Markup(s), Value::Markup(t)) => markup(alloc, Piece::Raw(s), Piece::Raw(t), limits),
         (Value::List(list), Value::List(more)) => joined_lists(alloc, list, more, limits),
         _ => Err(misfit(left, right).into()),
     }
@@ -95,9 +87,9 @@ pub(crate) fn join(
 {
     let mut left_buffer = Buffer::new();
     let mut right_buffer = Buffer::new();
-    let left = Piece::Raw(left.shown(&mut left_buffer)?);
-    let right = Piece::Raw(right.shown(&mut right_buffer)?);
-    concatenated(alloc, &left, &right, TextKind::Plain, limits)
+    let left = left.shown(&mut left_buffer)?;
+    let right = right.shown(&mut right_buffer)?;
+    plain(alloc, Piece::Raw(left), Piece::Raw(right), limits)
 }
 
 /// Operator `~`, escaping.
@@ -111,24 +103,16 @@ pub(crate) fn join_escaping(
         (limited_by limits (joined_escaping (view left.now) (view right.now))) }
 {
     match (left, right) {
-        (Value::Markup(s), Value::Markup(t)) => {
-            concatenated(
-                alloc,
-                &Piece::Raw(s),
-                &Piece::Raw(t),
-                TextKind::Markup,
-                limits,
-            )
-        }
+        (Value::Markup(s), Value::Markup(t)) => markup(alloc, Piece::Raw(s), Piece::Raw(t), limits),
         (Value::Markup(s), _) => {
             let mut buffer = Buffer::new();
-            let right = Piece::Escaped(right.shown(&mut buffer)?);
-            concatenated(alloc, &Piece::Raw(s), &right, TextKind::Markup, limits)
+            let right = right.shown(&mut buffer)?;
+            markup(alloc, Piece::Raw(s), Piece::Escaped(right), limits)
         }
         (_, Value::Markup(t)) => {
             let mut buffer = Buffer::new();
-            let left = Piece::Escaped(left.shown(&mut buffer)?);
-            concatenated(alloc, &left, &Piece::Raw(t), TextKind::Markup, limits)
+            let left = left.shown(&mut buffer)?;
+            markup(alloc, Piece::Escaped(left), Piece::Raw(t), limits)
         }
         _ => join(alloc, left, right, limits),
     }

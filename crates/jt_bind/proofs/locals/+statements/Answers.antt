@@ -4,7 +4,8 @@ use Rattle.jt_resolved.specs.Locals.{body_locals}
 use Rattle.jt_resolved.specs.View.{body_view}
 use Rattle.jt_resolved.specs.declared.program.SlotStmt.{SlotStmt}
 use Rattle.jt_resolved.proofs.StatementViews.{SBranch}
-use Rattle.jt_bind.proofs.Counted.{branches_locals, max_zero, body_step, branch_step, choice_done, loop_counted, capture_counted}
+use Rattle.jt_bind.specs.Counts.{branches_locals}
+use Rattle.jt_bind.proofs.Counted.{max_zero, body_step, branch_step, choice_done, loop_counted, capture_counted}
 use Rattle.jt_bind.proofs.locals.+statements.Goals as goal
 
 pub body_locals-loop-statement-preserved : goal.body_locals-loop-statement-preserved
@@ -18,20 +19,22 @@ body_locals-returns t c = λ ts behind.
     let l = c.loop-statement in
     sym (l.invariant ts behind) ∙ at_drop_all (λ (z : List SlotStmt). max l.most (body_locals (body_view ts z behind))) c.args.body.now l.statement-index (omega arith)
 
-pub stmt_locals-loop-condition-preserved : goal.stmt_locals-loop-condition-preserved
-stmt_locals-loop-condition-preserved t c = λ ts.
-    let l = c.loop-condition in
-    branch_step ts c.deref-condition-items.result.now l.condition-index c.loop-condition-item.result c.deref-in-loop-condition.result.now c.in_ok-asked-in-If.asked c.in_ok-body_locals-in-If.field-0 l.most c.larger-most.result _
-    c.loop-condition-test.true c.loop-condition-item.is c.deref-in-loop-condition.ensures.value c.in_ok-asked-in-If.ensures (λ z. c.in_ok-body_locals-in-If.ensures ts z) (c.larger-most.ensures ∙ ap (max l.most) c.larger-in-loop-condition.ensures) (l.invariant ts)
+pub branches_locals-loop-branch-preserved : goal.branches_locals-loop-branch-preserved
+branches_locals-loop-branch-preserved t c = λ ts.
+    let l = c.loop-branch in
+    branch_step ts c.args.branches.now l.branch-index c.branch-item.result c.deref.result.now c.in_ok-asked.asked c.in_ok-body_locals.field-0 l.most c.larger-most.result _
+    c.loop-branch-test.true c.branch-item.is c.deref.ensures.value c.in_ok-asked.ensures (λ z. c.in_ok-body_locals.ensures ts z) (c.larger-most.ensures ∙ ap (max l.most) c.larger.ensures) (l.invariant ts)
 
-pub stmt_locals-returns-after-loop-condition : goal.stmt_locals-returns-after-loop-condition
-stmt_locals-returns-after-loop-condition t c = λ ts behind.
-    let l = c.loop-condition in
-    let first = c.in_ok-most-in-If.most in
-    choice_done ts c.args.statement.now behind c.in-If.branches c.in-If.other first l.most c.in-If.is
-    (λ b. sym (ap (λ (z : List SlotStmt). body_locals (body_view ts z b)) c.deref.ensures.value) ∙ c.in_ok-most-in-If.ensures ts b)
-    (sym (max_zero l.most) ∙ sym (at_drop_all (λ (z : List SBranch). max l.most (branches_locals ts z)) c.deref-condition-items.result.now l.condition-index (omega arith)) ∙ l.invariant ts
-    ∙ ap (λ (z : List SBranch). max first (branches_locals ts z)) c.deref-condition-items.ensures.value)
+pub branches_locals-returns : goal.branches_locals-returns
+branches_locals-returns t c = λ ts.
+    let l = c.loop-branch in
+    sym (max_zero l.most) ∙ sym (at_drop_all (λ (z : List SBranch). max l.most (branches_locals ts z)) c.args.branches.now l.branch-index (omega arith)) ∙ l.invariant ts
+
+pub stmt_locals-returns-in_ok-body_locals-in-If : goal.stmt_locals-returns-in_ok-body_locals-in-If
+stmt_locals-returns-in_ok-body_locals-in-If t c = λ ts behind.
+    choice_done ts c.args.statement.now behind c.in-If.branches c.in-If.other c.in_ok-first-in-If.first c.in_ok-body_locals-in-If.field-0 c.larger-in-If.result c.in-If.is
+    (c.in_ok-first-in-If.ensures ts ∙ ap (branches_locals ts) c.deref.ensures.value)
+    (λ b. sym (ap (λ (z : List SlotStmt). body_locals (body_view ts z b)) c.deref-in-If.ensures.value) ∙ c.in_ok-body_locals-in-If.ensures ts b) c.larger-in-If.ensures
 
 pub stmt_locals-returns-in_ok-last-in-For : goal.stmt_locals-returns-in_ok-last-in-For
 stmt_locals-returns-in_ok-last-in-For t c = λ ts behind.

@@ -1,11 +1,15 @@
-use Rattle.jt_chains.specs.View.{chain_view}
+use Rattle.std.proofs.Common.{ap}
+use Rattle.jt_meaning.specs.Resolve.{alone}
+use Rattle.jt_resolved.specs.Slots.{for_each}
 use Rattle.jt_bind.specs.Scoped.{templates_in}
 use Rattle.jt_bind.specs.Stated.{line_in}
-use Rattle.jt_bind.proofs.LeadingBodies.{loop_led}
-use Rattle.jt_bind.proofs.Placed.{place_shown}
+use Rattle.jt_bind.proofs.LeadingBodies.{led_of, loop_led}
 use Rattle.jt_bind.proofs.putting.put_loop.Goals as goal
 
 pub returns : goal.returns
-returns c = λ s k a turn last p q r t v h g b o.
-    loop_led (templates_in s) (record { template = c.args.spot.now.template; line = c.args.line }) (line_in s c.args.spot.now c.args.line) c.args.made.targets k c.args.made.items a c.args.made.condition turn last c.args.made.body c.args.made.other
-    c.args.done.now.items c.push.new.self.items p q r t v (place_shown (chain_view s.chain.now).templates c.args.spot.now.template c.args.line) h g b o c.in_ok-push.ensures.items
+returns c = λ s xs e k turn last p q r h o.
+    let T = templates_in s in
+    let line = line_in s c.args.spot.now c.args.line in
+    let t = c.args.turns in
+    led_of T _ _ _ _ _ _ (ap (λ z. alone (for_each line z e k turn last)) h.takes)
+    (loop_led T c.place.result line t.targets e t.items k t.condition turn last t.body c.args.other c.args.done.now.items c.push.new.self.items p h.given h.between q r (c.place.ensures s) h.goes_over h.asked h.taken o c.in_ok-push.ensures.items)

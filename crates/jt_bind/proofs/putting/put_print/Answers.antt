@@ -1,11 +1,8 @@
-use Rattle.jt_chains.specs.View.{chain_view}
 use Rattle.jt_bind.specs.Scoped.{templates_in}
 use Rattle.jt_bind.specs.Stated.{line_in}
 use Rattle.jt_bind.proofs.LeadingBodies.{print_led}
-use Rattle.jt_bind.proofs.Placed.{place_shown}
 use Rattle.jt_bind.proofs.putting.put_print.Goals as goal
 
 pub returns : goal.returns
 returns c = λ s k p q h.
-    print_led (templates_in s) (record { template = c.args.spot.now.template; line = c.args.line }) (line_in s c.args.spot.now c.args.line) c.args.spot.now.escaping k c.args.value c.args.done.now.items c.push.new.self.items p q
-    (place_shown (chain_view s.chain.now).templates c.args.spot.now.template c.args.line) h c.in_ok-push.ensures.items
+    print_led (templates_in s) c.place.result (line_in s c.args.spot.now c.args.line) c.args.spot.now.escaping k c.args.value c.args.done.now.items c.push.new.self.items p q (c.place.ensures s) h c.in_ok-push.ensures.items

@@ -1,4 +1,4 @@
-use Rattle.std.proofs.Common.{◌≡◌, ◌∙◌, arith, rules}
+use Rattle.std.proofs.Common.{arith, rules}
 use Rattle.jt_bind.proofs.Made.{program_is}
 use Rattle.jt_bind.proofs.resolving.resolved.Goals as goal
 

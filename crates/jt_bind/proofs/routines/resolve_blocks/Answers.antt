@@ -3,6 +3,7 @@ use Rattle.jt_chains.specs.Parts.{block_view}
 use Rattle.jt_chains.specs.View.{chain_view}
 use Rattle.jt_meaning.specs.Layout.{numbered_bodies}
 use Rattle.jt_meaning.specs.Programs.{body_routines}
+use Rattle.jt_names.specs.Names.{texts}
 use Rattle.jt_bind.specs.Scoped.{world_in, order_in, home_in, templates_in}
 use Rattle.jt_bind.proofs.Routing.{routines_both, routines_left}
 use Rattle.jt_bind.proofs.Numbered.{numbered_end, block_routine}
@@ -17,4 +18,4 @@ loop-place-preserved c = λ left.
     let scope = c.args.tables.now in
     let all = ap (map (block_view (chain_view scope.chain.now).templates)) c.deref-block-items.ensures.value ∙ c.here-here.ensures.all_blocks in
     routines_both (templates_in scope) _ _ (body_routines (world_in scope) (order_in scope) (home_in scope) (drop (l.place + 1) (numbered_bodies (world_in scope) (home_in scope))) ++ left) _ _ _ _ _ _ (l.invariant left)
-    (block_routine scope c.deref-block-items.result.now all l.place c.block-item.result _ left _ _ _ _ _ c.loop-place-test.true c.block-item.is (c.in_ok-parameters.ensures ∙ c.block_parameters.ensures) c.in_ok-resolve_routine.ensures c.in_ok-push.ensures.items)
+    (block_routine scope c.deref-block-items.result.now all l.place c.block-item.result _ left _ _ _ _ _ c.loop-place-test.true c.block-item.is (ap texts c.in_ok-parameters.ensures.items ∙ c.block_parameters.ensures) c.in_ok-resolve_routine.ensures c.in_ok-push.ensures.items)

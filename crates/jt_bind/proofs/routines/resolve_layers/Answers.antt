@@ -1,5 +1,4 @@
-use Rattle.std.proofs.Common.{◌+◌, List, map, arith, rules}
-use Rattle.std.specs.Prelude.{◌==◌}
+use Rattle.std.proofs.Common.{List, map, arith, rules}
 use Rattle.std.proofs.lemmas.List.{at_drop_all}
 use Rattle.jt_chains.specs.Layers.{layer_view}
 use Rattle.jt_chains.specs.View.{chain_view}

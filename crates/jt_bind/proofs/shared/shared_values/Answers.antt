@@ -1,4 +1,4 @@
-use Rattle.std.proofs.Common.{◌++◌, ◌∙◌, arith, rules}
+use Rattle.std.proofs.Common.{arith, rules}
 use Rattle.jt_bind.proofs.SharedValues.{part_put}
 use Rattle.jt_layout.proofs.Firsts.{homes_left}
 use Rattle.jt_bind.proofs.shared.shared_values.Goals as goal

@@ -1,8 +1,7 @@
-use Rattle.std.proofs.Common.{◌≡◌, ◌∙◌, Ok, ap, arith, rules}
+use Rattle.std.proofs.Common.{◌∙◌, Ok, refl, ap, arith, rules}
 use Rattle.std.specs.Option.{option_or}
 use Rattle.jt_trees.specs.ExpressionView.{exprs_view, pairs_view}
 use Rattle.jt_trees.proofs.ExpressionViews.{shown_item, shown_binary, shown_when, shown_choice, shown_filter, shown_test}
-use Rattle.jt_evaluation.specs.Tests.{test_named}
 use Rattle.jt_rules.specs.Walk as rules
 use Rattle.jt_checks.specs.ScopeView.{its_world, its_home, found, within_view}
 use Rattle.jt_checks.proofs.Found.{its_filters, found_call, found_inner, found_filter, found_test, row_some, row_none, pairs_some, pairs_none}
@@ -18,15 +17,16 @@ broken-returns-in-Call t c =
 pub broken-returns-in-Filter : goal.broken-returns-in-Filter
 broken-returns-in-Filter t c =
     let s = c.args.scope.now in
-    parts c.filter_broken-call.result c.broken-input.result c.either-in-Filter.result c.or_arguments_broken-in-Filter.result _ _ _ _ c.filter_broken-call.ensures c.broken-input.ensures c.either-in-Filter.ensures c.or_arguments_broken-in-Filter.ensures
-    (λ x y p q. found_filter (its_world s) (its_home s) (within_view c.args.within) c.in-Filter.arguments c.in-Filter.keywords (its_filters s.chain.now) c.in-Filter.is c.deref-in-Filter.ensures c.deref-in-Filter-2.ensures.value c.deref-in-Filter-3.ensures.value c.deref-in-Filter-4.ensures c.deref-in-Filter-5.ensures.value c.deref-in-Filter-6.ensures.value p q)
+    equal_found c.either-in-Filter.result _ _
+    (found_filter (its_world s) (its_home s) (within_view c.args.within) c.in-Filter.arguments c.in-Filter.keywords (its_filters s.chain.now) c.in-Filter.is c.deref-in-Filter.ensures c.deref-in-Filter-2.ensures.value c.deref-in-Filter-3.ensures.value refl)
+    (either_is c.filter_broken-call.result c.called_broken.result c.either-in-Filter.result _ _ c.filter_broken-call.ensures c.called_broken.ensures c.either-in-Filter.ensures)
 
 pub broken-returns-in-Test : goal.broken-returns-in-Test
 broken-returns-in-Test t c =
     let s = c.args.scope.now in
-    let call = rules.test_broken (test_named c.deref-in-Test.result.now) (exprs_view c.deref-in-Test-2.result.now) (pairs_view c.deref-in-Test-3.result.now) in
-    parts (Ok c.test_broken-call.result) c.broken-value.result c.either-in-Test.result c.or_arguments_broken-in-Test.result (λ o. o ≡ call) _ _ _ c.test_broken-call.ensures c.broken-value.ensures c.either-in-Test.ensures c.or_arguments_broken-in-Test.ensures
-    (λ x y p q. found_test (its_world s) (its_home s) (within_view c.args.within) c.in-Test.arguments c.in-Test.keywords c.in-Test.is c.deref-in-Test.ensures c.deref-in-Test-2.ensures.value c.deref-in-Test-3.ensures.value c.deref-in-Test-4.ensures c.deref-in-Test-5.ensures.value c.deref-in-Test-6.ensures.value p q)
+    equal_found c.either-in-Test.result _ _
+    (found_test (its_world s) (its_home s) (within_view c.args.within) c.in-Test.arguments c.in-Test.keywords c.in-Test.is c.deref-in-Test.ensures c.deref-in-Test-2.ensures.value c.deref-in-Test-3.ensures.value refl)
+    (either_is (Ok c.test_broken-call.result) c.called_broken-in-Test.result c.either-in-Test.result _ _ c.test_broken-call.ensures c.called_broken-in-Test.ensures c.either-in-Test.ensures)
 
 pub called_broken-returns-in-Call : goal.called_broken-returns-in-Call
 called_broken-returns-in-Call t c =
@@ -39,14 +39,14 @@ called_broken-returns-in-Filter t c =
     let s = c.args.scope.now in
     let shown = shown_filter c.args.called.now c.deref-in-Filter.result.now c.in-Filter.name c.deref-in-Filter-2.result.now c.deref-in-Filter-3.result.now c.in-Filter.input c.in-Filter.arguments c.in-Filter.keywords
     c.in-Filter.is c.deref-in-Filter.ensures c.deref-in-Filter-2.ensures.value c.deref-in-Filter-3.ensures.value in
-    part c.broken-input.result c.or_arguments_broken-in-Filter.result _ _ _ c.broken-input.ensures c.or_arguments_broken-in-Filter.ensures (λ x p. rw p (ap (found rules.called_broken s c.args.within) shown))
+    equal_found c.value_broken.result _ _ (ap (found rules.called_broken s c.args.within) shown) c.value_broken.ensures
 
 pub called_broken-returns-in-Test : goal.called_broken-returns-in-Test
 called_broken-returns-in-Test t c =
     let s = c.args.scope.now in
     let shown = shown_test c.args.called.now c.deref-in-Test.result.now c.in-Test.polarity c.in-Test.name c.deref-in-Test-2.result.now c.deref-in-Test-3.result.now c.in-Test.value c.in-Test.arguments c.in-Test.keywords
     c.in-Test.is c.deref-in-Test.ensures c.deref-in-Test-2.ensures.value c.deref-in-Test-3.ensures.value in
-    part c.broken-value.result c.or_arguments_broken-in-Test.result _ _ _ c.broken-value.ensures c.or_arguments_broken-in-Test.ensures (λ x p. rw p (ap (found rules.called_broken s c.args.within) shown))
+    equal_found c.value_broken-in-Test.result _ _ (ap (found rules.called_broken s c.args.within) shown) c.value_broken-in-Test.ensures
 
 pub both_broken-returns : goal.both_broken-returns
 both_broken-returns t c = either_is c.broken-first.result c.broken-second.result c.either.result _ _ c.broken-first.ensures c.broken-second.ensures c.either.ensures
@@ -63,25 +63,8 @@ or_arguments_broken-returns t c =
     behind c.args.before c.either.result c.either-2.result (option_or places keywords)
     (either_is c.row_broken-places.result c.pairs_broken-keywords.result c.either.result places keywords c.row_broken-places.ensures c.pairs_broken-keywords.ensures c.either.ensures) c.either-2.ensures
 
-pub broken-returns-in-Item : goal.broken-returns-in-Item
-broken-returns-in-Item t c =
-    let shown = shown_item c.args.expr.now c.deref-in-Item.result.now c.deref-in-Item-2.result.now c.in-Item.value c.in-Item.index c.in-Item.is c.deref-in-Item.ensures c.deref-in-Item-2.ensures in
-    equal_found c.both_broken.result _ _ (ap (found rules.broken c.args.scope.now c.args.within) shown) c.both_broken.ensures
-
-pub broken-returns-in-Binary : goal.broken-returns-in-Binary
-broken-returns-in-Binary t c =
-    let shown = shown_binary c.args.expr.now c.deref-in-Binary.result.now c.deref-in-Binary-2.result.now c.in-Binary.operator c.in-Binary.left c.in-Binary.right c.in-Binary.is c.deref-in-Binary.ensures c.deref-in-Binary-2.ensures in
-    equal_found c.both_broken-in-Binary.result _ _ (ap (found rules.broken c.args.scope.now c.args.within) shown) c.both_broken-in-Binary.ensures
-
-pub broken-returns-in-When : goal.broken-returns-in-When
-broken-returns-in-When t c =
-    let shown = shown_when c.args.expr.now c.deref-in-When.result.now c.deref-in-When-2.result.now c.in-When.condition c.in-When.value c.in-When.is c.deref-in-When.ensures c.deref-in-When-2.ensures in
-    equal_found c.both_broken-in-When.result _ _ (ap (found rules.broken c.args.scope.now c.args.within) shown) c.both_broken-in-When.ensures
-
-pub broken-returns-in-Choice : goal.broken-returns-in-Choice
-broken-returns-in-Choice t c =
-    let shown = shown_choice c.args.expr.now c.deref-in-Choice.result.now c.deref-in-Choice-2.result.now c.deref-in-Choice-3.result.now c.in-Choice.condition c.in-Choice.value c.in-Choice.other c.in-Choice.is c.deref-in-Choice.ensures c.deref-in-Choice-2.ensures c.deref-in-Choice-3.ensures in
-    equal_found c.three_broken.result _ _ (ap (found rules.broken c.args.scope.now c.args.within) shown) c.three_broken.ensures
+pub value_broken-returns : goal.value_broken-returns
+value_broken-returns t c = part c.broken-value.result c.or_arguments_broken.result _ _ _ c.broken-value.ensures c.or_arguments_broken.ensures (λ x p. rw p refl)
 
 pub called_broken-returns-in-Item : goal.called_broken-returns-in-Item
 called_broken-returns-in-Item t c =

@@ -9,32 +9,35 @@ use Rattle.jt_checks.proofs.expressions.+broken.Given as goal
 
 -- ---- how deep the trees are that are left, and who hands its own on
 
-abbrev pub decreases-broken : goal.decreases-broken
-decreases-broken l = 3 * size-Expr l.expr.now
-
 abbrev pub decreases-called_broken : goal.decreases-called_broken
-decreases-called_broken l = 3 * size-Expr l.called.now
+decreases-called_broken l = 5 * size-Expr l.called.now
+
+abbrev pub decreases-broken : goal.decreases-broken
+decreases-broken l = 5 * size-Expr l.expr.now + 1
 
 abbrev pub decreases-both_broken : goal.decreases-both_broken
-decreases-both_broken l = 3 * max (size-Expr l.first.now) (size-Expr l.second.now) + 1
+decreases-both_broken l = 5 * max (size-Expr l.first.now) (size-Expr l.second.now) + 2
 
 abbrev pub decreases-three_broken : goal.decreases-three_broken
-decreases-three_broken l = 3 * max (size-Expr l.first.now) (max (size-Expr l.second.now) (size-Expr l.third.now)) + 2
+decreases-three_broken l = 5 * max (size-Expr l.first.now) (max (size-Expr l.second.now) (size-Expr l.third.now)) + 3
 
 abbrev pub decreases-or_arguments_broken : goal.decreases-or_arguments_broken
-decreases-or_arguments_broken l = 3 * max (most (λ x. size-Expr x) l.row.now) (most (λ x. size-Expr x.1) l.pairs.now) + 2
+decreases-or_arguments_broken l = 5 * max (most (λ x. size-Expr x) l.row.now) (most (λ x. size-Expr x.1) l.pairs.now) + 3
+
+abbrev pub decreases-value_broken : goal.decreases-value_broken
+decreases-value_broken l = 5 * max (size-Expr l.value.now) (max (most (λ x. size-Expr x) l.row.now) (most (λ x. size-Expr x.1) l.pairs.now)) + 4
 
 abbrev pub decreases-attribute_broken : goal.decreases-attribute_broken
-decreases-attribute_broken l = 3 * size-Expr l.value.now + 1
+decreases-attribute_broken l = 5 * size-Expr l.value.now + 2
 
 abbrev pub decreases-field_read_broken : goal.decreases-field_read_broken
-decreases-field_read_broken l = 3 * size-Expr l.value.now + 1
+decreases-field_read_broken l = 5 * size-Expr l.value.now + 2
 
 abbrev pub decreases-row_broken : goal.decreases-row_broken
-decreases-row_broken l = 3 * most (λ x. size-Expr x) l.row.now + 1
+decreases-row_broken l = 5 * most (λ x. size-Expr x) l.row.now + 2
 
 abbrev pub decreases-pairs_broken : goal.decreases-pairs_broken
-decreases-pairs_broken l = 3 * most (λ x. size-Expr x.1) l.pairs.now + 1
+decreases-pairs_broken l = 5 * most (λ x. size-Expr x.1) l.pairs.now + 2
 
 -- ---- what is left
 

@@ -17,15 +17,15 @@ unfolding world_in
 returns-in_ok-fits-in-Some c =
     let s = c.args.scope.now in
     let n = c.in-Some-Library.library.now in
-    let o = given_to c.args.of.now (given (its_world s).sources (its_home s)) in
+    let o = given_to c.args.path.0.now (given (its_world s).sources (its_home s)) in
     let known : known_of o ≡ Some (inr n) = sym c.known.ensures ∙ ap (option_map known_view) c.in-Some-Library.is ∙ ap (λ k. Some (known_view k)) c.in-Some-Library.field-0-is in
-    let f = trees.name c.args.of.now in
+    let f = trees.name c.args.path.0.now in
     let us = exprs_view c.args.row.now in
     let ps = pairs_view c.args.pairs.now in
     let w = within_view c.args.within in
     let view = macro_view (chain_view s.chain.now).templates in
     c.unless.ensures ∙ ap rules.unless c.in_ok-fits-in-Some.ensures
-    ∙ sym (called_library (its_world s) (its_home s) w o n c.args.field.now f us ps (option_map view c.library_macro.result) known c.library_macro.ensures
+    ∙ sym (called_library (its_world s) (its_home s) w o n c.args.path.1.now f us ps (option_map view c.library_macro.result) known c.library_macro.ensures
     ∙ ap (λ z. rules.call_broken (its_world s) (its_home s) (of_library (its_world s).sources n (option_map view z)) w f us ps) c.in-Some.is)
 
 pub returns-in-None : goal.returns-in-None
@@ -33,12 +33,12 @@ unfolding world_in
 returns-in-None c =
     let s = c.args.scope.now in
     let n = c.in-Some-Library.library.now in
-    let o = given_to c.args.of.now (given (its_world s).sources (its_home s)) in
+    let o = given_to c.args.path.0.now (given (its_world s).sources (its_home s)) in
     let known : known_of o ≡ Some (inr n) = sym c.known.ensures ∙ ap (option_map known_view) c.in-Some-Library.is ∙ ap (λ k. Some (known_view k)) c.in-Some-Library.field-0-is in
-    let f = trees.name c.args.of.now in
+    let f = trees.name c.args.path.0.now in
     let us = exprs_view c.args.row.now in
     let ps = pairs_view c.args.pairs.now in
     let w = within_view c.args.within in
     let view = macro_view (chain_view s.chain.now).templates in
-    sym (called_library (its_world s) (its_home s) w o n c.args.field.now f us ps (option_map view c.library_macro.result) known c.library_macro.ensures
+    sym (called_library (its_world s) (its_home s) w o n c.args.path.1.now f us ps (option_map view c.library_macro.result) known c.library_macro.ensures
     ∙ ap (λ z. rules.call_broken (its_world s) (its_home s) (of_library (its_world s).sources n (option_map view z)) w f us ps) c.in-None.is)

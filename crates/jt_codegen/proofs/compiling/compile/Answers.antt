@@ -1,8 +1,7 @@
 use Rattle.std.proofs.lemmas.Result.{err_from_is_err_and}
 use Rattle.jt_chains.specs.View.{chain_view}
 use Rattle.jt_resolved.specs.View.{program_of}
-use Rattle.jt_codegen.proofs.Chained.{only_chain}
-use Rattle.jt_codegen.proofs.Images.{low_of, high_of, chain_refused, rule_refused, tables_of, fits_of, few_of, image_compiled, stack_refused, stack_not_small, code_refused, code_not_small}
+use Rattle.jt_codegen.proofs.Images.{only_chain, low_of, high_of, chain_refused, rule_refused, tables_of, fits_of, few_of, image_compiled, stack_refused, stack_not_small, code_refused, code_not_small}
 use Rattle.jt_codegen.proofs.compiling.compile.Goals as goal
 
 pub returns-in_err-chain-clause-refused : goal.returns-in_err-chain-clause-refused

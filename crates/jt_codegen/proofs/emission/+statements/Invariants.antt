@@ -4,6 +4,7 @@ use denote.Param.Weighed.{most}
 use Rattle.jt_resolved.specs.declared.program.SlotStmt.{size-SlotStmt}
 use Rattle.jt_trees.specs.Expressions.{Text}
 use Rattle.jt_resolved.specs.View.{body_view}
+use Rattle.jt_resolved.proofs.StatementViews.{SBranch}
 use Rattle.jt_lower.specs.Emission.{StandsFor}
 use Rattle.jt_codegen.proofs.Emitting.{Leads, Opens}
 use Rattle.jt_codegen.proofs.emission.+statements.Given as goal
@@ -19,13 +20,19 @@ decreases-emit_statements l = 3 * most (λ x. size-SlotStmt x) l.body.now + 1
 abbrev pub decreases-emit_capture : goal.decreases-emit_capture
 decreases-emit_capture l = 3 * most (λ x. size-SlotStmt x) l.body.now + 2
 
-abbrev pub decreases-emit_loop : goal.decreases-emit_loop
-decreases-emit_loop l = 3 * max (most (λ x. size-SlotStmt x) l.body.now) (most (λ x. size-SlotStmt x) l.other.now) + 2
+abbrev pub decreases-emit_turns : goal.decreases-emit_turns
+decreases-emit_turns l = 3 * most (λ x. size-SlotStmt x) l.body.now + 2
+
+abbrev pub decreases-emit_otherwise : goal.decreases-emit_otherwise
+decreases-emit_otherwise l = 3 * most (λ x. size-SlotStmt x) l.other.now + 2
+
+abbrev pub decreases-emit_branches : goal.decreases-emit_branches
+decreases-emit_branches l = 3 * max (most (λ (b : SBranch). most (λ x. size-SlotStmt x) b.body.items) l.branches.now) (most (λ x. size-SlotStmt x) l.other.now) + 2
 
 -- ---- what is left
 
 abbrev pub invariant-emit_statements-loop-statement : goal.invariant-emit_statements-loop-statement
 invariant-emit_statements-loop-statement l = (templates : List Text) (h : ℕ) → StandsFor l.above h → Leads templates h l.initial.code (body_view templates l.body) l.code (body_view templates (drop l.statement-index l.body))
 
-abbrev pub invariant-emit_statement-loop-tag : goal.invariant-emit_statement-loop-tag
-invariant-emit_statement-loop-tag l = (templates : List Text) (h : ℕ) → StandsFor l.above h → Opens templates h l.initial.code l.tag-items l.code (drop l.tag-index l.tag-items) l.ends.items
+abbrev pub invariant-emit_branches-loop-tag : goal.invariant-emit_branches-loop-tag
+invariant-emit_branches-loop-tag l = (templates : List Text) (h : ℕ) → StandsFor l.above h → Opens templates h l.initial.code l.branches l.code (drop l.tag-index l.branches) l.ends.items

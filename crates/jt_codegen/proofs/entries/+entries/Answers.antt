@@ -3,7 +3,7 @@ use Rattle.std.specs.Prelude.{nat_le}
 use Rattle.std.proofs.lemmas.List.{at_drop_all}
 use Rattle.jt_resolved.specs.Size.{body_height}
 use Rattle.jt_resolved.specs.View.{body_view}
-use Rattle.jt_codegen.proofs.Below.{body_next, branches_low, branch_passed, condition_high, inside_high, if_passes, if_blocked, for_passes, capture_passes}
+use Rattle.jt_codegen.proofs.Below.{body_next, branches_low, choice_passes, choice_high, branch_passed, condition_high, inside_high, if_view, for_passes, capture_passes}
 use Rattle.jt_codegen.proofs.entries.+entries.Goals as goal
 
 pub fits_body-returns-then-not-fits_statement : goal.fits_body-returns-then-not-fits_statement
@@ -27,42 +27,48 @@ fits_body-returns t c =
     let l = c.loop-statement in
     λ templates behind. l.invariant templates behind ∙ at_drop_all (λ ss. nat_le (body_height (body_view templates ss behind)) c.args.room) c.args.body.now l.statement-index c.loop-statement-test.false
 
-pub fits_statement-returns-then-not-fits_expression : goal.fits_statement-returns-then-not-fits_expression
-fits_statement-returns-then-not-fits_expression t c =
+pub fits_branches-returns-then-not-fits_expression : goal.fits_branches-returns-then-not-fits_expression
+fits_branches-returns-then-not-fits_expression t c =
     let l = c.loop-condition in
-    let bs = c.deref-condition-items.result.now in
-    λ templates behind. if_blocked c.args.room templates c.args.statement.now c.in-If.branches c.in-If.other bs c.in-If.is c.deref-condition-items.ensures.value
-    (l.invariant templates ∙ condition_high c.args.room templates bs l.condition-index c.loop-condition-item.result c.fits_expression-in-loop-condition.result c.loop-condition-test.true c.loop-condition-item.is c.fits_expression-in-loop-condition.ensures c.if-not-fits_expression.true) behind
+    let bs = c.args.branches.now in
+    λ templates behind. choice_high c.args.room templates bs (body_view templates c.args.other.now) behind
+    (l.invariant templates ∙ condition_high c.args.room templates bs l.condition-index c.loop-condition-item.result c.fits_expression.result c.loop-condition-test.true c.loop-condition-item.is c.fits_expression.ensures c.if-not-fits_expression.true)
 
-pub fits_statement-returns-then-not-fits_body : goal.fits_statement-returns-then-not-fits_body
-fits_statement-returns-then-not-fits_body t c =
+pub fits_branches-returns-then-not-fits_body : goal.fits_branches-returns-then-not-fits_body
+fits_branches-returns-then-not-fits_body t c =
     let l = c.loop-condition in
-    let bs = c.deref-condition-items.result.now in
-    λ templates behind. if_blocked c.args.room templates c.args.statement.now c.in-If.branches c.in-If.other bs c.in-If.is c.deref-condition-items.ensures.value
-    (l.invariant templates ∙ inside_high c.args.room templates bs l.condition-index c.loop-condition-item.result c.deref.result.now c.fits_expression-in-loop-condition.result c.fits_body.result c.loop-condition-test.true c.loop-condition-item.is c.deref.ensures.value
-    c.fits_expression-in-loop-condition.ensures (c.fits_body.ensures templates) c.if-not-fits_body.true) behind
+    let bs = c.args.branches.now in
+    λ templates behind. choice_high c.args.room templates bs (body_view templates c.args.other.now) behind
+    (l.invariant templates ∙ inside_high c.args.room templates bs l.condition-index c.loop-condition-item.result c.deref.result.now c.fits_expression.result c.fits_body.result c.loop-condition-test.true c.loop-condition-item.is c.deref.ensures.value
+    c.fits_expression.ensures (c.fits_body.ensures templates) c.if-not-fits_body.true)
 
-pub fits_statement-loop-condition-preserved : goal.fits_statement-loop-condition-preserved
-fits_statement-loop-condition-preserved t c =
+pub fits_branches-loop-condition-preserved : goal.fits_branches-loop-condition-preserved
+fits_branches-loop-condition-preserved t c =
     let l = c.loop-condition in
-    let bs = c.deref-condition-items.result.now in
     λ templates. l.invariant templates
-    ∙ branch_passed c.args.room templates bs l.condition-index c.loop-condition-item.result c.deref.result.now c.fits_expression-in-loop-condition.result c.fits_body.result c.loop-condition-test.true c.loop-condition-item.is c.deref.ensures.value
-    c.fits_expression-in-loop-condition.ensures (c.fits_body.ensures templates) c.if-not-fits_expression.false c.if-not-fits_body.false
+    ∙ branch_passed c.args.room templates c.args.branches.now l.condition-index c.loop-condition-item.result c.deref.result.now c.fits_expression.result c.fits_body.result c.loop-condition-test.true c.loop-condition-item.is c.deref.ensures.value
+    c.fits_expression.ensures (c.fits_body.ensures templates) c.if-not-fits_expression.false c.if-not-fits_body.false
 
-pub fits_statement-returns-after-loop-condition : goal.fits_statement-returns-after-loop-condition
-fits_statement-returns-after-loop-condition t c =
+pub fits_branches-returns : goal.fits_branches-returns
+fits_branches-returns t c =
     let l = c.loop-condition in
-    let bs = c.deref-condition-items.result.now in
-    λ templates. if_passes c.args.room templates c.args.statement.now c.in-If.branches c.in-If.other bs c.deref-in-If.result.now c.fits_body-in-If.result c.in-If.is c.deref-condition-items.ensures.value c.deref-in-If.ensures.value
-    (l.invariant templates ∙ at_drop_all (branches_low c.args.room templates) bs l.condition-index c.loop-condition-test.false) (c.fits_body-in-If.ensures templates)
+    let bs = c.args.branches.now in
+    let o = c.fits_body-2.result in
+    λ templates behind. choice_passes c.args.room templates bs (body_view templates c.args.other.now) o (c.fits_body-2.ensures templates) behind
+    ∙ ap (λ z. (z && o) && nat_le (body_height behind) c.args.room) (l.invariant templates ∙ at_drop_all (branches_low c.args.room templates) bs l.condition-index c.loop-condition-test.false)
+
+pub fits_statement-returns-in-If : goal.fits_statement-returns-in-If
+fits_statement-returns-in-If t c =
+    let v = c.in-If in
+    λ templates behind. ap (λ b. nat_le (body_height b) c.args.room) (if_view c.args.room templates c.args.statement.now v.branches v.other c.deref.result.now c.deref-in-If.result.now v.is c.deref.ensures.value c.deref-in-If.ensures.value behind)
+    ∙ c.fits_branches.ensures templates behind
 
 pub fits_statement-returns-else-room-eq0 : goal.fits_statement-returns-else-room-eq0
 fits_statement-returns-else-room-eq0 t c =
     let v = c.in-For in
     λ templates. for_passes c.args.room templates c.args.statement.now v.place v.targets v.iterated v.condition v.body v.other c.deref-in-For.result.now c.deref-in-For-2.result.now
-    c.fits_expression-in-For.result c.fits_targets-in-For.result c.fits_condition.result c.fits_body-in-For.result c.fits_body-in-For-2.result (omega arith) v.is c.deref-in-For.ensures.value c.deref-in-For-2.ensures.value
-    c.fits_expression-in-For.ensures c.fits_targets-in-For.ensures c.fits_condition.ensures (c.fits_body-in-For.ensures templates) (c.fits_body-in-For-2.ensures templates)
+    c.fits_expression-in-For.result c.fits_targets-in-For.result c.fits_condition.result c.fits_body.result c.fits_body-in-For.result (omega arith) v.is c.deref-in-For.ensures.value c.deref-in-For-2.ensures.value
+    c.fits_expression-in-For.ensures c.fits_targets-in-For.ensures c.fits_condition.ensures (c.fits_body.ensures templates) (c.fits_body-in-For.ensures templates)
 
 pub fits_statement-returns-then-room-ge1 : goal.fits_statement-returns-then-room-ge1
 fits_statement-returns-then-room-ge1 t c =

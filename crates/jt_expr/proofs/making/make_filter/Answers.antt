@@ -7,5 +7,5 @@ use Rattle.jt_expr.proofs.making.make_filter.Goals as goal
 pub returns : goal.returns
 returns c =
     ap expr_view c.in_ok-new.ensures.ok
-    ∙ view_Filter c.args.input c.in_ok-name.name c.args.arguments c.args.keywords
-    ∙ ap (λ x. trees.filter (expr_view c.args.input.value) x (exprs_view c.args.arguments.items) (pairs_view c.args.keywords.items)) c.in_ok-name.ensures
+    ∙ view_Filter c.args.input c.in_ok-name.name c.args.row.items c.args.row.pairs
+    ∙ ap (λ x. trees.filter (expr_view c.args.input.value) x (exprs_view c.args.row.items.items) (pairs_view c.args.row.pairs.items)) c.in_ok-name.ensures

@@ -1,19 +1,16 @@
-use Rattle.std.proofs.Common.{◌∷◌, map}
-use Rattle.jt_value.specs.View.{view}
-use Rattle.jt_filter_meaning.specs.Filtering.{filtered}
-use Rattle.jt_filters.specs.Operands.{tree_of}
+use Rattle.jt_filters.specs.Operands.{given}
 use Rattle.jt_filters.proofs.Applied.{faulty, refused, needs_memory}
 use Rattle.jt_filters.proofs.filters.measured_and_built.Goals as goal
 
 pub returns-in-Err : goal.returns-in-Err
-returns-in-Err c = faulty c.args.limits (filtered c.args.filter c.args.autoescape (tree_of c.args.operand ∷ map view c.args.arguments.now)) c.in-Err.fault c.in-Err.ensures
+returns-in-Err c = faulty c.args.limits (given c.args.application) c.in-Err.fault c.in-Err.ensures
 
 pub returns-in-Err-allow : goal.returns-in-Err-allow
 returns-in-Err-allow c =
-    let wanted = filtered c.args.filter c.args.autoescape (tree_of c.args.operand ∷ map view c.args.arguments.now) in
+    let wanted = given c.args.application in
     refused c.args.limits wanted c.in-Ok.measure.0 c.in-Ok.measure.1 c.in-Err-allow.error c.in-Ok.ensures c.in-Err-allow.ensures.refused
 
 pub returns-in-Err-NoMemory : goal.returns-in-Err-NoMemory
 returns-in-Err-NoMemory c =
-    let wanted = filtered c.args.filter c.args.autoescape (tree_of c.args.operand ∷ map view c.args.arguments.now) in
+    let wanted = given c.args.application in
     needs_memory c.args.limits wanted c.in-Ok.measure.0 c.in-Ok.measure.1 c.in-Ok.ensures c.in_default.ensures.ok (rw c.in-Err-NoMemory.field-0-is at c.in-Err-NoMemory.ensures)

@@ -15,7 +15,7 @@ chains-init g c =
     let f = c.in_ok-found.found in
     let i = c.in_ok-found.ensures in
     record {
-      found = found_first (g.L.Library.sources c.args.library.now) c.args.options c.args.entry.now (root_of f) (found_templates f) (names_view f.names) (found_homes f) (graph_of f.ways.items) (graph_of f.next.items)
+      found = found_first (g.L.Library.sources c.args.origin.now.library.now) c.args.origin.now.options c.args.entry.now (root_of f) (found_templates f) (names_view f.names) (found_homes f) (graph_of f.ways.items) (graph_of f.next.items)
           i.homes (ap (λ l. home_name (home_at l 0)) i.homes) (ap pages_view i.pages) (ap strings i.names) (ap graph_of i.ways) (ap graph_of i.next);
       root = ap (λ l. home_name (home_at l 0)) i.homes;
     }

@@ -7,6 +7,6 @@ decreases-chains g l = 2 ^ 63 - length l.found.ways.items
 
 abbrev pub invariant-chains : goal.invariant-chains
 invariant-chains g l = record {
-  found : IsFound (g.L.Library.sources l.library) l.options l.found;
+  found : IsFound (g.L.Library.sources l.origin.library.now) l.origin.options l.found;
   root : root_of l.found ≡ l.entry;
 }

@@ -1,6 +1,6 @@
 use Rattle.std.proofs.Common.{◌≡◌, ◌++◌, drop}
 use Rattle.jt_inherit.specs.Along.{imports_along}
-use Rattle.jt_inherit.specs.Needs.{needs_view}
+use Rattle.jt_chains.specs.Needs.{needs_view}
 use Rattle.jt_chains.specs.Pages.{pages_view}
 use Rattle.jt_inherit.proofs.including.add_imports_at.Given as goal
 

@@ -1,7 +1,7 @@
 use Rattle.std.proofs.Common.{◌∷◌, [], sym, subst}
 use Rattle.std.proofs.lemmas.Result.{err_from_is_err_and}
 use Rattle.jt_inherit.specs.Found.{AreNext, IsNextFault}
-use Rattle.jt_inherit.specs.Needs.{need_view}
+use Rattle.jt_chains.specs.Needs.{need_view}
 use Rattle.jt_inherit.specs.Sets.{names_view, homes_view}
 use Rattle.jt_inherit.proofs.Following.{one_known}
 use Rattle.jt_inherit.proofs.Among.{of_texts}

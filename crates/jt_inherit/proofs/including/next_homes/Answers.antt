@@ -2,7 +2,7 @@ use Rattle.std.proofs.Common.{◌≡◌, ap, subst, ◌∙◌}
 use Rattle.std.proofs.lemmas.Result.{err_from_is_err_and}
 use Rattle.jt_inherit.specs.Along.{needs_along}
 use Rattle.jt_inherit.specs.Found.{IsNextFault, chosen}
-use Rattle.jt_inherit.specs.Needs.{needs_view}
+use Rattle.jt_chains.specs.Needs.{needs_view}
 use Rattle.jt_chains.specs.Pages.{pages_view}
 use Rattle.jt_inherit.specs.Sets.{names_view, homes_view}
 use Rattle.jt_inherit.proofs.Following.{next_turn, fault_turn}

@@ -1,6 +1,6 @@
 use Rattle.std.proofs.Common.{take}
 use Rattle.jt_inherit.specs.Found.{AreNext, chosen}
-use Rattle.jt_inherit.specs.Needs.{needs_view}
+use Rattle.jt_chains.specs.Needs.{needs_view}
 use Rattle.jt_inherit.specs.Sets.{names_view, homes_view}
 use Rattle.jt_inherit.proofs.including.next_homes.Given as goal
 

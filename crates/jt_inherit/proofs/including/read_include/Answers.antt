@@ -17,14 +17,14 @@ returns-in-Some-clause-met g c = inl (placed_among of_texts (names_view c.args.n
 pub returns-in_ok-add_page-in-Ok-clause-known : goal.returns-in_ok-add_page-in-Ok-clause-known
 returns-in_ok-add_page-in-Ok-clause-known g c =
     λ ts k.
-    let given = g.L.Library.sources c.args.library.now in
+    let given = g.L.Library.sources c.args.origin.now.library.now in
     let ps = pages_view c.args.fresh.now.items in
     let p = c.in-Ok.page in
     let ks = names_view c.args.names.now in
     let unknown : among (string_bytes p.name) ks ≡ false = ap (λ (n : Text). among n ks) c.in-Ok.ensures.named ∙ c.in_default.ensures in
     let e = append_assoc ts ps (page_view p ∷ []) ∙ ap (λ (l : List Template). ts ++ l) (sym (pages_more c.args.fresh.now.items c.add_page.new.pages.items p c.in_ok-add_page-in-Ok.ensures.pages)) in
-    subst (λ us. AreKnown given c.args.options us (names_view c.add_page.new.names)) e
-    (subst (AreKnown given c.args.options ((ts ++ ps) ++ page_view p ∷ [])) (sym c.in_ok-add_page-in-Ok.ensures.names) (known_more given c.args.options (ts ++ ps) ks (page_view p) k unknown c.in-Ok.ensures.read c.in-Ok.ensures.only c.in-Ok.ensures.within))
+    subst (λ us. AreKnown given c.args.origin.now.options us (names_view c.add_page.new.names)) e
+    (subst (AreKnown given c.args.origin.now.options ((ts ++ ps) ++ page_view p ∷ [])) (sym c.in_ok-add_page-in-Ok.ensures.names) (known_more given c.args.origin.now.options (ts ++ ps) ks (page_view p) k unknown c.in-Ok.ensures.read c.in-Ok.ensures.only c.in-Ok.ensures.within))
 
 pub returns-in_ok-add_page-in-Ok-clause-met : goal.returns-in_ok-add_page-in-Ok-clause-met
 returns-in_ok-add_page-in-Ok-clause-met g c =

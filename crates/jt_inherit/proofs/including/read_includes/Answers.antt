@@ -4,7 +4,7 @@ use Rattle.std.proofs.lemmas.Result.{err_from_is_err_and}
 use Rattle.jt_trees.specs.Texts.{among}
 use Rattle.jt_inherit.specs.Along.{needs_along}
 use Rattle.jt_inherit.specs.Found.{IsMet}
-use Rattle.jt_inherit.specs.Needs.{needed, needs_view}
+use Rattle.jt_chains.specs.Needs.{needed, needs_view}
 use Rattle.jt_chains.specs.Pages.{pages_view}
 use Rattle.jt_inherit.specs.Sets.{names_view}
 use Rattle.jt_inherit.proofs.Following.{asked_at, need_fault, met_turn, met_grows}
@@ -16,13 +16,13 @@ returns-in_err-read_include-clause-refused g c =
     let e = c.in_err-read_include.field-0.0 in
     let p = err_from_is_err_and c.from_residual-in_err-read_include.result c.from_residual-in_err-read_include.ensures.1 in
     rw (p.1, p.2)
-    (inr (need_fault (g.L.Library.sources c.args.library.now) c.args.options c.deref-include-items.result.now (needs_along (pages_view c.args.pages.now) c.args.way.now) l.include-index _ e
+    (inr (need_fault (g.L.Library.sources c.args.origin.now.library.now) c.args.origin.now.options c.deref-include-items.result.now (needs_along (pages_view c.args.pages.now) c.args.way.now) l.include-index _ e
     (ap needs_view c.deref-include-items.ensures.value ∙ c.in_ok-found.ensures) c.loop-include-test.true c.in_err-read_include.ensures.refused))
 
 pub loop-include-preserved : goal.loop-include-preserved
 loop-include-preserved g c =
     let l = c.loop-include in
-    let given = g.L.Library.sources c.args.library.now in
+    let given = g.L.Library.sources c.args.origin.now.library.now in
     let ks = names_view l.names in
     let more = c.in_ok-read_include.ensures.grown in
     let same_needs : needs_view c.deref-include-items.result.now ≡ needs_along (pages_view c.args.pages.now) c.args.way.now = ap needs_view c.deref-include-items.ensures.value ∙ c.in_ok-found.ensures in

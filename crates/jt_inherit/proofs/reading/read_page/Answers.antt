@@ -8,9 +8,9 @@ use Rattle.jt_inherit.proofs.reading.read_page.Goals as goal
 
 pub returns-clause-only : goal.returns-clause-only
 returns-clause-only g c =
-    let given = g.L.Library.sources c.args.library.now in
+    let given = g.L.Library.sources c.args.origin.now.library.now in
     let p = c.in_ok-new.field-0 in
     let text = c.in-Some.source.now in
-    only_read given c.args.options (string_bytes p.name) text (body_of p.template)
+    only_read given c.args.origin.now.options (string_bytes p.name) text (body_of p.template)
     (ap (λ s. given (string_bytes s)) c.in_ok-new.ensures.name ∙ ap given c.in_ok-name.ensures.ok ∙ sym c.in-Some.ensures)
-    (subst (λ (t : Template). (b : Body) → IsTree c.args.options text b → b ≡ body_of t) (sym c.in_ok-new.ensures.template) c.in_ok-template.ensures.only)
+    (subst (λ (t : Template). (b : Body) → IsTree c.args.origin.now.options text b → b ≡ body_of t) (sym c.in_ok-new.ensures.template) c.in_ok-template.ensures.only)

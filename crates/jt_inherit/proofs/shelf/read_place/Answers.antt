@@ -21,12 +21,12 @@ add_page-requires g c = ap (λ (n : Text). among n (names_view c.args.names.now)
 
 pub returns-clause-known : goal.returns-clause-known
 returns-clause-known g c =
-    let given = g.L.Library.sources c.args.library.now in
+    let given = g.L.Library.sources c.args.origin.now.library.now in
     let ts = pages_view c.args.pages.now.items in
     let p = c.in_ok-page.page in
     let fresh : among (string_bytes p.name) (names_view c.args.names.now) ≡ false = ap (λ (n : Text). among n (names_view c.args.names.now)) c.in_ok-page.ensures.named ∙ c.in_default.ensures in
-    subst (λ us. AreKnown given c.args.options us (names_view c.add_page.new.names)) (sym (pages_more c.args.pages.now.items c.add_page.new.pages.items p c.in_ok-add_page.ensures.pages))
-    (subst (AreKnown given c.args.options (ts ++ page_view p ∷ [])) (sym c.in_ok-add_page.ensures.names) (known_more given c.args.options ts (names_view c.args.names.now) (page_view p) c.requires fresh c.in_ok-page.ensures.read c.in_ok-page.ensures.only c.in_ok-page.ensures.within))
+    subst (λ us. AreKnown given c.args.origin.now.options us (names_view c.add_page.new.names)) (sym (pages_more c.args.pages.now.items c.add_page.new.pages.items p c.in_ok-add_page.ensures.pages))
+    (subst (AreKnown given c.args.origin.now.options (ts ++ page_view p ∷ [])) (sym c.in_ok-add_page.ensures.names) (known_more given c.args.origin.now.options ts (names_view c.args.names.now) (page_view p) c.requires fresh c.in_ok-page.ensures.read c.in_ok-page.ensures.only c.in_ok-page.ensures.within))
 
 pub returns-clause-grown : goal.returns-clause-grown
 returns-clause-grown g c = (page_view c.in_ok-page.page ∷ [], pages_more c.args.pages.now.items c.add_page.new.pages.items c.in_ok-page.page c.in_ok-add_page.ensures.pages)

@@ -16,7 +16,7 @@ use Rattle.jt_inherit.proofs.way.read_home.Goals as goal
 pub returns-then-is_on_way : goal.returns-then-is_on_way
 returns-then-is_on_way g c =
     let l = c.loop-turn in
-    chain_breaks (g.L.Library.sources c.args.library.now) c.args.options c.args.pages.now.items l.pages.items l.invariant.grown c.args.home.now c.if-home.false error.ExtendsCycle
+    chain_breaks (g.L.Library.sources c.args.origin.now.library.now) c.args.origin.now.options c.args.pages.now.items l.pages.items l.invariant.grown c.args.home.now c.if-home.false error.ExtendsCycle
     (λ root r. cycle_breaks l.invariant.known r l.invariant.led (sym (on_way c.deref-in-loop-turn.ensures.value c.deref-in-loop-turn-2.ensures.value c.deref-in-loop-turn-3.ensures c.is_on_way.ensures) ∙ c.if-is_on_way.true))
 
 pub returns-in_err-place : goal.returns-in_err-place
@@ -24,8 +24,8 @@ returns-in_err-place g c =
     let l = c.loop-turn in
     let e = c.in_err-place.field-0.0 in
     let p = err_from_is_err_and c.from_residual-in_err-place.result c.from_residual-in_err-place.ensures.1 in
-    let fault = subst (λ x. IsFaultOf e (g.L.Library.sources c.args.library.now) x c.args.options) c.deref-in-loop-turn-4.ensures c.in_err-place.ensures.refused in
-    rw (p.1, p.2) (chain_breaks (g.L.Library.sources c.args.library.now) c.args.options c.args.pages.now.items l.pages.items l.invariant.grown c.args.home.now c.if-home.false e (λ root r. fault_breaks l.invariant.known r l.invariant.led e fault))
+    let fault = subst (λ x. IsFaultOf e (g.L.Library.sources c.args.origin.now.library.now) x c.args.origin.now.options) c.deref-in-loop-turn-4.ensures c.in_err-place.ensures.refused in
+    rw (p.1, p.2) (chain_breaks (g.L.Library.sources c.args.origin.now.library.now) c.args.origin.now.options c.args.pages.now.items l.pages.items l.invariant.grown c.args.home.now c.if-home.false e (λ root r. fault_breaks l.invariant.known r l.invariant.led e fault))
 
 pub index-requires : goal.index-requires
 index-requires g c =
@@ -68,12 +68,12 @@ loop-turn-preserved g c =
 pub returns-then-is_on_way-2 : goal.returns-then-is_on_way-2
 returns-then-is_on_way-2 g c =
     let l = c.loop-turn in
-    chain_breaks (g.L.Library.sources c.args.library.now) c.args.options c.args.pages.now.items l.pages.items l.invariant.grown c.args.home.now c.if-home.false error.ExtendsCycle
+    chain_breaks (g.L.Library.sources c.args.origin.now.library.now) c.args.origin.now.options c.args.pages.now.items l.pages.items l.invariant.grown c.args.home.now c.if-home.false error.ExtendsCycle
     (λ root r. cycle_breaks l.invariant.known r l.invariant.led (sym (on_way c.deref-3.ensures.value c.deref-4.ensures.value c.deref-5.ensures c.is_on_way-2.ensures) ∙ c.if-is_on_way-2.true))
 
 pub returns : goal.returns
 returns g c =
     let l = c.loop-turn in
     let full : length l.way.items ≡ 64 = omega (arith, l.invariant.counted, c.loop-turn-test.false, l.auto._turn-end) in
-    chain_breaks (g.L.Library.sources c.args.library.now) c.args.options c.args.pages.now.items l.pages.items l.invariant.grown c.args.home.now c.if-home.false error.ChainTooLong
+    chain_breaks (g.L.Library.sources c.args.origin.now.library.now) c.args.origin.now.options c.args.pages.now.items l.pages.items l.invariant.grown c.args.home.now c.if-home.false error.ChainTooLong
     (λ root r. long_breaks l.invariant.known r l.invariant.led full (sym (on_way c.deref-3.ensures.value c.deref-4.ensures.value c.deref-5.ensures c.is_on_way-2.ensures) ∙ c.if-is_on_way-2.false))

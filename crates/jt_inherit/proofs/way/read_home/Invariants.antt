@@ -11,7 +11,7 @@ use Rattle.jt_inherit.proofs.way.read_home.Given as goal
 
 abbrev pub invariant-loop-turn : goal.invariant-loop-turn
 invariant-loop-turn g l = record {
-  known : KnowPages (g.L.Library.sources l.library) l.options l.pages.items l.names;
+  known : KnowPages (g.L.Library.sources l.origin.library.now) l.origin.options l.pages.items l.names;
   grown : Grow l.initial.pages.items l.pages.items;
   from : (n : Text) → among n (names_view l.names) ≡ true → (among n (names_view l.initial.names) ≡ true) ⊎ (among n (names (templates_at (pages_view l.pages.items) l.way.items)) ≡ true);
   counted : length l.way.items ≡ l._turn;

@@ -13,7 +13,7 @@ use Rattle.jt_inherit.proofs.way.read_library.Goals as goal
 pub returns-in_err-place : goal.returns-in_err-place
 returns-in_err-place g c =
     let p = err_from_is_err_and c.from_residual.result c.from_residual.ensures.1 in
-    rw (p.1, p.2) (λ root r. alone_breaks (g.L.Library.sources c.args.library.now) c.args.options root (pages_view c.args.pages.now.items) c.requires c.args.name.now r c.in_err-place.field-0.0 c.in_err-place.ensures.refused)
+    rw (p.1, p.2) (λ root r. alone_breaks (g.L.Library.sources c.args.origin.now.library.now) c.args.origin.now.options root (pages_view c.args.pages.now.items) c.requires c.args.name.now r c.in_err-place.field-0.0 c.in_err-place.ensures.refused)
 
 pub index-requires : goal.index-requires
 index-requires g c =
@@ -24,8 +24,8 @@ pub returns-then-not-holds_macros : goal.returns-then-not-holds_macros
 returns-then-not-holds_macros g c =
     let qs = c.read_place.new.pages.items in
     let placed = c.in_ok-place.ensures in
-    breaks_more (g.L.Library.sources c.args.library.now) c.args.options c.args.pages.now.items qs placed.grown (a_library c.args.name.now) error.NotALibrary
-    (not_alone qs placed.known.read.once c.in_ok-place.place placed.place c.index.ensures (g.L.Library.sources c.args.library.now) c.args.options c.read_place.new.names placed.known (ap holds_macros (sym c.body.ensures) ∙ sym c.holds_macros.ensures ∙ c.if-not-holds_macros.true))
+    breaks_more (g.L.Library.sources c.args.origin.now.library.now) c.args.origin.now.options c.args.pages.now.items qs placed.grown (a_library c.args.name.now) error.NotALibrary
+    (not_alone qs placed.known.read.once c.in_ok-place.place placed.place c.index.ensures (g.L.Library.sources c.args.origin.now.library.now) c.args.origin.now.options c.read_place.new.names placed.known (ap holds_macros (sym c.body.ensures) ∙ sym c.holds_macros.ensures ∙ c.if-not-holds_macros.true))
 
 pub returns : goal.returns
 returns g c =

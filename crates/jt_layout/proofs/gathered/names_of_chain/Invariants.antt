@@ -1,15 +1,22 @@
-use Rattle.std.proofs.Common.{◌≡◌, ◌+◌, drop}
-use Rattle.std.specs.Prelude.{flat_map, filter}
-use Rattle.std.specs.Option.{is_some}
+use Rattle.std.proofs.Common.{◌≡◌, ℕ, ◌+◌, true, List, drop}
+use Rattle.std.specs.Prelude.{flat_map}
+use Rattle.jt_trees.specs.Expressions.{Text}
 use Rattle.jt_trees.specs.Texts.{all_inserted}
 use Rattle.jt_chains.specs.Chain.{a_chain}
-use Rattle.jt_chains.specs.View.{chain_view, sources_of}
-use Rattle.jt_rules.specs.World.{world_of}
+use Rattle.jt_chains.specs.Includes.{with_source}
+use Rattle.jt_chains.specs.Needs.{needed, needs_view}
+use Rattle.jt_chains.specs.View.{its_sources}
+use Rattle.jt_chains.specs.declared.includes.Include.{Include}
+use Rattle.jt_chains.specs.declared.linked.Chain.{Chain}
 use Rattle.jt_meaning.specs.Layout.{names_in}
 use Rattle.jt_names.specs.Names.{texts}
+use Rattle.jt_layout.specs.Homes.{its_world, its_order}
 use Rattle.jt_layout.proofs.gathered.names_of_chain.Given as goal
 
-abbrev pub invariant-loop-name : goal.invariant-loop-name
-invariant-loop-name l =
-    all_inserted (flat_map (λ x. names_in (world_of (chain_view l.chain)) (drop (l.home + 1) (chain_view l.chain).order) (a_chain x)) (filter (λ m. is_some (sources_of (chain_view l.chain) m)) (texts (drop l.name-index l.name-items)))) (texts l.names.keys)
-    ≡ all_inserted (flat_map (λ x. names_in (world_of (chain_view l.chain)) (drop (l.home + 1) (chain_view l.chain).order) (a_chain x)) (filter (λ m. is_some (sources_of (chain_view l.chain) m)) (texts l.name-items))) (texts l.initial.names.keys)
+-- the names of the chains that some includes lead to
+abbrev pub names_of : Chain → ℕ → List Include → List Text
+names_of c home ns = flat_map (λ x. names_in (its_world c) (drop (home + 1) (its_order c)) (a_chain x)) (with_source (its_sources c) (needed true (needs_view ns)))
+
+abbrev pub invariant-loop-include : goal.invariant-loop-include
+invariant-loop-include l =
+    all_inserted (names_of l.chain l.home (drop l.include-index l.include-items)) (texts l.names.keys) ≡ all_inserted (names_of l.chain l.home l.include-items) (texts l.initial.names.keys)

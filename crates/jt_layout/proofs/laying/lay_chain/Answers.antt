@@ -4,10 +4,10 @@ use Rattle.std.specs.Prelude.{slice_get}
 use Rattle.jt_chains.specs.Chain.{macros}
 use Rattle.jt_chains.specs.Pages.{home_view}
 use Rattle.jt_chains.specs.Parts.{macro_view}
-use Rattle.jt_chains.specs.View.{chain_view}
+use Rattle.jt_chains.specs.View.{chain_view, home_in}
 use Rattle.jt_meaning.specs.Layout as layout
 use Rattle.jt_names.specs.Names.{texts}
-use Rattle.jt_layout.specs.Homes.{its_world, its_order, its_home}
+use Rattle.jt_layout.specs.Homes.{its_world, its_order}
 use Rattle.jt_layout.specs.Laid.{is_library}
 use Rattle.jt_layout.specs.declared.laid.Laid.{Laid}
 use Rattle.jt_chains.proofs.Placed.{name_of_home}
@@ -25,7 +25,7 @@ returns-clause-laid c =
     let bs = c.in_ok-bodies.bodies in
     let W = its_world a in
     let O = its_order a in
-    let h = its_home a i in
+    let h = home_in a i in
     let lt = c.requires.stands in
     let s = here a i lt f c.requires.front in
     let named = ap texts c.deref.ensures.value ∙ c.requires.named in
@@ -83,7 +83,7 @@ returns-clause-behind c =
     let ms = c.in_ok-macros.macros in
     let bs = c.in_ok-bodies.bodies in
     let W = its_world a in
-    let h = its_home a i in
+    let h = home_in a i in
     let lt = c.requires.stands in
     let s = here a i lt f c.requires.front in
     let count : length ms.all.items ≡ length (macros W.sources h) = sym (length-map ms.all.items (macro_view (chain_view a).templates)) ∙ ap length c.in_ok-macros.ensures.all in

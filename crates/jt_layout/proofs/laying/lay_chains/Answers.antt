@@ -3,9 +3,9 @@ use Rattle.std.specs.Prelude.{flat_map}
 use Rattle.std.proofs.lemmas.List.{at_drop_all, length-map}
 use Rattle.jt_chains.specs.Chain.{a_chain, listed, same_home}
 use Rattle.jt_chains.specs.Pages.{home_view}
-use Rattle.jt_chains.specs.View.{chain_view}
+use Rattle.jt_chains.specs.View.{chain_view, home_in}
 use Rattle.jt_meaning.specs.Layout as layout
-use Rattle.jt_layout.specs.Homes.{its_world, its_order, its_home}
+use Rattle.jt_layout.specs.Homes.{its_world, its_order}
 use Rattle.jt_layout.specs.Laid.{IsLaid}
 use Rattle.jt_layout.specs.Places.{names_at}
 use Rattle.jt_layout.specs.declared.laid.Laid.{Laid}
@@ -20,11 +20,11 @@ lay_chain-requires c =
     let l = c.loop-home in
     let lt : l.home < length a.homes.items = omega (arith, c.loop-home-test.true, c.len-home-end.ensures, a.homes.ok.0) in
     let k = c.index.result.now in
-    let is : its_home a l.home ≡ home_view k = name_of_home a.homes.items l.home k lt c.index.ensures in
+    let is : home_in a l.home ≡ home_view k = name_of_home a.homes.items l.home k lt c.index.ensures in
     record {
       stands = lt;
       named = c.take-names.ensures.taken
-          ∙ names_handed (its_world a) (its_order a) k.is_library (string_bytes k.name) (its_home a l.home) (names_at l.gathered.names) is
+          ∙ names_handed (its_world a) (its_order a) k.is_library (string_bytes k.name) (home_in a l.home) (names_at l.gathered.names) is
           (λ x u. l.invariant.left x (ap (λ h. listed h (drop l.home (its_order a))) (sym u) ∙ listed_left a l.home lt));
       front = l.invariant.stands;
     }
@@ -40,9 +40,9 @@ loop-home-preserved c =
     let O = its_order a in
     let lt : l.home < length a.homes.items = omega (arith, c.loop-home-test.true, c.len-home-end.ensures, a.homes.ok.0) in
     let k = c.index.result.now in
-    let is : its_home a l.home ≡ home_view k = name_of_home a.homes.items l.home k lt c.index.ensures in
+    let is : home_in a l.home ≡ home_view k = name_of_home a.homes.items l.home k lt c.index.ensures in
     let grown = c.in_ok-push.ensures.items in
-    let P : ℕ → Laid → Type 0 = (λ i t. IsLaid W O (chain_view a).templates (its_home a i) t) in
+    let P : ℕ → Laid → Type 0 = (λ i t. IsLaid W O (chain_view a).templates (home_in a i) t) in
     let last : P (length l.homes.items) c.in_ok-placed.placed.laid = subst (λ i. P i c.in_ok-placed.placed.laid) (sym l.invariant.all) c.in_ok-placed.ensures.laid in
     record {
       stands = c.in_ok-placed.ensures.behind;

@@ -1,39 +1,47 @@
-use Rattle.std.proofs.Common.{◌≡◌, suc, ◌+◌, refl, sym, ap, ◌∙◌, subst, arith, rules}
-use Rattle.std.specs.Prelude.{min}
+use Rattle.std.proofs.Common.{◌≡◌, ℕ, suc, ◌+◌, List, Option, Bool, true, false, refl, sym, ap, ◌∙◌, subst, arith, rules}
+use Rattle.std.specs.Prelude.{min, not}
+use Rattle.std.proofs.lemmas.Result.{IfOk-weaker}
 use Rattle.jt_image.specs.Loops.{field_id}
 use Rattle.jt_image.specs.declared.instruction.Instruction.TheVariants as op
+use Rattle.jt_resolved.specs.Slots as slots
 use Rattle.jt_resolved.specs.Slots.{none}
 use Rattle.jt_resolved.specs.Size.{row_count}
 use Rattle.jt_resolved.specs.View.{slot_view, field_view, maker_view, expr_view, row_view}
-use Rattle.jt_lower.specs.Asm.{Asm, nil, one, both, choose, invoke}
+use Rattle.jt_lower.specs.Asm.{Asm, one, both, choose, invoke}
 use Rattle.jt_lower.specs.Lower.{maker, told_as, flag, load_of, expr_asm, row_asm}
-use Rattle.jt_lower.specs.Emission.{Given, tag_view}
+use Rattle.jt_lower.specs.Emission.{Given, tag_view, side_asm, instead_asm, Puts}
+use Rattle.jt_lower.specs.declared.emitter.Emitter.{Emitter}
+use Rattle.jt_trees.specs.Expressions.{Text}
+use Rattle.jt_value.specs.Place.{Place}
 use Rattle.jt_lower.proofs.Patched.{puts_nothing, puts_then, puts_as, puts_call, puts_choice}
 use Rattle.jt_resolved.proofs.ExpressionViews.{view_Pooled, view_Variable, view_Field, view_Absent, seen_made, seen_conjunction, seen_disjunction, seen_choice, seen_invoke}
 use Rattle.jt_lower.proofs.Rows.{stands_raised, row_item, row_aside, row_ends}
 use Rattle.jt_lower.proofs.expressions.+expressions.Goals as goal
 use Rattle.jt_lower.proofs.expressions.+expressions.Goals.{emit_row-in-Some+in_ok-put-in-Some, emit_row-in-None}
 
+-- an expression that is seen as this one
+seen_as : (ts : List Text) (o : Option Place) (h : ℕ) (c d : Emitter) (x y : slots.SlotExpr ℕ) → x ≡ y → Puts ts c (expr_asm o y h) d → Puts ts c (expr_asm o x h) d
+seen_as ts o h c d x y e p = puts_as ts c d (expr_asm o x h) (expr_asm o y h) (ap (λ z. expr_asm o z h) e) p
+
 -- ---- what holds no others
 
-pub emit_expression-returns-in_ok-put-in-Pooled : goal.emit_expression-returns-in_ok-put-in-Pooled
-emit_expression-returns-in_ok-put-in-Pooled t c = λ ts h s.
-    let o = tag_view ts c.args.tag in
+pub emit_expression-returns-in-Pooled : goal.emit_expression-returns-in-Pooled
+emit_expression-returns-in-Pooled t c =
     let i = c.in-Pooled.place in
-    puts_as ts c.args.code.now c.put.new.self (expr_asm o (expr_view c.args.expr.now) h) (one o (op.Const i)) (ap (λ x. expr_asm o x h) (ap expr_view c.in-Pooled.is ∙ view_Pooled i)) (c.in_ok-put-in-Pooled.ensures ts (op.Const i) c.constant_of.ensures)
+    IfOk-weaker c.put.result _ _ (λ u g. λ ts h s.
+    seen_as ts (tag_view ts c.args.tag) h c.args.code.now c.put.new.self (expr_view c.args.expr.now) (slots.pooled i) (ap expr_view c.in-Pooled.is ∙ view_Pooled i) (g ts (op.Const i) c.constant_of.ensures)) c.put.ensures
 
-pub emit_expression-returns-in_ok-put-in-Variable : goal.emit_expression-returns-in_ok-put-in-Variable
-emit_expression-returns-in_ok-put-in-Variable t c = λ ts h s.
-    let o = tag_view ts c.args.tag in
+pub emit_expression-returns-in-Variable : goal.emit_expression-returns-in-Variable
+emit_expression-returns-in-Variable t c =
     let i = c.in-Variable.slot in
-    puts_as ts c.args.code.now c.put-in-Variable.new.self (expr_asm o (expr_view c.args.expr.now) h) (one o (load_of (slot_view i))) (ap (λ x. expr_asm o x h) (ap expr_view c.in-Variable.is ∙ view_Variable i)) (c.in_ok-put-in-Variable.ensures ts (load_of (slot_view i)) c.load_of.ensures)
+    IfOk-weaker c.put-in-Variable.result _ _ (λ u g. λ ts h s.
+    seen_as ts (tag_view ts c.args.tag) h c.args.code.now c.put-in-Variable.new.self (expr_view c.args.expr.now) (slots.variable (slot_view i)) (ap expr_view c.in-Variable.is ∙ view_Variable i) (g ts (load_of (slot_view i)) c.load_of.ensures)) c.put-in-Variable.ensures
 
-pub emit_expression-returns-in_ok-put-in-Field : goal.emit_expression-returns-in_ok-put-in-Field
-emit_expression-returns-in_ok-put-in-Field t c = λ ts h s.
-    let o = tag_view ts c.args.tag in
+pub emit_expression-returns-in-Field : goal.emit_expression-returns-in-Field
+emit_expression-returns-in-Field t c =
     let f = c.in-Field.told in
-    let i = op.LoopGet (field_id (told_as (field_view f))) h in
-    puts_as ts c.args.code.now c.put-in-Field.new.self (expr_asm o (expr_view c.args.expr.now) h) (one o i) (ap (λ x. expr_asm o x h) (ap expr_view c.in-Field.is ∙ view_Field f)) (c.in_ok-put-in-Field.ensures ts i (c.told_of.ensures h s))
+    IfOk-weaker c.put-in-Field.result _ _ (λ u g. λ ts h s.
+    seen_as ts (tag_view ts c.args.tag) h c.args.code.now c.put-in-Field.new.self (expr_view c.args.expr.now) (slots.field (field_view f)) (ap expr_view c.in-Field.is ∙ view_Field f) (g ts (op.LoopGet (field_id (told_as (field_view f))) h) (c.told_of.ensures h s))) c.put-in-Field.ensures
 
 pub emit_expression-returns-in-Absent : goal.emit_expression-returns-in-Absent
 emit_expression-returns-in-Absent t c = search (arith, rules, puts_as, view_Absent, puts_nothing)
@@ -52,65 +60,66 @@ emit_expression-returns-in_ok-put-in-Made t c = λ ts h s.
     puts_as ts c.args.code.now c.put-in-Made.new.self (expr_asm o (expr_view c.args.expr.now) h) (both (row_asm o es h) (one o i)) (ap (λ x. expr_asm o x h) seen)
     (puts_then ts c.args.code.now c.emit_row.new.code c.put-in-Made.new.self (row_asm o es h) (one o i) (c.in_ok-emit_row-in-Made.ensures ts h s) (c.in_ok-put-in-Made.ensures ts i given))
 
-pub emit_expression-returns-in-Conjunction : goal.emit_expression-returns-in-Conjunction
-emit_expression-returns-in-Conjunction t c = search (arith, rules, seen_conjunction c.args.expr.now c.in-Conjunction.left c.in-Conjunction.right, puts_as)
-
-pub emit_expression-returns-in-Disjunction : goal.emit_expression-returns-in-Disjunction
-emit_expression-returns-in-Disjunction t c = search (arith, rules, seen_disjunction c.args.expr.now c.in-Disjunction.left c.in-Disjunction.right, puts_as)
-
-pub emit_expression-returns-in-Choice : goal.emit_expression-returns-in-Choice
-emit_expression-returns-in-Choice t c = search (arith, rules, seen_choice c.args.expr.now c.in-Choice.condition c.in-Choice.taken c.in-Choice.other, puts_as)
-
-pub emit_conjunction-returns : goal.emit_conjunction-returns
-emit_conjunction-returns t c = λ ts h s.
+pub emit_expression-returns-in_ok-emit_expression-in-Conjunction : goal.emit_expression-returns-in_ok-emit_expression-in-Conjunction
+emit_expression-returns-in_ok-emit_expression-in-Conjunction t c =
+    let p = c.in-Conjunction in
+    let a = c.deref-in-Conjunction.result.now in
+    let b = c.deref-in-Conjunction-2.result.now in
+    let seen = seen_conjunction c.args.expr.now p.left p.right a b p.is c.deref-in-Conjunction.ensures c.deref-in-Conjunction-2.ensures in
+    IfOk-weaker c.emit_instead.result _ _ (λ u g. λ ts h s.
     let o = tag_view ts c.args.tag in
-    let a : Asm = expr_asm o (expr_view c.args.left.now) h in
-    let b : Asm = expr_asm o (expr_view c.args.right.now) h in
-    let taken : Asm = both (one o op.Drop) b in
-    let c0 = c.args.code.now in
-    let c1 = c.emit_expression.new.code in
-    let c2 = c.put.new.self in
-    let c3 = c.begin_choice.new.self in
-    let c5 = c.emit_expression-2.new.code in
-    let c6 = c.end_branch.new.self in
-    let c7 = c.close.new.self in
-    puts_then ts c0 c1 c7 a (both (one o op.Dup) (choose taken nil)) (c.in_ok-emit_expression.ensures ts h s)
-    (puts_then ts c1 c2 c7 (one o op.Dup) (choose taken nil) (c.in_ok-put.ensures ts op.Dup refl)
-    (puts_choice ts c2 c3 c5 c6 c6 c7 taken nil c.in_ok-choice.choice c.in_ok-last.last c.in_ok-choice.ensures
-    (puts_then ts c3 c.put-2.new.self c5 (one o op.Drop) b (c.in_ok-put-2.ensures ts op.Drop refl) (c.in_ok-emit_expression-2.ensures ts h s))
-    c.in_ok-last.ensures (puts_nothing ts c6) c.close.ensures))
+    let c2 = c.emit_instead.new.code in
+    seen_as ts o h c.args.code.now c2 (expr_view c.args.expr.now) (slots.conjunction (expr_view a) (expr_view b)) seen
+    (puts_then ts c.args.code.now c.emit_expression.new.code c2 (expr_asm o (expr_view a) h) (instead_asm o (expr_view b) true h) (c.in_ok-emit_expression-in-Conjunction.ensures ts h s) (g ts h s))) c.emit_instead.ensures
 
-pub emit_disjunction-returns : goal.emit_disjunction-returns
-emit_disjunction-returns t c = λ ts h s.
+pub emit_expression-returns-in_ok-emit_expression-in-Disjunction : goal.emit_expression-returns-in_ok-emit_expression-in-Disjunction
+emit_expression-returns-in_ok-emit_expression-in-Disjunction t c =
+    let p = c.in-Disjunction in
+    let a = c.deref-in-Disjunction.result.now in
+    let b = c.deref-in-Disjunction-2.result.now in
+    let seen = seen_disjunction c.args.expr.now p.left p.right a b p.is c.deref-in-Disjunction.ensures c.deref-in-Disjunction-2.ensures in
+    IfOk-weaker c.emit_instead-in-Disjunction.result _ _ (λ u g. λ ts h s.
     let o = tag_view ts c.args.tag in
-    let a : Asm = expr_asm o (expr_view c.args.left.now) h in
-    let b : Asm = expr_asm o (expr_view c.args.right.now) h in
-    let other : Asm = both (one o op.Drop) b in
-    let c0 = c.args.code.now in
-    let c1 = c.emit_expression.new.code in
-    let c2 = c.put.new.self in
-    let c3 = c.begin_choice.new.self in
-    let c4 = c.end_branch.new.self in
-    let c6 = c.emit_expression-2.new.code in
-    let c7 = c.close.new.self in
-    puts_then ts c0 c1 c7 a (both (one o op.Dup) (choose nil other)) (c.in_ok-emit_expression.ensures ts h s)
-    (puts_then ts c1 c2 c7 (one o op.Dup) (choose nil other) (c.in_ok-put.ensures ts op.Dup refl)
-    (puts_choice ts c2 c3 c3 c4 c6 c7 nil other c.in_ok-choice.choice c.in_ok-last.last c.in_ok-choice.ensures (puts_nothing ts c3) c.in_ok-last.ensures
-    (puts_then ts c4 c.put-2.new.self c6 (one o op.Drop) b (c.in_ok-put-2.ensures ts op.Drop refl) (c.in_ok-emit_expression-2.ensures ts h s))
-    c.close.ensures))
+    let c2 = c.emit_instead-in-Disjunction.new.code in
+    seen_as ts o h c.args.code.now c2 (expr_view c.args.expr.now) (slots.disjunction (expr_view a) (expr_view b)) seen
+    (puts_then ts c.args.code.now c.emit_expression-in-Disjunction.new.code c2 (expr_asm o (expr_view a) h) (instead_asm o (expr_view b) false h) (c.in_ok-emit_expression-in-Disjunction.ensures ts h s) (g ts h s))) c.emit_instead-in-Disjunction.ensures
+
+pub emit_expression-returns-in_ok-emit_expression-in-Choice : goal.emit_expression-returns-in_ok-emit_expression-in-Choice
+emit_expression-returns-in_ok-emit_expression-in-Choice t c =
+    let p = c.in-Choice in
+    let d = c.deref-in-Choice.result.now in
+    let a = c.deref-in-Choice-2.result.now in
+    let b = c.deref-in-Choice-3.result.now in
+    let seen = seen_choice c.args.expr.now p.condition p.taken p.other d a b p.is c.deref-in-Choice.ensures c.deref-in-Choice-2.ensures c.deref-in-Choice-3.ensures in
+    IfOk-weaker c.emit_choice.result _ _ (λ u g. λ ts h s.
+    let o = tag_view ts c.args.tag in
+    let c2 = c.emit_choice.new.code in
+    seen_as ts o h c.args.code.now c2 (expr_view c.args.expr.now) (slots.choice (expr_view d) (expr_view a) (expr_view b)) seen
+    (puts_then ts c.args.code.now c.emit_expression-in-Choice.new.code c2 (expr_asm o (expr_view d) h) (choose (expr_asm o (expr_view a) h) (expr_asm o (expr_view b) h)) (c.in_ok-emit_expression-in-Choice.ensures ts h s) (g ts h s))) c.emit_choice.ensures
+
+pub emit_side-returns-in_ok-emit_expression : goal.emit_side-returns-in_ok-emit_expression
+emit_side-returns-in_ok-emit_expression t c = λ ts h s.
+    let o = tag_view ts c.args.tag in
+    let x = expr_view c.args.expr.now in
+    let c2 = c.emit_expression.new.code in
+    puts_as ts c.args.code.now c2 (side_asm o x c.args.wanted h) (side_asm o x true h) (ap (λ b. side_asm o x b h) c.if-wanted.true)
+    (puts_then ts c.args.code.now c.put.new.self c2 (one o op.Drop) (expr_asm o x h) (c.in_ok-put.ensures ts op.Drop refl) (c.in_ok-emit_expression.ensures ts h s))
+
+pub emit_instead-returns : goal.emit_instead-returns
+emit_instead-returns t c = λ ts h s.
+    let o = tag_view ts c.args.tag in
+    let side = λ (so : Bool). side_asm o (expr_view c.args.expr.now) so h in
+    let c1 = c.put.new.self in
+    let c5 = c.close.new.self in
+    puts_then ts c.args.code.now c1 c5 (one o op.Dup) (choose (side c.args.so) (side (not c.args.so))) (c.in_ok-put.ensures ts op.Dup refl)
+    (puts_choice ts c1 c.begin_choice.new.self c.emit_side.new.code c.end_branch.new.self c.emit_side-2.new.code c5 (side c.args.so) (side (not c.args.so)) c.in_ok-choice.choice c.in_ok-last.last c.in_ok-choice.ensures
+    (c.in_ok-emit_side.ensures ts h s) c.in_ok-last.ensures (c.in_ok-emit_side-2.ensures ts h s) c.close.ensures)
 
 pub emit_choice-returns : goal.emit_choice-returns
 emit_choice-returns t c = λ ts h s.
     let o = tag_view ts c.args.tag in
-    let d : Asm = expr_asm o (expr_view c.args.condition.now) h in
-    let a : Asm = expr_asm o (expr_view c.args.taken.now) h in
-    let b : Asm = expr_asm o (expr_view c.args.other.now) h in
-    let c0 = c.args.code.now in
-    let c1 = c.emit_expression.new.code in
-    let c6 = c.close.new.self in
-    puts_then ts c0 c1 c6 d (choose a b) (c.in_ok-emit_expression.ensures ts h s)
-    (puts_choice ts c1 c.begin_choice.new.self c.emit_expression-2.new.code c.end_branch.new.self c.emit_expression-3.new.code c6 a b c.in_ok-choice.choice c.in_ok-last.last c.in_ok-choice.ensures
-    (c.in_ok-emit_expression-2.ensures ts h s) c.in_ok-last.ensures (c.in_ok-emit_expression-3.ensures ts h s) c.close.ensures)
+    puts_choice ts c.args.code.now c.begin_choice.new.self c.emit_expression.new.code c.end_branch.new.self c.emit_expression-2.new.code c.close.new.self (expr_asm o (expr_view c.args.taken.now) h) (expr_asm o (expr_view c.args.other.now) h)
+    c.in_ok-choice.choice c.in_ok-last.last c.in_ok-choice.ensures (c.in_ok-emit_expression.ensures ts h s) c.in_ok-last.ensures (c.in_ok-emit_expression-2.ensures ts h s) c.close.ensures
 
 pub emit_expression-returns-in_ok-put-in-Invoke-3 : goal.emit_expression-returns-in_ok-put-in-Invoke-3
 emit_expression-returns-in_ok-put-in-Invoke-3 t c = λ ts h s.

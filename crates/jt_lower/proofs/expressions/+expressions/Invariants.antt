@@ -13,19 +13,19 @@ use Rattle.jt_lower.proofs.expressions.+expressions.Given as goal
 -- ---- how deep the expressions are that are left, and who hands its own on
 
 abbrev pub decreases-emit_expression : goal.decreases-emit_expression
-decreases-emit_expression l = 2 * size-SlotExpr l.expr.now
+decreases-emit_expression l = 3 * size-SlotExpr l.expr.now
 
 abbrev pub decreases-emit_row : goal.decreases-emit_row
-decreases-emit_row l = 2 * most (λ x. size-SlotExpr x.1) l.row.now + 1
-
-abbrev pub decreases-emit_conjunction : goal.decreases-emit_conjunction
-decreases-emit_conjunction l = 2 * max (size-SlotExpr l.left.now) (size-SlotExpr l.right.now) + 1
-
-abbrev pub decreases-emit_disjunction : goal.decreases-emit_disjunction
-decreases-emit_disjunction l = 2 * max (size-SlotExpr l.left.now) (size-SlotExpr l.right.now) + 1
+decreases-emit_row l = 3 * most (λ x. size-SlotExpr x.1) l.row.now + 1
 
 abbrev pub decreases-emit_choice : goal.decreases-emit_choice
-decreases-emit_choice l = 2 * max (size-SlotExpr l.condition.now) (max (size-SlotExpr l.taken.now) (size-SlotExpr l.other.now)) + 1
+decreases-emit_choice l = 3 * max (size-SlotExpr l.taken.now) (size-SlotExpr l.other.now) + 1
+
+abbrev pub decreases-emit_side : goal.decreases-emit_side
+decreases-emit_side l = 3 * size-SlotExpr l.expr.now + 1
+
+abbrev pub decreases-emit_instead : goal.decreases-emit_instead
+decreases-emit_instead l = 3 * size-SlotExpr l.expr.now + 2
 
 -- ---- of a row, what is left
 

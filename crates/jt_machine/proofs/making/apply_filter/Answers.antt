@@ -19,19 +19,15 @@ returns-in-Some-pay_values c =
     let is = filter_is c.args.id c.args.count c.args.flag c.in-Some.filter (config_view c.args.state.now) c.in-Some.ensures c.requires.ready.not_wrong in
     is.makes ∙ c.in-Some-pay_values.ensures.rest (filtered_by (Some c.in-Some.filter) (c.args.flag == 1))
 
-pub filtered-answer-requires-clause-has : goal.filtered-answer-requires-clause-has
-filtered-answer-requires-clause-has c =
+pub filtered-answer-requires : goal.filtered-answer-requires
+filtered-answer-requires c =
     let is = filter_is c.args.id c.args.count c.args.flag c.in-Some.filter (config_view c.args.state.now) c.in-Some.ensures c.requires.ready.not_wrong in
     let there = makes_of c.args.count (filtered_by (Some c.in-Some.filter) (c.args.flag == 1)) (config_view c.args.state.now) (λ w. c.requires.ready.not_wrong (is.makes ∙ w)) in
-    has_same c.args.count c.pay_values.new.state.stack.running c.args.state.now.stack.running (ap (λ (s : State). s.stack.running) c.in_default-pay_values.ensures.same) there
-
-pub filtered-answer-requires-clause-least : goal.filtered-answer-requires-clause-least
-filtered-answer-requires-clause-least c =
-    (filter_is c.args.id c.args.count c.args.flag c.in-Some.filter (config_view c.args.state.now) c.in-Some.ensures c.requires.ready.not_wrong).least
-
-pub filtered-answer-requires-clause-most : goal.filtered-answer-requires-clause-most
-filtered-answer-requires-clause-most c =
-    (filter_is c.args.id c.args.count c.args.flag c.in-Some.filter (config_view c.args.state.now) c.in-Some.ensures c.requires.ready.not_wrong).most
+    record {
+      has = has_same c.args.count c.pay_values.new.state.stack.running c.args.state.now.stack.running (ap (λ (s : State). s.stack.running) c.in_default-pay_values.ensures.same) there;
+      least = is.least;
+      most = is.most;
+    }
 
 pub push_answer-requires-clause-fits : goal.push_answer-requires-clause-fits
 push_answer-requires-clause-fits c =

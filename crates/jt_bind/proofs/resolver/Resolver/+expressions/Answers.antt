@@ -1,4 +1,4 @@
-use Rattle.std.proofs.Common.{◌≡◌, ℕ, ◌+◌, Bool, List, [], length, drop, refl, sym, ap, ◌∙◌, subst, arith, add-one, Option, Some, None, if◌then◌else◌, string_bytes}
+use Rattle.std.proofs.Common.{◌≡◌, ℕ, ◌+◌, Bool, false, List, [], length, drop, refl, sym, ap, ◌∙◌, subst, arith, add-one, Option, Some, None, if◌then◌else◌}
 use Rattle.std.specs.Prelude.{option_map}
 use Rattle.std.proofs.lemmas.List.{at_drop_all}
 use Rattle.std.proofs.lemmas.Result.{IfOk-weaker}
@@ -7,7 +7,7 @@ use Rattle.jt_ids.specs.declared.op_id.OpId.{OpId}
 use Rattle.jt_ids.specs.declared.op_id.OpId.TheVariants as op
 use Rattle.jt_ids.specs.declared.test_id.TestId.{TestId}
 use Rattle.jt_trees.specs.Expressions as trees
-use Rattle.jt_trees.specs.ExpressionView.{expr_view, exprs_view, pairs_view}
+use Rattle.jt_trees.specs.ExpressionView.{is_negated, expr_view, exprs_view, pairs_view}
 use Rattle.jt_trees.specs.declared.expression.Expr.{Expr}
 use Rattle.jt_ids.specs.FilterTable.{filter_id}
 use Rattle.jt_trees.specs.StatementView.{parameters_view}
@@ -15,7 +15,7 @@ use Rattle.jt_chains.specs.Chain as chain
 use Rattle.jt_chains.specs.Chain.{a_macro, a_range, a_super, a_block, a_cycle, no_callee}
 use Rattle.jt_chains.specs.Uses.{count, keywords}
 use Rattle.jt_meaning.specs.Operators.{Form, range_of}
-use Rattle.jt_meaning.specs.Resolve.{operation_of, in_form, field_from, filled, filled_some, tested_by, locals_from, invoked}
+use Rattle.jt_meaning.specs.Resolve.{operation_of, turned_round, in_form, field_from, filled, filled_some, tested_by, locals_from, invoked}
 use Rattle.jt_meaning.specs.Expressions.{filter_parameters}
 use Rattle.jt_evaluation.specs.Loops.{field_named}
 use Rattle.jt_resolved.specs.Pool.{Constant, own}
@@ -108,6 +108,13 @@ pub resolve_item-returns : goal.resolve_item-returns
 resolve_item-returns t c =
     IfOk-weaker c.on_two.result _ _ (λ e h. h _ _ _ _ _ c.in_ok-whole.ensures c.in_ok-place.ensures) c.on_two.ensures
 
+pub resolve_unary-returns : goal.resolve_unary-returns
+resolve_unary-returns t c =
+    let a = expr_in c.args.self.now.tables.now (expr_view c.args.operand.now) c.args.self.now.spot in
+    IfOk-weaker c.on_one.result _ _ (λ e h.
+    let P : OpId → Type 0 = λ o. IsPlaced (slots.made (slots.operator o) (slots.item a slots.none)) (coded e) (values c.args.pool.now) (values c.resolve_expression.new.pool) in
+    subst P c.unary_operation.ensures (h _ _ _ c.in_ok-value.ensures)) c.on_one.ensures
+
 pub resolve_binary-returns : goal.resolve_binary-returns
 resolve_binary-returns t c =
     let a = expr_in c.args.self.now.tables.now (expr_view c.args.left.now) c.args.self.now.spot in
@@ -151,23 +158,21 @@ resolve_expression-returns-in-Filter t c =
     (ap (λ x. trees.filter (expr_view a) x (exprs_view us) (pairs_view qs)) c.deref-in-Filter-2.ensures
     ∙ shown_filter c.args.expr.now a c.in-Filter.name us qs c.in-Filter.value c.in-Filter.row c.in-Filter.pairs c.in-Filter.is c.deref-in-Filter.ensures c.deref-in-Filter-3.ensures.value c.deref-in-Filter-4.ensures.value) h) c.resolve_filter.ensures
 
-pub resolve_expression-returns-in_ok-test-in-Test : goal.resolve_expression-returns-in_ok-test-in-Test
-resolve_expression-returns-in_ok-test-in-Test t c =
+pub resolve_expression-returns-in-Test : goal.resolve_expression-returns-in-Test
+resolve_expression-returns-in-Test t c =
     let a = c.deref-in-Test.result.now in
     let us = c.deref-in-Test-3.result.now in
-    let qs = c.in-Test.keywords.items in
-    IfOk-weaker c.turned.result _ _ (λ e h. same_tree c.args.self.now.tables.now c.args.self.now.spot _ _ (coded e) _ _
-    (ap (λ x. trees.test (expr_view a) c.is_negated.result x (exprs_view us) (pairs_view qs)) c.deref-in-Test-2.ensures
-    ∙ ap (λ n. trees.test (expr_view a) n (string_bytes c.in-Test.name) (exprs_view us) (pairs_view qs)) c.is_negated.ensures
-    ∙ shown_test c.args.expr.now a c.in-Test.polarity c.in-Test.name us qs c.in-Test.value c.in-Test.row c.in-Test.keywords c.in-Test.is c.deref-in-Test.ensures c.deref-in-Test-3.ensures.value refl) (h _ _ _ (c.in_ok-test-in-Test.ensures (pairs_view qs)))) c.turned.ensures
+    let v = c.in-Test in
+    let qs = pairs_view v.keywords.items in
+    IfOk-weaker c.resolve_test.result _ _ (λ e h. same_tree c.args.self.now.tables.now c.args.self.now.spot _ _ (coded e) _ _
+    (ap (λ x. trees.test (expr_view a) (is_negated v.polarity) x (exprs_view us) qs) c.deref-in-Test-2.ensures
+    ∙ shown_test c.args.expr.now a v.polarity v.name us v.keywords.items v.value v.row v.keywords v.is c.deref-in-Test.ensures c.deref-in-Test-3.ensures.value refl) (h qs)) c.resolve_test.ensures
 
-pub resolve_expression-returns-in_ok-value-in-Unary : goal.resolve_expression-returns-in_ok-value-in-Unary
-resolve_expression-returns-in_ok-value-in-Unary t c =
+pub resolve_expression-returns-in-Unary : goal.resolve_expression-returns-in-Unary
+resolve_expression-returns-in-Unary t c =
     let a = c.deref-in-Unary.result.now in
-    IfOk-weaker c.on_one.result _ _ (λ e h. same_tree c.args.self.now.tables.now c.args.self.now.spot _ _ (coded e) _ _
-    (shown_unary c.args.expr.now a c.in-Unary.operator c.in-Unary.operand c.in-Unary.is c.deref-in-Unary.ensures)
-    (let P : OpId → Type 0 = λ o. IsPlaced (slots.made (slots.operator o) (slots.item (expr_in c.args.self.now.tables.now (expr_view a) c.args.self.now.spot) slots.none)) (coded e) (values c.args.pool.now) (values c.resolve_expression-in-Unary.new.pool) in
-    subst P c.unary_operation.ensures (h _ _ _ c.in_ok-value-in-Unary.ensures))) c.on_one.ensures
+    IfOk-weaker c.resolve_unary.result _ _ (λ e h. same_tree c.args.self.now.tables.now c.args.self.now.spot _ _ (coded e) _ _
+    (shown_unary c.args.expr.now a c.in-Unary.operator c.in-Unary.operand c.in-Unary.is c.deref-in-Unary.ensures) h) c.resolve_unary.ensures
 
 pub resolve_expression-returns-in-Binary : goal.resolve_expression-returns-in-Binary
 resolve_expression-returns-in-Binary t c =
@@ -193,8 +198,15 @@ resolve_expression-returns-in-Choice t c =
 
 -- ---- tests and filters
 
-pub resolve_test-returns-in_ok-resolve_row-in-Some : goal.resolve_test-returns-in_ok-resolve_row-in-Some
-resolve_test-returns-in_ok-resolve_row-in-Some t c = λ ps.
+pub resolve_test-returns : goal.resolve_test-returns
+resolve_test-returns t c =
+    let a = expr_in c.args.self.now.tables.now (trees.test (expr_view c.args.value.now) false c.args.name.now (exprs_view c.args.row.now) trees.no_pairs) c.args.self.now.spot in
+    IfOk-weaker c.turned.result _ _ (λ e h ps.
+    let P : Bool → Type 0 = λ n. IsPlaced (turned_round n a) (coded e) (values c.args.pool.now) (values c.resolve_plain_test.new.pool) in
+    subst P c.is_negated.ensures (h a _ _ (c.in_ok-test.ensures ps))) c.turned.ensures
+
+pub resolve_plain_test-returns-in_ok-resolve_row-in-Some : goal.resolve_plain_test-returns-in_ok-resolve_row-in-Some
+resolve_plain_test-returns-in_ok-resolve_row-in-Some t c = λ ps.
     let s = c.args.self.now.tables.now in
     let spot = c.args.self.now.spot in
     let a = expr_in s (expr_view c.args.value.now) spot in
@@ -211,8 +223,8 @@ resolve_test-returns-in_ok-resolve_row-in-Some t c = λ ps.
     (row_item a es c.in_ok-first-in-Some.first [] given.items p q c.in_ok-first-in-Some.ensures c.in_ok-operands-in-Some.ensures) (c.in_ok-resolve_row-in-Some.ensures slots.none))
     (view_Made (m.Test c.in-Some.test) done))
 
-pub resolve_test-returns-in-None : goal.resolve_test-returns-in-None
-resolve_test-returns-in-None t c = λ ps.
+pub resolve_plain_test-returns-in-None : goal.resolve_plain_test-returns-in-None
+resolve_plain_test-returns-in-None t c = λ ps.
     let s = c.args.self.now.tables.now in
     let spot = c.args.self.now.spot in
     let whole = slots.item (expr_in s (expr_view c.args.value.now) spot) (row_in s (exprs_view c.args.row.now) spot slots.none) in

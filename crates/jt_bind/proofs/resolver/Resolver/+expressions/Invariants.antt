@@ -46,8 +46,14 @@ decreases-resolve_when l = 6 * max (size-Expr l.condition.now) (size-Expr l.valu
 abbrev pub decreases-resolve_choice : goal.decreases-resolve_choice
 decreases-resolve_choice l = 6 * max (size-Expr l.condition.now) (max (size-Expr l.value.now) (size-Expr l.other.now)) + 1
 
+abbrev pub decreases-resolve_unary : goal.decreases-resolve_unary
+decreases-resolve_unary l = 6 * size-Expr l.operand.now + 1
+
 abbrev pub decreases-resolve_test : goal.decreases-resolve_test
-decreases-resolve_test l = 6 * max (size-Expr l.value.now) (most (λ x. size-Expr x) l.row.now) + 2
+decreases-resolve_test l = 6 * max (size-Expr l.value.now) (most (λ x. size-Expr x) l.row.now) + 3
+
+abbrev pub decreases-resolve_plain_test : goal.decreases-resolve_plain_test
+decreases-resolve_plain_test l = 6 * max (size-Expr l.value.now) (most (λ x. size-Expr x) l.row.now) + 2
 
 abbrev pub decreases-resolve_filter : goal.decreases-resolve_filter
 decreases-resolve_filter l = 6 * max (size-Expr l.value.now) (max (most (λ x. size-Expr x) l.arguments.row.now) (most (λ x. size-Expr x.1) l.arguments.pairs.now)) + 4

@@ -1,24 +1,19 @@
-use Rattle.std.proofs.Common.{◌+◌, List, drop, sym, ap, ◌∙◌, arith}
-use Rattle.std.specs.Prelude.{string_bytes}
+use Rattle.std.proofs.Common.{◌+◌, List, drop, refl, sym, ap, ◌∙◌, arith}
 use Rattle.std.proofs.lemmas.List.{at_drop_all}
 use Rattle.std.proofs.lemmas.Result.{IfOk-weaker}
 use Rattle.jt_trees.specs.ExpressionView.{expr_view, pairs_view}
 use Rattle.jt_trees.specs.Statements as trees
-use Rattle.jt_trees.specs.StatementView.{is_ignored, names_view, filterings_view, stmt_view, body_view, branches_view}
+use Rattle.jt_trees.specs.StatementView.{is_ignored, are_seen, names_view, filterings_view, stmt_view, body_view, branches_view}
 use Rattle.jt_trees.specs.declared.statement.Stmt.{Stmt}
 use Rattle.jt_resolved.specs.Slots as slots
 use Rattle.jt_meaning.specs.Resolve.{followed, alone, bound_all, resolved_filters}
-use Rattle.jt_chains.specs.Uses.{keywords}
-use Rattle.jt_chains.specs.View.{chain_view}
 use Rattle.jt_names.specs.Names.{texts}
 use Rattle.jt_bind.specs.Scoped.{values, world_in, order_in, expr_in, spot_in, templates_in}
 use Rattle.jt_bind.specs.Stated.{line_in, stmt_in, body_in, choice_in, scoped_in, values_in}
-use Rattle.jt_bind.proofs.LeadingBodies.{lead_both, lead_of, lead_left, lead_same, led_of, led_both, led_begun, followed_again, choice_same, choice_other, branch_as, branch_led}
-use Rattle.jt_bind.proofs.Placed.{place_shown}
+use Rattle.jt_bind.proofs.LeadingBodies.{lead_both, lead_of, lead_left, lead_same, led_of, led_both, led_begun, followed_again, choice_same, choice_other, branch_led}
 use Rattle.jt_trees.proofs.Left.{Branch, statements_left, branches_left}
-use Rattle.jt_trees.proofs.StatementViews.{view_Data, view_Print, view_Set, view_SetBlock, view_With, view_Autoescape, view_FilterBlock, view_Macro, view_Include, view_Import, view_From, view_Extends, view_Block}
-use Rattle.jt_bind.proofs.Smaller.{branch_smaller, other_smaller, turn_smaller, last_smaller, text_smaller, with_smaller, filtered_smaller, autoescape_smaller}
-use Rattle.jt_bind.proofs.Stating.{stmt_as, filter_shown, if_shown, loop_shown, values_led, copies_as, scope_led, scoped_as, turn_as}
+use Rattle.jt_trees.proofs.StatementViews.{shown_if, shown_for, shown_set_block, shown_with, shown_filters, view_Data, view_Print, view_Set, view_Autoescape, view_Macro, view_Include, view_Import, view_From, view_Extends, view_Block}
+use Rattle.jt_bind.proofs.Stating.{stmt_as, set_as, filter_shown, values_led, copies_as, scope_led, scoped_as, turns_as}
 use Rattle.jt_bind.proofs.resolver.Resolver.+statements.Goals as goal
 
 -- ---- bodies
@@ -56,33 +51,86 @@ resolve_inside-returns t c =
 pub resolve_scoped-returns : goal.resolve_scoped-returns
 resolve_scoped-returns t c =
     let scope = c.args.self.now.tables.now in
-    let spot = c.args.self.now.spot in
     let b = body_view c.args.body.now in
-    let sp = spot_in scope spot in
+    let sp = spot_in scope c.args.self.now.spot in
     let same = ap texts c.deref.ensures.value ∙ c.in_ok-names.ensures in
-    IfOk-weaker c.resolve_body.result _ _ (λ u h. scope_led scope b sp (record spot { name_scopes = c.deref-2.result; free = c.in_ok-inner.inner.free }) _ _ _ _ _ (c.in_ok-inner.ensures scope c.deref-2.result c.deref-2.ensures.value ∙ ap (λ xs. bound_all xs sp) c.in_ok-names.ensures)
+    IfOk-weaker c.resolve_body.result _ _ (λ u h. scope_led scope b sp c.inside.result _ _ _ _ _ (c.inside.ensures _ scope c.in_ok-inner.ensures ∙ ap (λ xs. bound_all xs sp) c.in_ok-names.ensures)
     (copies_as scope sp (texts c.deref.result.now) b _ _ _ same (λ behind. c.in_ok-put_copies.ensures behind (values c.args.pool.now))) h) c.resolve_body.ensures
 
 pub resolve_within-returns : goal.resolve_within-returns
 resolve_within-returns t c =
     let scope = c.args.self.now.tables.now in
-    IfOk-weaker c.resolve_scoped.result _ _ (λ u h. scoped_as scope (body_view c.args.body.now) _ _ _ _ _ _ (c.in_ok-inner.ensures scope c.deref.result c.deref.ensures.value) h) c.resolve_scoped.ensures
-
-pub resolve_turn-returns : goal.resolve_turn-returns
-resolve_turn-returns t c =
-    let scope = c.args.self.now.tables.now in
-    let sp = spot_in scope c.args.self.now.spot in
-    turn_as scope (body_view c.args.body.now) _ _ _ _ _ _ _ _ (c.in_ok-inner.ensures scope c.deref.result c.deref.ensures.value ∙ ap (λ xs. bound_all xs sp) c.in_ok-texts_of.ensures) c.in_ok-asked.ensures c.in_ok-turn.ensures
+    IfOk-weaker c.resolve_scoped.result _ _ (λ u h. scoped_as scope (body_view c.args.body.now) _ _ _ _ _ _ (c.inside.ensures _ scope c.in_ok-inner.ensures) h) c.resolve_scoped.ensures
 
 -- ---- parts of statements
 
 pub resolve_branch-returns : goal.resolve_branch-returns
-resolve_branch-returns t c = record {
-  between = values c.resolve_expression.new.pool;
-  stands = place_shown (chain_view c.args.self.now.tables.now.chain.now).templates c.args.self.now.spot.template c.args.line;
-  asked = c.in_ok-asked.ensures;
-  taken = c.in_ok-taken.ensures;
-}
+resolve_branch-returns t c =
+    let scope = c.args.self.now.tables.now in
+    record {
+      between = values c.resolve_expression.new.pool;
+      stands = c.place.ensures scope;
+      asked = c.in_ok-asked.ensures;
+      taken = led_of (templates_in scope) _ _ _ _ _ _ (ap (λ z. body_in scope (body_view z) c.args.self.now.spot) c.deref.ensures.value) c.in_ok-taken.ensures;
+    }
+
+pub resolve_branches-loop-branch-init : goal.resolve_branches-loop-branch-init
+resolve_branches-loop-branch-init t c = λ other. choice_same (templates_in c.args.self.now.tables.now) _ _ _ c.in_ok-made.ensures.items
+
+pub resolve_branches-loop-branch-preserved : goal.resolve_branches-loop-branch-preserved
+resolve_branches-loop-branch-preserved t c = λ other.
+    let l = c.loop-branch in
+    let scope = c.args.self.now.tables.now in
+    let spot = c.args.self.now.spot in
+    let bs = c.args.branches.now in
+    let x = c.branch-item.result in
+    let T = templates_in scope in
+    let rest = choice_in scope (branches_view (drop (l.branch-index + 1) bs)) spot other in
+    let here = choice_other T _ _ _ _ _ _ (ap (λ b. choice_in scope b spot other) (branches_left bs l.branch-index x c.loop-branch-test.true c.branch-item.is)) (l.invariant other) in
+    branch_led T _ rest (body_in scope (body_view x.body.items) spot) (line_in scope spot x.line) (expr_in scope (expr_view x.condition) spot) _ _ _ _ _ _ here c.in_ok-resolve_branch.ensures c.in_ok-push.ensures.items
+
+pub resolve_branches-returns : goal.resolve_branches-returns
+resolve_branches-returns t c =
+    let l = c.loop-branch in
+    let scope = c.args.self.now.tables.now in
+    let spot = c.args.self.now.spot in
+    let bs = c.args.branches.now in
+    let T = templates_in scope in
+    let last = body_in scope (body_view c.args.other.now) spot in
+    IfOk-weaker c.put_choice.result _ _ (λ u h.
+    h T _ _ _ _ _ (choice_other T _ _ _ _ _ _ (at_drop_all (λ (z : List Branch). choice_in scope (branches_view z) spot last) bs l.branch-index (omega arith)) (l.invariant last)) c.in_ok-last.ensures) c.put_choice.ensures
+
+pub resolve_turns-returns : goal.resolve_turns-returns
+resolve_turns-returns t c =
+    let scope = c.args.self.now.tables.now in
+    let sp = spot_in scope c.args.self.now.spot in
+    turns_as scope (body_view c.args.body.now) _ _ _ _ _ _ _ _ _ _ (c.inside.ensures _ scope c.in_ok-inner.ensures ∙ ap (λ xs. bound_all xs sp) c.in_ok-texts_of.ensures)
+    c.in_ok-fresh_targets.ensures c.in_ok-items.ensures c.in_ok-asked.ensures c.in_ok-turn.ensures
+
+pub resolve_with-returns : goal.resolve_with-returns
+resolve_with-returns t c =
+    let scope = c.args.self.now.tables.now in
+    let spot = c.args.self.now.spot in
+    let qs = pairs_view c.args.pairs.now in
+    let b = body_view c.args.body.now in
+    IfOk-weaker c.resolve_within.result _ _ (λ u h.
+    led_of (templates_in scope) _ _ _ _ _ _ (ap (λ w. values_in scope qs spot c.args.line (scoped_in scope b (bound_all w (spot_in scope spot)))) c.in_ok-keywords_of.ensures)
+    (values_led scope spot qs c.args.line _ _ _ _ _ _ _ c.in_ok-resolve_values.ensures h)) c.resolve_within.ensures
+
+pub resolve_filter_block-returns : goal.resolve_filter_block-returns
+resolve_filter_block-returns t c =
+    let scope = c.args.self.now.tables.now in
+    let spot = c.args.self.now.spot in
+    let T = templates_in scope in
+    let line = c.args.line in
+    let fs = filterings_view c.args.filters.now in
+    let b = body_view c.args.body.now in
+    let free = c.in_ok-inside.field-0 in
+    let inside = spot_in scope (record spot { free = free }) in
+    let first = alone (slots.capture spot.escaping (slots.local spot.free) (scoped_in scope b inside)) in
+    let second = alone (slots.print (line_in scope spot line) spot.escaping (resolved_filters (world_in scope) (order_in scope) fs inside (slots.variable (slots.local spot.free)))) in
+    IfOk-weaker c.put_print.result _ _ (λ u h. led_of T (followed first second) _ _ _ _ _ (filter_shown scope spot line fs b free c.in_ok-inside.ensures)
+    (led_both T first second _ _ _ _ _ _ c.in_ok-resolve_text.ensures (h scope _ _ _ c.in_ok-shown.ensures))) c.put_print.ensures
 
 pub resolve_text-returns : goal.resolve_text-returns
 resolve_text-returns t c =
@@ -104,99 +152,30 @@ pub resolve_statement-returns-in-Print : goal.resolve_statement-returns-in-Print
 resolve_statement-returns-in-Print t c =
     IfOk-weaker c.resolve_print.result _ _ (λ u h. stmt_as c.args.self.now.tables.now c.args.self.now.spot _ _ _ _ _ _ (sym (ap stmt_view c.in-Print.is ∙ view_Print c.in-Print.line c.in-Print.value)) h) c.resolve_print.ensures
 
-pub resolve_statement-loop-line-init : goal.resolve_statement-loop-line-init
-resolve_statement-loop-line-init t c = λ other. choice_same (templates_in c.args.self.now.tables.now) _ _ _ c.in_ok-made-in-If.ensures.items
+pub resolve_statement-returns-in-If : goal.resolve_statement-returns-in-If
+resolve_statement-returns-in-If t c =
+    IfOk-weaker c.resolve_branches.result _ _ (λ u h. stmt_as c.args.self.now.tables.now c.args.self.now.spot _ _ _ _ _ _
+    (shown_if c.args.statement.now c.in-If.branches c.in-If.other c.deref-in-If.result.now c.deref-in-If-2.result.now c.in-If.is c.deref-in-If.ensures.value c.deref-in-If-2.ensures.value) h) c.resolve_branches.ensures
 
-pub resolve_statement-loop-line-preserved : goal.resolve_statement-loop-line-preserved
-resolve_statement-loop-line-preserved t c = λ other.
-    let l = c.loop-line in
+pub resolve_statement-returns-in_ok-last-in-For : goal.resolve_statement-returns-in_ok-last-in-For
+resolve_statement-returns-in_ok-last-in-For t c =
     let scope = c.args.self.now.tables.now in
-    let spot = c.args.self.now.spot in
-    let bs = c.deref-line-items.result.now in
-    let x = c.loop-line-item.result in
-    let T = templates_in scope in
-    let rest = choice_in scope (branches_view (drop (l.line-index + 1) bs)) spot other in
-    let here = choice_other T _ _ _ _ _ _ (ap (λ b. choice_in scope b spot other) (branches_left bs l.line-index x c.loop-line-test.true c.loop-line-item.is)) (l.invariant other) in
-    branch_led T _ rest (body_in scope (body_view x.body.items) spot) (line_in scope spot x.line) (expr_in scope (expr_view x.condition) spot) _ _ _ _ _ _ here
-    (branch_as T _ _ _ _ _ _ _ (ap (λ z. body_in scope (body_view z) spot) c.deref-in-loop-line.ensures.value) c.in_ok-resolve_branch-in-If.ensures) c.in_ok-push-in-If.ensures.items
+    let v = c.in-For in
+    IfOk-weaker c.put_loop.result _ _ (λ u h. stmt_as scope c.args.self.now.spot _ _ _ _ _ _
+    (shown_for c.args.statement.now v.line v.targets v.over v.condition v.body v.other c.deref-in-For-2.result.now c.deref-in-For.result.now c.deref-in-For-3.result.now v.is c.deref-in-For-2.ensures.value c.deref-in-For.ensures.value c.deref-in-For-3.ensures.value)
+    (h scope _ _ _ _ _ _ _ _ c.in_ok-turns-in-For.ensures c.in_ok-last-in-For.ensures)) c.put_loop.ensures
 
-pub resolve_statement-returns-in_ok-last-in-If : goal.resolve_statement-returns-in_ok-last-in-If
-resolve_statement-returns-in_ok-last-in-If t c =
-    let l = c.loop-line in
-    let scope = c.args.self.now.tables.now in
-    let spot = c.args.self.now.spot in
-    let bs = c.deref-line-items.result.now in
-    let us = c.deref-in-If.result.now in
-    let T = templates_in scope in
-    let last = body_in scope (body_view us) spot in
-    IfOk-weaker c.put_choice.result _ _ (λ u h. led_of T _ _ _ _ _ _ (if_shown scope spot c.args.statement.now c.in-If.branches c.in-If.other bs us c.in-If.is c.deref-line-items.ensures.value c.deref-in-If.ensures.value)
-    (h T _ _ _ _ _ (choice_other T _ _ _ _ _ _ (at_drop_all (λ (z : List Branch). choice_in scope (branches_view z) spot last) bs l.line-index (omega arith)) (l.invariant last)) c.in_ok-last-in-If.ensures)) c.put_choice.ensures
-
-pub resolve_statement-returns-in_ok-fresh_targets-in-For : goal.resolve_statement-returns-in_ok-fresh_targets-in-For
-resolve_statement-returns-in_ok-fresh_targets-in-For t c =
-    let scope = c.args.self.now.tables.now in
-    let T = templates_in scope in
-    let turn = c.in_ok-turn-in-For.ensures in
-    IfOk-weaker c.put_loop.result _ _ (λ u h. led_of T _ _ _ _ _ _
-    (loop_shown scope c.args.self.now.spot c.args.statement.now c.in-For.line c.in-For.names c.in-For.value c.in-For.condition c.in-For.body c.in-For.other c.deref-in-For-2.result.now c.deref-in-For-4.result.now c.deref-in-For.result.now c.deref-in-For-3.result.now _
-    c.in-For.is c.deref-in-For-2.ensures.value c.deref-in-For-4.ensures.value c.deref-in-For.ensures.value c.deref-in-For-3.ensures.value c.in_ok-fresh_targets-in-For.ensures)
-    (h scope _ _ _ _ _ _ _ _ _ c.in_ok-items-in-For.ensures turn.asked turn.taken c.in_ok-last-in-For.ensures)) c.put_loop.ensures
-
-pub resolve_statement-returns-in_ok-targets-in-Set : goal.resolve_statement-returns-in_ok-targets-in-Set
-resolve_statement-returns-in_ok-targets-in-Set t c =
-    let scope = c.args.self.now.tables.now in
-    let spot = c.args.self.now.spot in
-    let v = c.in-Set in
-    let ks = c.deref-in-Set.result.now in
-    let given = expr_in scope (expr_view v.value) spot in
-    IfOk-weaker c.put_assign.result _ _ (λ u h. stmt_as scope spot (trees.set v.line (names_view ks) (expr_view v.value)) (stmt_view c.args.statement.now) _ _ _ _
-    (ap (λ z. trees.set v.line (names_view z) (expr_view v.value)) c.deref-in-Set.ensures.value ∙ sym (ap stmt_view v.is ∙ view_Set v.line v.names v.value))
-    (led_of (templates_in scope) _ _ _ _ _ _ (ap (λ z. alone (slots.assign (line_in scope spot v.line) z given)) c.in_ok-targets-in-Set.ensures) (h scope _ _ _ c.in_ok-given-in-Set.ensures))) c.put_assign.ensures
-
-pub resolve_statement-returns-in-SetBlock : goal.resolve_statement-returns-in-SetBlock
-resolve_statement-returns-in-SetBlock t c =
-    let scope = c.args.self.now.tables.now in
-    let spot = c.args.self.now.spot in
-    let v = c.in-SetBlock in
-    let us = c.deref-in-SetBlock.result.now in
-    let name = c.deref-in-SetBlock-2.result.now in
-    IfOk-weaker c.resolve_text.result _ _ (λ u h. stmt_as scope spot (trees.set_block v.line name (body_view us)) (stmt_view c.args.statement.now) _ _ _ _
-    (ap (λ z. trees.set_block v.line z (body_view us)) c.deref-in-SetBlock-2.ensures ∙ ap (λ z. trees.set_block v.line (string_bytes v.name) (body_view z)) c.deref-in-SetBlock.ensures.value
-    ∙ sym (ap stmt_view v.is ∙ view_SetBlock v.line v.name v.body))
-    (led_of (templates_in scope) _ _ _ _ _ _ (ap (λ z. alone (slots.capture spot.escaping z (scoped_in scope (body_view us) (spot_in scope spot)))) c.set_slot.ensures) h)) c.resolve_text.ensures
-
-pub resolve_statement-returns-in_ok-keywords_of-in-With : goal.resolve_statement-returns-in_ok-keywords_of-in-With
-resolve_statement-returns-in_ok-keywords_of-in-With t c =
-    let scope = c.args.self.now.tables.now in
-    let spot = c.args.self.now.spot in
+pub resolve_statement-returns-in-With : goal.resolve_statement-returns-in-With
+resolve_statement-returns-in-With t c =
     let v = c.in-With in
-    let us = c.deref-in-With-2.result.now in
-    let qs = c.deref-in-With.result.now in
-    let b = body_view us in
-    IfOk-weaker c.resolve_within.result _ _ (λ u h. stmt_as scope spot (trees.with_values v.line (pairs_view qs) b) (stmt_view c.args.statement.now) _ _ _ _
-    (ap (λ z. trees.with_values v.line (pairs_view z) b) c.deref-in-With.ensures.value ∙ ap (λ z. trees.with_values v.line (pairs_view v.pairs.items) (body_view z)) c.deref-in-With-2.ensures.value
-    ∙ sym (ap stmt_view v.is ∙ view_With v.line v.pairs v.body))
-    (led_of (templates_in scope) _ _ _ _ _ _ (ap (λ w. values_in scope (pairs_view qs) spot v.line (scoped_in scope b (bound_all w (spot_in scope spot)))) (c.in_ok-keywords_of-in-With.ensures ∙ ap (λ z. keywords (pairs_view z)) (c.deref-in-With-3.ensures.value ∙ sym c.deref-in-With.ensures.value)))
-    (values_led scope spot (pairs_view qs) v.line _ _ _ _ _ _ _ c.in_ok-resolve_values-in-With.ensures h))) c.resolve_within.ensures
+    IfOk-weaker c.resolve_with.result _ _ (λ u h. stmt_as c.args.self.now.tables.now c.args.self.now.spot _ _ _ _ _ _
+    (shown_with c.args.statement.now v.line v.values v.body c.deref-in-With-2.result.now c.deref-in-With.result.now v.is c.deref-in-With-2.ensures.value c.deref-in-With.ensures.value) h) c.resolve_with.ensures
 
-pub resolve_statement-returns-in_ok-shown-in-FilterBlock : goal.resolve_statement-returns-in_ok-shown-in-FilterBlock
-resolve_statement-returns-in_ok-shown-in-FilterBlock t c =
-    let scope = c.args.self.now.tables.now in
-    let spot = c.args.self.now.spot in
-    let T = templates_in scope in
+pub resolve_statement-returns-in-FilterBlock : goal.resolve_statement-returns-in-FilterBlock
+resolve_statement-returns-in-FilterBlock t c =
     let v = c.in-FilterBlock in
-    let us = c.deref-in-FilterBlock.result.now in
-    let fs = filterings_view c.deref-in-FilterBlock-2.result.now in
-    let b = body_view us in
-    let free = c.in_ok-inside-in-FilterBlock.field-0 in
-    let inside = spot_in scope (record spot { free = free }) in
-    let first = alone (slots.capture spot.escaping (slots.local spot.free) (scoped_in scope b inside)) in
-    let second = alone (slots.print (line_in scope spot v.line) spot.escaping (resolved_filters (world_in scope) (order_in scope) fs inside (slots.variable (slots.local spot.free)))) in
-    IfOk-weaker c.put_print.result _ _ (λ u h. stmt_as scope spot (trees.filter_block v.line fs b) (stmt_view c.args.statement.now) _ _ _ _
-    (ap (λ z. trees.filter_block v.line (filterings_view z) b) c.deref-in-FilterBlock-2.ensures.value ∙ ap (λ z. trees.filter_block v.line (filterings_view v.filterings.items) (body_view z)) c.deref-in-FilterBlock.ensures.value
-    ∙ sym (ap stmt_view v.is ∙ view_FilterBlock v.line v.filterings v.body))
-    (led_of T (followed first second) _ _ _ _ _ (filter_shown scope spot v.line fs b free c.in_ok-inside-in-FilterBlock.ensures)
-    (led_both T first second _ _ _ _ _ _ c.in_ok-resolve_text-in-FilterBlock.ensures (h scope _ _ _ c.in_ok-shown-in-FilterBlock.ensures)))) c.put_print.ensures
+    IfOk-weaker c.resolve_filter_block.result _ _ (λ u h. stmt_as c.args.self.now.tables.now c.args.self.now.spot _ _ _ _ _ _
+    (shown_filters c.args.statement.now v.line v.filters v.body c.deref-in-FilterBlock-2.result.now c.deref-in-FilterBlock.result.now v.is c.deref-in-FilterBlock-2.ensures.value c.deref-in-FilterBlock.ensures.value) h) c.resolve_filter_block.ensures
 
 pub resolve_statement-returns-in-Autoescape : goal.resolve_statement-returns-in-Autoescape
 resolve_statement-returns-in-Autoescape t c =
@@ -226,11 +205,9 @@ resolve_statement-returns-in-Extends t c = λ left.
 
 pub resolve_statement-returns-in-Include : goal.resolve_statement-returns-in-Include
 resolve_statement-returns-in-Include t c =
+    let v = c.in-Include in
     IfOk-weaker c.put_include.result _ _ (λ u h. stmt_as c.args.self.now.tables.now c.args.self.now.spot _ _ _ _ _ _
-    (ap (λ z. trees.include c.in-Include.line z c.is_ignored.result c.are_seen.result) c.deref-in-Include.ensures
-    ∙ ap (λ b. trees.include c.in-Include.line (string_bytes c.in-Include.name) b c.are_seen.result) c.is_ignored.ensures
-    ∙ ap (trees.include c.in-Include.line (string_bytes c.in-Include.name) (is_ignored c.in-Include.missing)) c.are_seen.ensures
-    ∙ sym (ap stmt_view c.in-Include.is ∙ view_Include c.in-Include.line c.in-Include.name c.in-Include.missing c.in-Include.names))
+    (ap (λ z. trees.include v.line z (is_ignored v.missing) (are_seen v.names)) c.deref-in-Include.ensures ∙ sym (ap stmt_view v.is ∙ view_Include v.line v.name v.missing v.names))
     (h (values c.args.pool.now))) c.put_include.ensures
 
 pub resolve_statement-returns-in-Block : goal.resolve_statement-returns-in-Block
@@ -240,44 +217,26 @@ resolve_statement-returns-in-Block t c =
     ∙ sym (ap stmt_view c.in-Block.is ∙ view_Block c.in-Block.line c.in-Block.name c.in-Block.scoped c.in-Block.required c.in-Block.body))
     (h c.in-Block.line c.in-Block.required (body_view c.in-Block.body.items) (values c.args.pool.now))) c.put_block.ensures
 
--- ---- each part is smaller
+-- ---- statements that set names
 
-pub resolve_statement-resolve_branch-requires : goal.resolve_statement-resolve_branch-requires
-resolve_statement-resolve_branch-requires t c =
-    let less = branch_smaller c.args.statement.now c.in-If.branches c.in-If.other c.deref-line-items.result.now c.loop-line.line-index c.loop-line-item.result c.deref-in-loop-line.result.now c.in-If.is c.deref-line-items.ensures.value c.loop-line-test.true c.loop-line-item.is c.deref-in-loop-line.ensures.value in
-    (omega (arith, less), tt)
+pub resolve_if_set-returns-in_ok-targets-in-Set : goal.resolve_if_set-returns-in_ok-targets-in-Set
+resolve_if_set-returns-in_ok-targets-in-Set t c =
+    let scope = c.args.self.now.tables.now in
+    let spot = c.args.self.now.spot in
+    let v = c.in-Set in
+    let ks = names_view c.deref.result.now in
+    let given = expr_in scope (expr_view v.value) spot in
+    IfOk-weaker c.put_assign.result _ _ (λ u h. set_as scope spot (trees.set v.line ks (expr_view v.value)) (stmt_view c.args.statement.now) _ _ _ _
+    (ap (λ z. trees.set v.line (names_view z) (expr_view v.value)) c.deref.ensures.value ∙ sym (ap stmt_view v.is ∙ view_Set v.line v.names v.value)) refl
+    (led_of (templates_in scope) _ _ _ _ _ _ (ap (λ z. alone (slots.assign (line_in scope spot v.line) z given)) c.in_ok-targets-in-Set.ensures) (h scope _ _ _ c.in_ok-given-in-Set.ensures))) c.put_assign.ensures
 
-pub resolve_statement-resolve_whole-requires : goal.resolve_statement-resolve_whole-requires
-resolve_statement-resolve_whole-requires t c =
-    let less = other_smaller c.args.statement.now c.in-If.branches c.in-If.other c.deref-in-If.result.now c.in-If.is c.deref-in-If.ensures.value in
-    (omega (arith, less), tt)
-
-pub resolve_statement-resolve_turn-requires : goal.resolve_statement-resolve_turn-requires
-resolve_statement-resolve_turn-requires t c =
-    let less = turn_smaller c.args.statement.now c.in-For.line c.in-For.names c.in-For.value c.in-For.condition c.in-For.body c.in-For.other c.deref-in-For.result.now c.in-For.is c.deref-in-For.ensures.value in
-    (omega (arith, less), tt)
-
-pub resolve_statement-resolve_whole-requires-in-For : goal.resolve_statement-resolve_whole-requires-in-For
-resolve_statement-resolve_whole-requires-in-For t c =
-    let less = last_smaller c.args.statement.now c.in-For.line c.in-For.names c.in-For.value c.in-For.condition c.in-For.body c.in-For.other c.deref-in-For-3.result.now c.in-For.is c.deref-in-For-3.ensures.value in
-    (omega (arith, less), tt)
-
-pub resolve_statement-resolve_text-requires : goal.resolve_statement-resolve_text-requires
-resolve_statement-resolve_text-requires t c =
-    let less = text_smaller c.args.statement.now c.in-SetBlock.line c.in-SetBlock.name c.in-SetBlock.body c.deref-in-SetBlock.result.now c.in-SetBlock.is c.deref-in-SetBlock.ensures.value in
-    (omega (arith, less), tt)
-
-pub resolve_statement-resolve_within-requires : goal.resolve_statement-resolve_within-requires
-resolve_statement-resolve_within-requires t c =
-    let less = with_smaller c.args.statement.now c.in-With.line c.in-With.pairs c.in-With.body c.deref-in-With-2.result.now c.in-With.is c.deref-in-With-2.ensures.value in
-    (omega (arith, less), tt)
-
-pub resolve_statement-resolve_text-requires-in-FilterBlock : goal.resolve_statement-resolve_text-requires-in-FilterBlock
-resolve_statement-resolve_text-requires-in-FilterBlock t c =
-    let less = filtered_smaller c.args.statement.now c.in-FilterBlock.line c.in-FilterBlock.filterings c.in-FilterBlock.body c.deref-in-FilterBlock.result.now c.in-FilterBlock.is c.deref-in-FilterBlock.ensures.value in
-    (omega (arith, less), tt)
-
-pub resolve_statement-resolve_escaping-requires : goal.resolve_statement-resolve_escaping-requires
-resolve_statement-resolve_escaping-requires t c =
-    let less = autoescape_smaller c.args.statement.now c.in-Autoescape.line c.in-Autoescape.escaping c.in-Autoescape.body c.deref-in-Autoescape.result.now c.in-Autoescape.is c.deref-in-Autoescape.ensures.value in
-    (omega (arith, less), tt)
+pub resolve_if_set-returns-in-SetBlock : goal.resolve_if_set-returns-in-SetBlock
+resolve_if_set-returns-in-SetBlock t c =
+    let scope = c.args.self.now.tables.now in
+    let spot = c.args.self.now.spot in
+    let v = c.in-SetBlock in
+    let us = c.deref-in-SetBlock.result.now in
+    let name = c.deref-in-SetBlock-2.result.now in
+    IfOk-weaker c.resolve_text.result _ _ (λ u h. set_as scope spot (trees.set_block v.line name (body_view us)) (stmt_view c.args.statement.now) _ _ _ _
+    (shown_set_block c.args.statement.now v.line v.name v.body name us v.is c.deref-in-SetBlock-2.ensures c.deref-in-SetBlock.ensures.value) refl
+    (led_of (templates_in scope) _ _ _ _ _ _ (ap (λ z. alone (slots.capture spot.escaping z (scoped_in scope (body_view us) (spot_in scope spot)))) c.set_slot.ensures) h)) c.resolve_text.ensures

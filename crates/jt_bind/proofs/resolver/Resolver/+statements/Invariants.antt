@@ -1,16 +1,65 @@
-use Rattle.std.proofs.Common.{drop}
+use Rattle.std.proofs.Common.{◌+◌, ◌*◌, max, drop}
+use denote.Param.Weighed.{most}
 use Rattle.jt_meaning.specs.Resolve.{followed}
 use Rattle.jt_trees.specs.StatementView.{body_view, branches_view}
+use Rattle.jt_trees.specs.declared.statement.Stmt.{size-Stmt}
+use Rattle.jt_trees.proofs.Left.{Branch}
 use Rattle.jt_resolved.specs.Pool.{Constant}
 use Rattle.jt_resolved.specs.Slots.{SBody}
 use Rattle.jt_bind.specs.Scoped.{values, BodyLeads, templates_in}
 use Rattle.jt_bind.specs.Stated.{ChoiceLeads, body_in, choice_in}
 use Rattle.jt_bind.proofs.resolver.Resolver.+statements.Given as goal
 
+-- ---- how deep the statements are that are left, and who hands its own on
+
+abbrev pub decreases-resolve_if_set : goal.decreases-resolve_if_set
+decreases-resolve_if_set l = 6 * size-Stmt l.statement.now
+
+abbrev pub decreases-resolve_statement : goal.decreases-resolve_statement
+decreases-resolve_statement l = 6 * size-Stmt l.statement.now + 1
+
+abbrev pub decreases-resolve_body : goal.decreases-resolve_body
+decreases-resolve_body l = 6 * most (λ x. size-Stmt x) l.body.now + 2
+
+abbrev pub decreases-resolve_whole : goal.decreases-resolve_whole
+decreases-resolve_whole l = 6 * most (λ x. size-Stmt x) l.body.now + 3
+
+abbrev pub decreases-resolve_scoped : goal.decreases-resolve_scoped
+decreases-resolve_scoped l = 6 * most (λ x. size-Stmt x) l.body.now + 3
+
+abbrev pub decreases-resolve_inside : goal.decreases-resolve_inside
+decreases-resolve_inside l = 6 * most (λ x. size-Stmt x) l.body.now + 4
+
+abbrev pub decreases-resolve_within : goal.decreases-resolve_within
+decreases-resolve_within l = 6 * most (λ x. size-Stmt x) l.body.now + 4
+
+abbrev pub decreases-resolve_escaping : goal.decreases-resolve_escaping
+decreases-resolve_escaping l = 6 * most (λ x. size-Stmt x) l.body.now + 4
+
+abbrev pub decreases-resolve_text : goal.decreases-resolve_text
+decreases-resolve_text l = 6 * most (λ x. size-Stmt x) l.body.now + 5
+
+abbrev pub decreases-resolve_turns : goal.decreases-resolve_turns
+decreases-resolve_turns l = 6 * most (λ x. size-Stmt x) l.body.now + 5
+
+abbrev pub decreases-resolve_with : goal.decreases-resolve_with
+decreases-resolve_with l = 6 * most (λ x. size-Stmt x) l.body.now + 5
+
+abbrev pub decreases-resolve_filter_block : goal.decreases-resolve_filter_block
+decreases-resolve_filter_block l = 6 * most (λ x. size-Stmt x) l.body.now + 6
+
+abbrev pub decreases-resolve_branch : goal.decreases-resolve_branch
+decreases-resolve_branch l = 6 * most (λ x. size-Stmt x) l.branch.now.body.items + 4
+
+abbrev pub decreases-resolve_branches : goal.decreases-resolve_branches
+decreases-resolve_branches l = 6 * max (most (λ (b : Branch). most (λ x. size-Stmt x) b.body.items) l.branches.now) (most (λ x. size-Stmt x) l.other.now) + 5
+
+-- ---- what is left
+
 abbrev pub invariant-resolve_body-loop-statement : goal.invariant-resolve_body-loop-statement
 invariant-resolve_body-loop-statement l = (left : SBody Constant) → BodyLeads (templates_in l.self.tables.now) (followed (body_in l.self.tables.now (body_view l.body) l.self.spot) left) (followed (body_in l.self.tables.now (body_view (drop l.statement-index l.body)) l.self.spot) left)
     l.initial.done.items l.done.items (values l.initial.pool) (values l.pool)
 
-abbrev pub invariant-resolve_statement-loop-line : goal.invariant-resolve_statement-loop-line
-invariant-resolve_statement-loop-line l = (other : SBody Constant) → ChoiceLeads (templates_in l.self.tables.now) (choice_in l.self.tables.now (branches_view l.line-items) l.self.spot other) (choice_in l.self.tables.now (branches_view (drop l.line-index l.line-items)) l.self.spot other)
+abbrev pub invariant-resolve_branches-loop-branch : goal.invariant-resolve_branches-loop-branch
+invariant-resolve_branches-loop-branch l = (other : SBody Constant) → ChoiceLeads (templates_in l.self.tables.now) (choice_in l.self.tables.now (branches_view l.branches) l.self.spot other) (choice_in l.self.tables.now (branches_view (drop l.branch-index l.branches)) l.self.spot other)
     l.made.items (values l.initial.pool) (values l.pool)

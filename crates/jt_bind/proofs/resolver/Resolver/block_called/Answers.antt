@@ -1,4 +1,4 @@
-use Rattle.std.proofs.Common.{[], sym, ◌∙◌, subst, arith, rules}
+use Rattle.std.proofs.Common.{sym, ◌∙◌, subst, arith, rules}
 use Rattle.jt_resolved.specs.Slots as slots
 use Rattle.jt_resolved.specs.View.{expr_view}
 use Rattle.jt_resolved.specs.Pool.{Constant}

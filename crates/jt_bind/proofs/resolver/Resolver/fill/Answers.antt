@@ -1,4 +1,4 @@
-use Rattle.std.proofs.Common.{length, ◌≡◌, ℕ, ◌+◌, List, sym, ap, ◌∙◌, arith, add-one, rules}
+use Rattle.std.proofs.Common.{length, ℕ, ◌+◌, List, sym, ap, ◌∙◌, arith, add-one, rules}
 use Rattle.std.proofs.lemmas.List.{at_drop_all}
 use Rattle.jt_trees.specs.ExpressionView.{pairs_view}
 use Rattle.jt_chains.specs.Uses.{keywords}

@@ -1,4 +1,4 @@
-use Rattle.std.proofs.Common.{◌≡◌, ◌+◌, ◌-◌, length, take, length-drop, List, ◌∷◌, drop, sym, ap, ◌∙◌, arith, true, false, rules}
+use Rattle.std.proofs.Common.{◌≡◌, ◌+◌, ◌-◌, length, take, length-drop, List, ◌∷◌, drop, sym, ap, ◌∙◌, arith, true, rules}
 use Rattle.std.proofs.lemmas.List.{at_drop_all, take_all}
 use Rattle.jt_trees.specs.ExpressionView.{pairs_view}
 use Rattle.jt_chains.specs.Uses.{keywords}

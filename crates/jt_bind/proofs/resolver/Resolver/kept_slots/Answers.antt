@@ -1,4 +1,4 @@
-use Rattle.std.proofs.Common.{◌∙◌, arith, rules}
+use Rattle.std.proofs.Common.{arith, rules}
 use Rattle.jt_bind.proofs.Stating.{kept_step}
 use Rattle.jt_bind.proofs.resolver.Resolver.kept_slots.Goals as goal
 

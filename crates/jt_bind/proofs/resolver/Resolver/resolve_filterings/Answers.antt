@@ -1,4 +1,4 @@
-use Rattle.std.proofs.Common.{◌≡◌, sym, ◌∙◌, arith, append-nil, rules}
+use Rattle.std.proofs.Common.{sym, arith, append-nil, rules}
 use Rattle.std.proofs.lemmas.List.{take_all, length-map}
 use Rattle.jt_bind.specs.Scoped.{values}
 use Rattle.jt_bind.proofs.FilterTags.{filters_next}

@@ -1,4 +1,4 @@
-use Rattle.std.proofs.Common.{◌+◌, List, ◌∙◌, arith, rules}
+use Rattle.std.proofs.Common.{List, arith, rules}
 use Rattle.std.proofs.lemmas.List.{at_drop_all}
 use Rattle.jt_trees.specs.StatementView.{body_view}
 use Rattle.jt_trees.specs.declared.statement.Stmt.{Stmt}

@@ -1,4 +1,4 @@
-use Rattle.std.proofs.Common.{◌≡◌, Global, String, List, [], ◌∷◌, length, refl, ◌∙◌, arith, rules}
+use Rattle.std.proofs.Common.{◌≡◌, Global, String, List, [], ◌∷◌, length, refl, arith, rules}
 use Rattle.jt_trees.specs.StatementView.{names_view}
 use Rattle.jt_meaning.specs.Layout.{Table}
 use Rattle.jt_meaning.specs.Resolve.{kept_slots, set_targets}

@@ -1,4 +1,4 @@
-use Rattle.std.proofs.Common.{◌≡◌, ◌+◌, ◌<◌, ◌∙◌, arith, rules}
+use Rattle.std.proofs.Common.{arith, rules}
 use Rattle.std.proofs.lemmas.List.{length-map}
 use Rattle.jt_bind.proofs.Places.{first_within}
 use Rattle.jt_bind.proofs.tables.Tables.first_body.Goals as goal

@@ -1,8 +1,5 @@
-use Rattle.std.proofs.Common.{◌∙◌, arith, rules}
+use Rattle.std.proofs.Common.{arith, rules}
 use Rattle.jt_bind.proofs.tables.Tables.library_named.Goals as goal
 
-pub returns-in-Some : goal.returns-in-Some
-returns-in-Some c = search (arith, rules)
-
-pub returns-in-None : goal.returns-in-None
-returns-in-None c = search (arith, rules)
+pub returns : goal.returns
+returns c = search (arith, rules)

@@ -1,6 +1,0 @@
-use Rattle.std.proofs.Common.{get_or, arith, rules}
-use Rattle.jt_chains.proofs.Placed.{along_turn, page_at, place_within}
-use Rattle.jt_inherit.proofs.including.includes_at.Goals as goal
-
-pub loop-place-preserved : goal.loop-place-preserved
-loop-place-preserved c = search (arith, rules, place_within, along_turn, page_at, get_or)

@@ -1,8 +1,0 @@
-use Rattle.std.proofs.Common.{◌≡◌, ◌++◌, drop}
-use Rattle.jt_inherit.specs.Along.{includes_along}
-use Rattle.jt_inherit.specs.Needs.{needs_view}
-use Rattle.jt_chains.specs.Pages.{pages_view}
-use Rattle.jt_inherit.proofs.including.includes_at.Given as goal
-
-abbrev pub invariant-loop-place : goal.invariant-loop-place
-invariant-loop-place l = needs_view l.found.items ++ includes_along (pages_view l.pages) (drop l.place-index l.places) ≡ includes_along (pages_view l.pages) l.places
