@@ -166,8 +166,8 @@ pub fn has_unknown(expr: &Expr, named: Named) -> bool
 
 /// Whether such a name stands in one of the expressions.
 #[cycle(names)]
-pub fn any_unknown(items: &Vec<Expr>, named: Named) -> bool
-    ensures { result ≡ spec.exprs_have_unknown named (exprs_view items.now.items) }
+pub fn any_unknown(items: &[Expr], named: Named) -> bool
+    ensures { result ≡ spec.exprs_have_unknown named (exprs_view items.now) }
 {
     for item in items {
         if has_unknown(item, named) {
@@ -179,8 +179,8 @@ pub fn any_unknown(items: &Vec<Expr>, named: Named) -> bool
 
 /// Whether such a name stands in one of the values.
 #[cycle(names)]
-pub fn any_unknown_pair(pairs: &Vec<(String, Expr)>, named: Named) -> bool
-    ensures { result ≡ spec.pairs_have_unknown named (pairs_view pairs.now.items) }
+pub fn any_unknown_pair(pairs: &[(String, Expr)], named: Named) -> bool
+    ensures { result ≡ spec.pairs_have_unknown named (pairs_view pairs.now) }
 {
     for (_, value) in pairs {
         if has_unknown(value, named) {

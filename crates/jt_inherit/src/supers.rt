@@ -64,8 +64,8 @@ fn has_super(expr: &Expr) -> bool
 
 /// Whether it is called in one of the expressions.
 #[cycle(expressions)]
-fn any_super(items: &Vec<Expr>) -> bool
-    ensures { result ≡ spec.row_super (exprs_view items.now.items) }
+fn any_super(items: &[Expr]) -> bool
+    ensures { result ≡ spec.row_super (exprs_view items.now) }
 {
     for item in items {
         if has_super(item) {
@@ -77,8 +77,8 @@ fn any_super(items: &Vec<Expr>) -> bool
 
 /// Whether it is called in one of the values.
 #[cycle(expressions)]
-fn any_super_pair(pairs: &Vec<(String, Expr)>) -> bool
-    ensures { result ≡ spec.pairs_super (pairs_view pairs.now.items) }
+fn any_super_pair(pairs: &[(String, Expr)]) -> bool
+    ensures { result ≡ spec.pairs_super (pairs_view pairs.now) }
 {
     for (_, value) in pairs {
         if has_super(value) {
@@ -99,8 +99,8 @@ fn condition_super(condition: &Option<Expr>) -> bool
 }
 
 /// Whether it is called in an argument of one of the filters.
-fn filters_super(filters: &Vec<Filtering>) -> bool
-    ensures { result ≡ spec.filtering_super (filterings_view filters.now.items) }
+fn filters_super(filters: &[Filtering]) -> bool
+    ensures { result ≡ spec.filtering_super (filterings_view filters.now) }
 {
     for filter in filters {
         if any_super(&filter.arguments) || any_super_pair(&filter.keywords) {

@@ -63,8 +63,8 @@ pub(crate) fn refused(line: u32, refusal: ExprError) -> ParseError
 }
 
 /// Whether a word is the name.
-pub(crate) fn is_name(word: &str, name: &String) -> bool
-    ensures { result ≡ bytes_eq (encode_utf8_all (chars word.now)) (string_bytes name.now) }
+pub(crate) fn is_name(word: &str, name: &str) -> bool
+    ensures { result ≡ bytes_eq (encode_utf8_all (chars word.now)) name.now }
 {
-    word == name.as_str()
+    word == name
 }

@@ -54,8 +54,8 @@ fn check_loop(line: u32, over: &Expr, condition: &Option<Expr>) -> Result<(), Pa
 }
 
 /// The same for a tag with values.
-fn check_values(line: u32, values: &Vec<(String, Expr)>) -> Result<(), ParseError>
-    ensures { GivesNamesIn line (λ u. pairs_have_unknown u (pairs_view values.now.items)) result }
+fn check_values(line: u32, values: &[(String, Expr)]) -> Result<(), ParseError>
+    ensures { GivesNamesIn line (λ u. pairs_have_unknown u (pairs_view values.now)) result }
 {
     let filters = any_unknown_pair(values, Named::Filter);
     let tests = any_unknown_pair(values, Named::Test);
@@ -72,8 +72,8 @@ fn filtering_unknown(filter: &Filtering, named: Named) -> bool
 }
 
 /// Whether such a name stands in one of the filters.
-fn filterings_unknown(filters: &Vec<Filtering>, named: Named) -> bool
-    ensures { result ≡ spec.filterings_unknown named (filterings_view filters.now.items) }
+fn filterings_unknown(filters: &[Filtering], named: Named) -> bool
+    ensures { result ≡ spec.filterings_unknown named (filterings_view filters.now) }
 {
     for filter in filters {
         if filtering_unknown(filter, named) {
@@ -84,9 +84,8 @@ fn filterings_unknown(filters: &Vec<Filtering>, named: Named) -> bool
 }
 
 /// The same for a filter tag.
-fn check_filters(line: u32, filters: &Vec<Filtering>) -> Result<(), ParseError>
-    ensures { GivesNamesIn line (λ u. spec.filterings_unknown u (filterings_view filters.now.items))
-        result }
+fn check_filters(line: u32, filters: &[Filtering]) -> Result<(), ParseError>
+    ensures { GivesNamesIn line (λ u. spec.filterings_unknown u (filterings_view filters.now)) result }
 {
     let unknown_filters = filterings_unknown(filters, Named::Filter);
     let unknown_tests = filterings_unknown(filters, Named::Test);
@@ -95,8 +94,8 @@ fn check_filters(line: u32, filters: &Vec<Filtering>) -> Result<(), ParseError>
 
 /// Refuses the first tag of statements in which a name has no meaning.
 #[cycle(names)]
-pub(crate) fn check_body(body: &Vec<Stmt>) -> Result<(), ParseError>
-    ensures { GivesNames (spec.body_unknown (body_view body.now.items)) result }
+pub(crate) fn check_body(body: &[Stmt]) -> Result<(), ParseError>
+    ensures { GivesNames (spec.body_unknown (body_view body.now)) result }
 {
     for statement in body {
         check_statement(statement)?;

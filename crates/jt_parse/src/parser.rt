@@ -67,19 +67,19 @@ fn levels_left(outer: usize, line: u32) -> Result<u8, ParseError>
     }
 }
 
-/// The number of open statements.
-fn depth(open_stmts: &Vec<OpenStmt>) -> usize
-    ensures { result ≡ length (open_stmts_view open_stmts.now.items) }
-{
-    open_stmts.len()
-}
-
 impl Parser {
+    /// The number of open statements.
+    fn depth(&self) -> usize
+        ensures { result ≡ length (open_in self.now) }
+    {
+        self.open_stmts.len()
+    }
+
     /// `{{ e }}`
     fn print_tag(&mut self, line: u32, tokens: &[Token<'_>]) -> Result<(), ParseError>
         ensures { Moves (PrintTag max_levels line (seen tokens.now)) self.old result self.new }
     {
-        let levels = levels_left(depth(&self.open_stmts), line)?;
+        let levels = levels_left(self.depth(), line)?;
         let printed = expression(self.alloc, tokens, levels, line)?;
         push_statement(&mut self.body, Stmt::Print(line, printed))?;
         Ok(())
@@ -120,7 +120,7 @@ impl Parser {
         ensures { Moves (HeadTag max_levels line (chars word.now) (seen tokens.now)) self.old
             result self.new }
     {
-        let levels = levels_left(depth(&self.open_stmts), line)?;
+        let levels = levels_left(self.depth(), line)?;
         let head = head(self.alloc, word, tokens, levels, line)?;
         self.headed(line, head)?;
         Ok(())
@@ -147,7 +147,7 @@ impl Parser {
         else {
             return Err(ParseError::Syntax { line });
         };
-        let levels = levels_left(depth(&self.open_stmts), line)?;
+        let levels = levels_left(self.depth(), line)?;
         let next = expression(self.alloc, tokens, levels, line)?;
         let body = mem::replace(&mut self.body, Vec::new(self.alloc));
         push_branch(&mut branches, first, condition, body)?;

@@ -85,8 +85,8 @@ fn is_blank(statement: &Stmt) -> bool
 }
 
 /// Whether there is only whitespace in statements.
-fn is_blank_body(body: &Vec<Stmt>) -> bool
-    ensures { result ≡ spec.is_blank_body (body_view body.now.items) }
+fn is_blank_body(body: &[Stmt]) -> bool
+    ensures { result ≡ spec.is_blank_body (body_view body.now) }
 {
     for statement in body {
         if !is_blank(statement) {
@@ -110,8 +110,8 @@ fn first_line(branches: &[Branch<Stmt>]) -> u32 {
 
 /// The line of the first statement that stands where it may not, if there is one.
 #[cycle(positions)]
-fn body_placed(body: &Vec<Stmt>, position: Position) -> Result<(), u32>
-    ensures { is_ok result ≡ spec.body_placed (position_view position) (body_view body.now.items) }
+fn body_placed(body: &[Stmt], position: Position) -> Result<(), u32>
+    ensures { is_ok result ≡ spec.body_placed (position_view position) (body_view body.now) }
 {
     for statement in body {
         statement_placed(statement, position)?;
@@ -171,8 +171,8 @@ fn statement_placed(statement: &Stmt, position: Position) -> Result<(), u32>
 }
 
 /// The same of the statements of a template.
-fn template_placed(body: &Vec<Stmt>) -> Result<(), u32>
-    ensures { is_ok result ≡ spec.is_placed (body_view body.now.items) }
+fn template_placed(body: &[Stmt]) -> Result<(), u32>
+    ensures { is_ok result ≡ spec.is_placed (body_view body.now) }
 {
     let mut position = None;
     for statement in body {
@@ -194,8 +194,8 @@ fn template_placed(body: &Vec<Stmt>) -> Result<(), u32>
 }
 
 /// Refuses a template whose statements do not all stand where they may.
-pub(crate) fn check_positions(body: &Vec<Stmt>) -> Result<(), ParseError>
-    ensures { GivesPositions (spec.is_placed (body_view body.now.items)) result }
+pub(crate) fn check_positions(body: &[Stmt]) -> Result<(), ParseError>
+    ensures { GivesPositions (spec.is_placed (body_view body.now)) result }
 {
     match template_placed(body) {
         Ok(()) => Ok(()),

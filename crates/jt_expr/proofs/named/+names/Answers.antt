@@ -8,7 +8,7 @@ use Rattle.jt_expr.proofs.named.+names.Goals as goal
 use Rattle.jt_expr.proofs.named.+names.Goals.{has_unknown-then-has_unknown-3, has_unknown-else-has_unknown-3, has_unknown-then-is_filter_unknown, has_unknown-else-is_filter_unknown}
 
 pub has_unknown-returns-in-Map : goal.has_unknown-returns-in-Map
-has_unknown-returns-in-Map t c = c.any_unknown_pair.ensures ∙ sym (ap (spec.has_unknown c.args.named) (ap expr_view c.in-Map.is ∙ view_Map c.in-Map.pairs))
+has_unknown-returns-in-Map t c = c.any_unknown_pair.ensures ∙ ap (λ z. spec.pairs_have_unknown c.args.named (pairs_view z)) c.deref-in-Map.ensures.value ∙ sym (ap (spec.has_unknown c.args.named) (ap expr_view c.in-Map.is ∙ view_Map c.in-Map.pairs))
 
 pub has_unknown-returns-else-any_unknown : goal.has_unknown-returns-else-any_unknown
 has_unknown-returns-else-any_unknown t c =

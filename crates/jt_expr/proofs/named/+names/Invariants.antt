@@ -5,8 +5,8 @@ use Rattle.jt_expr.proofs.named.+names.Given as goal
 
 abbrev pub invariant-any_unknown-loop-item : goal.invariant-any_unknown-loop-item
 invariant-any_unknown-loop-item l =
-    exprs_have_unknown l.named (exprs_view l.item-items) ≡ exprs_have_unknown l.named (exprs_view (drop l.item-index l.item-items))
+    exprs_have_unknown l.named (exprs_view l.items) ≡ exprs_have_unknown l.named (exprs_view (drop l.item-index l.items))
 
 abbrev pub invariant-any_unknown_pair-loop-value : goal.invariant-any_unknown_pair-loop-value
 invariant-any_unknown_pair-loop-value l =
-    pairs_have_unknown l.named (pairs_view l.value-items) ≡ pairs_have_unknown l.named (pairs_view (drop l.value-index l.value-items))
+    pairs_have_unknown l.named (pairs_view l.pairs) ≡ pairs_have_unknown l.named (pairs_view (drop l.value-index l.pairs))

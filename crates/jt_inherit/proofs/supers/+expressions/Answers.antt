@@ -1,12 +1,12 @@
 use Rattle.std.proofs.Common.{◌∙◌, sym, ap, arith}
 use Rattle.std.proofs.lemmas.Grind.{common_steps}
-use Rattle.jt_trees.specs.ExpressionView.{expr_view}
+use Rattle.jt_trees.specs.ExpressionView.{expr_view, pairs_view}
 use Rattle.jt_chains.specs.Supers as spec
 use Rattle.jt_trees.proofs.ExpressionViews.{view_Map, view_Call, view_Filter, view_Test}
 use Rattle.jt_inherit.proofs.supers.+expressions.Goals as goal
 
 pub has_super-returns-in-Map : goal.has_super-returns-in-Map
-has_super-returns-in-Map t c = c.any_super_pair.ensures ∙ sym (ap spec.has_super (ap expr_view c.in-Map.is ∙ view_Map c.in-Map.pairs))
+has_super-returns-in-Map t c = c.any_super_pair.ensures ∙ ap (λ z. spec.pairs_super (pairs_view z)) c.deref-in-Map.ensures.value ∙ sym (ap spec.has_super (ap expr_view c.in-Map.is ∙ view_Map c.in-Map.pairs))
 
 pub has_super-returns-else-any_super : goal.has_super-returns-else-any_super
 has_super-returns-else-any_super t c =

@@ -4,4 +4,4 @@ use Rattle.jt_chains.specs.Supers.{filtering_super}
 use Rattle.jt_inherit.proofs.supers.filters_super.Given as goal
 
 abbrev pub invariant-loop-filter : goal.invariant-loop-filter
-invariant-loop-filter l = filtering_super (filterings_view l.filter-items) ≡ filtering_super (filterings_view (drop l.filter-index l.filter-items))
+invariant-loop-filter l = filtering_super (filterings_view l.filters) ≡ filtering_super (filterings_view (drop l.filter-index l.filters))

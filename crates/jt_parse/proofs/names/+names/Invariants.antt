@@ -5,7 +5,7 @@ use Rattle.jt_parse.proofs.names.+names.Given as goal
 
 abbrev pub invariant-check_body-loop-statement : goal.invariant-check_body-loop-statement
 invariant-check_body-loop-statement l =
-    body_unknown (body_view l.statement-items) ≡ body_unknown (body_view (drop l.statement-index l.statement-items))
+    body_unknown (body_view l.body) ≡ body_unknown (body_view (drop l.statement-index l.body))
 
 abbrev pub invariant-check_statement-loop-line : goal.invariant-check_statement-loop-line
 invariant-check_statement-loop-line l =

@@ -16,7 +16,7 @@ statement_placed-returns-in_err-body_placed-in-If t c =
     let q = spec.within p in
     let l = c.loop-body in
     let b = c.loop-body-item.result in
-    let bad : spec.body_placed q (body_view b.body.items) ≡ false = ap (λ z. spec.body_placed z (body_view b.body.items)) (sym c.within.ensures) ∙ sym c.in_err-body_placed-in-If.ensures in
+    let bad : spec.body_placed q (body_view b.body.items) ≡ false = ap (λ z. spec.body_placed z (body_view b.body.items)) (sym c.within.ensures) ∙ sym (rw c.deref-in-loop-body.ensures.value at c.in_err-body_placed-in-If.ensures) in
     ap is_ok e ∙ sym (if_misplaced p c.args.statement.now c.in-If.branches c.in-If.other c.in-If.is
     (ap (λ (z : List Branch). spec.branches_placed q (branches_view z)) (sym c.deref-body-items.ensures.value)
     ∙ l.invariant
@@ -32,5 +32,5 @@ statement_placed-returns-after-loop-body t c =
     ∙ l.invariant
     ∙ at_drop_all (λ (z : List Branch). spec.branches_placed q (branches_view z)) c.deref-body-items.result.now l.body-index c.loop-body-test.false in
     let top : not (spec.is_child p) ≡ true = ap not (sym c.is_child.ensures) ∙ sym c.in_ok-allow-in-If.ensures in
-    c.body_placed-in-If.ensures ∙ ap (λ z. spec.body_placed z (body_view c.in-If.other.items)) c.within-in-If.ensures
+    (rw c.deref-in-If.ensures.value at c.body_placed-in-If.ensures) ∙ ap (λ z. spec.body_placed z (body_view c.in-If.other.items)) c.within-in-If.ensures
     ∙ sym (if_placed p c.args.statement.now c.in-If.branches c.in-If.other c.in-If.is top good)

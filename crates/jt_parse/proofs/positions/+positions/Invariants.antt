@@ -6,7 +6,7 @@ use Rattle.jt_parse.proofs.positions.+positions.Given as goal
 
 abbrev pub invariant-body_placed-loop-statement : goal.invariant-body_placed-loop-statement
 invariant-body_placed-loop-statement l =
-    body_placed (position_view l.position) (body_view l.statement-items) ≡ body_placed (position_view l.position) (body_view (drop l.statement-index l.statement-items))
+    body_placed (position_view l.position) (body_view l.body) ≡ body_placed (position_view l.position) (body_view (drop l.statement-index l.body))
 
 abbrev pub invariant-statement_placed-loop-body : goal.invariant-statement_placed-loop-body
 invariant-statement_placed-loop-body l =

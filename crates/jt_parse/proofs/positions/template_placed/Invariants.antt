@@ -5,4 +5,4 @@ use Rattle.jt_parse.proofs.Placing.{placed_by}
 use Rattle.jt_parse.proofs.positions.template_placed.Given as goal
 
 abbrev pub invariant-loop-statement : goal.invariant-loop-statement
-invariant-loop-statement l = is_placed (body_view l.statement-items) ≡ placed_by l.position (body_view (drop l.statement-index l.statement-items))
+invariant-loop-statement l = is_placed (body_view l.body) ≡ placed_by l.position (body_view (drop l.statement-index l.body))

@@ -1,7 +1,0 @@
-use Rattle.std.proofs.Common.{map, arith}
-use Rattle.std.proofs.lemmas.List.{length-reverse, length-map}
-use Rattle.jt_parse.specs.Gives.{open_stmt_view}
-use Rattle.jt_parse.proofs.parser.depth.Goals as goal
-
-pub returns : goal.returns
-returns c = omega (arith, length-reverse (map open_stmt_view c.args.open_stmts.now.items), length-map c.args.open_stmts.now.items open_stmt_view)
