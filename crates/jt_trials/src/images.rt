@@ -3,10 +3,12 @@
 //!     1 to 9     bytes that are no image, by the refusal's number
 //!     A to J     an image that is refused, by the refusal's number
 //!     t f s      an accepted one, whose run ends with a text, a fault or a spent number
-//! ~ = ^ what must not be: `view` says otherwise than `decode`, `encode` gives other bytes,
-//! `verify_view` says otherwise
-//!     | < >      the same of runs: in place they end otherwise, more fuel changes an end, a plain machine ends otherwise
+//!     ~ = ^      what must not be: `view` says otherwise than `decode`, `encode` gives other
+//!                bytes, `verify_view` says otherwise
+//!     | < >      the same of runs: in place they end otherwise, more fuel changes an end, a plain
+//!                machine ends otherwise
 
+use crate::changes::{Lettered, print_letters};
 use crate::places::{Places, bytes_of};
 use crate::stop::Stop;
 use jt_args::DEFAULT;
@@ -22,8 +24,22 @@ use std::alloc::Global;
 /// The fuel up to which accepted images are run.
 const MOST_FUEL: u64 = 20;
 
-/// Prints the letters of an image at some places: that of the beginning in front of it, and those
-/// of the byte's other values in ascending order.
+/// What images are run for.
+#[derive(Drop)]
+struct ImageTrial<'a> {
+    context: &'a Context,
+}
+
+impl Lettered for ImageTrial<'_> {
+    fn letter(&self, alloc: Global, bytes: &[u8]) -> Result<char, Stop> {
+        match decode(alloc, bytes) {
+            Ok(image) => letter_of_image(alloc, image, bytes, self.context),
+            Err(error) => Ok(letter_of_none(alloc, error, bytes)),
+        }
+    }
+}
+
+/// Prints the letters of an image at some places.
 pub(crate) fn image_answers(rt: &HostRuntime, of: &str) -> Result<(), Stop> {
     let (places, of) = Places::read(of)?;
     let (json, digits) = of.split_once('¦').ok_or(Stop::Other)?;
@@ -31,37 +47,8 @@ pub(crate) fn image_answers(rt: &HostRuntime, of: &str) -> Result<(), Stop> {
         return Err(Stop::Other);
     };
     let bytes = bytes_of(rt.alloc(), digits)?;
-    for (place, byte) in bytes.iter().enumerate() {
-        if places.has(place) {
-            let begun = letter(rt.alloc(), &bytes[..place], &context)?;
-            let changed = changes(rt.alloc(), &bytes, place, &context)?;
-            println!(rt; "{place} {byte} {begun} {changed}")?;
-        }
-    }
-    Ok(())
-}
-
-/// The letters of an image with each other value at a place.
-fn changes(alloc: Global, bytes: &[u8], place: usize, context: &Context) -> Result<String, Stop> {
-    let mut changed = Vec::new(alloc);
-    changed.extend_from_slice(bytes)?;
-    let mut letters = String::new(alloc);
-    for value in 0..=u8::MAX {
-        if bytes.get(place) != Some(&value) {
-            if let Some(byte) = changed.get_mut(place) {
-                *byte = value;
-            }
-            letters.push(letter(alloc, &changed, context)?)?;
-        }
-    }
-    Ok(letters)
-}
-
-fn letter(alloc: Global, bytes: &[u8], context: &Context) -> Result<char, Stop> {
-    match decode(alloc, bytes) {
-        Ok(image) => letter_of_image(alloc, image, bytes, context),
-        Err(error) => Ok(letter_of_none(alloc, error, bytes)),
-    }
+    let trial = ImageTrial { context: &context };
+    print_letters(rt, "", &trial, places, &bytes)
 }
 
 /// The letter of bytes that `decode` reads: `view` has to read them too, and `encode` to give them

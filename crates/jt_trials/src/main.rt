@@ -1,14 +1,14 @@
 //! Trials of the libraries' calls: with growths refused, over writers that fail, and on bytes and
 //! sources that strangers change. Each line of standard input names a trial and what it is of:
 //!
-//! calls ROW the calls on a row; with a growth refused, one of them is want of memory, what it left
-//! is tried,
-//! and the others answer as ever. The image that a row gives is kept for `turns`
+//!     calls ROW                  the calls on a row; with a growth refused, one of them is want of
+//!                                memory, what it left is tried, and the others answer as ever. The
+//!                                image that a row gives is kept for `turns`
 //!     values                     calls on values, on texts and on the parts of an image
 //!     turns                      the events of a host with a session of each image so far
 //!     writes ROW                 runs into writers that fail once, at each of their calls
-//! image AT STEP JSON¦HEX each beginning and each change of an image at the places AT, AT + STEP
-//! and so on
+//!     image AT STEP JSON¦HEX     each beginning and each change of an image at the places AT,
+//!                                AT + STEP and so on
 //!     sources AT STEP ROW        the same of the sources of a row
 //!     plain JSON¦HEX             an image beside a plain machine
 //!
@@ -17,6 +17,7 @@
 #![tactic(auto)]
 
 mod calls;
+mod changes;
 mod images;
 mod places;
 mod plain;

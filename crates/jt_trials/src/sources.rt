@@ -6,6 +6,8 @@
 //!     -          it is no text
 //!     9 !        what must not be: want of memory, an image that is not accepted
 
+use crate::changes::{Lettered, print_letters};
+use crate::images::letter_of_end;
 use crate::places::Places;
 use crate::shelf::{Shelf, context_of, options_of, templates_of, unfolded};
 use crate::stop::Stop;
@@ -13,7 +15,7 @@ use jt_budget::Budget;
 use jt_codegen::{CompileError, compile};
 use jt_host::context_from_json;
 use jt_image::Image;
-use jt_machine::{Outcome, run};
+use jt_machine::run;
 use jt_scan::Options;
 use jt_value::Context;
 use jt_verify::verify;
@@ -28,16 +30,33 @@ const SMALL: Budget = Budget {
     nesting: 8,
 };
 
-/// What is changed, and what it is run for.
+/// Which template is changed, and what the templates are run for.
 #[derive(Drop)]
-struct Trial<'a, 'b> {
+struct SourceTrial<'a, 'b> {
     shelf: &'a Shelf<'b>,
+    index: usize,
     options: Options,
     context: &'a Context,
 }
 
-/// Prints the letters of each template of a row at some places: that of the beginning in front of
-/// it, and those of the byte's other values in ascending order.
+impl Lettered for SourceTrial<'_, '_> {
+    fn letter(&self, alloc: Global, bytes: &[u8]) -> Result<char, Stop> {
+        let Ok(source) = std::str::from_utf8(bytes) else {
+            return Ok('-');
+        };
+        let shelf = replaced(alloc, self.shelf, self.index, source)?;
+        match compile(alloc, "t", &shelf, self.options) {
+            Ok(image) => ended(alloc, image, self.context),
+            Err(CompileError::NoMemory) => Ok('9'),
+            Err(refusal) => {
+                let code = format!(in alloc; "{refusal}")?;
+                Ok(code.chars().next().unwrap_or('?'))
+            }
+        }
+    }
+}
+
+/// Prints the letters of each template of a row at some places.
 pub(crate) fn source_answers(rt: &HostRuntime, of: &str) -> Result<(), Stop> {
     let (places, row) = Places::read(of)?;
     let text = unfolded(rt.alloc(), row)?;
@@ -63,56 +82,17 @@ fn all_answers<'x>(
     context: &'x Context,
     places: Places,
 ) -> Result<(), Stop> {
-    for (index, template) in shelf.templates.iter().enumerate() {
-        let trial = Trial {
+    for (index, (name, source)) in shelf.templates.iter().enumerate() {
+        let trial = SourceTrial {
             shelf,
+            index,
             options,
             context,
         };
-        template_answers(rt, &trial, places, index, *template)?;
+        let label = format!(in rt.alloc(); "{name} ")?;
+        print_letters(rt, label.as_str(), &trial, places, source.as_bytes())?;
     }
     Ok(())
-}
-
-fn template_answers(
-    rt: &HostRuntime,
-    trial: &Trial<'_, '_>,
-    places: Places,
-    index: usize,
-    template: (&str, &str),
-) -> Result<(), Stop> {
-    let (name, source) = template;
-    let bytes = source.as_bytes();
-    for (place, byte) in bytes.iter().enumerate() {
-        if places.has(place) {
-            let begun = letter(rt.alloc(), trial, index, &bytes[..place])?;
-            let changed = changes(rt.alloc(), trial, index, bytes, place)?;
-            println!(rt; "{name} {place} {byte} {begun} {changed}")?;
-        }
-    }
-    Ok(())
-}
-
-/// The letters of a template with each other value at a place.
-fn changes(
-    alloc: Global,
-    trial: &Trial<'_, '_>,
-    index: usize,
-    bytes: &[u8],
-    place: usize,
-) -> Result<String, Stop> {
-    let mut changed = Vec::new(alloc);
-    changed.extend_from_slice(bytes)?;
-    let mut letters = String::new(alloc);
-    for value in 0..=u8::MAX {
-        if bytes.get(place) != Some(&value) {
-            if let Some(byte) = changed.get_mut(place) {
-                *byte = value;
-            }
-            letters.push(letter(alloc, trial, index, &changed)?)?;
-        }
-    }
-    Ok(letters)
 }
 
 /// The templates with another source in place of one.
@@ -129,28 +109,9 @@ fn replaced<'a>(
     Ok(Shelf { templates })
 }
 
-fn letter(alloc: Global, trial: &Trial<'_, '_>, index: usize, bytes: &[u8]) -> Result<char, Stop> {
-    let Ok(source) = std::str::from_utf8(bytes) else {
-        return Ok('-');
-    };
-    let shelf = replaced(alloc, trial.shelf, index, source)?;
-    match compile(alloc, "t", &shelf, trial.options) {
-        Ok(image) => ended(alloc, image, trial.context),
-        Err(CompileError::NoMemory) => Ok('9'),
-        Err(refusal) => {
-            let code = format!(in alloc; "{refusal}")?;
-            Ok(code.chars().next().unwrap_or('?'))
-        }
-    }
-}
-
 fn ended(alloc: Global, image: Image, context: &Context) -> Result<char, Stop> {
     let Ok(verified) = verify(alloc, image) else {
         return Ok('!');
     };
-    Ok(match run(alloc, &verified, context, SMALL)? {
-        Outcome::Text(_) => 't',
-        Outcome::Fault(..) => 'f',
-        Outcome::Spent(_) => 's',
-    })
+    Ok(letter_of_end(&run(alloc, &verified, context, SMALL)?))
 }

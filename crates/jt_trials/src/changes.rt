@@ -1,0 +1,50 @@
+//! Bytes that strangers change: each beginning of them and each change of one byte gives a letter.
+
+use crate::places::Places;
+use crate::stop::Stop;
+use std::alloc::Global;
+
+/// What gives bytes their letter.
+pub(crate) trait Lettered {
+    fn letter(&self, alloc: Global, bytes: &[u8]) -> Result<char, Stop>;
+}
+
+/// Prints the letters of bytes at some places, each behind a label: that of the beginning in front
+/// of the place, and those of the byte's other values in ascending order.
+pub(crate) fn print_letters<L: Lettered>(
+    rt: &HostRuntime,
+    label: &str,
+    lettered: &L,
+    places: Places,
+    bytes: &[u8],
+) -> Result<(), Stop> {
+    for (place, byte) in bytes.iter().enumerate() {
+        if places.has(place) {
+            let begun = lettered.letter(rt.alloc(), &bytes[..place])?;
+            let changed = changes(rt.alloc(), lettered, bytes, place)?;
+            println!(rt; "{label}{place} {byte} {begun} {changed}")?;
+        }
+    }
+    Ok(())
+}
+
+/// The letters of bytes with each other value at a place.
+fn changes<L: Lettered>(
+    alloc: Global,
+    lettered: &L,
+    bytes: &[u8],
+    place: usize,
+) -> Result<String, Stop> {
+    let mut changed = Vec::new(alloc);
+    changed.extend_from_slice(bytes)?;
+    let mut letters = String::new(alloc);
+    for value in 0..=u8::MAX {
+        if bytes.get(place) != Some(&value) {
+            if let Some(byte) = changed.get_mut(place) {
+                *byte = value;
+            }
+            letters.push(lettered.letter(alloc, &changed)?)?;
+        }
+    }
+    Ok(letters)
+}
