@@ -1,4 +1,9 @@
 //! The state of a run between two instructions.
+ghost use Rattle.std.specs.Prelude.{◌≡◌, ◌<◌, length, slice_set};
+ghost use Rattle.jt_value.specs.View.{view};
+ghost use Rattle.jt_machine.specs.Entries.{values_view};
+ghost use Rattle.jt_machine.specs.Parts.{with_value};
+ghost use Rattle.jt_machine.specs.View.{config_view, held_in};
 
 use crate::stack::Stack;
 use jt_budget::Budget;
@@ -16,4 +21,47 @@ pub(crate) struct State {
     pub(crate) buffer: String,
     pub(crate) outer: Vec<String>,
     pub(crate) left: Budget,
+}
+
+/// A table of values: that of the whole run, or that of the call that runs.
+#[derive(Clone, Copy)]
+pub(crate) enum Table {
+    Globals,
+    Locals,
+}
+
+impl State {
+    /// The values of a table.
+    #[inline(always)]
+    pub(crate) fn values(&self, table: Table) -> &[Value]
+        ensures { result.now ≡ held_in table self.now }
+    {
+        match table {
+            Table::Globals => &self.globals,
+            Table::Locals => &self.locals,
+        }
+    }
+
+    /// Puts a value into a table.
+    #[inline(always)]
+    pub(crate) fn set(&mut self, table: Table, index: usize, value: Value)
+        requires { index < length (held_in table self.old) }
+        ensures { config_view self.new
+            ≡ with_value table index (view value) (config_view self.old) }
+    {
+        match table {
+            Table::Globals => set_value(&mut self.globals, index, value),
+            Table::Locals => set_value(&mut self.locals, index, value),
+        }
+    }
+}
+
+/// Puts a value in the place of another one.
+#[inline(always)]
+pub(crate) fn set_value(values: &mut Vec<Value>, index: usize, value: Value)
+    requires { index < length values.old.items }
+    ensures { values_view values.new.items
+        ≡ slice_set (values_view values.old.items) index (view value) }
+{
+    values[index] = value;
 }
