@@ -10,7 +10,7 @@ use Rattle.jt_trees.specs.ExpressionView.{exprs_view}
 use Rattle.jt_trees.specs.declared.expression.Expr.{Expr}
 use Rattle.jt_trees.specs.StatementView.{parameters_view}
 use Rattle.jt_trees.specs.Expressions.{Text}
-use Rattle.jt_names.specs.Names.{texts}
+use Rattle.jt_trees.specs.Texts.{texts}
 use Rattle.jt_chains.specs.Uses.{count}
 use Rattle.jt_chains.specs.Chain.{Home, MacroBody}
 use Rattle.jt_rules.specs.World.{World}

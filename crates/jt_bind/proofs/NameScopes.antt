@@ -6,7 +6,7 @@ use Rattle.jt_trees.specs.Expressions.{Text}
 use Rattle.jt_meaning.specs.Layout.{Table, slot_in}
 use Rattle.jt_meaning.specs.Resolve.{bound_table}
 use Rattle.jt_layout.specs.Names.{place_in}
-use Rattle.jt_names.specs.Names.{texts}
+use Rattle.jt_trees.specs.Texts.{texts}
 use Rattle.jt_bind.specs.Scoped.{framed}
 use Rattle.jt_bind.specs.declared.name_scope.NameScope.{NameScope}
 use Rattle.jt_bind.proofs.Names.{found_or, bound_found}

@@ -9,7 +9,7 @@ use Rattle.jt_evaluation.specs.Loops.{Field, field_among}
 use Rattle.jt_resolved.specs.Slots.{Slot, local}
 use Rattle.jt_meaning.specs.Layout.{Table, slot_in}
 use Rattle.jt_meaning.specs.Resolve.{bound_table}
-use Rattle.jt_names.specs.Names.{texts}
+use Rattle.jt_trees.specs.Texts.{texts}
 use Rattle.jt_bind.specs.Names.{last_among}
 
 -- the local that was found, else another slot

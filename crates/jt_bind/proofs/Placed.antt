@@ -15,7 +15,7 @@ use Rattle.jt_resolved.specs.declared.program.Slot as code_slot
 use Rattle.jt_resolved.specs.declared.program.Slot.TheVariants as s
 use Rattle.jt_meaning.specs.Layout.{Table, slot_in}
 use Rattle.jt_meaning.specs.Resolve.{Spot, slot_of, bound_table, bound_all}
-use Rattle.jt_names.specs.Names.{texts}
+use Rattle.jt_trees.specs.Texts.{texts}
 use Rattle.jt_bind.specs.Scoped.{framed}
 use Rattle.jt_bind.specs.declared.name_scope.NameScope.{NameScope}
 

@@ -10,7 +10,7 @@ use Rattle.jt_chains.specs.Chain.{Home}
 use Rattle.jt_chains.specs.Uses.{set_in}
 use Rattle.jt_rules.specs.World.{World}
 use Rattle.jt_trees.specs.Statements as trees
-use Rattle.jt_trees.specs.Texts.{among}
+use Rattle.jt_trees.specs.Texts.{among, texts}
 use Rattle.jt_trees.specs.StatementView.{names_view}
 use Rattle.jt_value.specs.Place.{Place}
 use Rattle.jt_resolved.specs.Pool.{Constant}
@@ -22,7 +22,6 @@ use Rattle.jt_resolved.specs.declared.program.SlotStmt.{SlotStmt}
 use Rattle.jt_meaning.specs.Layout.{Table, slot_in}
 use Rattle.jt_meaning.specs.Meaning.{is_set}
 use Rattle.jt_meaning.specs.Resolve.{Spot, read_from, followed, alone, copied, handed_on, resolved, resolved_values, resolved_condition, resolved_filters, grown, kept_slots, bound_all, place}
-use Rattle.jt_names.specs.Names.{texts}
 use Rattle.jt_bind.specs.Chains.{Chains}
 use Rattle.jt_bind.specs.Names.{last_among}
 use Rattle.jt_bind.specs.declared.name_scope.NameScope.{NameScope}

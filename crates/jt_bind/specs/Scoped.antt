@@ -31,7 +31,7 @@ use Rattle.jt_meaning.specs.Layout.{Table, globals, numbered_bodies, numbered_of
 use Rattle.jt_meaning.specs.Resolve as resolve
 use Rattle.jt_meaning.specs.Resolve.{Part, bound_table, bound_all, filled_some, locals_from}
 use Rattle.jt_meaning.specs.Expressions.{filter_parameters}
-use Rattle.jt_names.specs.Names.{texts}
+use Rattle.jt_trees.specs.Texts.{texts}
 use Rattle.jt_bind.specs.declared.entering.Inside.{Inside}
 use Rattle.jt_bind.specs.declared.name_scope.NameScope.{NameScope}
 use Rattle.jt_bind.specs.declared.spot.Spot.{Spot}

@@ -1,7 +1,7 @@
 //! Bodies of blocks that are called.
 
 ghost use Rattle.std.specs.Prelude.{◌≡◌, IfOk};
-ghost use Rattle.jt_names.specs.Names.{texts};
+ghost use Rattle.jt_trees.specs.Texts.{texts};
 ghost use Rattle.jt_meaning.specs.Resolve as resolve;
 ghost use Rattle.jt_bind.specs.Resolving.{table_of, IsBlock, super_of};
 ghost use Rattle.jt_bind.specs.Scoped.{PutsNone, IsRow, parameters_in, first_unit_in};

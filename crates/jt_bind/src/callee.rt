@@ -12,7 +12,7 @@ ghost use Rattle.jt_bind.specs.Scoped.{world_in, order_in, given_in, given_as, I
 ghost use Rattle.jt_rules.specs.World.{World};
 
 use crate::tables::Tables;
-use jt_chains::Given;
+use jt_chains::{Given, is_private};
 use jt_layout::more;
 use jt_trees::{Expr, Parameter};
 use jt_value::NoMemory;
@@ -186,11 +186,4 @@ fn library_in(given: Given<'_>) -> Option<&str>
         Given::Library(name) => Some(name),
         Given::Own(_) | Given::Imported(_, _) => None,
     }
-}
-
-/// Whether a name is private.
-fn is_private(name: &str) -> bool
-    ensures { result ≡ chain.is_private name.now }
-{
-    name.as_bytes().first().is_some_and(|first| *first == b'_')
 }

@@ -1,16 +1,13 @@
 //! Scopes that statements enter: names in locals of their own.
 
-ghost use Rattle.std.specs.Prelude.{◌≡◌, List, map, IfOk};
-ghost use Rattle.jt_trees.specs.ExpressionView.{pairs_view};
-ghost use Rattle.jt_chains.specs.Uses.{keywords};
+ghost use Rattle.std.specs.Prelude.{◌≡◌, List, IfOk};
 ghost use Rattle.jt_meaning.specs.Resolve.{copied};
 ghost use Rattle.jt_bind.specs.Resolving.{line_of, table_of, templates_of};
 ghost use Rattle.jt_bind.specs.Scoped.{BodyLeads, HasInside, Enters};
-ghost use Rattle.jt_trees.specs.StatementView.{names_view, parameters_view};
 ghost use Rattle.jt_resolved.specs.Pool.{Constant};
 ghost use Rattle.jt_resolved.specs.Slots.{SBody};
 ghost use Rattle.jt_value.specs.Tree.{Tree};
-ghost use Rattle.jt_names.specs.Names.{texts};
+ghost use Rattle.jt_trees.specs.Texts.{texts};
 
 use crate::lookup::reading;
 use crate::name_scope::NameScope;
@@ -19,7 +16,6 @@ use crate::resolver::Resolver;
 use crate::spot::Spot;
 use jt_layout::more;
 use jt_resolved::{Slot, SlotStmt, Targets};
-use jt_trees::{Expr, Parameter};
 use jt_value::NoMemory;
 use std::alloc::Global;
 use std::rc::Rc;
@@ -82,44 +78,4 @@ impl<'t, 's, 'a> Resolver<'t, 's, 'a> {
         }
         Ok(())
     }
-}
-
-/// Texts as they stand in a tree.
-pub(crate) fn texts_of<'a>(alloc: Global, names: &'a [String]) -> Result<Vec<&'a str>, NoMemory>
-    ensures { IfOk result (λ ks. texts ks.items ≡ names_view names.now) }
-{
-    let mut found = Vec::with_capacity(alloc, names.len())?;
-    for name in names {
-        found.push(name.as_str())?;
-    }
-    Ok(found)
-}
-
-/// The names of what is given by name.
-pub(crate) fn keywords_of<'a>(
-    alloc: Global,
-    pairs: &'a [(String, Expr)],
-) -> Result<Vec<&'a str>, NoMemory>
-    ensures { IfOk result (λ ks. texts ks.items ≡ keywords (pairs_view pairs.now)) }
-{
-    let mut found = Vec::with_capacity(alloc, pairs.len())?;
-    for (key, _) in pairs {
-        found.push(key.as_str())?;
-    }
-    Ok(found)
-}
-
-/// The names of parameters.
-pub(crate) fn parameters_of<'a>(
-    alloc: Global,
-    parameters: &'a [Parameter],
-) -> Result<Vec<&'a str>, NoMemory>
-    ensures { IfOk result
-        (λ ks. texts ks.items ≡ map (λ p. p.name) (parameters_view parameters.now)) }
-{
-    let mut found = Vec::with_capacity(alloc, parameters.len())?;
-    for parameter in parameters {
-        found.push(parameter.name.as_str())?;
-    }
-    Ok(found)
 }

@@ -3,7 +3,7 @@
 ghost use Rattle.std.specs.Prelude.{◌≡◌, IfOk, None};
 ghost use Rattle.jt_trees.specs.Expressions.{Text};
 ghost use Rattle.jt_layout.specs.Names.{place_in};
-ghost use Rattle.jt_names.specs.Names.{texts};
+ghost use Rattle.jt_trees.specs.Texts.{texts};
 ghost use Rattle.jt_bind.specs.Names.{last_among};
 
 use jt_layout::{Index, more};

@@ -8,7 +8,7 @@ ghost use Rattle.jt_bind.specs.Resolving.{StmtLeads, line_of, table_of};
 ghost use Rattle.jt_bind.specs.Scoped.{PutsNone, globals_in, spot_in};
 ghost use Rattle.jt_trees.specs.Statements as trees;
 ghost use Rattle.jt_trees.specs.StatementView.{is_ignored, are_seen};
-ghost use Rattle.jt_names.specs.Names.{texts};
+ghost use Rattle.jt_trees.specs.Texts.{texts};
 ghost use Rattle.jt_value.specs.Tree.{Tree};
 ghost use Rattle.jt_bind.specs.Stated.{Puts};
 

@@ -6,7 +6,7 @@ ghost use Rattle.jt_chains.specs.Places.{home_at};
 ghost use Rattle.jt_meaning.specs.Layout as layout;
 ghost use Rattle.jt_meaning.specs.Programs as programs;
 ghost use Rattle.jt_bind.specs.Scoped.{world_in, order_in};
-ghost use Rattle.jt_names.specs.Names.{texts};
+ghost use Rattle.jt_trees.specs.Texts.{texts};
 
 use crate::tables::Tables;
 use jt_chains::Page;

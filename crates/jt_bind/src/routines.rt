@@ -8,16 +8,16 @@ ghost use Rattle.jt_bind.specs.Resolving.{BodyAdds, sets_of, routine_of, layer_o
 ghost use Rattle.jt_bind.specs.Scoped.{world_in, order_in, home_in, spot_in, top_in};
 ghost use Rattle.jt_trees.specs.Expressions.{Text};
 ghost use Rattle.jt_trees.specs.StatementView.{body_view};
-ghost use Rattle.jt_names.specs.Names.{texts};
+ghost use Rattle.jt_trees.specs.Texts.{texts};
 ghost use Rattle.jt_bind.specs.Routines.{RoutineIs, PutsAll, AddsAll, entry_in, macros_in, blocks_in, routines_in};
 ghost use Rattle.jt_bind.specs.Stated.{BodyLed, layers_in};
 
-use crate::entering::parameters_of;
 use crate::locals::{body_locals, larger};
 use crate::resolver::Resolver;
 use crate::spot::Spot;
 use crate::tables::Tables;
 use jt_chains::Layer;
+use jt_names::parameter_names;
 use jt_resolved::{Routine, SlotStmt};
 use jt_trees::Stmt;
 use jt_value::{NoMemory, Value};
@@ -174,7 +174,7 @@ fn resolve_macros<'a>(
             tables,
             spot: top_spot(tables, called.template),
         };
-        let parameters = parameters_of(alloc, called.parameters)?;
+        let parameters = parameter_names(alloc, called.parameters)?;
         routines.push(resolver.resolve_routine(called.body, parameters, pool)?)?;
     }
     Ok(())

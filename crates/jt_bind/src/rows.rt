@@ -2,7 +2,7 @@
 
 ghost use Rattle.std.specs.Prelude.{◌≡◌, List, [], ◌∷◌, length, None, IfOk};
 ghost use Rattle.jt_trees.specs.Expressions.{Text};
-ghost use Rattle.jt_names.specs.Names.{texts};
+ghost use Rattle.jt_trees.specs.Texts.{texts};
 ghost use Rattle.jt_meaning.specs.Resolve as resolve;
 ghost use Rattle.jt_bind.specs.Resolving.{table_of};
 ghost use Rattle.jt_bind.specs.Scoped.{IsRow};

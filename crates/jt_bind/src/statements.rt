@@ -11,15 +11,15 @@ ghost use Rattle.jt_trees.specs.StatementView.{stmt_view, body_view, branches_vi
 ghost use Rattle.jt_resolved.specs.Pool.{Constant};
 ghost use Rattle.jt_resolved.specs.Slots as slots;
 ghost use Rattle.jt_resolved.specs.View.{slot_view};
-ghost use Rattle.jt_names.specs.Names.{texts};
+ghost use Rattle.jt_trees.specs.Texts.{texts};
 ghost use Rattle.jt_bind.specs.Stated.{IsAsked};
 
-use crate::entering::{entered, keywords_of, texts_of};
+use crate::entering::entered;
 use crate::putting::{Turns, put_assign, put_capture, put_choice, put_data, put_loop, put_print};
 use crate::resolver::Resolver;
 use crate::targets::fresh_targets;
 use jt_layout::more;
-use jt_names::set_names;
+use jt_names::{keyword_names, names_of, set_names};
 use jt_resolved::{Slot, SlotBranch, SlotExpr, SlotStmt, Targets};
 use jt_trees::{Branch, Expr, Filtering, Stmt};
 use jt_value::{NoMemory, Value};
@@ -188,7 +188,7 @@ impl<'t, 's, 'a> Resolver<'t, 's, 'a> {
             (body_view body.now) t pool.old pool.new) }
     {
         let items = self.resolve_expression(over, pool)?;
-        let inner = entered(self.alloc, &self.spot, texts_of(self.alloc, names)?)?;
+        let inner = entered(self.alloc, &self.spot, names_of(self.alloc, names)?)?;
         let inside = Resolver {
             spot: self.spot.inside(&inner),
             ..*self
@@ -219,7 +219,7 @@ impl<'t, 's, 'a> Resolver<'t, 's, 'a> {
             pool.new) }
     {
         self.resolve_values(line, pairs, done, pool)?;
-        self.resolve_within(body, keywords_of(self.alloc, pairs)?, done, pool)
+        self.resolve_within(body, keyword_names(self.alloc, pairs)?, done, pool)
     }
 
     /// Resolves a body whose text is kept in a local, and puts what prints it through filters

@@ -7,13 +7,13 @@ ghost use Rattle.jt_bind.specs.Names.{last_among};
 ghost use Rattle.jt_bind.specs.Resolving.{table_of};
 ghost use Rattle.jt_trees.specs.StatementView.{names_view};
 ghost use Rattle.jt_resolved.specs.View.{slot_view, targets_view};
-ghost use Rattle.jt_names.specs.Names.{texts};
+ghost use Rattle.jt_trees.specs.Texts.{texts};
 ghost use Rattle.jt_bind.specs.Stated.{slot_if};
 
-use crate::entering::texts_of;
 use crate::name_scope::NameScope;
 use crate::resolver::Resolver;
 use jt_layout::more;
+use jt_names::names_of;
 use jt_resolved::{Slot, Targets};
 use jt_value::NoMemory;
 use std::alloc::Global;
@@ -44,7 +44,7 @@ impl<'t, 's, 'a> Resolver<'t, 's, 'a> {
         ensures { IfOk result (λ ss. map (option_map slot_view) ss.items
             ≡ resolve.kept_slots (table_of self.now) (names_view names.now)) }
     {
-        let last = NameScope::new(self.alloc, texts_of(self.alloc, names)?, 0)?;
+        let last = NameScope::new(self.alloc, names_of(self.alloc, names)?, 0)?;
         let mut slots = Vec::with_capacity(self.alloc, names.len())?;
         for (place, name) in names.iter().enumerate() {
             slots.push(self.kept_slot(&last, place, name.as_str()))?;

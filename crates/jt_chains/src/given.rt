@@ -3,6 +3,7 @@
 ghost use Rattle.std.specs.Prelude.{◌≡◌, ◌<◌, ◌++◌, [], List, length, map, option_map, not, if◌then◌else◌, IfOk};
 ghost use Rattle.std.specs.List.{list_any};
 ghost use Rattle.jt_trees.specs.StatementView.{stmt_view, body_view, given_view};
+ghost use Rattle.jt_trees.specs.Texts.{texts};
 ghost use Rattle.jt_chains.specs.Chain as chains;
 ghost use Rattle.jt_chains.specs.Chain.{Template, templates, macros, own, all_given_from, imports_in, libraries_in, libraries, given, a_library};
 ghost use Rattle.jt_chains.specs.Along.{along, first_body};
@@ -96,13 +97,10 @@ fn body_of_library<'a>(chain: &'a Chain, name: &str) -> &'a [Stmt]
 }
 
 /// Whether a name is private.
-pub(crate) fn is_private(name: &str) -> bool
+pub fn is_private(name: &str) -> bool
     ensures { result ≡ chains.is_private name.now }
 {
-    match name.as_bytes().first() {
-        Some(first) => *first == b'_',
-        None => false,
-    }
+    name.as_bytes().first().is_some_and(|first| *first == b'_')
 }
 
 /// Adds the names that `from` gives.
@@ -224,8 +222,8 @@ impl Chain {
 
 /// Adds the names of the libraries that a template imports, as often as they stand there.
 fn add_libraries<'a>(body: &'a [Stmt], found: &mut Vec<&'a str>) -> Result<(), AllocError>
-    ensures { IfOk result (λ _. map (λ n. n.now) found.new.items
-        ≡ map (λ n. n.now) found.old.items ++ libraries_in (body_view body.now)) }
+    ensures { IfOk result (λ _. texts found.new.items
+        ≡ texts found.old.items ++ libraries_in (body_view body.now)) }
 {
     for statement in body {
         match statement {
@@ -243,7 +241,7 @@ fn libraries_of<'a>(
     pages: &'a [Page],
     home: &Home,
 ) -> Result<Vec<&'a str>, AllocError>
-    ensures { IfOk result (λ ns. map (λ n. n.now) ns.items ≡ (if home.now.is_library then []
+    ensures { IfOk result (λ ns. texts ns.items ≡ (if home.now.is_library then []
         else along (pages_view pages.now) (λ n b. libraries_in b) home.now.templates.items)) }
 {
     let mut found = Vec::new(alloc);
@@ -261,7 +259,7 @@ impl Chain {
     /// isn't there imports none.
     pub fn libraries(&self, alloc: Global, home: usize) -> Result<Vec<&str>, AllocError>
         ensures there { home < length self.now.homes.items → IfOk result (λ ns.
-            map (λ n. n.now) ns.items ≡ libraries (its_sources self.now) (home_in self.now home)) }
+            texts ns.items ≡ libraries (its_sources self.now) (home_in self.now home)) }
         ensures nowhere { NoneBeyond self.now home result }
     {
         match self.homes.get(home) {

@@ -14,10 +14,10 @@ mod pages;
 mod parts;
 mod tables;
 
-pub use given::{Given, Named, holds_macros};
+pub use given::{Given, Named, holds_macros, is_private};
 pub use includes::{Include, includes_at};
 pub use layers::Layer;
 pub use linked::{Chain, Home};
 pub use pages::Page;
-pub use parts::{Block, Macro, blocks_at, blocks_of_page, macros_at};
+pub use parts::{Block, Macro, blocks_at, blocks_of_page, macro_names, macros_at};
 pub use tables::places_by_name;

@@ -1,7 +1,8 @@
 //! The macros of a chain, and the bodies of its blocks.
 
-ghost use Rattle.std.specs.Prelude.{◌≡◌, ◌<◌, ◌++◌, length, IfOk};
+ghost use Rattle.std.specs.Prelude.{◌≡◌, ◌<◌, ◌++◌, length, map, IfOk};
 ghost use Rattle.jt_trees.specs.StatementView.{stmt_view, body_view};
+ghost use Rattle.jt_trees.specs.Texts.{texts};
 ghost use Rattle.jt_chains.specs.Chain.{macros, macros_in, all_bodies, blocks_of, blocks_in};
 ghost use Rattle.jt_chains.specs.Pages.{pages_view};
 ghost use Rattle.jt_chains.specs.Parts.{block_view, macros_view, blocks_view, name_at};
@@ -194,6 +195,13 @@ pub fn macros_at<'a>(
         add_macros(pages, *place, body_of_page(pages, *place), &mut found)?;
     }
     Ok(found)
+}
+
+/// The names of macros, in their order.
+pub fn macro_names<'a>(alloc: Global, macros: &[Macro<'a>]) -> Result<Vec<&'a str>, AllocError>
+    ensures { IfOk result (λ ns. texts ns.items ≡ map (λ m. m.name.now) macros.now) }
+{
+    macros.iter().map(|one| one.name).collect(alloc)
 }
 
 /// The bodies of the blocks of the template at a place; none where there is no template.

@@ -10,8 +10,8 @@ use Rattle.std.proofs.lemmas.Cmp.{nat_list_eq_equiv}
 use Rattle.std.proofs.lemmas.Map.Text.{is_eq-slice_cmp}
 use denote.Ref.{Bor}
 use Rattle.jt_trees.specs.Expressions.{Text}
-use Rattle.jt_trees.specs.Texts.{among, repeated}
-use Rattle.jt_checks.specs.Standing.{Names, is_among, texts}
+use Rattle.jt_trees.specs.Texts.{among, repeated, texts}
+use Rattle.jt_checks.specs.Standing.{Names, is_among}
 
 pub symmetric : (x y : Text) → bytes_eq x y ≡ bytes_eq y x
 symmetric x y = nat_list_eq_equiv.symm x y

@@ -20,7 +20,6 @@ use Rattle.jt_chains.specs.Uses.{own_names}
 use Rattle.jt_chains.specs.Places.{home_at}
 use Rattle.jt_chains.specs.View.{chain_view}
 use Rattle.jt_chains.specs.declared.linked.Chain.{Chain}
-pub use Rattle.jt_names.specs.Names.{texts}
 use Rattle.jt_rules.specs.World.{World, world_of}
 use Rattle.jt_rules.specs.Rules.{libraries_counted}
 use Rattle.jt_checks.specs.declared.scope.Known as scope

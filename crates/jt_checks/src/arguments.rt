@@ -3,7 +3,7 @@
 ghost use Rattle.std.specs.Prelude.{◌≡◌, ◌<◌, ◌≤◌, ◌^◌, ◌&&◌, not, length, drop, IfOk};
 ghost use Rattle.std.specs.List.{list_any};
 ghost use Rattle.jt_trees.specs.ExpressionView.{exprs_view, pairs_view};
-ghost use Rattle.jt_trees.specs.Texts.{among, repeated};
+ghost use Rattle.jt_trees.specs.Texts.{among, repeated, texts};
 ghost use Rattle.jt_trees.specs.Expressions.{Text};
 ghost use Rattle.jt_trees.specs.StatementView.{names_view, parameter_view, parameters_view};
 ghost use Rattle.jt_chains.specs.Uses.{count, keywords};
@@ -12,11 +12,12 @@ ghost use Rattle.jt_evaluation.specs.Inside.{names_well};
 ghost use Rattle.jt_evaluation.specs.Tests.{test_named};
 ghost use Rattle.jt_rules.specs.Walk as rules;
 ghost use Rattle.jt_checks.specs.Fitting.{filter_takes};
-ghost use Rattle.jt_checks.specs.Standing.{texts, is_among};
+ghost use Rattle.jt_checks.specs.Standing.{is_among};
 
 use crate::inside::are_names_well;
 use jt_evaluation::{filter_of, filter_parameters, test_of};
 use jt_ids::FilterId;
+use jt_names::{keyword_names, parameter_names};
 use jt_rules::ScopeError;
 use jt_trees::{Expr, Parameter};
 use std::alloc::{AllocError, Global};
@@ -38,49 +39,6 @@ pub(crate) fn unless(right: bool) -> Option<ScopeError>
     } else {
         Some(ScopeError::BadArguments)
     }
-}
-
-/// The names of arguments that are given by name, or the keys of a map.
-pub(crate) fn keywords_of<'a>(
-    alloc: Global,
-    pairs: &'a [(String, Expr)],
-) -> Result<Vec<&'a str>, AllocError>
-    ensures { IfOk result (λ names. texts names.items ≡ keywords (pairs_view pairs.now)) }
-{
-    let mut names = Vec::with_capacity(alloc, pairs.len())?;
-    for (name, _) in pairs {
-        names.push(name.as_str())?;
-    }
-    Ok(names)
-}
-
-/// The names of parameters.
-pub(crate) fn parameter_names<'a>(
-    alloc: Global,
-    parameters: &'a [Parameter],
-) -> Result<Vec<&'a str>, AllocError>
-    ensures { IfOk result
-        (λ ns. texts ns.items ≡ rules.parameter_names (parameters_view parameters.now)) }
-{
-    let mut names = Vec::with_capacity(alloc, parameters.len())?;
-    for parameter in parameters {
-        names.push(parameter.name.as_str())?;
-    }
-    Ok(names)
-}
-
-/// The names of targets.
-pub(crate) fn target_names<'a>(
-    alloc: Global,
-    targets: &'a [String],
-) -> Result<Vec<&'a str>, AllocError>
-    ensures { IfOk result (λ names. texts names.items ≡ names_view targets.now) }
-{
-    let mut names = Vec::with_capacity(alloc, targets.len())?;
-    for target in targets {
-        names.push(target.as_str())?;
-    }
-    Ok(names)
 }
 
 /// Whether one of the names comes again.
@@ -154,7 +112,7 @@ pub(crate) fn fits(
     if parameters.len() < row.len() {
         return Ok(false);
     }
-    let names = keywords_of(alloc, pairs)?;
+    let names = keyword_names(alloc, pairs)?;
     names_fit(alloc, parameters, row.len(), &names)
 }
 
@@ -266,7 +224,7 @@ fn filter_fits(
         return Ok(filter.takes(filled + 1));
     }
     let parameters = filter_parameters(alloc, filter)?;
-    let names = keywords_of(alloc, pairs)?;
+    let names = keyword_names(alloc, pairs)?;
     filter_takes(alloc, filter, &parameters, filled, &names)
 }
 

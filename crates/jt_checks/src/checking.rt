@@ -2,12 +2,11 @@
 
 ghost use Rattle.std.specs.Prelude.{◌≡◌, ◌<◌, nat_lt, nat_le, false, length, IfOk, OnOk, IfErr};
 ghost use Rattle.std.specs.Option.{option_or};
-ghost use Rattle.jt_trees.specs.Texts.{ascending};
+ghost use Rattle.jt_trees.specs.Texts.{ascending, texts};
 ghost use Rattle.jt_trees.specs.Statements.{body_bound};
 ghost use Rattle.jt_trees.specs.StatementView.{body_view};
 ghost use Rattle.jt_chains.specs.Chain.{templates, libraries, a_library};
 ghost use Rattle.jt_chains.specs.View.{chain_view};
-ghost use Rattle.jt_names.specs.Names.{texts};
 ghost use Rattle.jt_rules.specs.Walk as rules;
 ghost use Rattle.jt_rules.specs.Rules.{KeepsRules, Breaks, libraries_counted, max_bindings, max_names};
 ghost use Rattle.jt_checks.specs.ScopeView.{capped, its_home, names_in, own_count, its_sources, in_scope};

@@ -9,7 +9,8 @@ ghost use Rattle.jt_trees.specs.Expressions.{Text};
 ghost use Rattle.jt_evaluation.specs.Loops.{field_named};
 ghost use Rattle.jt_rules.specs.Walk as rules;
 ghost use Rattle.jt_rules.specs.World.{World};
-ghost use Rattle.jt_checks.specs.Standing.{texts, is_block};
+ghost use Rattle.jt_trees.specs.Texts.{texts};
+ghost use Rattle.jt_checks.specs.Standing.{is_block};
 ghost use Rattle.jt_checks.specs.ScopeView.{its_sources, its_given, given_in, in_scope, tree_found, Finds, FindsCall, arguments_found, is_bare, is_positional, within_view, name_in};
 ghost use Rattle.jt_rules.specs.declared.error.ScopeError.TheVariants as error;
 

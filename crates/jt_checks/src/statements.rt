@@ -10,11 +10,10 @@ ghost use Rattle.jt_rules.specs.World.{World};
 ghost use Rattle.jt_rules.specs.Walk as rules;
 ghost use Rattle.jt_checks.specs.ScopeView.{in_scope, found, body_found, tree_found, targets_found, Finds, Tells, within_view};
 
-use crate::arguments::{
-    any_repeated, filter_broken, keywords_of, parameter_names, refused, target_names, unless,
-};
+use crate::arguments::{any_repeated, filter_broken, refused, unless};
 use crate::expressions::{all_used, broken, pairs_broken, read_alone, row_broken, used};
 use crate::scope::{Scope, Within};
+use jt_names::{keyword_names, names_of, parameter_names};
 use jt_rules::ScopeError;
 use jt_trees::{Branch, Expr, Filtering, Parameter, Stmt};
 use std::alloc::AllocError;
@@ -67,7 +66,7 @@ fn condition_broken(
 fn targets_broken(scope: &Scope<'_>, targets: &[String]) -> Result<Option<ScopeError>, AllocError>
     ensures { IfOk result (λ o. o ≡ targets_found scope.now targets.now) }
 {
-    Ok(all_used(scope, &target_names(scope.alloc, targets)?))
+    Ok(all_used(scope, &names_of(scope.alloc, targets)?))
 }
 
 /// The first rule that values and the names for them break.
@@ -83,7 +82,7 @@ fn bindings_broken(
     if let Some(rule) = pairs_broken(scope, within, pairs)? {
         return Ok(Some(rule));
     }
-    Ok(all_used(scope, &keywords_of(scope.alloc, pairs)?))
+    Ok(all_used(scope, &keyword_names(scope.alloc, pairs)?))
 }
 
 /// The first rule that the head of a loop breaks.

@@ -13,7 +13,7 @@ use Rattle.std.proofs.lemmas.Map.Text.{is_eq-slice_cmp}
 use Rattle.std.proofs.lemmas.Slice.Eq.{bytes_eq-Decides}
 use denote.Ref.{Bor}
 use Rattle.jt_trees.specs.Expressions.{Text}
-use Rattle.jt_names.specs.Names.{texts}
+use Rattle.jt_trees.specs.Texts.{texts}
 use Rattle.jt_meaning.specs.Ascends.{IsBefore, Above, Ascends}
 use Rattle.jt_meaning.proofs.Few.{less_is, before_trans}
 use Rattle.jt_lower.specs.Spots.{number_of}

@@ -12,7 +12,7 @@ use Rattle.std.specs.Ordering.{nat_cmp, is_eq}
 use Rattle.std.specs.Str.{bytes_eq}
 use Rattle.std.proofs.lemmas.Map.Text.{is_eq-slice_cmp}
 use denote.Ref.{Bor}
-use Rattle.jt_trees.specs.Texts.{among, repeated}
+use Rattle.jt_trees.specs.Texts.{among, repeated, texts}
 use Rattle.jt_trees.specs.Expressions.{Text}
 use Rattle.jt_trees.specs.Statements.{end}
 use Rattle.std.specs.Option.{option_to_list}
@@ -24,7 +24,6 @@ use Rattle.jt_chains.specs.Parts.{block_view, blocks_view, name_at}
 use Rattle.jt_chains.specs.declared.parts.Block.{Block}
 use Rattle.jt_chains.specs.Rules.{is_required, lacks_super, is_empty}
 use Rattle.jt_chains.specs.Supers.{calls_super}
-use Rattle.jt_inherit.specs.SetView.{texts}
 use Rattle.jt_inherit.proofs.Among.{of_texts, reflexive, same, symmetric}
 use Rattle.jt_inherit.proofs.Members.{among_next, both_false, once_more, or_false, or_true}
 

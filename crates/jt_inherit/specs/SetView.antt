@@ -4,11 +4,9 @@ use Rattle.std.specs.declared.string.String.{String}
 use Rattle.std.specs.declared.alloc.Global.{Global}
 use denote.Ref.{Bor}
 use Rattle.jt_trees.specs.Expressions.{Text}
+use Rattle.jt_trees.specs.Texts.{texts}
 use Rattle.jt_chains.specs.Chain.{Home, a_chain, a_library}
 use Rattle.jt_inherit.specs.declared.sets.HomeKey.{HomeKey}
-
-abbrev pub texts : List (Bor Text) → List Text
-texts ks = map (λ k. k.now) ks
 
 -- these stand behind those that were there
 abbrev pub AddsTexts : List (Bor Text) → List (Bor Text) → List Text → Type 0

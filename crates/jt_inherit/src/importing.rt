@@ -1,6 +1,6 @@
 //! What the imports of a chain give.
 
-ghost use Rattle.std.specs.Prelude.{◌≡◌, map, IfOk};
+ghost use Rattle.std.specs.Prelude.{◌≡◌, IfOk};
 ghost use Rattle.jt_trees.specs.StatementView.{body_view, given_view};
 ghost use Rattle.jt_chains.specs.Along.{ArePlaces};
 ghost use Rattle.jt_chains.specs.Chain.{a_library, macros};
@@ -9,10 +9,11 @@ ghost use Rattle.jt_chains.specs.Rules as rules;
 ghost use Rattle.jt_inherit.specs.Kept as spec;
 ghost use Rattle.jt_inherit.specs.Kept.{names_from, imported_names, their_names};
 ghost use Rattle.jt_inherit.specs.Given.{IsGiven, macros_held, its_sources, its_templates};
-ghost use Rattle.jt_inherit.specs.SetView.{AddsTexts, texts};
+ghost use Rattle.jt_trees.specs.Texts.{texts};
+ghost use Rattle.jt_inherit.specs.SetView.{AddsTexts};
 
 use crate::shelf::Shelf;
-use jt_chains::{Macro, Page, macros_at};
+use jt_chains::{Page, macro_names, macros_at};
 use jt_trees::Stmt;
 use std::alloc::{AllocError, Global};
 
@@ -136,17 +137,6 @@ fn add_imported<'a>(
     Ok(())
 }
 
-/// The names of macros.
-fn names_of<'a>(alloc: Global, macros: &[Macro<'a>]) -> Result<Vec<&'a str>, AllocError>
-    ensures { IfOk result (λ ns. texts ns.items ≡ map (λ m. m.name.now) macros.now) }
-{
-    let mut names = Vec::with_capacity(alloc, macros.len())?;
-    for one in macros {
-        names.push(one.name)?;
-    }
-    Ok(names)
-}
-
 /// The names of the macros of the templates at these places, and those that their imports give.
 pub(crate) fn names_at<'a>(
     alloc: Global,
@@ -158,7 +148,7 @@ pub(crate) fn names_at<'a>(
         ≡ their_names (its_sources shelf.entry) (its_templates shelf.entry places.now)) }
 {
     let macros = macros_at(alloc, shelf.pages, places)?;
-    let mut given = names_of(alloc, &macros)?;
+    let mut given = macro_names(alloc, &macros)?;
     for place in places {
         add_imported(shelf, shelf.pages[*place].template.body(), &mut given)?;
     }

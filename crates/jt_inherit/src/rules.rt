@@ -2,7 +2,7 @@
 
 ghost use Rattle.std.specs.Prelude.{◌≡◌, ◌&&◌, ◌||◌, ◌++◌, ◌∷◌, [], List, not, IfOk, IfErr, OnOk, if◌then◌else◌};
 ghost use Rattle.std.specs.Str.{bytes_eq};
-ghost use Rattle.jt_trees.specs.Texts.{among, repeated};
+ghost use Rattle.jt_trees.specs.Texts.{among, repeated, texts};
 ghost use Rattle.jt_trees.specs.Expressions.{Text};
 ghost use Rattle.jt_chains.specs.Along.{ArePlaces, templates_at};
 ghost use Rattle.jt_chains.specs.Chain.{Template};
@@ -10,7 +10,6 @@ ghost use Rattle.jt_inherit.specs.Checks.{lacks_body, lacks_next, block_names};
 ghost use Rattle.jt_inherit.specs.Kept as spec;
 ghost use Rattle.jt_chains.specs.Pages.{pages_view};
 ghost use Rattle.jt_chains.specs.Parts.{blocks_view};
-ghost use Rattle.jt_inherit.specs.SetView.{texts};
 ghost use Rattle.jt_inherit.specs.Given.{its_sources, its_templates};
 
 use crate::error::ChainError;

@@ -11,7 +11,7 @@ use Rattle.jt_chains.specs.Places.{home_at}
 use Rattle.jt_resolved.specs.Slots.{global}
 use Rattle.jt_meaning.specs.Layout.{slot_in, globals_from, counted_from}
 use Rattle.jt_meaning.specs.Resolve.{first_body}
-use Rattle.jt_names.specs.Names.{texts}
+use Rattle.jt_trees.specs.Texts.{texts}
 use Rattle.jt_layout.specs.Laid.{IsHomeAt}
 use Rattle.jt_layout.specs.Places.{first_of, first_home}
 use Rattle.jt_layout.proofs.Homes.{same_is}

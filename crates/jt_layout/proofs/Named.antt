@@ -7,7 +7,7 @@ use Rattle.std.specs.BTreeSet.{insert_key}
 use Rattle.std.proofs.lemmas.List.{drop_more, append-nil}
 use denote.Ref.{Bor}
 use Rattle.jt_trees.specs.Expressions.{Text}
-use Rattle.jt_trees.specs.Texts.{all_inserted, ascending}
+use Rattle.jt_trees.specs.Texts.{all_inserted, ascending, texts}
 use Rattle.jt_chains.specs.Chain.{Home, a_chain, a_library, same_home, Sources, templates}
 use Rattle.jt_chains.specs.Includes.{included, needs_in, with_source}
 use Rattle.jt_chains.specs.Needs.{needed, needs_view}
@@ -16,7 +16,6 @@ use Rattle.jt_chains.specs.Uses.{own_names}
 use Rattle.jt_chains.specs.declared.includes.Include.{Include}
 use Rattle.jt_rules.specs.World.{World}
 use Rattle.jt_meaning.specs.Layout.{in_globals, names_in}
-use Rattle.jt_names.specs.Names.{texts}
 use Rattle.jt_layout.specs.Places.{all_names, texts_of}
 use Rattle.jt_layout.proofs.Firsts.{homes_left}
 use Rattle.jt_layout.proofs.Homes.{same}

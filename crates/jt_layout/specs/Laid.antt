@@ -15,7 +15,7 @@ use Rattle.jt_resolved.specs.Slots.{global}
 use Rattle.jt_meaning.specs.Layout.{slot_in, globals, of_chain, of_macro, of_body, keys, names, numbered_of, numbered_bodies, first_slot, unit, default_place, block_parameters}
 use Rattle.jt_meaning.specs.Resolve.{first_body, next_given}
 use Rattle.jt_layout.specs.Names.{place_in}
-use Rattle.jt_names.specs.Names.{texts}
+use Rattle.jt_trees.specs.Texts.{texts}
 use Rattle.jt_layout.specs.declared.laid.Laid.{Laid}
 use Rattle.jt_layout.specs.declared.home_tables.HomeTables.{HomeTables}
 

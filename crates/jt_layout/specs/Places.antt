@@ -7,14 +7,13 @@ use Rattle.std.specs.BTreeMap.{BTreeMap, get_by}
 use Rattle.std.specs.Str.{bytes_eq}
 use denote.Ref.{Bor}
 use Rattle.jt_trees.specs.Expressions.{Text}
-use Rattle.jt_trees.specs.Texts.{ascending}
+use Rattle.jt_trees.specs.Texts.{ascending, texts}
 use Rattle.jt_chains.specs.Chain.{Home, a_chain, a_library, same_home, BlockBody, MacroBody}
 use Rattle.jt_chains.specs.Includes.{included}
 use Rattle.jt_chains.specs.Uses.{own_names}
 use Rattle.jt_rules.specs.World.{World}
 use Rattle.jt_meaning.specs.Layout.{names_in}
 use Rattle.jt_meaning.specs.Resolve.{next_given}
-use Rattle.jt_names.specs.Names.{texts}
 use Rattle.jt_layout.specs.Names.{place_in}
 
 -- the place of the first of these texts that is x, where they have the places from one on

@@ -9,7 +9,7 @@ ghost use Rattle.jt_chains.specs.Chain.{Template};
 ghost use Rattle.jt_chains.specs.Parts.{block_view, blocks_view};
 ghost use Rattle.jt_chains.specs.Uses as uses;
 ghost use Rattle.jt_meaning.specs.Layout.{counted_from, is_scoped};
-ghost use Rattle.jt_names.specs.Names.{texts};
+ghost use Rattle.jt_trees.specs.Texts.{texts};
 ghost use Rattle.jt_chains.specs.View.{home_in, its_sources, its_templates};
 ghost use Rattle.jt_layout.specs.Homes.{its_world, its_bodies};
 ghost use Rattle.jt_layout.specs.Names.{place_in};

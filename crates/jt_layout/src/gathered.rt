@@ -2,12 +2,11 @@
 
 ghost use Rattle.std.specs.Prelude.{◌≡◌, ◌<◌, ◌+◌, false, [], length, drop, IfOk, if◌then◌else◌, string_bytes};
 ghost use Rattle.std.specs.Str.{bytes_eq};
-ghost use Rattle.jt_trees.specs.Texts.{all_inserted};
+ghost use Rattle.jt_trees.specs.Texts.{all_inserted, texts};
 ghost use Rattle.jt_trees.specs.Expressions.{Text};
 ghost use Rattle.jt_chains.specs.Chain.{a_chain, same_home};
 ghost use Rattle.jt_chains.specs.Pages.{home_view};
 ghost use Rattle.jt_meaning.specs.Layout.{in_globals};
-ghost use Rattle.jt_names.specs.Names.{texts};
 ghost use Rattle.jt_chains.specs.View.{home_in};
 ghost use Rattle.jt_layout.specs.Homes.{its_world, its_order, AreSources, AreNames};
 ghost use Rattle.jt_layout.specs.Places.{all_names, names_at};

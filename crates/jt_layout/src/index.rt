@@ -1,7 +1,7 @@
 //! Places of names.
 
 ghost use Rattle.std.specs.Prelude.{◌≡◌, IfOk, Some, None, if◌then◌else◌};
-ghost use Rattle.jt_names.specs.Names.{texts};
+ghost use Rattle.jt_trees.specs.Texts.{texts};
 ghost use Rattle.std.specs.Str.{bytes_eq};
 ghost use Rattle.jt_trees.specs.Expressions.{Text};
 ghost use Rattle.jt_layout.specs.Names.{place_in};

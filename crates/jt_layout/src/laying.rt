@@ -4,7 +4,7 @@ ghost use Rattle.std.specs.Prelude.{◌≡◌, ◌<◌, ◌+◌, length, IfOk};
 ghost use Rattle.jt_chains.specs.Pages.{home_view};
 ghost use Rattle.jt_rules.specs.World.{World};
 ghost use Rattle.jt_meaning.specs.Layout as layout;
-ghost use Rattle.jt_names.specs.Names.{texts};
+ghost use Rattle.jt_trees.specs.Texts.{texts};
 ghost use Rattle.jt_layout.specs.Front.{StandsAt, IsLaidAt, AreLaid};
 ghost use Rattle.jt_layout.specs.Homes.{its_world, its_order, its_names, AreNames};
 ghost use Rattle.jt_layout.specs.Laid.{IsLaidOut};

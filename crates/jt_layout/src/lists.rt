@@ -1,9 +1,9 @@
-//! The names of templates, macros, blocks and what is given, in their order.
+//! The names of templates, blocks and what is given, in their order.
 
 ghost use Rattle.std.specs.Prelude.{◌≡◌, map, IfOk, string_bytes};
-ghost use Rattle.jt_names.specs.Names.{texts};
+ghost use Rattle.jt_trees.specs.Texts.{texts};
 
-use jt_chains::{Block, Macro, Named, Page};
+use jt_chains::{Block, Named, Page};
 use std::alloc::{AllocError, Global};
 use std::collections::BTreeSet;
 
@@ -21,11 +21,7 @@ pub(crate) fn list_of<'a>(
 pub(crate) fn template_names(alloc: Global, pages: &[Page]) -> Result<Vec<&str>, AllocError>
     ensures { IfOk result (λ ns. texts ns.items ≡ map (λ p. string_bytes p.name) pages.now) }
 {
-    let mut names = Vec::with_capacity(alloc, pages.len())?;
-    for page in pages {
-        names.push(page.name.as_str())?;
-    }
-    Ok(names)
+    pages.iter().map(|page| page.name.as_str()).collect(alloc)
 }
 
 /// The names that stand for macros and libraries.
@@ -35,25 +31,7 @@ pub(crate) fn given_names<'a>(
 ) -> Result<Vec<&'a str>, AllocError>
     ensures { IfOk result (λ ns. texts ns.items ≡ map (λ g. g.name.now) given.now) }
 {
-    let mut names = Vec::with_capacity(alloc, given.len())?;
-    for entry in given {
-        names.push(entry.name)?;
-    }
-    Ok(names)
-}
-
-/// The names of macros.
-pub(crate) fn macro_names<'a>(
-    alloc: Global,
-    macros: &[Macro<'a>],
-) -> Result<Vec<&'a str>, AllocError>
-    ensures { IfOk result (λ ns. texts ns.items ≡ map (λ m. m.name.now) macros.now) }
-{
-    let mut names = Vec::with_capacity(alloc, macros.len())?;
-    for entry in macros {
-        names.push(entry.name)?;
-    }
-    Ok(names)
+    given.iter().map(|entry| entry.name).collect(alloc)
 }
 
 /// The names of the blocks that bodies are of.
@@ -63,9 +41,5 @@ pub(crate) fn block_names<'a>(
 ) -> Result<Vec<&'a str>, AllocError>
     ensures { IfOk result (λ ns. texts ns.items ≡ map (λ b. b.name.now) blocks.now) }
 {
-    let mut names = Vec::with_capacity(alloc, blocks.len())?;
-    for block in blocks {
-        names.push(block.name)?;
-    }
-    Ok(names)
+    blocks.iter().map(|block| block.name).collect(alloc)
 }

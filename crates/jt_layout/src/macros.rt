@@ -10,8 +10,7 @@ ghost use Rattle.jt_layout.specs.Places.{ArePlaces, defaults_from};
 
 use crate::count::more;
 use crate::index::Index;
-use crate::lists::macro_names;
-use jt_chains::{Chain, Macro};
+use jt_chains::{Chain, Macro, macro_names};
 use jt_value::NoMemory;
 use std::alloc::Global;
 

@@ -18,8 +18,7 @@ use Rattle.jt_trees.specs.declared.statement.Stmt.{Stmt}
 use Rattle.jt_trees.specs.declared.statement.Filtering.{Filtering}
 use Rattle.jt_chains.specs.Uses.{expr_names, row_names, pair_names, stmt_names, body_names, branch_names, filtering_names}
 use Rattle.jt_trees.proofs.Left.{Branch, Entry, row_left, pairs_left, statements_left, branches_left}
-use Rattle.jt_trees.specs.Texts.{inserted, all_inserted}
-use Rattle.jt_names.specs.Names.{texts}
+use Rattle.jt_trees.specs.Texts.{inserted, all_inserted, texts}
 
 pub symmetric : (x y : Text) → bytes_eq x y ≡ bytes_eq y x
 symmetric x y = nat_list_eq_equiv.symm x y

@@ -1,4 +1,4 @@
--- Names, and not where they lie in memory.
+-- The names of parameters, and names that are put among others.
 use Rattle.std.specs.Prelude.{◌≡◌, ◌++◌, List, map}
 use Rattle.std.specs.BTreeSet.{BTreeSet}
 use Rattle.std.specs.declared.alloc.Global.{Global}
@@ -6,11 +6,8 @@ use Rattle.std.specs.declared.vec.Vec.{Vec}
 use denote.Ref.{Bor}
 use Rattle.jt_trees.specs.Expressions.{Text}
 use Rattle.jt_trees.specs.StatementView.{parameters_view}
-use Rattle.jt_trees.specs.Texts.{all_inserted}
+use Rattle.jt_trees.specs.Texts.{texts, all_inserted}
 use Rattle.jt_trees.specs.declared.statement.Parameter.{Parameter}
-
-abbrev pub texts : List (Bor Text) → List Text
-texts ks = map (λ k. k.now) ks
 
 abbrev pub parameter_names : List Parameter → List Text
 parameter_names ps = map (λ p. p.name) (parameters_view ps)

@@ -1,13 +1,12 @@
 //! The names of chains.
 
 ghost use Rattle.std.specs.Prelude.{◌≡◌, ◌<◌, ◌≤◌, [], length, IfOk};
-ghost use Rattle.jt_trees.specs.Texts.{ascending};
+ghost use Rattle.jt_trees.specs.Texts.{ascending, texts};
 ghost use Rattle.jt_trees.specs.StatementView.{body_view};
 ghost use Rattle.jt_chains.specs.Chain.{a_library};
 ghost use Rattle.jt_chains.specs.Uses as uses;
 ghost use Rattle.jt_chains.specs.Uses.{own_names};
 ghost use Rattle.jt_chains.specs.View.{home_in, its_sources};
-ghost use Rattle.jt_names.specs.Names.{texts};
 
 use crate::own::{add_name, add_statements};
 use crate::scopes::add_scopes;

@@ -6,7 +6,8 @@ ghost use Rattle.jt_trees.specs.Texts.{inserted};
 ghost use Rattle.jt_chains.specs.Chain.{is_loop};
 ghost use Rattle.jt_trees.specs.StatementView.{stmt_view, body_view, branches_view, names_view, filterings_view};
 ghost use Rattle.jt_chains.specs.Uses.{expr_names, row_names, pair_names, condition_names, filtering_names, stmt_names, body_names, branch_names, keywords};
-ghost use Rattle.jt_names.specs.Names.{Puts, parameter_names, texts};
+ghost use Rattle.jt_names.specs.Names.{Puts, parameter_names};
+ghost use Rattle.jt_trees.specs.Texts.{texts};
 
 use jt_trees::{Branch, Expr, Filtering, Parameter, Stmt};
 use std::alloc::AllocError;

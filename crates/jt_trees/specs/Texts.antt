@@ -1,9 +1,14 @@
 -- Lists of texts.
-use Rattle.std.specs.Prelude.{Bool, false, ◌||◌, List, [], ◌∷◌, if◌then◌else◌}
+use Rattle.std.specs.Prelude.{Bool, false, ◌||◌, List, [], ◌∷◌, map, if◌then◌else◌}
 use Rattle.std.specs.Ordering.{nat_cmp, is_lt}
 use Rattle.std.specs.Cmp.Lexicographic.{slice_cmp}
 use Rattle.std.specs.Str.{bytes_eq}
+use denote.Ref.{Bor}
 use Rattle.jt_trees.specs.Expressions.{Text}
+
+-- texts, and not where they lie in memory
+abbrev pub texts : List (Bor Text) → List Text
+texts ks = map (λ k. k.now) ks
 
 -- whether a text is among others
 abbrev pub among : Text → List Text → Bool

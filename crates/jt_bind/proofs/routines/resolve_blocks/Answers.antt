@@ -3,7 +3,7 @@ use Rattle.jt_chains.specs.Parts.{block_view}
 use Rattle.jt_chains.specs.View.{chain_view}
 use Rattle.jt_meaning.specs.Layout.{numbered_bodies}
 use Rattle.jt_meaning.specs.Programs.{body_routines}
-use Rattle.jt_names.specs.Names.{texts}
+use Rattle.jt_trees.specs.Texts.{texts}
 use Rattle.jt_bind.specs.Scoped.{world_in, order_in, home_in, templates_in}
 use Rattle.jt_bind.proofs.Routing.{routines_both, routines_left}
 use Rattle.jt_bind.proofs.Numbered.{numbered_end, block_routine}

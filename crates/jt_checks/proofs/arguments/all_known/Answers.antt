@@ -1,5 +1,5 @@
 use Rattle.std.proofs.Common.{sym, ap, ◌∙◌, get_or, not}
-use Rattle.jt_checks.specs.Standing.{texts}
+use Rattle.jt_trees.specs.Texts.{texts}
 use Rattle.jt_checks.proofs.Sets.{unknown_here, unknown_step, nameless}
 use Rattle.jt_checks.proofs.arguments.all_known.Goals as goal
 

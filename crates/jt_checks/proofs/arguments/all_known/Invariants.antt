@@ -1,7 +1,6 @@
 use Rattle.std.proofs.Common.{◌≡◌, not, drop}
 use Rattle.std.specs.List.{list_any}
-use Rattle.jt_checks.specs.Standing.{texts}
-use Rattle.jt_trees.specs.Texts.{among}
+use Rattle.jt_trees.specs.Texts.{among, texts}
 use Rattle.jt_checks.proofs.arguments.all_known.Given as goal
 
 abbrev pub invariant-loop-name : goal.invariant-loop-name

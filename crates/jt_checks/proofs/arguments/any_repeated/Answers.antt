@@ -1,5 +1,6 @@
 use Rattle.std.proofs.Common.{sym, ◌∙◌, get_or, arith, rules}
-use Rattle.jt_checks.specs.Standing.{texts, is_among}
+use Rattle.jt_trees.specs.Texts.{texts}
+use Rattle.jt_checks.specs.Standing.{is_among}
 use Rattle.jt_checks.proofs.Sets.{again_none, again_step, again_here, from_not, from_not_false, nameless}
 use Rattle.jt_checks.proofs.arguments.any_repeated.Goals as goal
 

@@ -1,6 +1,5 @@
 use Rattle.std.proofs.Common.{◌≡◌, drop}
-use Rattle.jt_checks.specs.Standing.{texts}
-use Rattle.jt_trees.specs.Texts.{repeated}
+use Rattle.jt_trees.specs.Texts.{repeated, texts}
 use Rattle.jt_checks.proofs.Sets.{again}
 use Rattle.jt_checks.proofs.arguments.any_repeated.Given as goal
 

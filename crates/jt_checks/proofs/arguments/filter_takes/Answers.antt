@@ -1,5 +1,5 @@
 use Rattle.std.proofs.Common.{max, ap, ◌∙◌, arith, rules}
-use Rattle.jt_checks.specs.Standing.{texts}
+use Rattle.jt_trees.specs.Texts.{texts}
 use Rattle.jt_checks.proofs.Fits.{equal_ok, named_well, not_taken, not_filled, filled_well}
 use Rattle.jt_checks.proofs.arguments.filter_takes.Goals as goal
 

@@ -3,7 +3,7 @@ use Rattle.jt_trees.specs.ExpressionView.{exprs_view, pairs_view}
 use Rattle.jt_trees.specs.StatementView.{parameters_view}
 use Rattle.jt_chains.specs.Uses.{count, keywords}
 use Rattle.jt_rules.specs.Walk as rules
-use Rattle.jt_checks.specs.Standing.{texts}
+use Rattle.jt_trees.specs.Texts.{texts}
 use Rattle.jt_checks.proofs.Fits.{equal_ok, fits_is, too_many, named_well}
 use Rattle.jt_checks.proofs.arguments.fits.Goals as goal
 

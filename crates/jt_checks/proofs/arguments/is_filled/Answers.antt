@@ -1,6 +1,6 @@
 use Rattle.std.proofs.Common.{take, sym, ◌∙◌, arith, rules}
 use Rattle.std.proofs.lemmas.List.{at_drop_all}
-use Rattle.jt_checks.specs.Standing.{texts}
+use Rattle.jt_trees.specs.Texts.{texts}
 use Rattle.jt_checks.proofs.Filled.{all_filled, filled_among, unfilled_at}
 use Rattle.jt_checks.proofs.arguments.is_filled.Goals as goal
 

@@ -1,6 +1,5 @@
 use Rattle.std.proofs.Common.{◌≡◌, drop, string_bytes}
-use Rattle.jt_checks.specs.Standing.{texts}
-use Rattle.jt_trees.specs.Texts.{among}
+use Rattle.jt_trees.specs.Texts.{among, texts}
 use Rattle.jt_checks.proofs.arguments.is_given.Given as goal
 
 abbrev pub invariant-loop-name : goal.invariant-loop-name

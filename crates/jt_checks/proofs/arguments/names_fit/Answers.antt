@@ -1,7 +1,6 @@
 use Rattle.std.proofs.Common.{not, ◌∙◌, ap}
 use Rattle.std.specs.List.{list_any}
-use Rattle.jt_trees.specs.Texts.{among}
-use Rattle.jt_checks.specs.Standing.{texts}
+use Rattle.jt_trees.specs.Texts.{among, texts}
 use Rattle.jt_checks.proofs.Fits.{equal_ok, well_named, named_well}
 use Rattle.jt_checks.proofs.arguments.names_fit.Goals as goal
 

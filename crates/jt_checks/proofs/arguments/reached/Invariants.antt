@@ -1,7 +1,7 @@
 use Rattle.std.proofs.Common.{◌≡◌, ◌≤◌, length, drop, false}
 use Rattle.jt_trees.specs.StatementView as parsed
 use Rattle.jt_evaluation.specs.Filters.{some_given}
-use Rattle.jt_checks.specs.Standing.{texts}
+use Rattle.jt_trees.specs.Texts.{texts}
 use Rattle.jt_checks.proofs.arguments.reached.Given as goal
 
 abbrev pub invariant-loop-last : goal.invariant-loop-last

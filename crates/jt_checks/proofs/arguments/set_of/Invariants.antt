@@ -1,6 +1,6 @@
 use Rattle.std.proofs.Common.{◌≡◌, ◌||◌, drop, List, ℕ}
-use Rattle.jt_checks.specs.Standing.{texts, is_among}
-use Rattle.jt_trees.specs.Texts.{among}
+use Rattle.jt_checks.specs.Standing.{is_among}
+use Rattle.jt_trees.specs.Texts.{among, texts}
 use Rattle.jt_checks.proofs.arguments.set_of.Given as goal
 
 abbrev pub invariant-loop-name : goal.invariant-loop-name

@@ -1,5 +1,5 @@
 use Rattle.std.proofs.Common.{◌≡◌, ◌+◌, ◌-◌, ◌^◌, ◌<◌, min, drop}
-use Rattle.jt_names.specs.Names.{texts}
+use Rattle.jt_trees.specs.Texts.{texts}
 use Rattle.jt_rules.specs.Rules.{libraries_counted}
 use Rattle.jt_checks.specs.Standing.{world_in}
 use Rattle.jt_checks.proofs.checking.count_in_libraries.Given as goal

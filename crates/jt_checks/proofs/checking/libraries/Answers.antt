@@ -1,7 +1,6 @@
 use Rattle.std.proofs.Common.{ap, ◌∙◌}
 use Rattle.std.proofs.lemmas.Result.{IfOk-weaker}
-use Rattle.jt_trees.specs.Texts.{ascending}
-use Rattle.jt_names.specs.Names.{texts}
+use Rattle.jt_trees.specs.Texts.{ascending, texts}
 use Rattle.jt_checks.specs.Standing.{world_in, home_in}
 use Rattle.jt_checks.proofs.checking.libraries.Goals as goal
 

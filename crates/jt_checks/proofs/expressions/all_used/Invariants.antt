@@ -1,5 +1,5 @@
 use Rattle.std.proofs.Common.{◌≡◌, drop}
-use Rattle.jt_checks.specs.Standing.{texts}
+use Rattle.jt_trees.specs.Texts.{texts}
 use Rattle.jt_rules.specs.Walk as rules
 use Rattle.jt_checks.specs.ScopeView.{its_world, its_home}
 use Rattle.jt_checks.proofs.expressions.all_used.Given as goal

@@ -1,6 +1,5 @@
 use Rattle.std.proofs.Common.{◌≡◌, drop}
-use Rattle.jt_trees.specs.Texts.{all_inserted}
-use Rattle.jt_names.specs.Names.{texts}
+use Rattle.jt_trees.specs.Texts.{all_inserted, texts}
 use Rattle.jt_image.specs.View.{texts_view}
 use Rattle.jt_lower.specs.Emission.{places_view}
 use Rattle.jt_lower.specs.Spots.{templates_in, templates_of}

@@ -1,5 +1,5 @@
 use Rattle.std.proofs.Common.{refl}
-use Rattle.jt_names.specs.Names.{texts}
+use Rattle.jt_trees.specs.Texts.{texts}
 use Rattle.jt_image.specs.View.{texts_view}
 use Rattle.jt_codegen.proofs.Telling.{here_named, told_more}
 use Rattle.jt_codegen.proofs.places.spots_of.Goals as goal

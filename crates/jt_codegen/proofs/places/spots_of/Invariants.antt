@@ -1,4 +1,4 @@
-use Rattle.jt_names.specs.Names.{texts}
+use Rattle.jt_trees.specs.Texts.{texts}
 use Rattle.jt_image.specs.View.{texts_view}
 use Rattle.jt_codegen.proofs.Telling.{Told}
 use Rattle.jt_codegen.proofs.places.spots_of.Given as goal

@@ -2,7 +2,7 @@ use Rattle.std.proofs.Common.{List, sym, ap, ◌∙◌, subst, arith, rules}
 use Rattle.std.specs.List.{AllByRecursion}
 use Rattle.jt_image.specs.View.{texts_view}
 use Rattle.jt_trees.specs.Expressions.{Text}
-use Rattle.jt_names.specs.Names.{texts}
+use Rattle.jt_trees.specs.Texts.{texts}
 use Rattle.jt_lower.specs.Emission.{places_view}
 use Rattle.jt_meaning.proofs.Few.{ascending_ascends}
 use Rattle.jt_codegen.specs.Naming.{IsNamed}

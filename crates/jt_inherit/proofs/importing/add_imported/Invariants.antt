@@ -3,7 +3,7 @@ use Rattle.jt_trees.specs.StatementView.{body_view}
 use Rattle.jt_chains.specs.Chain.{sources_in}
 use Rattle.jt_chains.specs.Pages.{pages_view}
 use Rattle.jt_inherit.specs.Kept.{imported_names}
-use Rattle.jt_inherit.specs.SetView.{texts}
+use Rattle.jt_trees.specs.Texts.{texts}
 use Rattle.jt_inherit.proofs.importing.add_imported.Given as goal
 
 abbrev pub invariant-loop-statement : goal.invariant-loop-statement

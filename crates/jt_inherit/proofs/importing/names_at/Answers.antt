@@ -5,7 +5,7 @@ use Rattle.jt_chains.specs.Along.{along, templates_at}
 use Rattle.jt_chains.specs.Chain.{sources_in}
 use Rattle.jt_chains.specs.Pages.{pages_view}
 use Rattle.jt_inherit.specs.Kept.{imported_names}
-use Rattle.jt_inherit.specs.SetView.{texts}
+use Rattle.jt_trees.specs.Texts.{texts}
 use Rattle.jt_chains.proofs.Placed.{along_turn, page_at, place_within}
 use Rattle.jt_inherit.proofs.Finding.{placed_templates}
 use Rattle.jt_inherit.proofs.Ruled.{names_found}

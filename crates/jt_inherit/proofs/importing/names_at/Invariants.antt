@@ -3,7 +3,7 @@ use Rattle.jt_chains.specs.Along.{along}
 use Rattle.jt_chains.specs.Chain.{sources_in}
 use Rattle.jt_chains.specs.Pages.{pages_view}
 use Rattle.jt_inherit.specs.Kept.{imported_names}
-use Rattle.jt_inherit.specs.SetView.{texts}
+use Rattle.jt_trees.specs.Texts.{texts}
 use Rattle.jt_inherit.proofs.importing.names_at.Given as goal
 
 abbrev pub invariant-loop-place : goal.invariant-loop-place

@@ -1,8 +1,7 @@
 use Rattle.std.proofs.Common.{◌∷◌, [], ◌&&◌, not, List, take, sym, ap, subst, ◌∙◌}
 use Rattle.std.proofs.lemmas.List.{map-append}
-use Rattle.jt_trees.specs.Texts.{among}
+use Rattle.jt_trees.specs.Texts.{among, texts}
 use Rattle.jt_inherit.specs.Checks.{block_names}
-use Rattle.jt_inherit.specs.SetView.{texts}
 use Rattle.jt_chains.specs.declared.parts.Block.{Block}
 use Rattle.jt_inherit.proofs.Checked.{AreGiven, among_set, body_lacking, body_goes, take_next, take_all, all_given}
 use Rattle.jt_chains.specs.Parts.{blocks_view}

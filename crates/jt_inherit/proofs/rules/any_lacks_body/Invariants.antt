@@ -1,10 +1,9 @@
 use Rattle.std.proofs.Common.{◌≡◌, List, take}
 use Rattle.jt_trees.specs.Expressions.{Text}
-use Rattle.jt_trees.specs.Texts.{among}
+use Rattle.jt_trees.specs.Texts.{among, texts}
 use Rattle.jt_chains.specs.Chain.{Template}
 use Rattle.jt_inherit.specs.Checks.{block_names}
 use Rattle.jt_chains.specs.Parts.{blocks_view}
-use Rattle.jt_inherit.specs.SetView.{texts}
 use Rattle.jt_inherit.proofs.Checked.{AreGiven}
 use Rattle.jt_inherit.proofs.rules.any_lacks_body.Given as goal
 

@@ -1,5 +1,5 @@
 use Rattle.std.proofs.Common.{sym, ◌∙◌}
-use Rattle.jt_inherit.specs.SetView.{texts}
+use Rattle.jt_trees.specs.Texts.{texts}
 use Rattle.jt_chains.specs.declared.parts.Block.{Block}
 use Rattle.jt_inherit.proofs.Checked.{repeat_found, repeat_goes}
 use Rattle.jt_inherit.proofs.rules.blocks_repeat.Goals as goal

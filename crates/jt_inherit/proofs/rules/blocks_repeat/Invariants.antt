@@ -1,8 +1,7 @@
 use Rattle.std.proofs.Common.{◌≡◌, false, take}
 use Rattle.jt_trees.specs.Expressions.{Text}
-use Rattle.jt_trees.specs.Texts.{among, repeated}
+use Rattle.jt_trees.specs.Texts.{among, repeated, texts}
 use Rattle.jt_inherit.specs.Checks.{block_names}
-use Rattle.jt_inherit.specs.SetView.{texts}
 use Rattle.jt_inherit.proofs.rules.blocks_repeat.Given as goal
 
 abbrev pub invariant-loop-block : goal.invariant-loop-block

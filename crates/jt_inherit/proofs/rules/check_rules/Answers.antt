@@ -1,7 +1,6 @@
 use Rattle.std.proofs.Common.{List, sym, ap, ◌∙◌}
-use Rattle.jt_trees.specs.Texts.{repeated}
+use Rattle.jt_trees.specs.Texts.{repeated, texts}
 use Rattle.jt_inherit.specs.Checks.{lacks_body}
-use Rattle.jt_inherit.specs.SetView.{texts}
 use Rattle.jt_chains.specs.Along.{templates_at}
 use Rattle.jt_chains.specs.Pages.{pages_view}
 use Rattle.jt_chains.specs.Parts.{blocks_view}

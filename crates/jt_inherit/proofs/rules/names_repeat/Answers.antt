@@ -2,7 +2,7 @@ use Rattle.std.proofs.Common.{[], get_or, sym, ◌∙◌}
 use Rattle.std.proofs.lemmas.List.{get_or_default}
 use denote.Ref.{Bor}
 use Rattle.jt_trees.specs.Expressions.{Text}
-use Rattle.jt_inherit.specs.SetView.{texts}
+use Rattle.jt_trees.specs.Texts.{texts}
 use Rattle.jt_inherit.proofs.Checked.{repeat_found, repeat_goes}
 use Rattle.jt_inherit.proofs.rules.names_repeat.Goals as goal
 

@@ -1,7 +1,6 @@
 use Rattle.std.proofs.Common.{◌≡◌, false, take}
 use Rattle.jt_trees.specs.Expressions.{Text}
-use Rattle.jt_trees.specs.Texts.{among, repeated}
-use Rattle.jt_inherit.specs.SetView.{texts}
+use Rattle.jt_trees.specs.Texts.{among, repeated, texts}
 use Rattle.jt_inherit.proofs.rules.names_repeat.Given as goal
 
 abbrev pub invariant-loop-name : goal.invariant-loop-name

@@ -1,5 +1,5 @@
 use Rattle.std.proofs.Common.{not, ap}
-use Rattle.jt_inherit.specs.SetView.{texts}
+use Rattle.jt_trees.specs.Texts.{texts}
 use Rattle.jt_inherit.proofs.Checked.{given_noted}
 use Rattle.jt_inherit.proofs.rules.note_given.Goals as goal
 

@@ -1,6 +1,5 @@
 use Rattle.std.proofs.Common.{◌≡◌, drop}
-use Rattle.jt_trees.specs.Texts.{all_inserted}
-use Rattle.jt_names.specs.Names.{texts}
+use Rattle.jt_trees.specs.Texts.{all_inserted, texts}
 use Rattle.jt_layout.proofs.gathered.add_names.Given as goal
 
 abbrev pub invariant-loop-name : goal.invariant-loop-name

@@ -5,7 +5,7 @@ use Rattle.std.specs.Option.{is_none}
 use Rattle.std.proofs.lemmas.List.{at_drop_all, length-map}
 use denote.Ref.{Bor}
 use Rattle.jt_trees.specs.Expressions.{Text}
-use Rattle.jt_trees.specs.Texts.{all_inserted}
+use Rattle.jt_trees.specs.Texts.{all_inserted, texts}
 use Rattle.jt_chains.specs.Chain.{a_chain, templates}
 use Rattle.jt_chains.specs.Includes.{with_source}
 use Rattle.jt_chains.specs.Needs.{Need, needed, needs_view}
@@ -14,7 +14,6 @@ use Rattle.jt_chains.specs.View.{home_in, its_sources}
 use Rattle.jt_chains.specs.declared.includes.Include.{Include}
 use Rattle.jt_chains.proofs.Included.{by_templates}
 use Rattle.jt_meaning.specs.Layout.{names_in}
-use Rattle.jt_names.specs.Names.{texts}
 use Rattle.jt_layout.specs.Homes.{its_world, its_order}
 use Rattle.jt_layout.proofs.Named.{chain_turn, none_turn, names_here}
 use Rattle.jt_layout.proofs.gathered.names_of_chain.Invariants.{names_of}

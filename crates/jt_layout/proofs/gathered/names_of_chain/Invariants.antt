@@ -1,7 +1,7 @@
 use Rattle.std.proofs.Common.{◌≡◌, ℕ, ◌+◌, true, List, drop}
 use Rattle.std.specs.Prelude.{flat_map}
 use Rattle.jt_trees.specs.Expressions.{Text}
-use Rattle.jt_trees.specs.Texts.{all_inserted}
+use Rattle.jt_trees.specs.Texts.{all_inserted, texts}
 use Rattle.jt_chains.specs.Chain.{a_chain}
 use Rattle.jt_chains.specs.Includes.{with_source}
 use Rattle.jt_chains.specs.Needs.{needed, needs_view}
@@ -9,7 +9,6 @@ use Rattle.jt_chains.specs.View.{its_sources}
 use Rattle.jt_chains.specs.declared.includes.Include.{Include}
 use Rattle.jt_chains.specs.declared.linked.Chain.{Chain}
 use Rattle.jt_meaning.specs.Layout.{names_in}
-use Rattle.jt_names.specs.Names.{texts}
 use Rattle.jt_layout.specs.Homes.{its_world, its_order}
 use Rattle.jt_layout.proofs.gathered.names_of_chain.Given as goal
 

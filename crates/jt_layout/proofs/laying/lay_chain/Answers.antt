@@ -6,7 +6,7 @@ use Rattle.jt_chains.specs.Pages.{home_view}
 use Rattle.jt_chains.specs.Parts.{macro_view}
 use Rattle.jt_chains.specs.View.{chain_view, home_in}
 use Rattle.jt_meaning.specs.Layout as layout
-use Rattle.jt_names.specs.Names.{texts}
+use Rattle.jt_trees.specs.Texts.{texts}
 use Rattle.jt_layout.specs.Homes.{its_world, its_order}
 use Rattle.jt_layout.specs.Laid.{is_library}
 use Rattle.jt_layout.specs.declared.laid.Laid.{Laid}

@@ -4,7 +4,7 @@ use Rattle.jt_chains.specs.Chain.{a_chain, a_library}
 use Rattle.jt_chains.specs.Pages.{home_view}
 use Rattle.jt_chains.specs.declared.linked.Home.{Home}
 use Rattle.jt_chains.specs.declared.pages.Page.{Page}
-use Rattle.jt_names.specs.Names.{texts}
+use Rattle.jt_trees.specs.Texts.{texts}
 use Rattle.jt_layout.specs.Homes.{its_order}
 use Rattle.jt_layout.specs.Places.{first_of, first_home}
 use Rattle.jt_layout.proofs.Firsts.{is_home}

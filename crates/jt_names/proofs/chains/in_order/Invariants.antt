@@ -1,6 +1,5 @@
 use Rattle.std.proofs.Common.{◌≡◌, drop}
-use Rattle.jt_trees.specs.Texts.{all_inserted, ascending}
-use Rattle.jt_names.specs.Names.{texts}
+use Rattle.jt_trees.specs.Texts.{all_inserted, ascending, texts}
 use Rattle.jt_names.proofs.chains.in_order.Given as goal
 
 abbrev pub invariant-loop-name : goal.invariant-loop-name

@@ -3,8 +3,7 @@ use Rattle.std.specs.Prelude.{flat_map}
 use Rattle.jt_chains.specs.Layers.{layer_view}
 use Rattle.jt_chains.specs.Uses.{body_names}
 use Rattle.jt_chains.specs.View.{chain_view}
-use Rattle.jt_trees.specs.Texts.{all_inserted, ascending}
-use Rattle.jt_names.specs.Names.{texts}
+use Rattle.jt_trees.specs.Texts.{all_inserted, ascending, texts}
 use Rattle.jt_names.proofs.chains.own_names.Given as goal
 
 abbrev pub invariant-loop-layer : goal.invariant-loop-layer

@@ -1,7 +1,7 @@
 use Rattle.std.proofs.Common.{◌≡◌, List, map, [], ◌∷◌, ◌++◌, ◌∙◌, append_assoc, ap, refl, arith, rules}
 use Rattle.jt_trees.specs.StatementView as parsed
 use Rattle.jt_chains.specs.Uses.{body_names, branch_names, filtering_names, condition_names, expr_names, keywords, pair_names, stmt_names}
-use Rattle.jt_names.specs.Names.{texts}
+use Rattle.jt_trees.specs.Texts.{texts}
 use Rattle.jt_names.proofs.Inserted.{statement_added, branch_added, then_is}
 use Rattle.jt_trees.proofs.StatementViews.{shown_if, shown_for, shown_set_block, shown_with, shown_filters, shown_macro}
 use Rattle.jt_trees.specs.ExpressionView.{expr_view, pairs_view}

@@ -2,10 +2,9 @@ use Rattle.std.proofs.Common.{◌≡◌, ◌+◌, ◌*◌, drop}
 use denote.Param.Weighed.{most}
 use Rattle.jt_trees.specs.declared.statement.Stmt.{size-Stmt}
 use Rattle.jt_trees.proofs.Left.{Branch}
-use Rattle.jt_names.specs.Names.{texts}
 use Rattle.jt_trees.specs.StatementView as parsed
 use Rattle.jt_chains.specs.Uses as uses
-use Rattle.jt_trees.specs.Texts.{all_inserted}
+use Rattle.jt_trees.specs.Texts.{all_inserted, texts}
 use Rattle.jt_names.proofs.own.+add.Given as goal
 
 -- ---- how deep the statements are that are left, and who hands its own on

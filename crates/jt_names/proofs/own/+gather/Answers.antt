@@ -2,8 +2,7 @@ use Rattle.std.proofs.Common.{◌++◌, append_assoc, ap, refl, ◌∙◌, arith
 use Rattle.std.proofs.lemmas.Result.{IfOk-weaker}
 use Rattle.jt_trees.specs.ExpressionView.{expr_view, exprs_view, pairs_view}
 use Rattle.jt_chains.specs.Uses.{expr_names, row_names, pair_names}
-use Rattle.jt_trees.specs.Texts.{all_inserted}
-use Rattle.jt_names.specs.Names.{texts}
+use Rattle.jt_trees.specs.Texts.{all_inserted, texts}
 use Rattle.jt_names.proofs.Inserted.{expression_added, entry_added, then_is}
 use Rattle.jt_trees.proofs.ExpressionViews.{shown_item, shown_binary, shown_when, shown_choice, shown_test, shown_call, shown_filter}
 use Rattle.jt_names.proofs.own.+gather.Goals as goal

@@ -2,10 +2,9 @@ use Rattle.std.proofs.Common.{◌≡◌, ◌+◌, ◌*◌, drop}
 use Rattle.std.specs.Prelude.{max}
 use denote.Param.Weighed.{most}
 use Rattle.jt_trees.specs.declared.expression.Expr.{size-Expr}
-use Rattle.jt_names.specs.Names.{texts}
 use Rattle.jt_trees.specs.ExpressionView.{exprs_view, pairs_view}
 use Rattle.jt_chains.specs.Uses as uses
-use Rattle.jt_trees.specs.Texts.{all_inserted}
+use Rattle.jt_trees.specs.Texts.{all_inserted, texts}
 use Rattle.jt_names.proofs.own.+gather.Given as goal
 
 -- ---- how deep the trees are that are left, and who hands its own on

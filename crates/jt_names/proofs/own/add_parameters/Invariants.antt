@@ -1,7 +1,6 @@
 use Rattle.std.proofs.Common.{◌≡◌, drop, map}
-use Rattle.jt_names.specs.Names.{texts}
 use Rattle.jt_trees.specs.StatementView as parsed
-use Rattle.jt_trees.specs.Texts.{all_inserted}
+use Rattle.jt_trees.specs.Texts.{all_inserted, texts}
 use Rattle.jt_names.proofs.own.add_parameters.Given as goal
 
 abbrev pub invariant-loop-parameter : goal.invariant-loop-parameter

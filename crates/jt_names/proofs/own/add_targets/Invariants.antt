@@ -1,7 +1,6 @@
 use Rattle.std.proofs.Common.{◌≡◌, drop}
-use Rattle.jt_names.specs.Names.{texts}
 use Rattle.jt_trees.specs.StatementView as parsed
-use Rattle.jt_trees.specs.Texts.{all_inserted}
+use Rattle.jt_trees.specs.Texts.{all_inserted, texts}
 use Rattle.jt_names.proofs.own.add_targets.Given as goal
 
 abbrev pub invariant-loop-target : goal.invariant-loop-target

@@ -1,7 +1,7 @@
 use Rattle.std.proofs.Common.{◌≡◌, ◌++◌, drop}
 use Rattle.jt_trees.specs.StatementView.{body_view, branches_view}
 use Rattle.jt_chains.specs.Uses.{scope_names_in, scope_names_under}
-use Rattle.jt_names.specs.Names.{texts}
+use Rattle.jt_trees.specs.Texts.{texts}
 use Rattle.jt_names.proofs.scopes.+scopes.Given as goal
 
 abbrev pub invariant-add_scopes-loop-statement : goal.invariant-add_scopes-loop-statement

@@ -2,7 +2,7 @@ use Rattle.std.proofs.Common.{List, ◌++◌, refl, sym, ap, ◌∙◌}
 use Rattle.std.proofs.lemmas.List.{at_drop_all, append-nil}
 use Rattle.jt_trees.specs.StatementView.{body_view, branches_view}
 use Rattle.jt_chains.specs.Uses.{set_by, set_in, set_under}
-use Rattle.jt_names.specs.Names.{texts}
+use Rattle.jt_trees.specs.Texts.{texts}
 use Rattle.jt_trees.proofs.Left.{Branch}
 use Rattle.jt_trees.proofs.Gathered.{branch_added, choice_added, statement_added}
 use Rattle.jt_names.proofs.sets.+sets.Goals as goal

@@ -1,6 +1,6 @@
 use Rattle.std.proofs.Common.{◌≡◌, ◌++◌, drop}
 use Rattle.jt_trees.specs.StatementView.{names_view}
-use Rattle.jt_names.specs.Names.{texts}
+use Rattle.jt_trees.specs.Texts.{texts}
 use Rattle.jt_names.proofs.sets.add_targets.Given as goal
 
 abbrev pub invariant-loop-target : goal.invariant-loop-target

@@ -3,7 +3,7 @@ use Rattle.std.proofs.lemmas.List.{at_drop_all}
 use denote.Ref.{Bor}
 use Rattle.jt_trees.specs.Expressions.{Text}
 use Rattle.jt_layout.specs.Names.{place_in}
-use Rattle.jt_names.specs.Names.{texts}
+use Rattle.jt_trees.specs.Texts.{texts}
 use Rattle.jt_bind.specs.Names.{last_among}
 use Rattle.jt_bind.proofs.Names.{placed_next}
 use Rattle.jt_bind.proofs.name_scope.NameScope.new.Goals as goal

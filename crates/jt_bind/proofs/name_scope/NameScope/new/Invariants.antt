@@ -1,7 +1,7 @@
 use Rattle.std.proofs.Common.{◌≡◌, None, drop}
 use Rattle.jt_trees.specs.Expressions.{Text}
 use Rattle.jt_layout.specs.Names.{place_in}
-use Rattle.jt_names.specs.Names.{texts}
+use Rattle.jt_trees.specs.Texts.{texts}
 use Rattle.jt_bind.specs.Names.{last_among}
 use Rattle.jt_bind.proofs.name_scope.NameScope.new.Given as goal
 

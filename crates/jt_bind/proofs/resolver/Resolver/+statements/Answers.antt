@@ -7,7 +7,7 @@ use Rattle.jt_trees.specs.StatementView.{is_ignored, are_seen, names_view, filte
 use Rattle.jt_trees.specs.declared.statement.Stmt.{Stmt}
 use Rattle.jt_resolved.specs.Slots as slots
 use Rattle.jt_meaning.specs.Resolve.{followed, alone, bound_all, resolved_filters}
-use Rattle.jt_names.specs.Names.{texts}
+use Rattle.jt_trees.specs.Texts.{texts}
 use Rattle.jt_bind.specs.Scoped.{values, world_in, order_in, expr_in, spot_in, templates_in}
 use Rattle.jt_bind.specs.Stated.{line_in, stmt_in, body_in, choice_in, scoped_in, values_in}
 use Rattle.jt_bind.proofs.LeadingBodies.{lead_both, lead_of, lead_left, lead_same, led_of, led_both, led_begun, followed_again, choice_same, choice_other, branch_led}
@@ -104,7 +104,7 @@ pub resolve_turns-returns : goal.resolve_turns-returns
 resolve_turns-returns t c =
     let scope = c.args.self.now.tables.now in
     let sp = spot_in scope c.args.self.now.spot in
-    turns_as scope (body_view c.args.body.now) _ _ _ _ _ _ _ _ _ _ (c.inside.ensures _ scope c.in_ok-inner.ensures ∙ ap (λ xs. bound_all xs sp) c.in_ok-texts_of.ensures)
+    turns_as scope (body_view c.args.body.now) _ _ _ _ _ _ _ _ _ _ (c.inside.ensures _ scope c.in_ok-inner.ensures ∙ ap (λ xs. bound_all xs sp) c.in_ok-names_of.ensures)
     c.in_ok-fresh_targets.ensures c.in_ok-items.ensures c.in_ok-asked.ensures c.in_ok-turn.ensures
 
 pub resolve_with-returns : goal.resolve_with-returns
@@ -114,7 +114,7 @@ resolve_with-returns t c =
     let qs = pairs_view c.args.pairs.now in
     let b = body_view c.args.body.now in
     IfOk-weaker c.resolve_within.result _ _ (λ u h.
-    led_of (templates_in scope) _ _ _ _ _ _ (ap (λ w. values_in scope qs spot c.args.line (scoped_in scope b (bound_all w (spot_in scope spot)))) c.in_ok-keywords_of.ensures)
+    led_of (templates_in scope) _ _ _ _ _ _ (ap (λ w. values_in scope qs spot c.args.line (scoped_in scope b (bound_all w (spot_in scope spot)))) c.in_ok-keyword_names.ensures)
     (values_led scope spot qs c.args.line _ _ _ _ _ _ _ c.in_ok-resolve_values.ensures h)) c.resolve_within.ensures
 
 pub resolve_filter_block-returns : goal.resolve_filter_block-returns

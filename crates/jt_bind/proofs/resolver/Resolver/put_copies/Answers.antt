@@ -4,7 +4,7 @@ use denote.Ref.{Bor}
 use Rattle.jt_trees.specs.Expressions.{Text}
 use Rattle.jt_meaning.specs.Resolve.{copied}
 use Rattle.jt_resolved.specs.View.{expr_view}
-use Rattle.jt_names.specs.Names.{texts}
+use Rattle.jt_trees.specs.Texts.{texts}
 use Rattle.jt_bind.specs.Scoped.{spot_in, templates_in}
 use Rattle.jt_bind.specs.Stated.{line_in}
 use Rattle.jt_bind.proofs.LeadingBodies.{lead_both, lead_left}

@@ -3,7 +3,7 @@ use Rattle.jt_value.specs.Tree.{Tree}
 use Rattle.jt_meaning.specs.Resolve.{copied}
 use Rattle.jt_resolved.specs.Pool.{Constant}
 use Rattle.jt_resolved.specs.Slots.{SBody}
-use Rattle.jt_names.specs.Names.{texts}
+use Rattle.jt_trees.specs.Texts.{texts}
 use Rattle.jt_bind.specs.Scoped.{BodyLeads, spot_in, templates_in}
 use Rattle.jt_bind.specs.Stated.{line_in}
 use Rattle.jt_bind.proofs.resolver.Resolver.put_copies.Given as goal

@@ -7,7 +7,7 @@ use Rattle.jt_resolved.specs.Slots as slots
 use Rattle.jt_meaning.specs.Layout.{first_slot, names}
 use Rattle.jt_chains.specs.Chain.{a_chain}
 use Rattle.jt_layout.specs.Laid.{IsHomeAt}
-use Rattle.jt_names.specs.Names.{texts}
+use Rattle.jt_trees.specs.Texts.{texts}
 use Rattle.jt_bind.specs.Scoped.{world_in, order_in, templates_in}
 use Rattle.jt_bind.specs.Stated.{stmt_in}
 use Rattle.jt_bind.proofs.LeadingBodies.{led_of, led_both}

@@ -1,6 +1,6 @@
 use Rattle.std.proofs.Common.{List, [], drop}
 use Rattle.jt_value.specs.Tree.{Tree}
-use Rattle.jt_names.specs.Names.{texts}
+use Rattle.jt_trees.specs.Texts.{texts}
 use Rattle.jt_meaning.specs.Resolve as resolve
 use Rattle.jt_bind.specs.Scoped.{RowLeads, spot_in}
 use Rattle.jt_bind.proofs.resolver.Resolver.reads.Given as goal

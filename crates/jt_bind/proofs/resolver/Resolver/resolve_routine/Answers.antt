@@ -5,7 +5,7 @@ use Rattle.jt_trees.specs.Expressions.{Text}
 use Rattle.jt_trees.specs.StatementView as written
 use Rattle.jt_resolved.specs.View.{body_view}
 use Rattle.jt_resolved.specs.declared.program.SlotStmt.{SlotStmt}
-use Rattle.jt_names.specs.Names.{texts}
+use Rattle.jt_trees.specs.Texts.{texts}
 use Rattle.jt_resolved.specs.Locals.{body_locals}
 use Rattle.jt_meaning.specs.Resolve.{bound_all}
 use Rattle.jt_bind.specs.Scoped.{values, spot_in, templates_in}

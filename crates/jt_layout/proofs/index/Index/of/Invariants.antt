@@ -1,6 +1,6 @@
 use Rattle.std.proofs.Common.{◌≡◌, ◌+◌, ◌≤◌, length, drop}
 use Rattle.jt_trees.specs.Expressions.{Text}
-use Rattle.jt_names.specs.Names.{texts}
+use Rattle.jt_trees.specs.Texts.{texts}
 use Rattle.jt_layout.specs.Names.{place_in}
 use Rattle.jt_layout.specs.Places.{first_of}
 use Rattle.jt_layout.proofs.index.Index.of.Given as goal
