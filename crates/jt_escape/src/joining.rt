@@ -54,41 +54,25 @@ fn join_as_markup(alloc: Global, items: &[Value], separator: &Value) -> Result<V
 fn is_markup(value: &Value) -> bool
     ensures { result ≡ is_markup (view value.now) }
 {
-    match value {
-        Value::Markup(_) => true,
-        _ => false,
-    }
+    matches!(value, Value::Markup(_))
 }
 
 fn has_markup(items: &[Value]) -> bool
     ensures { result ≡ has_markup (items_view items.now) }
 {
-    for item in items {
-        if is_markup(item) {
-            return true;
-        }
-    }
-    false
+    items.iter().any(|item| is_markup(item))
 }
 
 fn is_printable(value: &Value) -> bool
     ensures { result ≡ is_some (printed (view value.now)) }
 {
-    match value {
-        Value::List(_) | Value::Map(_) => false,
-        _ => true,
-    }
+    !matches!(value, Value::List(_) | Value::Map(_))
 }
 
 fn are_printable(items: &[Value]) -> bool
     ensures { result ≡ are_printable (items_view items.now) }
 {
-    for item in items {
-        if !is_printable(item) {
-            return false;
-        }
-    }
-    true
+    items.iter().all(|item| is_printable(item))
 }
 
 /// Whether the separator and each item have a printed text.

@@ -1,12 +1,12 @@
 -- How a loop stands at one of its turns, and what `loop` says of it.
-use Rattle.std.specs.Prelude.{ℕ, zero, suc, ◌-◌, pos, nat_lt, ◌==◌, List, [], ◌∷◌, length, slice_get, unwrap_or, Option, Some, None, codes, if◌then◌else◌, Result, Ok, Err}
-use Rattle.std.specs.Str.{bytes_eq}
+use Rattle.std.specs.Prelude.{ℕ, zero, suc, ◌-◌, pos, nat_lt, ◌==◌, List, [], ◌∷◌, length, slice_get, unwrap_or, Option, Some, None, if◌then◌else◌, Result, Ok, Err}
+use Rattle.jt_ids.specs.declared.loop_field.LoopField.{LoopField}
+use Rattle.jt_ids.specs.declared.loop_field.LoopField.TheVariants as field
 use Rattle.jt_value.specs.Tree as tree
 use Rattle.jt_value.specs.Tree.{Tree, Items, no_items, item}
 use Rattle.jt_value.specs.Iteration.{items_of_tree}
 use Rattle.jt_value.specs.declared.fault.Fault.{Fault}
 use Rattle.jt_value.specs.declared.fault.Fault.TheVariants as faults
-use Rattle.jt_trees.specs.Expressions.{Text}
 use Rattle.jt_evaluation.specs.Got.{Got, deeper, checked}
 
 abbrev pub items_listed : Items → List Tree
@@ -26,32 +26,6 @@ pub record Loop : Type 0 where
   pub items : List Tree
   pub before : ℕ
 
-pub data Field : Type 0 where
-  index : Field
-  index0 : Field
-  revindex : Field
-  revindex0 : Field
-  first : Field
-  last : Field
-  total : Field
-  previtem : Field
-  nextitem : Field
-
-abbrev pub fields : List (Text × Field)
-fields =
-    (codes "index", index)
-    ∷ (codes "index0", index0) ∷ (codes "revindex", revindex) ∷ (codes "revindex0", revindex0)
-    ∷ (codes "first", first)
-    ∷ (codes "last", last)
-    ∷ (codes "length", total) ∷ (codes "previtem", previtem) ∷ (codes "nextitem", nextitem) ∷ []
-
-abbrev pub field_among : Text → List (Text × Field) → Option Field
-field_among x [] = None
-field_among x (f ∷ fs) = if bytes_eq f.0 x then Some f.1 else field_among x fs
-
-abbrev pub field_named : Text → Option Field
-field_named x = field_among x fields
-
 abbrev pub tree_at : List Tree → ℕ → Tree
 tree_at ts i = unwrap_or (slice_get ts i) tree.undefined
 
@@ -63,18 +37,20 @@ tree_before ts (suc i) = tree_at ts i
 abbrev pub counted : ℕ → Result Tree Fault
 counted n = if nat_lt 9223372036854775807 n then Err faults.Overflow else Ok (tree.number (pos n))
 
-abbrev pub field_at : Field → Loop → Result Tree Fault
-field_at index l = counted (suc l.before)
-field_at index0 l = counted l.before
-field_at revindex l = counted (length l.items - l.before)
-field_at revindex0 l = counted (length l.items - suc l.before)
-field_at first l = Ok (tree.truth_value (l.before == 0))
-field_at last l = Ok (tree.truth_value (suc l.before == length l.items))
-field_at total l = counted (length l.items)
-field_at previtem l = Ok (tree_before l.items l.before)
-field_at nextitem l = Ok (tree_at l.items (suc l.before))
+-- what a loop tells of its turn
+abbrev pub field_at : LoopField → Loop → Result Tree Fault
+field_at field.Item l = Ok (tree_at l.items l.before)
+field_at field.Index l = counted (suc l.before)
+field_at field.Index0 l = counted l.before
+field_at field.RevIndex l = counted (length l.items - l.before)
+field_at field.RevIndex0 l = counted (length l.items - suc l.before)
+field_at field.First l = Ok (tree.truth_value (l.before == 0))
+field_at field.Last l = Ok (tree.truth_value (suc l.before == length l.items))
+field_at field.Length l = counted (length l.items)
+field_at field.Previous l = Ok (tree_before l.items l.before)
+field_at field.Next l = Ok (tree_at l.items (suc l.before))
 
 -- outside a loop it has neither value nor fault at any depth: the rules refuse it
-abbrev pub loop_field : Field → Option Loop → Got Tree
+abbrev pub loop_field : LoopField → Option Loop → Got Tree
 loop_field f None = deeper
 loop_field f (Some l) = checked (field_at f l)

@@ -3,7 +3,7 @@ use Rattle.std.specs.Prelude.{Bool, true, false, ◌||◌, ◌&&◌, if◌then�
 use Rattle.jt_value.specs.declared.fault.Fault.{Fault}
 use Rattle.jt_value.specs.declared.fault.Fault.TheVariants as fault
 use Rattle.jt_value.specs.Tree.{Tree, text, Items, no_items, item}
-use Rattle.jt_ops.specs.Testing.{is_number, is_undefined}
+use Rattle.jt_op_meaning.specs.Testing.{is_number, is_undefined}
 
 -- whether a value is a plain text
 abbrev pub is_plain : Tree → Bool

@@ -5,10 +5,10 @@ use Rattle.jt_value.specs.declared.fault.Fault.{Fault}
 use Rattle.jt_value.specs.Iteration.{key_items, items_of_tree}
 use Rattle.jt_value.specs.Tree.{Tree, undefined, text, markup, list, map, Items, no_items, item, Entries, no_entries, entry}
 use Rattle.jt_escape.specs.Joining.{joined_markup, joined_plain}
-use Rattle.jt_ops.specs.Arithmetic.{in_range, as_number}
-use Rattle.jt_ops.specs.ItemOf.{indexed_item, items_count, or_undefined}
+use Rattle.jt_op_meaning.specs.Arithmetic.{in_range, as_number}
+use Rattle.jt_op_meaning.specs.ItemOf.{indexed_item, items_count, or_undefined}
 use Rattle.jt_value.specs.Payload.{joined_items}
-use Rattle.jt_ops.specs.Operands.{misfit_of_one}
+use Rattle.jt_op_meaning.specs.Operands.{misfit_of_one}
 use Rattle.jt_filter_meaning.specs.Texts.{backwards}
 
 -- what a filter gives of some items, or the fault where there are none

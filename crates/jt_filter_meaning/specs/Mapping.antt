@@ -6,9 +6,9 @@ use Rattle.jt_value.specs.declared.fault.Fault.TheVariants.{BadType, BadArgument
 use Rattle.jt_value.specs.Payload.{joined_items, text_of}
 use Rattle.jt_value.specs.Tree.{Tree, text, list, Items, no_items, item, truth}
 use Rattle.jt_ids.specs.declared.test_id.TestId.{TestId}
-use Rattle.jt_ops.specs.ItemOf.{item_of}
+use Rattle.jt_op_meaning.specs.ItemOf.{item_of}
 use Rattle.jt_ids.specs.TestTable.{test_of_name, test_values}
-use Rattle.jt_ops.specs.Testing.{tested, turned_round}
+use Rattle.jt_op_meaning.specs.Testing.{tested, turned_round}
 use Rattle.jt_ids.specs.declared.filter_id.FilterId.{FilterId}
 use Rattle.jt_ids.specs.declared.filter_id.FilterId.TheVariants as filter
 use Rattle.jt_ids.specs.FilterTable.{filter_of_name, may_be_inner, least_values, most_values}

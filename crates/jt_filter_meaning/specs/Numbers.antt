@@ -8,7 +8,7 @@ use Rattle.jt_value.specs.declared.fault.Fault.{Fault}
 use Rattle.jt_value.specs.declared.fault.Fault.TheVariants.{BadType, Undefined}
 use Rattle.jt_value.specs.Equality.{truth_number}
 use Rattle.jt_value.specs.Tree.{Tree, undefined, truth_value, number, text, markup, Items, no_items, item, is_nonempty}
-use Rattle.jt_ops.specs.Arithmetic.{is_in_range, in_range, as_number, sum}
+use Rattle.jt_op_meaning.specs.Arithmetic.{is_in_range, in_range, as_number, sum}
 use Rattle.jt_filter_meaning.specs.Kinds.{all_numbers, misfit_of_items}
 
 -- `abs`: a number without its sign

@@ -4,9 +4,9 @@ use Rattle.std.specs.Str.{str_to_ascii_lowercase, str_to_ascii_uppercase}
 use Rattle.jt_value.specs.declared.fault.Fault.{Fault}
 use Rattle.jt_value.specs.declared.fault.Fault.TheVariants.{BadType, BadArgument, Undefined}
 use Rattle.jt_value.specs.Tree.{Tree, undefined, truth_value, number, text, truth}
-use Rattle.jt_ops.specs.Arithmetic.{on_number}
-use Rattle.jt_ops.specs.ItemOf.{item_of}
-use Rattle.jt_ops.specs.Testing.{is_text, is_undefined}
+use Rattle.jt_op_meaning.specs.Arithmetic.{on_number}
+use Rattle.jt_op_meaning.specs.ItemOf.{item_of}
+use Rattle.jt_op_meaning.specs.Testing.{is_text, is_undefined}
 use Rattle.jt_ids.specs.declared.filter_id.FilterId.{FilterId}
 use Rattle.jt_ids.specs.declared.filter_id.FilterId.TheVariants as filter
 use Rattle.jt_filter_meaning.specs.Listing.{on_items, first_item, last_item, listed, length_of, reversed, pairs_of, joined_by}

@@ -8,8 +8,8 @@ use Rattle.jt_value.specs.declared.fault.Fault.TheVariants.{BadArgument}
 use Rattle.jt_value.specs.Tree.{Tree, text, markup, printed, is_nonempty}
 use Rattle.jt_escape.specs.Escaping.{escaped}
 use Rattle.jt_escape.specs.Joining.{or_unprintable}
-use Rattle.jt_ops.specs.Membership.{begins_with}
-use Rattle.jt_ops.specs.Operands.{misfit_of_one}
+use Rattle.jt_op_meaning.specs.Membership.{begins_with}
+use Rattle.jt_op_meaning.specs.Operands.{misfit_of_one}
 
 -- a text of the value's kind: markup for markup, plain for all else
 abbrev pub of_same_kind : Tree → List ℕ → Tree

@@ -6,10 +6,10 @@ use Rattle.jt_value.specs.Tree.{Tree, undefined, nothing, truth_value, number, t
 use Rattle.jt_escape.specs.Escaping.{escaped}
 use Rattle.jt_ids.specs.declared.op_id.OpId.TheVariants as op
 use Rattle.jt_ids.specs.declared.test_id.TestId.TheVariants as test
-use Rattle.jt_ops.specs.Making.{mapped}
-use Rattle.jt_ops.specs.Making.{listed as listed_all}
-use Rattle.jt_ops.specs.Operation.{operation, as_truth}
-use Rattle.jt_ops.specs.Testing.{tested, is_markup}
+use Rattle.jt_op_meaning.specs.Making.{mapped}
+use Rattle.jt_op_meaning.specs.Making.{listed as listed_all}
+use Rattle.jt_op_meaning.specs.Operation.{operation, as_truth}
+use Rattle.jt_op_meaning.specs.Testing.{tested, is_markup}
 use Rattle.jt_ids.specs.declared.filter_id.FilterId.TheVariants as filter
 use Rattle.std.specs.Char.{encode_utf8}
 use Rattle.std.specs.Fmt.{digits}

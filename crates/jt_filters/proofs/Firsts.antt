@@ -4,7 +4,7 @@ use Rattle.std.specs.Prelude.{Option, Ok}
 use Rattle.std.specs.Option.{option_and_then}
 use Rattle.std.proofs.lemmas.Bool.Decides.{nat_tests}
 use Rattle.jt_value.specs.Tree.{Tree, undefined, Items, no_items, item}
-use Rattle.jt_ops.specs.ItemOf.{item_at, items_count, or_undefined}
+use Rattle.jt_op_meaning.specs.ItemOf.{item_at, items_count, or_undefined}
 use Rattle.jt_filter_meaning.specs.Listing.{first_item, last_item}
 use Rattle.jt_filters.specs.Operands.{last_of}
 

@@ -10,7 +10,7 @@ use Rattle.jt_value.specs.Tree.{Tree, Items, no_items, item, printed}
 use Rattle.jt_escape.specs.Escaping.{escaped}
 use Rattle.jt_escape.specs.Joining.{piece, pieces, joined_text, joined_markup, joined_plain, joined_as_markup, has_markup, or_unprintable}
 use Rattle.jt_escape.specs.Joining as joins
-use Rattle.jt_ops.specs.Testing.{is_markup}
+use Rattle.jt_op_meaning.specs.Testing.{is_markup}
 use Rattle.jt_filter_meaning.specs.Listing.{joined_by}
 use Rattle.jt_filters.specs.Operands.{measured, text_length, text_measure, led_length, on_length}
 

@@ -7,7 +7,7 @@ use Rattle.jt_value.specs.Tree as tree
 use Rattle.jt_value.specs.Tree.{Tree, printed}
 use Rattle.jt_escape.specs.Escaping.{escaped}
 use Rattle.jt_escape.specs.Joining.{or_unprintable}
-use Rattle.jt_ops.specs.Testing.{is_markup}
+use Rattle.jt_op_meaning.specs.Testing.{is_markup}
 use Rattle.jt_filter_meaning.specs.Texts.{of_same_kind, keeping_kind, unchanged, capitalized, trimmed, safe, escaped_once, escaped_again}
 use Rattle.jt_filters.specs.Operands.{measured}
 use Rattle.jt_filters.proofs.Changes.{capitalized_length, length-map}

@@ -9,7 +9,7 @@ use Rattle.std.specs.Option.{option_and_then}
 use Rattle.std.specs.Str.Parse.{AllDigits, IsNumeral, ParsesSigned, digits_value, without_leading_sign, signed_digits_value}
 use Rattle.std.proofs.lemmas.Bool.{and_parts, false≢true}
 use Rattle.std.proofs.lemmas.Bool.Decides.{nat_tests}
-use Rattle.jt_ops.specs.Arithmetic.{is_in_range}
+use Rattle.jt_op_meaning.specs.Arithmetic.{is_in_range}
 use Rattle.jt_filter_meaning.specs.Numbers.{number_of_digits, number_with_sign, number_of_text}
 
 digit_small : (b : ℕ) → is_ascii_digit b ≡ true → digit_value b < 10

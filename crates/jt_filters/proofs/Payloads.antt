@@ -3,7 +3,7 @@ use Rattle.std.specs.Prelude.{option_map, slice_get}
 use Rattle.std.specs.Option.{option_and_then}
 use Rattle.std.proofs.lemmas.Bool.Decides.{nat_tests}
 use Rattle.std.specs.Char.{encode_utf8}
-use Rattle.jt_ops.specs.ItemOf.{item_at, items_count, indexed_item, indexed_character, item_of}
+use Rattle.jt_op_meaning.specs.ItemOf.{item_at, items_count, indexed_item, indexed_character, item_of}
 use Rattle.std.proofs.Common.{◌≡◌, ℕ, zero, suc, ℤ, ◌+◌, ◌-◌, negsuc, Bool, true, cond, ltb, List, [], ◌∷◌, length, Some, None, refl, ap, sym, ◌∙◌, arith, rules}
 use Rattle.jt_value.proofs.Lists.{Pair}
 use Rattle.jt_value.specs.View.{view, items_view, entries_view}

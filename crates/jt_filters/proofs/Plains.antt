@@ -6,8 +6,8 @@ use Rattle.jt_value.specs.Tree.{Tree, Items}
 use Rattle.jt_value.specs.Iteration.{items_of_tree}
 use Rattle.jt_value.specs.Payload.{text_of, entries_of_map}
 use Rattle.jt_value.specs.declared.fault.Fault.{Fault}
-use Rattle.jt_ops.specs.Operands.{misfit_of_one}
-use Rattle.jt_ops.specs.Testing.{is_undefined}
+use Rattle.jt_op_meaning.specs.Operands.{misfit_of_one}
+use Rattle.jt_op_meaning.specs.Testing.{is_undefined}
 use Rattle.jt_filter_meaning.specs.Listing.{reversed, reversed_items, pairs_of}
 use Rattle.jt_filters.specs.Operands.{plain_of}
 use Rattle.jt_filter_meaning.specs.Ordering.{sorted_pairs}

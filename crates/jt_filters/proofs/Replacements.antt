@@ -4,7 +4,7 @@ use Rattle.std.specs.Str.Pattern.{LacksTextAt, HasTextAt}
 use Rattle.std.specs.Str.{IsUtf8}
 use Rattle.std.proofs.lemmas.Str.{IsUtf8-drop}
 use Rattle.std.proofs.lemmas.List.{drop_at}
-use Rattle.jt_ops.specs.Membership.{begins_with}
+use Rattle.jt_op_meaning.specs.Membership.{begins_with}
 use Rattle.jt_ops.proofs.Finding.{begins_append, begins_split}
 use Rattle.jt_filter_meaning.specs.Texts.{replaced_behind}
 

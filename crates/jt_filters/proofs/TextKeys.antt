@@ -5,8 +5,8 @@ use Rattle.jt_value.specs.declared.fault.Fault.TheVariants as fault
 use Rattle.jt_value.specs.Payload.{text_of, entries_of_map}
 use Rattle.jt_value.specs.Tree as tree
 use Rattle.jt_value.specs.Tree.{Tree}
-use Rattle.jt_ops.specs.ItemOf.{item_of}
-use Rattle.jt_ops.specs.Testing.{is_text, is_undefined}
+use Rattle.jt_op_meaning.specs.ItemOf.{item_of}
+use Rattle.jt_op_meaning.specs.Testing.{is_text, is_undefined}
 use Rattle.jt_filter_meaning.specs.Single.{attribute}
 
 text_key : (t : Tree) (s : List ℕ) → attribute t (tree.text s) ≡ item_of t (tree.text s)

@@ -5,9 +5,9 @@ use Rattle.jt_value.specs.declared.fault.ValueError.{ValueError}
 use Rattle.jt_value.specs.declared.fault.ValueError.TheVariants as error
 use Rattle.jt_value.specs.Tree.{Tree, text, Items, truth, items_size, items_nesting}
 use Rattle.jt_value.specs.View.{view}
-use Rattle.jt_ops.specs.ItemOf.{item_of}
+use Rattle.jt_op_meaning.specs.ItemOf.{item_of}
 use Rattle.jt_ids.specs.TestTable.{test_values}
-use Rattle.jt_ops.specs.Testing.{tested}
+use Rattle.jt_op_meaning.specs.Testing.{tested}
 use Rattle.jt_filters.specs.declared.inner.Judge.{Judge}
 use Rattle.jt_filters.specs.declared.inner.Judge.TheVariants as judge
 use Rattle.jt_filters.specs.declared.inner.Selection.{Selection}

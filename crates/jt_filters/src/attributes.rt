@@ -2,8 +2,8 @@
 ghost use Rattle.std.specs.Prelude.{◌≡◌, option_map, option_copied};
 ghost use Rattle.jt_value.specs.Tree as tree;
 ghost use Rattle.jt_value.specs.View.{view};
-ghost use Rattle.jt_ops.specs.ItemOf as items;
-ghost use Rattle.jt_ops.specs.ItemOf.{item_of};
+ghost use Rattle.jt_op_meaning.specs.ItemOf as items;
+ghost use Rattle.jt_op_meaning.specs.ItemOf.{item_of};
 ghost use Rattle.jt_filters.specs.Operands.{tree_of, chosen};
 ghost use Rattle.jt_filter_meaning.specs.Single as single;
 

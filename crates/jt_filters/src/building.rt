@@ -1,5 +1,5 @@
 //! What a filter gives, built. Its size and nesting are tested before.
-ghost use Rattle.std.specs.Prelude.{◌∷◌, []};
+ghost use Rattle.std.specs.Prelude.{◌∷◌, [], Bool};
 ghost use Rattle.jt_value.specs.View.{view};
 ghost use Rattle.jt_filter_meaning.specs.Single.{single};
 ghost use Rattle.jt_filters.specs.Operands.{tree_of, inputs, Builds};
@@ -32,7 +32,7 @@ pub(crate) fn build(
     match arguments {
         [] => build_one(alloc, filter, operand, autoescape),
         [argument] => build_two(alloc, filter, operand, argument, autoescape),
-        [first, second] => build_three(alloc, filter, operand, first, second, autoescape),
+        [first, second] => build_three(alloc, filter, operand, first, second),
         _ => Err(Fault::BadType.into()),
     }
 }
@@ -113,11 +113,10 @@ fn build_three(
     operand: Operand<'_>,
     first: &Value,
     second: &Value,
-    autoescape: bool,
 ) -> Result<Value, ValueError>
-    ensures { Builds
-        (single filter autoescape (tree_of operand.entry ∷ view first.now ∷ view second.now ∷ []))
-        result }
+    ensures { (autoescape : Bool)
+        → Builds (single filter autoescape
+        (tree_of operand.entry ∷ view first.now ∷ view second.now ∷ [])) result }
 {
     match filter {
         FilterId::Default => scalar(

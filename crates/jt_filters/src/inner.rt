@@ -3,7 +3,7 @@
 ghost use Rattle.std.specs.Prelude.{◌≡◌, ◌+◌, [], ◌∷◌, ◌++◌, map, length, Ok, IfErr, OnOk, option_map};
 ghost use Rattle.jt_value.specs.View.{view, items_view};
 ghost use Rattle.jt_ids.specs.TestTable.{test_values};
-ghost use Rattle.jt_ops.specs.Testing as testing;
+ghost use Rattle.jt_op_meaning.specs.Testing as testing;
 ghost use Rattle.jt_filter_meaning.specs.Mapping.{part_of, if_kept, in_front, alone};
 ghost use Rattle.jt_filters.specs.Operands.{tree_of, chosen};
 ghost use Rattle.jt_filters.specs.Rows.{judges, Judges, kept, gives, Gives, row_measured, RowFault};

@@ -3,7 +3,7 @@ ghost use Rattle.std.specs.Prelude.{◌≡◌, IfSome, IfNone};
 ghost use Rattle.std.specs.Str.{chars};
 ghost use Rattle.jt_value.specs.Iteration.{items_of_tree, character_items};
 ghost use Rattle.jt_value.specs.Tree as tree;
-ghost use Rattle.jt_ops.specs.ItemOf.{items_count};
+ghost use Rattle.jt_op_meaning.specs.ItemOf.{items_count};
 ghost use Rattle.jt_filters.specs.Operands.{tree_of, items_in, HasItems};
 
 use crate::operand::Operand;

@@ -1,6 +1,6 @@
 //! Filter `join`: how long its text is, and the text.
 ghost use Rattle.std.specs.Prelude.{◌≡◌, ◌&&◌, ◌||◌};
-ghost use Rattle.jt_ops.specs.Testing.{is_markup};
+ghost use Rattle.jt_op_meaning.specs.Testing.{is_markup};
 ghost use Rattle.jt_filters.specs.Operands as operands;
 ghost use Rattle.jt_escape.specs.Joining.{IsAnswer, piece, joined_text};
 ghost use Rattle.jt_escape.specs.Joining as joins;

@@ -1,6 +1,6 @@
 //! The size and the nesting of what a filter gives, each the greatest number where it is greater.
 //! They need no memory: `unique` is slower where it is refused.
-ghost use Rattle.std.specs.Prelude.{◌≡◌, ◌∷◌, []};
+ghost use Rattle.std.specs.Prelude.{◌≡◌, ◌∷◌, [], Bool};
 ghost use Rattle.jt_value.specs.View.{view};
 ghost use Rattle.jt_filter_meaning.specs.Single.{single};
 ghost use Rattle.jt_filters.specs.Operands.{tree_of, inputs, measured};
@@ -33,7 +33,7 @@ pub(crate) fn measure(
     match arguments {
         [] => measure_one(alloc, filter, operand, autoescape),
         [argument] => measure_two(filter, operand, argument, autoescape),
-        [first, second] => measure_three(filter, operand, first, second, autoescape),
+        [first, second] => measure_three(filter, operand, first, second),
         _ => Err(Fault::BadType),
     }
 }
@@ -114,11 +114,10 @@ fn measure_three(
     operand: Operand<'_>,
     first: &Value,
     second: &Value,
-    autoescape: bool,
 ) -> Result<(u64, u32), Fault>
-    ensures { result
-        ≡ measured
-        (single filter autoescape (tree_of operand.entry ∷ view first.now ∷ view second.now ∷ [])) }
+    ensures { (autoescape : Bool)
+        → result ≡ measured (single filter autoescape
+        (tree_of operand.entry ∷ view first.now ∷ view second.now ∷ [])) }
 {
     match filter {
         FilterId::Default => scalar_measure(Ok(or_default(

@@ -3,8 +3,8 @@ ghost use Rattle.std.specs.Prelude.{◌≡◌, ◌-◌, ◌^◌, min, option_map
 ghost use Rattle.jt_value.specs.Payload.{text_of, items_of_list, entries_of_map};
 ghost use Rattle.jt_value.specs.Tree.{truth, printed, size, nesting};
 ghost use Rattle.jt_value.specs.View.{items_view};
-ghost use Rattle.jt_ops.specs.Operands as operands;
-ghost use Rattle.jt_ops.specs.Testing as testing;
+ghost use Rattle.jt_op_meaning.specs.Operands as operands;
+ghost use Rattle.jt_op_meaning.specs.Testing as testing;
 ghost use Rattle.jt_filter_meaning.specs.Kinds.{is_plain};
 ghost use Rattle.jt_filters.specs.Operands.{tree_of, number_of, plain_of, Copies};
 

@@ -2,8 +2,8 @@
 ghost use Rattle.std.specs.Prelude.{◌≡◌, ◌||◌, ◌&&◌, not, if◌then◌else◌, Ok, pos};
 ghost use Rattle.jt_value.specs.Tree as tree;
 ghost use Rattle.jt_value.specs.Tree.{truth};
-ghost use Rattle.jt_ops.specs.Arithmetic.{on_number, as_number};
-ghost use Rattle.jt_ops.specs.Testing.{is_undefined};
+ghost use Rattle.jt_op_meaning.specs.Arithmetic.{on_number, as_number};
+ghost use Rattle.jt_op_meaning.specs.Testing.{is_undefined};
 ghost use Rattle.jt_filter_meaning.specs.Listing.{on_items, first_item, last_item, length_of};
 ghost use Rattle.jt_filter_meaning.specs.Listing as listing;
 ghost use Rattle.jt_filter_meaning.specs.Numbers as numbers;

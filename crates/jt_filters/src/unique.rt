@@ -176,6 +176,14 @@ fn operand_values(alloc: Global, operands: &[Operand<'_>]) -> Result<Vec<Value>,
     Ok(values)
 }
 
+/// What is known of the items in front: for each code the one that had it first, and those that are
+/// like none in front of them.
+#[derive(Drop)]
+struct Met<'a> {
+    seen: BTreeMap<Vec<u8>, Operand<'a>>,
+    firsts: Vec<Operand<'a>>,
+}
+
 /// The items that are like none in front of them.
 fn first_items(alloc: Global, all: ItemList<'_>) -> Result<Vec<Operand<'_>>, NoMemory>
     ensures { IfOk result (λ v. operand_items v.items ≡ unseen tree.no_items (items_in all.entry)) }
@@ -183,13 +191,16 @@ fn first_items(alloc: Global, all: ItemList<'_>) -> Result<Vec<Operand<'_>>, NoM
     let total = all.len();
     let mut left = total;
     let mut items = all;
-    let mut seen = BTreeMap::new(alloc);
-    let mut firsts = Vec::new(alloc);
+    let mut met = Met {
+        seen: BTreeMap::new(alloc),
+        firsts: Vec::new(alloc),
+    };
     while let Some((item, behind)) = items.split_first() {
-        push_new(alloc, &mut seen, &mut firsts, item, all, total - left)?;
+        push_new(alloc, &mut met, item, all, total - left)?;
         left -= 1;
         items = behind;
     }
+    let Met { firsts, .. } = met;
     Ok(firsts)
 }
 
@@ -198,21 +209,20 @@ fn first_items(alloc: Global, all: ItemList<'_>) -> Result<Vec<Operand<'_>>, NoM
 #[tactic(auto, using(crate::proofs::Alike::values_left, crate::proofs::Known::firsts_kept))]
 fn push_new<'a>(
     alloc: Global,
-    seen: &mut BTreeMap<Vec<u8>, Operand<'a>>,
-    firsts: &mut Vec<Operand<'a>>,
+    met: &mut Met<'a>,
     item: Operand<'a>,
     all: ItemList<'a>,
     count: usize,
 ) -> Result<(), NoMemory>
-    requires { Knows seen.old (front count (items_in all)) }
+    requires { Knows met.old.seen (front count (items_in all)) }
     ensures known { OnOk result
-        (KnowsNext seen.new count (items_in all.entry) (tree_of item.entry)) }
+        (KnowsNext met.new.seen count (items_in all.entry) (tree_of item.entry)) }
     ensures firsts { OnOk result (Before count (items_in all.entry) (tree_of item.entry)
-        (λ left behind. joined_items (operand_items firsts.new.items) behind
-        ≡ joined_items (operand_items firsts.old.items) left)) }
+        (λ left behind. joined_items (operand_items met.new.firsts.items) behind
+        ≡ joined_items (operand_items met.old.firsts.items) left)) }
 {
-    if !was_seen(alloc, seen, item, all, count)? {
-        firsts.push(item)?;
+    if !was_seen(alloc, &mut met.seen, item, all, count)? {
+        met.firsts.push(item)?;
     }
     Ok(())
 }

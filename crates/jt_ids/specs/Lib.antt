@@ -1,3 +1,4 @@
 pub mod FilterTable
+pub mod LoopTable
 pub mod OpTable
 pub mod TestTable

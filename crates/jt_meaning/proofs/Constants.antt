@@ -11,7 +11,9 @@ use Rattle.jt_value.specs.Place.{Place}
 use Rattle.jt_chains.specs.Uses.{keywords, set_in}
 use Rattle.jt_trees.specs.Statements.{Parameter, Filtering, Stmt, choose, for_each, set_block, with_values, filter_block, autoescape, macro, include, import_as, import_from, extends, block, Body, end, stmt, Branches, no_branches, branch, condition_weight, filtering_weight}
 use Rattle.jt_chains.specs.Chain.{Home, a_chain, Callee, a_macro, a_range, a_super, a_block, a_cycle, no_callee, is_loop}
-use Rattle.jt_evaluation.specs.Loops.{Field, index0, field_named}
+use Rattle.jt_ids.specs.declared.loop_field.LoopField.{LoopField}
+use Rattle.jt_ids.specs.declared.loop_field.LoopField.TheVariants.{Index0}
+use Rattle.jt_ids.specs.LoopTable.{field_named}
 use Rattle.jt_evaluation.specs.Filters.{default_value, some_given}
 use Rattle.jt_rules.specs.World.{World}
 use Rattle.jt_meaning.specs.Expressions.{filter_parameters}
@@ -44,7 +46,7 @@ own_count : (s : Option Slot) (v : tree.Tree) → expr_count (value_or s (own v)
 own_count None v = omega arith
 own_count (Some s) v = omega arith
 
-field_count : (f : Option Field) → expr_count (field_from f) ≡ 0
+field_count : (f : Option LoopField) → expr_count (field_from f) ≡ 0
 field_count None = refl
 field_count (Some f) = refl
 
@@ -143,7 +145,7 @@ module _ (world : World) (order : List Home) where
       let xs = block_parameters world order sp.home x in
       omega (arith, body_counted sp.home sp.escaping (first_body (numbered_of world sp.home x)) (reads t xs) (reads_count t xs))
   invoked_counted a_cycle sp row asides n ks w v r a =
-      let i : SlotExpr Constant = slots.made (slots.operator op.Remainder) (slots.item (slots.field index0) (slots.item (slots.pooled (own (tree.number (pos n)))) slots.none)) in
+      let i : SlotExpr Constant = slots.made (slots.operator op.Remainder) (slots.item (slots.field Index0) (slots.item (slots.pooled (own (tree.number (pos n)))) slots.none)) in
       omega (arith, r slots.none, pair_count (slots.made slots.a_list (row slots.none)) i)
   invoked_counted no_callee sp row asides n ks w v r a = omega arith
 

@@ -9,7 +9,7 @@ use Rattle.jt_value.specs.Place.{Place}
 use Rattle.jt_chains.specs.Uses.{keywords, set_by, set_in, set_under}
 use Rattle.jt_trees.specs.Statements.{Parameter, Filtering, Stmt, data_of, print, choose, for_each, set, set_block, with_values, filter_block, autoescape, macro, include, import_as, import_from, extends, block, Body, end, stmt, Branches, no_branches, branch, condition_weight, filtering_weight}
 use Rattle.jt_chains.specs.Chain.{Home, a_chain, Callee}
-use Rattle.jt_evaluation.specs.Loops.{Field}
+use Rattle.jt_ids.specs.declared.loop_field.LoopField.{LoopField}
 use Rattle.jt_rules.specs.World.{World}
 use Rattle.jt_meaning.specs.Layout.{Table, slot_in, globals_from, names, numbered_of, globals, block_parameters, first_slot, unit, of_chain}
 use Rattle.jt_resolved.specs.Slots as slots
@@ -71,7 +71,7 @@ module _ (n : ℕ) (some : 1 ≤ n) where
   bound_below [] m t h g = g
   bound_below (x ∷ xs) m t h g = bound_below xs (suc m) ((x, local m) ∷ t) (omega (arith, h)) (omega (arith, h), g)
 
-  field_local : (f : Option Field) → expr_locals (field_from f) ≡ 0
+  field_local : (f : Option LoopField) → expr_locals (field_from f) ≡ 0
   field_local None = refl
   field_local (Some f) = refl
 

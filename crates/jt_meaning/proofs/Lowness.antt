@@ -8,7 +8,7 @@ use Rattle.jt_value.specs.Place.{Place}
 use Rattle.jt_chains.specs.Uses.{count, keywords, set_in}
 use Rattle.jt_trees.specs.Statements.{Parameter, Filtering, Stmt, choose, for_each, set_block, with_values, filter_block, autoescape, block, Body, end, stmt, Branches, no_branches, branch, condition_weight, filtering_weight, stmt_bound, body_bound, branch_bound}
 use Rattle.jt_chains.specs.Chain.{Sources, Home, a_chain, MacroBody, macro_of, is_private, public_macro, Given, given, given_to, Callee, a_macro, a_range, a_super, a_block, a_cycle, no_callee, named_alone, of_library, in_library, named_in, callee}
-use Rattle.jt_evaluation.specs.Loops.{Field}
+use Rattle.jt_ids.specs.declared.loop_field.LoopField.{LoopField}
 use Rattle.jt_evaluation.specs.Filters.{default_value, some_given}
 use Rattle.jt_rules.specs.World.{World}
 use Rattle.jt_meaning.specs.Expressions.{filter_parameters}
@@ -32,7 +32,7 @@ value_low : (s : Option Slot) (k : Constant) → expr_height (value_or s k) ≡ 
 value_low None k = refl
 value_low (Some s) k = refl
 
-field_low : (f : Option Field) → expr_height (field_from f) ≡ 1
+field_low : (f : Option LoopField) → expr_height (field_from f) ≡ 1
 field_low None = refl
 field_low (Some f) = refl
 

@@ -10,7 +10,7 @@ use Rattle.jt_value.specs.Place.{Place}
 use Rattle.jt_chains.specs.Uses.{keywords, set_by, set_in, set_under}
 use Rattle.jt_trees.specs.Statements.{Parameter, Filtering, Stmt, data_of, print, choose, for_each, set, set_block, with_values, filter_block, autoescape, macro, include, import_as, import_from, extends, block, Body, end, stmt, Branches, no_branches, branch, condition_weight, filtering_weight}
 use Rattle.jt_chains.specs.Chain.{Sources, Home, a_chain, MacroBody, macro_of, is_private, public_macro, Given, given_to, Callee, a_macro, named_alone, of_library, in_library, named_in, callee}
-use Rattle.jt_evaluation.specs.Loops.{Field}
+use Rattle.jt_ids.specs.declared.loop_field.LoopField.{LoopField}
 use Rattle.jt_rules.specs.World.{World}
 use Rattle.jt_meaning.specs.Expressions.{filter_parameters}
 use Rattle.jt_meaning.specs.Layout.{Table, slot_in, names, numbered_of, globals, block_parameters, first_slot, unit, of_chain}
@@ -59,7 +59,7 @@ value_size : (s : Option Slot) (k : Constant) → expr_size (value_or s k) ≡ 1
 value_size None k = refl
 value_size (Some s) k = refl
 
-field_size : (f : Option Field) → expr_size (field_from f) ≤ 1
+field_size : (f : Option LoopField) → expr_size (field_from f) ≤ 1
 field_size None = omega arith
 field_size (Some f) = omega arith
 

@@ -19,7 +19,8 @@ use Rattle.jt_rules.specs.declared.error.ScopeError.{ScopeError}
 use Rattle.jt_rules.specs.declared.error.ScopeError.TheVariants as error
 use Rattle.jt_trees.specs.Statements.{Parameter}
 use Rattle.jt_chains.specs.Chain.{Home, listed, BlockBody, bodies, from_given, MacroBody, Callee, a_macro, a_range, a_super, a_block, a_cycle, no_callee, is_loop}
-use Rattle.jt_evaluation.specs.Loops.{Field, field_named}
+use Rattle.jt_ids.specs.declared.loop_field.LoopField.{LoopField}
+use Rattle.jt_ids.specs.LoopTable.{field_named}
 use Rattle.jt_evaluation.specs.Filters.{some_given}
 use Rattle.jt_rules.specs.World.{World}
 use Rattle.jt_meaning.specs.Expressions.{filter_parameters}
@@ -205,7 +206,7 @@ module _ (world : World) (order : List Home) where
   not_false true h = refl
   not_false false h = absurd (cc)
 
-  fields_take : (l : Bool) (f : Option Field) → is_some f ≡ true → l ≡ true → ETakes l (field_from f)
+  fields_take : (l : Bool) (f : Option LoopField) → is_some f ≡ true → l ≡ true → ETakes l (field_from f)
   fields_take l None there h = absurd (cc)
   fields_take l (Some f) there h = h
 

@@ -11,11 +11,11 @@ use Rattle.jt_value.specs.declared.fault.Fault.{Fault}
 use Rattle.jt_ids.specs.declared.op_id.OpId.{OpId}
 use Rattle.jt_ids.specs.declared.op_id.OpId.TheVariants as op
 use Rattle.jt_ids.specs.declared.test_id.TestId.{TestId}
-use Rattle.jt_ops.specs.Operation as operators
-use Rattle.jt_ops.specs.Operation.{as_truth}
-use Rattle.jt_ops.specs.Testing.{tested}
-use Rattle.jt_ops.specs.Ranges.{ranged}
-use Rattle.jt_ops.specs.Making.{listed, mapped}
+use Rattle.jt_op_meaning.specs.Operation as operators
+use Rattle.jt_op_meaning.specs.Operation.{as_truth}
+use Rattle.jt_op_meaning.specs.Testing.{tested}
+use Rattle.jt_op_meaning.specs.Ranges.{ranged}
+use Rattle.jt_op_meaning.specs.Making.{listed, mapped}
 use Rattle.jt_trees.specs.Expressions as written
 use Rattle.jt_trees.specs.Expressions.{Expr, constant, name, group, list_of, map_of, attribute, item, unary, binary, when, choice, Exprs, no_exprs, expr, no_pairs, pair, Text}
 use Rattle.jt_evaluation.specs.Got.{Got, gives, bind, checked}
@@ -27,7 +27,10 @@ use Rattle.jt_chains.specs.Uses.{count, keywords, expr_names, row_names, pair_na
 use Rattle.jt_trees.specs.Statements.{Parameter}
 use Rattle.jt_meaning.specs.Env.{Env, read, top}
 use Rattle.jt_chains.specs.Chain.{Home, a_library, BlockBody, bodies, all_bodies, from_given, MacroBody, given, Callee, a_macro, a_range, a_super, a_block, a_cycle, no_callee, callee, is_loop}
-use Rattle.jt_evaluation.specs.Loops.{Loop, Field, index0, field_named, loop_field}
+use Rattle.jt_ids.specs.declared.loop_field.LoopField.{LoopField}
+use Rattle.jt_ids.specs.declared.loop_field.LoopField.TheVariants.{Index0}
+use Rattle.jt_ids.specs.LoopTable.{field_named}
+use Rattle.jt_evaluation.specs.Loops.{Loop, loop_field}
 use Rattle.jt_evaluation.specs.Filters.{Filters, parameters, by_name, arguments}
 use Rattle.jt_rules.specs.World.{World}
 use Rattle.jt_meaning.specs.Around.{Placement, the_macro, the_block, Calls}
@@ -317,7 +320,7 @@ module _ (world : World) (order : List Home) (calls : Calls) (scall : SCalls) (m
   given_both : {m : Memory} (sp : Spot) (v : Tree) → Both (Evaluated sp.free (end sp) m) (gives v) (gives (record { value = v; memory = m }))
   given_both {m = m} sp v = both (record { value = refl; kept = kept_same sp.free (end sp) m; out = refl })
 
-  field_both : {m : Memory} (sp : Spot) (f : Option Field) → Same sp m (field_of f l) (field_from f)
+  field_both : {m : Memory} (sp : Spot) (f : Option LoopField) → Same sp m (field_of f l) (field_from f)
   field_both sp None = deep
   field_both {m = m} sp (Some f) = done (loop_field f l) (kept_same sp.free (end sp) m) refl
 
@@ -355,21 +358,21 @@ module _ (world : World) (order : List Home) (calls : Calls) (scall : SCalls) (m
 
   -- `loop.cycle(..)`
   cycle_both : {m : Memory} (sp : Spot) (n : ℕ) (h : Got (List Tree)) (es : SRow Constant) → Both (Counted sp m n) h (seen_row es m)
-      → Same sp m (bind h (cycled l)) (operation_of op.Item (made a_list es) (operation_of op.Remainder (slots.field index0) (slots.pooled (own (tree.number (pos n))))))
+      → Same sp m (bind h (cycled l)) (operation_of op.Item (made a_list es) (operation_of op.Remainder (slots.field Index0) (slots.pooled (own (tree.number (pos n))))))
   cycle_both {m = m} sp n h es u =
       by_right (on_two op.Item (made a_list es) left m ∙ bind_assoc (seen_row es m) (λ r. gives (record { value = tree.list (items_of r.values); memory = r.memory })) (λ r. bind (seen left r.memory) (λ s. bind (operated op.Item (r.value ∷ s.value ∷ [])) (valued s.memory))))
       (bind_both u (λ vs r w.
-      let rest : Both (Evaluated sp.free (end sp) r.memory) (bind (loop_field index0 l) (λ i. operated op.Remainder (i ∷ tree.number (pos (length vs)) ∷ []))) (seen left r.memory) =
-      two_both {k = gives (tree.number (pos (length vs)))} op.Remainder (slots.field index0) (slots.pooled (own (tree.number (pos n)))) (done (loop_field index0 l) (kept_same sp.free (end sp) r.memory) refl)
+      let rest : Both (Evaluated sp.free (end sp) r.memory) (bind (loop_field Index0 l) (λ i. operated op.Remainder (i ∷ tree.number (pos (length vs)) ∷ []))) (seen left r.memory) =
+      two_both {k = gives (tree.number (pos (length vs)))} op.Remainder (slots.field Index0) (slots.pooled (own (tree.number (pos n)))) (done (loop_field Index0 l) (kept_same sp.free (end sp) r.memory) refl)
       (λ o k f. both (record { value = ap (λ z. tree.number (pos z)) (sym w.1); kept = kept_same sp.free (end sp) o; out = refl })) in
-      by_left (sym (bind_assoc (loop_field index0 l) (λ i. operated op.Remainder (i ∷ tree.number (pos (length vs)) ∷ [])) (λ k. operated op.Item (tree.list (items_of vs) ∷ k ∷ []))))
+      by_left (sym (bind_assoc (loop_field Index0 l) (λ i. operated op.Remainder (i ∷ tree.number (pos (length vs)) ∷ [])) (λ k. operated op.Item (tree.list (items_of vs) ∷ k ∷ []))))
       (bind_both rest (λ k s z.
       done_as (operators.operation op.Item (tree.list (items_of vs) ∷ k ∷ [])) (operators.operation op.Item (tree.list (items_of r.values) ∷ s.value ∷ []))
       (ap (λ y. operators.operation op.Item (tree.list (items_of y) ∷ k ∷ [])) (sym w.0.values) ∙ ap (λ y. operators.operation op.Item (tree.list (items_of r.values) ∷ y ∷ [])) (sym z.value))
       (kept_then w.0.kept z.kept) (z.out ∙ w.0.out)))))
     where
       left : SlotExpr Constant
-      left = operation_of op.Remainder (slots.field index0) (slots.pooled (own (tree.number (pos n))))
+      left = operation_of op.Remainder (slots.field Index0) (slots.pooled (own (tree.number (pos n))))
 
   -- the row of a block's parameters: what their names read
   pub reads_are : (table : Table) (env : Env) (m : Memory) (xs all : List Text) → ((x : Text) → Among x all → read env x ≡ held (slot_in x table) m) → AllAmong xs all → map (λ x. held (slot_in x table) m) xs ≡ map (read env) xs

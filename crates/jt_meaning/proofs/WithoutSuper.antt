@@ -8,7 +8,7 @@ use Rattle.jt_trees.specs.Expressions.{Expr, constant, name, group, list_of, att
 use Rattle.jt_chains.specs.Chain.{Home, MacroBody, Given, given, Callee, a_range, a_super, a_block, a_cycle, no_callee, named_alone, of_library, in_library, callee, is_loop}
 use Rattle.jt_chains.specs.Supers.{is_super, has_super, row_super, pairs_super, condition_super, filtering_super, stmt_super, calls_super, branches_super}
 use Rattle.jt_trees.specs.Statements.{Filtering, Stmt, data_of, print, choose, for_each, set, set_block, with_values, filter_block, autoescape, macro, include, import_as, import_from, extends, block, Body, end, stmt, Branches, no_branches, branch}
-use Rattle.jt_evaluation.specs.Loops.{field_named}
+use Rattle.jt_ids.specs.LoopTable.{field_named}
 use Rattle.jt_rules.specs.World.{World}
 use Rattle.jt_rules.specs.declared.error.ScopeError.{ScopeError}
 use Rattle.jt_rules.specs.declared.error.ScopeError.TheVariants as error

@@ -5,8 +5,8 @@ use Rattle.jt_value.specs.Tree.{Tree}
 use Rattle.jt_value.specs.Pairs.{Pairs}
 use Rattle.jt_value.specs.View.{items_of}
 use Rattle.jt_ids.specs.declared.op_id.OpId.TheVariants as op
-use Rattle.jt_ops.specs.Ranges.{ranged}
-use Rattle.jt_ops.specs.Making.{listed, mapped}
+use Rattle.jt_op_meaning.specs.Ranges.{ranged}
+use Rattle.jt_op_meaning.specs.Making.{listed, mapped}
 use Rattle.jt_trees.specs.Expressions as trees
 use Rattle.jt_trees.specs.Expressions.{Expr, constant, name, group, list_of, map_of, attribute, item, call, filter, test, unary, binary, when, choice, Exprs, no_exprs, expr, no_pairs, pair, Text}
 use Rattle.jt_meaning.specs.Operators.{unary_operation, Form, operation, negation, conjunction, disjunction, form}
@@ -16,15 +16,18 @@ use Rattle.jt_evaluation.specs.Got.{Got, gives, deeper, bind, checked}
 use Rattle.jt_trees.specs.Statements.{Parameter}
 use Rattle.jt_meaning.specs.Env.{Env, read, top}
 use Rattle.jt_chains.specs.Chain.{Home, a_chain, a_library, BlockBody, bodies, from_given, given, Callee, a_macro, a_range, a_super, a_block, a_cycle, no_callee, callee, is_loop}
-use Rattle.jt_evaluation.specs.Loops.{Loop, Field, index0, field_named, loop_field}
+use Rattle.jt_ids.specs.declared.loop_field.LoopField.{LoopField}
+use Rattle.jt_ids.specs.declared.loop_field.LoopField.TheVariants.{Index0}
+use Rattle.jt_ids.specs.LoopTable.{field_named}
+use Rattle.jt_evaluation.specs.Loops.{Loop, loop_field}
 use Rattle.jt_evaluation.specs.Filters.{Filters, parameters, arguments}
 use Rattle.jt_rules.specs.World.{World}
 use Rattle.jt_meaning.specs.Around.{Placement, Around, the_macro, the_block, Calls}
 use Rattle.jt_ids.specs.declared.op_id.OpId.{OpId}
 use Rattle.jt_ids.specs.declared.test_id.TestId.{TestId}
-use Rattle.jt_ops.specs.Operation as operators
-use Rattle.jt_ops.specs.Operation.{as_truth}
-use Rattle.jt_ops.specs.Testing.{tested}
+use Rattle.jt_op_meaning.specs.Operation as operators
+use Rattle.jt_op_meaning.specs.Operation.{as_truth}
+use Rattle.jt_op_meaning.specs.Testing.{tested}
 use Rattle.jt_chains.specs.Uses.{keywords}
 
 -- an operation on values
@@ -66,7 +69,7 @@ entries_of (b ∷ bs) = tree.text b.0 ∷ b.1 ∷ entries_of bs
 
 -- a field of the innermost loop; an unknown one, and each outside a loop, has neither text nor
 -- fault at any depth: the rules refuse both
-abbrev pub field_of : Option Field → Option Loop → Got Tree
+abbrev pub field_of : Option LoopField → Option Loop → Got Tree
 field_of None l = deeper
 field_of (Some f) l = loop_field f l
 
@@ -74,7 +77,7 @@ field_of (Some f) l = loop_field f l
 -- text nor fault at any depth
 abbrev pub cycled : Option Loop → List Tree → Got Tree
 cycled l vs =
-    bind (loop_field index0 l) (λ i. bind (operated op.Remainder (i ∷ tree.number (pos (length vs)) ∷ [])) (λ k.
+    bind (loop_field Index0 l) (λ i. bind (operated op.Remainder (i ∷ tree.number (pos (length vs)) ∷ [])) (λ k.
     operated op.Item (tree.list (items_of vs) ∷ k ∷ [])))
 
 -- the parameters of a filter, none where there is no such filter

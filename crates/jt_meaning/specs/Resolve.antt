@@ -14,7 +14,9 @@ use Rattle.jt_evaluation.specs.Values.{literal}
 use Rattle.jt_chains.specs.Uses.{count, keywords, set_in}
 use Rattle.jt_trees.specs.Statements.{Parameter, Filtering, Stmt, data_of, print, choose, for_each, set, set_block, with_values, filter_block, autoescape, macro, include, import_as, import_from, extends, block, Body, end, stmt, Branches, no_branches, branch}
 use Rattle.jt_chains.specs.Chain.{Home, a_chain, Template, templates, BlockBody, MacroBody, given, Callee, a_macro, a_range, a_super, a_block, a_cycle, no_callee, callee, is_loop}
-use Rattle.jt_evaluation.specs.Loops.{Field, index0, field_named}
+use Rattle.jt_ids.specs.declared.loop_field.LoopField.{LoopField}
+use Rattle.jt_ids.specs.declared.loop_field.LoopField.TheVariants.{Index0}
+use Rattle.jt_ids.specs.LoopTable.{field_named}
 use Rattle.jt_evaluation.specs.Filters.{default_value, some_given}
 use Rattle.jt_trees.specs.Texts.{among}
 use Rattle.jt_rules.specs.World.{World}
@@ -62,7 +64,7 @@ in_form (negation o) a b = turned_round true (operation_of o a b)
 in_form conjunction a b = slots.conjunction a b
 in_form disjunction a b = slots.disjunction a b
 
-abbrev pub field_from : Option Field → SlotExpr Constant
+abbrev pub field_from : Option LoopField → SlotExpr Constant
 field_from None = absent
 field_from (Some f) = field f
 
@@ -223,7 +225,7 @@ module _ (world : World) (order : List Home) where
       (reads (globals world order sp.home) (block_parameters world order sp.home x))
   invoked a_cycle sp row asides n ks =
       operation_of op.Item (made a_list (row none))
-      (operation_of op.Remainder (field index0) (pooled (own (tree.number (pos n)))))
+      (operation_of op.Remainder (field Index0) (pooled (own (tree.number (pos n)))))
   invoked no_callee sp row asides n ks = absent
 
   -- ---- expressions: what is given by name goes into locals behind those that hold something

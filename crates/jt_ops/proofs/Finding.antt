@@ -6,7 +6,7 @@ use Rattle.std.proofs.Math.Seq.{take-append_seam}
 use Rattle.std.proofs.lemmas.Bool.{false≢true, eqb-true, eq-eqb, and_parts, and_from}
 use Rattle.memchr.specs.Find.{OccursAt, FindsNeedle, Nowhere}
 use Rattle.memchr.proofs.lemmas.MatchLemmas.{OccursAt-split, OccursAt-from_part}
-use Rattle.jt_ops.specs.Membership.{begins_with, occurs_in}
+use Rattle.jt_op_meaning.specs.Membership.{begins_with, occurs_in}
 
 pub begins_append : (needle rest : List ℕ) → begins_with (needle ++ rest) needle ≡ true
 begins_append [] [] = refl

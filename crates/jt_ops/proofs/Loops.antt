@@ -20,7 +20,7 @@ use Rattle.jt_value.specs.View.{view, items_view}
 use Rattle.jt_value.specs.declared.value.Value.{Value}
 use Rattle.jt_escape.specs.Escaping.{escaped, escaped_byte}
 use Rattle.jt_escape.proofs.Runs.{escaped_more}
-use Rattle.jt_ops.specs.Ranges.{stepped, range_count, distance, natural, numbers_between}
+use Rattle.jt_op_meaning.specs.Ranges.{stepped, range_count, distance, natural, numbers_between}
 
 pub escaped_length_more : (text : List ℕ) (at : ℕ) → at < length text → length (escaped (take (at + 1) text)) ≡ length (escaped (take at text)) + length (escaped_byte (get_or text at 0))
 escaped_length_more text at inside = ap length (escaped_more text at inside) ∙ length-append (escaped (take at text)) (escaped_byte (get_or text at 0))

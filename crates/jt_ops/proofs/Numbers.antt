@@ -7,7 +7,7 @@ use Rattle.std.proofs.lemmas.Bool.Decides.{nat_tests}
 use Rattle.std.proofs.Math.Nat.{pow-zero, pow-suc, mul-le-mul}
 use Rattle.std.proofs.Math.Pow.{pow_mono}
 use Rattle.jt_value.specs.declared.fault.Fault.TheVariants.{Overflow}
-use Rattle.jt_ops.specs.Arithmetic.{in_range}
+use Rattle.jt_op_meaning.specs.Arithmetic.{in_range}
 
 -- a checked operation answers the number in range
 pub in_range_is : (r : Option ℤ) (z : ℤ) → SomeIff r (FitsSigned w64 z) z → ok_or r Overflow ≡ in_range z

@@ -4,7 +4,7 @@ use Rattle.std.specs.Prelude.{option_map, option_copied}
 use Rattle.std.specs.Slice.{IsItemAt}
 use Rattle.jt_value.specs.View.{view, items_view}
 use Rattle.jt_value.specs.declared.value.Value.{Value}
-use Rattle.jt_ops.specs.ItemOf.{item_at, items_count}
+use Rattle.jt_op_meaning.specs.ItemOf.{item_at, items_count}
 
 pub items_count_view : (vs : List Value) → items_count (items_view vs) ≡ length vs
 items_count_view [] = refl

@@ -1,12 +1,2 @@
 pub mod Limited
-pub mod Operands
-pub mod Arithmetic
-pub mod Joining
-pub mod Membership
-pub mod ItemOf
-pub mod Ranges
-pub mod Comparing
-pub mod Operation
-pub mod Testing
 pub mod Pieces
-pub mod Making

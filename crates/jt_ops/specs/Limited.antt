@@ -1,5 +1,5 @@
 -- What an operation gives under limits of size and nesting.
-use Rattle.std.specs.Prelude.{◌≡◌, ℕ, ◌-◌, ◌^◌, min, true, Result, Ok, Err, nat_lt, if◌then◌else◌}
+use Rattle.std.specs.Prelude.{◌≡◌, ℕ, Bool, ◌-◌, ◌^◌, min, true, Result, Ok, Err, nat_lt, if◌then◌else◌}
 use Rattle.jt_value.specs.Payload.{has_payload}
 use Rattle.jt_value.specs.Tree.{Tree, size, nesting}
 use Rattle.jt_value.specs.View.{view}
@@ -51,3 +51,8 @@ OfMeasure s n P =
 abbrev pub of_value_error : ValueError → OpError
 of_value_error (value_error.Fault fault) = error.Fault fault
 of_value_error value_error.NoMemory = error.NoMemory
+
+-- the answer of a call: a test has no limits and takes no memory
+abbrev pub as_answer : Result Bool Fault → Result Bool OpError
+as_answer (Ok b) = Ok b
+as_answer (Err fault) = Err (error.Fault fault)

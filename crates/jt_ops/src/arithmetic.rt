@@ -4,8 +4,8 @@ ghost use Rattle.std.specs.Int.{int_pow};
 ghost use Rattle.jt_value.specs.Tree.{number};
 ghost use Rattle.jt_value.specs.Tree as tree;
 ghost use Rattle.jt_value.specs.View.{view};
-ghost use Rattle.jt_ops.specs.Arithmetic.{as_number, on_numbers, on_number, in_range, floor, NoNumbers, NoNumber};
-ghost use Rattle.jt_ops.specs.Arithmetic as arithmetic;
+ghost use Rattle.jt_op_meaning.specs.Arithmetic.{as_number, on_numbers, on_number, in_range, floor, NoNumbers, NoNumber};
+ghost use Rattle.jt_op_meaning.specs.Arithmetic as arithmetic;
 
 use crate::operands::{misfit, misfit_of_one};
 use jt_value::{Fault, Value};

@@ -4,7 +4,7 @@ ghost use Rattle.jt_value.specs.Equality.{equal};
 ghost use Rattle.jt_value.specs.Order.{order};
 ghost use Rattle.jt_value.specs.Tree as tree;
 ghost use Rattle.jt_value.specs.View.{view};
-ghost use Rattle.jt_ops.specs.Comparing.{compared, is_less, is_less_or_equal, is_greater, is_greater_or_equal};
+ghost use Rattle.jt_op_meaning.specs.Comparing.{compared, is_less, is_less_or_equal, is_greater, is_greater_or_equal};
 
 use jt_value::{Fault, Value};
 use std::cmp::Ordering;

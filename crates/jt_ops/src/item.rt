@@ -4,8 +4,8 @@ ghost use Rattle.std.specs.Str.{chars};
 ghost use Rattle.jt_value.specs.Entries.{entry_of};
 ghost use Rattle.jt_value.specs.Tree as tree;
 ghost use Rattle.jt_value.specs.View.{view, items_view};
-ghost use Rattle.jt_ops.specs.ItemOf.{item_of, item_at, indexed_item, indexed_character, or_undefined};
-ghost use Rattle.jt_ops.specs.ItemOf as items;
+ghost use Rattle.jt_op_meaning.specs.ItemOf.{item_of, item_at, indexed_item, indexed_character, or_undefined};
+ghost use Rattle.jt_op_meaning.specs.ItemOf as items;
 ghost use Rattle.jt_ops.specs.Limited.{limited_by, Answers, AnswersWith};
 
 use crate::limits::{Limits, OpError, allow, copy_within, made, within};

@@ -3,7 +3,7 @@ ghost use Rattle.std.specs.Prelude.{◌≡◌, ◌-◌, ◌^◌, ◌++◌, min, 
 ghost use Rattle.jt_value.specs.Tree as tree;
 ghost use Rattle.jt_value.specs.Payload.{joined_items};
 ghost use Rattle.jt_value.specs.View.{view, items_view};
-ghost use Rattle.jt_ops.specs.Joining.{added, both, multiplied, joined, joined_escaping};
+ghost use Rattle.jt_op_meaning.specs.Joining.{added, both, multiplied, joined, joined_escaping};
 ghost use Rattle.jt_ops.specs.Pieces.{written};
 ghost use Rattle.jt_ops.specs.Limited.{limited_by, Answers, AnswersWith};
 

@@ -1,9 +1,8 @@
 //! Operators, tests and `range` on values, under limits of size and nesting.
 //!
 //! Numbers (arithmetic, ranges), texts and lists put together (joining, text), order and membership
-//! (comparing, membership), items (item), tests (testing), and what limits refuse (limits). Read
-//! first: specs/Operation.antt, what each operator gives, and specs/Limited.antt, the limits on all
-//! of them.
+//! (comparing, membership), items (item), tests (testing), and what limits refuse (limits). What
+//! each gives is jt_op_meaning's. Read first: specs/Limited.antt, the limits on all of them.
 #![tactic(auto)]
 
 mod arithmetic;

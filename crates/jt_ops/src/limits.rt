@@ -5,9 +5,9 @@ ghost use Rattle.jt_value.specs.Tree.{Tree};
 ghost use Rattle.jt_value.specs.View.{view};
 ghost use Rattle.jt_ops.specs.declared.limits.OpError.{OpError};
 ghost use Rattle.jt_ops.specs.declared.limits.OpError.TheVariants as error;
-ghost use Rattle.jt_ops.specs.Arithmetic.{as_number};
+ghost use Rattle.jt_op_meaning.specs.Arithmetic.{as_number};
 ghost use Rattle.jt_ops.specs.Limited.{limited_by, of_value_error, Answers, OfMeasure};
-ghost use Rattle.jt_ops.specs.Operation.{as_truth};
+ghost use Rattle.jt_op_meaning.specs.Operation.{as_truth};
 
 use jt_value::{Fault, NoMemory, Value, ValueError};
 use std::alloc::{AllocError, AllocFailed, Global};
@@ -111,10 +111,7 @@ pub(crate) fn made(built: Result<Value, NoMemory>) -> Result<Value, OpError>
         → IfOk built (λ v. view v ≡ t)
         → Answers result wanted }
 {
-    match built {
-        Ok(new) => Ok(new),
-        Err(_) => Err(OpError::NoMemory),
-    }
+    Ok(built?)
 }
 
 /// A copy of a value, under the limits.

@@ -2,7 +2,7 @@
 ghost use Rattle.std.specs.Prelude.{◌≡◌};
 ghost use Rattle.jt_value.specs.Tree as tree;
 ghost use Rattle.jt_value.specs.View.{view, items_view};
-ghost use Rattle.jt_ops.specs.Membership as membership;
+ghost use Rattle.jt_op_meaning.specs.Membership as membership;
 
 use crate::comparing::equals_text;
 use crate::operands::misfit;
@@ -48,12 +48,7 @@ pub(crate) fn text_is_in(text: &str, container: &Value) -> Result<bool, Fault>
 fn has_text(text: &str, items: &[Value]) -> bool
     ensures { result ≡ membership.has_item (tree.text text.now) (items_view items.now) }
 {
-    for item in items {
-        if equals_text(text, item) {
-            return true;
-        }
-    }
-    false
+    items.iter().any(|item| equals_text(text, item))
 }
 
 #[tactic(auto, using(crate::proofs::Finding::is_found))]
@@ -68,10 +63,5 @@ fn occurs_in(part: &str, whole: &str) -> bool
 fn has_item(value: &Value, items: &[Value]) -> bool
     ensures { result ≡ membership.has_item (view value.now) (items_view items.now) }
 {
-    for item in items {
-        if value.equals(item) {
-            return true;
-        }
-    }
-    false
+    items.iter().any(|item| value.equals(item))
 }

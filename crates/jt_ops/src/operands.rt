@@ -3,7 +3,7 @@ ghost use Rattle.std.specs.Prelude.{◌≡◌, ℕ, List};
 ghost use Rattle.jt_value.specs.Tree as tree;
 ghost use Rattle.jt_value.specs.Order as order;
 ghost use Rattle.jt_value.specs.View.{view};
-ghost use Rattle.jt_ops.specs.Operands as operands;
+ghost use Rattle.jt_op_meaning.specs.Operands as operands;
 
 use jt_value::{Fault, Value};
 

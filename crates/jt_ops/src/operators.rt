@@ -2,7 +2,7 @@
 ghost use Rattle.std.specs.Prelude.{◌≡◌, ◌∷◌, []};
 ghost use Rattle.jt_value.specs.View.{view};
 ghost use Rattle.jt_ops.specs.Limited.{limited_by, Answers};
-ghost use Rattle.jt_ops.specs.Operation.{operation};
+ghost use Rattle.jt_op_meaning.specs.Operation.{operation};
 ghost use Rattle.jt_ids.specs.OpTable.{op_operands};
 
 use crate::arithmetic::{floor_divide, modulo, negate, plus, raise, subtract};

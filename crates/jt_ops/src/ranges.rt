@@ -4,8 +4,8 @@ ghost use Rattle.std.specs.Int.{w64};
 ghost use Rattle.jt_value.specs.Tree as tree;
 ghost use Rattle.jt_value.specs.View.{view, items_view};
 ghost use Rattle.jt_ops.specs.Limited.{limited_by, Answers, AnswersWith};
-ghost use Rattle.jt_ops.specs.Ranges.{ranged, numbers_between, range_count, stepped};
-ghost use Rattle.jt_ops.specs.Ranges as ranges;
+ghost use Rattle.jt_op_meaning.specs.Ranges.{ranged, numbers_between, range_count, stepped};
+ghost use Rattle.jt_op_meaning.specs.Ranges as ranges;
 
 use crate::limits::{Limits, OpError, allow, made};
 use crate::operands::{misfit, misfit_of_one, misfit_of_three};

@@ -3,8 +3,9 @@ ghost use Rattle.std.specs.Prelude.{◌≡◌, ◌+◌, ◌∷◌, [], ℕ, List
 ghost use Rattle.jt_value.specs.Tree as tree;
 ghost use Rattle.jt_value.specs.View.{view};
 ghost use Rattle.jt_ids.specs.TestTable.{test_values};
-ghost use Rattle.jt_ops.specs.Testing.{tested, as_answer};
-ghost use Rattle.jt_ops.specs.Testing as testing;
+ghost use Rattle.jt_op_meaning.specs.Testing.{tested};
+ghost use Rattle.jt_ops.specs.Limited.{as_answer};
+ghost use Rattle.jt_op_meaning.specs.Testing as testing;
 
 use crate::arithmetic::remainder;
 use crate::comparing::{compare_text, equals_text, greater, greater_or_equal, less, less_or_equal};

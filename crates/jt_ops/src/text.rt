@@ -4,7 +4,7 @@ ghost use Rattle.std.specs.List.{repeat};
 ghost use Rattle.jt_value.specs.View.{view};
 ghost use Rattle.jt_escape.specs.Escaping.{escaped, escaped_byte};
 ghost use Rattle.jt_ops.specs.Pieces.{of_kind, written};
-ghost use Rattle.jt_ops.specs.Joining.{times};
+ghost use Rattle.jt_op_meaning.specs.Joining.{times};
 ghost use Rattle.jt_ops.specs.Limited.{AnswersWith};
 
 use crate::limits::{Limits, OpError, allow, made};

@@ -3,9 +3,9 @@ use Rattle.std.proofs.Common.{◌≡◌, ℕ, ◌+◌, ◌<◌, List, [], ◌∷
 use Rattle.std.proofs.lemmas.List.{drop_more}
 use Rattle.jt_resolved.specs.Slots as slots
 use Rattle.jt_resolved.specs.Slots.{SRow, none}
-use Rattle.jt_resolved.specs.View.{slot_view, field_view, maker_view, entry_front, row_front, expr_step, expr_view, row_view}
+use Rattle.jt_resolved.specs.View.{slot_view, maker_view, entry_front, row_front, expr_step, expr_view, row_view}
 use Rattle.jt_resolved.specs.declared.program.Slot.{Slot}
-use Rattle.jt_resolved.specs.declared.program.Field.{Field}
+use Rattle.jt_ids.specs.declared.loop_field.LoopField.{LoopField}
 use Rattle.jt_resolved.specs.declared.program.Maker.{Maker}
 use Rattle.jt_resolved.specs.declared.program.SlotExpr.{SlotExpr, fold-roll-SlotExpr}
 use Rattle.jt_resolved.specs.declared.program.SlotExpr.TheOpen.{SlotExpr-F}
@@ -32,7 +32,7 @@ view_Pooled i = ap expr_view (sym (rolls-Pooled i)) ∙ fold-roll-SlotExpr (slot
 pub view_Variable : (s : Slot) → expr_view (e.Variable s) ≡ slots.variable (slot_view s)
 view_Variable s = ap expr_view (sym (rolls-Variable s)) ∙ fold-roll-SlotExpr (slots.SlotExpr ℕ) expr_step (SlotExpr-F.Variable s)
 
-pub view_Field : (f : Field) → expr_view (e.Field f) ≡ slots.field (field_view f)
+pub view_Field : (f : LoopField) → expr_view (e.Field f) ≡ slots.field f
 view_Field f = ap expr_view (sym (rolls-Field f)) ∙ fold-roll-SlotExpr (slots.SlotExpr ℕ) expr_step (SlotExpr-F.Field f)
 
 pub view_Absent : expr_view e.Absent ≡ slots.absent

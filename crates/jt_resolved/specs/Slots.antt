@@ -8,14 +8,15 @@ use Rattle.jt_value.specs.declared.fault.Fault.{Fault}
 use Rattle.jt_value.specs.declared.fault.Fault.TheVariants as faults
 use Rattle.jt_ids.specs.declared.op_id.OpId.{OpId}
 use Rattle.jt_ids.specs.declared.test_id.TestId.{TestId}
-use Rattle.jt_ops.specs.Operation.{operation, as_truth}
-use Rattle.jt_ops.specs.Testing.{tested}
-use Rattle.jt_ops.specs.Making.{listed, mapped}
+use Rattle.jt_op_meaning.specs.Operation.{operation, as_truth}
+use Rattle.jt_op_meaning.specs.Testing.{tested}
+use Rattle.jt_op_meaning.specs.Making.{listed, mapped}
 use Rattle.jt_value.specs.Place.{Place}
 use Rattle.jt_evaluation.specs.Got.{Got, gives, fails, deeper, bind, checked, at}
 use Rattle.jt_evaluation.specs.Values.{shown, bytes_of, value_in, as_value}
 use Rattle.jt_trees.specs.Expressions.{Text}
-use Rattle.jt_evaluation.specs.Loops.{Loop, Field, loop_field, items_of_value, tree_at}
+use Rattle.jt_ids.specs.declared.loop_field.LoopField.{LoopField}
+use Rattle.jt_evaluation.specs.Loops.{Loop, loop_field, items_of_value, tree_at}
 use Rattle.jt_evaluation.specs.Filters.{Filters}
 
 -- where a name's value is kept
@@ -38,7 +39,7 @@ mutual
     pooled : K → SlotExpr K
     variable : Slot → SlotExpr K
     -- of the innermost loop
-    field : Field → SlotExpr K
+    field : LoopField → SlotExpr K
     -- what no name means: it has no instruction, and neither text nor fault at any depth
     absent : SlotExpr K
     made : Maker → SRow K → SlotExpr K

@@ -5,21 +5,17 @@ use Rattle.jt_value.specs.View.{view}
 use Rattle.jt_ids.specs.FilterTable.{filter_id}
 use Rattle.jt_trees.specs.Expressions.{Text}
 use Rattle.jt_value.specs.Place as place
-use Rattle.jt_evaluation.specs.Loops as loops
 use Rattle.jt_resolved.specs.Slots as slots
 use Rattle.jt_resolved.specs.Slots.{SRow, SBody}
 use Rattle.jt_resolved.specs.declared.program.Place.{Place}
 use Rattle.jt_resolved.specs.declared.program.Slot.{Slot}
 use Rattle.jt_resolved.specs.declared.program.Slot.TheVariants as s
-use Rattle.jt_resolved.specs.declared.program.Field.{Field}
-use Rattle.jt_resolved.specs.declared.program.Field.TheVariants as f
 use Rattle.jt_resolved.specs.declared.program.Maker.{Maker}
 use Rattle.jt_resolved.specs.declared.program.Maker.TheVariants as m
 use Rattle.jt_resolved.specs.declared.program.Targets.{Targets}
 use Rattle.jt_resolved.specs.declared.program.Targets.TheVariants as t
 use Rattle.jt_resolved.specs.declared.program.SlotBranch.{SlotBranch}
 use Rattle.jt_resolved.specs.declared.program.SlotExpr.{SlotExpr, fold-SlotExpr}
-use Rattle.jt_resolved.specs.declared.program.SlotBranch.{SlotBranch}
 use Rattle.jt_resolved.specs.declared.program.SlotExpr.TheOpen.{SlotExpr-F}
 use Rattle.jt_resolved.specs.declared.program.SlotStmt.{SlotStmt, fold-SlotStmt}
 use Rattle.jt_resolved.specs.declared.program.SlotStmt.TheOpen.{SlotStmt-F}
@@ -29,17 +25,6 @@ use Rattle.jt_resolved.specs.declared.program.Program.{Program}
 abbrev pub slot_view : Slot → slots.Slot
 slot_view (s.Local i) = slots.local i
 slot_view (s.Global i) = slots.global i
-
-abbrev pub field_view : Field → loops.Field
-field_view f.Index = loops.index
-field_view f.Index0 = loops.index0
-field_view f.RevIndex = loops.revindex
-field_view f.RevIndex0 = loops.revindex0
-field_view f.First = loops.first
-field_view f.Last = loops.last
-field_view f.Length = loops.total
-field_view f.Previous = loops.previtem
-field_view f.Next = loops.nextitem
 
 abbrev pub maker_view : Maker → slots.Maker
 maker_view (m.Operator o) = slots.operator o
@@ -65,7 +50,7 @@ row_front (e ∷ es) behind = entry_front e.0 e.1 (row_front es behind)
 abbrev pub expr_step : SlotExpr-F (slots.SlotExpr ℕ) → slots.SlotExpr ℕ
 expr_step (SlotExpr-F.Pooled i) = slots.pooled i
 expr_step (SlotExpr-F.Variable s) = slots.variable (slot_view s)
-expr_step (SlotExpr-F.Field f) = slots.field (field_view f)
+expr_step (SlotExpr-F.Field f) = slots.field f
 expr_step SlotExpr-F.Absent = slots.absent
 expr_step (SlotExpr-F.Made k es) = slots.made (maker_view k) (row_front es.items slots.none)
 expr_step (SlotExpr-F.Conjunction a b) = slots.conjunction a.value b.value

@@ -6,6 +6,4 @@
 
 mod program;
 
-pub use program::{
-    Field, Maker, Place, Program, Routine, Slot, SlotBranch, SlotExpr, SlotStmt, Targets,
-};
+pub use program::{Maker, Place, Program, Routine, Slot, SlotBranch, SlotExpr, SlotStmt, Targets};

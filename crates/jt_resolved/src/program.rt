@@ -1,7 +1,7 @@
 //! Resolved templates: each name is a slot of the locals or of the globals, each literal and each
 //! piece of data a place in a pool of values, each macro, block and chain a routine.
 
-use jt_ids::{FilterId, OpId, TestId};
+use jt_ids::{FilterId, LoopField, OpId, TestId};
 use jt_value::Value;
 
 /// Where a tag stands: the place of its template among those of the program, and its line.
@@ -18,29 +18,6 @@ pub enum Slot {
     Local(usize),
     /// A global of the program.
     Global(usize),
-}
-
-/// What `loop` tells of the innermost loop.
-#[derive(Clone, Copy, Debug, PartialEq, Eq)]
-pub enum Field {
-    /// The turn, from 1.
-    Index,
-    /// The turn, from 0.
-    Index0,
-    /// The turns from this one on.
-    RevIndex,
-    /// The turns behind this one.
-    RevIndex0,
-    /// Whether it is the first turn.
-    First,
-    /// Whether it is the last turn.
-    Last,
-    /// How many turns there are.
-    Length,
-    /// The item of the turn before.
-    Previous,
-    /// The item of the next turn.
-    Next,
 }
 
 /// What is made of a row of values.
@@ -67,7 +44,7 @@ pub enum SlotExpr {
     /// The value of a slot.
     Variable(Slot),
     /// What the innermost loop tells.
-    Field(Field),
+    Field(LoopField),
     /// What no name means: it has no instruction.
     Absent,
     /// What is made of the values of a row.

@@ -12,7 +12,8 @@ use Rattle.jt_trees.specs.Statements.{Parameter, Filtering, Stmt, choose, for_ea
 use Rattle.jt_trees.specs.Texts.{repeated}
 use Rattle.jt_chains.specs.Uses.{count, keywords}
 use Rattle.jt_chains.specs.Chain.{Home, Template, MacroBody, templates, bodies, Given, given, Callee, a_macro, a_range, a_super, a_block, a_cycle, no_callee, named_alone, of_library, in_library, callee, is_loop}
-use Rattle.jt_evaluation.specs.Loops.{Field, field_named}
+use Rattle.jt_ids.specs.declared.loop_field.LoopField.{LoopField}
+use Rattle.jt_ids.specs.LoopTable.{field_named}
 use Rattle.jt_evaluation.specs.Tests.{test_named}
 use Rattle.jt_rules.specs.Arguments.{callee_takes, test_takes, filter_takes, names_rightly}
 use Rattle.jt_rules.specs.Rules.{ForSome, IsOnlyCalled, MisusesLoop, LoopOutside, MacroAsValue, CannotBeCalled, NotCallable, BadArguments, TooManyParameters, BrokenIn, Broken, KeepsRules, Breaks, names_counted}
@@ -190,10 +191,10 @@ module _ (world : World) (home : Home) where
   field_judged : (k : Text) (w : Within) → Judged (refused (not (w.in_loop && is_some (field_named k))) error.LoopOutside) (OfField k w)
   field_judged k w = by w.in_loop (field_named k) refl refl
     where
-      right : w.in_loop ≡ true → (f : Field) → field_named k ≡ Some f → (rule : ScopeError) → OfField k w rule → ⊥
+      right : w.in_loop ≡ true → (f : LoopField) → field_named k ≡ Some f → (rule : ScopeError) → OfField k w rule → ⊥
       right e f g a3 a4 = search (arith, rules, differs)
 
-      by : (b : Bool) (o : Option Field) → w.in_loop ≡ b → field_named k ≡ o → Judged (refused (not (b && is_some o)) error.LoopOutside) (OfField k w)
+      by : (b : Bool) (o : Option LoopField) → w.in_loop ≡ b → field_named k ≡ o → Judged (refused (not (b && is_some o)) error.LoopOutside) (OfField k w)
       by a0 a1 e g = search (arith, rules, right)
 
   macro_judged : (x : Text) (ps : List Parameter)

@@ -7,7 +7,7 @@ use Rattle.jt_chains.specs.Uses.{count, keywords, own_names}
 use Rattle.jt_chains.specs.Chain.{Home, a_chain, a_library, Template, templates, bodies, given, given_to, libraries, Callee, a_super, a_block, no_callee, callee, is_loop}
 use Rattle.jt_trees.specs.Texts.{ascending, repeated}
 use Rattle.jt_trees.specs.Statements.{body_bound}
-use Rattle.jt_evaluation.specs.Loops.{field_named}
+use Rattle.jt_ids.specs.LoopTable.{field_named}
 use Rattle.jt_evaluation.specs.Tests.{test_named}
 use Rattle.jt_rules.specs.Arguments.{callee_takes, test_takes, filter_takes, names_rightly}
 use Rattle.jt_rules.specs.Spots.{Within, Use, reads, binds, asks_loop, calls, filters, tests, declares, names_import, parameter_names, chain_spots}

@@ -12,7 +12,7 @@ use Rattle.jt_rules.specs.declared.error.ScopeError.{ScopeError}
 use Rattle.jt_rules.specs.declared.error.ScopeError.TheVariants as error
 use Rattle.jt_trees.specs.Statements.{Parameter, Filtering, Stmt, data_of, print, choose, for_each, set, set_block, with_values, filter_block, autoescape, macro, include, import_as, import_from, extends, block, Body, end, stmt, Branches, no_branches, branch, body_bound}
 use Rattle.jt_chains.specs.Chain.{Home, Template, templates, bodies, given, given_to, Callee, a_macro, a_range, a_super, a_block, a_cycle, no_callee, callee, is_loop}
-use Rattle.jt_evaluation.specs.Loops.{field_named}
+use Rattle.jt_ids.specs.LoopTable.{field_named}
 use Rattle.jt_evaluation.specs.Filters.{Filters}
 use Rattle.jt_rules.specs.World.{World}
 pub use Rattle.jt_rules.specs.Spots.{Within, parameter_names}

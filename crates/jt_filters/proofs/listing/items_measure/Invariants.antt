@@ -1,6 +1,6 @@
 use Rattle.std.proofs.Common.{◌≡◌, ◌+◌, ◌-◌, ◌^◌, ◌≤◌, min, max}
 use Rattle.jt_value.specs.Tree.{items_size, items_nesting}
-use Rattle.jt_ops.specs.ItemOf.{items_count}
+use Rattle.jt_op_meaning.specs.ItemOf.{items_count}
 use Rattle.jt_filters.specs.Operands.{items_in}
 use Rattle.jt_filters.proofs.listing.items_measure.Given as goal
 

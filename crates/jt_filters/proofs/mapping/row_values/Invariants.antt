@@ -1,7 +1,7 @@
 use Rattle.std.proofs.Common.{◌≡◌}
 use Rattle.std.specs.Prelude.{Ok}
 use Rattle.jt_value.specs.View.{items_view}
-use Rattle.jt_ops.specs.ItemOf.{items_count}
+use Rattle.jt_op_meaning.specs.ItemOf.{items_count}
 use Rattle.jt_filter_meaning.specs.Mapping.{gathered, in_front}
 use Rattle.jt_filters.specs.Operands.{items_in}
 use Rattle.jt_filters.specs.Rows.{gives}

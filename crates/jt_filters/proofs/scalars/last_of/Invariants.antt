@@ -1,5 +1,5 @@
 use Rattle.std.proofs.Common.{◌≡◌}
-use Rattle.jt_ops.specs.ItemOf.{items_count}
+use Rattle.jt_op_meaning.specs.ItemOf.{items_count}
 use Rattle.jt_filters.specs.Operands.{tree_of, items_in}
 use Rattle.jt_filters.specs.Operands.{last_of}
 use Rattle.jt_filters.proofs.scalars.last_of.Given as goal

@@ -1,5 +1,5 @@
 use Rattle.std.proofs.Common.{◌≡◌}
-use Rattle.jt_ops.specs.ItemOf.{items_count}
+use Rattle.jt_op_meaning.specs.ItemOf.{items_count}
 use Rattle.jt_filters.specs.Operands.{tree_of, items_in, front}
 use Rattle.jt_filter_meaning.specs.Ordering.{has_alike}
 use Rattle.jt_filters.proofs.unique.has_alike.Given as goal

@@ -1,7 +1,7 @@
 use Rattle.std.proofs.Common.{◌≡◌, ◌+◌, ◌-◌, ◌^◌, ◌≤◌, min, max}
 use Rattle.jt_value.specs.Payload.{joined_items}
 use Rattle.jt_value.specs.Tree.{no_items, items_size, items_nesting}
-use Rattle.jt_ops.specs.ItemOf.{items_count}
+use Rattle.jt_op_meaning.specs.ItemOf.{items_count}
 use Rattle.jt_filters.specs.Operands.{items_in, front}
 use Rattle.jt_filter_meaning.specs.Ordering.{unseen}
 use Rattle.jt_filters.proofs.unique.unseen_measure.Given as goal

@@ -3,7 +3,7 @@ use Rattle.std.specs.Prelude.{IfOk}
 use Rattle.jt_value.specs.Tree as tree
 use Rattle.jt_value.specs.Tree.{Tree}
 use Rattle.jt_value.specs.View.{view}
-use Rattle.jt_ops.specs.Ranges.{stepped, range_count}
+use Rattle.jt_op_meaning.specs.Ranges.{stepped, range_count}
 use Rattle.jt_ops.proofs.Answering.{answers_refusal}
 use Rattle.jt_ops.proofs.Loops.{stepped_size, stepped_nesting, count_is, inside_counted, listed_all}
 use Rattle.jt_ops.proofs.ranges.list_of.Goals as goal

@@ -1,7 +1,7 @@
 use Rattle.std.proofs.Common.{◌≡◌, ◌<◌, pos, ◌+ℤ◌}
 use Rattle.std.specs.Prelude.{◌*ℤ◌}
 use Rattle.jt_value.specs.View.{items_view}
-use Rattle.jt_ops.specs.Ranges.{stepped}
+use Rattle.jt_op_meaning.specs.Ranges.{stepped}
 use Rattle.jt_ops.proofs.ranges.listed.Given as goal
 
 abbrev pub invariant-loop : goal.invariant-loop

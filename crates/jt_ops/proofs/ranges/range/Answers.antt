@@ -1,7 +1,7 @@
 use Rattle.std.proofs.Common.{List, sym, subst}
 use Rattle.jt_value.specs.Tree.{Tree}
 use Rattle.jt_ops.specs.Limited.{limited_by, Answers}
-use Rattle.jt_ops.specs.Ranges.{ranged}
+use Rattle.jt_op_meaning.specs.Ranges.{ranged}
 use Rattle.jt_ops.proofs.Places.{one_value, two_values, three_values}
 use Rattle.jt_ops.proofs.ranges.range.Goals as goal
 

@@ -8,7 +8,7 @@ use Rattle.std.specs.Int.{w64}
 use Rattle.std.specs.List.{repeat}
 use Rattle.std.specs.Prelude.{IfOk}
 use Rattle.jt_value.specs.View.{view}
-use Rattle.jt_ops.specs.Joining.{times}
+use Rattle.jt_op_meaning.specs.Joining.{times}
 use Rattle.jt_ops.proofs.Loops.{repeat_length}
 use Rattle.jt_ops.proofs.text.repeated.Goals as goal
 

@@ -5,7 +5,7 @@ use Rattle.jt_value.specs.declared.fault.Fault.{Fault}
 use Rattle.jt_value.specs.declared.fault.Fault.TheVariants.{BadType, Range}
 use Rattle.jt_value.specs.Order.{misfit}
 use Rattle.jt_value.specs.Tree.{Tree, number, list, Items, no_items, item}
-use Rattle.jt_ops.specs.Operands.{misfit_of_one, misfit_of_three}
+use Rattle.jt_op_meaning.specs.Operands.{misfit_of_one, misfit_of_three}
 
 -- a number, 0 for one below
 abbrev pub natural : ℤ → ℕ

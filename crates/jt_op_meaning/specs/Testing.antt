@@ -5,14 +5,12 @@ use Rattle.jt_value.specs.declared.fault.Fault.TheVariants.{BadType}
 use Rattle.jt_value.specs.Equality.{equal}
 use Rattle.jt_value.specs.Order.{misfit}
 use Rattle.jt_value.specs.Tree.{Tree, undefined, nothing, truth_value, number, text, markup, map}
-use Rattle.jt_ops.specs.declared.limits.OpError.{OpError}
-use Rattle.jt_ops.specs.declared.limits.OpError.TheVariants as error
 use Rattle.jt_ids.specs.declared.test_id.TestId.{TestId}
 use Rattle.jt_ids.specs.declared.test_id.TestId.TheVariants as test
-use Rattle.jt_ops.specs.Arithmetic.{is_zero, remainder}
-use Rattle.jt_ops.specs.Comparing.{compared, is_less, is_less_or_equal, is_greater, is_greater_or_equal}
-use Rattle.jt_ops.specs.Membership.{is_in}
-use Rattle.jt_ops.specs.Operands.{misfit_of_one}
+use Rattle.jt_op_meaning.specs.Arithmetic.{is_zero, remainder}
+use Rattle.jt_op_meaning.specs.Comparing.{compared, is_less, is_less_or_equal, is_greater, is_greater_or_equal}
+use Rattle.jt_op_meaning.specs.Membership.{is_in}
+use Rattle.jt_op_meaning.specs.Operands.{misfit_of_one}
 
 abbrev pub is_undefined : Tree → Bool
 is_undefined undefined = true
@@ -100,8 +98,3 @@ tested test.None (t ∷ []) = Ok (is_none t)
 tested test.String (t ∷ []) = Ok (is_text t)
 tested test.Undefined (t ∷ []) = Ok (is_undefined t)
 tested other ts = Err BadType
-
--- the answer of a call: a test has no limits and takes no memory
-abbrev pub as_answer : Result Bool Fault → Result Bool OpError
-as_answer (Ok b) = Ok b
-as_answer (Err fault) = Err (error.Fault fault)

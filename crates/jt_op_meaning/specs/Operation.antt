@@ -6,12 +6,12 @@ use Rattle.jt_value.specs.Equality.{equal}
 use Rattle.jt_value.specs.Tree.{Tree, truth_value, truth}
 use Rattle.jt_ids.specs.declared.op_id.OpId.{OpId}
 use Rattle.jt_ids.specs.declared.op_id.OpId.TheVariants as op
-use Rattle.jt_ops.specs.Arithmetic.{on_numbers, on_number, difference, quotient, remainder, power, negation, same_number}
-use Rattle.jt_ops.specs.Comparing.{compared, is_less, is_less_or_equal, is_greater, is_greater_or_equal}
-use Rattle.jt_ops.specs.ItemOf.{item_of}
-use Rattle.jt_ops.specs.Joining.{added, multiplied, joined, joined_escaping}
-use Rattle.jt_ops.specs.Membership.{is_in}
-use Rattle.jt_ops.specs.Ranges.{ranged}
+use Rattle.jt_op_meaning.specs.Arithmetic.{on_numbers, on_number, difference, quotient, remainder, power, negation, same_number}
+use Rattle.jt_op_meaning.specs.Comparing.{compared, is_less, is_less_or_equal, is_greater, is_greater_or_equal}
+use Rattle.jt_op_meaning.specs.ItemOf.{item_of}
+use Rattle.jt_op_meaning.specs.Joining.{added, multiplied, joined, joined_escaping}
+use Rattle.jt_op_meaning.specs.Membership.{is_in}
+use Rattle.jt_op_meaning.specs.Ranges.{ranged}
 
 -- a truth value as a value
 abbrev pub as_truth : Result Bool Fault → Result Tree Fault

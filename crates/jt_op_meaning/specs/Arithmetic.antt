@@ -5,7 +5,7 @@ use Rattle.jt_value.specs.declared.fault.Fault.{Fault}
 use Rattle.jt_value.specs.declared.fault.Fault.TheVariants.{BadType, Overflow, ZeroDivide}
 use Rattle.jt_value.specs.Tree.{Tree, number}
 use Rattle.jt_value.specs.Order.{misfit}
-use Rattle.jt_ops.specs.Operands.{misfit_of_one}
+use Rattle.jt_op_meaning.specs.Operands.{misfit_of_one}
 
 -- the number has 64 signed bits: it lies from -2^63 to 2^63 - 1
 abbrev pub is_in_range : ℤ → Bool

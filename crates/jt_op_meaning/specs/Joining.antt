@@ -7,7 +7,7 @@ use Rattle.jt_value.specs.Order.{misfit}
 use Rattle.jt_value.specs.Tree.{Tree, number, text, markup, list, Items, printed}
 use Rattle.jt_value.specs.Payload.{joined_items}
 use Rattle.jt_escape.specs.Escaping.{escaped}
-use Rattle.jt_ops.specs.Arithmetic.{sum, product, as_number}
+use Rattle.jt_op_meaning.specs.Arithmetic.{sum, product, as_number}
 
 -- the list of the items of two lists
 abbrev pub both : Items → Items → Tree

@@ -1,0 +1,10 @@
+pub mod Arithmetic
+pub mod Comparing
+pub mod ItemOf
+pub mod Joining
+pub mod Making
+pub mod Membership
+pub mod Operands
+pub mod Operation
+pub mod Ranges
+pub mod Testing
