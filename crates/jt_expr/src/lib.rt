@@ -21,7 +21,9 @@ pub use error::ExprError;
 pub use grammar::{arguments, read};
 pub use laws::expression_laws;
 pub use making::copy_of;
-pub use named::{Named, any_unknown, any_unknown_pair, has_unknown, is_filter_unknown};
+pub use named::{
+    Named, any_unknown, any_unknown_argument, any_unknown_pair, has_unknown, is_filter_unknown,
+};
 pub use part::{Part, Parts};
 pub use rows::Form;
 pub use tag::expression;

@@ -1,6 +1,6 @@
 //! Filters and tests whose names have a meaning, those too that a filter's arguments name.
 
-ghost use Rattle.std.specs.Prelude.{◌≡◌};
+ghost use Rattle.std.specs.Prelude.{◌≡◌, ◌||◌};
 ghost use Rattle.jt_ids.specs.FilterTable.{named_at};
 ghost use Rattle.jt_trees.specs.ExpressionView.{expr_view, exprs_view, pairs_view};
 ghost use Rattle.jt_trees.specs.Written.{literal_text};
@@ -112,20 +112,15 @@ pub fn has_unknown(expr: &Expr, named: Named) -> bool
 {
     match expr {
         Expr::Constant(_) | Expr::Name(_) => false,
-        Expr::Group(a) => has_unknown(a, named),
+        Expr::Group(a) | Expr::Attribute(a, _) | Expr::Unary(_, a) => has_unknown(a, named),
         Expr::List(items) => any_unknown(items, named),
         Expr::Map(pairs) => any_unknown_pair(pairs, named),
-        Expr::Attribute(a, _) => has_unknown(a, named),
         Expr::Item(a, b) => has_unknown(a, named) || has_unknown(b, named),
         Expr::Call {
             callee,
             arguments,
             keywords,
-        } => {
-            has_unknown(callee, named)
-                || any_unknown(arguments, named)
-                || any_unknown_pair(keywords, named)
-        }
+        } => has_unknown_with(callee, arguments, keywords, named),
         Expr::Filter {
             input,
             name,
@@ -133,9 +128,7 @@ pub fn has_unknown(expr: &Expr, named: Named) -> bool
             keywords,
         } => {
             is_filter_unknown(name, arguments, keywords, named)
-                || has_unknown(input, named)
-                || any_unknown(arguments, named)
-                || any_unknown_pair(keywords, named)
+                || has_unknown_with(input, arguments, keywords, named)
         }
         Expr::Test {
             value,
@@ -143,13 +136,7 @@ pub fn has_unknown(expr: &Expr, named: Named) -> bool
             arguments,
             keywords,
             ..
-        } => {
-            is_unknown_test(name, named)
-                || has_unknown(value, named)
-                || any_unknown(arguments, named)
-                || any_unknown_pair(keywords, named)
-        }
-        Expr::Unary(_, a) => has_unknown(a, named),
+        } => is_unknown_test(name, named) || has_unknown_with(value, arguments, keywords, named),
         Expr::Binary { left, right, .. } => has_unknown(left, named) || has_unknown(right, named),
         Expr::When { condition, value } => {
             has_unknown(condition, named) || has_unknown(value, named)
@@ -162,6 +149,32 @@ pub fn has_unknown(expr: &Expr, named: Named) -> bool
             has_unknown(condition, named) || has_unknown(value, named) || has_unknown(other, named)
         }
     }
+}
+
+/// Whether such a name stands in a value, or in one of the arguments beside it.
+#[cycle(names)]
+fn has_unknown_with(
+    value: &Expr,
+    arguments: &[Expr],
+    keywords: &[(String, Expr)],
+    named: Named,
+) -> bool
+    ensures { result
+        ≡ (spec.has_unknown named (expr_view value.now)
+        || (spec.exprs_have_unknown named (exprs_view arguments.now)
+        || spec.pairs_have_unknown named (pairs_view keywords.now))) }
+{
+    has_unknown(value, named) || any_unknown_argument(arguments, keywords, named)
+}
+
+/// Whether such a name stands in one of the arguments, by place or by name.
+#[cycle(names)]
+pub fn any_unknown_argument(arguments: &[Expr], keywords: &[(String, Expr)], named: Named) -> bool
+    ensures { result
+        ≡ (spec.exprs_have_unknown named (exprs_view arguments.now)
+        || spec.pairs_have_unknown named (pairs_view keywords.now)) }
+{
+    any_unknown(arguments, named) || any_unknown_pair(keywords, named)
 }
 
 /// Whether such a name stands in one of the expressions.

@@ -1,11 +1,10 @@
 -- Names that are put in order, one by one.
-use Rattle.std.proofs.Common.{◌≡◌, ℕ, ◌+◌, ◌<◌, length, drop, get_or, if◌then◌else◌, List, [], ◌∷◌, ◌++◌, Result, IfOk, append_assoc, refl, sym, ap, ◌∙◌, arith, rules}
+use Rattle.std.proofs.Common.{◌≡◌, ℕ, ◌+◌, ◌<◌, length, drop, get_or, if◌then◌else◌, List, [], ◌∷◌, ◌++◌, append_assoc, refl, sym, ap, ◌∙◌, arith, rules}
 use Rattle.std.specs.declared.cmp.Ordering.{Ordering}
 use Rattle.std.specs.Ordering.{nat_cmp, is_lt, is_eq, match_ordering}
 use Rattle.std.specs.Cmp.Lexicographic.{slice_cmp}
 use Rattle.std.specs.Str.{bytes_eq}
 use Rattle.std.specs.BTreeSet.{insert_key}
-use Rattle.std.specs.Prelude.{IsOk}
 use Rattle.std.proofs.lemmas.Cmp.{nat_list_eq_equiv}
 use Rattle.std.proofs.lemmas.Map.Text.{is_eq-slice_cmp}
 use denote.Ref.{Bor}
@@ -30,11 +29,6 @@ inserted_both (x ∷ xs) ys ns = inserted_both xs ys (inserted x ns)
 
 pub both_inserted : (xs ys ns ms ns' : List Text) → ms ≡ all_inserted xs ns → ns' ≡ all_inserted ys ms → ns' ≡ all_inserted (xs ++ ys) ns
 both_inserted xs ys ns ms ns' e f = f ∙ ap (all_inserted ys) e ∙ sym (inserted_both xs ys ns)
-
--- what was done before went well, and so did what was done then
-pub then_is : {E : Type 0} (first last : Result (Unit {0}) E) (xs ys zs ns ms ns' : List Text) → IfOk first (λ u. ms ≡ all_inserted xs ns)
-    → IfOk last (λ u. IsOk first × (ns' ≡ all_inserted ys ms)) → xs ++ ys ≡ zs → IfOk last (λ u. ns' ≡ all_inserted zs ns)
-then_is a0 a1 xs ys zs ns ms ns' e f same = search (arith, rules, both_inserted)
 
 abbrev pub name_cmp : Bor Text → Bor Text → Ordering
 name_cmp x y = slice_cmp nat_cmp x.now y.now

@@ -1,6 +1,6 @@
 //! The different names that a chain reads or binds.
 
-ghost use Rattle.std.specs.Prelude.{◌≡◌, ◌++◌, if◌then◌else◌, [], option_map, IfOk, IsOk};
+ghost use Rattle.std.specs.Prelude.{◌≡◌, ◌++◌, ◌∷◌, if◌then◌else◌, [], option_map, IfOk};
 ghost use Rattle.jt_trees.specs.ExpressionView.{expr_view, exprs_view, pairs_view};
 ghost use Rattle.jt_trees.specs.Texts.{inserted};
 ghost use Rattle.jt_chains.specs.Chain.{is_loop};
@@ -40,7 +40,7 @@ fn add_expression<'a>(names: &mut BTreeSet<&'a str>, expr: &'a Expr) -> Result<(
     match expr {
         Expr::Constant(_) => Ok(()),
         Expr::Name(name) => add_name(names, name.as_str()),
-        Expr::Group(inside) => add_expression(names, inside),
+        Expr::Group(inside) | Expr::Unary(_, inside) => add_expression(names, inside),
         Expr::List(row) => add_row(names, row),
         Expr::Map(pairs) => add_pairs(names, pairs),
         Expr::Attribute(value, _) => add_of_attribute(names, value),
@@ -49,73 +49,76 @@ fn add_expression<'a>(names: &mut BTreeSet<&'a str>, expr: &'a Expr) -> Result<(
             arguments,
             keywords,
             ..
-        } => then_arguments(names, Ok(()), arguments, keywords),
+        } => add_arguments(names, arguments, keywords),
         Expr::Filter {
             input,
             arguments,
             keywords,
             ..
-        } => {
-            let before = add_expression(names, input);
-            then_arguments(names, before, arguments, keywords)
-        }
+        } => add_applied(names, input, arguments, keywords),
         Expr::Test {
             value,
             arguments,
             keywords,
             ..
-        } => {
-            let before = add_expression(names, value);
-            then_arguments(names, before, arguments, keywords)
-        }
-        Expr::Unary(_, operand) => add_expression(names, operand),
+        } => add_applied(names, value, arguments, keywords),
         Expr::Binary { left, right, .. } => add_both(names, left, right),
         Expr::When { condition, value } => add_both(names, condition, value),
         Expr::Choice {
             condition,
             value,
             other,
-        } => {
-            let first = add_expression(names, condition);
-            let second = then_expression(names, first, value);
-            then_expression(names, second, other)
-        }
+        } => add_three(names, condition, value, other),
     }
 }
 
-// Each `then` function takes how it went before as a `Result`, so that the many arms of its callers
-// have no early exit: a match with many of them is dear to prove.
-
-/// Adds the names of an expression, behind others.
-#[cycle(gather)]
-fn then_expression<'a>(
-    names: &mut BTreeSet<&'a str>,
-    before: Result<(), AllocError>,
-    expr: &'a Expr,
-) -> Result<(), AllocError>
-    ensures { IfOk result (λ _. IsOk before × Puts names.old names.new
-        (expr_names (expr_view expr.now))) }
-{
-    before?;
-    add_expression(names, expr)?;
-    Ok(())
-}
-
-/// Adds the names of arguments by place and by name, behind others.
+/// Adds the names of what a filter or a test is applied to, and of its arguments.
 #[tactic(auto, using(crate::proofs::Inserted::inserted_both))]
 #[cycle(gather)]
-fn then_arguments<'a>(
+fn add_applied<'a>(
     names: &mut BTreeSet<&'a str>,
-    before: Result<(), AllocError>,
+    value: &'a Expr,
     row: &'a [Expr],
     pairs: &'a [(String, Expr)],
 ) -> Result<(), AllocError>
-    ensures { IfOk result (λ _. IsOk before × Puts names.old names.new (row_names
-        (exprs_view row.now) ++ pair_names (pairs_view pairs.now))) }
+    ensures { IfOk result (λ _. Puts names.old names.new (expr_names (expr_view value.now) ++
+        (row_names (exprs_view row.now) ++ pair_names (pairs_view pairs.now)))) }
 {
-    before?;
+    add_expression(names, value)?;
+    add_arguments(names, row, pairs)?;
+    Ok(())
+}
+
+/// Adds the names of arguments by place and by name.
+#[tactic(auto, using(crate::proofs::Inserted::inserted_both))]
+#[cycle(gather)]
+fn add_arguments<'a>(
+    names: &mut BTreeSet<&'a str>,
+    row: &'a [Expr],
+    pairs: &'a [(String, Expr)],
+) -> Result<(), AllocError>
+    ensures { IfOk result (λ _. Puts names.old names.new (row_names (exprs_view row.now) ++
+        pair_names (pairs_view pairs.now))) }
+{
     add_row(names, row)?;
     add_pairs(names, pairs)?;
+    Ok(())
+}
+
+/// Adds the names of three expressions.
+#[tactic(auto, using(crate::proofs::Inserted::inserted_both))]
+#[cycle(gather)]
+fn add_three<'a>(
+    names: &mut BTreeSet<&'a str>,
+    first: &'a Expr,
+    second: &'a Expr,
+    third: &'a Expr,
+) -> Result<(), AllocError>
+    ensures { IfOk result (λ _. Puts names.old names.new (expr_names (expr_view first.now) ++
+        (expr_names (expr_view second.now) ++ expr_names (expr_view third.now)))) }
+{
+    add_expression(names, first)?;
+    add_both(names, second, third)?;
     Ok(())
 }
 
@@ -222,33 +225,17 @@ fn add_condition<'a>(
     }
 }
 
-/// Adds the names of the filters of a filter tag, behind others.
-fn then_filterings<'a>(
+/// Adds the names of the filters of a filter tag.
+fn add_filterings<'a>(
     names: &mut BTreeSet<&'a str>,
-    before: Result<(), AllocError>,
     filterings: &'a [Filtering],
 ) -> Result<(), AllocError>
-    ensures { IfOk result (λ _. IsOk before × Puts names.old names.new (filtering_names
+    ensures { IfOk result (λ _. Puts names.old names.new (filtering_names
         (filterings_view filterings.now))) }
 {
-    before?;
     for filtering in filterings {
-        then_arguments(names, Ok(()), &filtering.arguments, &filtering.keywords)?;
+        add_arguments(names, &filtering.arguments, &filtering.keywords)?;
     }
-    Ok(())
-}
-
-/// Adds the names of the values of a `with` tag, and what it binds.
-#[tactic(auto, using(crate::proofs::Inserted::inserted_both))]
-fn add_bindings<'a>(
-    names: &mut BTreeSet<&'a str>,
-    pairs: &'a [(String, Expr)],
-) -> Result<(), AllocError>
-    ensures { IfOk result (λ _. Puts names.old names.new (pair_names (pairs_view pairs.now) ++
-        keywords (pairs_view pairs.now))) }
-{
-    add_pairs(names, pairs)?;
-    add_keywords(names, pairs)?;
     Ok(())
 }
 
@@ -304,6 +291,102 @@ fn add_branches<'a>(
     Ok(())
 }
 
+/// Adds the names of a choice: its branches, and what stands for none of them.
+#[tactic(auto, using(crate::proofs::Inserted::inserted_both))]
+#[cycle(add)]
+fn add_choice<'a>(
+    names: &mut BTreeSet<&'a str>,
+    branches: &'a [Branch<Stmt>],
+    other: &'a [Stmt],
+) -> Result<(), AllocError>
+    ensures { IfOk result (λ _. Puts names.old names.new (branch_names (branches_view branches.now)
+        ++ body_names (body_view other.now))) }
+{
+    add_branches(names, branches)?;
+    add_statements(names, other)?;
+    Ok(())
+}
+
+/// Adds the names of the turns of a loop, and of what stands for none.
+#[tactic(auto, using(crate::proofs::Inserted::inserted_both))]
+#[cycle(add)]
+fn add_turns<'a>(
+    names: &mut BTreeSet<&'a str>,
+    body: &'a [Stmt],
+    other: &'a [Stmt],
+) -> Result<(), AllocError>
+    ensures { IfOk result (λ _. Puts names.old names.new (body_names (body_view body.now)
+        ++ body_names (body_view other.now))) }
+{
+    add_statements(names, body)?;
+    add_statements(names, other)?;
+    Ok(())
+}
+
+/// Adds the name that a block sets, and the names in it.
+#[cycle(add)]
+fn add_set_block<'a>(
+    names: &mut BTreeSet<&'a str>,
+    name: &'a str,
+    body: &'a [Stmt],
+) -> Result<(), AllocError>
+    ensures { IfOk result (λ _. Puts names.old names.new
+        (name.now ∷ body_names (body_view body.now))) }
+{
+    add_name(names, name)?;
+    add_statements(names, body)?;
+    Ok(())
+}
+
+/// Adds the names of the values of a `with` tag, what it binds, and the names in it.
+#[tactic(auto, using(crate::proofs::Inserted::inserted_both))]
+#[cycle(add)]
+fn add_with<'a>(
+    names: &mut BTreeSet<&'a str>,
+    values: &'a [(String, Expr)],
+    body: &'a [Stmt],
+) -> Result<(), AllocError>
+    ensures { IfOk result (λ _. Puts names.old names.new (pair_names (pairs_view values.now) ++
+        (keywords (pairs_view values.now) ++ body_names (body_view body.now)))) }
+{
+    add_pairs(names, values)?;
+    add_keywords(names, values)?;
+    add_statements(names, body)?;
+    Ok(())
+}
+
+/// Adds the names in a filter tag, and those of its filters.
+#[tactic(auto, using(crate::proofs::Inserted::inserted_both))]
+#[cycle(add)]
+fn add_filter_block<'a>(
+    names: &mut BTreeSet<&'a str>,
+    filters: &'a [Filtering],
+    body: &'a [Stmt],
+) -> Result<(), AllocError>
+    ensures { IfOk result (λ _. Puts names.old names.new (body_names (body_view body.now)
+        ++ filtering_names (filterings_view filters.now))) }
+{
+    add_statements(names, body)?;
+    add_filterings(names, filters)?;
+    Ok(())
+}
+
+/// Adds the parameters of a macro, and the names in it.
+#[tactic(auto, using(crate::proofs::Inserted::inserted_both))]
+#[cycle(add)]
+fn add_macro<'a>(
+    names: &mut BTreeSet<&'a str>,
+    parameters: &'a [Parameter],
+    body: &'a [Stmt],
+) -> Result<(), AllocError>
+    ensures { IfOk result (λ _. Puts names.old names.new (parameter_names parameters.now
+        ++ body_names (body_view body.now))) }
+{
+    add_parameters(names, parameters)?;
+    add_statements(names, body)?;
+    Ok(())
+}
+
 /// Adds the names of a statement.
 #[tactic(auto, using(jt_trees::proofs::StatementViews::view_Set))]
 #[cycle(add)]
@@ -317,10 +400,7 @@ fn add_statement<'a>(names: &mut BTreeSet<&'a str>, statement: &'a Stmt) -> Resu
         | Stmt::From { .. }
         | Stmt::Extends(..) => Ok(()),
         Stmt::Print(_, expr) => add_expression(names, expr),
-        Stmt::If(branches, other) => {
-            let head = add_branches(names, branches);
-            then_statements(names, head, other)
-        }
+        Stmt::If(branches, other) => add_choice(names, branches, other),
         Stmt::For {
             targets,
             over,
@@ -329,49 +409,20 @@ fn add_statement<'a>(names: &mut BTreeSet<&'a str>, statement: &'a Stmt) -> Resu
             other,
             ..
         } => {
-            let head = add_head(names, over, targets, condition);
-            let turns = then_statements(names, head, body);
-            then_statements(names, turns, other)
+            add_head(names, over, targets, condition)?;
+            add_turns(names, body, other)
         }
         Stmt::Set { targets, value, .. } => add_set(names, targets, value),
-        Stmt::SetBlock { name, body, .. } => {
-            let head = add_name(names, name.as_str());
-            then_statements(names, head, body)
-        }
-        Stmt::With { values, body, .. } => {
-            let head = add_bindings(names, values);
-            then_statements(names, head, body)
-        }
-        Stmt::FilterBlock { filters, body, .. } => {
-            let inside = add_statements(names, body);
-            then_filterings(names, inside, filters)
-        }
-        Stmt::Autoescape { body, .. } => add_statements(names, body),
+        Stmt::SetBlock { name, body, .. } => add_set_block(names, name.as_str(), body),
+        Stmt::With { values, body, .. } => add_with(names, values, body),
+        Stmt::FilterBlock { filters, body, .. } => add_filter_block(names, filters, body),
         Stmt::Macro {
             parameters,
             body,
             ..
-        } => {
-            let head = add_parameters(names, parameters);
-            then_statements(names, head, body)
-        }
-        Stmt::Block { body, .. } => add_statements(names, body),
+        } => add_macro(names, parameters, body),
+        Stmt::Autoescape { body, .. } | Stmt::Block { body, .. } => add_statements(names, body),
     }
-}
-
-/// Adds the names of statements, behind others.
-#[cycle(add)]
-fn then_statements<'a>(
-    names: &mut BTreeSet<&'a str>,
-    before: Result<(), AllocError>,
-    body: &'a [Stmt],
-) -> Result<(), AllocError>
-    ensures { IfOk result (λ _. IsOk before × Puts names.old names.new
-        (body_names (body_view body.now))) }
-{
-    before?;
-    add_statements(names, body)?;
-    Ok(())
 }
 
 /// Adds the names of statements.

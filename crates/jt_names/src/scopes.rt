@@ -3,8 +3,8 @@
 
 ghost use Rattle.std.specs.Prelude.{◌++◌, IfOk};
 ghost use Rattle.jt_trees.specs.ExpressionView.{pairs_view};
-ghost use Rattle.jt_chains.specs.Uses.{keywords, set_in, scope_names_by, scope_names_in};
-ghost use Rattle.jt_trees.specs.StatementView.{stmt_view, body_view};
+ghost use Rattle.jt_chains.specs.Uses.{keywords, set_in, scope_names_by, scope_names_in, scope_names_under};
+ghost use Rattle.jt_trees.specs.StatementView.{stmt_view, body_view, branches_view, names_view};
 ghost use Rattle.jt_names.specs.Names.{Adds, parameter_names};
 
 use crate::sets::{add_sets, add_targets};
@@ -56,6 +56,39 @@ fn add_inside<'a>(found: &mut Vec<&'a str>, body: &'a [Stmt]) -> Result<(), Allo
     Ok(())
 }
 
+/// Adds the names that the scopes in the branches of a choice bind.
+#[cycle(scopes)]
+fn add_branches<'a>(
+    found: &mut Vec<&'a str>,
+    branches: &'a [Branch<Stmt>],
+) -> Result<(), AllocError>
+    ensures { IfOk result
+        (λ _. Adds found.old found.new (scope_names_under (branches_view branches.now))) }
+{
+    for Branch { body, .. } in branches {
+        add_scopes(found, body)?;
+    }
+    Ok(())
+}
+
+/// Adds the targets of a loop, the names of the scope inside, and those of what stands for none.
+#[cycle(scopes)]
+fn add_loop<'a>(
+    found: &mut Vec<&'a str>,
+    targets: &'a [String],
+    body: &'a [Stmt],
+    other: &'a [Stmt],
+) -> Result<(), AllocError>
+    ensures { IfOk result (λ _. Adds found.old found.new (names_view targets.now ++
+        (set_in (body_view body.now) ++
+        (scope_names_in (body_view body.now) ++ scope_names_in (body_view other.now))))) }
+{
+    add_targets(found, targets)?;
+    add_inside(found, body)?;
+    add_scopes(found, other)?;
+    Ok(())
+}
+
 /// Adds those of one statement.
 #[cycle(scopes)]
 fn add_scope<'a>(found: &mut Vec<&'a str>, statement: &'a Stmt) -> Result<(), AllocError>
@@ -63,9 +96,7 @@ fn add_scope<'a>(found: &mut Vec<&'a str>, statement: &'a Stmt) -> Result<(), Al
 {
     match statement {
         Stmt::If(branches, other) => {
-            for Branch { body, .. } in branches {
-                add_scopes(found, body)?;
-            }
+            add_branches(found, branches)?;
             add_scopes(found, other)?;
             Ok(())
         }
@@ -74,12 +105,7 @@ fn add_scope<'a>(found: &mut Vec<&'a str>, statement: &'a Stmt) -> Result<(), Al
             body,
             other,
             ..
-        } => {
-            add_targets(found, targets)?;
-            add_inside(found, body)?;
-            add_scopes(found, other)?;
-            Ok(())
-        }
+        } => add_loop(found, targets, body, other),
         Stmt::SetBlock { body, .. }
         | Stmt::FilterBlock { body, .. }
         | Stmt::Autoescape { body, .. }

@@ -1,20 +1,16 @@
 -- What is found in branches, one after the other.
-use Rattle.std.proofs.Common.{◌≡◌, ℕ, ◌+◌, ◌<◌, List, length, drop, get_or, sym, ap, subst, ◌∙◌, Option, Some, None, Result, Err, Vec, Global}
+use Rattle.std.proofs.Common.{◌≡◌, ℕ, ◌+◌, ◌<◌, List, length, drop, get_or, sym, ap, subst, ◌∙◌, Option, Some, None, Result, Err}
 use Rattle.std.specs.Option.{option_or}
 use Rattle.std.proofs.lemmas.List.{drop_more}
 use Rattle.jt_expr.specs.Named.{has_unknown}
 use Rattle.jt_trees.specs.ExpressionView.{expr_view}
 use Rattle.jt_expr.specs.declared.named.Named.TheVariants as named
-use Rattle.jt_trees.specs.declared.expression.Expr.{Expr}
-use Rattle.jt_parse.specs.Names.{Found, unknown_in, stmt_unknown, body_unknown, branch_unknown}
-use Rattle.jt_trees.specs.StatementView.{stmt_view, body_view, branches_view}
+use Rattle.jt_parse.specs.Names.{Found, unknown_in, body_unknown, branch_unknown}
+use Rattle.jt_trees.specs.StatementView.{body_view, branches_view}
 use Rattle.jt_parse.specs.Gives.{GivesNames}
 use Rattle.jt_parse.specs.declared.error.ParseError.{ParseError}
 use Rattle.jt_parse.specs.declared.error.ParseError.TheVariants as e
-use Rattle.jt_trees.specs.declared.statement.Stmt.{Stmt}
-use Rattle.jt_trees.specs.declared.statement.Stmt.TheVariants.{If}
 use Rattle.jt_trees.proofs.Left.{Branch}
-use Rattle.jt_trees.proofs.StatementViews.{view_If}
 
 -- ---- one behind the other
 
@@ -49,12 +45,6 @@ branches_left bs i b lt is =
     ap (λ (z : List Branch). branch_unknown (branches_view z)) (drop_more bs i b lt)
     ∙ ap (λ (z : Branch). option_or (branch_at z) (branch_unknown (branches_view (drop (i + 1) bs)))) (sym is)
 
-pub branch_known : (bs : List Branch) (i : ℕ) (b : Branch) → i < length bs → b ≡ get_or bs i b → unknown_in b.line (λ u. has_unknown u (expr_view b.condition)) ≡ None → body_unknown (body_view b.body.items) ≡ None
-    → branch_unknown (branches_view (drop i bs)) ≡ branch_unknown (branches_view (drop (i + 1) bs))
-branch_known bs i b lt is c d =
-    branches_left bs i b lt is
-    ∙ option_right (branch_at b) (branch_unknown (branches_view (drop (i + 1) bs))) (option_right (unknown_in b.line (λ u. has_unknown u (expr_view b.condition))) (body_unknown (body_view b.body.items)) c ∙ d)
-
 branch_refused : (bs : List Branch) (i : ℕ) (b : Branch) (f : ParseError) → i < length bs → b ≡ get_or bs i b → GivesNames (branch_at b) (Err f) → GivesNames (branch_unknown (branches_view (drop i bs))) (Err f)
 branch_refused bs i b f lt is g =
     subst (λ o. GivesNames o (Err f)) (sym (branches_left bs i b lt is)) (fault_first (branch_at b) (branch_unknown (branches_view (drop (i + 1) bs))) f g)
@@ -66,18 +56,3 @@ condition_refused bs i b f lt is g = branch_refused bs i b f lt is (fault_first 
 pub inside_refused : (bs : List Branch) (i : ℕ) (b : Branch) (f : ParseError) → i < length bs → b ≡ get_or bs i b → unknown_in b.line (λ u. has_unknown u (expr_view b.condition)) ≡ None → GivesNames (body_unknown (body_view b.body.items)) (Err f)
     → GivesNames (branch_unknown (branches_view (drop i bs))) (Err f)
 inside_refused bs i b f lt is c g = branch_refused bs i b f lt is (fault_behind (unknown_in b.line (λ u. has_unknown u (expr_view b.condition))) (body_unknown (body_view b.body.items)) (Err f) c g)
-
--- ---- an `if`
-
-choice_is : (s : Stmt) (bs : Vec Branch Global) (other : Vec Stmt Global) → s ≡ If bs other → stmt_unknown (stmt_view s) ≡ option_or (branch_unknown (branches_view bs.items)) (body_unknown (body_view other.items))
-choice_is s bs other is = ap stmt_unknown (ap stmt_view is ∙ view_If bs other)
-
-pub branches_refused : (s : Stmt) (bs : Vec Branch Global) (other : Vec Stmt Global) (f : ParseError) → s ≡ If bs other → GivesNames (branch_unknown (branches_view bs.items)) (Err f)
-    → GivesNames (stmt_unknown (stmt_view s)) (Err f)
-branches_refused s bs other f is g =
-    subst (λ o. GivesNames o (Err f)) (sym (choice_is s bs other is)) (fault_first (branch_unknown (branches_view bs.items)) (body_unknown (body_view other.items)) f g)
-
-pub other_checked : (s : Stmt) (bs : Vec Branch Global) (other : Vec Stmt Global) (r : Result (Unit {0}) ParseError) → s ≡ If bs other → branch_unknown (branches_view bs.items) ≡ None
-    → GivesNames (body_unknown (body_view other.items)) r → GivesNames (stmt_unknown (stmt_view s)) r
-other_checked s bs other r is none g =
-    subst (λ o. GivesNames o r) (sym (choice_is s bs other is)) (fault_behind (branch_unknown (branches_view bs.items)) (body_unknown (body_view other.items)) r none g)

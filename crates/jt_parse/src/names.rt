@@ -1,14 +1,15 @@
 //! The names of filters and tests in a template that have no meaning.
 
 ghost use Rattle.std.specs.Prelude.{◌≡◌, ◌||◌, true, false, option_map};
+ghost use Rattle.std.specs.Option.{option_or};
 ghost use Rattle.jt_trees.specs.ExpressionView.{expr_view, pairs_view};
 ghost use Rattle.jt_expr.specs.Named.{has_unknown, pairs_have_unknown};
 ghost use Rattle.jt_parse.specs.Names as spec;
-ghost use Rattle.jt_trees.specs.StatementView.{stmt_view, body_view, filtering_view, filterings_view};
+ghost use Rattle.jt_trees.specs.StatementView.{stmt_view, body_view, branches_view, filtering_view, filterings_view};
 ghost use Rattle.jt_parse.specs.Gives.{GivesNames, GivesNamesIn};
 
 use crate::error::ParseError;
-use jt_expr::{Named, any_unknown, any_unknown_pair, has_unknown, is_filter_unknown};
+use jt_expr::{Named, any_unknown_argument, any_unknown_pair, has_unknown, is_filter_unknown};
 use jt_trees::{Branch, Expr, Filtering, Stmt};
 
 /// Refuses a tag of the line, if a filter or a test in it has no meaning.
@@ -67,8 +68,7 @@ fn filtering_unknown(filter: &Filtering, named: Named) -> bool
     ensures { result ≡ spec.filtering_unknown named (filtering_view filter.now) }
 {
     is_filter_unknown(&filter.name, &filter.arguments, &filter.keywords, named)
-        || any_unknown(&filter.arguments, named)
-        || any_unknown_pair(&filter.keywords, named)
+        || any_unknown_argument(&filter.arguments, &filter.keywords, named)
 }
 
 /// Whether such a name stands in one of the filters.
@@ -103,6 +103,23 @@ pub(crate) fn check_body(body: &[Stmt]) -> Result<(), ParseError>
     Ok(())
 }
 
+/// The same in the branches of a choice, and in what stands for none of them.
+#[cycle(names)]
+fn check_choice(branches: &[Branch<Stmt>], other: &[Stmt]) -> Result<(), ParseError>
+    ensures { GivesNames (option_or (spec.branch_unknown (branches_view branches.now))
+        (spec.body_unknown (body_view other.now))) result }
+{
+    for Branch {
+        line,
+        condition,
+        body,
+    } in branches {
+        check_expression(*line, condition)?;
+        check_body(body)?;
+    }
+    check_body(other)
+}
+
 /// The same in a statement.
 #[cycle(names)]
 fn check_statement(statement: &Stmt) -> Result<(), ParseError>
@@ -115,17 +132,7 @@ fn check_statement(statement: &Stmt) -> Result<(), ParseError>
         | Stmt::From { .. }
         | Stmt::Extends(_, _) => Ok(()),
         Stmt::Print(line, value) | Stmt::Set { line, value, .. } => check_expression(*line, value),
-        Stmt::If(branches, other) => {
-            for Branch {
-                line,
-                condition,
-                body,
-            } in branches {
-                check_expression(*line, condition)?;
-                check_body(body)?;
-            }
-            check_body(other)
-        }
+        Stmt::If(branches, other) => check_choice(branches, other),
         Stmt::For {
             line,
             over,

@@ -1,11 +1,11 @@
 //! Where statements may stand.
 
-ghost use Rattle.std.specs.Prelude.{◌≡◌, true, false};
+ghost use Rattle.std.specs.Prelude.{◌≡◌, ◌&&◌, not, true, false};
 ghost use Rattle.std.specs.Result.{is_ok};
 ghost use Rattle.jt_scan.specs.Cut as cut;
 ghost use Rattle.jt_parse.specs.Positions as spec;
 ghost use Rattle.jt_parse.specs.Gives.{GivesPositions};
-ghost use Rattle.jt_trees.specs.StatementView.{stmt_view, body_view};
+ghost use Rattle.jt_trees.specs.StatementView.{stmt_view, body_view, branches_view};
 ghost use Rattle.jt_parse.specs.PositionView.{position_view};
 
 use crate::error::ParseError;
@@ -119,6 +119,30 @@ fn body_placed(body: &[Stmt], position: Position) -> Result<(), u32>
     Ok(())
 }
 
+/// The same of the branches of a choice, and of what stands for none of them.
+#[cycle(positions)]
+fn choice_placed(branches: &[Branch<Stmt>], other: &[Stmt], position: Position) -> Result<(), u32>
+    ensures { is_ok result
+        ≡ (spec.branches_placed (position_view position) (branches_view branches.now)
+        && spec.body_placed (position_view position) (body_view other.now)) }
+{
+    for Branch { body, .. } in branches {
+        body_placed(body, position)?;
+    }
+    body_placed(other, position)
+}
+
+/// The same of a tag that no child has outside its blocks, and of what stands inside it.
+#[cycle(positions)]
+fn inside_placed(line: u32, body: &[Stmt], position: Position) -> Result<(), u32>
+    ensures { is_ok result
+        ≡ (not (spec.is_child (position_view position))
+        && spec.body_placed (spec.within (position_view position)) (body_view body.now)) }
+{
+    allow(!is_child(position), line)?;
+    body_placed(body, within(position))
+}
+
 /// The same of a statement and those inside.
 #[cycle(positions)]
 fn statement_placed(statement: &Stmt, position: Position) -> Result<(), u32>
@@ -131,10 +155,7 @@ fn statement_placed(statement: &Stmt, position: Position) -> Result<(), u32>
         Stmt::Extends(line, _) => Err(*line),
         Stmt::If(branches, other) => {
             allow(!is_child(position), first_line(branches))?;
-            for Branch { body, .. } in branches {
-                body_placed(body, within(position))?;
-            }
-            body_placed(other, within(position))
+            choice_placed(branches, other, within(position))
         }
         Stmt::For {
             line,
@@ -142,17 +163,13 @@ fn statement_placed(statement: &Stmt, position: Position) -> Result<(), u32>
             other,
             ..
         } => {
-            allow(!is_child(position), *line)?;
-            body_placed(body, within(position))?;
+            inside_placed(*line, body, position)?;
             body_placed(other, within(position))
         }
         Stmt::SetBlock { body, .. } => body_placed(body, within(position)),
         Stmt::With { line, body, .. }
         | Stmt::FilterBlock { line, body, .. }
-        | Stmt::Autoescape { line, body, .. } => {
-            allow(!is_child(position), *line)?;
-            body_placed(body, within(position))
-        }
+        | Stmt::Autoescape { line, body, .. } => inside_placed(*line, body, position),
         Stmt::Macro { line, body, .. } => {
             allow(is_top(position), *line)?;
             body_placed(body, Position::InMacro)

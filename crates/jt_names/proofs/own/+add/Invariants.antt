@@ -1,4 +1,4 @@
-use Rattle.std.proofs.Common.{◌≡◌, ◌+◌, ◌*◌, drop}
+use Rattle.std.proofs.Common.{◌≡◌, ◌+◌, ◌*◌, max, drop}
 use denote.Param.Weighed.{most}
 use Rattle.jt_trees.specs.declared.statement.Stmt.{size-Stmt}
 use Rattle.jt_trees.proofs.Left.{Branch}
@@ -10,16 +10,31 @@ use Rattle.jt_names.proofs.own.+add.Given as goal
 -- ---- how deep the statements are that are left, and who hands its own on
 
 abbrev pub decreases-add_statement : goal.decreases-add_statement
-decreases-add_statement l = 3 * size-Stmt l.statement.now
+decreases-add_statement l = 4 * size-Stmt l.statement.now
 
 abbrev pub decreases-add_statements : goal.decreases-add_statements
-decreases-add_statements l = 3 * most (λ x. size-Stmt x) l.body.now + 1
-
-abbrev pub decreases-then_statements : goal.decreases-then_statements
-decreases-then_statements l = 3 * most (λ x. size-Stmt x) l.body.now + 2
+decreases-add_statements l = 4 * most (λ x. size-Stmt x) l.body.now + 1
 
 abbrev pub decreases-add_branches : goal.decreases-add_branches
-decreases-add_branches l = 3 * most (λ (b : Branch). most (λ x. size-Stmt x) b.body.items) l.branches.now + 2
+decreases-add_branches l = 4 * most (λ (b : Branch). most (λ x. size-Stmt x) b.body.items) l.branches.now + 2
+
+abbrev pub decreases-add_choice : goal.decreases-add_choice
+decreases-add_choice l = 4 * max (most (λ (b : Branch). most (λ x. size-Stmt x) b.body.items) l.branches.now) (most (λ x. size-Stmt x) l.other.now) + 3
+
+abbrev pub decreases-add_turns : goal.decreases-add_turns
+decreases-add_turns l = 4 * max (most (λ x. size-Stmt x) l.body.now) (most (λ x. size-Stmt x) l.other.now) + 2
+
+abbrev pub decreases-add_set_block : goal.decreases-add_set_block
+decreases-add_set_block l = 4 * most (λ x. size-Stmt x) l.body.now + 2
+
+abbrev pub decreases-add_with : goal.decreases-add_with
+decreases-add_with l = 4 * most (λ x. size-Stmt x) l.body.now + 2
+
+abbrev pub decreases-add_filter_block : goal.decreases-add_filter_block
+decreases-add_filter_block l = 4 * most (λ x. size-Stmt x) l.body.now + 2
+
+abbrev pub decreases-add_macro : goal.decreases-add_macro
+decreases-add_macro l = 4 * most (λ x. size-Stmt x) l.body.now + 2
 
 -- ---- what is left
 

@@ -1,9 +1,8 @@
-use Rattle.std.proofs.Common.{◌++◌, append_assoc, ap, refl, ◌∙◌, arith, rules}
+use Rattle.std.proofs.Common.{ap, refl, ◌∙◌, arith, rules}
 use Rattle.std.proofs.lemmas.Result.{IfOk-weaker}
-use Rattle.jt_trees.specs.ExpressionView.{expr_view, exprs_view, pairs_view}
-use Rattle.jt_chains.specs.Uses.{expr_names, row_names, pair_names}
+use Rattle.jt_chains.specs.Uses.{expr_names}
 use Rattle.jt_trees.specs.Texts.{all_inserted, texts}
-use Rattle.jt_names.proofs.Inserted.{expression_added, entry_added, then_is}
+use Rattle.jt_names.proofs.Inserted.{expression_added, entry_added}
 use Rattle.jt_trees.proofs.ExpressionViews.{shown_item, shown_binary, shown_when, shown_choice, shown_test, shown_call, shown_filter}
 use Rattle.jt_names.proofs.own.+gather.Goals as goal
 
@@ -27,36 +26,20 @@ add_expression-returns-in-When t c =
 
 pub add_expression-returns-in-Choice : goal.add_expression-returns-in-Choice
 add_expression-returns-in-Choice t c =
-    let x = expr_names (expr_view c.deref-in-Choice.result.now) in
-    let y = expr_names (expr_view c.deref-in-Choice-2.result.now) in
-    let z = expr_names (expr_view c.deref-in-Choice-3.result.now) in
-    let old = texts c.args.names.now.keys in
-    let first = texts c.add_expression-first.new.names.keys in
-    let second = texts c.then_expression-second.new.names.keys in
-    let two = then_is c.add_expression-first.result c.then_expression-second.result x y (x ++ y) old first second c.add_expression-first.ensures c.then_expression-second.ensures refl in
-    then_is c.then_expression-second.result c.then_expression.result (x ++ y) z _ old second (texts c.then_expression.new.names.keys) two c.then_expression.ensures
-    (append_assoc x y z ∙ ap expr_names (shown_choice c.args.expr.now c.deref-in-Choice.result.now c.deref-in-Choice-2.result.now c.deref-in-Choice-3.result.now
-    c.in-Choice.condition c.in-Choice.value c.in-Choice.other c.in-Choice.is c.deref-in-Choice.ensures c.deref-in-Choice-2.ensures c.deref-in-Choice-3.ensures))
+    IfOk-weaker c.add_three.result _ _ (λ u g. g ∙ ap (λ z. all_inserted (expr_names z) (texts c.args.names.now.keys)) (shown_choice c.args.expr.now c.deref-in-Choice.result.now c.deref-in-Choice-2.result.now c.deref-in-Choice-3.result.now
+    c.in-Choice.condition c.in-Choice.value c.in-Choice.other c.in-Choice.is c.deref-in-Choice.ensures c.deref-in-Choice-2.ensures c.deref-in-Choice-3.ensures)) c.add_three.ensures
 
 pub add_expression-returns-in-Call : goal.add_expression-returns-in-Call
 add_expression-returns-in-Call t c =
-    IfOk-weaker c.then_arguments.result _ _ (λ u g. g.1 ∙ ap (λ z. all_inserted (expr_names z) (texts c.args.names.now.keys)) (shown_call c.args.expr.now c.in-Call.callee.value c.deref-in-Call.result.now c.deref-in-Call-2.result.now
-    c.in-Call.callee c.in-Call.arguments c.in-Call.keywords c.in-Call.is refl c.deref-in-Call.ensures.value c.deref-in-Call-2.ensures.value)) c.then_arguments.ensures
+    IfOk-weaker c.add_arguments.result _ _ (λ u g. g ∙ ap (λ z. all_inserted (expr_names z) (texts c.args.names.now.keys)) (shown_call c.args.expr.now c.in-Call.callee.value c.deref-in-Call.result.now c.deref-in-Call-2.result.now
+    c.in-Call.callee c.in-Call.arguments c.in-Call.keywords c.in-Call.is refl c.deref-in-Call.ensures.value c.deref-in-Call-2.ensures.value)) c.add_arguments.ensures
 
 pub add_expression-returns-in-Filter : goal.add_expression-returns-in-Filter
 add_expression-returns-in-Filter t c =
-    let a = c.deref-in-Filter.result.now in
-    let us = c.deref-in-Filter-2.result.now in
-    let qs = c.deref-in-Filter-3.result.now in
-    then_is c.add_expression-before.result c.then_arguments-in-Filter.result (expr_names (expr_view a)) (row_names (exprs_view us) ++ pair_names (pairs_view qs)) _
-    (texts c.args.names.now.keys) (texts c.add_expression-before.new.names.keys) (texts c.then_arguments-in-Filter.new.names.keys) c.add_expression-before.ensures c.then_arguments-in-Filter.ensures
-    (ap expr_names (shown_filter c.args.expr.now a c.in-Filter.name us qs c.in-Filter.input c.in-Filter.arguments c.in-Filter.keywords c.in-Filter.is c.deref-in-Filter.ensures c.deref-in-Filter-2.ensures.value c.deref-in-Filter-3.ensures.value))
+    IfOk-weaker c.add_applied.result _ _ (λ u g. g ∙ ap (λ z. all_inserted (expr_names z) (texts c.args.names.now.keys)) (shown_filter c.args.expr.now c.deref-in-Filter.result.now c.in-Filter.name c.deref-in-Filter-2.result.now c.deref-in-Filter-3.result.now
+    c.in-Filter.input c.in-Filter.arguments c.in-Filter.keywords c.in-Filter.is c.deref-in-Filter.ensures c.deref-in-Filter-2.ensures.value c.deref-in-Filter-3.ensures.value)) c.add_applied.ensures
 
 pub add_expression-returns-in-Test : goal.add_expression-returns-in-Test
 add_expression-returns-in-Test t c =
-    let a = c.deref-in-Test.result.now in
-    let us = c.deref-in-Test-2.result.now in
-    let qs = c.deref-in-Test-3.result.now in
-    then_is c.add_expression-before-in-Test.result c.then_arguments-in-Test.result (expr_names (expr_view a)) (row_names (exprs_view us) ++ pair_names (pairs_view qs)) _
-    (texts c.args.names.now.keys) (texts c.add_expression-before-in-Test.new.names.keys) (texts c.then_arguments-in-Test.new.names.keys) c.add_expression-before-in-Test.ensures c.then_arguments-in-Test.ensures
-    (ap expr_names (shown_test c.args.expr.now a c.in-Test.polarity c.in-Test.name us qs c.in-Test.value c.in-Test.arguments c.in-Test.keywords c.in-Test.is c.deref-in-Test.ensures c.deref-in-Test-2.ensures.value c.deref-in-Test-3.ensures.value))
+    IfOk-weaker c.add_applied-in-Test.result _ _ (λ u g. g ∙ ap (λ z. all_inserted (expr_names z) (texts c.args.names.now.keys)) (shown_test c.args.expr.now c.deref-in-Test.result.now c.in-Test.polarity c.in-Test.name c.deref-in-Test-2.result.now c.deref-in-Test-3.result.now
+    c.in-Test.value c.in-Test.arguments c.in-Test.keywords c.in-Test.is c.deref-in-Test.ensures c.deref-in-Test-2.ensures.value c.deref-in-Test-3.ensures.value)) c.add_applied-in-Test.ensures

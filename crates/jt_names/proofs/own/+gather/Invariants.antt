@@ -10,25 +10,28 @@ use Rattle.jt_names.proofs.own.+gather.Given as goal
 -- ---- how deep the trees are that are left, and who hands its own on
 
 abbrev pub decreases-add_expression : goal.decreases-add_expression
-decreases-add_expression l = 3 * size-Expr l.expr.now
+decreases-add_expression l = 4 * size-Expr l.expr.now
 
-abbrev pub decreases-then_expression : goal.decreases-then_expression
-decreases-then_expression l = 3 * size-Expr l.expr.now + 1
+abbrev pub decreases-add_applied : goal.decreases-add_applied
+decreases-add_applied l = 4 * max (size-Expr l.value.now) (max (most (λ x. size-Expr x) l.row.now) (most (λ x. size-Expr x.1) l.pairs.now)) + 3
 
-abbrev pub decreases-then_arguments : goal.decreases-then_arguments
-decreases-then_arguments l = 3 * max (most (λ x. size-Expr x) l.row.now) (most (λ x. size-Expr x.1) l.pairs.now) + 2
+abbrev pub decreases-add_arguments : goal.decreases-add_arguments
+decreases-add_arguments l = 4 * max (most (λ x. size-Expr x) l.row.now) (most (λ x. size-Expr x.1) l.pairs.now) + 2
+
+abbrev pub decreases-add_three : goal.decreases-add_three
+decreases-add_three l = 4 * max (size-Expr l.first.now) (max (size-Expr l.second.now) (size-Expr l.third.now)) + 2
 
 abbrev pub decreases-add_both : goal.decreases-add_both
-decreases-add_both l = 3 * max (size-Expr l.first.now) (size-Expr l.second.now) + 1
+decreases-add_both l = 4 * max (size-Expr l.first.now) (size-Expr l.second.now) + 1
 
 abbrev pub decreases-add_of_attribute : goal.decreases-add_of_attribute
-decreases-add_of_attribute l = 3 * size-Expr l.value.now + 1
+decreases-add_of_attribute l = 4 * size-Expr l.value.now + 1
 
 abbrev pub decreases-add_row : goal.decreases-add_row
-decreases-add_row l = 3 * most (λ x. size-Expr x) l.row.now + 1
+decreases-add_row l = 4 * most (λ x. size-Expr x) l.row.now + 1
 
 abbrev pub decreases-add_pairs : goal.decreases-add_pairs
-decreases-add_pairs l = 3 * most (λ x. size-Expr x.1) l.pairs.now + 1
+decreases-add_pairs l = 4 * most (λ x. size-Expr x.1) l.pairs.now + 1
 
 -- ---- what is left
 
