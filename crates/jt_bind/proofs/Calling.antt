@@ -5,7 +5,7 @@ use Rattle.std.proofs.lemmas.List.{drop_more}
 use denote.Ref.{Bor}
 use Rattle.jt_value.specs.Tree as tree
 use Rattle.jt_ids.specs.declared.op_id.OpId.TheVariants as op
-use Rattle.jt_evaluation.specs.Loops.{index0}
+use Rattle.jt_ids.specs.declared.loop_field.LoopField.TheVariants.{Index0}
 use Rattle.jt_trees.specs.ExpressionView.{exprs_view}
 use Rattle.jt_trees.specs.declared.expression.Expr.{Expr}
 use Rattle.jt_trees.specs.StatementView.{parameters_view}
@@ -52,4 +52,4 @@ locals_next xs i lt = ap (λ (n : ℕ). item (variable (local i)) (first_locals 
 
 -- the item of a list by the turn among so many
 abbrev pub cycled : ℕ → SRow Constant → SlotExpr Constant
-cycled n es = operation_of op.Item (made a_list es) (operation_of op.Remainder (field index0) (pooled (own (tree.number (pos n)))))
+cycled n es = operation_of op.Item (made a_list es) (operation_of op.Remainder (field Index0) (pooled (own (tree.number (pos n)))))

@@ -1,11 +1,9 @@
 -- Names with places.
 use Rattle.std.proofs.Common.{◌≡◌, ℕ, suc, ◌+◌, ◌<◌, false, List, [], ◌∷◌, length, drop, get_or, refl, sym, ap, ◌∙◌, Option, Some, None, if◌then◌else◌, add-one, arith, rules}
 use Rattle.std.proofs.lemmas.List.{drop_more}
-use Rattle.std.proofs.lemmas.Slice.Eq.{bytes_eq-Decides}
 use Rattle.std.specs.Str.{bytes_eq}
 use denote.Ref.{Bor}
 use Rattle.jt_trees.specs.Expressions.{Text}
-use Rattle.jt_evaluation.specs.Loops.{Field, field_among}
 use Rattle.jt_resolved.specs.Slots.{Slot, local}
 use Rattle.jt_meaning.specs.Layout.{Table, slot_in}
 use Rattle.jt_meaning.specs.Resolve.{bound_table}
@@ -30,17 +28,3 @@ names_left ks i k lt is = ap texts (drop_more ks i k lt) ∙ ap (λ (z : Bor Tex
 pub placed_next : (ks : List (Bor Text)) (i : ℕ) (d : Bor Text) (x : Text) (n n' : ℕ) (f f' : Option ℕ) → i < length ks → n' ≡ n + 1 → f' ≡ (if bytes_eq (get_or ks i d).now x then Some n else f)
     → last_among x (texts (drop (i + 1) ks)) n' f' ≡ last_among x (texts (drop i ks)) n f
 placed_next ks i d x n n' f f' lt e h = search (arith, rules, add-one, drop_more)
-
--- ---- fields of loops
-
-abbrev pub Differ : Text → List (Text × Field) → Type 0
-Differ x [] = Unit {0}
-Differ x (f ∷ fs) = (x ≡ f.0 → ⊥) × Differ x fs
-
-different : (x k : Text) → (x ≡ k → ⊥) → bytes_eq k x ≡ false
-different x k n = search (arith, rules, bytes_eq-Decides)
-
--- a name that is none of these fields'
-pub no_field : (x : Text) (fs : List (Text × Field)) → Differ x fs → field_among x fs ≡ None
-no_field x [] h = refl
-no_field x (f ∷ fs) h = ap (λ b. if b then Some f.1 else field_among x fs) (different x f.0 h.0) ∙ no_field x fs h.1

@@ -6,7 +6,7 @@ use Rattle.std.specs.declared.rc.Rc.{Rc}
 use Rattle.std.specs.Str.{bytes_eq}
 use denote.Ref.{Bor}
 use Rattle.jt_value.specs.Tree.{Tree, number}
-use Rattle.jt_evaluation.specs.Loops.{index0}
+use Rattle.jt_ids.specs.declared.loop_field.LoopField.TheVariants.{Index0}
 use Rattle.jt_ids.specs.declared.op_id.OpId.TheVariants as op
 use Rattle.jt_value.specs.View.{view}
 use Rattle.jt_value.specs.declared.value.Value.{Value}
@@ -103,7 +103,7 @@ pub record BodyLeads (templates : List Text) (whole left : SBody Constant) (befo
 -- which one of so many items a loop comes to at its turn
 abbrev pub turn_in : ℕ → slots.SlotExpr Constant
 turn_in n =
-    resolve.operation_of op.Remainder (slots.field index0) (slots.pooled (own (number (pos n))))
+    resolve.operation_of op.Remainder (slots.field Index0) (slots.pooled (own (number (pos n))))
 
 -- ---- where something is resolved
 

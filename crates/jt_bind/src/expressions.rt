@@ -18,13 +18,12 @@ use crate::forms::{
     chosen, form_of, formed, literal_value, on_one, on_two, range_of, turn_among, turned,
     unary_operation,
 };
-use crate::lookup::{absent, no_value, reading};
-use crate::loops::{field_of, told};
+use crate::lookup::{absent, no_value, reading, told};
 use crate::pool::{add_text, add_value};
 use crate::resolver::{Arguments, Resolver};
 use crate::rows::row_of;
 use jt_evaluation::{filter_of, filter_parameters, test_of};
-use jt_ids::{FilterId, OpId};
+use jt_ids::{FilterId, LoopField, OpId};
 use jt_layout::more;
 use jt_names::is_loop_name;
 use jt_resolved::{Maker, SlotExpr};
@@ -122,7 +121,7 @@ impl<'t, 's, 'a> Resolver<'t, 's, 'a> {
             (trees.attribute (written.expr_view value.now) key.now) e pool.old pool.new) }
     {
         if is_loop_name(value) {
-            return Ok(told(field_of(key)));
+            return Ok(told(LoopField::by_name(key)));
         }
         let whole = self.resolve_expression(value, pool)?;
         let place = add_text(self.alloc, key, pool)?;

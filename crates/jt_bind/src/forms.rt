@@ -15,8 +15,8 @@ ghost use Rattle.jt_bind.specs.Formed.{form_view, IsNumber};
 ghost use Rattle.jt_bind.specs.Scoped.{IsShown, IsAdded, MadeOfOne, MadeOfTwo, turn_in};
 
 use crate::pool::add_value;
-use jt_ids::OpId;
-use jt_resolved::{Field, Maker, SlotExpr};
+use jt_ids::{LoopField, OpId};
+use jt_resolved::{Maker, SlotExpr};
 use jt_trees::{BinaryOperator, Literal, Parameter, UnaryOperator};
 use jt_value::{NoMemory, Value};
 use std::alloc::Global;
@@ -212,7 +212,7 @@ pub(crate) fn turn_among(
     on_two(
         alloc,
         OpId::Remainder,
-        SlotExpr::Field(Field::Index0),
+        SlotExpr::Field(LoopField::Index0),
         items,
     )
 }

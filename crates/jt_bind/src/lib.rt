@@ -18,7 +18,6 @@ mod forms;
 mod homes;
 mod locals;
 mod lookup;
-mod loops;
 mod name_scope;
 mod placing;
 mod pool;

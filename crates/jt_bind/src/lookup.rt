@@ -12,6 +12,7 @@ ghost use Rattle.jt_bind.specs.Scoped.{PutsNone, globals_in};
 
 use crate::resolver::Resolver;
 use crate::tables::Tables;
+use jt_ids::LoopField;
 use jt_layout::more;
 use jt_resolved::{Slot, SlotExpr};
 use jt_trees::Expr;
@@ -46,6 +47,16 @@ pub(crate) fn absent() -> SlotExpr
     ensures { PutsNone slots.absent result }
 {
     SlotExpr::Absent
+}
+
+/// What the innermost loop tells; an unknown field is absent.
+pub(crate) fn told(field: Option<LoopField>) -> SlotExpr
+    ensures { PutsNone (resolve.field_from field) result }
+{
+    match field {
+        Some(field) => SlotExpr::Field(field),
+        None => absent(),
+    }
 }
 
 impl<'a> Tables<'a> {

@@ -46,12 +46,7 @@ fn is_space(byte: u8) -> bool
 fn is_blank(text: &str) -> bool
     ensures { result ≡ not (list_any (λ c. not (chains.is_space c)) text.now) }
 {
-    for byte in text.as_bytes() {
-        if !is_space(*byte) {
-            return false;
-        }
-    }
-    true
+    text.bytes().all(is_space)
 }
 
 /// Whether a library may hold the statement.
@@ -69,12 +64,7 @@ fn of_a_library(statement: &Stmt) -> bool
 pub fn holds_macros(body: &[Stmt]) -> bool
     ensures { result ≡ chains.holds_macros (body_view body.now) }
 {
-    for statement in body {
-        if !of_a_library(statement) {
-            return false;
-        }
-    }
-    true
+    body.iter().all(of_a_library)
 }
 
 /// The place of the template of a name; the number of all where it isn't there.

@@ -1,8 +1,8 @@
 -- Parameters that are given by name or have a default.
-use Rattle.std.proofs.Common.{◌≡◌, ℕ, zero, suc, ◌<◌, Bool, true, false, ◌&&◌, ◌||◌, if◌then◌else◌, List, [], ◌∷◌, length, take, drop, get_or, refl, sym, ap, ◌∙◌, arith, Option, Some, None, string_bytes, rules}
+use Rattle.std.proofs.Common.{◌≡◌, ℕ, zero, suc, ◌<◌, Bool, true, false, ◌||◌, if◌then◌else◌, List, [], ◌∷◌, length, take, drop, get_or, refl, sym, ap, ◌∙◌, arith, Option, Some, None, string_bytes, rules}
+use Rattle.std.specs.List.{list_all}
 use Rattle.std.specs.Option.{is_some}
 use Rattle.std.specs.Prelude.{option_map}
-use Rattle.std.proofs.lemmas.List.{drop_more}
 use Rattle.jt_trees.specs.Texts.{among}
 use Rattle.jt_trees.specs.Statements as trees
 use Rattle.jt_trees.specs.Expressions.{Text}
@@ -11,9 +11,8 @@ use Rattle.jt_trees.specs.declared.statement.Parameter.{Parameter}
 use Rattle.jt_evaluation.specs.Filters.{some_given}
 use Rattle.jt_rules.specs.Walk as rules
 
-abbrev pub all_filled : List Text → List Parameter → Bool
-all_filled ks [] = true
-all_filled ks (p ∷ ps) = (among (string_bytes p.name) ks || is_some p.default) && all_filled ks ps
+abbrev pub is_filled : List Text → Parameter → Bool
+is_filled ks p = among (string_bytes p.name) ks || is_some p.default
 
 or_true : (b c : Bool) → c ≡ true → (b || c) ≡ true
 or_true true c e = refl
@@ -53,16 +52,12 @@ module _ (ks : List Text) where
   mapped f None = refl
 
   -- each up to the last one that is given
-  filled_up_to : (ps : List Parameter) → all_filled ks (take (rules.reached (parameters_view ps) ks) ps) ≡ rules.is_filled (parameters_view ps) 0 ks
+  filled_up_to : (ps : List Parameter) → list_all (is_filled ks) (take (rules.reached (parameters_view ps) ks) ps) ≡ rules.is_filled (parameters_view ps) 0 ks
   filled_up_to [] = refl
   filled_up_to (p ∷ ps) = search (arith, rules, filled_up_to ps, string_bytes, mapped)
 
-  pub filled_among : (ps : List Parameter) (r : ℕ) → r ≡ rules.reached (parameters_view ps) ks → all_filled ks (take r ps) ≡ rules.is_filled (parameters_view ps) 0 ks
-  filled_among ps r e = ap (λ n. all_filled ks (take n ps)) e ∙ filled_up_to ps
-
-  -- one that is neither given nor has a default
-  pub unfilled_at : (ps : List Parameter) (i : ℕ) (p : Parameter) → i < length ps → p ≡ get_or ps i p → among (string_bytes p.name) ks ≡ false → is_some p.default ≡ false → all_filled ks (drop i ps) ≡ false
-  unfilled_at ps i p lt is e d = search (arith, rules, drop_more, string_bytes)
+  pub filled_among : (ps : List Parameter) (r : ℕ) → r ≡ rules.reached (parameters_view ps) ks → list_all (is_filled ks) (take r ps) ≡ rules.is_filled (parameters_view ps) 0 ks
+  filled_among ps r e = ap (λ n. list_all (is_filled ks) (take n ps)) e ∙ filled_up_to ps
 
 -- those behind the ones that are filled by place
 pub filled_behind : (ps : List trees.Parameter) (n : ℕ) (ks : List Text) → rules.is_filled ps n ks ≡ rules.is_filled (drop n ps) 0 ks

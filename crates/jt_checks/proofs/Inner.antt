@@ -1,16 +1,14 @@
 -- Names inside the arguments of a filter, one argument after the other.
-use Rattle.std.proofs.Common.{◌≡◌, ℕ, suc, ◌+◌, ◌<◌, ◌-◌, ◌==◌, Bool, true, false, ◌&&◌, List, ◌∷◌, drop, length, length-drop, get_or, sym, ap, ◌∙◌, arith, Option, None, string_bytes, rules}
-use Rattle.std.specs.Prelude.{option_and_then}
+use Rattle.std.proofs.Common.{◌≡◌, ℕ, suc, ◌+◌, ◌<◌, ◌-◌, ◌==◌, Bool, true, false, ◌&&◌, List, ◌∷◌, drop, length, length-drop, get_or, sym, ap, ◌∙◌, arith, Option, None, rules}
 use Rattle.std.proofs.lemmas.Bool.Decides.{nat_tests}
 use Rattle.std.proofs.lemmas.List.{drop_more}
 use Rattle.jt_trees.specs.Written.{literal_text}
-use Rattle.jt_trees.specs.ExpressionView.{expr_view, exprs_view, pairs_view}
+use Rattle.jt_trees.specs.ExpressionView.{expr_view, exprs_view}
 use Rattle.jt_trees.specs.declared.expression.Expr.{Expr}
-use Rattle.jt_ids.specs.FilterTable.{named_at, place_of, with_only}
+use Rattle.jt_ids.specs.FilterTable.{named_at, with_only}
 use Rattle.jt_ids.specs.declared.filter_id.FilterId.{FilterId}
 use Rattle.jt_ids.specs.declared.filter_id.Naming.{Naming}
-use Rattle.jt_evaluation.specs.Inside.{argument_well, row_well, pairs_well}
-use Rattle.jt_trees.proofs.Left.{Entry}
+use Rattle.jt_evaluation.specs.Inside.{argument_well, row_well}
 use Rattle.jt_checks.proofs.Counted.{counted}
 
 -- without a name of an only argument, a name means the filter that has it
@@ -44,7 +42,3 @@ module _ (f : FilterId) (ts : List Expr) (i : ℕ) (t : Expr) (lt : i < length t
     row_right e =
         let q : suc (i + 1) ≡ i + 1 + 1 = omega arith in
         found_there true e ∙ ap (λ k. row_well f k (exprs_view (drop (i + 1) ts))) q
-
-pub pair_turn : (f : FilterId) (ps : List Entry) (i : ℕ) (p : Entry) → i < length ps → p ≡ get_or ps i p
-    → pairs_well f (pairs_view (drop i ps)) ≡ (argument_well (option_and_then (named_at f) (place_of f (string_bytes p.0))) (literal_text (expr_view p.1)) 1 && pairs_well f (pairs_view (drop (i + 1) ps)))
-pair_turn f ps i p lt is = search (arith, rules, drop_more, string_bytes)

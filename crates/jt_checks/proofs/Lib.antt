@@ -1,6 +1,5 @@
 pub mod Bound
 pub mod Counted
-pub mod Fields
 pub mod Filled
 pub mod Filtered
 pub mod Fits

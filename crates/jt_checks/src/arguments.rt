@@ -139,12 +139,7 @@ pub(crate) fn test_broken(name: &str, row: &[Expr], pairs: &[(String, Expr)]) ->
 fn is_given(parameter: &Parameter, names: &[&str]) -> bool
     ensures { result ≡ among (parameter_view parameter.now).name (texts names.now) }
 {
-    for name in names {
-        if *name == parameter.name.as_str() {
-            return true;
-        }
-    }
-    false
+    names.iter().any(|name| *name == parameter.name.as_str())
 }
 
 /// How many of the parameters come before the last one that is given by name, with it.
@@ -167,12 +162,7 @@ fn is_filled(parameters: &[Parameter], names: &[&str]) -> bool
     ensures { result ≡ rules.is_filled (parameters_view parameters.now) 0 (texts names.now) }
 {
     let counted = &parameters[..reached(parameters, names)];
-    for parameter in counted {
-        if !is_given(parameter, names) && parameter.default.is_none() {
-            return false;
-        }
-    }
-    true
+    counted.iter().all(|parameter| is_given(parameter, names) || parameter.default.is_some())
 }
 
 /// What the arguments of a filter break.

@@ -6,7 +6,6 @@ ghost use Rattle.jt_trees.specs.Expressions as trees;
 ghost use Rattle.jt_trees.specs.ExpressionView.{expr_view, exprs_view, pairs_view};
 ghost use Rattle.jt_chains.specs.Chain.{callee, Home, named_form, named_alone, named_in, in_library};
 ghost use Rattle.jt_trees.specs.Expressions.{Text};
-ghost use Rattle.jt_evaluation.specs.Loops.{field_named};
 ghost use Rattle.jt_rules.specs.Walk as rules;
 ghost use Rattle.jt_rules.specs.World.{World};
 ghost use Rattle.jt_trees.specs.Texts.{texts};
@@ -16,6 +15,7 @@ ghost use Rattle.jt_rules.specs.declared.error.ScopeError.TheVariants as error;
 
 use crate::arguments::{filter_broken, fits, range_broken, refused, test_broken, unless};
 use crate::scope::{Known, Scope, Within};
+use jt_ids::LoopField;
 use jt_names::is_loop_name;
 use jt_rules::ScopeError;
 use jt_trees::Expr;
@@ -49,24 +49,6 @@ pub(crate) fn all_used(scope: &Scope<'_>, names: &[&str]) -> Option<ScopeError>
         }
     }
     None
-}
-
-/// Whether `loop` has a field of this name.
-fn is_field(name: &str) -> bool
-    ensures { result ≡ is_some (field_named name.now) }
-{
-    matches!(
-        name,
-        "index"
-            | "index0"
-            | "revindex"
-            | "revindex0"
-            | "first"
-            | "last"
-            | "length"
-            | "previtem"
-            | "nextitem"
-    )
 }
 
 /// What a call of `range` or `super` breaks by itself; no other name can be called.
@@ -403,7 +385,7 @@ fn attribute_broken(
         (expr_view value.now) field.now)) }
 {
     if is_loop_name(value) {
-        let right = within.in_loop && is_field(field);
+        let right = within.in_loop && LoopField::by_name(field).is_some();
         return Ok(refused(!right, ScopeError::LoopOutside));
     }
     broken(scope, within, value)

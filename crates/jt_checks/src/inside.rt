@@ -17,10 +17,7 @@ use jt_trees::{Expr, literal_text};
 fn is_filter_called(name: &str, values: usize) -> bool
     ensures { result ≡ inside.filter_called (filter_of_name name.now) values }
 {
-    match FilterId::named(name, None) {
-        Some(filter) => filter.may_be_inner() && filter.takes(values),
-        None => true,
-    }
+    FilterId::named(name, None).is_none_or(|filter| filter.may_be_inner() && filter.takes(values))
 }
 
 /// Whether the test of a name takes so many values; one that there is not is the parser's matter.
@@ -28,10 +25,7 @@ fn is_filter_called(name: &str, values: usize) -> bool
 fn is_test_called(name: &str, values: usize) -> bool
     ensures { result ≡ inside.test_called (test_named name.now) values }
 {
-    match test_of(name) {
-        Some(test) => test.takes(values),
-        None => true,
-    }
+    test_of(name).is_none_or(|test| test.takes(values))
 }
 
 /// Whether what is named may be called with so many values, the item among them.
@@ -52,10 +46,7 @@ fn is_argument_well(naming: Option<Naming>, argument: &Expr, values: usize) -> b
     let Some(naming) = naming else {
         return true;
     };
-    match literal_text(argument) {
-        Some(name) => is_called_well(naming, name, values),
-        None => false,
-    }
+    literal_text(argument).is_some_and(|name| is_called_well(naming, name, values))
 }
 
 /// Whether each argument by place names rightly what it names, called on the item and the arguments
@@ -81,16 +72,10 @@ fn naming_of(filter: FilterId, name: &str) -> Option<Naming>
 }
 
 /// Whether each argument by name names rightly what it names, called on the item alone.
-#[tactic(auto, using(crate::proofs::Inner::pair_turn))]
 fn are_pairs_well(filter: FilterId, pairs: &[(String, Expr)]) -> bool
     ensures { result ≡ inside.pairs_well filter (pairs_view pairs.now) }
 {
-    for (name, value) in pairs {
-        if !is_argument_well(naming_of(filter, name), value, 1) {
-            return false;
-        }
-    }
-    true
+    pairs.iter().all(|(name, value)| is_argument_well(naming_of(filter, name), value, 1))
 }
 
 /// Whether what the arguments of a filter name is named rightly.

@@ -81,10 +81,7 @@ impl<'a> Scope<'a> {
     pub(crate) fn known(&self, name: &str) -> Option<Known<'a>>
         ensures { option_map known_view result ≡ known_of (given_to name.now (its_given self.now)) }
     {
-        match self.names.get(name) {
-            Some(known) => Some(*known),
-            None => None,
-        }
+        self.names.get(name).copied()
     }
 
     /// Whether a block has the name.

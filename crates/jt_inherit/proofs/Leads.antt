@@ -1,11 +1,10 @@
 -- Ways that go on, and what is known of them.
-use Rattle.std.proofs.Common.{◌≡◌, ℕ, zero, suc, ◌+◌, ◌-◌, ◌<◌, ◌≤◌, ◌==◌, Bool, true, false, not, ◌&&◌, ◌||◌, List, [], ◌∷◌, ◌++◌, length, map, drop, get_or, refl, sym, ap, subst, ◌∙◌, arith, inl, inr, ◌⊎◌, ⊎_elim, Option, Some, None, length-append, string_bytes, rules}
+use Rattle.std.proofs.Common.{◌≡◌, ℕ, zero, suc, ◌+◌, ◌-◌, ◌<◌, ◌≤◌, ◌==◌, Bool, true, false, not, ◌&&◌, List, [], ◌∷◌, ◌++◌, length, map, get_or, refl, sym, ap, subst, ◌∙◌, arith, inl, inr, ◌⊎◌, ⊎_elim, Option, Some, None, length-append, string_bytes, rules}
 use Rattle.std.specs.Prelude.{flat_map, slice_get}
 use Rattle.std.specs.Option.{option_to_list}
 use Rattle.std.proofs.lemmas.Option.{slice_get_within, slice_get-get_or}
 use Rattle.std.specs.List.{AllByRecursion}
-use Rattle.std.specs.Str.{bytes_eq}
-use Rattle.std.proofs.lemmas.List.{append-nil, append_assoc, drop_more, length-map}
+use Rattle.std.proofs.lemmas.List.{append-nil, append_assoc, length-map}
 use Rattle.jt_scan.specs.declared.options.Options.{Options}
 use Rattle.jt_trees.specs.Texts.{among, repeated}
 use Rattle.jt_trees.specs.Expressions.{Text}
@@ -25,7 +24,7 @@ use Rattle.jt_chains.specs.Rules.{Reaches, asked, way}
 use Rattle.jt_inherit.specs.Ways.{Leads, LeadsFrom, AreKnown, IsWay, IsWithin, AddsName, Grow}
 use Rattle.jt_inherit.specs.declared.error.ChainError.{ChainError}
 use Rattle.jt_inherit.specs.declared.error.ChainError.TheVariants as error
-use Rattle.jt_chains.proofs.Placed.{only_one, map_at, place_within}
+use Rattle.jt_chains.proofs.Placed.{only_one, map_at}
 use Rattle.jt_inherit.proofs.Among.{all_more, map_more, of_texts}
 use Rattle.jt_inherit.proofs.Members.{among_front, among_next, comes_again, once_more}
 
@@ -304,7 +303,3 @@ module _ (ps qs : List Page) (more : Grow ps qs) (is : List ℕ) {js : List ℕ}
 
 pub grow_on : (ps qs rs : List Page) → Grow ps qs → Grow qs rs → Grow ps rs
 grow_on ps qs rs p q = (p.0 ++ q.0, q.1 ∙ ap (λ l. l ++ q.0) p.1 ∙ append_assoc (pages_view ps) p.0 q.0)
-
-pub on_way_turn : (ps : List Page) (is : List ℕ) (k : ℕ) (p : Page) (x : Text) → k < length is → ArePlaces (pages_view ps) is → p ≡ get_or ps (get_or is k 0) p
-    → among x (names (templates_at (pages_view ps) (drop k is))) ≡ (bytes_eq (string_bytes p.name) x || among x (names (templates_at (pages_view ps) (drop (k + 1) is))))
-on_way_turn ps is k p x lt a at = search (arith, rules, get_or, place_within, drop_more, map_at)

@@ -1,5 +1,6 @@
 pub mod Alone
 pub mod Among
+pub mod AtPlaces
 pub mod Carried
 pub mod Checked
 pub mod Cuts

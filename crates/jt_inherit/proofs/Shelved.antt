@@ -1,22 +1,21 @@
 -- The library of a name among the templates that were read: its macros, and what is asked of it.
-use Rattle.std.proofs.Common.{◌≡◌, ℕ, ◌+◌, ◌<◌, length, drop, get_or, arith, string_bytes, Bool, true, false, ◌&&◌, ◌||◌, if◌then◌else◌, List, [], ◌∷◌, ◌++◌, refl, sym, ap, ◌∙◌, Option, Some, None, rules}
+use Rattle.std.proofs.Common.{◌≡◌, ℕ, ◌<◌, length, get_or, arith, string_bytes, Bool, true, false, ◌&&◌, ◌||◌, if◌then◌else◌, List, [], ◌∷◌, ◌++◌, refl, sym, ap, ◌∙◌, Option, Some, None, rules}
 use Rattle.std.specs.Prelude.{slice_get, flat_map}
 use Rattle.std.specs.Option.{is_some, is_none}
-use Rattle.std.proofs.lemmas.List.{drop_more, length-map, append-nil}
+use Rattle.std.proofs.lemmas.List.{length-map, append-nil}
 use Rattle.std.proofs.lemmas.Option.{slice_get_within}
 use Rattle.jt_trees.specs.Expressions.{Text}
 use Rattle.jt_trees.specs.Statements.{Body}
 use Rattle.jt_trees.specs.StatementView.{body_of}
 use Rattle.jt_trees.specs.Texts.{among, repeated}
-use Rattle.jt_chains.specs.Along.{ArePlaces, templates_at}
 use Rattle.jt_chains.specs.Tables.{library_macros}
 use Rattle.jt_chains.specs.Chain.{Sources, a_library, Template, library_template, holds_macros, is_a_library, MacroBody, macros, macros_in, public_macro, sources_in}
 use Rattle.jt_chains.specs.Pages.{page_view, pages_view}
-use Rattle.jt_chains.specs.Rules.{lacks_one, lacks_macros}
+use Rattle.jt_chains.specs.Rules.{lacks_one}
 use Rattle.jt_chains.specs.declared.pages.Page.{Page}
-use Rattle.jt_chains.proofs.Placed.{map_at, only_one, place_within}
+use Rattle.jt_chains.proofs.Placed.{map_at, only_one}
 use Rattle.jt_inherit.specs.Given.{macros_held}
-use Rattle.jt_inherit.specs.Kept.{any_lacks_macros, has_not, names_from}
+use Rattle.jt_inherit.specs.Kept.{has_not, names_from}
 use Rattle.jt_inherit.proofs.Finding.{some_source}
 use Rattle.jt_inherit.proofs.Leads.{names, length_names, name_of_slice}
 use Rattle.jt_inherit.specs.Ways.{AreNamed}
@@ -85,8 +84,3 @@ library_lacks s n [] e = refl
 library_lacks s n (x ∷ xs) e =
     let none = is_none (public_macro x.0 (macros s (a_library n))) in
     ap (λ b. (b && none) || lacks_one s n xs) e ∙ ap (λ b. none || b) (library_lacks s n xs e)
-
--- a template of some asks for a macro that a library lacks
-pub lacking_turn : (s : Sources) (ps : List Page) (is : List ℕ) (k : ℕ) (p : Page) → k < length is → ArePlaces (pages_view ps) is → p ≡ get_or ps (get_or is k 0) p
-    → any_lacks_macros s (templates_at (pages_view ps) (drop k is)) ≡ (lacks_macros s (body_of p.template) || any_lacks_macros s (templates_at (pages_view ps) (drop (k + 1) is)))
-lacking_turn s ps is k p lt a at = search (arith, rules, get_or, place_within, drop_more, map_at)

@@ -29,12 +29,7 @@ fn library_page<'a>(shelf: Shelf<'a>, library: &str) -> Option<&'a Page>
 fn has_not(page: &Page, names: &[(String, String)]) -> bool
     ensures { result ≡ spec.has_not (macros_held page.now) (given_view names.now) }
 {
-    for (name, _given) in names {
-        if !page.gives(name) {
-            return true;
-        }
-    }
-    false
+    names.iter().any(|(name, _)| !page.gives(name))
 }
 
 /// Whether `from` asks for a macro that the library lacks.
@@ -73,12 +68,7 @@ pub(crate) fn any_lacks_macros(shelf: Shelf<'_>, places: &[usize]) -> bool
     ensures { result ≡ spec.any_lacks_macros (its_sources shelf.entry)
         (its_templates shelf.entry places.now) }
 {
-    for place in places {
-        if lacks_macros(shelf, shelf.pages[*place].template.body()) {
-            return true;
-        }
-    }
-    false
+    places.iter().any(|place| lacks_macros(shelf, shelf.pages[*place].template.body()))
 }
 
 /// Adds the names that `from` gives to macros that the library has.

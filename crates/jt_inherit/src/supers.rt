@@ -92,22 +92,14 @@ fn any_super_pair(pairs: &[(String, Expr)]) -> bool
 fn condition_super(condition: &Option<Expr>) -> bool
     ensures { result ≡ spec.condition_super (option_map expr_view condition.now) }
 {
-    match condition {
-        Some(expr) => has_super(expr),
-        None => false,
-    }
+    condition.as_ref().is_some_and(has_super)
 }
 
 /// Whether it is called in an argument of one of the filters.
 fn filters_super(filters: &[Filtering]) -> bool
     ensures { result ≡ spec.filtering_super (filterings_view filters.now) }
 {
-    for filter in filters {
-        if any_super(&filter.arguments) || any_super_pair(&filter.keywords) {
-            return true;
-        }
-    }
-    false
+    filters.iter().any(|filter| any_super(&filter.arguments) || any_super_pair(&filter.keywords))
 }
 
 /// Whether statements call `super()`, inner blocks apart.

@@ -26,12 +26,7 @@ fn is_on_way(pages: &[Page], way: &[usize], name: &str) -> bool
     ensures { result
         ≡ among name.now (map (λ t. t.name) (templates_at (pages_view pages.now) way.now)) }
 {
-    for place in way {
-        if pages[*place].name.as_str() == name {
-            return true;
-        }
-    }
-    false
+    way.iter().any(|place| pages[*place].name.as_str() == name)
 }
 
 /// The name of the template that a template extends.

@@ -1,31 +1,25 @@
-use Rattle.std.proofs.Common.{◌≡◌, true, ◌||◌, ◌+◌, drop, get_or, sym, ap, ◌∙◌}
+use Rattle.std.proofs.Common.{true, false, ◌||◌, refl, ◌∙◌, arith, rules, tests}
+use Rattle.std.specs.List.{list_any}
 use Rattle.std.specs.Str.{bytes_eq}
-use Rattle.std.specs.Prelude.{string_bytes}
+use Rattle.std.proofs.lemmas.Iterator.{YieldsList-from_slice, cases_from_any}
+use Rattle.std.proofs.lemmas.Iterator.Adapters.{serves_from_places}
+use Rattle.std.proofs.lemmas.List.Recursion.{same_from_clauses}
 use Rattle.jt_trees.specs.Texts.{among}
-use Rattle.jt_trees.specs.Expressions.{Text}
 use Rattle.jt_chains.specs.Along.{templates_at}
+use Rattle.jt_chains.specs.Chain.{Template}
 use Rattle.jt_chains.specs.Pages.{pages_view}
-use Rattle.jt_inherit.proofs.Leads.{names, on_way_turn}
+use Rattle.jt_inherit.proofs.AtPlaces.{Tells, any_at, passes_at, place_at}
+use Rattle.jt_inherit.proofs.Leads.{names}
 use Rattle.jt_inherit.proofs.way.is_on_way.Goals as goal
 
-pub returns-then-eq : goal.returns-then-eq
-returns-then-eq c =
-    let ps = c.args.pages.now in
-    let is = c.args.way.now in
-    let k = c.loop-place.place-index in
-    let x = c.args.name.now in
-    let i = get_or is k 0 in
-    let p = get_or ps i c.index-pages-place.result in
-    let e : bytes_eq (string_bytes p.name) x ≡ true = ap (λ (z : Text). bytes_eq z x) (sym c.as_str.ensures.value) ∙ sym c.eq.ensures ∙ c.if-eq.true in
-    sym (c.loop-place.invariant ∙ on_way_turn ps is k p x c.loop-place-test.true c.requires (ap (λ d. get_or ps i d) c.index-pages-place.is) ∙ ap (λ b. b || among x (names (templates_at (pages_view ps) (drop (k + 1) is)))) e)
+pub any-requires-clause-callable : goal.any-requires-clause-callable
+any-requires-clause-callable c =
+    serves_from_places (YieldsList-from_slice c.args.way.now cc) (λ x q k. search (rules, tests)) (λ x k lt at. omega (arith, place_at c.args.pages.now c.args.way.now k x.now lt c.requires at))
 
-pub loop-place-preserved : goal.loop-place-preserved
-loop-place-preserved c =
+pub returns : goal.returns
+returns c =
     let ps = c.args.pages.now in
-    let is = c.args.way.now in
-    let k = c.loop-place.place-index in
-    let x = c.args.name.now in
-    let i = get_or is k 0 in
-    let p = get_or ps i c.index-pages-place.result in
-    let e = ap (λ (z : Text). bytes_eq z x) (sym c.as_str.ensures.value) ∙ sym c.eq.ensures ∙ c.if-eq.false in
-    c.loop-place.invariant ∙ on_way_turn ps is k p x c.loop-place-test.true c.requires (ap (λ d. get_or ps i d) c.index-pages-place.is) ∙ ap (λ b. b || among x (names (templates_at (pages_view ps) (drop (k + 1) is)))) e
+    let named = λ (t : Template). bytes_eq t.name c.args.name.now in
+    any_at named ps c.args.way.now c.any.result c.requires
+    (cases_from_any _ _ _ (Tells named ps true) (Tells named ps false) c.any.ensures.ran (YieldsList-from_slice c.args.way.now cc) (λ x q k lt. search (rules, tests, passes_at named ps)) (λ x q k. search (rules, tests, passes_at named ps)))
+    ∙ same_from_clauses (list_any named) (λ ts. among c.args.name.now (names ts)) (λ t b. named t || b) refl (λ _ _. refl) (λ _ _. refl) (templates_at (pages_view ps) c.args.way.now)

@@ -17,7 +17,7 @@ use Rattle.jt_chains.specs.Uses.{count, keywords}
 use Rattle.jt_meaning.specs.Operators.{Form, range_of}
 use Rattle.jt_meaning.specs.Resolve.{operation_of, turned_round, in_form, field_from, filled, filled_some, tested_by, locals_from, invoked}
 use Rattle.jt_meaning.specs.Expressions.{filter_parameters}
-use Rattle.jt_evaluation.specs.Loops.{field_named}
+use Rattle.jt_ids.specs.LoopTable.{field_named}
 use Rattle.jt_resolved.specs.Pool.{Constant, own}
 use Rattle.jt_resolved.specs.Slots as slots
 use Rattle.jt_resolved.specs.Slots.{invoke}

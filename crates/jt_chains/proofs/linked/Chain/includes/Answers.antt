@@ -1,5 +1,5 @@
 use borrow.Author.Tests.{ltb-true}
-use Rattle.std.proofs.Common.{◌≡◌, ◌<◌, length, get_or, subst, List, Vec, Global, sym, ap, ◌∙◌}
+use Rattle.std.proofs.Common.{◌≡◌, ◌<◌, length, get_or, subst, List, Vec, Global, sym, ◌∙◌}
 use Rattle.std.proofs.lemmas.Result.{IfOk-weaker}
 use Rattle.jt_chains.specs.Along.{along}
 use Rattle.jt_chains.specs.Includes.{includes_in}
@@ -9,7 +9,6 @@ use Rattle.jt_trees.specs.Statements.{Body}
 use Rattle.jt_chains.specs.Pages.{pages_view}
 use Rattle.jt_chains.specs.declared.includes.Include.{Include}
 use Rattle.jt_chains.specs.declared.linked.Home.{Home}
-use Rattle.jt_chains.specs.declared.pages.Page.{Page}
 use Rattle.jt_chains.proofs.Placed.{home_along}
 use Rattle.jt_chains.proofs.linked.Chain.includes.Goals as goal
 
