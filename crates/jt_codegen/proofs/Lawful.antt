@@ -20,7 +20,8 @@ use Rattle.jt_chains.specs.Uses.{count, keywords, set_in, own_names}
 use Rattle.jt_chains.specs.Includes.{included, InOrder}
 use Rattle.jt_trees.specs.Statements.{Parameter, Filtering, Stmt, data_of, print, choose, for_each, set, set_block, with_values, filter_block, autoescape, include, block, Body, end, stmt, Branches, no_branches, branch}
 use Rattle.jt_chains.specs.Chain.{Home, a_chain, a_library, same_home, listed, Template, templates, BlockBody, MacroBody, macros, macro_of, given, Callee, a_macro, callee, is_loop}
-use Rattle.jt_evaluation.specs.Loops.{Field, field_named}
+use Rattle.jt_ids.specs.declared.loop_field.LoopField.{LoopField}
+use Rattle.jt_ids.specs.LoopTable.{field_named}
 use Rattle.jt_evaluation.specs.Filters.{default_value, some_given}
 use Rattle.jt_trees.specs.Texts.{among, ascending}
 use Rattle.jt_rules.specs.World.{World}
@@ -96,7 +97,7 @@ module _ (front globals_count : ℕ) (some : 0 < front) where
   bound_fine [] m t g = g
   bound_fine (x ∷ xs) m t g = bound_fine xs (suc m) ((x, local m) ∷ t) (tt, g)
 
-  field_fine : (f : Option Field) → E (field_from f)
+  field_fine : (f : Option LoopField) → E (field_from f)
   field_fine None = tt
   field_fine (Some f) = tt
 

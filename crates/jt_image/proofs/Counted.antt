@@ -13,7 +13,7 @@ use Rattle.jt_image.specs.declared.places.Places.{Places}
 use Rattle.jt_image.specs.declared.instruction.Instruction.{Instruction}
 use Rattle.jt_image.specs.Code.{Constant, undefined, Section, Code}
 use Rattle.jt_image.specs.Places.{place_of, place_at}
-use Rattle.jt_image.specs.Readers.{instruction_at, place_there, ConstantPlace, IsUnitAt}
+use Rattle.jt_image.specs.Readers.{instruction_at, place_there, ConstantPlace, UnitStart, IsUnitAt}
 use Rattle.jt_image.specs.Spelling.{constant_bytes, instruction_bytes}
 use Rattle.jt_image.specs.IsCode.{IsConstant, total_len}
 use Rattle.jt_image.specs.Reading as reading
@@ -131,7 +131,7 @@ module _ (bytes : List ℕ) (p : Places) (fits : IsBytes bytes) (h : Spells byte
         stands = ap (drop at) (sym h.spelled) ∙ taken.1;
       }
 
-  pub unit_stands : (u : ℕ) (q : UnitPlace) → slice_get p.units.items u ≡ Some q → IsUnitAt (code_in bytes p) u q.start
+  unit_stands : (u : ℕ) (q : UnitPlace) → slice_get p.units.items u ≡ Some q → IsUnitAt (code_in bytes p) u q.start
   unit_stands u q e =
       let code = drop q.start bytes in
       let here = has_unit bytes p.units.items u q h.there.units e in
@@ -143,8 +143,6 @@ module _ (bytes : List ℕ) (p : Places) (fits : IsBytes bytes) (h : Spells byte
         stands = ap (drop q.start) (sym h.spelled) ∙ taken.1;
       }
 
-  pub start_stands : (u : ℕ) (q : UnitPlace) (at : ℕ) → slice_get p.units.items u ≡ Some q → at ≡ q.start → IsUnitAt (code_in bytes p) u at
-  start_stands u q at e f = subst (λ (n : ℕ). IsUnitAt (code_in bytes p) u n) (sym f) (unit_stands u q e)
-
-  pub unit_outside : (u : ℕ) → slice_get p.units.items u ≡ None → slice_get (code_in bytes p).units u ≡ None
-  unit_outside u e = units_of bytes p.units.items u ∙ ap (option_map (section_in bytes)) e
+  pub start_stands : (u : ℕ) (o : Option UnitPlace) → o ≡ slice_get p.units.items u → UnitStart (code_in bytes p) u (option_map (λ q. q.start) o)
+  start_stands u None e = units_of bytes p.units.items u ∙ ap (option_map (section_in bytes)) (sym e)
+  start_stands u (Some q) e = unit_stands u q (sym e)

@@ -8,7 +8,7 @@ use Rattle.jt_value.specs.declared.fault.Fault.{Fault}
 use Rattle.jt_value.specs.declared.fault.Fault.TheVariants as faults
 use Rattle.jt_image.specs.declared.instruction.Instruction.{Instruction}
 use Rattle.jt_image.specs.declared.instruction.Instruction.TheVariants as op
-use Rattle.jt_image.specs.declared.loop_field.LoopField.TheVariants as field
+use Rattle.jt_ids.specs.declared.loop_field.LoopField.TheVariants as field
 use Rattle.jt_image.specs.declared.kind.Kind.TheVariants as kind
 use Rattle.jt_image.specs.declared.kind.Flaw.TheVariants as flaw
 use Rattle.jt_image.specs.declared.version.Version.TheVariants as version
@@ -18,7 +18,8 @@ use Rattle.jt_image.specs.Ids.{operator_of}
 use Rattle.jt_image.specs.Effect.{effect_at}
 use Rattle.jt_image.specs.Config as config
 use Rattle.jt_image.specs.Config.{Budget, Frame}
-use Rattle.jt_image.specs.Loops.{field_of, told}
+use Rattle.jt_ids.specs.LoopTable.{field_of}
+use Rattle.jt_image.specs.Loops.{told}
 use Rattle.jt_image.specs.Step.{cost, pushing_all}
 use Rattle.jt_image.specs.Run.{Next, Ends, Wrong, start, after}
 

@@ -19,7 +19,8 @@ use Rattle.jt_image.specs.Places.{place_at}
 use Rattle.jt_image.specs.Effect as effect
 use Rattle.jt_image.specs.Effect.{Shape, Leads, require, pops, pops_many, pops_frame, pops_capture, pushes, gives, calls, goes_on, jumps, branches, may_return, effect, effect_of}
 use Rattle.jt_image.specs.Typed.{Shapes, Equal, HasSame, IsTypedBy, IsTyped}
-use Rattle.jt_image.specs.Loops.{trees_of, loop_over, keeping, field_of}
+use Rattle.jt_ids.specs.LoopTable.{field_of}
+use Rattle.jt_image.specs.Loops.{trees_of, loop_over, keeping}
 use Rattle.jt_image.specs.Config as config
 use Rattle.jt_image.specs.Config.{Budget, Frame, Entry, value, frame, capture, kind_of, State, Caller, Machine, Config}
 use Rattle.jt_image.specs.Step as step

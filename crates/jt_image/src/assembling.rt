@@ -46,12 +46,7 @@ fn are_known(units: &[Unit]) -> bool
     ensures seen { IsTrue result → each_of section_of_unit units.now ≡ Some (units_view units.now) }
     ensures unknown { result ≡ false → each_of section_of_unit units.now ≡ None }
 {
-    'units: for unit in units {
-        if !is_known(unit) {
-            return false;
-        }
-    }
-    true
+    units.iter().all(|unit| is_known(unit))
 }
 
 // how many instructions all units have, unless they are too many
@@ -136,34 +131,19 @@ fn places_len(parts: &Parts) -> usize
 fn texts_fit(names: &[(u16, String)]) -> bool
     ensures { IsTrue result ↔ FitNames (names_view names.now) }
 {
-    'names: for name in names {
-        if name.1.len() > MAX_COUNT {
-            return false;
-        }
-    }
-    true
+    names.iter().all(|name| name.1.len() <= MAX_COUNT)
 }
 
 fn templates_fit(templates: &[String]) -> bool
     ensures { IsTrue result ↔ FitTexts (texts_view templates.now) }
 {
-    'templates: for template in templates {
-        if template.len() > MAX_COUNT {
-            return false;
-        }
-    }
-    true
+    templates.iter().all(|template| template.len() <= MAX_COUNT)
 }
 
 fn locals_fit(units: &[Unit]) -> bool
     ensures { IsTrue result ↔ FitLocals (units_view units.now) }
 {
-    'units: for unit in units {
-        if unit.locals > MAX_LOCALS {
-            return false;
-        }
-    }
-    true
+    units.iter().all(|unit| unit.locals <= MAX_LOCALS)
 }
 
 // whether the image is small enough: the numbers of a unit take eight bytes, and so does an
@@ -218,12 +198,7 @@ fn starts(units: &[Unit]) -> bool
 fn units_are_in_order(units: &[Unit]) -> bool
     ensures { IsTrue result ↔ AllByRecursion IsUnitInOrder (units_view units.now) }
 {
-    'units: for unit in units {
-        if unit.kind > 1 || u16::from(unit.parameters) > unit.locals {
-            return false;
-        }
-    }
-    true
+    units.iter().all(|unit| unit.kind <= 1 && u16::from(unit.parameters) <= unit.locals)
 }
 
 fn last_text(texts: &[String]) -> Option<&str>
@@ -256,12 +231,7 @@ fn is_spot(templates: usize, spot: Spot) -> bool
 fn spots_are_in_order(templates: usize, spots: &[Spot]) -> bool
     ensures { IsTrue result ↔ AllByRecursion (IsSpot templates) (spots_view spots.now) }
 {
-    'spots: for spot in spots {
-        if !is_spot(templates, *spot) {
-            return false;
-        }
-    }
-    true
+    spots.iter().all(|spot| is_spot(templates, *spot))
 }
 
 // whether the version may have these places

@@ -194,20 +194,14 @@ pub(crate) fn constant_start(_bytes: &[u8], places: &Places, index: usize) -> Op
     requires { Spells _bytes.now places.now }
     ensures { ConstantPlace (code_in _bytes.now places.now) index result }
 {
-    match places.constant_at(index) {
-        Some(at) => Some(at as usize),
-        None => None,
-    }
+    places.constant_at(index).map(|at| at as usize)
 }
 
 pub(crate) fn unit_start(_bytes: &[u8], places: &Places, unit: usize) -> Option<usize>
     requires { Spells _bytes.now places.now }
     ensures { UnitStart (code_in _bytes.now places.now) unit result }
 {
-    match places.unit_at(unit) {
-        Some(place) => Some(place.start as usize),
-        None => None,
-    }
+    places.unit_at(unit).map(|place| place.start as usize)
 }
 
 /// The bytes of an image with the places of its parts, lent by an image or a view. Contracts see

@@ -80,9 +80,6 @@ pub fn upgrade(alloc: Global, image: Image) -> Result<Image, (Image, ImageError)
 {
     match image.version() {
         Version::Two => Ok(image),
-        Version::One => match unplaced(alloc, &image) {
-            Ok(upgraded) => Ok(upgraded),
-            Err(error) => Err((image, error)),
-        },
+        Version::One => unplaced(alloc, &image).map_err(|error| (image, error)),
     }
 }

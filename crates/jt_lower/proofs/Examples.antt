@@ -8,13 +8,13 @@ use Rattle.jt_value.specs.View.{items_of}
 use Rattle.jt_value.specs.declared.fault.Fault.TheVariants as faults
 use Rattle.jt_ids.specs.declared.op_id.OpId.TheVariants as o
 use Rattle.jt_image.specs.Ids.{operator_of, filter_of}
-use Rattle.jt_image.specs.Loops.{field_of}
+use Rattle.jt_ids.specs.LoopTable.{field_of}
 use Rattle.jt_image.specs.FreeRun.{Finished, Failed, exec, start_machine}
 use Rattle.jt_value.specs.Place.{Place}
 use Rattle.jt_evaluation.specs.Got.{gives, fails, deeper}
 use Rattle.jt_trees.specs.Expressions.{Text}
 use Rattle.jt_evaluation.specs.TheFilters.{the_filters}
-use Rattle.jt_evaluation.specs.Loops as loops
+use Rattle.jt_ids.specs.declared.loop_field.LoopField.TheVariants as of_loop
 use Rattle.jt_resolved.specs.Slots.{local, global, operator, filter, SlotExpr, pooled, variable, field, made, invoke, none, item, aside, several, SBody, put_pooled, print, if_else, for_each, capture, run, end, stmt, Routine, Program, smean}
 use Rattle.jt_lower.specs.Lower.{compiled}
 use Rattle.jt_lower.specs.Fits.{TakesRow, RoutineFits, IsPooled, ProgramFits}
@@ -29,7 +29,7 @@ here i = variable (local i)
 -- {{ m(z=t) }}, of a macro that calls itself with what its argument lacks
 abbrev page : SBody ℕ
 page =
-    stmt (for_each (tag 1) (several (Some (local 0) ∷ Some (local 1) ∷ [])) (variable (global 0)) (Some (here 0)) (stmt (print (tag 2) true (field loops.last)) (stmt (put_pooled 1) (stmt (print (tag 2) true (here 1)) end))) (stmt (put_pooled 2) end))
+    stmt (for_each (tag 1) (several (Some (local 0) ∷ Some (local 1) ∷ [])) (variable (global 0)) (Some (here 0)) (stmt (print (tag 2) true (field of_loop.Last)) (stmt (put_pooled 1) (stmt (print (tag 2) true (here 1)) end))) (stmt (put_pooled 2) end))
     (stmt (capture true (local 2) (stmt (print (tag 3) true (variable (global 1))) end))
     (stmt (run 1 (item (here 2) none))
     (stmt (print (tag 4) true (invoke 2 true (aside 3 (here 2) (item (pooled 3) (item (here 3) none))))) end)))

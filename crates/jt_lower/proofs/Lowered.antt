@@ -12,10 +12,11 @@ use Rattle.jt_value.specs.declared.fault.Fault.{Fault}
 use Rattle.jt_value.specs.declared.fault.Fault.TheVariants as faults
 use Rattle.jt_escape.specs.Escaping.{escaped}
 use Rattle.jt_image.specs.declared.instruction.Instruction.TheVariants as op
-use Rattle.jt_image.specs.declared.loop_field.LoopField.TheVariants as of_loop
+use Rattle.jt_ids.specs.declared.loop_field.LoopField.TheVariants as of_loop
 use Rattle.jt_image.specs.Code.{Code}
 use Rattle.jt_image.specs.Config.{Frame, Entry, value, frame, capture, State}
-use Rattle.jt_image.specs.Loops.{trees_of, loop_over, item_at, field_of, field_id, told}
+use Rattle.jt_ids.specs.LoopTable.{field_of, field_id}
+use Rattle.jt_image.specs.Loops.{trees_of, loop_over, item_at, told}
 use Rattle.jt_image.specs.Step as step
 use Rattle.jt_image.specs.Ids.{operator_of, operands_of, filter_of, test_of}
 use Rattle.jt_image.specs.Step.{broken, goes, plain, as_frame, on_values, push_given, told_by, piled, spreads, unpacks, begins, makes, operated, filtered_by, tested_by, with_entries, put_printed, constant_value, text_of}
@@ -23,19 +24,20 @@ use Rattle.jt_ids.specs.declared.op_id.OpId.{OpId}
 use Rattle.jt_ids.specs.declared.test_id.TestId.{TestId}
 use Rattle.jt_ids.specs.OpTable.{op_id, op_operands}
 use Rattle.jt_ids.specs.TestTable.{test_id}
-use Rattle.jt_ops.specs.Making.{listed, mapped}
+use Rattle.jt_op_meaning.specs.Making.{listed, mapped}
 use Rattle.jt_resolved.specs.Takes.{InPairs}
 use Rattle.jt_value.specs.Place.{Place}
 use Rattle.jt_evaluation.specs.Got.{Got, gives, fails, deeper, bind, checked, at}
 use Rattle.jt_evaluation.specs.Values.{shown, shown_text, bytes_of, as_value}
 use Rattle.jt_trees.specs.Expressions.{Text}
 use Rattle.jt_evaluation.specs.TheFilters.{the_filters}
-use Rattle.jt_evaluation.specs.Loops.{Field, Loop, result_listed, items_of_value, tree_at}
+use Rattle.jt_ids.specs.declared.loop_field.LoopField.{LoopField}
+use Rattle.jt_evaluation.specs.Loops.{Loop, result_listed, items_of_value, tree_at}
 use Rattle.jt_resolved.specs.Slots as slots
 use Rattle.jt_resolved.specs.Slots.{Slot, local, global, Maker, SlotExpr, SRow, Targets, SlotStmt, SBody, Program, Memory, Valued, Listed, Written, SCalls, load, put_at, store, store_if, store_each, take, make, valued, sturns, sgone_over, in_front, svalue, svalues, skept, smeaning, smeanings}
 use Rattle.jt_lower.specs.Asm.{Asm, one, both, choose, when, each, invoke, Ran, does, bad, and_then, of_plain, turns, of_written, run}
 use Rattle.jt_resolved.specs.Size.{row_count}
-use Rattle.jt_lower.specs.Lower.{half, maker, told_as, flag, load_of, store_of, expr_asm, row_asm, store_if_of, stores_asm, take_asm, turn_asm, over_asm, kept_asm, stmt_asm, body_asm, unit_of, lowered}
+use Rattle.jt_lower.specs.Lower.{half, maker, flag, load_of, store_of, expr_asm, row_asm, store_if_of, stores_asm, take_asm, turn_asm, over_asm, kept_asm, stmt_asm, body_asm, unit_of, lowered}
 use Rattle.jt_lower.specs.Fits.{OfSlots, OfSome, OfTargets, MakerFits, TakesRow, SlotFits, ExprFits, RowFits, ConditionFits, StmtFits, BodyFits}
 use Rattle.jt_lower.proofs.Told.{listed_same, has_field, IsTurn, told_same}
 use Rattle.jt_lower.proofs.Does.{Does, same_run, same_meaning, then_does, then_gives, finished, carried, mapped_does, placed, either, and_then_assoc}
@@ -258,15 +260,15 @@ module _ (p : Program) (call : SCalls) (has : HasPool (lowered p) p.pool) (keep 
   abbrev RowOn : List Entry → List (List ℕ) → Listed → State
   RowOn es bs y = at_bufs (piled y.values es) bs y.memory
 
-  field_does : (x : Field) (q : Option Place) (inside : Bool) (h : ℕ) (l : Option Loop) (es : List Entry) (bs : List (List ℕ)) (out : Text) (m : Memory) → inside ≡ true → FrameAt inside h es l → Kept out m
+  field_does : (x : LoopField) (q : Option Place) (inside : Bool) (h : ℕ) (l : Option Loop) (es : List Entry) (bs : List (List ℕ)) (out : Text) (m : Memory) → inside ≡ true → FrameAt inside h es l → Kept out m
       → Does q (KeptValue out) (ValueOn es bs) (code (expr_asm q (slots.field x) h) (at_bufs es bs m)) (Means (slots.field x) l m)
   field_does x q false h l es bs out m e fr w = absurd cc
   field_does x q true h l es bs out m e fr w =
-      same_run q (KeptValue out) (ValueOn es bs) _ (of_plain q (push_given (told (told_as x) fr.0) es (at_bufs es bs m))) (Means (slots.field x) l m)
-      (ap (λ y. of_plain q (as_frame y broken (λ f. push_given (told_by (field_of (field_id (told_as x))) f) es (at_bufs es bs m)))) fr.1
-      ∙ ap (λ y. of_plain q (push_given (told_by y fr.0) es (at_bufs es bs m))) (has_field (told_as x)))
-      (same_meaning q (KeptValue out) (ValueOn es bs) _ (Means (slots.field x) l m) (bind (checked (told (told_as x) fr.0)) (valued m)) (ap (λ g. bind g (valued m)) (sym (told_same x fr.0 l fr.2)))
-      (checked_does (told (told_as x) fr.0) q es bs out m es w))
+      same_run q (KeptValue out) (ValueOn es bs) _ (of_plain q (push_given (told x fr.0) es (at_bufs es bs m))) (Means (slots.field x) l m)
+      (ap (λ y. of_plain q (as_frame y broken (λ f. push_given (told_by (field_of (field_id x)) f) es (at_bufs es bs m)))) fr.1
+      ∙ ap (λ y. of_plain q (push_given (told_by y fr.0) es (at_bufs es bs m))) (has_field x))
+      (same_meaning q (KeptValue out) (ValueOn es bs) _ (Means (slots.field x) l m) (bind (checked (told x fr.0)) (valued m)) (ap (λ g. bind g (valued m)) (sym (told_same x fr.0 l fr.2)))
+      (checked_does (told x fr.0) q es bs out m es w))
 
   load_does : (s : Slot) (q : Option Place) (es : List Entry) (bs : List (List ℕ)) (m : Memory) → code (one q (load_of s)) (at_bufs es bs m) ≡ does (at_bufs (value (load s m) ∷ es) bs m)
   load_does (local i) q es bs m = refl

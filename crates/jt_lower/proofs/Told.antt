@@ -5,15 +5,15 @@ use Rattle.std.proofs.lemmas.Bool.Decides.{nat_tests}
 use Rattle.jt_value.specs.Tree as tree
 use Rattle.jt_value.specs.Tree.{Tree, Items, no_items, item}
 use Rattle.jt_value.specs.declared.fault.Fault.TheVariants as faults
-use Rattle.jt_ops.specs.Arithmetic.{as_number}
-use Rattle.jt_image.specs.declared.loop_field.LoopField.{LoopField}
+use Rattle.jt_op_meaning.specs.Arithmetic.{as_number}
+use Rattle.jt_ids.specs.declared.loop_field.LoopField.{LoopField}
 use Rattle.jt_image.specs.Config.{Frame}
 use Rattle.jt_image.specs.Loops as image
-use Rattle.jt_image.specs.Loops.{trees_of, field_id, field_of, told}
+use Rattle.jt_ids.specs.LoopTable.{field_id, field_of}
+use Rattle.jt_image.specs.Loops.{trees_of, told}
 use Rattle.jt_evaluation.specs.Got.{checked}
 use Rattle.jt_evaluation.specs.Loops as loops
-use Rattle.jt_evaluation.specs.Loops.{Field, Loop, items_listed, field_at}
-use Rattle.jt_lower.specs.Lower.{told_as}
+use Rattle.jt_evaluation.specs.Loops.{Loop, items_listed, field_at}
 
 -- the items of a value
 pub listed_same : (ts : Items) → trees_of ts ≡ items_listed ts
@@ -51,8 +51,8 @@ pub record IsTurn (f : Frame) (l : Option Loop) : Type 0 where
   pub position : f.position ≡ suc before
   pub within : suc before ≤ length f.items
 
-told_at : (x : Field) (items : List Tree) (kept : List Tree) (b : ℕ) → suc b ≤ length items → told (told_as x) (record { items = items; position = suc b; kept = kept }) ≡ field_at x (record { items = items; before = b })
+told_at : (x : LoopField) (items : List Tree) (kept : List Tree) (b : ℕ) → suc b ≤ length items → told x (record { items = items; position = suc b; kept = kept }) ≡ field_at x (record { items = items; before = b })
 told_at x items kept b h = search (arith, rules, counted_same, less, first_same)
 
-pub told_same : (x : Field) (f : Frame) (l : Option Loop) → IsTurn f l → checked (told (told_as x) f) ≡ loops.loop_field x l
+pub told_same : (x : LoopField) (f : Frame) (l : Option Loop) → IsTurn f l → checked (told x f) ≡ loops.loop_field x l
 told_same x f l t = search (arith, rules, told_at x f.items f.kept t.before t.within)

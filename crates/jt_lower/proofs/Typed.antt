@@ -8,8 +8,8 @@ use Rattle.std.proofs.lemmas.Option.{slice_get-get_or, slice_get-map, slice_get_
 use Rattle.std.proofs.lemmas.List.{length-map}
 use Rattle.jt_image.specs.declared.instruction.Instruction.{Instruction}
 use Rattle.jt_image.specs.declared.instruction.Instruction.TheVariants as op
-use Rattle.jt_image.specs.declared.loop_field.LoopField.{LoopField}
-use Rattle.jt_image.specs.declared.loop_field.LoopField.TheVariants as of_loop
+use Rattle.jt_ids.specs.declared.loop_field.LoopField.{LoopField}
+use Rattle.jt_ids.specs.declared.loop_field.LoopField.TheVariants as of_loop
 use Rattle.jt_image.specs.declared.kind.Kind.{Kind}
 use Rattle.jt_image.specs.declared.kind.Kind.TheVariants as kind
 use Rattle.jt_image.specs.declared.kind.Flaw.TheVariants as flaw
@@ -17,14 +17,14 @@ use Rattle.jt_image.specs.declared.kind.Flaw.{Flaw}
 use Rattle.jt_image.specs.Code.{Section, Code, is_text}
 use Rattle.jt_image.specs.Effect.{Shape, Leads, require, pops_many, pushes, makes, goes_on, effect, effect_of}
 use Rattle.jt_image.specs.Ids.{filter_of, accepts}
-use Rattle.jt_image.specs.Loops.{field_id}
+use Rattle.jt_ids.specs.LoopTable.{field_id}
 use Rattle.jt_image.specs.Typed.{Equal, HasSame, IsTypedUnit, IsTyped, max_entries}
 use Rattle.jt_value.specs.Place.{Place}
 use Rattle.jt_resolved.specs.Slots as slots
 use Rattle.jt_resolved.specs.Slots.{Slot, local, global, Maker, SlotExpr, SRow, Targets, SlotStmt, SBody, Routine, Program}
 use Rattle.jt_lower.specs.Asm.{Asm, nil, one, both, choose, when, each, invoke, flat}
 use Rattle.jt_resolved.specs.Size.{row_count, expr_height, row_height, targets_height, condition_height, stmt_height, body_height}
-use Rattle.jt_lower.specs.Lower.{maker, told_as, flag, load_of, store_of, expr_asm, row_asm, store_if_of, stores_asm, take_asm, turn_asm, over_asm, kept_asm, stmt_asm, body_asm, unit_of, constant_of, lowered}
+use Rattle.jt_lower.specs.Lower.{maker, flag, load_of, store_of, expr_asm, row_asm, store_if_of, stores_asm, take_asm, turn_asm, over_asm, kept_asm, stmt_asm, body_asm, unit_of, constant_of, lowered}
 use Rattle.jt_lower.specs.Fits.{OfSlots, OfSome, OfTargets, MakerFits, TakesRow, SlotFits, ExprFits, RowFits, ConditionFits, TextFits, StmtFits, BodyFits, RoutineFits, ProgramFits}
 use Rattle.jt_lower.proofs.Told.{has_field}
 use Rattle.jt_lower.proofs.Lowered.{lt_true, eq_true, has_operator, has_test, halved}
@@ -299,7 +299,7 @@ module _ (p : Program) (count : ℕ) where
     expr_types (slots.pooled i) o inside h S f fr le = (omega arith, λ u q l room. required _ flaw.BadIndex _ (in_pool i f) ∙ goes u q (kind.Value ∷ S) room)
     expr_types (slots.variable s) o inside h S f fr le = (omega arith, loads s S f)
     expr_types (slots.field x) o false h S f fr le = absurd cc
-    expr_types (slots.field x) o true h S f fr le = (omega arith, gets (told_as x) h S fr)
+    expr_types (slots.field x) o true h S f fr le = (omega arith, gets x h S fr)
     expr_types slots.absent o inside h S f fr le = absurd f
     expr_types (slots.made x r) o inside h S f fr le =
         (pushes (row_count r) S, row_types r o inside h S f.1 fr (omega arith), (omega (arith, stack_long (row_count r) S, row_room r), maker_types x (row_count r) S f.0))

@@ -14,8 +14,8 @@ use Rattle.jt_ids.specs.FilterTable as table
 use Rattle.jt_ids.specs.FilterTable.{filter_id}
 use Rattle.jt_filter_meaning.specs.FilterIds.{filter_of, accepts}
 use Rattle.jt_image.specs.declared.instruction.Instruction.TheVariants as op
-use Rattle.jt_image.specs.declared.loop_field.LoopField.{LoopField}
-use Rattle.jt_image.specs.Loops.{field_id}
+use Rattle.jt_ids.specs.declared.loop_field.LoopField.{LoopField}
+use Rattle.jt_ids.specs.LoopTable.{field_id}
 use Rattle.jt_image.specs.Code.{Section}
 use Rattle.jt_image.specs.IsCode.{IsInstruction, total_len, max_locals, max_instructions}
 use Rattle.jt_image.specs.Parts.{KeepsLimits}
@@ -27,7 +27,7 @@ use Rattle.jt_resolved.specs.Size.{row_count, targets_height, expr_height, row_h
 use Rattle.jt_constants.specs.Merged.{moved_unit}
 use Rattle.jt_constants.proofs.Sizes.{units_len, units_room}
 use Rattle.jt_lower.specs.Asm.{Asm, nil, one, both, choose, when, each, invoke, flat}
-use Rattle.jt_lower.specs.Lower.{half, flag, maker, told_as, load_of, store_of, store_if_of, expr_asm, row_asm, stores_asm, take_asm, kept_asm, stmt_asm, body_asm, unit_of, constant_of, lowered, compiled}
+use Rattle.jt_lower.specs.Lower.{half, flag, maker, load_of, store_of, store_if_of, expr_asm, row_asm, stores_asm, take_asm, kept_asm, stmt_asm, body_asm, unit_of, constant_of, lowered, compiled}
 use Rattle.jt_lower.specs.Fits.{OfSlots, OfSome, OfTargets, MakerFits, TakesRow, SlotFits, ExprFits, RowFits, ConditionFits, StmtFits, BodyFits, RoutineFits, ProgramFits}
 use Rattle.jt_lower.proofs.Sized.{asm_size, flat_size}
 use Rattle.jt_lower.proofs.Fitting.{all_append}
@@ -113,7 +113,7 @@ module _ (p : Program) (locals : ℕ) (pool : length p.pool ≤ 2 ^ 32) (globals
     expr_plain : (inside : Bool) (e : SlotExpr ℕ) (o : Option Place) (h : ℕ) → ExprFits p locals inside e → h + expr_height e ≤ max_entries → Plain (expr_asm o e h)
     expr_plain inside (slots.pooled i) o h f low = omega (arith, f, pool)
     expr_plain inside (slots.variable s) o h f low = load_plain s f
-    expr_plain inside (slots.field k) o h f low = (field_fits (told_as k), omega (arith, low))
+    expr_plain inside (slots.field k) o h f low = (field_fits k, omega (arith, low))
     expr_plain inside slots.absent o h f low = tt
     expr_plain inside (slots.made k es) o h f low = (row_plain inside es o h f.1 (omega (arith, low)), maker_fits k (row_count es) f.0 (omega (arith, low, counted_low es)))
     expr_plain inside (slots.conjunction a b) o h f low = (expr_plain inside a o h f.0 (omega (arith, low)), (tt, ((tt, expr_plain inside b o h f.1 (omega (arith, low))), tt)))

@@ -5,17 +5,13 @@ use Rattle.jt_ids.specs.OpTable.{op_id}
 use Rattle.jt_ids.specs.TestTable.{test_id}
 use Rattle.jt_image.specs.declared.instruction.Instruction.{Instruction}
 use Rattle.jt_image.specs.declared.instruction.Instruction.TheVariants as op
-use Rattle.jt_image.specs.declared.loop_field.LoopField.{LoopField}
-use Rattle.jt_image.specs.declared.loop_field.LoopField.TheVariants as of_loop
-use Rattle.jt_image.specs.Loops.{field_id}
+use Rattle.jt_ids.specs.LoopTable.{field_id}
 use Rattle.jt_image.specs.declared.version.Version.TheVariants as version
 use Rattle.jt_image.specs.Code.{Name, Section, Code}
 pub use Rattle.jt_constants.specs.Merged.{constant_of}
 use Rattle.jt_constants.specs.Merged.{merged}
 use Rattle.jt_value.specs.Place.{Place}
 use Rattle.jt_trees.specs.Expressions.{Text}
-use Rattle.jt_evaluation.specs.Loops as loops
-use Rattle.jt_evaluation.specs.Loops.{Field}
 use Rattle.jt_resolved.specs.Size.{row_count}
 use Rattle.jt_resolved.specs.Slots as slots
 use Rattle.jt_resolved.specs.Slots.{Slot, local, global, Maker, SlotExpr, SRow, Targets, SlotStmt, SBody, Routine, Program}
@@ -41,18 +37,6 @@ maker (slots.filter f escaping) n = op.Filter f n (flag escaping)
 maker slots.a_list n = op.MakeList n
 maker slots.a_map n = op.MakeMap (half n)
 
--- the field as images tell it
-abbrev pub told_as : Field → LoopField
-told_as loops.index = of_loop.Index
-told_as loops.index0 = of_loop.Index0
-told_as loops.revindex = of_loop.RevIndex
-told_as loops.revindex0 = of_loop.RevIndex0
-told_as loops.first = of_loop.First
-told_as loops.last = of_loop.Last
-told_as loops.total = of_loop.Length
-told_as loops.previtem = of_loop.Previous
-told_as loops.nextitem = of_loop.Next
-
 abbrev pub load_of : Slot → Instruction
 load_of (local i) = op.Load i
 load_of (global i) = op.GLoad i
@@ -67,7 +51,7 @@ abbrev mutual
   pub expr_asm : Option Place → SlotExpr ℕ → ℕ → Asm
   expr_asm o (slots.pooled i) h = one o (op.Const i)
   expr_asm o (slots.variable s) h = one o (load_of s)
-  expr_asm o (slots.field f) h = one o (op.LoopGet (field_id (told_as f)) h)
+  expr_asm o (slots.field f) h = one o (op.LoopGet (field_id f) h)
   expr_asm o slots.absent h = nil
   expr_asm o (slots.made k es) h = both (row_asm o es h) (one o (maker k (row_count es)))
   -- the right operand in place of the left one

@@ -1,43 +1,35 @@
 //! Instructions by what they hold: none where their fields have no place for it.
 
 ghost use Rattle.std.specs.Prelude.{◌≡◌, ◌≤◌, ◌^◌, MatchOption, ℕ};
-ghost use Rattle.jt_image.specs.Loops.{field_id};
+ghost use Rattle.jt_ids.specs.LoopTable.{field_id};
 ghost use Rattle.jt_image.specs.declared.instruction.Instruction.TheVariants as op;
-ghost use Rattle.jt_resolved.specs.View.{slot_view, field_view, maker_view};
-ghost use Rattle.jt_lower.specs.Lower.{maker, told_as, flag, load_of, store_of};
+ghost use Rattle.jt_resolved.specs.View.{slot_view, maker_view};
+ghost use Rattle.jt_lower.specs.Lower.{maker, flag, load_of, store_of};
 ghost use Rattle.jt_lower.specs.Emission.{Given, StandsFor};
 
-use jt_image::{Instruction, LoopField};
-use jt_resolved::{Field, Maker, Slot};
+use jt_ids::LoopField;
+use jt_image::Instruction;
+use jt_resolved::{Maker, Slot};
 
 /// A number as a field.
 fn field(number: usize) -> Option<u32>
     ensures { MatchOption result (2 ^ 32 ≤ number) (λ n. n ≡ number) }
 {
-    match u32::try_from(number) {
-        Ok(n) => Some(n),
-        Err(_) => None,
-    }
+    u32::try_from(number).ok()
 }
 
 /// Pushes a constant.
 pub(crate) fn constant_of(place: usize) -> Option<Instruction>
     ensures { Given result (op.Const place) }
 {
-    match field(place) {
-        Some(constant) => Some(Instruction::Const { constant }),
-        None => None,
-    }
+    field(place).map(|constant| Instruction::Const { constant })
 }
 
 /// Puts a text constant into the buffer.
 pub fn data_of(place: usize) -> Option<Instruction>
     ensures { Given result (op.Data place) }
 {
-    match field(place) {
-        Some(constant) => Some(Instruction::Data { constant }),
-        None => None,
-    }
+    field(place).map(|constant| Instruction::Data { constant })
 }
 
 /// Pushes what a slot holds.
@@ -45,14 +37,8 @@ pub(crate) fn load_of(slot: Slot) -> Option<Instruction>
     ensures { Given result (load_of (slot_view slot)) }
 {
     match slot {
-        Slot::Local(place) => match field(place) {
-            Some(local) => Some(Instruction::Load { local }),
-            None => None,
-        },
-        Slot::Global(place) => match field(place) {
-            Some(global) => Some(Instruction::GLoad { global }),
-            None => None,
-        },
+        Slot::Local(place) => field(place).map(|local| Instruction::Load { local }),
+        Slot::Global(place) => field(place).map(|global| Instruction::GLoad { global }),
     }
 }
 
@@ -61,14 +47,8 @@ pub fn store_of(slot: Slot) -> Option<Instruction>
     ensures { Given result (store_of (slot_view slot)) }
 {
     match slot {
-        Slot::Local(place) => match field(place) {
-            Some(local) => Some(Instruction::Store { local }),
-            None => None,
-        },
-        Slot::Global(place) => match field(place) {
-            Some(global) => Some(Instruction::GStore { global }),
-            None => None,
-        },
+        Slot::Local(place) => field(place).map(|local| Instruction::Store { local }),
+        Slot::Global(place) => field(place).map(|global| Instruction::GStore { global }),
     }
 }
 
@@ -76,82 +56,46 @@ pub fn store_of(slot: Slot) -> Option<Instruction>
 pub fn call_of(routine: usize) -> Option<Instruction>
     ensures { Given result (op.Call routine) }
 {
-    match field(routine) {
-        Some(unit) => Some(Instruction::Call { unit }),
-        None => None,
-    }
+    field(routine).map(|unit| Instruction::Call { unit })
 }
 
 /// Takes a value and pushes its items, if there are that many.
 pub fn unpack_of(count: usize) -> Option<Instruction>
     ensures { Given result (op.Unpack count) }
 {
-    match field(count) {
-        Some(values) => Some(Instruction::Unpack { values }),
-        None => None,
-    }
+    field(count).map(|values| Instruction::Unpack { values })
 }
 
 /// Goes to a point.
 pub(crate) fn jump_of(point: usize) -> Option<Instruction>
     ensures { Given result (op.Jump point) }
 {
-    match field(point) {
-        Some(target) => Some(Instruction::Jump { target }),
-        None => None,
-    }
+    field(point).map(|target| Instruction::Jump { target })
 }
 
 /// Goes to a point if a value is false.
 pub(crate) fn test_of(point: usize) -> Option<Instruction>
     ensures { Given result (op.JumpIfFalse point) }
 {
-    match field(point) {
-        Some(target) => Some(Instruction::JumpIfFalse { target }),
-        None => None,
-    }
+    field(point).map(|target| Instruction::JumpIfFalse { target })
 }
 
 /// Takes the next item of a loop, or goes to a point.
 pub(crate) fn turn_of(point: usize) -> Option<Instruction>
     ensures { Given result (op.LoopNext point) }
 {
-    match field(point) {
-        Some(target) => Some(Instruction::LoopNext { target }),
-        None => None,
-    }
-}
-
-/// The field as images tell it.
-fn told_as(told: Field) -> LoopField
-    ensures { result ≡ told_as (field_view told) }
-{
-    match told {
-        Field::Index => LoopField::Index,
-        Field::Index0 => LoopField::Index0,
-        Field::RevIndex => LoopField::RevIndex,
-        Field::RevIndex0 => LoopField::RevIndex0,
-        Field::First => LoopField::First,
-        Field::Last => LoopField::Last,
-        Field::Length => LoopField::Length,
-        Field::Previous => LoopField::Previous,
-        Field::Next => LoopField::Next,
-    }
+    field(point).map(|target| Instruction::LoopNext { target })
 }
 
 /// Pushes a field of the loop that has so many entries above it.
-pub(crate) fn told_of(told: Field, above: usize) -> Option<Instruction>
-    ensures { (h : ℕ)
-        → StandsFor above h
-        → Given result (op.LoopGet (field_id (told_as (field_view told))) h) }
+pub(crate) fn told_of(told: LoopField, above: usize) -> Option<Instruction>
+    ensures { (h : ℕ) → StandsFor above h → Given result (op.LoopGet (field_id told) h) }
 {
-    match field(above) {
-        Some(above) => Some(Instruction::LoopGet {
-            field: told_as(told).id(),
-            above,
-        }),
-        None => None,
-    }
+    let above = field(above)?;
+    Some(Instruction::LoopGet {
+        field: told.id(),
+        above,
+    })
 }
 
 /// A flag of what is printed or captured: escaped, or markup.
@@ -162,6 +106,7 @@ pub fn flag(escaping: bool) -> u8
 }
 
 /// Makes one value of that many.
+#[tactic(auto, using(crate::proofs::Rows::halved))]
 pub(crate) fn made_of(made: Maker, count: usize) -> Option<Instruction>
     ensures { Given result (maker (maker_view made) count) }
 {
@@ -169,28 +114,16 @@ pub(crate) fn made_of(made: Maker, count: usize) -> Option<Instruction>
         Maker::Operator(operator) => Some(Instruction::Op {
             operator: operator.id(),
         }),
-        Maker::Test(test) => match u16::try_from(count) {
-            Ok(values) => Some(Instruction::Test {
-                test: test.id(),
-                values,
-            }),
-            Err(_) => None,
-        },
-        Maker::Filter { filter, escaping } => match u16::try_from(count) {
-            Ok(values) => Some(Instruction::Filter {
-                filter: filter.id(),
-                values,
-                flag: u32::from(flag(escaping)),
-            }),
-            Err(_) => None,
-        },
-        Maker::List => match field(count) {
-            Some(items) => Some(Instruction::MakeList { items }),
-            None => None,
-        },
-        Maker::Map => match field(count / 2) {
-            Some(entries) => Some(Instruction::MakeMap { entries }),
-            None => None,
-        },
+        Maker::Test(test) => Some(Instruction::Test {
+            test: test.id(),
+            values: u16::try_from(count).ok()?,
+        }),
+        Maker::Filter { filter, escaping } => Some(Instruction::Filter {
+            filter: filter.id(),
+            values: u16::try_from(count).ok()?,
+            flag: u32::from(flag(escaping)),
+        }),
+        Maker::List => field(count).map(|items| Instruction::MakeList { items }),
+        Maker::Map => field(count / 2).map(|entries| Instruction::MakeMap { entries }),
     }
 }

@@ -3,7 +3,7 @@ ghost use Rattle.std.specs.Prelude.{◌≡◌, ◌<◌, ◌∷◌, [], true, len
 ghost use Rattle.std.specs.List.{list_all};
 ghost use Rattle.jt_value.specs.Tree.{Tree, Entries, no_entries};
 ghost use Rattle.jt_value.specs.View.{view, entries_view};
-ghost use Rattle.jt_ops.specs.Testing.{is_text};
+ghost use Rattle.jt_op_meaning.specs.Testing.{is_text};
 ghost use Rattle.jt_image.specs.Config.{Config};
 ghost use Rattle.jt_image.specs.Step.{mapped, keys_of, key_bytes, put_entry, put_entries};
 ghost use Rattle.jt_image.specs.Run.{Ends};

@@ -1,6 +1,8 @@
 -- Sessions that have turns, and what they come to.
 use Rattle.std.proofs.Common.{◌≡◌, ◌∙◌, ℕ, zero, suc, ◌+◌, ◌-◌, ◌<◌, ◌≤◌, Bool, true, false, cond, List, [], ◌∷◌, ◌++◌, ◌&&◌, length, take, Option, Some, None, ap, arith, refl, sym, subst, append_assoc, append-nil, is_some, option_map, option_to_list, rules}
-use Rattle.std.specs.Prelude.{◌==◌}
+use Rattle.std.specs.Prelude.{◌==◌, IfOk, IsErrAnd, MatchResult, Result, Ok, Err, String, string_bytes}
+use Rattle.std.specs.declared.alloc.AllocError.{AllocError}
+use Rattle.std.specs.declared.alloc.Global.{Global}
 use Rattle.std.proofs.lemmas.Bool.{eqb-true, eq-eqb}
 use Rattle.jt_image.specs.Code.{Code}
 use Rattle.jt_image.specs.Config.{Budget, Outcome}
@@ -12,7 +14,7 @@ use Rattle.jt_sessions.specs.declared.HostError.TheVariants as host_error
 use Rattle.jt_sessions.specs.Turns.{World, find, replace, told, turned, OutcomeRefused, TurnRefused}
 use Rattle.jt_turns.specs.declared.turns.Start.{Start}
 use Rattle.jt_turns.specs.Lines.{session_line, session_lines}
-use Rattle.jt_turns.specs.Outcomes.{AreOutcomes}
+use Rattle.jt_turns.specs.Outcomes.{AreOutcomes, TakesTurns}
 use Rattle.jt_turns.specs.Standing.{AreNumbered, AreSessions, HadTurn, HaveMoved, IsNumbered, IsSession, fuel_left, have_ended, outcomes}
 use Rattle.jt_turns.proofs.Fuel.{less, no_more}
 use Rattle.jt_turns.proofs.Running.{false_true, moved_session, replaced_fuel, run_of}
@@ -156,3 +158,10 @@ module _ (b : Budget) where
   pub outcomes_are : (i : ℕ) (ss : List Start) (es : List (ℕ × Session)) → AreSessions b i ss es → have_ended es ≡ true → AreOutcomes b ss (outcomes es)
   outcomes_are i (s ∷ ss) (e ∷ es) h so = search (arith, rules, outcomes_are (i + 1) ss es h.2, is_some, both, option_to_list, false_true, run_of)
   outcomes_are i a1 a2 h so = search (arith, rules)
+
+-- the text of the outcomes, or want of memory
+pub said : (b : Budget) (ss : List Start) (os : List Outcome) (r : Result (String Global) AllocError) (s : Result (String Global) HostError) (Q : AllocError → HostError → Type 0) → AreOutcomes b ss os
+    → IfOk r (λ t. string_bytes t ≡ session_lines 1 os) → MatchResult r (λ t. s ≡ Ok t) (λ e. IsErrAnd s (Q e)) → ((e : AllocError) (x : HostError) → Q e x → x ≡ host_error.NoMemory) → TakesTurns b ss s
+said b ss os (Ok t) s Q are told m why = subst (TakesTurns b ss) (sym m) (os, are, told)
+said b ss os (Err e) (Err x) Q are told m why = why e x m
+said b ss os (Err e) (Ok t) Q are told m why = absurd m

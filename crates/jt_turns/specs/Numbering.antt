@@ -1,5 +1,5 @@
 -- Ids of sessions, one after another.
-use Rattle.std.specs.Prelude.{ℕ, zero, suc, ◌+◌, List, [], ◌∷◌, map}
+use Rattle.std.specs.Prelude.{ℕ, zero, suc, ◌+◌, List, [], ◌∷◌}
 use Rattle.jt_machine.specs.Session.{Session}
 
 -- so many ids, from this one on

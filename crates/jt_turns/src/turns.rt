@@ -84,9 +84,6 @@ impl Sessions {
         session_laws();
         let Sessions { mut host, count } = self;
         run_all(&mut host, count, slice.max(1))?;
-        match lines(alloc, &host, count) {
-            Ok(text) => Ok(text),
-            Err(_) => Err(HostError::NoMemory),
-        }
+        lines(alloc, &host, count).map_err(|_| HostError::NoMemory)
     }
 }

@@ -76,7 +76,7 @@ pub(crate) struct At<'a> {
 impl At<'_> {
     ghost use Rattle.std.specs.Option.{is_some};
     ghost use Rattle.jt_image.specs.Effect.{require, calls as calls_of, goes_on as goes_on_of, jumps as jumps_of, may_return as may_return_of, effect as effect_of};
-    ghost use Rattle.jt_image.specs.Loops.{field_of};
+    ghost use Rattle.jt_ids.specs.LoopTable.{field_of};
     ghost use Rattle.jt_image.specs.declared.kind.Kind.TheVariants as kind;
     ghost use Rattle.jt_image.specs.declared.kind.Flaw.TheVariants as flaw;
     ghost use Rattle.jt_verify.specs.Typing.{Does, DoesWith, needing, below, under, on_loop, branching, making, spreading, Fits, IsHere, TakesHere, points_here, shape_of};

@@ -1,12 +1,14 @@
-use Rattle.std.proofs.Common.{List, subst, arith, rules}
-use Rattle.std.proofs.lemmas.List.{take_all}
-use Rattle.jt_image.specs.declared.parts.Unit as given
-use Rattle.jt_image.specs.Parts.{AreKnown}
-use Rattle.jt_image.proofs.Written.{each_holds, known_units, unknown_units}
+use Rattle.std.proofs.Common.{sym, ◌∙◌, rules, tests}
+use Rattle.std.proofs.lemmas.Bool.{false≢true}
+use Rattle.std.proofs.lemmas.Iterator.{YieldsList-from_slice}
+use Rattle.jt_image.specs.Parts.{IsWritable}
+use Rattle.jt_image.specs.View.{unit_view, IsKnownUnit}
+use Rattle.jt_image.proofs.Tested.{all_tell}
+use Rattle.jt_image.proofs.Written.{known_units, unknown_units}
 use Rattle.jt_image.proofs.assembling.are_known.Goals as goal
 
-pub returns-then-not-is_known-clause-unknown : goal.returns-then-not-is_known-clause-unknown
-returns-then-not-is_known-clause-unknown c = search (arith, rules, unknown_units, each_holds)
-
-pub returns-clause-seen : goal.returns-clause-seen
-returns-clause-seen c = λ _. known_units c.args.units.now (subst (λ (us : List given.Unit). AreKnown us) (take_all c.units.unit-index c.args.units.now c.units-test.false) c.units.invariant.known)
+pub returns : goal.returns
+returns c =
+    let us = c.args.units.now in
+    let t = all_tell _ _ c.all.result unit_view IsKnownUnit IsWritable c.all.ensures.ran (YieldsList-from_slice us cc) (λ x b q k. search (rules, tests)) in
+    record { known = t.0.0; fits = t.1; seen = λ yes. known_units us (t.0.0 yes); unknown = λ no. unknown_units us (λ all. false≢true (sym no ∙ t.0.1 all)) }

@@ -1,13 +1,10 @@
-use Rattle.std.proofs.Common.{◌≤◌, arith}
+use Rattle.std.proofs.Common.{◌≤◌, rules, tests}
+use Rattle.std.proofs.lemmas.Iterator.{YieldsList-from_slice}
 use Rattle.jt_image.specs.Code.{Section}
+use Rattle.jt_image.specs.IsCode.{max_locals}
 use Rattle.jt_image.specs.View.{unit_view}
-use Rattle.jt_image.proofs.Written.{each_fits}
+use Rattle.jt_image.proofs.Tested.{all_seen}
 use Rattle.jt_image.proofs.assembling.locals_fit.Goals as goal
 
-pub returns-then-unit-gt-MAX_LOCALS : goal.returns-then-unit-gt-MAX_LOCALS
-returns-then-unit-gt-MAX_LOCALS c = (
-  λ no. absurd cc,
-  λ h.
-      let small : c.unit-item.result.locals ≤ 4096 = rw c.unit-item.is (each_fits unit_view (λ (u : Section). u.locals ≤ 4096) c.args.units.now c.units.unit-index c.unit-item.result h c.units-test.true) in
-      absurd (omega arith),
-)
+pub returns : goal.returns
+returns c = all_seen _ _ _ unit_view (λ (u : Section). u.locals ≤ max_locals) c.all.ensures.ran (YieldsList-from_slice c.args.units.now cc) (λ x b q k. search (rules, tests))

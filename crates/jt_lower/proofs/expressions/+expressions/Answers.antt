@@ -1,14 +1,14 @@
 use Rattle.std.proofs.Common.{◌≡◌, ℕ, suc, ◌+◌, List, Option, Bool, true, false, refl, sym, ap, ◌∙◌, subst, arith, rules}
 use Rattle.std.specs.Prelude.{min, not}
 use Rattle.std.proofs.lemmas.Result.{IfOk-weaker}
-use Rattle.jt_image.specs.Loops.{field_id}
+use Rattle.jt_ids.specs.LoopTable.{field_id}
 use Rattle.jt_image.specs.declared.instruction.Instruction.TheVariants as op
 use Rattle.jt_resolved.specs.Slots as slots
 use Rattle.jt_resolved.specs.Slots.{none}
 use Rattle.jt_resolved.specs.Size.{row_count}
-use Rattle.jt_resolved.specs.View.{slot_view, field_view, maker_view, expr_view, row_view}
+use Rattle.jt_resolved.specs.View.{slot_view, maker_view, expr_view, row_view}
 use Rattle.jt_lower.specs.Asm.{Asm, one, both, choose, invoke}
-use Rattle.jt_lower.specs.Lower.{maker, told_as, flag, load_of, expr_asm, row_asm}
+use Rattle.jt_lower.specs.Lower.{maker, flag, load_of, expr_asm, row_asm}
 use Rattle.jt_lower.specs.Emission.{Given, tag_view, side_asm, instead_asm, Puts}
 use Rattle.jt_lower.specs.declared.emitter.Emitter.{Emitter}
 use Rattle.jt_trees.specs.Expressions.{Text}
@@ -41,7 +41,7 @@ pub emit_expression-returns-in-Field : goal.emit_expression-returns-in-Field
 emit_expression-returns-in-Field t c =
     let f = c.in-Field.told in
     IfOk-weaker c.put-in-Field.result _ _ (λ u g. λ ts h s.
-    seen_as ts (tag_view ts c.args.tag) h c.args.code.now c.put-in-Field.new.self (expr_view c.args.expr.now) (slots.field (field_view f)) (ap expr_view c.in-Field.is ∙ view_Field f) (g ts (op.LoopGet (field_id (told_as (field_view f))) h) (c.told_of.ensures h s))) c.put-in-Field.ensures
+    seen_as ts (tag_view ts c.args.tag) h c.args.code.now c.put-in-Field.new.self (expr_view c.args.expr.now) (slots.field f) (ap expr_view c.in-Field.is ∙ view_Field f) (g ts (op.LoopGet (field_id f) h) (c.told_of.ensures h s))) c.put-in-Field.ensures
 
 pub emit_expression-returns-in-Absent : goal.emit_expression-returns-in-Absent
 emit_expression-returns-in-Absent t c = search (arith, rules, puts_as, view_Absent, puts_nothing)

@@ -1,7 +1,7 @@
 use Rattle.std.proofs.Common.{◌≡◌, ◌∙◌, Some, Err, ap}
 use Rattle.jt_ops.specs.Limited.{limited, Answers}
-use Rattle.jt_ops.specs.Operation.{as_truth}
-use Rattle.jt_ops.specs.Testing.{tested}
+use Rattle.jt_op_meaning.specs.Operation.{as_truth}
+use Rattle.jt_op_meaning.specs.Testing.{tested}
 use Rattle.jt_image.specs.Step.{tested_by}
 use Rattle.jt_machine.specs.declared.state.State.{State}
 use Rattle.jt_machine.specs.Parts.{apply_test, made, values_at}

@@ -1,6 +1,6 @@
 use Rattle.std.proofs.Common.{◌≡◌, ◌∙◌, Some, ap}
 use Rattle.jt_ops.specs.Limited.{limited, Answers}
-use Rattle.jt_ops.specs.Operation.{operation}
+use Rattle.jt_op_meaning.specs.Operation.{operation}
 use Rattle.jt_ids.specs.OpTable.{op_operands}
 use Rattle.jt_image.specs.Step.{operated}
 use Rattle.jt_machine.specs.declared.state.State.{State}
