@@ -3,7 +3,7 @@ ghost use Rattle.jt_value.specs.ContextView.{pairs_of};
 ghost use Rattle.jt_program.specs.Program.{ChecksTo, ComesTo, GivesContext, GivesImage, RendersTo, UpgradesTo, VerifiesTo};
 ghost use Rattle.jt_program.specs.Templates.{source_of};
 
-use crate::messages::{Failure, no_code, no_context, no_image, no_template, text_of, unrendered};
+use crate::messages::{Failure, text_of};
 use crate::templates::Templates;
 use jt_budget::Budget;
 use jt_codegen::compile;
@@ -15,6 +15,14 @@ use jt_value::Context;
 use jt_verify::{Verified, VerifiedView, verify, verify_view};
 use std::alloc::Global;
 
+/// The entry: the template of a name among others, and the options under which sources are read.
+#[derive(Clone, Copy)]
+pub struct EntryTemplate<'a> {
+    pub name: &'a str,
+    pub templates: &'a Templates,
+    pub options: Options,
+}
+
 /// The context that the bytes of a file spell.
 pub fn context_of(alloc: Global, bytes: &[u8]) -> Result<Context, Failure>
     ensures { GivesContext bytes.now result }
@@ -22,43 +30,26 @@ pub fn context_of(alloc: Global, bytes: &[u8]) -> Result<Context, Failure>
     let Ok(text) = std::str::from_utf8(bytes) else {
         return Err(Failure::Context(ContextError::NotJson));
     };
-    context_from_json(alloc, text).map_err(no_context)
+    Ok(context_from_json(alloc, text)?)
 }
 
-/// The bytes of the image of the template of a name.
-pub fn image_of(
-    alloc: Global,
-    name: &str,
-    templates: &Templates,
-    options: Options,
-) -> Result<Vec<u8>, Failure>
-    ensures { GivesImage (source_of templates.now) name.now options result }
+/// The bytes of the image of the entry.
+pub fn image_of(alloc: Global, entry: &EntryTemplate<'_>) -> Result<Vec<u8>, Failure>
+    ensures { GivesImage (source_of entry.now.templates.now) entry.now.name.now entry.now.options
+        result }
 {
-    let image = match compile(alloc, name, templates, options) {
-        Ok(image) => image,
-        Err(refusal) => return Err(no_template(refusal)),
-    };
-    match encode(alloc, &image) {
-        Ok(bytes) => Ok(bytes),
-        Err(_) => Err(Failure::NoMemory),
-    }
+    let image = compile(alloc, entry.name, entry.templates, entry.options)?;
+    Ok(encode(alloc, &image)?)
 }
 
 /// The bytes in version 2 of the image that bytes spell. It isn't verified.
 pub(crate) fn upgraded(alloc: Global, bytes: &[u8]) -> Result<Vec<u8>, Failure>
     ensures { UpgradesTo bytes.now result }
 {
-    let image = match decode(alloc, bytes) {
-        Ok(image) => image,
-        Err(error) => return Err(no_image(error)),
-    };
-    let image = match upgrade(alloc, image) {
-        Ok(image) => image,
-        Err((_, error)) => return Err(no_image(error)),
-    };
-    match encode(alloc, &image) {
-        Ok(bytes) => Ok(bytes),
-        Err(_) => Err(Failure::NoMemory),
+    let image = decode(alloc, bytes)?;
+    match upgrade(alloc, image) {
+        Ok(image) => Ok(encode(alloc, &image)?),
+        Err((_, error)) => Err(error.into()),
     }
 }
 
@@ -66,13 +57,10 @@ pub(crate) fn upgraded(alloc: Global, bytes: &[u8]) -> Result<Vec<u8>, Failure>
 fn verified_of(alloc: Global, bytes: &[u8]) -> Result<VerifiedView<'_>, Failure>
     ensures { VerifiesTo bytes.now result }
 {
-    let code = match view(alloc, bytes) {
-        Ok(code) => code,
-        Err(error) => return Err(no_image(error)),
-    };
+    let code = view(alloc, bytes)?;
     match verify_view(alloc, code) {
         Ok(verified) => Ok(verified),
-        Err((_, refusal)) => Err(no_code(refusal)),
+        Err((_, refusal)) => Err(refusal.into()),
     }
 }
 
@@ -80,13 +68,10 @@ fn verified_of(alloc: Global, bytes: &[u8]) -> Result<VerifiedView<'_>, Failure>
 pub(crate) fn verified_image(alloc: Global, bytes: &[u8]) -> Result<Verified, Failure>
     ensures { VerifiesTo bytes.now result }
 {
-    let image = match decode(alloc, bytes) {
-        Ok(image) => image,
-        Err(error) => return Err(no_image(error)),
-    };
+    let image = decode(alloc, bytes)?;
     match verify(alloc, image) {
         Ok(verified) => Ok(verified),
-        Err((_, refusal)) => Err(no_code(refusal)),
+        Err((_, refusal)) => Err(refusal.into()),
     }
 }
 
@@ -109,26 +94,23 @@ pub fn run_image(
     ensures { ComesTo bytes.now (pairs_of context.now) budget result }
 {
     let verified = verified_of(alloc, bytes)?;
-    match run_view(alloc, &verified, context, budget) {
-        Ok(outcome) => text_of(outcome),
-        Err(_) => Err(Failure::NoMemory),
-    }
+    text_of(run_view(alloc, &verified, context, budget)?)
 }
 
-/// The text of the template of a name for a context.
+/// The text of the entry for a context.
 pub fn render_text(
     alloc: Global,
-    name: &str,
-    templates: &Templates,
-    options: Options,
+    entry: &EntryTemplate<'_>,
     context: &Context,
     budget: Budget,
 ) -> Result<String, Failure>
-    ensures { RendersTo (source_of templates.now) name.now options (pairs_of context.now) budget
-        result }
+    ensures { RendersTo (source_of entry.now.templates.now) entry.now.name.now entry.now.options
+        (pairs_of context.now) budget result }
 {
-    match render(alloc, name, templates, options, context, budget) {
-        Ok(outcome) => text_of(outcome),
-        Err(refusal) => Err(unrendered(refusal)),
-    }
+    let EntryTemplate {
+        name,
+        templates,
+        options,
+    } = *entry;
+    text_of(render(alloc, name, templates, options, context, budget)?)
 }

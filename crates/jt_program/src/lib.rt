@@ -14,7 +14,7 @@ mod system;
 mod templates;
 mod turns;
 
-pub use commands::{context_of, counts_of, image_of, render_text, run_image};
+pub use commands::{EntryTemplate, context_of, counts_of, image_of, render_text, run_image};
 pub use files::{FileError, Files};
 pub use jt_args::{Command, Job, JobError, Options, Pair, job};
 pub use messages::{Failure, Status};

@@ -10,7 +10,7 @@ use jt_codegen::CompileError;
 use jt_host::{ContextError, HostError, RenderError};
 use jt_image::ImageError;
 use jt_machine::{Outcome, Place};
-use jt_value::Fault;
+use jt_value::{Fault, NoMemory};
 use jt_verify::Refusal;
 use std::alloc::{AllocError, AllocFailed};
 
@@ -114,6 +114,16 @@ impl<T: Drop> From<AllocFailed<T>> for Failure {
     }
 }
 
+impl From<NoMemory> for Failure {
+    ghost use Rattle.jt_program.specs.declared.messages.Failure.TheVariants.{NoMemory};
+
+    ghost from_gives = { λ _ f. f ≡ NoMemory };
+
+    fn from(_refused: NoMemory) -> Failure {
+        Failure::NoMemory
+    }
+}
+
 impl From<JobError> for Failure {
     ghost from_gives = { λ e f. f ≡ of_line e };
 
@@ -125,6 +135,72 @@ impl From<JobError> for Failure {
     }
 }
 
+impl From<ImageError> for Failure {
+    ghost from_gives = { λ error f. f ≡ of_image error };
+
+    fn from(error: ImageError) -> Failure {
+        match error {
+            ImageError::NoMemory => Failure::NoMemory,
+            fault => Failure::Image(fault),
+        }
+    }
+}
+
+impl From<Refusal> for Failure {
+    ghost from_gives = { λ refusal f. f ≡ of_code refusal };
+
+    fn from(refusal: Refusal) -> Failure {
+        match refusal {
+            Refusal::NoMemory => Failure::NoMemory,
+            flaw => Failure::Code(flaw),
+        }
+    }
+}
+
+impl From<CompileError> for Failure {
+    ghost from_gives = { λ refusal f. f ≡ of_compile refusal };
+
+    fn from(refusal: CompileError) -> Failure {
+        match refusal {
+            CompileError::NoMemory => Failure::NoMemory,
+            fault => Failure::Template(fault),
+        }
+    }
+}
+
+impl From<ContextError> for Failure {
+    ghost from_gives = { λ error f. f ≡ of_context error };
+
+    fn from(error: ContextError) -> Failure {
+        match error {
+            ContextError::NoMemory => Failure::NoMemory,
+            flaw => Failure::Context(flaw),
+        }
+    }
+}
+
+impl From<RenderError> for Failure {
+    ghost from_gives = { λ refusal f. f ≡ of_render refusal };
+
+    fn from(refusal: RenderError) -> Failure {
+        match refusal {
+            RenderError::Compile(refusal) => refusal.into(),
+            RenderError::NoMemory => Failure::NoMemory,
+        }
+    }
+}
+
+impl From<HostError> for Failure {
+    ghost from_gives = { λ error f. f ≡ of_host error };
+
+    fn from(error: HostError) -> Failure {
+        match error {
+            HostError::NoMemory => Failure::NoMemory,
+            refusal => Failure::Host(refusal),
+        }
+    }
+}
+
 /// What a fault of the file at a path comes to.
 pub(crate) fn no_file(error: FileError, path: String) -> Failure
     ensures { result ≡ of_file error path }
@@ -132,66 +208,6 @@ pub(crate) fn no_file(error: FileError, path: String) -> Failure
     match error {
         FileError::Failed => Failure::File(path),
         FileError::NoMemory => Failure::NoMemory,
-    }
-}
-
-/// What bytes that are no image come to.
-pub(crate) fn no_image(error: ImageError) -> Failure
-    ensures { result ≡ of_image error }
-{
-    match error {
-        ImageError::NoMemory => Failure::NoMemory,
-        fault => Failure::Image(fault),
-    }
-}
-
-/// What an image that is refused comes to.
-pub(crate) fn no_code(refusal: Refusal) -> Failure
-    ensures { result ≡ of_code refusal }
-{
-    match refusal {
-        Refusal::NoMemory => Failure::NoMemory,
-        flaw => Failure::Code(flaw),
-    }
-}
-
-/// What a template that does not compile comes to.
-pub(crate) fn no_template(refusal: CompileError) -> Failure
-    ensures { result ≡ of_compile refusal }
-{
-    match refusal {
-        CompileError::NoMemory => Failure::NoMemory,
-        fault => Failure::Template(fault),
-    }
-}
-
-/// What a file that gives no context comes to.
-pub(crate) fn no_context(error: ContextError) -> Failure
-    ensures { result ≡ of_context error }
-{
-    match error {
-        ContextError::NoMemory => Failure::NoMemory,
-        flaw => Failure::Context(flaw),
-    }
-}
-
-/// What a host that refuses comes to.
-pub(crate) fn no_session(error: HostError) -> Failure
-    ensures { result ≡ of_host error }
-{
-    match error {
-        HostError::NoMemory => Failure::NoMemory,
-        refusal => Failure::Host(refusal),
-    }
-}
-
-/// What templates that are not rendered come to.
-pub(crate) fn unrendered(refusal: RenderError) -> Failure
-    ensures { result ≡ of_render refusal }
-{
-    match refusal {
-        RenderError::Compile(refusal) => no_template(refusal),
-        RenderError::NoMemory => Failure::NoMemory,
     }
 }
 

@@ -12,7 +12,9 @@ ghost use Rattle.jt_program.specs.Files.{AreSources, IsLibrary, IsOfDirectory, p
 ghost use Rattle.jt_program.specs.Telling.{Explains, Tells, TookUnlessFailed, memory_line};
 ghost use Rattle.jt_program.specs.Templates.{source_of};
 
-use crate::commands::{context_of, counts_of, image_of, render_text, run_image, upgraded};
+use crate::commands::{
+    EntryTemplate, context_of, counts_of, image_of, render_text, run_image, upgraded,
+};
 use crate::files::{FileError, Files};
 use crate::messages::{Failure, Status, no_file};
 use crate::reports::report;
@@ -135,39 +137,56 @@ fn carried_out<F: Files>(alloc: Global, job: Job, files: &mut F) -> Result<Strin
         slice,
     } = job;
     match command {
-        Command::Compile { dir, name, out } => compile_to(alloc, files, dir, &name, options, out),
+        Command::Compile { dir, name, out } => {
+            let entry = EntryFile { dir, name, options };
+            compile_to(alloc, files, entry, out)
+        }
         Command::Check { image } => check_at(alloc, files, image),
         Command::Run { image, context } => run_at(alloc, files, image, context, budget),
         Command::Render { dir, name, context } => {
-            render_in(alloc, files, dir, &name, options, context, budget)
+            let entry = EntryFile { dir, name, options };
+            render_in(alloc, files, entry, context, budget)
         }
         Command::Turns { sessions } => run_turns(alloc, files, sessions, budget, slice),
         Command::Upgrade { image, out } => upgrade_to(alloc, files, image, out),
     }
 }
 
-/// Writes the image of a template to the file at `out`, and prints nothing.
+/// The entry among the files directly in a directory, and the options under which these are read.
+#[derive(Drop)]
+struct EntryFile {
+    dir: String,
+    name: String,
+    options: Options,
+}
+
+/// Writes the image of the entry to the file at `out`, and prints nothing.
 fn compile_to<F: Files>(
     alloc: Global,
     files: &mut F,
-    dir: String,
-    name: &str,
-    options: Options,
+    entry: EntryFile,
     out: String,
 ) -> Result<String, Failure>
     ensures only { ChangesOnly (F.known files.old) (F.known files.new) (string_bytes out) }
     ensures ends { IsUnread (F.known files.old)
-        (IsOfDirectory (F.known files.old) (string_bytes dir)) None result
-        ⊎ Compiles (F.known files.old) (F.known files.new) (string_bytes dir) name.now
-        (string_bytes out) options result }
+        (IsOfDirectory (F.known files.old) (string_bytes entry.dir)) None result
+        ⊎ Compiles (F.known files.old) (F.known files.new) (string_bytes entry.dir)
+        (string_bytes entry.name) (string_bytes out) entry.options result }
     ensures unwritten { IfErr result
         (λ e. status_of e ≢ Status.File → status_of e ≢ Status.Memory → files.new ≡ files.old) }
     // where there is no image nothing is written
     ensures touched { files.new ≡ files.old
-        ⊎ HasImage (F.known files.old) (string_bytes dir) name.now options }
+        ⊎ HasImage (F.known files.old) (string_bytes entry.dir) (string_bytes entry.name)
+        entry.options }
 {
+    let EntryFile { dir, name, options } = entry;
     let templates = templates_in(alloc, files, dir)?;
-    let bytes = image_of(alloc, name, &templates, options)?;
+    let entry = EntryTemplate {
+        name: name.as_str(),
+        templates: &templates,
+        options,
+    };
+    let bytes = image_of(alloc, &entry)?;
     put_at(files, out, &bytes)?;
     Ok(String::new(alloc))
 }
@@ -223,23 +242,28 @@ fn run_at<F: Files>(
     text
 }
 
-/// The text of a template of a directory for the context of a file.
+/// The text of the entry for the context of a file.
 fn render_in<F: Files>(
     alloc: Global,
     files: &F,
-    dir: String,
-    name: &str,
-    options: Options,
+    entry: EntryFile,
     context: Option<String>,
     budget: Budget,
 ) -> Result<String, Failure>
     ensures { IsUnread (F.known files.now)
-        (IsOfDirectory (F.known files.now) (string_bytes dir)) context result
-        ⊎ Renders (F.known files.now) (string_bytes dir) name.now options context budget result }
+        (IsOfDirectory (F.known files.now) (string_bytes entry.dir)) context result
+        ⊎ Renders (F.known files.now) (string_bytes entry.dir) (string_bytes entry.name)
+        entry.options context budget result }
 {
+    let EntryFile { dir, name, options } = entry;
     let templates = templates_in(alloc, files, dir)?;
     let context = context_at(alloc, files, context)?;
-    let text = render_text(alloc, name, &templates, options, &context, budget);
+    let entry = EntryTemplate {
+        name: name.as_str(),
+        templates: &templates,
+        options,
+    };
+    let text = render_text(alloc, &entry, &context, budget);
     // as in `run_at`
     std::mem::forget(context);
     text

@@ -6,7 +6,7 @@ ghost use Rattle.jt_program.specs.Commands.{AreOpen, IsNoStart, IsNotOpened, IsS
 
 use crate::commands::verified_image;
 use crate::files::Files;
-use crate::messages::{Failure, no_session};
+use crate::messages::Failure;
 use crate::program::{bytes_at, context_at};
 use jt_args::Pair;
 use jt_budget::Budget;
@@ -51,10 +51,7 @@ fn open_pair<F: Files>(
         → IsNotOpened (F.known files.now) ps pair e) }
 {
     let start = start_at(alloc, files, pair)?;
-    match sessions.open(start, budget) {
-        Ok(()) => Ok(()),
-        Err(error) => Err(no_session(error)),
-    }
+    Ok(sessions.open(start, budget)?)
 }
 
 /// The image of a pair, verified, with the context of the pair.

@@ -3,5 +3,4 @@ use Rattle.jt_program.proofs.commands.verified_of.Goals as goal
 
 pub returns : goal.returns
 returns c =
-    rw c.no_code.ensures (refused_code c.args.bytes.now c.in-Ok.code c.in-Err-verify_view.refusal c.in-Ok.ensures.reads c.in-Err-verify_view.ensures.err.1
-    c.in-Err-verify_view.ensures.exact)
+    rw c.into.ensures (refused_code c.args.bytes.now c.in_ok-code.code c.in-Err.refusal c.in_ok-code.ensures.reads c.in-Err.ensures.err.1 c.in-Err.ensures.exact)

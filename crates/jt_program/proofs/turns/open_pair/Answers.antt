@@ -8,11 +8,14 @@ returns-in_err-start-clause-refused g c =
     let p = err_from_is_err_and c.from_residual.result c.from_residual.ensures.1 in
     rw (p.1, p.2) (λ ps standing. no_start (g.F.Files.known c.args.files.now) ps c.args.pair c.in_err-start.field-0.0 c.in_err-start.ensures.err)
 
-pub returns-in-Ok-clause-opened : goal.returns-in-Ok-clause-opened
-returns-in-Ok-clause-opened g c = λ ps standing.
+pub returns-clause-opened : goal.returns-clause-opened
+returns-clause-opened g c = λ ps standing.
     one_open_more (g.F.Files.known c.args.files.now) c.args.budget ps c.args.pair c.in_ok-start.start (world_of c.args.sessions.now) (world_of c.open.new.self) c.in_ok-start.ensures.start
-    c.in-Ok.ensures.opened standing
+    c.in_ok-open.ensures.opened standing
 
-pub returns-in-Err-clause-refused : goal.returns-in-Err-clause-refused
-returns-in-Err-clause-refused g c = rw c.no_session.ensures (λ ps standing.
-    no_place (g.F.Files.known c.args.files.now) c.args.budget ps c.args.pair c.in_ok-start.start (world_of c.args.sessions.now) c.in-Err.error c.in_ok-start.ensures.start c.in-Err.ensures.refused standing)
+pub returns-in_err-open-clause-refused : goal.returns-in_err-open-clause-refused
+returns-in_err-open-clause-refused g c =
+    let p = err_from_is_err_and c.from_residual-in_err-open.result c.from_residual-in_err-open.ensures.1 in
+    rw (p.1, p.2) (λ ps standing.
+    no_place (g.F.Files.known c.args.files.now) c.args.budget ps c.args.pair c.in_ok-start.start (world_of c.args.sessions.now) c.in_err-open.field-0.0 c.in_ok-start.ensures.start
+    c.in_err-open.ensures.refused standing)
