@@ -19,6 +19,11 @@ def stamp(crate):
 rt.rtlib.Crate.stamp = stamp
 
 
+def keeps():
+    """Whether this kit's `rt ci` keeps what it proved; not every version of it does."""
+    return hasattr(rt, "Kept")
+
+
 def copied(to):
     """Copies the tree that this is called in to a folder, but for what rt made."""
     for it in ("crates.txt", "HANDLES"):

@@ -4,10 +4,10 @@ bench/over_kept.py CRATE plant --minutes 30, or check, or any other.
 
 A developer's tool. It works in a copy of the tree below TMPDIR, of which nothing comes back: what the command prints is its answer. A
 crate above others is checked sooner so than by rt itself, since what `rt ci` keeps of a library are its statements alone. The status is
-that of the command, or 2 where a library below the crate is not kept as it stands: `rt ci CRATE` makes it.
+that of the command, or 2 where a library below the crate is not kept as it stands, which `rt ci CRATE` makes, or where the kit keeps none.
 """
 import os, shutil, subprocess, sys, tempfile
-from kit import copied, give, rt
+from kit import copied, give, keeps, rt
 
 
 def refused(why):
@@ -16,6 +16,8 @@ def refused(why):
 
 
 def main(name, *words):
+    if not keeps():
+        return refused("this kit keeps nothing of what rt ci proved: rt check in the crate proves what is below it")
     with tempfile.TemporaryDirectory(prefix="over-kept-") as room:
         root = os.path.realpath(room)
         copied(root)

@@ -8,7 +8,7 @@ help it); then the crates that stand on it are checked, from the lowest, until o
 clause was missed. It works in a copy of the tree below TMPDIR.
 """
 import glob, os, pathlib, re, shutil, subprocess, sys, tempfile
-from kit import copied, give, rt
+from kit import copied, give, keeps, rt
 
 # a layer, the file and the name of its call, and the clause's name, if it has one
 LAYERS = [
@@ -138,6 +138,9 @@ def missed(root, layer, said):
 
 
 def main(names):
+    if not keeps():
+        print("this kit keeps nothing of what rt ci proved, and without it each row would prove the whole tree", file=sys.stderr)
+        return 2
     layers = [it for it in LAYERS if not names or it[0] in names]
     with tempfile.TemporaryDirectory(prefix="weakened-") as room:
         copied(room)
