@@ -1,14 +1,13 @@
 #!/usr/bin/env python3
-"""Times `jt compile` on sources of 1 MiB that are hard on a compiler: long chains, deep nesting, marks, raw text, unclosed tags, and
-sets of templates with many blocks or includes, of 1 MiB together.
+"""Times `jt compile` on sources of 1 MiB that could be slow to compile: long chains, deep nesting, marks, raw text, unclosed tags, and sets
+of templates with many blocks or includes, of 1 MiB together.
 
     bench/compile.py [--jt PATH] [--bytes N] [--steps N] [--runs N] [--most SECONDS] [NAME ..]
 
-Without --jt it takes the program that `rt run` keeps, crates/jt_cli/out/jt_cli. Each source is compiled --runs times
-(3), and the shortest time is printed that the program took of a processor, with what it answered. --steps N compiles
-each source in N sizes, each twice the one before, --bytes (1 MiB) being the greatest: times that grow faster than the
-sizes show a cost that is not linear. The status is 1 where a source took longer than --most (1 second), or where the
-answer is none that its kind of source may have.
+Without --jt it runs the program that `rt run` keeps, crates/jt_cli/out/jt_cli. It compiles each source --runs times (3) and prints the
+shortest processor time of the program, with its result. --steps N compiles each source in N sizes, each twice the one before, up to --bytes
+(1 MiB): times that grow faster than the sizes show a cost that is not linear. The status is 1 if a source took longer than --most (1
+second), or if the result is none that its kind of source may have.
 """
 import os, pathlib, tempfile
 from timing import Rows, sized, timed
@@ -17,11 +16,11 @@ MIB = 1_048_576
 
 
 def repeat(head, piece, tail, size):
-    """The head, as many pieces as fit, and the tail."""
+    """Returns the head, the greatest number of pieces that fits, and the tail."""
     return head + piece * ((size - len(head) - len(tail)) // len(piece)) + tail
 
 
-# name, head, piece, tail, the answers that are right for it
+# name, head, piece, tail, the permitted results
 SOURCES = [
     ("data", "", "a", "", ["ok"]),
     ("sum", "{{ 1", "+1", " }}", ["P2"]),
@@ -87,7 +86,7 @@ SOURCES = [
 
 
 def distinct_names(size):
-    """Prints of names that differ, as many as fit."""
+    """Returns print tags of different names, the greatest number that fits."""
     source, count = [], 0
     while size > 0:
         tag = f"{{{{ a{count} }}}}"
@@ -99,26 +98,26 @@ def distinct_names(size):
 
 
 def many_blocks(size):
-    """As many blocks as fit."""
+    """Returns the greatest number of blocks that fits."""
     return {"t": "".join(f"{{% block b{n:05} %}}{{% endblock %}}" for n in range(size // 33))}
 
 
 def fan(size):
-    """A template that includes 1,023 others, which take the rest in equal parts."""
+    """Returns a template that includes 1,023 others, which share the rest of the size equally."""
     tags = "".join(f'{{% include "p{n}" %}}' for n in range(1_023))
     part = "{{ a }}" * ((size - len(tags)) // 1_023 // 7)
     return {"t": tags, **{f"p{n}": part for n in range(1_023)}}
 
 
 def mesh(size):
-    """64 templates, each of which includes all behind it as often as fits."""
+    """Returns 64 templates, each of which includes all later ones, repeatedly while that fits."""
     tags = lambda n: "".join(f'{{% include "p{m}" %}}' for m in range(n + 1, 64)) or "x"
     times = max(1, size // sum(len(tags(n)) for n in range(64)))
     return {"t": tags(0) * times, **{f"p{n}": tags(n) * times for n in range(1, 64)}}
 
 
 def tall(size):
-    """64 templates that extend one another, each of which has all blocks and calls those of the one below."""
+    """Returns 64 templates that extend one another, each with all blocks, which call those of the parent."""
     count = min(200, size // 64 // 42)
     blocks = "".join(f"{{% block b{n:03} %}}{{{{ super() }}}}{{% endblock %}}" for n in range(count))
     base = blocks.replace("{{ super() }}", "")
@@ -127,7 +126,7 @@ def tall(size):
 
 
 def numbered(count, piece):
-    """So many pieces, each with its number in the place of #."""
+    """Returns `count` pieces, each with its number instead of #."""
     return "".join(piece.replace("#", f"{n:05}") for n in range(count))
 
 
@@ -135,44 +134,44 @@ MACRO = "{% macro m#() %}{% endmacro %}"
 
 
 def asked_one_by_one(size):
-    """A library of macros, each of which a tag of its own asks for and a call names."""
+    """Returns a library of macros, each with a `from` tag and a call of its own."""
     count, tags = size // 76, '{% from "l" import m# %}{{ m#() }}'
     return {"t": numbered(count, tags), "l": numbered(count, MACRO)}
 
 
 def asked_at_once(size):
-    """The same with one tag that asks for all."""
+    """Returns a library of macros that one `from` tag names, each with a call."""
     count = size // 56
     names = numbered(count, "m#,")[:-1]
     return {"t": f'{{% from "l" import {names} %}}' + numbered(count, "{{ m#() }}"), "l": numbered(count, MACRO)}
 
 
 def called_by_library(size):
-    """A library of macros, which are called by the name that it is imported under."""
+    """Returns a library of macros, which are called by the name of an `import`."""
     count = size // 51
     return {"t": '{% import "l" as f %}' + numbered(count, "{{ f.m#() }}"), "l": numbered(count, MACRO)}
 
 
 def imported_again(size):
-    """A library that is imported under as many names as it has macros, each of which is called by one of them."""
+    """Returns a library that is imported once for each of its macros, under different names, each with a call."""
     count, tags = size // 82, '{% import "l" as f# %}{{ f#.m#() }}'
     return {"t": numbered(count, tags), "l": numbered(count, MACRO)}
 
 
 def many_libraries(size):
-    """As many libraries of one macro as fit, each with a tag and a call."""
+    """Returns the greatest number of libraries of one macro that fits, each with a tag and a call."""
     count, tags = size // 82, '{% from "l#" import m as f# %}{{ f#() }}'
     return {"t": numbered(count, tags), **{f"l{n:05}": "{% macro m() %}{% endmacro %}" for n in range(count)}}
 
 
 def shared_library(size):
-    """A library that 1,000 chains import, each of which calls one of its macros."""
+    """Returns a library that 1,000 chains import, each of which calls one of its macros."""
     tags = {f"p{n}": f'{{% import "l" as f %}}{{{{ f.m{n:05}() }}}}' for n in range(1_000)}
     left = size - sum(map(len, tags.values())) - 22 * len(tags)
     return {"t": "".join(f'{{% include "{name}" %}}' for name in tags), "l": numbered(max(1_000, left // 34), MACRO), **tags}
 
 
-# name, the templates, the answers that are right for them
+# name, the templates, the permitted results
 SETS = [
     ("many blocks", many_blocks, ["ok", "G1"]),
     ("a fan of includes", fan, ["ok", "G1", "C4"]),
@@ -201,7 +200,7 @@ def sources(size):
 
 
 def compile_once(jt, folder):
-    """The seconds that the program took, and what it answered: ok, the refusal's code, or its line."""
+    """Returns the seconds that the program took, and its result: ok, the refusal's code, or its line."""
     took, ran = timed([jt, "compile", "d", "t", "out"], cwd=folder)
     if ran.returncode == 0:
         return took, "ok"
@@ -211,7 +210,7 @@ def compile_once(jt, folder):
 
 
 def compile_sources(jt, templates, runs):
-    """The shortest of some runs, and the answer."""
+    """Returns the shortest of some runs, and the result."""
     with tempfile.TemporaryDirectory() as folder:
         os.mkdir(f"{folder}/d")
         for name, source in templates.items():

@@ -3,13 +3,14 @@
 
     bench/filters.py [--jt PATH] [--items N] [--steps N] [--runs N] [--most SECONDS] [NAME ..]
 
-Without --jt it takes the program that `rt run` keeps, crates/jt_cli/out/jt_cli. Each row is a template over `text`, letters
-in both cases, `numbers`, `texts` and `pairs`, a map, each of --items (1,000,000) letters, items or entries. It is rendered
---runs times (1), and the shortest time is printed that the program took of a processor, less what a template took that
-only reads the same context. --steps N renders each row in N sizes, each twice the one before, --items being the greatest:
-a cost that grows faster than n log n shows. Behind these come rows within the default budget, and some that are no filters: calls
-of macros, chains of includes, and a join whose text would be too large. The status is 1 where a row took longer than --most (2 seconds), one
-within the default budget longer than half of that, or where it is answered otherwise than it must be.
+Without --jt it runs the program that `rt run` keeps, crates/jt_cli/out/jt_cli. Each row is a template over `text`, letters in both cases,
+`numbers`, `texts` and `pairs`, a map, each of --items (1,000,000) letters, items or entries. It is rendered --runs times (1). The script
+prints the shortest processor time of the program, without the time of a template that only reads the same context. --steps N renders each
+row in N sizes, each twice the one before, up to --items, which shows a cost that grows faster than n log n.
+
+After the filters there are rows within the default budget, and calls of macros, chains of includes, and a join whose text would be too
+large. The status is 1 if a row took longer than --most (2 seconds), or one within the default budget longer than half of that, or if the
+result is not the wanted one.
 """
 import json, os, pathlib, tempfile
 from timing import Rows, sized, timed
@@ -17,7 +18,7 @@ from timing import Rows, sized, timed
 MILLION = 1_000_000
 BUDGET = ["--fuel", "4000000000000", "--output", "4000000000", "--size", "4000000000"]
 
-# name, what the context holds, the template, and the text that it gives, or the line's first words, for n items
+# name, the content of the context, the template, and its text or the first words of its line, for n items
 ROWS = [
     ("abs", "numbers", "{{ numbers|first|abs }}", lambda n: "0"),
     ("capitalize", "text", "{{ text|capitalize|length }}", str),
@@ -56,7 +57,7 @@ ROWS = [
     ("a loop over range", None, "{% for x in range(N) %}{% endfor %}", lambda n: ""),
 ]
 
-# The same, within the default budget.
+# Rows within the default budget.
 WITHIN = [
     ("join, by default", "numbers", "{{ numbers|join|length }}", lambda n: "jt: spent Size"),
     ("map, by default", "numbers", "{{ numbers|map('abs')|length }}", str),
@@ -69,7 +70,7 @@ WITHIN = [
 
 
 def held(kind, n):
-    """What the context holds under its name."""
+    """Returns the value of a name in the context."""
     if kind == "text":
         return ("aBcD" * (n // 4 + 1))[:n]
     if kind == "numbers":
@@ -80,14 +81,14 @@ def held(kind, n):
 
 
 def rendered(jt, folder, name, options=BUDGET):
-    """The seconds that the program took of a processor, and its text or its line."""
+    """Returns the processor time of the program, and its text or its line."""
     took, ran = timed([jt, "render", "d", name, "context.json", *options], cwd=folder)
     told = ran.stderr if ran.returncode else ran.stdout
     return took, told.decode(errors="replace").strip()
 
 
 def row(jt, kind, template, n, runs, options=BUDGET):
-    """The shortest of some runs, less reading the context, and the answer."""
+    """Returns the shortest of some runs, without reading the context, and the result."""
     with tempfile.TemporaryDirectory() as folder:
         os.mkdir(f"{folder}/d")
         pathlib.Path(folder, "context.json").write_text(json.dumps({kind: held(kind, n)} if kind else {}))
@@ -99,7 +100,7 @@ def row(jt, kind, template, n, runs, options=BUDGET):
 
 
 def others(jt):
-    """Rows that are no filters: a name, the seconds, the answer and the answer's beginning that it must have."""
+    """Returns the rows that are no filters: a name, the seconds, the result and its wanted first words."""
     with tempfile.TemporaryDirectory() as folder:
         os.mkdir(f"{folder}/d")
         pathlib.Path(folder, "context.json").write_text(json.dumps({"a": "a" * 100_000}))

@@ -1,13 +1,13 @@
 #!/usr/bin/env python3
-"""Measures what `jt run` holds of memory on images of 16 MiB.
+"""Measures the memory of `jt run` on images of 16 MiB.
 
     bench/held.py [--jt PATH] [--most RATIO] [--keep FOLDER] [NAME ..]
 
-Without --jt it takes the program that `rt run` keeps, crates/jt_cli/out/jt_cli. The images are written by hand, byte by byte, as
-docs/image.md says, and have 16,777,216 bytes, as many as there may be: one text; 16 texts, of which one is printed; 65,535 texts,
-with 262,143 jumps. Printed is, in KB, the most that was resident, less that of an image of one instruction, by GNU time; and the most
-that was allocated at once, by valgrind's massif. The status is 1 where one of the two is more than --most (2) times the image's
-bytes, or where a run prints anything else than it should. --keep writes the images to a folder.
+Without --jt it runs the program that `rt run` keeps, crates/jt_cli/out/jt_cli. The images are written byte by byte, by docs/image.md, and
+have 16,777,216 bytes, the most that are permitted: one text; 16 texts, of which one is printed; 65,535 texts, with 262,143 jumps. The
+script prints, in KB, the greatest resident memory without that of an image of one instruction, by GNU time, and the greatest allocated
+memory, by valgrind's massif. The status is 1 if one of the two is more than --most (2) times the image's bytes, or if a run prints another
+text than the wanted one. --keep writes the images to a folder.
 """
 import os, pathlib, re, struct, subprocess, sys, tempfile
 from timing import flags
@@ -18,7 +18,7 @@ END = [(RETURN, 0, 0, 0)]
 
 
 def image(texts, code):
-    """An image of one unit, with texts of so many bytes as constants; an instruction is (opcode, a, b, c)."""
+    """Returns an image of one unit whose constants are texts of the given lengths; an instruction is (opcode, a, b, c)."""
     parts = [b"JTBC", struct.pack("<HHH", 1, 0, 0), struct.pack("<H", len(texts))]
     for size in texts:
         parts += [struct.pack("<BI", 5, size), b"a" * size]
@@ -27,7 +27,7 @@ def image(texts, code):
 
 
 def filled(count, code):
-    """An image of 16 MiB with as many texts, and their sizes: as long as each other, but for the last one."""
+    """Returns an image of 16 MiB with `count` texts, and their lengths, which are equal but for the last one."""
     room = BYTES - len(image([0] * count, code))
     texts = [room // count] * (count - 1) + [room - room // count * (count - 1)]
     return image(texts, code), texts
@@ -46,18 +46,18 @@ def many():
     return filled(65_535, [(JUMP, 0, 0, point + 1) for point in range(262_143)] + END)[0], 0
 
 
-# by name: an image, and how many bytes its run prints
+# by name: an image, and the number of bytes that its run prints
 IMAGES = {"one text": one, "16 texts": sixteen, "65,535 texts": many}
 
 
 def resident(program, path):
-    """The most KB that were resident, and what was printed. (GNU time starts the program: what this process holds would count.)"""
+    """Returns the greatest resident memory in KB, and the output. GNU time starts the program, since the memory of this process would count."""
     ran = subprocess.run(["/usr/bin/time", "-f", "%M", program, "run", path], capture_output=True)
     return int(ran.stderr.split()[-1]), ran.stdout
 
 
 def allocated(program, path, out):
-    """The most KB that were allocated at once."""
+    """Returns the greatest allocated memory in KB."""
     words = ["valgrind", "--tool=massif", "--peak-inaccuracy=0.0", f"--massif-out-file={out}", program, "run", path]
     subprocess.run(words, capture_output=True, check=True)
     found = zip(*(re.findall(rf"{it}=(\d+)", pathlib.Path(out).read_text()) for it in ("mem_heap_B", "mem_heap_extra_B")))

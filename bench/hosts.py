@@ -1,24 +1,27 @@
 #!/usr/bin/env python3
 """Times renderings in one process: bench/hosts.py SECONDS, with JT_LIBRARY the shared library of bindings/build.sh
 
-The workloads are the folders of examples/ and of speed/templates/. Of each it prints, in microseconds of the processor a rendering, and
-behind a × how many times as much as `jt` beside it takes,
+The workloads are the folders of examples/ and of speed/templates/. Of each it prints microseconds of processor time for a rendering,
+of three kinds, and after a time of Jinja2 how many times that of `jt` it is:
 
-    run      of an image that was compiled before, for a context in JSON: `jt`
-    whole    of sources, for a context in JSON: `jt`
-    jinja    of a template that Jinja2's sandbox has loaded before, for a context in JSON; and `ready` for one that is a dictionary
-    jinja whole     of sources, for a context in JSON
+    ready    of templates that were compiled before, for a context that was read before (for Jinja2 a dictionary)
+    run      of templates that were compiled before, for a context in JSON
+    whole    of sources, for a context in JSON
 
-The texts have to be those of `jt`, and of an example those that are expected. bench/engines does the like for engines in Rust.
+Of `jt` it prints the memory too: the least limit in bytes with which a ready run ends, found by halving, within 1 %.
+
+Jinja2 is its sandbox. The texts have to be those of `jt`, and of an example those that are expected. bench/engines does the like for
+engines in Rust.
 """
 import json
 import pathlib
 import sys
 import time
+from dataclasses import replace
 
 HERE = pathlib.Path(__file__).resolve().parent
 sys.path[:0] = [str(HERE.parent / "bindings" / "python"), str(HERE / "speed")]
-from jt import Budget, Options, Template  # noqa: E402
+from jt import Budget, Context, NoMemory, Options, Template  # noqa: E402
 from make_contexts import contexts  # noqa: E402
 
 try:
@@ -46,7 +49,7 @@ def workloads():
 
 
 def took(call, wanted, seconds):
-    """Microseconds of the processor a call, over some seconds; none where it does not give what is wanted."""
+    """Returns microseconds of processor time for a call, over some seconds, or None if it does not return what is wanted."""
     if call() != wanted:
         return None
     count, begin = 0, time.process_time()
@@ -57,25 +60,63 @@ def took(call, wanted, seconds):
 
 
 def beside(micros, own):
-    """Microseconds, and how many times as much as `jt` takes."""
+    """Returns microseconds, and how many times that of `jt` they are."""
     return f"{micros:.0f} (×{micros / own:.1f})" if micros else "differs"
+
+
+def memory_of(image, context):
+    """Returns the least limit of memory with which a run ends, within 1 %."""
+
+    def ends(memory):
+        try:
+            image.run(context, replace(BUDGET, memory=memory))
+        except NoMemory:
+            return False
+        return True
+
+    high = 1024
+    while not ends(high):
+        high *= 2
+    low = high // 2
+    while high - low > high // 100:
+        middle = (low + high) // 2
+        low, high = (low, middle) if ends(middle) else (middle, high)
+    return high
+
+
+def by_jt(entry, sources, options, text):
+    """Returns the calls of `jt` by their kinds, and the memory of a run."""
+    image, context = Template(entry, sources, options).compile(), Context(text)
+    return memory_of(image, context), {
+        "ready": lambda: image.run(context, BUDGET),
+        "run": lambda: image.run(text, BUDGET),
+        # (A template keeps its image, so each call makes one anew.)
+        "whole": lambda: Template(entry, sources, options).render(text, BUDGET),
+    }
+
+
+def by_jinja(entry, sources, options, text):
+    """Returns the calls of Jinja2 by their kinds."""
+    chosen = {name: getattr(options, name) for name in Options.__dataclass_fields__}
+    loaded = lambda: SandboxedEnvironment(loader=DictLoader(sources), **chosen).get_template(entry)
+    page, ready = loaded(), json.loads(text)
+    return {
+        "ready": lambda: page.render(ready),
+        "run": lambda: page.render(json.loads(text)),
+        "whole": lambda: loaded().render(json.loads(text)),
+    }
 
 
 def main():
     seconds = float(sys.argv[1]) if len(sys.argv) > 1 else 1.0
-    for name, entry, sources, options, text, wanted in workloads():
-        template = Template(entry, sources, options)
-        image = template.compile()
-        wanted = wanted or image.run(text, BUDGET)
-        run = took(lambda: image.run(text, BUDGET), wanted, seconds)
-        whole = took(lambda: template.render(text, BUDGET), wanted, seconds)
-        print(f"{name}: {len(wanted)} bytes, run {run:.0f}, whole {whole:.0f}", end="")
+    for name, *given, wanted in workloads():
+        memory, calls = by_jt(*given)
+        wanted = wanted or calls["ready"]()
+        own = {kind: took(call, wanted, seconds) for kind, call in calls.items()}
+        print(f"{name}: {len(wanted)} bytes, memory {memory};", ", ".join(f"{kind} {micros:.0f}" for kind, micros in own.items()), end="")
         if SandboxedEnvironment:
-            loaded = lambda: SandboxedEnvironment(loader=DictLoader(sources), **vars(options)).get_template(entry)
-            page, ready = loaded(), json.loads(text)
-            print(", jinja", beside(took(lambda: page.render(json.loads(text)), wanted, seconds), run), end="")
-            print(", ready", beside(took(lambda: page.render(ready), wanted, seconds), run), end="")
-            print(", jinja whole", beside(took(lambda: loaded().render(json.loads(text)), wanted, seconds), whole), end="")
+            others = {kind: took(call, wanted, seconds) for kind, call in by_jinja(*given).items()}
+            print("; jinja", ", ".join(f"{kind} {beside(micros, own[kind])}" for kind, micros in others.items()), end="")
         print(flush=True)
 
 

@@ -1,21 +1,21 @@
 #!/usr/bin/env python3
-"""Counts what Jump, Const and Drop of a number cost `jt run`, in instructions of the machine.
+"""Counts the cost of Jump, Const and Drop of a number in `jt run`, in instructions of the processor.
 
     bench/instructions.py [--jt PATH] [--most N] [--keep FOLDER]
 
-Without --jt it takes the program that `rt run` keeps, crates/jt_cli/out/jt_cli. One image, written by hand as docs/image.md says,
-has 2,000 Jumps, each to the next point, then 1,000 Consts, then 1,000 Drops. It is run until its fuel is spent, under valgrind's
-callgrind, which counts how often the program meets each address. Two fuels within a stretch give two runs, and these differ in the
-instructions between, and in the entries that still stand when the run ends and are dropped then. An address that is met less often
-where more was dropped before is of that last kind: it counts for neither. The status is 1 where an instruction costs more than
---most (40), or where a run ends with anything but its fuel spent. --keep writes the image and callgrind's files to a folder.
+Without --jt it runs the program that `rt run` keeps, crates/jt_cli/out/jt_cli. One image, written by docs/image.md, has 2,000 Jumps, each
+to the next point, then 1,000 Consts, then 1,000 Drops. It runs until its fuel is spent, under valgrind's callgrind, which counts how often
+the program executes each address. Two fuels within the same kind of instruction give two runs. They differ in the instructions between
+both fuels, and in the entries that are left at the end and dropped. An address that is executed less often after more drops belongs to
+the end, and does not count. The status is 1 if an instruction costs more than --most (40), or if a run ends otherwise than with spent fuel.
+--keep writes the image and callgrind's files to a folder.
 """
 import collections, os, pathlib, struct, subprocess, sys, tempfile
 from timing import flags
 
 CONST, DROP, JUMP, RETURN = 0x01, 0x06, 0x0A, 0x1C
 JUMPS, VALUES = 2_000, 1_000
-# the two fuels within each stretch; a stack that grows by doubling does not grow between those of Const
+# the two fuels for each kind; a stack that grows by doubling does not grow between those of Const
 FUELS = {"Jump": (1_100, 1_900), "Const": (JUMPS + 600, JUMPS + 990), "Drop": (JUMPS + 1_100, JUMPS + 1_490)}
 
 
@@ -29,7 +29,7 @@ def image():
 
 
 def counts(program, path, fuel, out):
-    """How often a run with this fuel meets each address of each object."""
+    """Returns how often a run with this fuel executes each address of each object."""
     words = ["valgrind", "--tool=callgrind", "--dump-instr=yes", "--dump-line=no", "--compress-strings=no", "--compress-pos=no"]
     words += [f"--callgrind-out-file={out}", program, "run", "--fuel", str(fuel), path]
     ran = subprocess.run(words, capture_output=True)
@@ -38,7 +38,7 @@ def counts(program, path, fuel, out):
     met, of_call, place = collections.Counter(), False, ""
     for line in pathlib.Path(out).read_text().splitlines():
         if line.startswith("calls="):
-            # (the next line is what the call cost altogether, and stands in its own lines too)
+            # (the next line is the whole cost of the call, which its own lines have too)
             of_call = True
         elif line.startswith("ob="):
             place = line
@@ -51,7 +51,7 @@ def counts(program, path, fuel, out):
 
 
 def between(program, path, folder, fuels):
-    """By address, how much more often the second fuel meets it than the first, for each instruction carried out between."""
+    """Returns, by address, the difference of both runs for each instruction between the two fuels."""
     less, more = (counts(program, path, fuel, f"{folder}/callgrind.{fuel}") for fuel in fuels)
     return {it: (more[it] - less[it]) / (fuels[1] - fuels[0]) for it in less | more}
 

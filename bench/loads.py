@@ -3,11 +3,11 @@
 
     bench/loads.py [--jt PATH] [--loads N] [--items N] [--runs N] [--most RATIO] [--keep FOLDER]
 
-Without --jt it takes the program that `rt run` keeps, crates/jt_cli/out/jt_cli. The images are written by hand, byte by
-byte, as docs/image.md says: a loop loads the value from a local, from a global, by Dup, or as a loop's item, ten times a
-turn, and drops it. Each is run --runs times (3), and the shortest time is printed that the program took of a processor.
-A value is shared and not copied, so a list costs what a number costs. The status is 1 where a list takes more than
---most (2) times as long, or where a run ends with anything but the text `True`. --keep writes the images to a folder.
+Without --jt it runs the program that `rt run` keeps, crates/jt_cli/out/jt_cli. The images are written byte by byte, by docs/image.md: a loop
+loads the value from a local, from a global, by Dup, or as a loop's item, ten times in each turn, and drops it. Each image runs --runs
+times (3), and the script prints the shortest processor time. A value is shared and not copied, so a list costs what a number costs. The
+status is 1 if a list takes more than --most (2) times as long, or if a run does not end with the text `True`. --keep writes the images to a
+folder.
 """
 import os, pathlib, struct, sys, tempfile
 from timing import flags, timed
@@ -28,36 +28,36 @@ def image(globals_count, constants, locals_count, code):
 
 
 def value(of_list):
-    """What is loaded: the number of constant 0, or the list of as many numbers; three instructions in both cases."""
+    """Returns the instructions that make the value: the number of constant 0, or the list of `items` numbers; three in both cases."""
     return [(CONST, 0, 0, 0), (OP, RANGE, 0, 0) if of_list else (JUMP, 0, 0, 2)]
 
 
 def looped(front, load, turns, items, behind):
-    """The front part, a loop of as many turns that loads ten times, and what is behind it."""
+    """Returns the first part, a loop of `turns` turns that loads ten times, and the last part."""
     start = front + [(CONST, 0, 0, 1), (OP, RANGE, 0, 0), (LOOP_START, 0, 0, 0)]
     head = len(start)
     turn = (load + [(DROP, 0, 0, 0)]) * A_TURN + [(JUMP, 0, 0, head)]
     end = head + 1 + len(turn)
     code = start + [(LOOP_NEXT, 0, 0, end)] + turn + [(LOOP_END, 0, 0, 0), (DROP, 0, 0, 0)] + behind
-    # it prints True, where the constant is itself
+    # it prints True, since the constant equals itself
     code += [(CONST, 0, 0, 0), (CONST, 0, 0, 0), (OP, EQUAL, 0, 0), (EMIT, 0, 0, 0), (RETURN, 0, 0, 0)]
     return image(1, [items, turns], 1, code)
 
 
 def images(loads, items):
-    """By the way of loading: an image for a number and one for a list."""
+    """Returns, for each way of loading, an image for a number and one for a list."""
     turns = loads // A_TURN
     drop = [(DROP, 0, 0, 0)]
 
     def item(of_list):
-        # a loop of one item around: its item is loaded
+        # inside a loop of one item, whose item is loaded
         front = value(of_list) + [(MAKE_LIST, 0, 0, 1), (LOOP_START, 0, 0, 0)]
         return front + [(LOOP_NEXT, 0, 0, len(front) + 1)]
 
     ways = {
         "Load": (lambda v: value(v) + [(STORE, 0, 0, 0)], [(LOAD, 0, 0, 0)], []),
         "GLoad": (lambda v: value(v) + [(GSTORE, 0, 0, 0)], [(GLOAD, 0, 0, 0)], []),
-        # the value stands below the loop, so a copy on top is doubled again
+        # the value is below the loop, so a copy on top is doubled again
         "Dup": (lambda v: value(v) + [(STORE, 0, 0, 0)], [(LOAD, 0, 0, 0), (DUP, 0, 0, 0), (DROP, 0, 0, 0)], []),
         "LoopGet": (item, [(LOOP_GET, 0, 0, 1)], [(LOOP_END, 0, 0, 0)] + drop),
     }
@@ -65,7 +65,7 @@ def images(loads, items):
 
 
 def run(program, path):
-    """What a run printed, and the processor time that it took."""
+    """Returns the output of a run and its processor time."""
     budget = ["--fuel", str(10**12), "--size", str(2**32 - 1), "--nesting", "255", "--output", "1000"]
     took, ran = timed([program, "run", path, *budget])
     return ran.stdout or ran.stderr, took

@@ -1,4 +1,4 @@
-"""What the benchmarks of the program share: their flags, the processor's time of a run, and one line a row."""
+"""The parts that the benchmarks of the program share: flags, the processor time of a run, and one line for each row."""
 import argparse, pathlib, resource, subprocess, sys
 
 sys.dont_write_bytecode = True
@@ -6,27 +6,27 @@ ROOT = pathlib.Path(__file__).resolve().parent.parent
 
 
 def flags(doc):
-    """A parser of flags, with --jt: the program that `rt run` keeps, if it isn't given."""
+    """Returns a parser of flags, with --jt: by default the program that `rt run` keeps."""
     parser = argparse.ArgumentParser(description=doc, formatter_class=argparse.RawDescriptionHelpFormatter)
     parser.add_argument("--jt", default=str(ROOT / "crates/jt_cli/out/jt_cli"), type=lambda path: str(pathlib.Path(path).resolve()))
     return parser
 
 
 def processor_seconds():
-    """What the processes that this one has waited for took of a processor."""
+    """Returns the processor time of the processes that this one has waited for."""
     used = resource.getrusage(resource.RUSAGE_CHILDREN)
     return used.ru_utime + used.ru_stime
 
 
 def timed(words, **how):
-    """The seconds that a process took of a processor, and what it gave."""
+    """Returns the processor time of a process in seconds, and its result."""
     begin = processor_seconds()
     ran = subprocess.run(words, capture_output=True, **how)
     return processor_seconds() - begin, ran
 
 
 def sized(doc, flag, size, runs, most):
-    """The flags of a benchmark whose rows come in sizes, each twice the one before: --FLAG is the greatest."""
+    """Returns the flags of a benchmark whose rows have several sizes, each twice the one before: --FLAG is the greatest."""
     parser = flags(doc)
     parser.add_argument(f"--{flag}", dest="size", type=int, default=size)
     parser.add_argument("--steps", type=int, default=1)
@@ -39,7 +39,7 @@ def sized(doc, flag, size, runs, most):
 
 
 class Rows:
-    """The rows of a run that are wanted, and how many of them were out of order."""
+    """The rows that a run wants, and the number of those that failed."""
 
     def __init__(self, asked):
         self.asked, self.failed = asked, 0
@@ -48,7 +48,7 @@ class Rows:
         return not self.asked.names or name in self.asked.names
 
     def tell(self, name, times, answer, is_right, most=None):
-        """Prints a row: its times, the answer's beginning, its name, and what is wrong with it. It may take --most, unless it has its own bound."""
+        """Prints a row: its times, the start of the result, its name, and its failure. Its bound is --most, unless it has its own."""
         wrong = [] if is_right else ["another answer"]
         wrong += ["slow"] if times[-1] > (most or self.asked.most) else []
         self.failed += bool(wrong)
@@ -56,6 +56,6 @@ class Rows:
         print(line + "".join(f"  <-- {it}" for it in wrong), flush=True)
 
     def end(self):
-        """Prints how many rows were out of order, and ends with 1 where one was."""
+        """Prints the number of rows that failed, and ends with 1 if one failed."""
         print(f"{self.failed} out of order")
         sys.exit(self.failed > 0)

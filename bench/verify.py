@@ -1,13 +1,13 @@
 #!/usr/bin/env python3
-"""Times `jt check` on images of 262,144 instructions that are hard on a verifier: long shapes that meet, are made and are searched;
-and on images of 16 MiB whose tables are full.
+"""Times `jt check` on images of 262,144 instructions that could be slow to verify: long shapes that meet, are made and are searched; and on
+images of 16 MiB with full tables.
 
     bench/verify.py [--jt PATH] [--runs N] [--most SECONDS] [--room MB] [--keep FOLDER] [NAME ..]
 
-Without --jt it takes the program that `rt run` keeps, crates/jt_cli/out/jt_cli. The images are written by hand, byte by byte,
-as docs/image.md says. Each is checked --runs times (3); the shortest time is printed that the program took of a processor, less
-that of an image of one instruction, and the most memory that it held. The status is 1 where an image takes more than --most
-(0.1 seconds) or --room (40 MB), or where the answer is none that it should have. --keep writes the images to a folder.
+Without --jt it runs the program that `rt run` keeps, crates/jt_cli/out/jt_cli. The images are written byte by byte, by docs/image.md. Each
+is checked --runs times (3). The script prints the shortest processor time, without that of an image of one instruction, and the greatest
+memory. The status is 1 if an image takes more than --most (0.1 seconds) or --room (40 MB), or if the result is not the wanted one. --keep
+writes the images to a folder.
 """
 import os, pathlib, struct, subprocess, sys, tempfile
 from timing import flags
@@ -23,7 +23,7 @@ def of(opcode, c=0, a=0):
 
 
 def image(units, names=(), constants=(b"\0",)):
-    """An image of these units, whose constants, as they are spelled, are by default one, undefined; an instruction is (opcode, a, b, c)."""
+    """Returns an image of these units; its constants, as bytes, are by default one, undefined; an instruction is (opcode, a, b, c)."""
     parts = [b"JTBC", struct.pack("<HHH", 1, len(names), len(names))]
     parts += [struct.pack("<HH", slot, len(name)) + name for slot, name in enumerate(names)]
     parts += [struct.pack("<H", len(constants)), *constants, struct.pack("<H", len(units))]
@@ -33,12 +33,12 @@ def image(units, names=(), constants=(b"\0",)):
 
 
 def filled(front, piece, back):
-    """As many pieces as there is room for."""
+    """Returns the greatest number of pieces that fits."""
     return front + piece * ((MOST - len(front) - len(back)) // len(piece)) + back
 
 
 def joins():
-    """The same 1,000 values come to one point 130,000 times."""
+    """Brings the same 1,000 values to one point 130,000 times."""
     front, back = [of(CONST)] * TALL, [of(DROP)] * TALL + [of(RETURN)]
     piece = [of(DUP), of(JUMP_IF_FALSE)]
     count = (MOST - len(front) - len(back)) // 2
@@ -47,11 +47,11 @@ def joins():
 
 
 def captured():
-    """The same with 1,000 captures, which are opened anew for each join."""
+    """Brings 1,000 captures to one point, which are opened again for each join."""
     back = ([of(CAPTURE_END), of(DROP)]) * TALL + [of(RETURN)]
     piece = [of(CONST), of(JUMP_IF_FALSE)]
     opened = [of(CAPTURE_BEGIN)] * TALL
-    # a round: one way opens the captures here, the other one further on, and both meet behind
+    # a round: one path opens the captures here, the other one later, and both meet after that
     rounds, code = [], []
     while len(code) + 2 * (2 * TALL + 4) + len(back) + 2 * TALL < MOST:
         start = len(code)
@@ -63,7 +63,7 @@ def captured():
 
 
 def unpacked():
-    """A thousand values on ten thousand different shapes."""
+    """Puts a thousand values on ten thousand different shapes."""
     code, number = [], 0
     while len(code) + 80 < MOST:
         bits = [number >> i & 1 for i in range(14)]
@@ -76,12 +76,12 @@ def unpacked():
 
 
 def spread():
-    """A thousand values made and taken again and again."""
+    """Pushes and pops a thousand values repeatedly."""
     return filled([of(CONST)], [of(UNPACK, TALL), of(MAKE_LIST, TALL)], [of(DROP), of(RETURN)])
 
 
 def marked():
-    """As many different shapes with a mark at the top as there is room for."""
+    """Makes the greatest number of different shapes with a loop or capture at the top."""
     code, depth = [], 0
     while len(code) + 2 * 850 + 3 + 2 * depth + 3 < MOST:
         code += [of(CAPTURE_BEGIN), of(CAPTURE_END)] * 850 + [of(MAKE_LIST, 850), of(DROP), of(CAPTURE_BEGIN)]
@@ -90,50 +90,50 @@ def marked():
 
 
 def searched():
-    """The outermost of 1,000 loops is asked again and again."""
+    """Reads a field of the outermost of 1,000 loops repeatedly."""
     front, back = [of(CONST), of(LOOP_START)] * TALL, [of(LOOP_END), of(DROP)] * TALL + [of(RETURN)]
     return filled(front, [of(LOOP_GET, TALL - 1, 1), of(DROP)], back)
 
 
 def waiting():
-    """A hundred thousand paths wait at once."""
+    """Makes a hundred thousand paths wait at the same time."""
     count = (MOST - 1) // 2
     return [i for _ in range(count) for i in (of(CONST), of(JUMP_IF_FALSE, 2 * count))] + [of(RETURN)]
 
 
 def units():
-    """As many units as there may be."""
+    """Makes the greatest number of units."""
     return [[of(CONST), of(DROP), of(RETURN)]] * 65_535
 
 
 def scattered():
-    """Jumps to everywhere, each of them forwards, from points with the same value on the stack."""
+    """Jumps forwards to all points, from points with the same value on the stack."""
     count = (MOST - 3) // 2
     targets = [2 * n + 1 + 2 * (n * 48_271 % (count - n)) for n in range(count)]
     return [of(CONST)] + [i for target in targets for i in (of(DUP), of(JUMP_IF_FALSE, target + 2))] + [of(DROP), of(RETURN)]
 
 
 def entries():
-    """As many entries as there may be at once, made and taken again and again."""
+    """Pushes and pops the greatest number of entries repeatedly."""
     return filled([], [of(CONST)] * 1_024 + [of(DROP)] * 1_024, [of(RETURN)])
 
 
 def full_of_names():
-    """As many names as there may be, which take 16 MiB together."""
+    """Makes the greatest number of names, of 16 MiB together."""
     return image([[of(RETURN)]], names=[f"{n:05}".encode() + b"n" * 246 for n in range(65_535)])
 
 
 def full_of_texts():
-    """The same of constants, equal ones: each is a text."""
+    """Makes the greatest number of constants, equal texts of 16 MiB together."""
     return image([[of(RETURN)]], constants=[b"\5" + struct.pack("<I", 250) + b"t" * 250] * 65_535)
 
 
 def one_text():
-    """One constant of 16 MiB."""
+    """Makes one constant of 16 MiB."""
     return image([[of(RETURN)]], constants=[b"\5" + struct.pack("<I", 16_777_000) + b"t" * 16_777_000])
 
 
-# images of 16 MiB, by their bytes
+# the images of 16 MiB
 LARGE = {"names": full_of_names, "texts": full_of_texts, "one text": one_text}
 
 IMAGES = {
@@ -151,7 +151,7 @@ IMAGES = {
 
 
 def check(program, path):
-    """What was printed, the processor time in seconds and the most memory in MB."""
+    """Returns the output, the processor time in seconds and the greatest memory in MB."""
     read, write = os.pipe()
     process = subprocess.Popen([program, "check", path], stdout=write, stderr=write)
     os.close(write)
@@ -163,7 +163,7 @@ def check(program, path):
 
 
 def keep(folder, names):
-    """Writes the images, each with the line that `jt check` must print of it."""
+    """Writes the images, each with the line that `jt check` must print."""
     pathlib.Path(folder, "small.jtbc").write_bytes(image([[of(RETURN)]]))
     for name in names:
         if name in LARGE:
@@ -178,7 +178,7 @@ def keep(folder, names):
 
 
 def least(program, path, runs):
-    """The answers of some runs, the shortest time and the least memory."""
+    """Returns the outputs of some runs, the shortest time and the least memory."""
     told = [check(program, path) for _ in range(runs)]
     return {it[0] for it in told}, min(it[1] for it in told), min(it[2] for it in told)
 
@@ -197,7 +197,7 @@ def main():
         return keep(given.keep, names)
     bad = False
     with tempfile.TemporaryDirectory(prefix="jt-verify-") as folder:
-        # (another process writes them: what this one holds, some 14 MB, counts as that of the programs that it starts)
+        # (another process writes them, since the memory of this one, some 14 MB, counts as that of the programs that it starts)
         subprocess.run([sys.executable, __file__, "--keep", folder, *names], check=True)
         _, base, _ = least(given.jt, f"{folder}/small.jtbc", given.runs)
         for name in names:

@@ -1,8 +1,13 @@
 #!/bin/bash
-# Builds and tries the bindings in C, Python and Rust over the static library, and renders
-# examples/: bindings/test.sh PROGRAM takes the library of the tree in which that program was built,
-# or that of this one; where there is none yet, rt builds it.
-# Its last line is 'N passed, M failed', and its status is 0 where none failed.
+# Builds, installs and tries what hosts use, over the static library: bindings/test.sh PROGRAM
+#
+# Tries C and the system; a wheel in a fresh virtual environment; the packed crate with a fresh
+# CARGO_HOME, over the static library and over what is installed under a fresh prefix; examples/;
+# and the examples of the documents over the installed program and package. All is built in a
+# temporary folder, offline, with neither a network nor a package of Python but pip.
+#
+# The library is that of the tree in which PROGRAM was built, or that of this tree, or the one that
+# JT_STATIC_LIBRARY names. If a tree has none, rt builds it. The last line is 'N passed, M failed'.
 set -u
 program=$(realpath "${1:?usage: bindings/test.sh PROGRAM}") || exit 2
 here=$(realpath "$(dirname "$0")")
@@ -11,67 +16,114 @@ failed=0
 room=$(mktemp -d)
 trap 'rm -rf "$room"' EXIT
 
-# Counts one trial: its name, and the words that run it. What they say is shown where they fail.
+# Counts a trial: its name, and a command. A command whose last line is 'N passed, M failed' counts
+# as that; what a command prints is shown if it fails.
 try() {
-    local name=$1
+    local name=$1 status=0
     shift
-    if "$@" > "$room/said" 2>&1; then
-        passed=$((passed + 1))
+    (cd / && "$@") > "$room/said" 2>&1 || status=1
+    if [[ $(tail -n 1 "$room/said") =~ ^([0-9]+)\ passed,\ ([0-9]+)\ failed$ ]]; then
+        passed=$((passed + BASH_REMATCH[1]))
+        failed=$((failed + (BASH_REMATCH[2] > 0 ? BASH_REMATCH[2] : status)))
     else
-        failed=$((failed + 1))
+        passed=$((passed + 1 - status))
+        failed=$((failed + status))
+    fi
+    if [ "$status" -ne 0 ]; then
         echo "$name: failed"
-        tail -n 20 "$room/said"
+        tail -n 30 "$room/said"
     fi
 }
 
-# The same where what is written has to be a file's text.
-try_writes() {
-    local name=$1 wanted=$2
-    shift 2
-    if "$@" > "$room/found" 2> "$room/said" && cmp -s "$wanted" "$room/found"; then
-        passed=$((passed + 1))
-    else
-        failed=$((failed + 1))
-        echo "$name: failed"
-        diff "$wanted" "$room/found" | head -n 10
-        tail -n 20 "$room/said"
-    fi
+# Checks that a command writes the text of a file.
+writes() { "${@:2}" | diff "$1" -; }
+
+# Finds the static library, or has it built.
+find_library() {
+    local crate
+    for crate in "${program%/*}/../../jt_ffi" "$here/../crates/jt_ffi"; do
+        if [ -d "$crate/src" ] && [ ! -f "$crate/out/libjt_ffi.a" ]; then
+            (cd "$crate/../.." && tools/static_library.py jt_ffi) > "$room/built" 2>&1
+            # (2: no library below it is built yet)
+            if [ $? -eq 2 ]; then (cd "$crate" && rt lib --jobs 1) > "$room/built" 2>&1; fi
+            if [ ! -f "$crate/out/libjt_ffi.a" ]; then tail -n 5 "$room/built"; fi
+        fi
+        if [ -f "$crate/out/libjt_ffi.a" ]; then
+            realpath "$crate/out/libjt_ffi.a"
+            return
+        fi
+    done
+    echo "$room/libjt_ffi.a"
 }
 
-# The folder of the library: that beside the program, or that of this tree.
-for crate in "${program%/*}/../../jt_ffi" "$here/../crates/jt_ffi"; do
-    if [ -d "$crate/src" ] && [ ! -f "$crate/out/libjt_ffi.a" ]; then
-        (cd "$crate/../.." && bench/static_library.py jt_ffi) > "$room/built" 2>&1
-        # (2: no library below it is built yet)
-        if [ $? -eq 2 ]; then (cd "$crate" && rt lib --jobs 1) > "$room/built" 2>&1; fi
-        if [ ! -f "$crate/out/libjt_ffi.a" ]; then tail -n 5 "$room/built"; fi
-    fi
-    if [ -f "$crate/out/libjt_ffi.a" ]; then
-        break
-    fi
-done
-library=$crate/out/libjt_ffi.a
-export JT_LIBRARY=$room/libjt.so PYTHONPATH=$here/python PYTHONDONTWRITEBYTECODE=1
-export JT_LIBRARY_DIR=$crate/out CARGO_TARGET_DIR=$room/target CARGO_NET_OFFLINE=true
-strict=(-std=c11 -O2 -Wall -Wextra -Werror -pedantic)
+# Makes a virtual environment with the wheel of the package.
+environment() {
+    python3 -m pip wheel --quiet --no-index --no-deps --disable-pip-version-check \
+        --wheel-dir "$room" "$here/python" &&
+        python3 -m venv "$room/venv" &&
+        "$room/venv/bin/python" -m pip install --quiet --no-index --disable-pip-version-check \
+            "$room"/jt-*.whl
+}
+
+# Runs the installed Python, which finds the installed package and nothing else.
+installed_python() { env -u JT_LIBRARY -u PYTHONPATH "$room/venv/bin/python" -I "$@"; }
+
+# Runs the examples of the documents over the installed program and package. (A library without a
+# proof warns.)
+documents() {
+    env JT_LIBRARY= PYTHONPATH= PYTHONWARNINGS=ignore PATH="$room/venv/bin:$PATH" \
+        "$room/venv/bin/python" "$here/../docs/run_examples.py" "$room/prefix/bin/jt"
+}
+
+# Packs the crate and unpacks it in a folder of its own.
+pack() {
+    (cd "$here/rust" && cargo package --quiet --allow-dirty --no-verify) &&
+        mkdir "$room/crate" &&
+        tar -xf "$CARGO_TARGET_DIR"/package/jt-*.crate -C "$room/crate" --strip-components=1
+}
+
+# Runs cargo in the unpacked crate.
+packed() { (cd "$room/crate" && cargo "$@"); }
+
+# Tests the unpacked crate over the installed library alone.
+over_the_prefix() {
+    env -u JT_LIBRARY_DIR CARGO_TARGET_DIR="$room/target-installed" \
+        PKG_CONFIG_PATH="$room/prefix/lib/pkgconfig" LD_LIBRARY_PATH="$room/prefix/lib" \
+        cargo test --quiet --lib --test calls --manifest-path "$room/crate/Cargo.toml"
+}
+
+# Builds the crate with a folder that has no library: the message has the command that makes one.
+without_library() {
+    ! JT_LIBRARY_DIR=$room packed build --quiet > "$room/message" 2>&1 &&
+        grep 'cd crates/jt_ffi && rt lib' "$room/message"
+}
+
+library=${JT_STATIC_LIBRARY:-$(find_library)}
+mkdir "$room/home"
+export JT_STATIC_LIBRARY=$library JT_LIBRARY=$room/libjt.so PYTHONPATH=$here/python
+export PYTHONDONTWRITEBYTECODE=1 JT_LIBRARY_DIR=${library%/*} CARGO_NET_OFFLINE=true
+export CARGO_TARGET_DIR=$room/target CARGO_HOME=$room/home
 
 try 'the library' test -f "$library"
-try 'the header in C++' c++ -x c++ -Wall -Wextra -Werror -fsyntax-only "$here/c/jt.h"
-for name in example test; do
-    sources=("$here/c/$name.c" "$here/c/heap.c")
-    try "$name.c" "${CC:-cc}" "${strict[@]}" -pthread -o "$room/$name" "${sources[@]}" "$library"
-done
-try 'memory.c' "${CC:-cc}" "${strict[@]}" -o "$room/memory" "$here/c/memory.c" "$library"
-try_writes 'the example in C' "$here/c/expected" "$room/example"
-try 'the tests in C' "$room/test"
-try 'the growths in C' "$room/memory"
+try 'C and the system' "$here/c/test.sh" "$library" "$program"
+try 'a fresh prefix' make -s -C "$here" install LIBRARY="$library" PROGRAM="$program" \
+    OUT="$room/out" PREFIX="$room/prefix"
+
 try 'the shared library' "$here/build.sh" "$library" "$room"
-try_writes 'the example in Python' "$here/python/expected" python3 "$here/python/example.py"
-try 'the tests in Python' python3 "$here/python/test_jt.py"
-try 'examples/ in Python' python3 "$here/python/examples.py" "$here/../examples"
-cd "$here/rust" || exit 2
-try_writes 'the example in Rust' "$here/rust/expected" cargo run -q --example hello
-try 'the tests in Rust' cargo test -q
+try 'the tests in Python from the tree' python3 "$here/python/test_jt.py"
+try 'messages of the build in Python' python3 "$here/python/test_install.py"
+try 'the wheel in a fresh environment' environment
+try 'the tests in Python' installed_python "$here/python/test_jt.py"
+try 'the example in Python' writes "$here/python/expected" installed_python \
+    "$here/python/example.py"
+try 'examples/ in Python' installed_python "$here/python/examples.py" "$here/../examples"
+try 'the documents' documents
+
+try 'the packed crate' pack
+try 'the tests in Rust' packed test --quiet
+try 'the example in Rust' writes "$here/rust/expected" packed run --quiet --example hello
+try 'the crate over the prefix' over_the_prefix
+try 'the crate without a library' without_library
 
 echo "$passed passed, $failed failed"
 [ "$failed" -eq 0 ]

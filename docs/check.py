@@ -1,20 +1,23 @@
 #!/usr/bin/env python3
-"""Checks the documents against the tree: docs/check.py [PROGRAM] (the gate names the program, which isn't asked here)
+"""Checks the documents against the tree: docs/check.py [PROGRAM]
 
-Documents are README.md, CONTRIBUTING.md, CHANGELOG.md and those of docs/, at any depth. It is checked
+The gate passes a program, which this script does not need. The documents are README.md, CONTRIBUTING.md, CHANGELOG.md, SECURITY.md,
+tests/README.md and all of docs/. The script checks
 
-    of each link in a document     that the file is there, and the heading, where one is named
-    of each `crates/..`, `rows/..` and the like     that the file or folder is there; one with capitals or a * as a name is a pattern
-    of each file with a line (`runs.rt:36` and a word behind it)     that this word stands on that line
-    of each jt_.. name             that it is a crate or a call of bindings/c/jt.h, and of `jt_..::name` that the crate has an item of this name
-    of each `Type::call`           that a crate with a type of this name has such a call
-    of each call of contracts.md   that the crate of its heading has it; of each module of definitions.md, that it is in specs/
-    of each example of errors.md and from-jinja.md (a line with ` => ` in a code block or a table)     that it is a row of rows/
-    of each code block behind a line that ends with a link to a file of code and a colon     that the file has these lines
-    of README.md                   that it has at most 7,000 bytes, and the crates in the order of crates.txt, each behind those it names
-    of docs/                       that each document is reached by links from README.md
+    each link                      the file exists, and so does the heading if one is named
+    each `crates/..`, `tests/..` and the like      the file or folder exists; a path with capitals or a * is a pattern
+    each file with a line (`runs.rt:36` and a word after it)     the word is on that line
+    each jt_.. name                it is a crate or a call of bindings/c/jt.h; of `jt_..::name` the crate has an item of this name
+    each `Type::call`              a crate with a type of this name has the call
+    each call of contracts.md      the crate of its heading has it
+    each module of definitions.md  it is in specs/ of the crate
+    each example of errors.md, from-jinja.md and tests/README.md (a line with ` => ` in a code block or a table)     it is a row of tests/rows/
+    each code block after a line that ends with a link to a file of code and a colon      the file has these lines
+    README.md                      it has at most 7,000 bytes
+    docs/architecture.md           it lists the crates of crates.txt, in the same order, each after those that it names
+    each document                  links lead to it from README.md
 
-What is wrong is printed. The last line is 'N passed, M failed', and the status is 1 where one failed.
+It prints each failure. The last line is 'N passed, M failed', and the status is 1 if one failed.
 """
 import pathlib
 import re
@@ -25,7 +28,7 @@ ROOT = pathlib.Path(__file__).resolve().parent.parent
 MOST = 7000
 LINK = re.compile(r"(?<!!)\[[^\]]*\]\(([^)\s]+)\)")
 QUOTED = re.compile(r"\[[^\]]*\]\(([^)\s]+\.(?:rt|rs|c|py))\):\n\n((?: {4}.*\n|\n(?= {4}))+)")
-FOLDERS = "crates|rows|docs|bench|examples|bindings"
+FOLDERS = "crates|tests|tools|docs|bench|examples|bindings"
 PATH = re.compile(rf"(?<![\w/.])(?:\.ci/\w+|(?:{FOLDERS})/[\w./*+-]*[\w*/])")
 PLACED = re.compile(r"((?:crates)/[\w./-]+\.rt):(\d+) `(\w+)`")
 CRATE = re.compile(r"\bjt_[a-z_]+\b")
@@ -34,21 +37,21 @@ IN_CRATE = re.compile(r"`(?:(jt_[a-z_]+)::)([\w:]+)`")
 CALL = re.compile(r"`([A-Z]\w*)::([a-z]\w*)`")
 HEADING = re.compile(r"^#+ (.*)$", re.M)
 ITEM = r"\b(?:fn|struct|enum|trait|type|const|mod)\s+{0}\b|\bpub use [^;]*\b{0}\b"
-SHOWING = ("errors.md", "from-jinja.md")
-# the examples of which embedding.md shows lines
+SHOWING = ("docs/errors.md", "docs/from-jinja.md", "tests/README.md")
+# the examples that embedding.md quotes
 HOSTS = ("main.rt", "example.c", "hello.rs", "example.py")
-# types of the kit, whose calls documents name
+# the kit's types with calls that documents name
 KIT = {"Rc", "Vec", "String", "Write"}
 
 
 def documents():
     """The documents, README.md first."""
-    top = [ROOT / name for name in ("README.md", "CONTRIBUTING.md", "CHANGELOG.md")]
+    top = [ROOT / name for name in ("README.md", "CONTRIBUTING.md", "CHANGELOG.md", "SECURITY.md", "tests/README.md")]
     return [*top, *sorted((ROOT / "docs").rglob("*.md"))]
 
 
 def anchor(heading):
-    """The name that a heading has in links."""
+    """The name of a heading in links."""
     return re.sub(r"[^\w\- ]", "", heading.strip().lower().replace("`", "")).replace(" ", "-")
 
 
@@ -63,16 +66,18 @@ def crates():
 
 
 def sources():
-    """The code of each crate."""
+    """The code of each crate, and of the crate for Rust hosts."""
+    folders = {crate: (ROOT / "crates" / crate / "src", "*.rt") for crate in crates()}
+    folders["jt"] = (ROOT / "bindings" / "rust" / "src", "*.rs")
     return {
-        crate: "\n".join(file.read_text(encoding="utf-8") for file in sorted((ROOT / "crates" / crate / "src").rglob("*.rt")))
-        for crate in crates()
+        crate: "\n".join(file.read_text(encoding="utf-8") for file in sorted(folder.rglob(ending)))
+        for crate, (folder, ending) in folders.items()
     }
 
 
 def rows():
-    """The rows of rows/: each line of a file."""
-    return {line.strip() for file in (ROOT / "rows").glob("*.txt") for line in file.read_text(encoding="utf-8").splitlines()}
+    """The rows of tests/rows/: each line of a file."""
+    return {line.strip() for file in (ROOT / "tests" / "rows").glob("*.txt") for line in file.read_text(encoding="utf-8").splitlines()}
 
 
 def examples(text):
@@ -86,19 +91,19 @@ def examples(text):
 
 
 def stands_in(block, text):
-    """Whether lines stand behind one another in a text, at any indent."""
+    """Whether a text has these lines in sequence, at any indent."""
     wanted, lines = textwrap.dedent(block).strip().splitlines(), text.splitlines()
     slices = (lines[at : at + len(wanted)] for at in range(len(lines)))
     return any(textwrap.dedent("\n".join(it)).splitlines() == wanted for it in slices)
 
 
 def declared():
-    """The names of the header for other languages."""
+    """The names that bindings/c/jt.h declares."""
     return set(CRATE.findall((ROOT / "bindings" / "c" / "jt.h").read_text(encoding="utf-8")))
 
 
 class Checks:
-    """What passed, and what is wrong."""
+    """The number of checks that passed, and the failures."""
 
     def __init__(self):
         self.passed, self.wrong = 0, []
@@ -109,7 +114,7 @@ class Checks:
             self.wrong.append(f"{where.relative_to(ROOT)}: {what}")
 
     def links(self, file, text):
-        """The links of a document; returns the documents that it leads to."""
+        """Checks the links of a document, and returns the documents that it leads to."""
         reached = set()
         for link in LINK.findall(text):
             if "://" in link:
@@ -123,7 +128,7 @@ class Checks:
         return reached
 
     def paths(self, file, text):
-        """The files and folders that are named, and the lines."""
+        """Checks the files, folders and lines that a document names."""
         for path in set(PATH.findall(LINK.sub("", text))):
             # (the gate leaves out edits that have another turn)
             path = re.sub("/(must-fail|more-edits).*", "", path)
@@ -135,7 +140,7 @@ class Checks:
             self.holds(any(re.search(rf"\b{word}\b", line) for line in on_line), file, f"{path}:{number} has no {word}")
 
     def names(self, file, text, code):
-        """The crates, and the calls of types and crates, that are named."""
+        """Checks the crates, and the calls of types and crates, that a document names."""
         for crate in set(CRATE.findall(text)):
             self.holds(crate in code or crate in declared(), file, f"no crate: {crate}")
         for crate, name in set(IN_CRATE.findall(text)):
@@ -146,7 +151,7 @@ class Checks:
             self.holds(known or kind in KIT, file, f"no call: {kind}::{call}")
 
     def promised(self, file, text, code):
-        """Of contracts.md: the calls under the heading of their crate."""
+        """Checks the calls of contracts.md: each belongs to the crate of its heading."""
         crate = None
         for line in text.splitlines():
             heading = re.match(r"### (jt_\w+)", line)
@@ -156,7 +161,7 @@ class Checks:
                 self.holds(re.search(ITEM.format(name), code.get(crate, "")), file, f"{crate} has no {name}")
 
     def quoted(self, file, text):
-        """The lines that a document shows of files of code; of embedding.md some of each host."""
+        """Checks the lines that a document quotes from files of code; embedding.md quotes each host."""
         named = set()
         for path, block in QUOTED.findall(text):
             to = (file.parent / path).resolve()
@@ -164,10 +169,10 @@ class Checks:
             there = to.exists() and stands_in(block, to.read_text(encoding="utf-8"))
             self.holds(there, file, f"{path} has no lines as {block.strip().splitlines()[0]}")
         for host in HOSTS if file.name == "embedding.md" else ():
-            self.holds(host in named, file, f"it shows nothing of {host}")
+            self.holds(host in named, file, f"it quotes nothing from {host}")
 
     def defined(self, file, text):
-        """Of definitions.md: the modules that the rows of its tables name stand in specs/ of the crates that they name."""
+        """Checks the tables of definitions.md: each module is in specs/ of its crate."""
         for line in text.splitlines():
             cells = [cell.strip() for cell in line.strip("|").split(" | ")]
             place = cells[1] if len(cells) == 3 else " ".join(cells)
@@ -176,22 +181,24 @@ class Checks:
                 for word in re.findall(r"jt_[a-z_]+|`\w+`", place):
                     crate = word if word.startswith("jt_") else crate
                     if word.startswith("`"):
-                        module = ROOT / "crates" / str(crate) / "specs" / f"{word[1:-1]}.antt"
-                        self.holds(module.exists(), file, f"no module: {crate}, {word}")
+                        specs = ROOT / "crates" / str(crate) / "specs"
+                        there = any((specs / part / f"{word[1:-1]}.antt").exists() for part in ("", "internal"))
+                        self.holds(there, file, f"no module: {crate}, {word}")
 
     def order(self):
-        """README.md, crates.txt and docs/architecture.md have the crates in one order, each behind those that it names."""
+        """crates.txt lists each crate after those that it names, and docs/architecture.md lists the same crates in the same order."""
         above = set()
         for line in (ROOT / "crates.txt").read_text(encoding="utf-8").splitlines():
             if line.strip() and not line.startswith("#"):
                 crate, _, named = line.partition(":")
                 below = [it for it in named.split() if it in crates() and it not in above]
-                self.holds(not below, ROOT / "crates.txt", f"{crate} stands above {' '.join(below)}")
+                self.holds(not below, ROOT / "crates.txt", f"{crate} is listed before {' '.join(below)}")
                 above.add(crate.split()[0])
-        for name, behind in (("README.md", "The crates, lowest first"), ("docs/architecture.md", "| Crate | What stands in it |")):
-            text = (ROOT / name).read_text(encoding="utf-8").partition(behind)[2]
-            found = list(dict.fromkeys(CRATE.findall(text)))[: len(crates())]
-            self.holds(found == crates(), ROOT / name, "the crates stand in another order than in crates.txt")
+        listing = ROOT / "docs/architecture.md"
+        found = re.findall(r"(?m)^\| (jt_[a-z_]+) \|", listing.read_text(encoding="utf-8"))
+        for crate in crates():
+            self.holds(crate in found, listing, f"the table does not list {crate}")
+        self.holds(found == crates(), listing, "the table lists other crates than crates.txt, or in another order")
 
 
 def main():
@@ -203,7 +210,7 @@ def main():
         checks.paths(file, text)
         checks.names(file, text, code)
         checks.quoted(file, text)
-        if file.name in SHOWING:
+        if str(file.relative_to(ROOT)) in SHOWING:
             shown = list(examples(text))
             checks.holds(shown, file, "it shows no row")
             for row in shown:
@@ -222,7 +229,7 @@ def main():
             reached.add(file)
             waiting += leads.get(file, ())
     for file in documents():
-        checks.holds(file in reached, file, "no way leads here from README.md")
+        checks.holds(file in reached, file, "no links lead here from README.md")
     for it in checks.wrong:
         print(it)
     print(f"{checks.passed} passed, {len(checks.wrong)} failed")

@@ -1,9 +1,14 @@
-/* Images, sources and contexts that nobody wrote, against the static library, as targets of libFuzzer. See run.sh.
+/* Calls of the static library with inputs that nobody wrote, as targets of libFuzzer. See run.sh.
  *
- * -DTARGET=image: an input is the bytes of an image, which is checked and run. -DTARGET=source: it is the source of the template `t`,
- * or, with bytes 0 between them, of `t` and of `u` and `v`, which `t` may extend, include and import. -DTARGET=context: it is the
- * context of a template that looks at it in many ways. What has to hold is said at each `demand`. -DTARGET=seed is no target: it
- * writes the image of a source into the folder that IMAGES names. */
+ * -DTARGET=image    an input is the bytes of an image, which is checked and run
+ * -DTARGET=source   it is the source of the template `t`, or, with bytes 0 between them, of `t` and of `u` and `v`, which `t` may
+ *                   extend, include and import
+ * -DTARGET=context  it is the context of a template that looks at it in many ways
+ * -DTARGET=compare  it is a context, a byte 0 and sources, which end alike in each way to render them
+ * -DTARGET=handles  it is calls over handles, as its first bytes say, then a byte 0, a context, a byte 0 and sources
+ * -DTARGET=seed     no target: it writes the image of a source into the folder that IMAGES names
+ *
+ * What has to hold is said at each `demand`. */
 #include "../../bindings/c/jt.h"
 #include <stdio.h>
 #include <stdlib.h>
@@ -139,6 +144,194 @@ void context(const uint8_t *data, size_t size) {
     const struct jt_answer again = jt_run(made, looks.length, data, size, budget, also, ROOM);
     demand(is_ended(first) || is_refused(first, told, "X"), "a context is read or refused");
     demand(same(first, told, again, also), "the same context gives the same");
+}
+
+/* The parts of an input that is a head, a byte 0 and a rest. */
+struct parts {
+    const uint8_t *head, *rest;
+    size_t head_size, rest_size;
+};
+
+static struct parts parted(const uint8_t *data, size_t size) {
+    const uint8_t *end = size > 0 ? memchr(data, 0, size) : NULL;
+    const size_t head = end ? (size_t)(end - data) : size;
+    return (struct parts){data, end ? end + 1 : data + size, head, end ? size - head - 1 : 0};
+}
+
+/* Renders templates for a context by a library, an image and a context that are kept, as the program does in one call. */
+static struct jt_answer render_kept(const struct templates *it, const uint8_t *json, size_t size, uint8_t *out) {
+    static uint8_t image_bytes[ROOM], compiled_bytes[ROOM];
+    struct jt_library library = {0};
+    struct jt_image image = {0}, loaded = {0};
+    struct jt_context values = {0};
+    struct jt_outcome outcome = {0};
+    struct jt_answer answer = jt_library_load(it->texts, it->length, it->lengths, it->count, &library, out, ROOM);
+    if (answer.status == JT_DONE) {
+        answer = jt_context_load(json, size, &values, out, ROOM);
+    }
+    if (answer.status == JT_DONE) {
+        answer = jt_library_compile(&library, (const uint8_t *)"t", 1, options, &image, out, ROOM);
+    }
+    if (answer.status == JT_DONE) {
+        const struct jt_answer saved = jt_image_save(&image, image_bytes, ROOM);
+        demand(same(compile(it, compiled_bytes), compiled_bytes, saved, image_bytes), "the image of a library is that of the templates");
+        demand(saved.length > ROOM || jt_image_load(image_bytes, saved.length, &loaded, out, ROOM).status == JT_DONE,
+               "what is saved is loaded");
+        answer = jt_image_run(&image, &values, budget, &outcome, out, ROOM);
+        demand(outcome.full, "an outcome is kept");
+        static uint8_t again[ROOM];
+        demand(same(answer, out, jt_outcome_read(&outcome, again, ROOM), again), "an outcome is read as it was written");
+        demand(!loaded.full || same(answer, out, jt_image_run(&loaded, &values, budget, &outcome, again, ROOM), again),
+               "an image that was saved and loaded runs alike");
+    }
+    jt_library_free(&library);
+    jt_image_free(&image);
+    jt_image_free(&loaded);
+    jt_context_free(&values);
+    jt_outcome_free(&outcome);
+    return answer;
+}
+
+/* The same sources for the same context end alike by jt_render, by jt_compile and jt_run, and by handles; and under a limit of
+ * memory too, or with JT_MEMORY. */
+void compare(const uint8_t *data, size_t size) {
+    static uint8_t made[ROOM];
+    static struct templates given;
+    const struct parts it = parted(data, size);
+    split(&given, it.rest, it.rest_size);
+    const struct jt_answer whole = render(&given, it.head, it.head_size, told);
+    const struct jt_answer compiled = compile(&given, made);
+    struct jt_context values = {0};
+    const struct jt_answer read = jt_context_load(it.head, it.head_size, &values, also, ROOM);
+    jt_context_free(&values);
+    if (compiled.status == JT_USAGE || (compiled.status != JT_DONE && read.status == JT_DONE)) {
+        demand(same(compiled, made, whole, told), "what does not compile is not rendered");
+    } else if (read.status != JT_DONE) {
+        demand(same(read, also, whole, told), "nothing is rendered for what is no context");
+    } else if (compiled.length <= ROOM) {
+        const struct jt_answer ran = jt_run(made, compiled.length, it.head, it.head_size, budget, also, ROOM);
+        demand(same(ran, also, whole, told), "a template and its image end alike");
+    }
+    jt_memory_limit(JT_NO_LIMIT);
+    demand(same(render_kept(&given, it.head, it.head_size, also), also, whole, told), "handles end alike");
+    demand(jt_memory_held() == 0, "all is freed");
+    jt_memory_limit(size * 97 % 65536);
+    const struct jt_answer limited = render(&given, it.head, it.head_size, also);
+    demand(jt_memory_held() == 0, "all is freed under a limit");
+    jt_memory_limit(JT_NO_LIMIT);
+    demand(limited.status == JT_MEMORY || same(limited, also, whole, told), "a limit ends a call or changes nothing");
+}
+
+/* The handles of an input, and the bytes that were held when the limit was last set. */
+struct handles {
+    int64_t held;
+    struct jt_library libraries[2];
+    struct jt_image images[2];
+    struct jt_context contexts[2];
+    struct jt_outcome outcomes[2];
+};
+
+static int is_not_held(struct jt_answer answer) {
+    return answer.status == JT_USAGE && answer.code == JT_NOT_HELD;
+}
+
+static void demand_held(struct jt_answer answer, int held) {
+    demand(is_not_held(answer) == !held, "a call is refused where a handle does not hold what it needs, and only there");
+}
+
+/* Makes one call over handles: `op` says which call, and which handles. */
+static void call(struct handles *it, uint8_t op, const struct templates *given, const uint8_t *json, size_t size) {
+    const int a = op >> 4 & 1, b = op >> 5 & 1, c = op >> 6 & 1;
+    struct jt_library *library = &it->libraries[a];
+    struct jt_image *image = &it->images[b];
+    struct jt_context *values = &it->contexts[a];
+    struct jt_outcome *outcome = &it->outcomes[c];
+    const int had_library = library->full, had_image = image->full, had_values = values->full, had_outcome = outcome->full;
+    struct jt_answer answer;
+    switch (op & 15) {
+    case 0:
+        answer = jt_library_load(given->texts, given->length, given->lengths, given->count, library, told, ROOM);
+        demand(library->full == (answer.status == JT_DONE), "a library is held if it was loaded");
+        break;
+    case 1:
+        answer = jt_library_compile(library, (const uint8_t *)"tuv" + c, 1, options, image, told, ROOM);
+        demand_held(answer, had_library);
+        demand(image->full == (answer.status == JT_DONE) && library->full == had_library, "an image is held if it was compiled");
+        break;
+    case 2:
+        answer = jt_image_save(image, also, ROOM);
+        demand_held(answer, had_image);
+        if (had_image && answer.length <= ROOM) {
+            answer = jt_image_load(also, answer.length, &it->images[!b], told, ROOM);
+            demand(answer.status == JT_DONE && it->images[!b].full, "what is saved is loaded");
+        }
+        break;
+    case 3:
+        answer = jt_image_load(given->texts, given->length, image, told, ROOM);
+        demand(image->full == (answer.status == JT_DONE), "an image is held if it was loaded");
+        break;
+    case 4:
+        answer = jt_context_load(json, size, values, told, ROOM);
+        demand(values->full == (answer.status == JT_DONE), "a context is held if it was loaded");
+        break;
+    case 5:
+        answer = jt_image_run(image, values, budget, outcome, told, ROOM);
+        demand_held(answer, had_image && had_values);
+        demand(image->full == had_image && values->full == had_values, "image and context stay");
+        demand(!had_image || !had_values || (is_ended(answer) && outcome->full), "a run ends, and its outcome is kept");
+        break;
+    case 6:
+        // (The outcome of a run of nothing is that nothing was held.)
+        answer = jt_outcome_read(outcome, told, c ? ROOM : 3);
+        demand(is_not_held(answer) || (had_outcome && is_ended(answer)), "an outcome is read");
+        break;
+    case 7:
+        demand(jt_library_share(library, &it->libraries[!a]) == (had_library ? JT_DONE : JT_USAGE), "a library is shared");
+        demand(it->libraries[!a].full == had_library, "a shared library is held");
+        break;
+    case 8:
+        demand(jt_image_share(image, &it->images[!b]) == (had_image ? JT_DONE : JT_USAGE), "an image is shared");
+        demand(it->images[!b].full == had_image, "a shared image is held");
+        break;
+    case 9:
+        jt_library_free(library);
+        break;
+    case 10:
+        jt_image_free(image);
+        break;
+    case 11:
+        jt_context_free(values);
+        break;
+    case 12:
+        jt_outcome_free(outcome);
+        break;
+    default:
+        it->held += jt_memory_held();
+        jt_memory_limit((uint64_t)1 << (op >> 4) * 2);
+        answer = jt_library_load(given->texts, given->length, given->lengths, given->count, library, told, ROOM);
+        demand(library->full == (answer.status == JT_DONE), "a library is held if it was loaded within the limit");
+        it->held += jt_memory_held();
+        jt_memory_limit(JT_NO_LIMIT);
+    }
+}
+
+/* Calls over handles, in any order, do what their handles allow, and all is freed. */
+void handles(const uint8_t *data, size_t size) {
+    static struct templates given;
+    struct handles it = {0};
+    const struct parts ops = parted(data, size), rest = parted(ops.rest, ops.rest_size);
+    split(&given, rest.rest, rest.rest_size);
+    jt_memory_limit(JT_NO_LIMIT);
+    for (size_t at = 0; at < ops.head_size && at < 64; at++) {
+        call(&it, ops.head[at], &given, rest.head, rest.head_size);
+    }
+    for (int i = 0; i < 2; i++) {
+        jt_library_free(&it.libraries[i]);
+        jt_image_free(&it.images[i]);
+        jt_context_free(&it.contexts[i]);
+        jt_outcome_free(&it.outcomes[i]);
+    }
+    demand(it.held + jt_memory_held() == 0, "all is freed");
 }
 
 /* Writes the image of a source, where it has one. */

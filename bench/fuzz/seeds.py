@@ -1,8 +1,8 @@
 #!/usr/bin/env python3
 """Writes inputs for the targets of fuzz.c, of rows: seeds.py FOLDER
 
-FOLDER/source gets the templates of a row, FOLDER/context the contexts, and FOLDER/image the images whose bytes stand in a row;
-FOLDER/words gets the words of all of them, as a dictionary of libFuzzer.
+FOLDER/source gets the templates of a row, FOLDER/context the contexts, FOLDER/image the images whose bytes stand in a row,
+FOLDER/compare contexts with templates, and FOLDER/handles calls with both; FOLDER/words gets the words of all of them, as a dictionary of libFuzzer.
 """
 import collections
 import json
@@ -11,7 +11,7 @@ import re
 import sys
 
 ROOT = pathlib.Path(__file__).resolve().parent.parent.parent
-sys.path.insert(0, str(ROOT / "rows"))
+sys.path.insert(0, str(ROOT / "tests"))
 import run  # noqa: E402
 
 LONGEST = 2048
@@ -24,7 +24,7 @@ OTHERS = "uv"
 def rows(*names):
     """What is asked by the rows of some files, each part by itself."""
     for name in names:
-        for line in (ROOT / "rows" / name).read_text(encoding="utf-8").splitlines():
+        for line in (ROOT / "tests" / "rows" / name).read_text(encoding="utf-8").splitlines():
             asked, is_row, _ = line.partition(" => ")
             if is_row and not line.startswith(("#", "==")):
                 yield [run.unfolded(part) for part in asked.split("¦")]
@@ -58,5 +58,11 @@ images = [re.match(r"bytes ([0-9a-f ]+)", parts[0]) for parts in rows("images.tx
 put(folder, "source", sources)
 put(folder, "context", contexts)
 put(folder, "image", [bytes.fromhex(it[1]) for it in images if it and len(it[1].replace(" ", "")) % 2 == 0])
+usual = b'{"a": "<&>", "b": [1, ["x"]], "c": {"k": true}, "n": -7}'
+compared = [usual + b"\0" + source for source in sources]
+put(folder, "compare", compared)
+# load a library, compile t, load a context, run, read the outcome, save and load the image, run that one, share and free
+CALLS = bytes([0x80, 0x01, 0x84, 0x05, 0x06, 0x46, 0x02, 0x25, 0x07, 0x08, 0x11, 0x09, 0x2A, 0x0B, 0x25, 0x0C, 0xED])
+put(folder, "handles", [CALLS + b"\0" + it for it in compared])
 counts = collections.Counter(word for it in sources if len(it) <= LONGEST for word in set(WORD.findall(run.text_of(it))))
 (folder / "words").write_text("".join(f'"{word}"\n' for word, count in sorted(counts.items()) if count >= OFTEN))

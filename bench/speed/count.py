@@ -1,14 +1,14 @@
 #!/usr/bin/env python3
-"""Counts the machine's instructions that `jt` takes on four workloads, by valgrind's callgrind.
+"""Counts the processor's instructions of `jt` on four workloads, by valgrind's callgrind.
 
     bench/speed/count.py [--jt PATH] [--keep FOLDER] [--times N] [NAME ..]
 
-Without --jt it takes the program that `rt run` keeps, crates/jt_cli/out/jt_cli. The workloads are the folders of templates/ beside this
+Without --jt it runs the program that `rt run` keeps, crates/jt_cli/out/jt_cli. The workloads are the folders of templates/ beside this
 file: a table of 2,000 rows, a page with blocks and an include, a letter that is mostly plain text, and a configuration of 300 hosts;
-make_contexts.py makes their contexts. Printed are, for each: what `jt run` takes beside a template of one letter over the same context,
-what `jt compile` takes beside that letter, and what that letter's run takes, which is the start of the program, the reading of the
-context and the end of the process. Counts hardly change with what else the machine does. --times N has the contexts hold N times the
-rows. --keep writes the contexts, the images and callgrind's files to a folder.
+make_contexts.py makes their contexts. For each the script prints the cost of `jt run` without that of a template of one letter over the
+same context, the cost of `jt compile` without that of the letter, and the cost of the letter's run, which is the start of the program, the
+reading of the context and the end of the process. Other load on the machine hardly changes counts. --times N multiplies the rows of the
+contexts. --keep writes the contexts, the images and callgrind's files to a folder.
 """
 import pathlib, re, subprocess, sys, tempfile
 
@@ -18,12 +18,12 @@ from timing import flags
 from make_contexts import write
 
 WORKLOADS = ("table", "page", "mail", "config")
-# enough for each of them
+# a budget that is enough for each workload
 BUDGET = ["--fuel", "100000000000", "--output", "4000000000", "--size", "4000000000"]
 
 
 def count(out, words):
-    """How many instructions a run of the program takes."""
+    """Returns the number of instructions of a run of the program."""
     ran = subprocess.run(["valgrind", "--tool=callgrind", f"--callgrind-out-file={out}", *map(str, words)], capture_output=True, text=True)
     found = re.search(r"Collected : (\d+)", ran.stderr)
     if ran.returncode or not found:

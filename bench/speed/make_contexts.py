@@ -1,13 +1,15 @@
 #!/usr/bin/env python3
-"""Writes the contexts of the four workloads into a folder, of so many times their rows: bench/speed/make_contexts.py FOLDER [TIMES]. The same
-seed makes the same files."""
+"""Writes the contexts of the four workloads into a folder: bench/speed/make_contexts.py FOLDER [TIMES]
+
+TIMES multiplies their rows. A fixed seed makes the files equal in each run.
+"""
 import json, pathlib, random, sys
 
 WORDS = "alpha beta gamma delta <eps> zeta & eta 'theta' iota \"kappa\" lambda mu".split()
 
 
 def contexts(times=1):
-    """The contexts by the workloads' names: 2,000 rows, 300 of them as a page's items, 200 as a letter's orders, and 300 hosts; TIMES as many of each."""
+    """Returns the contexts by name: 2,000 rows, 300 of them as a page's items, 200 as a letter's orders, and 300 hosts, each number times `times`."""
     drawn = random.Random(7)
     rows = [
         {"name": " ".join(drawn.choices(WORDS, k=3)), "mail": f"user{i}@example.org", "n": drawn.randrange(1000), "tags": drawn.choices(WORDS, k=4), "on": drawn.random() < .7}

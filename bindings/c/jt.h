@@ -1,97 +1,256 @@
-/* jt for hosts in other languages: templates to images, and images to texts. docs/embedding.md
- * shows it at work.
+/* jt: compiles Jinja templates to images, and runs images for contexts. docs/embedding.md has an
+ * introduction, docs/errors.md the refusals and faults, docs/budgets.md the budgets.
  *
- * Link libjt_ffi.a (crates/jt_ffi/out of a checkout in which it was built) and heap.c, which stands
- * beside this file.
+ * Load what is used again:
  *
- * Each call does one whole thing and keeps nothing: there is no set-up and nothing to free, and
- * calls of several threads cannot meet. What a call tells, a text, an image or why there is none,
- * goes into the buffer `out`. Where that is longer than `room`, nothing is put there, and the
- * answer has its length, so that the caller may call again with more room.
+ * - jt_library_load reads the sources of templates once, jt_library_compile makes an image of one
+ *   of them, and jt_image_save writes its bytes.
+ * - jt_image_load reads and verifies the bytes of an image once.
+ * - jt_context_load reads a context once.
+ * - jt_image_run runs an image for a context and keeps the outcome, and jt_outcome_read writes the
+ *   outcome again, into a buffer of the right length.
  *
- * What a caller owes, and nothing checks:
+ * jt_compile, jt_check, jt_run and jt_render keep nothing.
  *
- * - A pointer points to as many elements as the length behind it says, and is not null, where the
- *   length is 0 too.
- * - `out` overlaps nothing else that is handed in, and nobody else touches any of it in the call.
+ * ANSWERS. Each call returns a struct jt_answer. A text, an image or a reason goes into the buffer
+ * `out`, which has `room` bytes. It is not terminated by a zero byte. If it is longer than `room`,
+ * the buffer stays as it was, and `length` is the length that is needed.
+ *
+ * ERRORS. `status` states what happened, and `code` and `line` state more:
+ *
+ *     status      out holds                           code and line
+ *     JT_DONE     the text or the image, or nothing   0
+ *     JT_FAULT    the name of the template, or none   the fault, as enum jt_fault; the line
+ *     JT_USAGE    nothing                             the mistake, as enum jt_usage
+ *     JT_REFUSED  the reason, as "X1 NotJson"         0
+ *     JT_SPENT    nothing                             the number, as enum jt_spent
+ *     JT_MEMORY   nothing                             0
+ *
+ * Every input is checked, so all bytes are safe: templates, images and contexts may come from
+ * anyone. No call ends the process, prints, or reads a file.
+ *
+ * OWNERSHIP. The caller owns all buffers. No call keeps a pointer to them. The structs jt_library,
+ * jt_image, jt_context and jt_outcome are handles, whose memory the caller provides:
+ *
+ * - A handle is zero at first: `struct jt_image image = {0};`. It holds nothing then.
+ * - A call that fills a handle frees what the handle held before.
+ * - jt_library_free, jt_image_free, jt_context_free and jt_outcome_free free what a handle holds.
+ *   It then holds nothing, so a second free does nothing.
+ * - A handle may be moved in memory between calls, as by memcpy. The old place is not used again.
+ * - Handles may be freed in any order: no handle depends on another one.
+ *
+ * THREADS. Calls that share no handle and no buffer may run at the same time.
+ *
+ * - A handle is used by one call at a time.
+ * - A struct jt_library or jt_image may go to another thread, through a lock or the start or end of
+ *   a thread. jt_library_share and jt_image_share make a second handle of the same library or image
+ *   for a second thread, without a copy.
+ * - A struct jt_context or jt_outcome stays on the thread that filled it, also when it is freed.
+ *
+ * MEMORY. A growth that the system refuses ends the call with JT_MEMORY, and all that the call took
+ * is freed. jt_memory_limit refuses growths of the calling thread too, above a limit of its own.
+ *
+ * RULES, which no call can check:
+ *
+ * - A pointer is not null and points to as many elements as its length says, also if that is 0.
+ * - Buffers and handles of a call do not overlap, and nobody else changes them during the call.
  * - No length is above PTRDIFF_MAX.
- * - No call is made from a signal handler, or in the forked child of a process with threads.
- * - The stack has 1 MiB left: how much a call takes of it is tested, and not proved.
- *
- * All else is checked in each call, and told by its status: bytes from anyone are safe. */
+ * - The fields of a handle are neither changed nor copied to a second handle in use.
+ * - No call is made in a signal handler, or in a child that a process with threads has forked.
+ * - The stack has 512 KiB left. This is measured (bindings/c/stack.c) and not proved: a template of
+ *   97 nested loops, among the deepest that are accepted, took 256 KiB, and a run 96. The filters of
+ *   a `filter` tag are the one form without such a bound: 30,000 of them took 8 MiB. */
 #ifndef JT_H
 #define JT_H
 
 #include <stddef.h>
 #include <stdint.h>
+#ifndef __cplusplus
+#include <stdbool.h>
+#endif
+
+#define JT_VERSION "0.1.0"
+#define JT_VERSION_MAJOR 0
+#define JT_VERSION_MINOR 1
+#define JT_VERSION_PATCH 0
 
 #ifdef __cplusplus
 extern "C" {
 #endif
 
 enum jt_status {
-    JT_DONE = 0,    /* told: the text or the image; of jt_check nothing */
-    JT_FAULT = 1,   /* a fault of the template: `code` 2 is F2; told: the name of its template */
-    JT_USAGE = 2,   /* the call is none: `code` says why */
-    JT_REFUSED = 3, /* no image, no context, or no such template; told: why, as "X1 NotJson" */
-    JT_SPENT = 4,   /* a number of the budget did not suffice: `code` says which */
-    JT_MEMORY = 6   /* a growth was refused */
+    JT_DONE = 0,
+    JT_FAULT = 1,   /* a fault of the template */
+    JT_USAGE = 2,   /* a mistake of the caller */
+    JT_REFUSED = 3, /* templates, an image or a context that are not accepted */
+    JT_SPENT = 4,   /* a number of the budget does not suffice */
+    JT_MEMORY = 6   /* memory was refused, by the system or by jt_memory_limit */
 };
 
-/* why a call is none */
+/* The codes of JT_FAULT: 2 is F2. */
+enum jt_fault {
+    JT_FAULT_BAD_TYPE = 1,
+    JT_FAULT_UNDEFINED = 2,
+    JT_FAULT_OVERFLOW = 3,
+    JT_FAULT_ZERO_DIVIDE = 4,
+    JT_FAULT_UNPRINTABLE = 5,
+    JT_FAULT_NOT_ITERABLE = 6,
+    JT_FAULT_UNPACK = 7,
+    JT_FAULT_RANGE = 8,
+    JT_FAULT_BAD_ARGUMENT = 9
+};
+
+/* The codes of JT_USAGE. */
 enum jt_usage {
-    JT_LENGTHS = 1, /* the lengths are not those of the bytes */
-    JT_NO_TEXT = 2  /* a name or a source is not UTF-8 */
+    JT_LENGTHS = 1, /* the lengths of the templates do not add up to the length of `texts` */
+    JT_NO_TEXT = 2, /* a name or a source is not UTF-8 */
+    JT_NOT_HELD = 3 /* a handle does not hold what the call needs */
 };
 
-/* which number of a budget did not suffice */
+/* The codes of JT_SPENT. */
 enum jt_spent { JT_FUEL = 1, JT_DEPTH = 2, JT_OUTPUT = 3, JT_SIZE = 4, JT_NESTING = 5 };
 
 struct jt_answer {
     uint32_t status;   /* one of enum jt_status */
-    uint32_t code;     /* of a fault its number; one of enum jt_usage or enum jt_spent; else 0 */
-    uint32_t line;     /* of a fault the line of its tag, from 1, or 0 where none is told; else 0 */
+    uint32_t code;     /* see ERRORS */
+    uint32_t line;     /* the line of a fault, from 1, or 0 if it is not known */
     uint32_t reserved; /* 0 */
-    uint64_t length;   /* how many bytes are told, whether or not `out` has room for them */
+    uint64_t length;   /* the number of bytes of the result, also if `out` is too short for it */
 };
 
-/* how long the name of a template is, and its source, in bytes */
+/* The lengths in bytes of a template's name and of its source. */
 struct jt_lengths {
     uint64_t name, source;
 };
 
-/* How templates are read: 0 is off, any other number on. Usual is autoescape alone. */
+/* How templates are read: 0 is off, any other number is on. */
 struct jt_options {
     uint8_t trim_blocks, lstrip_blocks, keep_trailing_newline, autoescape;
 };
 
-/* What a run may use: docs/budgets.md says how to choose. */
+/* The options of the program `jt`: struct jt_options options = JT_OPTIONS; */
+#define JT_OPTIONS {0, 0, 0, 1}
+
+/* What a run may use. docs/budgets.md helps to choose the numbers. */
 struct jt_budget {
-    uint64_t fuel;   /* what the instructions may cost together */
-    uint64_t output; /* how many bytes may be put into output buffers, captures included */
-    uint32_t depth;  /* how many calls may be open at a time */
-    uint32_t size;   /* the greatest size of a value */
-    uint8_t nesting; /* the greatest nesting of a value */
+    uint64_t fuel;   /* the sum of the costs of the instructions */
+    uint64_t output; /* the number of written bytes, those of kept texts included */
+    uint32_t depth;  /* the number of open calls */
+    uint32_t size;   /* the size of each value */
+    uint8_t nesting; /* the nesting of each value */
 };
 
-/* The image of the template `entry`. `texts` has the templates behind one another, each with its
- * name in front of its source, and `lengths` the lengths of each; of a name that stands twice the
- * last source counts. */
+/* The budget of the program `jt`: struct jt_budget budget = JT_BUDGET; */
+#define JT_BUDGET {1000000, 1048576, 64, 1048576, 32}
+
+/* Sources of templates by their names, or nothing. */
+struct jt_library {
+    void *at;
+    bool full;
+};
+
+/* An accepted image, or nothing. */
+struct jt_image {
+    void *at;
+    bool full;
+};
+
+/* A context, or nothing. */
+struct jt_context {
+    void *at;
+    bool full;
+};
+
+/* The outcome of a run, or nothing. */
+struct jt_outcome {
+    void *at;
+    bool full;
+};
+
+/* Writes the version of the library, as JT_VERSION spells it. */
+struct jt_answer jt_version(uint8_t *out, size_t room);
+
+/* Compiles the template `entry` to an image. `texts` holds all templates one after another, each
+ * as its name and its source; `lengths` holds their lengths. If a name occurs twice, the last
+ * source counts. */
 struct jt_answer jt_compile(const uint8_t *texts, size_t texts_length,
                             const struct jt_lengths *lengths, size_t lengths_count,
                             const uint8_t *entry, size_t entry_length, struct jt_options options,
                             uint8_t *out, size_t room);
 
-/* Whether the bytes are an image that is accepted: one that for every context and budget runs to a
- * text, a fault or a spent number. */
+/* Reads the sources of templates into `library`; the bytes are copied. `texts` and `lengths` are as
+ * for jt_compile. The library holds nothing if the status is not JT_DONE. */
+struct jt_answer jt_library_load(const uint8_t *texts, size_t texts_length,
+                                 const struct jt_lengths *lengths, size_t lengths_count,
+                                 struct jt_library *library, uint8_t *out, size_t room);
+
+/* Compiles the template `entry` of the library to an image, which `image` then holds. The image is
+ * the one of jt_compile for the same sources, and so is the reason of a refusal. The image holds
+ * nothing if the status is not JT_DONE. */
+struct jt_answer jt_library_compile(struct jt_library *library, const uint8_t *entry,
+                                    size_t entry_length, struct jt_options options,
+                                    struct jt_image *image, uint8_t *out, size_t room);
+
+/* Reads and verifies the bytes of an image into `image`; the bytes are copied. The image holds
+ * nothing if the status is not JT_DONE. */
+struct jt_answer jt_image_load(const uint8_t *bytes, size_t bytes_length, struct jt_image *image,
+                               uint8_t *out, size_t room);
+
+/* Writes the bytes of the image. */
+struct jt_answer jt_image_save(struct jt_image *image, uint8_t *out, size_t room);
+
+/* Reads a context, a JSON object in UTF-8, into `context`. The context holds nothing if the status
+ * is not JT_DONE. */
+struct jt_answer jt_context_load(const uint8_t *bytes, size_t bytes_length,
+                                 struct jt_context *context, uint8_t *out, size_t room);
+
+/* Runs the image for the context and writes the text or the fault. `outcome` then holds how the run
+ * ended, also if `room` is too small for the text. Image and context stay as they are. If there is
+ * no memory to keep the outcome, the status is JT_MEMORY and `outcome` holds nothing. */
+struct jt_answer jt_image_run(struct jt_image *image, struct jt_context *context,
+                              struct jt_budget budget, struct jt_outcome *outcome, uint8_t *out,
+                              size_t room);
+
+/* Writes an outcome: the answer is that of jt_image_run with this buffer. Nothing runs. */
+struct jt_answer jt_outcome_read(struct jt_outcome *outcome, uint8_t *out, size_t room);
+
+/* Makes `to` a second handle of what `from` holds. Returns JT_DONE, JT_USAGE if `from` holds
+ * nothing, or JT_MEMORY. */
+uint32_t jt_library_share(struct jt_library *from, struct jt_library *to);
+uint32_t jt_image_share(struct jt_image *from, struct jt_image *to);
+
+/* Frees what the handle holds. */
+void jt_library_free(struct jt_library *library);
+void jt_image_free(struct jt_image *image);
+void jt_context_free(struct jt_context *context);
+void jt_outcome_free(struct jt_outcome *outcome);
+
+/* Limits the memory of the calling thread. From now on, the calls of this thread together hold at
+ * most `bytes` more than now. A growth beyond the limit is refused, and the call ends with
+ * JT_MEMORY. A block that grows may pass the limit by less than 8 KiB. Returns what is left of the
+ * limit before, which is JT_NO_LIMIT if there was none.
+ *
+ * All that the calls allocate counts: what they hold while they run, and what handles hold after
+ * them. The buffers of the caller and the stack do not count. To limit one call:
+ *
+ *     const uint64_t before = jt_memory_limit(1 << 24);
+ *     answer = jt_run(...);
+ *     jt_memory_limit(before); */
+#define JT_NO_LIMIT UINT64_MAX
+uint64_t jt_memory_limit(uint64_t bytes);
+
+/* Returns how many bytes the calling thread holds more than when its limit was set. The number is
+ * negative if it has freed more than it allocated, as by freeing handles that it had before. */
+int64_t jt_memory_held(void);
+
+/* Checks whether the bytes are an image that is accepted. */
 struct jt_answer jt_check(const uint8_t *image, size_t image_length, uint8_t *out, size_t room);
 
-/* The text of an image for a context, a JSON object in UTF-8. The image is read and verified in
- * each call. */
+/* Runs an image for a context, a JSON object in UTF-8. Both are read in each call. */
 struct jt_answer jt_run(const uint8_t *image, size_t image_length, const uint8_t *context,
                         size_t context_length, struct jt_budget budget, uint8_t *out, size_t room);
 
-/* The text of the template `entry` for a context: what jt_compile and jt_run do, in one call. */
+/* Compiles the template `entry` and runs it: jt_compile and jt_run in one call. */
 struct jt_answer jt_render(const uint8_t *texts, size_t texts_length,
                            const struct jt_lengths *lengths, size_t lengths_count,
                            const uint8_t *entry, size_t entry_length, struct jt_options options,

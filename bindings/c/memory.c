@@ -1,10 +1,10 @@
-/* Each growth of each call refused in turn, and that no call keeps memory: bindings/test.sh runs
- * it. It takes the place of heap.c, and its last line is 'N passed, M failed'. */
-#include "jt.h"
-#include <stdbool.h>
+/* Refuses each growth of each call in turn: the answer is JT_MEMORY or the usual one, and no memory
+ * is lost. This file takes the place of heap.c. The last line is 'N passed, M failed'. */
 #include <stdio.h>
 #include <stdlib.h>
 #include <string.h>
+
+#include "jt.h"
 
 struct tried {
     bool ok;
@@ -12,8 +12,8 @@ struct tried {
 };
 
 static unsigned char nothing;
-static long held;         /* how many blocks there are */
-static long growths;      /* how many growths the call asked for */
+static long held;         /* the number of blocks */
+static long growths;      /* the number of growths that the call has asked for */
 static long refused = -1; /* the growth that is refused, counted from 0 */
 
 static struct tried tried(void *p) {
@@ -47,26 +47,99 @@ void rattle_dealloc(unsigned char *p) {
 
 static const char texts[] = "page" PAGE "base" BASE;
 static const char context[] = "{\"xs\": [\"a\", [1, 2]]}";
-static const struct jt_budget budget = {100000, 65536, 8, 65536, 8};
+static const struct jt_budget budget = {
+    .fuel = 100000, .output = 65536, .depth = 8, .size = 65536, .nesting = 8};
 static uint8_t image[65536], out[65536];
 static size_t image_length;
 
+/* What the calls over handles use. */
+static struct jt_library library, other_library;
+static struct jt_image kept, other;
+static struct jt_context values;
+static struct jt_outcome outcome;
+
+enum {
+    COMPILE,
+    CHECK,
+    RUN,
+    RENDER,
+    VERSION,
+    LIBRARY_LOAD,
+    IMAGE_LOAD,
+    CONTEXT_LOAD,
+    LIBRARY_COMPILE,
+    LIBRARY_SHARE,
+    IMAGE_SAVE,
+    IMAGE_RUN,
+    OUTCOME_READ,
+    IMAGE_SHARE,
+    COUNT
+};
+
+static const struct jt_lengths lengths[] = {{4, LENGTH(PAGE)}, {4, LENGTH(BASE)}};
+#define TEMPLATES bytes(texts), LENGTH(texts), lengths, 2
+
 static const uint8_t *bytes(const char *text) { return (const uint8_t *)text; }
 
-static struct jt_answer called(int which, uint8_t *to) {
-    const struct jt_lengths lengths[] = {{4, LENGTH(PAGE)}, {4, LENGTH(BASE)}};
-    const size_t length = LENGTH(texts), room = sizeof out;
-    const struct jt_options options = {0, 0, 0, 1};
+static void free_all(void) {
+    jt_library_free(&library);
+    jt_library_free(&other_library);
+    jt_image_free(&kept);
+    jt_image_free(&other);
+    jt_context_free(&values);
+    jt_outcome_free(&outcome);
+}
+
+/* Fills the handles that a call needs. */
+static void prepare(int which) {
+    if (which >= LIBRARY_COMPILE) {
+        jt_library_load(TEMPLATES, &library, out, sizeof out);
+    }
+    if (which >= IMAGE_SAVE) {
+        jt_image_load(image, image_length, &kept, out, sizeof out);
+        jt_context_load(bytes(context), LENGTH(context), &values, out, sizeof out);
+    }
+    if (which == OUTCOME_READ) {
+        jt_image_run(&kept, &values, budget, &outcome, out, sizeof out);
+    }
+}
+
+static struct jt_answer call(int which, uint8_t *to) {
+    const size_t room = sizeof out;
+    const struct jt_options options = JT_OPTIONS;
+    struct jt_answer answer = {0};
     switch (which) {
-    case 0:
-        return jt_compile(bytes(texts), length, lengths, 2, bytes(texts), 4, options, to, room);
-    case 1:
+    case COMPILE:
+        return jt_compile(TEMPLATES, bytes("page"), 4, options, to, room);
+    case CHECK:
         return jt_check(image, image_length, to, room);
-    case 2:
+    case RUN:
         return jt_run(image, image_length, bytes(context), LENGTH(context), budget, to, room);
+    case RENDER:
+        return jt_render(TEMPLATES, bytes("page"), 4, options, bytes(context), LENGTH(context),
+                         budget, to, room);
+    case VERSION:
+        return jt_version(to, room);
+    case LIBRARY_LOAD:
+        return jt_library_load(TEMPLATES, &library, to, room);
+    case IMAGE_LOAD:
+        return jt_image_load(image, image_length, &kept, to, room);
+    case CONTEXT_LOAD:
+        return jt_context_load(bytes(context), LENGTH(context), &values, to, room);
+    case LIBRARY_COMPILE:
+        return jt_library_compile(&library, bytes("page"), 4, options, &other, to, room);
+    case LIBRARY_SHARE:
+        answer.status = jt_library_share(&library, &other_library);
+        return answer;
+    case IMAGE_SAVE:
+        return jt_image_save(&kept, to, room);
+    case IMAGE_RUN:
+        return jt_image_run(&kept, &values, budget, &outcome, to, room);
+    case OUTCOME_READ:
+        return jt_outcome_read(&outcome, to, room);
     default:
-        return jt_render(bytes(texts), length, lengths, 2, bytes(texts), 4, options,
-                         bytes(context), LENGTH(context), budget, to, room);
+        answer.status = jt_image_share(&kept, &other);
+        return answer;
     }
 }
 
@@ -74,29 +147,71 @@ static bool same(struct jt_answer a, struct jt_answer b) {
     return a.status == b.status && a.code == b.code && a.line == b.line && a.length == b.length;
 }
 
+/* Returns whether the handle that a call fills is as its status says. */
+static bool is_filled(int which, uint32_t status) {
+    switch (which) {
+    case LIBRARY_LOAD:
+        return library.full == (status == JT_DONE);
+    case IMAGE_LOAD:
+        return kept.full == (status == JT_DONE);
+    case CONTEXT_LOAD:
+        return values.full == (status == JT_DONE);
+    case LIBRARY_COMPILE:
+        return library.full && other.full == (status == JT_DONE);
+    case LIBRARY_SHARE:
+        return library.full && other_library.full == (status == JT_DONE);
+    case IMAGE_SAVE:
+        return kept.full;
+    case IMAGE_RUN:
+        return kept.full && values.full && (outcome.full || status == JT_MEMORY);
+    case OUTCOME_READ:
+        return outcome.full;
+    case IMAGE_SHARE:
+        return kept.full && other.full == (status == JT_DONE);
+    default:
+        return true;
+    }
+}
+
 int main(void) {
     static uint8_t wanted[65536];
-    const uint32_t statuses[] = {JT_DONE, JT_DONE, JT_FAULT, JT_FAULT};
     int passed = 0, failed = 0;
-    for (int which = 0; which < 4; which++) {
+    for (int which = 0; which < COUNT; which++) {
+        const bool faults = which == RUN || which == RENDER || which == IMAGE_RUN ||
+                            which == OUTCOME_READ;
         refused = -1;
-        const struct jt_answer usual = called(which, wanted);
-        if (which == 0) {
+        prepare(which);
+        const struct jt_answer usual = call(which, wanted);
+        bool well = usual.status == (faults ? JT_FAULT : JT_DONE) && is_filled(which, usual.status);
+        free_all();
+        well = well && held == 0;
+        if (which == COMPILE) {
             memcpy(image, wanted, usual.length);
             image_length = usual.length;
         }
-        bool well = usual.status == statuses[which] && held == 0;
-        for (refused = 0, growths = 1; refused < growths && well; refused++) {
+        long last = 1, at;
+        for (at = 0; at < last && well; at++) {
+            prepare(which);
             growths = 0;
-            const struct jt_answer answer = called(which, out);
-            well = held == 0 && (answer.status == JT_MEMORY ||
-                                 (same(answer, usual) && memcmp(out, wanted, usual.length) == 0));
+            refused = at;
+            const struct jt_answer answer = call(which, out);
+            refused = -1;
+            last = growths;
+            well = is_filled(which, answer.status) &&
+                   (answer.status == JT_MEMORY ||
+                    (same(answer, usual) && memcmp(out, wanted, usual.length) == 0)) &&
+                   (at >= last || which < LIBRARY_LOAD || answer.status == JT_MEMORY);
+            /* the handles are still good for the call */
+            if (well && which >= LIBRARY_COMPILE) {
+                well = same(call(which, out), usual);
+            }
+            free_all();
+            well = well && held == 0;
         }
         passed += well;
         failed += !well;
         if (!well) {
-            printf("call %d, growth %ld: status %u, %ld held\n", which, refused, usual.status,
-                   held);
+            printf("call %d, growth %ld: status %u, %ld held\n", which, at, usual.status, held);
         }
     }
     printf("%d passed, %d failed\n", passed, failed);

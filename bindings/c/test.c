@@ -1,7 +1,5 @@
-/* Tests of the calls as C makes them: bindings/test.sh runs it. It prints what failed, and its
- * last line is 'N passed, M failed'. */
+/* Tests the calls that keep nothing. Prints what fails; the last line is 'N passed, M failed'. */
 #include "jt.h"
-#include <pthread.h>
 #include <stdio.h>
 #include <string.h>
 
@@ -23,7 +21,7 @@ static const struct jt_budget budget = {
     .fuel = 1000000, .output = 1048576, .depth = 64, .size = 1048576, .nesting = 32};
 static uint8_t out[65536];
 
-/* The template `t` of this source, rendered for a context into so much of the buffer. */
+/* Renders the template `t` of this source for a context, into `room` bytes of the buffer. */
 static struct jt_answer rendered(const char *source, const char *context, size_t room) {
     uint8_t texts[4096];
     const struct jt_lengths lengths = {1, strlen(source)};
@@ -33,6 +31,7 @@ static struct jt_answer rendered(const char *source, const char *context, size_t
                      strlen(context), budget, out, room);
 }
 
+/* Returns whether the answer and the buffer are these. */
 static int tells(struct jt_answer answer, uint32_t status, uint32_t code, uint32_t line,
                  const char *told) {
     return answer.status == status && answer.code == code && answer.line == line &&
@@ -43,31 +42,76 @@ static int tells(struct jt_answer answer, uint32_t status, uint32_t code, uint32
 static void buffers(void) {
     memset(out, '#', 8);
     expect(tells(rendered("abc", "{}", sizeof out), JT_DONE, 0, 0, "abc") && out[3] == '#',
-           "a text stands at the front");
+           "a text is at the start of the buffer");
     memset(out, '#', 8);
     expect(tells(rendered("abcd", "{}", 4), JT_DONE, 0, 0, "abcd") && out[4] == '#',
            "a text fits exactly");
     memset(out, '#', 8);
     expect(rendered("abcde", "{}", 4).length == 5 && memcmp(out, "########", 8) == 0,
-           "a text that is too long leaves the buffer");
+           "a text that is too long leaves the buffer as it was");
     expect(rendered("abcde", "{}", 0).length == 5, "a buffer of no bytes");
     expect(rendered("", "{}", 0).length == 0, "a text of no bytes");
     expect(rendered("{{ nope + 1 }}", "{}", 0).length == 1,
-           "the name of a template is told by its length");
+           "the length of the name of a template");
 }
 
 static void statuses(void) {
     expect(tells(rendered("a\n{{ nope + 1 }}", "{}", 64), JT_FAULT, 2, 2, "t"), "F2 in t line 2");
-    expect(tells(rendered("{{ 1 // 0 }}", "{}", 64), JT_FAULT, 4, 1, "t"), "F4 in t line 1");
+    expect(tells(rendered("{{ 1 // 0 }}", "{}", 64), JT_FAULT, JT_FAULT_ZERO_DIVIDE, 1, "t"),
+           "F4 in t line 1");
+    static const struct {
+        uint32_t code;
+        const char *source;
+    } faults[] = {
+        {JT_FAULT_BAD_TYPE, "{{ true + 1 }}"},
+        {JT_FAULT_UNDEFINED, "{{ nope.x }}"},
+        {JT_FAULT_OVERFLOW, "{{ 9223372036854775807 + 1 }}"},
+        {JT_FAULT_ZERO_DIVIDE, "{{ 1 % 0 }}"},
+        {JT_FAULT_UNPRINTABLE, "{{ [1] }}"},
+        {JT_FAULT_NOT_ITERABLE, "{{ 1 in 2 }}"},
+        {JT_FAULT_UNPACK, "{% set a, b = [1] %}"},
+        {JT_FAULT_RANGE, "{{ range(1, 2, 0) }}"},
+        {JT_FAULT_BAD_ARGUMENT, "{{ 'a'|replace('', 'b') }}"},
+    };
+    for (size_t i = 0; i < sizeof faults / sizeof *faults; i++) {
+        expect(tells(rendered(faults[i].source, "{}", 64), JT_FAULT, faults[i].code, 1, "t"),
+               faults[i].source);
+    }
     expect(tells(rendered("", "[]", 64), JT_REFUSED, 0, 0, "X2 NotObject"), "X2");
     expect(tells(rendered("", "", 64), JT_REFUSED, 0, 0, "X1 NotJson"), "X1 of no bytes");
     expect(tells(rendered("", "{\"a\": \"\xff\"}", 64), JT_REFUSED, 0, 0, "X1 NotJson"),
-           "X1 of bytes that are no text");
+           "X1 of bytes that are not UTF-8");
     expect(tells(rendered("{{ 1 + }}", "{}", 64), JT_REFUSED, 0, 0, "P1 Syntax in t line 1"),
            "P1");
     expect(tells(rendered("{% for i in range(100000) %}aaaaaaaaaaaaaaaa{% endfor %}", "{}", 64),
                  JT_SPENT, JT_OUTPUT, 0, ""),
            "Output");
+    expect(tells(rendered("{% macro m() %}{{ m() }}{% endmacro %}{{ m() }}", "{}", 64), JT_SPENT,
+                 JT_DEPTH, 0, ""),
+           "Depth");
+    expect(tells(rendered("{{ range(1048576)|length }}", "{}", 64), JT_SPENT, JT_SIZE, 0, ""),
+           "Size");
+    expect(tells(jt_render(bytes("t{{ [[1]]|length }}"), 19, &(struct jt_lengths){1, 18}, 1,
+                           bytes("t"), 1, (struct jt_options)JT_OPTIONS, bytes("{}"), 2,
+                           (struct jt_budget){.fuel = 100, .output = 9, .size = 9, .nesting = 1},
+                           out, 64),
+                 JT_SPENT, JT_NESTING, 0, ""),
+           "Nesting");
+}
+
+/* Checks that the constants of the header are those of the program `jt`. */
+static void constants(void) {
+    const struct jt_budget most = JT_BUDGET;
+    const struct jt_options plain = JT_OPTIONS;
+    expect(most.fuel == 1000000 && most.output == 1048576 && most.depth == 64 &&
+               most.size == 1048576 && most.nesting == 32,
+           "JT_BUDGET");
+    expect(!plain.trim_blocks && !plain.lstrip_blocks && !plain.keep_trailing_newline &&
+               plain.autoescape == 1,
+           "JT_OPTIONS");
+    char version[32];
+    sprintf(version, "%d.%d.%d", JT_VERSION_MAJOR, JT_VERSION_MINOR, JT_VERSION_PATCH);
+    expect(strcmp(version, JT_VERSION) == 0, "JT_VERSION");
 }
 
 static void misuse(void) {
@@ -94,15 +138,15 @@ static void misuse(void) {
     expect(tells(jt_compile(bytes("t\xff\xff\xff"), 4, &(struct jt_lengths){1, 3}, 1, texts, 1,
                             usual, out, 64),
                  JT_USAGE, JT_NO_TEXT, 0, ""),
-           "a source that is no text");
+           "a source that is not UTF-8");
     expect(tells(jt_compile(bytes("\xffxxx"), 4, &(struct jt_lengths){1, 3}, 1, texts, 1, usual,
                             out, 64),
                  JT_USAGE, JT_NO_TEXT, 0, ""),
-           "a name that is no text");
+           "a name that is not UTF-8");
     expect(tells(jt_compile(texts, 4, &(struct jt_lengths){1, 3}, 1, bytes("\xff"), 1, usual, out,
                             64),
                  JT_USAGE, JT_NO_TEXT, 0, ""),
-           "an entry that is no text");
+           "an entry that is not UTF-8");
     expect(tells(jt_compile(bytes("ta\xc3\xa9"), 4, (struct jt_lengths[]){{1, 2}, {1, 0}}, 2,
                             texts, 1, usual, out, 64),
                  JT_USAGE, JT_NO_TEXT, 0, ""),
@@ -111,7 +155,7 @@ static void misuse(void) {
     expect(tells(jt_render(bytes("tatb"), 4, twice, 2, texts, 1, usual, bytes("{}"), 2, budget,
                            out, 64),
                  JT_DONE, 0, 0, "b"),
-           "of a name that stands twice the last source counts");
+           "the last source of a name counts");
 }
 
 static void images(void) {
@@ -132,52 +176,17 @@ static void images(void) {
     for (size_t at = 0; at < length; at++) {
         refused += jt_check(image, at, out, 64).status == JT_REFUSED && out[0] == 'I';
     }
-    expect(refused == length, "a beginning of an image is none");
+    expect(refused == length, "a prefix of an image is refused");
     expect(jt_run(image, length - 1, bytes("{}"), 2, budget, out, 64).status == JT_REFUSED,
-           "nor does it run");
-}
-
-/* Sources and contexts that nest as deep as any, and deeper. */
-static void *deep(void *unused) {
-    static char source[4096], context[4096];
-    for (int depth = 8; depth < 1000; depth += 37) {
-        const char *opens[] = {"(", "[", "-", "not ", "{% if 1 %}"};
-        for (int which = 0; which < 5; which++) {
-            char *at = source;
-            at += sprintf(at, which < 4 ? "{{ " : "");
-            for (int level = 0; level < depth && at < source + 3000; level++) {
-                at += sprintf(at, "%s", opens[which]);
-            }
-            sprintf(at, which < 4 ? "1" : "{{ 1 }}");
-            expect(rendered(source, "{}", 64).status == JT_REFUSED,
-                   "a source that is never closed");
-        }
-        memset(context, '[', sizeof context);
-        memset(context + depth, ']', sizeof context - depth);
-        memcpy(context, "{\"a\":", 5);
-        strcpy(context + 2 * depth - 5, "}");
-        const uint32_t status = rendered("{{ a | length }}", context, 64).status;
-        expect(status == JT_DONE || status == JT_SPENT || status == JT_REFUSED, "a deep context");
-    }
-    return unused;
-}
-
-/* They are read on a stack of 1 MiB. */
-static void stack(void) {
-    pthread_attr_t small;
-    pthread_t thread;
-    pthread_attr_init(&small);
-    pthread_attr_setstacksize(&small, 1 << 20);
-    const int begun = pthread_create(&thread, &small, deep, NULL);
-    expect(begun == 0 && pthread_join(thread, NULL) == 0, "a thread with a stack of 1 MiB");
+           "a prefix of an image does not run");
 }
 
 int main(void) {
     buffers();
     statuses();
+    constants();
     misuse();
     images();
-    stack();
     printf("%d passed, %d failed\n", passed, failed);
     return failed != 0;
 }

@@ -1,11 +1,11 @@
-"""Renders each folder of a directory by both calls: examples.py DIRECTORY
+"""Renders each folder of a directory in each way: examples.py DIRECTORY
 
-A folder is as `bench/examples.sh` has it.
+A folder is as `tests/examples.sh` has it.
 """
 import pathlib
 import sys
 
-from jt import Options, Template
+from jt import Context, Options, Template, Templates
 
 
 def options(words):
@@ -21,7 +21,9 @@ for folder in sorted(pathlib.Path(sys.argv[1]).iterdir()):
     entry, *words = (folder / "command").read_text().split()
     sources = {file.name: file.read_bytes().decode() for file in (folder / "templates").iterdir()}
     template = Template(entry, sources, options(words))
+    templates = Templates.from_folder(folder / "templates", options(words))
     context = (folder / "context.json").read_text()
     wanted = (folder / "expected").read_bytes().decode()
     assert template.render(context) == wanted, f"{folder}: render"
     assert template.compile().run(context) == wanted, f"{folder}: compile and run"
+    assert templates.template(entry).render(Context(context)) == wanted, f"{folder}: from_folder"

@@ -1,7 +1,10 @@
-use jt::{Budget, Context, Error, Image, Options, Outcome, Place, Spent, Template};
+use jt::{
+    Budget, Context, Error, Fault, Image, Options, Outcome, Place, Spent, Template, Templates,
+};
+use std::{fs, io, thread};
 
-fn none() -> Context {
-    Context::from_json("{}")
+fn context(json: &str) -> Context {
+    Context::from_json(json).unwrap()
 }
 
 fn template(source: &str) -> Template {
@@ -9,65 +12,145 @@ fn template(source: &str) -> Template {
 }
 
 fn rendered(source: &str) -> Result<Outcome, Error> {
-    template(source).render(&none(), Budget::default())
+    template(source).render(&context("{}"), Budget::default())
+}
+
+fn text(text: &str) -> Result<Outcome, Error> {
+    Ok(Outcome::Text(text.into()))
 }
 
 fn code<T>(result: Result<T, Error>) -> String {
     match result {
-        Err(Error::Refused(reason)) => reason.split(' ').next().unwrap().to_string(),
+        Err(Error::Refused { code, .. }) => code,
         _ => String::new(),
     }
 }
 
 #[test]
-fn a_text_is_longer_than_the_first_buffer() {
-    for length in [0, 1, 4095, 4096, 4097, 100_000] {
-        assert_eq!(rendered(&"a".repeat(length)), Ok(Outcome::Text("a".repeat(length))));
+fn a_text_of_any_length_is_whole() {
+    for length in [0, 1, 1023, 1024, 1025, 4096, 100_000] {
+        assert_eq!(rendered(&"a".repeat(length)), text(&"a".repeat(length)));
     }
 }
 
 #[test]
-fn a_fault_has_its_place() {
-    let place = Some(Place { template: "t".into(), line: 2 });
-    assert_eq!(rendered("a\n{{ nope + 1 }}"), Ok(Outcome::Fault(2, place)));
+fn an_image_of_any_length_is_whole() {
+    let source: String = (0..3000).map(|n| format!("{{{{{n}}}}}")).collect();
+    let wanted: String = (0..3000).map(|n| n.to_string()).collect();
+    assert_eq!(rendered(&source), text(&wanted));
 }
 
 #[test]
-fn each_number_of_a_budget() {
-    let source = "{% macro m(x) %}{{ x }}{% endmacro %}{{ m('abc') }}{% set s = [[1, 2], 3] %}";
-    let usual = Budget::default();
-    for (budget, wanted) in [
-        (Budget { fuel: 0, ..usual }, Spent::Fuel),
-        (Budget { depth: 0, ..usual }, Spent::Depth),
-        (Budget { output: 0, ..usual }, Spent::Output),
-        (Budget { size: 1, ..usual }, Spent::Size),
-        (Budget { nesting: 1, ..usual }, Spent::Nesting),
+fn each_fault_has_its_name_and_its_place() {
+    for (number, name, source) in [
+        (1, "BadType", "{{ true + 1 }}"),
+        (2, "Undefined", "{{ nope.x }}"),
+        (3, "Overflow", "{{ 9223372036854775807 + 1 }}"),
+        (4, "ZeroDivide", "{{ 1 // 0 }}"),
+        (5, "Unprintable", "{{ [1] }}"),
+        (6, "NotIterable", "{{ 1 in 2 }}"),
+        (7, "Unpack", "{% set a, b = [1] %}"),
+        (8, "Range", "{{ range(1, 2, 0) }}"),
+        (9, "BadArgument", "{{ 'a'|replace('', 'b') }}"),
     ] {
-        assert_eq!(template(source).render(&none(), budget), Ok(Outcome::Spent(wanted)));
+        let outcome = rendered(&format!("a\n{source}")).unwrap();
+        match &outcome {
+            Outcome::Fault(fault, Some(place)) => {
+                assert_eq!((fault.number(), fault.name()), (number, name));
+                assert_eq!(*place, Place { template: "t".into(), line: 2 });
+            }
+            other => panic!("{other:?}"),
+        }
+        let error = outcome.into_text().unwrap_err();
+        assert_eq!(error.to_string(), format!("fault F{number} {name} in t line 2"));
     }
 }
 
 #[test]
-fn what_is_refused_says_why() {
-    assert_eq!(code(Template::new("t", &[], Options::default()).compile()), "C1");
-    assert_eq!(code(template("{{").compile()), "S1");
-    assert_eq!(rendered("a\n{{ 1 + }}"), Err(Error::Refused("P1 Syntax in t line 2".into())));
-    for (context, wanted) in [("{", "X1"), ("[]", "X2"), ("{\"a\": 1.5}", "X3")] {
-        assert_eq!(
-            code(template("").render(&Context::from_json(context), Budget::default())),
-            wanted
-        );
+fn each_number_of_a_budget_is_spent() {
+    let image =
+        template("{% macro m(x) %}{{ x }}{% endmacro %}{{ m('abc') }}{% set s = [[1, 2], 3] %}");
+    let image = image.compile().unwrap();
+    let usual = Budget::default();
+    for (number, budget, wanted) in [
+        (1, Budget { fuel: 0, ..usual }, Spent::Fuel),
+        (2, Budget { depth: 0, ..usual }, Spent::Depth),
+        (3, Budget { output: 0, ..usual }, Spent::Output),
+        (4, Budget { size: 1, ..usual }, Spent::Size),
+        (5, Budget { nesting: 1, ..usual }, Spent::Nesting),
+    ] {
+        let outcome = image.run(&context("{}"), budget);
+        assert_eq!(outcome, Ok(Outcome::Spent(wanted)));
+        assert_eq!(wanted.number(), number);
+        let error = outcome.unwrap().into_text().unwrap_err();
+        assert_eq!(error.to_string(), format!("spent {wanted:?}"));
     }
-    assert!(code(Image::from_bytes(*b"no image")).starts_with('I'));
+    assert_eq!(image.run(&context("{}"), usual), text("abc"));
+}
+
+#[test]
+fn a_refusal_has_its_parts() {
+    let parts = |error| match error {
+        Error::Refused { code, name, template, line, reason, .. } => {
+            (code, name, template.unwrap_or_default(), line, reason)
+        }
+        other => panic!("{other}"),
+    };
+    for (name, source, wanted) in [
+        ("t", "a\n{{ 1 + }}", ("P1", "Syntax", "t", Some(2), "P1 Syntax in t line 2")),
+        (
+            "in a line 3",
+            "{{",
+            ("S1", "UnclosedTag", "in a line 3", Some(1), "S1 UnclosedTag in in a line 3 line 1"),
+        ),
+        ("t", "{% include 'no' %}", ("C1", "Missing", "", None, "C1 Missing")),
+    ] {
+        let error = Templates::new(&[(name, source)]).compile(name, Options::default());
+        let error = error.unwrap_err();
+        let shown = error.to_string();
+        let (code, name, template, line, reason) = parts(error);
+        assert_eq!((&*code, &*name, &*template, line, &*reason), wanted);
+        assert_eq!(shown, format!("refused {reason}"));
+    }
+    let mut image = template("a").compile().unwrap().to_bytes().unwrap();
+    assert_eq!(code(Templates::default().compile("t", Options::default())), "C1");
+    assert_eq!(code(Image::from_bytes("no image")), "I1");
+    image.pop();
+    assert_eq!(code(Image::from_bytes(image)), "I3");
+}
+
+#[test]
+fn a_refused_context_is_none() {
+    for (json, wanted) in [
+        (&b"{"[..], "X1"),
+        (b"", "X1"),
+        (b"{\"a\": \"\xff\"}", "X1"),
+        (b"[]", "X2"),
+        (b"{\"a\": 1.5}", "X3"),
+        (b"{\"a\": 9223372036854775808}", "X4"),
+    ] {
+        assert_eq!(code(Context::from_json(json)), wanted);
+    }
+}
+
+#[test]
+fn a_context_serves_many_runs_and_images() {
+    let context = context(r#"{"n": "<"}"#);
+    let images = ["{{ n }}", "{{ n }}{{ n }}"].map(|source| template(source).compile().unwrap());
+    for _ in 0..3 {
+        assert_eq!(images[0].run(&context, Budget::default()), text("&lt;"));
+        assert_eq!(images[1].run(&context, Budget::default()), text("&lt;&lt;"));
+    }
 }
 
 #[test]
 fn an_image_travels_as_bytes() {
     let image = template("{{ n }}").compile().unwrap();
-    let stranger = Image::from_bytes(image.as_bytes()).unwrap();
-    assert_eq!(stranger, image);
-    let context = Context::from_json(r#"{"n": "<"}"#);
-    assert_eq!(stranger.run(&context, Budget::default()), Ok(Outcome::Text("&lt;".into())));
+    let bytes = image.to_bytes().unwrap();
+    let stranger = Image::from_bytes(&bytes).unwrap();
+    assert_eq!(stranger.to_bytes().unwrap(), bytes);
+    assert_ne!(template("{{ m }}").compile().unwrap().to_bytes().unwrap(), bytes);
+    assert_eq!(stranger.run(&context(r#"{"n": 7}"#), Budget::default()), text("7"));
 }
 
 #[test]
@@ -79,24 +162,139 @@ fn options_are_kept_apart() {
         ("{% if true %}\na{% endif %}", Options { trim_blocks: true, ..usual }, "a"),
         ("  {% if true %}a{% endif %}", Options { lstrip_blocks: true, ..usual }, "a"),
     ] {
-        let outcome =
-            Template::new("t", &[("t", source)], options).render(&none(), Budget::default());
-        assert_eq!(outcome, Ok(Outcome::Text(wanted.into())));
+        let template = Template::new("t", &[("t", source)], options);
+        assert_eq!(template.render(&context("{}"), Budget::default()), text(wanted));
     }
 }
 
 #[test]
-fn calls_of_threads_do_not_meet() {
-    let image = template("{% for i in range(n) %}{{ i }},{% endfor %}").compile().unwrap();
-    std::thread::scope(|scope| {
+fn a_later_source_replaces_an_earlier_one() {
+    let mut templates = Templates::new(&[("t", "a"), ("u", "b")]);
+    templates.add("t", "{% include 'u' %}");
+    templates.add("u", "c");
+    let image = templates.compile("t", Options::default()).unwrap();
+    assert_eq!(image.run(&context("{}"), Budget::default()), text("c"));
+}
+
+#[test]
+fn a_site_is_compiled_from_one_library() {
+    let mut templates = Templates::default();
+    for at in 0..100 {
+        templates.add(&format!("page{at}"), &format!("{{% extends 'layout{}' %}}", at % 5));
+    }
+    for at in 0..5 {
+        templates.add(&format!("layout{at}"), &format!("{at}:{{{{ n }}}}"));
+    }
+    let text_of = |templates: &Templates, at: usize| {
+        let image = templates.compile(&format!("page{at}"), Options::default()).unwrap();
+        image.run(&context(r#"{"n": 7}"#), Budget::default())
+    };
+    thread::scope(|scope| {
         for _ in 0..4 {
             scope.spawn(|| {
-                for n in 0..40 {
-                    let wanted: String = (0..n).map(|i| format!("{i},")).collect();
-                    let context = Context::from_json(format!("{{\"n\": {n}}}"));
-                    assert_eq!(image.run(&context, Budget::default()), Ok(Outcome::Text(wanted)));
+                for at in 0..100 {
+                    assert_eq!(text_of(&templates, at), text(&format!("{}:7", at % 5)));
                 }
             });
         }
     });
+    // A source that is added later counts, and not in an earlier clone.
+    let clone = templates.clone();
+    templates.add("layout1", "new");
+    assert_eq!(text_of(&templates, 1), text("new"));
+    assert_eq!(text_of(&clone, 1), text("1:7"));
+}
+
+#[test]
+fn a_folder_has_its_files_as_templates() {
+    let folder = std::env::temp_dir().join(format!("jt-{}", std::process::id()));
+    fs::create_dir_all(folder.join("mail/parts")).unwrap();
+    fs::write(folder.join("page"), "{% include 'mail/parts/foot.html' %}!").unwrap();
+    fs::write(folder.join("mail/parts/foot.html"), "foot").unwrap();
+    fs::write(folder.join("picture"), b"\xff").unwrap();
+    std::os::unix::fs::symlink("page", folder.join("link")).unwrap();
+    let templates = Templates::from_folder(&folder);
+    fs::remove_dir_all(&folder).unwrap();
+    let templates = templates.unwrap();
+    let image = templates.compile("page", Options::default()).unwrap();
+    assert_eq!(image.run(&context("{}"), Budget::default()), text("foot!"));
+    for name in ["picture", "link", "foot.html"] {
+        assert_eq!(code(templates.compile(name, Options::default())), "C1");
+    }
+    let error = Templates::from_folder(&folder).unwrap_err();
+    assert_eq!(error.kind(), io::ErrorKind::NotFound);
+}
+
+#[test]
+fn a_writer_has_the_whole_text_or_nothing() {
+    let image = template("{{ 10 // n }}").compile().unwrap();
+    let mut out = Vec::new();
+    image.run_to(&context(r#"{"n": 5}"#), Budget::default(), &mut out).unwrap();
+    assert_eq!(out, b"2");
+    let error = image.run_to(&context(r#"{"n": 0}"#), Budget::default(), &mut out).unwrap_err();
+    let place = Place { template: "t".into(), line: 1 };
+    let inner = error.get_ref().unwrap().downcast_ref::<Error>();
+    assert_eq!(inner, Some(&Error::Fault(Fault::ZeroDivide, Some(place))));
+    assert_eq!(out, b"2");
+    let error = image.run_to(&context(r#"{"n": 5}"#), Budget::default(), &mut [][..]);
+    assert_eq!(error.unwrap_err().kind(), io::ErrorKind::WriteZero);
+}
+
+#[test]
+fn handles_are_dropped_in_any_order() {
+    let image = template("{{ n }}").compile().unwrap();
+    let (first, second) = (image.try_clone().unwrap(), image.try_clone().unwrap());
+    let context = context(r#"{"n": 7}"#);
+    drop(image);
+    assert_eq!(first.run(&context, Budget::default()), text("7"));
+    drop(first);
+    let moved = Box::new((context, second));
+    assert_eq!(moved.1.run(&moved.0, Budget::default()), text("7"));
+    let (context, second) = *moved;
+    drop(second);
+    drop(context);
+}
+
+const LIST: &str = "{% for i in range(n) %}{{ i }},{% endfor %}";
+
+fn runs_of(image: &Image) {
+    for n in 0..40 {
+        let wanted: String = (0..n).map(|i| format!("{i},")).collect();
+        let context = context(&format!("{{\"n\": {n}}}"));
+        assert_eq!(image.run(&context, Budget::default()), text(&wanted));
+    }
+}
+
+#[test]
+fn threads_share_an_image() {
+    let image = template(LIST).compile().unwrap();
+    thread::scope(|scope| {
+        for _ in 0..4 {
+            scope.spawn(|| runs_of(&image));
+        }
+    });
+}
+
+#[test]
+fn an_image_goes_to_another_thread() {
+    let image = template(LIST).compile().unwrap();
+    let clones: Vec<_> = (0..4).map(|_| image.try_clone().unwrap()).collect();
+    let threads = clones.into_iter().map(|image| thread::spawn(move || runs_of(&image)));
+    let threads: Vec<_> = threads.collect();
+    drop(image);
+    for thread in threads {
+        thread.join().unwrap();
+    }
+    let made = thread::spawn(|| template(LIST).compile().unwrap()).join().unwrap();
+    runs_of(&made);
+}
+
+#[test]
+fn what_may_go_to_other_threads_says_so() {
+    fn is_shared<T: Send + Sync + 'static>() {}
+    is_shared::<Image>();
+    is_shared::<Templates>();
+    is_shared::<Template>();
+    is_shared::<Outcome>();
+    is_shared::<Error>();
 }

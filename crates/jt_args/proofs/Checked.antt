@@ -1,5 +1,6 @@
--- The options and flags of a line that the program takes, as their parsers took them.
-use Rattle.std.proofs.Common.{◌≡◌, ◌&&◌, ◌||◌, ◌==◌, ◌<◌, ◌≤◌, ◌^◌, ℕ, Bool, true, false, not, codes, List, [], ◌∷◌, Option, Some, None, ap₂, arith, refl, subst, sym}
+-- The options and flags of a line that the program takes have texts that their parsers accept.
+use Rattle.std.proofs.Common.{◌≡◌, ◌&&◌, ◌||◌, ◌==◌, ◌<◌, ◌≤◌, ◌^◌, ℕ, Bool, true, false, not, codes, List, [], ◌∷◌}
+use Rattle.std.proofs.Common.{Option, Some, None, ap₂, arith, refl, subst, sym}
 use Rattle.std.specs.Prelude.{IfSome, find, option_map, pos}
 use Rattle.std.specs.List.{AllByRecursion, list_all}
 use Rattle.std.specs.Option.{option_map_or}
@@ -20,7 +21,7 @@ use Rattle.jt_args.specs.Line.{program_app, HasNumbers, HasSlice, HasSwitches, I
 use Rattle.jt_args.proofs.Passed.{HasParser, IsRead, found, found_pass, neither, one_read}
 use Rattle.jt_args.proofs.Texts.{long_text, short_text, slice_text, switch_text}
 
--- ---- the parsers of the program's arguments, as tests
+-- ---- tests for the parsers of the program's arguments
 
 is_switch : ValueParser → Bool
 is_switch parser.Bool = true
@@ -38,7 +39,7 @@ is_slice : ValueParser → Bool
 is_slice (parser.Signed (pos low) (pos high)) = (low == 1) && (high == 1000000)
 is_slice _ = false
 
--- the test finds out this parser
+-- Only this parser passes the test.
 abbrev Finds : (ValueParser → Bool) → ValueParser → Type 0
 Finds test p = (q : ValueParser) → test q ≡ true → q ≡ p
 
@@ -68,18 +69,20 @@ finds_slice (parser.Signed (pos low) (pos high)) e =
     ap₂ (λ a b. parser.Signed (pos a) (pos b)) (eqb-true _ _ h.0) (eqb-true _ _ h.1)
 finds_slice _ e = absurd (true≢false (sym e))
 
--- each argument of this id has a parser that passes the test, and heeds the case of letters
+-- If an argument has this id, its parser passes the test and its values are case-sensitive.
 abbrev is_checked : Text → (ValueParser → Bool) → Rule → Bool
 is_checked id test a = not (bytes_eq a.id id) || (test (parser_of_value a.parser) && not a.ignore_case)
 
 abbrev are_checked : Text → (ValueParser → Bool) → List Shape → Bool
 are_checked id test = list_all (λ s. list_all (is_checked id test) s.rules)
 
-each : {X : Type 0} (test : X → Bool) (P : X → Type 0) → ((x : X) → test x ≡ true → P x) → (xs : List X) → list_all test xs ≡ true → AllByRecursion P xs
+each : {X : Type 0} (test : X → Bool) (P : X → Type 0) → ((x : X) → test x ≡ true → P x) → (xs : List X)
+    → list_all test xs ≡ true → AllByRecursion P xs
 each test P holds [] e = tt
 each test P holds (x ∷ xs) e = (holds x (both _ _ e).0, each test P holds xs (both _ _ e).1)
 
-below_clear : (s : Shape) (names : Names) (h : Held) (words : List Text) (has : Bool) (below : Kinds) → level_fault s names h words has below ≡ [] → below ≡ []
+below_clear : (s : Shape) (names : Names) (h : Held) (words : List Text) (has : Bool) (below : Kinds)
+    → level_fault s names h words has below ≡ [] → below ≡ []
 below_clear s names h words has below e = (neither _ _ (neither _ _ e).1).0
 
 module _ (id : Text) (p : ValueParser) (test : ValueParser → Bool) (finds : Finds test p) where
@@ -91,8 +94,9 @@ module _ (id : Text) (p : ValueParser) (test : ValueParser → Bool) (finds : Fi
       go false h f = absurd (true≢false (sym h))
       go true h f = (finds (parser_of_value a.parser) (both _ _ f).0, not-true a.ignore_case (both _ _ f).1)
 
-  -- what is read of the argument in a command that was entered
-  entered_read : (a : App) (stop : Option (Text × List Text)) → are_checked id test a.subs ≡ true → entered_fault a stop ≡ []
+  -- In a command that was entered, the text of the argument is one that the parser accepts.
+  entered_read : (a : App) (stop : Option (Text × List Text)) → are_checked id test a.subs ≡ true
+      → entered_fault a stop ≡ []
       → IfSome (entered a stop) (λ c. IfSome (one_of id c.1) (IsRead id p))
   entered_read a None checked e = tt
   entered_read a (Some q) checked e = go (find (λ s. answers_to q.0 (label_of s)) a.subs) (found HasAll _ a.subs all) e
@@ -119,11 +123,12 @@ module _ (id : Text) (p : ValueParser) (test : ValueParser → Bool) (finds : Fi
 
 -- ---- the arguments of the program
 
--- what the text says of one argument, in the rows of the command that the line names
+-- P holds of the text of one argument, if the command that the line names has such a row.
 abbrev Reads : Text → (Text → Type 0) → List Text → Type 0
 Reads id P words = IfSome (subcommand_of program_app words) (λ c. IfSome (one_of id c.1) P)
 
-reads : (id : Text) (p : ValueParser) (P : Text → Type 0) (words : List Text) → ((text : Text) → IsRead id p text → P text)
+reads : (id : Text) (p : ValueParser) (P : Text → Type 0) (words : List Text)
+    → ((text : Text) → IsRead id p text → P text)
     → IfSome (subcommand_of program_app words) (λ c. IfSome (one_of id c.1) (IsRead id p)) → Reads id P words
 reads id p P words says h = rows (subcommand_of program_app words) h
   where
@@ -131,20 +136,26 @@ reads id p P words says h = rows (subcommand_of program_app words) h
     text None k = tt
     text (Some t) k = says t k
 
-    rows : (o : Option (Text × List Row)) → IfSome o (λ c. IfSome (one_of id c.1) (IsRead id p)) → IfSome o (λ c. IfSome (one_of id c.1) P)
+    rows : (o : Option (Text × List Row)) → IfSome o (λ c. IfSome (one_of id c.1) (IsRead id p))
+        → IfSome o (λ c. IfSome (one_of id c.1) P)
     rows None k = tt
     rows (Some c) k = text (one_of id c.1) k
 
-switch : (id : Text) (words : List Text) → are_checked id is_switch (built program_app).subs ≡ true → IsClear words → Reads id IsSwitch words
+switch : (id : Text) (words : List Text) → are_checked id is_switch (built program_app).subs ≡ true → IsClear words
+    → Reads id IsSwitch words
 switch id words checked e =
-    reads id parser.Bool IsSwitch words (λ text r. subst IsSwitch (sym r.1) (switch_text r.0 r.2)) (read_of id parser.Bool is_switch finds_switch program_app words checked e)
+    reads id parser.Bool IsSwitch words (λ text r. subst IsSwitch (sym r.1) (switch_text r.0 r.2))
+    (read_of id parser.Bool is_switch finds_switch program_app words checked e)
 
-long : (id : Text) (words : List Text) → are_checked id is_long (built program_app).subs ≡ true → IsClear words → Reads id (IsNumber 64) words
+long : (id : Text) (words : List Text) → are_checked id is_long (built program_app).subs ≡ true → IsClear words
+    → Reads id (IsNumber 64) words
 long id words checked e =
     let p : ValueParser = parser.Unsigned 0 18446744073709551615 in
-    reads id p (IsNumber 64) words (λ text r. subst (IsNumber 64) (sym r.1) (long_text r.0 r.2)) (read_of id p is_long finds_long program_app words checked e)
+    reads id p (IsNumber 64) words (λ text r. subst (IsNumber 64) (sym r.1) (long_text r.0 r.2))
+    (read_of id p is_long finds_long program_app words checked e)
 
-short : (bits most : ℕ) (id : Text) (words : List Text) → most < 2 ^ bits → are_checked id (is_short most) (built program_app).subs ≡ true → IsClear words
+short : (bits most : ℕ) (id : Text) (words : List Text) → most < 2 ^ bits
+    → are_checked id (is_short most) (built program_app).subs ≡ true → IsClear words
     → Reads id (IsNumber bits) words
 short bits most id words fits checked e =
     let p : ValueParser = parser.Signed (pos 0) (pos most) in
@@ -155,7 +166,7 @@ sliced : are_checked (codes "slice") is_slice (built program_app).subs ≡ true
 unfolding clap_on_literals is_slice
 sliced = refl
 
--- the text of a turn's option
+-- The text of the option for the number of instructions in a turn.
 abbrev IsSliced : Text → Type 0
 IsSliced text = IsNumber 32 text
     × (1 ≤ digits_value 10 (without_leading_plus text)) × (digits_value 10 (without_leading_plus text) ≤ 1000000)
@@ -202,22 +213,31 @@ plain : are_checked (codes "no-autoescape") is_switch (built program_app).subs �
 unfolding clap_on_literals is_switch
 plain = refl
 
--- each option of the command that is given has a text of its kind
+-- Each option of the command that the line gives has a text of its kind.
 abbrev pub HaveAll : Option (Text × List Row) → Type 0
 HaveAll o = IfSome o (λ c. HasNumbers c.1) × IfSome o (λ c. HasSwitches c.1) × IfSome o (λ c. HasSlice c.1)
 
 pub checked : (words : List Text) → IsClear words → HaveAll (subcommand_of program_app words)
-checked words e = go (subcommand_of program_app words) (long (codes "fuel") words fuel e) (short 32 4294967295 (codes "depth") words (omega arith) depth e)
-    (long (codes "output") words output e) (short 32 4294967295 (codes "size") words (omega arith) size e) (short 8 255 (codes "nesting") words (omega arith) nesting e)
-    (switch (codes "trim-blocks") words trim e) (switch (codes "lstrip-blocks") words strip e) (switch (codes "keep-trailing-newline") words newline e)
+checked words e =
+    go (subcommand_of program_app words) (long (codes "fuel") words fuel e)
+    (short 32 4294967295 (codes "depth") words (omega arith) depth e)
+    (long (codes "output") words output e) (short 32 4294967295 (codes "size") words (omega arith) size e)
+    (short 8 255 (codes "nesting") words (omega arith) nesting e)
+    (switch (codes "trim-blocks") words trim e) (switch (codes "lstrip-blocks") words strip e)
+    (switch (codes "keep-trailing-newline") words newline e)
     (switch (codes "no-autoescape") words plain e) (slice words e)
   where
     go : (o : Option (Text × List Row))
-        → IfSome o (λ c. IfSome (one_of (codes "fuel") c.1) (IsNumber 64)) → IfSome o (λ c. IfSome (one_of (codes "depth") c.1) (IsNumber 32))
-        → IfSome o (λ c. IfSome (one_of (codes "output") c.1) (IsNumber 64)) → IfSome o (λ c. IfSome (one_of (codes "size") c.1) (IsNumber 32))
-        → IfSome o (λ c. IfSome (one_of (codes "nesting") c.1) (IsNumber 8)) → IfSome o (λ c. IfSome (one_of (codes "trim-blocks") c.1) IsSwitch)
-        → IfSome o (λ c. IfSome (one_of (codes "lstrip-blocks") c.1) IsSwitch) → IfSome o (λ c. IfSome (one_of (codes "keep-trailing-newline") c.1) IsSwitch)
-        → IfSome o (λ c. IfSome (one_of (codes "no-autoescape") c.1) IsSwitch) → IfSome o (λ c. IfSome (one_of (codes "slice") c.1) IsSliced)
+        → IfSome o (λ c. IfSome (one_of (codes "fuel") c.1) (IsNumber 64))
+        → IfSome o (λ c. IfSome (one_of (codes "depth") c.1) (IsNumber 32))
+        → IfSome o (λ c. IfSome (one_of (codes "output") c.1) (IsNumber 64))
+        → IfSome o (λ c. IfSome (one_of (codes "size") c.1) (IsNumber 32))
+        → IfSome o (λ c. IfSome (one_of (codes "nesting") c.1) (IsNumber 8))
+        → IfSome o (λ c. IfSome (one_of (codes "trim-blocks") c.1) IsSwitch)
+        → IfSome o (λ c. IfSome (one_of (codes "lstrip-blocks") c.1) IsSwitch)
+        → IfSome o (λ c. IfSome (one_of (codes "keep-trailing-newline") c.1) IsSwitch)
+        → IfSome o (λ c. IfSome (one_of (codes "no-autoescape") c.1) IsSwitch)
+        → IfSome o (λ c. IfSome (one_of (codes "slice") c.1) IsSliced)
         → HaveAll o
     go None f d o s n t l k a i = (tt, tt, tt)
     go (Some c) f d o s n t l k a i = ((f, d, o, s, n), (t, l, k, a), i)

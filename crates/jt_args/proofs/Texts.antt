@@ -1,5 +1,6 @@
--- What the text of an option says that its parser took.
-use Rattle.std.proofs.Common.{◌≡◌, ◌<◌, ◌≤◌, ◌^◌, ◌==◌, ◌||◌, ℕ, Bool, true, false, cond, codes, drop, List, [], ◌∷◌, Some, None, refl, subst, sym, arith, inl, inr, rules}
+-- Facts about the text of an option that its parser accepted.
+use Rattle.std.proofs.Common.{◌≡◌, ◌<◌, ◌≤◌, ◌^◌, ◌==◌, ◌||◌, ℕ, Bool, true, false, cond, codes, drop, List, [], ◌∷◌}
+use Rattle.std.proofs.Common.{Some, None, refl, subst, sym, arith, inl, inr, rules}
 use Rattle.std.specs.Prelude.{pos, unwrap_or}
 use Rattle.std.specs.Str.{bytes_eq}
 use Rattle.std.specs.Str.Parse.{IsNumeral, digits_value, starts_with_minus, without_leading_plus}
@@ -22,17 +23,21 @@ without_minus_is (x ∷ xs) = go (x == 45)
     go true = refl
     go false = refl
 
--- digits begin with no plus
+-- A numeral has no plus before its digits.
 no_plus : (ds : List ℕ) → IsNumeral 10 ds → without_leading_plus ds ≡ ds
 no_plus a0 a1 = search (arith, rules, ne_eqb, digit_from_value)
 
--- a number from low, which is not below zero, and `-0` isn't either
+-- A signed number in a range that is not below 0 has a minus only in `-0`. Without the minus it is
+-- a number in the range.
 in_range : (bits low high : ℕ) (t : Text) → high < 2 ^ bits → IsSignedIn (pos low) (pos high) t
-    → IsNumber bits (without_minus t) × (low ≤ digits_value 10 (without_leading_plus (without_minus t))) × (digits_value 10 (without_leading_plus (without_minus t)) ≤ high)
+    → IsNumber bits (without_minus t) × (low ≤ digits_value 10 (without_leading_plus (without_minus t)))
+    × (digits_value 10 (without_leading_plus (without_minus t)) ≤ high)
 in_range bits low high t fits passed = subst Fits (sym (without_minus_is t)) (go (starts_with_minus t) refl)
   where
     Fits : Text → Type 0
-    Fits u = IsNumber bits u × (low ≤ digits_value 10 (without_leading_plus u)) × (digits_value 10 (without_leading_plus u) ≤ high)
+    Fits u =
+        IsNumber bits u × (low ≤ digits_value 10 (without_leading_plus u))
+        × (digits_value 10 (without_leading_plus u) ≤ high)
 
     go : (b : Bool) → starts_with_minus t ≡ b → Fits (cond b (drop 1 t) t)
     go true minus =
@@ -49,12 +54,16 @@ in_range bits low high t fits passed = subst Fits (sym (without_minus_is t)) (go
         let numeral = rw minus at passed.0 in
         ((numeral, omega (arith, ints)), omega (arith, ints), omega (arith, ints))
 
-pub short_text : (bits high : ℕ) (raw : Text) → high < 2 ^ bits → accepts false (parser.Signed (pos 0) (pos high)) raw ≡ true → IsNumber bits (without_minus raw)
-short_text bits high raw fits e = (in_range bits 0 high raw fits (accepts-Accepts false (parser.Signed (pos 0) (pos high)) raw e)).0
+pub short_text : (bits high : ℕ) (raw : Text) → high < 2 ^ bits
+    → accepts false (parser.Signed (pos 0) (pos high)) raw ≡ true → IsNumber bits (without_minus raw)
+short_text bits high raw fits e =
+    (in_range bits 0 high raw fits (accepts-Accepts false (parser.Signed (pos 0) (pos high)) raw e)).0
 
 pub slice_text : (raw : Text) → accepts false (parser.Signed (pos 1) (pos 1000000)) raw ≡ true
-    → IsNumber 32 (without_minus raw) × (1 ≤ digits_value 10 (without_leading_plus (without_minus raw))) × (digits_value 10 (without_leading_plus (without_minus raw)) ≤ 1000000)
-slice_text raw e = in_range 32 1 1000000 raw (omega arith) (accepts-Accepts false (parser.Signed (pos 1) (pos 1000000)) raw e)
+    → IsNumber 32 (without_minus raw) × (1 ≤ digits_value 10 (without_leading_plus (without_minus raw)))
+    × (digits_value 10 (without_leading_plus (without_minus raw)) ≤ 1000000)
+slice_text raw e =
+    in_range 32 1 1000000 raw (omega arith) (accepts-Accepts false (parser.Signed (pos 1) (pos 1000000)) raw e)
 
 pub long_text : (raw : Text) → accepts false (parser.Unsigned 0 18446744073709551615) raw ≡ true → IsNumber 64 raw
 long_text raw e =

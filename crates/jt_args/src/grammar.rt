@@ -1,22 +1,23 @@
-//! The grammar of a line, in tables.
+//! Builds the grammar of the command line from tables.
 
 ghost use Rattle.std.specs.Prelude.{◌≡◌, false, IfOk};
 ghost use Rattle.clap.specs.Words.{app_of, rule_of};
 ghost use Rattle.jt_args.specs.Line.{program_app};
-ghost use Rattle.jt_args.specs.Grammar.{app_for, rule_for, with_commands, IsApp};
+ghost use Rattle.jt_args.specs.internal.Grammar.{app_for, rule_for, with_commands, IsApp};
 
 use clap::builder::ValueParser;
 use clap::{Arg, ArgAction, Command};
+use jt_version::VERSION;
 use std::alloc::{AllocError, Global};
 
-/// A command with its words, options and flags.
+/// A command: its name, its help text and its arguments.
 struct CommandForm {
     name: &'static str,
     about: &'static str,
     arguments: &'static [Argument],
 }
 
-/// A word, an option or a flag.
+/// An argument of a command: a word, an option or a flag.
 struct Argument {
     name: &'static str,
     kind: ArgumentKind,
@@ -24,13 +25,13 @@ struct Argument {
 }
 
 enum ArgumentKind {
-    /// A word that has to be there.
+    /// A word that must be present.
     Word,
     /// A word that may be left out.
     OptionalWord,
-    /// As many words as are given.
+    /// Any number of words.
     Words,
-    /// An option with one value.
+    /// An option with one number as its value.
     Number(ValueParser<'static>),
     /// An option without a value.
     Flag,
@@ -83,13 +84,13 @@ const CONTEXT: Argument = Argument {
 const PAIRS: Argument = Argument {
     name: "PAIRS",
     kind: ArgumentKind::Words,
-    help: "The files of an image and of a context, for each session",
+    help: "The file of an image and the file of a context, for each session",
 };
 
 const TRIM_BLOCKS: Argument = Argument {
     name: "trim-blocks",
     kind: ArgumentKind::Flag,
-    help: "Drops a newline directly behind a block tag",
+    help: "Drops a newline directly after a block tag",
 };
 
 const LSTRIP_BLOCKS: Argument = Argument {
@@ -107,43 +108,43 @@ const KEEP_TRAILING_NEWLINE: Argument = Argument {
 const NO_AUTOESCAPE: Argument = Argument {
     name: "no-autoescape",
     kind: ArgumentKind::Flag,
-    help: "Escapes nothing unless a template says so",
+    help: "Escapes values only where a template requests it",
 };
 
 const FUEL: Argument = Argument {
     name: "fuel",
     kind: ArgumentKind::Number(LONG),
-    help: "What the instructions may cost [default: 1000000]",
+    help: "The total cost of the instructions [default: 1000000]",
 };
 
 const DEPTH: Argument = Argument {
     name: "depth",
     kind: ArgumentKind::Number(USUAL),
-    help: "How many calls may be open [default: 64]",
+    help: "The number of calls that may be open [default: 64]",
 };
 
 const OUTPUT: Argument = Argument {
     name: "output",
     kind: ArgumentKind::Number(LONG),
-    help: "How many bytes may be put out [default: 1048576]",
+    help: "The number of bytes that may be written [default: 1048576]",
 };
 
 const SIZE: Argument = Argument {
     name: "size",
     kind: ArgumentKind::Number(USUAL),
-    help: "How large a value may be [default: 1048576]",
+    help: "The greatest size of a value [default: 1048576]",
 };
 
 const NESTING: Argument = Argument {
     name: "nesting",
     kind: ArgumentKind::Number(SHORT),
-    help: "How deep a value may nest [default: 32]",
+    help: "The greatest nesting of a value [default: 32]",
 };
 
 const SLICE: Argument = Argument {
     name: "slice",
     kind: ArgumentKind::Number(SLICES),
-    help: "How many instructions a turn has, 1 to 1000000 [default: 100]",
+    help: "The number of instructions in a turn, 1 to 1000000 [default: 100]",
 };
 
 const COMMANDS: [CommandForm; 6] = [
@@ -200,19 +201,20 @@ const COMMANDS: [CommandForm; 6] = [
     },
 ];
 
-/// The line's grammar.
+/// Returns the grammar of the command line.
 pub(crate) fn program<'a>(alloc: Global) -> Result<Command<'a>, AllocError>
     ensures { IfOk result (λ c. app_of c ≡ program_app) }
 {
     let program = Command::new(alloc, "jt")
         .about("A compiler and sandbox for the Jinja template language")
+        .version(VERSION)
         .no_binary_name(true)
         .disable_help_subcommand(true)
         .subcommand_required(true);
     add_commands(alloc, program, &COMMANDS)
 }
 
-/// Adds the commands to the program.
+/// Adds the commands of `forms` to the program.
 fn add_commands<'a>(
     alloc: Global,
     mut program: Command<'a>,
@@ -226,7 +228,7 @@ fn add_commands<'a>(
     Ok(program)
 }
 
-/// A command with its arguments.
+/// Builds a command with its arguments.
 fn command<'a>(alloc: Global, form: &CommandForm) -> Result<Command<'a>, AllocError>
     ensures { IsApp result (app_for form.now) }
 {
@@ -237,7 +239,7 @@ fn command<'a>(alloc: Global, form: &CommandForm) -> Result<Command<'a>, AllocEr
     Ok(command)
 }
 
-/// An argument of a command.
+/// Builds an argument of a command.
 fn arg<'a>(alloc: Global, wanted: &Argument) -> Arg<'a>
     ensures rule { rule_of result ≡ rule_for wanted.now }
     ensures local { result.global ≡ false }

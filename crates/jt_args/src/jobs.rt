@@ -1,68 +1,70 @@
-//! What a line asks for.
+//! The jobs that a command line can request.
 
 use jt_budget::Budget;
 use jt_scan::Options;
 use std::alloc::AllocError;
 use thiserror::Error;
 
-/// What the program is to do, with its words. A context is the file of one, and none is the empty
-/// context.
+/// A command of the program with its words. `context` is the path of a context file; `None` is the
+/// empty context.
 #[derive(Debug, Drop, PartialEq, Eq)]
 pub enum Command {
-    /// Compile the template of a name, from the files of a directory, into an image.
+    /// Compiles the template `name` from the files of the directory `dir` into an image at `out`.
     Compile {
         dir: String,
         name: String,
         out: String,
     },
-    /// Verify the image at a path.
+    /// Verifies the image at a path.
     Check {
         image: String,
     },
-    /// Run the image at a path and print its text.
+    /// Runs the image at a path and prints its text.
     Run {
         image: String,
         context: Option<String>,
     },
-    /// Compile the template of a name, from the files of a directory, run it and print its text.
+    /// Compiles the template `name` from the files of the directory `dir`, runs it and prints its
+    /// text.
     Render {
         dir: String,
         name: String,
         context: Option<String>,
     },
-    /// Run images, each for its context, in turns.
+    /// Runs images in turns, each for its own context.
     Turns {
         sessions: Vec<Pair>,
     },
-    /// Write the image at a path in version 2 to another path.
+    /// Writes the image at the path `image` in version 2 to the path `out`.
     Upgrade {
         image: String,
         out: String,
     },
 }
 
-/// The files of an image and of a context.
+/// The paths of an image and of a context file.
 #[derive(Debug, Drop, PartialEq, Eq)]
 pub struct Pair {
     pub image: String,
     pub context: String,
 }
 
-/// A command with its options and numbers. Those that it does not take are the usual ones.
+/// A command with its options and numbers. Those that the command does not take have their
+/// defaults.
 #[derive(Debug, Drop, PartialEq, Eq)]
 pub struct Job {
     pub command: Command,
-    /// How templates are read.
+    /// The options under which templates are read.
     pub options: Options,
     pub budget: Budget,
-    /// How many instructions a turn has.
+    /// The number of instructions in a turn.
     pub slice: u32,
 }
 
-/// Why a line asks for nothing.
+/// Why a command line requests no job.
 #[derive(Debug, Drop, Error)]
 pub enum JobError {
-    /// The text for standard error: what is wrong with the line, or the help that it asks for.
+    /// The text for standard error: the mistake in the line, or the help that the line requests.
     #[error("{0}")]
     Usage(String),
     /// A growth was refused.
@@ -81,7 +83,7 @@ impl From<AllocError> for JobError {
     }
 }
 
-/// What a run may use where the line does not say.
+/// The default budget of a run.
 pub const DEFAULT: Budget = Budget {
     fuel: 1_000_000,
     depth: 64,
@@ -90,5 +92,5 @@ pub const DEFAULT: Budget = Budget {
     nesting: 32,
 };
 
-/// How many instructions a turn has where the line does not say.
+/// The default number of instructions in a turn.
 pub(crate) const SLICE: u32 = 100;

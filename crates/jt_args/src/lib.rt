@@ -1,7 +1,7 @@
-//! What a command line of `jt` asks for.
+//! Parses the command line of `jt` into a job.
 //!
-//! `job` (line) by a grammar in tables (grammar), and the jobs that there are (jobs). Read first:
-//! specs/Line.antt, which lines are taken.
+//! `job` (line) parses a line by a grammar in tables (grammar); its result is a job (jobs). Read
+//! first: specs/Line.antt, which states the lines that the program takes.
 #![tactic(auto)]
 
 mod grammar;

@@ -1,12 +1,15 @@
-//! The command line.
+//! Parses a command line into a job.
 
-ghost use Rattle.std.specs.Prelude.{◌≡◌, ◌≢◌, ◌%◌, length, codes, option_map, string_bytes, IfOk, IfErr, IfSome, OnOk};
+ghost use Rattle.std.specs.Prelude.{◌≡◌, ◌≢◌, ◌%◌, length, codes, option_map, string_bytes, IfOk};
+ghost use Rattle.std.specs.Prelude.{IfErr, IfSome, OnOk};
 ghost use Rattle.clap.specs.Words.{first_of, found_of, rows_of, one_of, kind_of};
 ghost use Rattle.clap.specs.Words.{subcommand_of, subcommand_rows_of};
 ghost use Rattle.clap.specs.Walk.{texts};
-ghost use Rattle.jt_args.specs.Line.{Takes, IsAsked, IsKnown, IsBudget, IsOptions, IsGiven, IsSlice, IsFlag, IfUsage};
+ghost use Rattle.jt_args.specs.Line.{Takes, IsAsked, IsKnown, IsBudget, IsOptions, IsGiven};
+ghost use Rattle.jt_args.specs.Line.{IsSlice, IsFlag, IfUsage};
 ghost use Rattle.jt_args.specs.Line.{program_app, word_of};
-ghost use Rattle.jt_args.specs.Line.{HasNumbers, HasSlice, HasSwitches, IsNumber, IsSwitch, ComeInPairs, ArePaired, pair_words, words_of_pairs};
+ghost use Rattle.jt_args.specs.Line.{HasNumbers, HasSlice, HasSwitches, IsNumber, IsSwitch};
+ghost use Rattle.jt_args.specs.Line.{ComeInPairs, ArePaired, pair_words, words_of_pairs};
 
 use crate::grammar::program;
 use crate::jobs;
@@ -17,10 +20,13 @@ use jt_budget::Budget;
 use jt_scan::Options;
 use std::alloc::{AllocError, Global};
 
-/// Reads `words`, the line without the program's name: a command, and then its words and options.
+/// Parses `words`, the line without the program's name: a command, then its words and options.
 ///
-/// A line that the program does not take is `Usage`, with the text for standard error; so is one
-/// that asks for help.
+/// # Errors
+///
+/// - `Usage` if the program does not take the line, or if the line requests help. It holds the text
+///   for standard error.
+/// - `NoMemory` if a growth is refused.
 pub fn job(alloc: Global, words: &[&str]) -> Result<Job, JobError>
     ensures taken { OnOk result (Takes (texts words.now)) }
     ensures asked { IfOk result (IsAsked (subcommand_of program_app (texts words.now))) }
@@ -35,7 +41,8 @@ pub fn job(alloc: Global, words: &[&str]) -> Result<Job, JobError>
     }
 }
 
-/// The job of a line that was taken.
+/// Builds the job of a line that the grammar accepts. Refuses `turns` unless its words come in
+/// pairs.
 fn asked(alloc: Global, matches: &ArgMatches<'_>) -> Result<Job, JobError>
     requires known { IsKnown (option_map (λ p. p.0) (subcommand_rows_of matches.now)) }
     requires numbers { IfSome (subcommand_rows_of matches.now) (λ p. HasNumbers p.1) }
@@ -150,7 +157,7 @@ fn turns_job(alloc: Global, found: &ArgMatches<'_>) -> Result<Job, JobError>
     })
 }
 
-/// The words two by two.
+/// Groups words into pairs of an image and a context.
 fn pairs(alloc: Global, words: &[&str]) -> Result<Vec<Pair>, AllocError>
     requires { length words.now % 2 ≡ 0 }
     ensures { IfOk result (λ pairs. words_of_pairs pairs.items ≡ texts words.now) }
@@ -164,7 +171,7 @@ fn pairs(alloc: Global, words: &[&str]) -> Result<Vec<Pair>, AllocError>
     Ok(pairs)
 }
 
-/// How many instructions a turn has.
+/// Returns the number of instructions in a turn.
 fn slice(found: &ArgMatches<'_>) -> u32
     requires { HasSlice (rows_of (found_of found.now)) }
     ensures { IsSlice (rows_of (found_of found.now)) result }
@@ -172,14 +179,14 @@ fn slice(found: &ArgMatches<'_>) -> u32
     number(found, "slice", SLICE)
 }
 
-/// The text of a word.
+/// Returns the value of the argument `name`, or the empty text if the line lacks it.
 fn word<'a>(found: &ArgMatches<'a>, name: &str) -> &'a str
     ensures { result.now ≡ word_of name.now (rows_of (found_of found.now)) }
 {
     found.get_str(name).unwrap_or("")
 }
 
-/// The file of the context, where one is given.
+/// Returns the path of the context file, if the line has one.
 fn context(alloc: Global, found: &ArgMatches<'_>) -> Result<Option<String>, AllocError>
     ensures { IfOk result (λ file.
         option_map string_bytes file ≡ first_of (codes "CONTEXT") (rows_of (found_of found.now))) }
@@ -190,7 +197,8 @@ fn context(alloc: Global, found: &ArgMatches<'_>) -> Result<Option<String>, Allo
     }
 }
 
-/// How templates are read: as usual but for the flags that were given.
+/// Returns the options under which templates are read: the defaults, changed by the flags of the
+/// line.
 fn options(found: &ArgMatches<'_>) -> Options
     requires { HasSwitches (rows_of (found_of found.now)) }
     ensures { IsOptions (rows_of (found_of found.now)) result }
@@ -203,7 +211,7 @@ fn options(found: &ArgMatches<'_>) -> Options
     }
 }
 
-/// Whether a flag was given.
+/// Returns whether the line has the flag `name`.
 fn flag(found: &ArgMatches<'_>, name: &str) -> bool
     requires { IfSome (one_of name.now (rows_of (found_of found.now))) IsSwitch }
     ensures { IsFlag (one_of name.now (rows_of (found_of found.now))) result }
@@ -211,7 +219,7 @@ fn flag(found: &ArgMatches<'_>, name: &str) -> bool
     found.get_flag(name)
 }
 
-/// The numbers that were given, and the defaults of the others.
+/// Returns the budget: the numbers of the line, and the default of each number that it lacks.
 fn budget(found: &ArgMatches<'_>) -> Budget
     requires { HasNumbers (rows_of (found_of found.now)) }
     ensures { IsBudget (rows_of (found_of found.now)) result }
@@ -225,7 +233,7 @@ fn budget(found: &ArgMatches<'_>) -> Budget
     }
 }
 
-/// A number of 64 bits.
+/// Returns the 64-bit value of the option `name`, or `default` if the line lacks it.
 fn long_number(found: &ArgMatches<'_>, name: &str, default: u64) -> u64
     requires { IfSome (one_of name.now (rows_of (found_of found.now))) (IsNumber 64) }
     ensures { IsGiven 64 default (one_of name.now (rows_of (found_of found.now))) result }
@@ -233,7 +241,7 @@ fn long_number(found: &ArgMatches<'_>, name: &str, default: u64) -> u64
     found.get_one(name).unwrap_or(default)
 }
 
-/// A number of 32 bits.
+/// Returns the 32-bit value of the option `name`, or `default` if the line lacks it.
 fn number(found: &ArgMatches<'_>, name: &str, default: u32) -> u32
     requires { IfSome (one_of name.now (rows_of (found_of found.now))) (IsNumber 32) }
     ensures { IsGiven 32 default (one_of name.now (rows_of (found_of found.now))) result }
@@ -241,7 +249,7 @@ fn number(found: &ArgMatches<'_>, name: &str, default: u32) -> u32
     found.get_one(name).unwrap_or(default)
 }
 
-/// A number of 8 bits.
+/// Returns the 8-bit value of the option `name`, or `default` if the line lacks it.
 fn short_number(found: &ArgMatches<'_>, name: &str, default: u8) -> u8
     requires { IfSome (one_of name.now (rows_of (found_of found.now))) (IsNumber 8) }
     ensures { IsGiven 8 default (one_of name.now (rows_of (found_of found.now))) result }
@@ -249,7 +257,7 @@ fn short_number(found: &ArgMatches<'_>, name: &str, default: u8) -> u8
     found.get_one(name).unwrap_or(default)
 }
 
-/// What a line that was not taken comes to.
+/// Converts an error of the parser: `NoMemory` if memory ran out, else `Usage` with its text.
 fn refused(alloc: Global, mistake: &clap::Error) -> JobError
     ensures { IfUsage (kind_of mistake.now ≢ ErrorKind.OutOfMemory) result }
 {

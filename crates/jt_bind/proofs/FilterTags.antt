@@ -1,27 +1,40 @@
--- Filters one after the other.
+-- The filters of a filter tag, in order.
 use Rattle.std.proofs.Common.{◌≡◌, ℕ, ◌+◌, ◌<◌, List, [], ◌∷◌, ◌++◌, length, take, get_or, refl, sym, ap, ◌∙◌}
 use Rattle.std.proofs.lemmas.List.{take_more, map-append}
-use Rattle.jt_trees.specs.Statements as trees
-use Rattle.jt_trees.specs.StatementView.{filtering_view, filterings_view}
-use Rattle.jt_trees.specs.declared.statement.Filtering.{Filtering}
-use Rattle.jt_resolved.specs.Pool.{Constant}
-use Rattle.jt_resolved.specs.Slots.{SlotExpr}
-use Rattle.jt_meaning.specs.Resolve.{resolved_filters}
-use Rattle.jt_bind.specs.Chains.{Chains}
-use Rattle.jt_bind.specs.declared.spot.Spot.{Spot}
-use Rattle.jt_bind.specs.Scoped.{world_in, order_in, spot_in, filtered_in}
+use Rattle.jt_ast.specs.Statements as trees
+use Rattle.jt_ast.specs.StatementView.{filter_call_view, filter_calls_view}
+use Rattle.jt_ast.specs.declared.statement.FilterCall.{FilterCall}
+use Rattle.jt_ir.specs.Pool.{Constant}
+use Rattle.jt_ir.specs.Slots.{SlotExpr}
+use Rattle.jt_semantics.specs.Resolve.{resolved_filters}
+use Rattle.jt_bind.specs.internal.Chains.{Chains}
+use Rattle.jt_bind.specs.declared.senv.StaticEnv.{StaticEnv}
+use Rattle.jt_bind.specs.internal.Scoped.{cenv_in, order_in, senv_in, filtered_in}
 
-filters_push : (s : Chains) (spot : Spot) (fs : List trees.Filtering) (f : trees.Filtering) (e : SlotExpr Constant)
-    → resolved_filters (world_in s) (order_in s) (fs ++ f ∷ []) (spot_in s spot) e ≡ filtered_in s ((world_in s).filters.named f.name f.arguments f.keywords) (resolved_filters (world_in s) (order_in s) fs (spot_in s spot) e) f.arguments f.keywords spot
-filters_push s spot [] f e = refl
-filters_push s spot (g ∷ gs) f e = filters_push s spot gs f (filtered_in s ((world_in s).filters.named g.name g.arguments g.keywords) e g.arguments g.keywords spot)
+filters_push : (s : Chains) (senv : StaticEnv) (fs : List trees.FilterCall) (f : trees.FilterCall)
+    (e : SlotExpr Constant)
+    → resolved_filters (cenv_in s) (order_in s) (fs ++ f ∷ []) (senv_in s senv) e
+    ≡ filtered_in s ((cenv_in s).filters.named f.name f.arguments f.keywords)
+    (resolved_filters (cenv_in s) (order_in s) fs (senv_in s senv) e) f.arguments f.keywords senv
+filters_push s senv [] f e = refl
+filters_push s senv (g ∷ gs) f e =
+    filters_push s senv gs f
+    (filtered_in s ((cenv_in s).filters.named g.name g.arguments g.keywords) e g.arguments g.keywords senv)
 
--- one filter more
-pub filters_next : (s : Chains) (spot : Spot) (fs : List Filtering) (i : ℕ) (f : Filtering) (e : SlotExpr Constant) → i < length fs → f ≡ get_or fs i f
-    → filtered_in s ((world_in s).filters.named (filtering_view f).name (filtering_view f).arguments (filtering_view f).keywords) (resolved_filters (world_in s) (order_in s) (filterings_view (take i fs)) (spot_in s spot) e) (filtering_view f).arguments (filtering_view f).keywords spot
-    ≡ resolved_filters (world_in s) (order_in s) (filterings_view (take (i + 1) fs)) (spot_in s spot) e
-filters_next s spot fs i f e lt is =
-    sym (filters_push s spot (filterings_view (take i fs)) (filtering_view f) e)
-    ∙ ap (λ l. resolved_filters (world_in s) (order_in s) l (spot_in s spot) e) (sym (map-append filtering_view (take i fs) (f ∷ [])))
-    ∙ ap (λ (g : Filtering). resolved_filters (world_in s) (order_in s) (filterings_view (take i fs ++ g ∷ [])) (spot_in s spot) e) is
-    ∙ ap (λ (l : List Filtering). resolved_filters (world_in s) (order_in s) (filterings_view l) (spot_in s spot) e) (sym (take_more fs i f lt))
+-- One more filter.
+pub filters_next : (s : Chains) (senv : StaticEnv) (fs : List FilterCall) (i : ℕ) (f : FilterCall)
+    (e : SlotExpr Constant)
+    → i < length fs → f ≡ get_or fs i f
+    → filtered_in s
+    ((cenv_in s).filters.named (filter_call_view f).name (filter_call_view f).arguments (filter_call_view f).keywords)
+    (resolved_filters (cenv_in s) (order_in s) (filter_calls_view (take i fs)) (senv_in s senv) e)
+    (filter_call_view f).arguments (filter_call_view f).keywords senv
+    ≡ resolved_filters (cenv_in s) (order_in s) (filter_calls_view (take (i + 1) fs)) (senv_in s senv) e
+filters_next s senv fs i f e lt is =
+    sym (filters_push s senv (filter_calls_view (take i fs)) (filter_call_view f) e)
+    ∙ ap (λ l. resolved_filters (cenv_in s) (order_in s) l (senv_in s senv) e)
+    (sym (map-append filter_call_view (take i fs) (f ∷ [])))
+    ∙ ap (λ (g : FilterCall).
+    resolved_filters (cenv_in s) (order_in s) (filter_calls_view (take i fs ++ g ∷ [])) (senv_in s senv) e) is
+    ∙ ap (λ (l : List FilterCall). resolved_filters (cenv_in s) (order_in s) (filter_calls_view l) (senv_in s senv) e)
+    (sym (take_more fs i f lt))

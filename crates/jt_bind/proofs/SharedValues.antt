@@ -1,24 +1,29 @@
--- The values in front of a pool, one part more.
-use Rattle.std.proofs.Common.{◌≡◌, ℕ, ◌+◌, ◌<◌, List, [], ◌∷◌, ◌++◌, length, map, drop, get_or, refl, sym, ap, ◌∙◌, append_assoc}
+-- The values at the beginning of a pool, one more part.
+use Rattle.std.proofs.Common.{◌≡◌, ℕ, ◌+◌, ◌<◌, List, [], ◌∷◌, ◌++◌, length, map, drop, get_or, refl, sym, ap, ◌∙◌}
+use Rattle.std.proofs.Common.{append_assoc}
 use Rattle.std.proofs.lemmas.List.{drop_more}
-use Rattle.jt_trees.specs.StatementView.{parameter_view}
+use Rattle.jt_ast.specs.StatementView.{parameter_view}
 use Rattle.jt_chains.specs.Chain.{Template}
 use Rattle.jt_chains.specs.Parts.{macro_view}
 use Rattle.jt_chains.specs.declared.parts.Macro.{Macro}
-use Rattle.jt_evaluation.specs.Filters.{default_value}
-use Rattle.jt_meaning.specs.Layout.{defaults_of}
+use Rattle.jt_eval.specs.Filters.{default_value}
+use Rattle.jt_semantics.specs.Layout.{defaults_of}
 
 map_both : {A B C : Type 0} (f : B → C) (g : A → B) (xs : List A) → map (λ x. f (g x)) xs ≡ map f (map g xs)
 map_both f g [] = refl
 map_both f g (x ∷ xs) = ap (λ l. f (g x) ∷ l) (map_both f g xs)
 
--- a part that was put at the end is no longer left
-pub part_put : {A : Type 0} (at part left all new : List A) → new ≡ at ++ part → at ++ (part ++ left) ≡ all → new ++ left ≡ all
+-- A part that was appended no longer remains.
+pub part_put : {A : Type 0} (at part left all new : List A) → new ≡ at ++ part → at ++ (part ++ left) ≡ all
+    → new ++ left ≡ all
 part_put at part left all new e h = ap (λ vs. vs ++ left) e ∙ append_assoc at part left ∙ h
 
--- the defaults of one macro, in front of those that are left
+-- The defaults of one macro come before the remaining ones.
 pub defaults_left : (ts : List Template) (ms : List Macro) (i : ℕ) (m : Macro) → i < length ms → m ≡ get_or ms i m
-    → defaults_of (map (macro_view ts) (drop i ms)) ≡ map (λ p. default_value (parameter_view p).default) m.parameters.now ++ defaults_of (map (macro_view ts) (drop (i + 1) ms))
+    → defaults_of (map (macro_view ts) (drop i ms))
+    ≡ map (λ p. default_value (parameter_view p).default) m.parameters.now
+    ++ defaults_of (map (macro_view ts) (drop (i + 1) ms))
 defaults_left ts ms i m lt is =
     ap (λ ks. defaults_of (map (macro_view ts) ks)) (drop_more ms i m lt ∙ ap (λ k. k ∷ drop (i + 1) ms) (sym is))
-    ∙ ap (λ vs. vs ++ defaults_of (map (macro_view ts) (drop (i + 1) ms))) (sym (map_both (λ p. default_value p.default) parameter_view m.parameters.now))
+    ∙ ap (λ vs. vs ++ defaults_of (map (macro_view ts) (drop (i + 1) ms)))
+    (sym (map_both (λ p. default_value p.default) parameter_view m.parameters.now))

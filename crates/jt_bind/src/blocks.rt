@@ -1,33 +1,33 @@
-//! Bodies of blocks that are called.
+//! Resolves calls of the bodies of blocks.
 
 ghost use Rattle.std.specs.Prelude.{◌≡◌, IfOk};
-ghost use Rattle.jt_trees.specs.Texts.{texts};
-ghost use Rattle.jt_meaning.specs.Resolve as resolve;
-ghost use Rattle.jt_bind.specs.Resolving.{table_of, IsBlock, super_of};
-ghost use Rattle.jt_bind.specs.Scoped.{PutsNone, IsRow, parameters_in, first_unit_in};
+ghost use Rattle.jt_ast.specs.Texts.{texts};
+ghost use Rattle.jt_semantics.specs.Resolve as resolve;
+ghost use Rattle.jt_bind.specs.internal.Resolving.{table_of, IsBlock, super_of};
+ghost use Rattle.jt_bind.specs.internal.Scoped.{PutsNone, IsRow, parameters_in, first_unit_in};
 
 use crate::lookup::absent;
 use crate::resolver::Resolver;
 use crate::rows::first_locals;
 use crate::tables::Tables;
-use jt_layout::more;
-use jt_resolved::SlotExpr;
+use jt_ir::SlotExpr;
+use jt_layout::checked_sum;
 use jt_value::NoMemory;
 use std::alloc::Global;
 
 impl<'a> Tables<'a> {
-    /// The unit of the first body of a block, if it has one.
+    /// Returns the unit of the first body of a block, if the block has one.
     pub(crate) fn first_body(&self, name: &str) -> Result<Option<usize>, NoMemory>
         ensures { IfOk result (λ u. u ≡ first_unit_in self.now name.now) }
     {
         let here = self.here();
         match here.first_bodies.place(name) {
-            Some(place) => Ok(Some(more(here.body_unit, place)?)),
+            Some(place) => Ok(Some(checked_sum(here.body_unit, place)?)),
             None => Ok(None),
         }
     }
 
-    /// The parameters that the bodies of a block have.
+    /// Returns the parameters of the bodies of a block.
     pub(crate) fn block_parameters(&self, name: &str) -> &[&'a str]
         ensures { texts result.now ≡ parameters_in self.now name.now }
     {
@@ -40,7 +40,7 @@ impl<'a> Tables<'a> {
 }
 
 impl<'t, 's, 'a> Resolver<'t, 's, 'a> {
-    /// What the parameters of a block's bodies read, in a row.
+    /// Returns the arguments for the bodies of a block: reads of their parameters.
     pub(crate) fn block_arguments(
         &self,
         name: &str,
@@ -51,8 +51,9 @@ impl<'t, 's, 'a> Resolver<'t, 's, 'a> {
         self.reads(self.tables.block_parameters(name))
     }
 
-    /// Resolves the call of a block, which does not see the names of the scopes around; absent
-    /// where the block has no body.
+    /// Resolves the call of a block, which does not see the names of the enclosing scopes. A block
+    /// without a body is absent.
+    #[inline(never)]
     pub(crate) fn block_called(&self, name: &str) -> Result<SlotExpr, NoMemory>
         ensures { IfOk result (λ e. IsBlock self.now name.now e) }
     {
@@ -60,24 +61,26 @@ impl<'t, 's, 'a> Resolver<'t, 's, 'a> {
             return Ok(absent());
         };
         let outside = Resolver {
-            spot: self.spot.outside(),
+            senv: self.senv.outside(),
             ..*self
         };
         let row = outside.block_arguments(name)?;
         Ok(SlotExpr::Invoke {
             routine: unit,
-            escaping: self.spot.escaping,
+            escaping: self.senv.escaping,
             row,
         })
     }
 
-    /// Resolves the call of the next body of the block that this one belongs to: its parameters are
-    /// handed on. Outside a block, and where no body is behind, it is absent.
+    /// Resolves `super()`: the call of the next body of the current block, which gets the
+    /// parameters of the current one. The call is absent outside a block and if there is no next
+    /// body.
+    #[inline(never)]
     pub(crate) fn super_called(&self) -> Result<SlotExpr, NoMemory>
         ensures { IfOk result (PutsNone (super_of self.now)) }
     {
         let here = self.tables.here();
-        let Some(place) = self.spot.body else {
+        let Some(place) = self.senv.body else {
             return Ok(absent());
         };
         let Some(body) = here.blocks.get(place) else {
@@ -86,12 +89,12 @@ impl<'t, 's, 'a> Resolver<'t, 's, 'a> {
         let Some(next) = here.next_bodies[place] else {
             return Ok(absent());
         };
-        let unit = more(here.body_unit, next)?;
+        let unit = checked_sum(here.body_unit, next)?;
         let parameters = self.tables.block_parameters(body.name);
         let row = first_locals(self.alloc, parameters.len())?;
         Ok(SlotExpr::Invoke {
             routine: unit,
-            escaping: self.spot.escaping,
+            escaping: self.senv.escaping,
             row,
         })
     }

@@ -1,23 +1,25 @@
-//! What stands in front of the arguments of a call.
+//! Resolves the callee of a call.
 
-ghost use Rattle.std.specs.Prelude.{◌≡◌, ◌<◌, false, length, List, Option, None, Some, option_map, codes, IfOk};
+ghost use Rattle.std.specs.Prelude.{◌≡◌, ◌<◌, false, length, List, Option, None, Some, option_map};
+ghost use Rattle.std.specs.Prelude.{codes, IfOk};
 ghost use Rattle.std.specs.Str.{bytes_eq};
-ghost use Rattle.jt_trees.specs.Expressions as trees;
-ghost use Rattle.jt_trees.specs.ExpressionView as written;
+ghost use Rattle.jt_ast.specs.Expressions as trees;
+ghost use Rattle.jt_ast.specs.ExpressionView as written;
 ghost use Rattle.jt_chains.specs.Chain as chain;
 ghost use Rattle.jt_chains.specs.Named.{given_view};
-ghost use Rattle.jt_chains.specs.Places.{home_at};
-ghost use Rattle.jt_bind.specs.Callees.{IsCallee, IsLaidThere, library_of};
-ghost use Rattle.jt_bind.specs.Scoped.{world_in, order_in, given_in, given_as, IsCalled, IsMacroOf};
-ghost use Rattle.jt_rules.specs.World.{World};
+ghost use Rattle.jt_chains.specs.Places.{namespace_at};
+ghost use Rattle.jt_bind.specs.internal.Callees.{IsCallee, IsLaidThere, library_of};
+ghost use Rattle.jt_bind.specs.internal.Scoped.{cenv_in, order_in, given_in, given_as, IsCalled};
+ghost use Rattle.jt_bind.specs.internal.Scoped.{IsMacroOf};
+ghost use Rattle.jt_rules.specs.CompileEnv.{CompileEnv};
 
 use crate::tables::Tables;
-use jt_chains::{Given, is_private};
-use jt_layout::more;
-use jt_trees::{Expr, Parameter};
+use jt_ast::{Expr, Parameter};
+use jt_chains::{Definition, is_private};
+use jt_layout::checked_sum;
 use jt_value::NoMemory;
 
-/// How a macro is called: its parameters, its unit, and the place of its first default.
+/// The signature of a macro: its parameters, its unit, and the pool place of its first default.
 #[derive(Clone, Copy)]
 pub(crate) struct Signature<'s> {
     pub parameters: &'s [Parameter],
@@ -25,21 +27,21 @@ pub(crate) struct Signature<'s> {
     pub first_default: usize,
 }
 
-/// What stands in front of the arguments of a call.
+/// The callee of a call.
 #[derive(Clone, Copy)]
 pub(crate) enum Callee<'s> {
     Macro(Signature<'s>),
     Range,
     Super,
-    /// The block of a name.
+    /// The block of this name.
     Block(&'s str),
     Cycle,
-    /// Nothing that can be called; no chain has one.
+    /// An expression that cannot be called. No chain that keeps the rules has one.
     Unknown,
 }
 
 impl<'a> Tables<'a> {
-    /// What an expression in front of the arguments of a call names.
+    /// Returns the callee that the expression before the arguments of a call names.
     pub(crate) fn callee_of<'s>(&'s self, called: &'s Expr) -> Result<Callee<'s>, NoMemory>
         ensures { IfOk result (λ k. IsCalled self.now (written.expr_view called.now) k) }
     {
@@ -50,7 +52,8 @@ impl<'a> Tables<'a> {
         }
     }
 
-    /// What a name stands for that is called: what it is given to hides what else has its name.
+    /// Returns the callee of a bare name. A macro or a library of the name hides `range` and
+    /// `super`.
     fn callee_named<'s>(&'s self, name: &str) -> Result<Callee<'s>, NoMemory>
         ensures { IfOk result (λ k. IsCalled self.now (trees.name name.now) k) }
     {
@@ -60,8 +63,8 @@ impl<'a> Tables<'a> {
         }
     }
 
-    /// What a name is given to.
-    fn given_named<'s>(&'s self, name: &str) -> Option<Given<'s>>
+    /// Returns the definition of a name, if it stands for a macro or a library.
+    fn given_named<'s>(&'s self, name: &str) -> Option<Definition<'s>>
         ensures { option_map (given_as self.now) result
             ≡ chain.given_to name.now (given_in self.now) }
     {
@@ -70,42 +73,42 @@ impl<'a> Tables<'a> {
         Some(here.given[place].given)
     }
 
-    /// What a name stands for that is given to something: a library itself can't be called.
-    fn callee_given<'s>(&'s self, given: Given<'_>) -> Result<Callee<'s>, NoMemory>
+    /// Returns the callee of a name with this definition. A library itself cannot be called.
+    fn callee_given<'s>(&'s self, given: Definition<'_>) -> Result<Callee<'s>, NoMemory>
         ensures { IfOk result (λ k. (x : trees.Text)
             → chain.given_to x (given_in self.now) ≡ Some (given_as self.now given.entry)
             → IsCalled self.now (trees.name x) k) }
     {
         self.stands();
         match given {
-            Given::Own(found) => self.macro_at(self.home(), found.name),
-            Given::Imported(library, found) => self.library_macro(library, found.name),
-            Given::Library(_) => Ok(Callee::Unknown),
+            Definition::Own(found) => self.macro_at(self.namespace(), found.name),
+            Definition::Imported(library, found) => self.library_macro(library, found.name),
+            Definition::Library(_) => Ok(Callee::Unknown),
         }
     }
 
-    /// The macro of a name of the chain or library at a place.
-    fn macro_at<'s>(&'s self, home: usize, name: &str) -> Result<Callee<'s>, NoMemory>
-        requires { home < length (order_in self.now) }
+    /// Returns the macro of this name in the chain or library at index `namespace`.
+    fn macro_at<'s>(&'s self, namespace: usize, name: &str) -> Result<Callee<'s>, NoMemory>
+        requires { namespace < length (order_in self.now) }
         ensures { IfOk result
-            (λ k. IsMacroOf self.now (home_at (order_in self.now) home) name.now k) }
+            (λ k. IsMacroOf self.now (namespace_at (order_in self.now) namespace) name.now k) }
     {
-        let there = self.at(home);
+        let there = self.at(namespace);
         let Some(place) = there.called.place(name) else {
             return Ok(Callee::Unknown);
         };
         let found = &there.macros[place];
         Ok(Callee::Macro(Signature {
             parameters: found.parameters,
-            unit: more(there.macro_unit, place)?,
+            unit: checked_sum(there.macro_unit, place)?,
             first_default: there.defaults[place],
         }))
     }
 
-    /// The macro of a name of a library that is laid out.
+    /// Returns the macro of this name in a library, if the library is laid out.
     fn library_macro<'s>(&'s self, library: &str, name: &str) -> Result<Callee<'s>, NoMemory>
         ensures { IfOk result (λ k.
-            IsLaidThere (world_in self.now) (order_in self.now) (chain.a_library library.now)
+            IsLaidThere (cenv_in self.now) (order_in self.now) (chain.a_library library.now)
             name.now
             → IsMacroOf self.now (chain.a_library library.now) name.now k) }
     {
@@ -115,7 +118,7 @@ impl<'a> Tables<'a> {
         }
     }
 
-    /// What an attribute stands for that is called.
+    /// Returns the callee of an attribute.
     fn callee_by<'s>(&'s self, of: &Expr, name: &'s str) -> Result<Callee<'s>, NoMemory>
         ensures { IfOk result
             (λ k. IsCalled self.now (trees.attribute (written.expr_view of.now) name.now) k) }
@@ -126,7 +129,7 @@ impl<'a> Tables<'a> {
         }
     }
 
-    /// A block by `self`, `cycle` of a loop, or a macro of a library.
+    /// Returns a block of `self`, `cycle` of a loop, or a macro of a library.
     fn member_of<'s>(&'s self, of: &str, name: &'s str) -> Result<Callee<'s>, NoMemory>
         ensures { IfOk result
             (λ k. IsCalled self.now (trees.attribute (trees.name of.now) name.now) k) }
@@ -139,7 +142,8 @@ impl<'a> Tables<'a> {
         }
     }
 
-    /// A macro of a library by the name that the library has here: private ones are not there.
+    /// Returns a macro of a library, by the name that the library has here. Private macros do not
+    /// exist for an importer.
     fn imported_macro<'s>(&'s self, of: &str, name: &str) -> Result<Callee<'s>, NoMemory>
         requires not_self { bytes_eq of.now (codes "self") ≡ false }
         requires not_loop { bytes_eq of.now (codes "loop") ≡ false }
@@ -156,7 +160,7 @@ impl<'a> Tables<'a> {
         self.library_macro(library, name)
     }
 
-    /// The library that a name is given to.
+    /// Returns the library that a name stands for.
     fn library_named<'s>(&'s self, name: &str) -> Option<&'s str>
         ensures { option_map (λ n. n.now) result
             ≡ library_of (chain.given_to name.now (given_in self.now)) }
@@ -165,10 +169,10 @@ impl<'a> Tables<'a> {
     }
 }
 
-/// What a name stands for that nothing has.
+/// Returns the callee of a bare name that stands for no macro and no library.
 fn built_in<'s>(name: &str) -> Callee<'s>
-    ensures { (world : World) (order : List chain.Home) (sources : chain.Sources)
-        → IsCallee world order result (chain.named_alone sources None name.now) }
+    ensures { (cenv : CompileEnv) (order : List chain.Namespace) (sources : chain.Sources)
+        → IsCallee cenv order result (chain.named_alone sources None name.now) }
 {
     match name {
         "range" => Callee::Range,
@@ -177,13 +181,13 @@ fn built_in<'s>(name: &str) -> Callee<'s>
     }
 }
 
-/// The library that something is, if it is one.
-fn library_in(given: Given<'_>) -> Option<&str>
-    ensures { (ts : List chain.Template) (h : chain.Home)
+/// Returns the library of a definition, if it is one.
+fn library_in(given: Definition<'_>) -> Option<&str>
+    ensures { (ts : List chain.Template) (h : chain.Namespace)
         → option_map (λ n. n.now) result ≡ library_of (Some (given_view ts h given.entry)) }
 {
     match given {
-        Given::Library(name) => Some(name),
-        Given::Own(_) | Given::Imported(_, _) => None,
+        Definition::Library(name) => Some(name),
+        Definition::Own(_) | Definition::Imported(_, _) => None,
     }
 }

@@ -1,38 +1,42 @@
-//! Resolves expressions: names to slots, literals and keys to places of a pool.
+//! Resolves expressions: names to slots, and literals and keys to places of a pool.
 
 ghost use Rattle.std.specs.Prelude.{false, length, List, IfOk, Some};
 ghost use Rattle.jt_value.specs.Tree.{Tree};
-ghost use Rattle.jt_trees.specs.Expressions as trees;
-ghost use Rattle.jt_trees.specs.ExpressionView as written;
+ghost use Rattle.jt_ast.specs.Expressions as trees;
+ghost use Rattle.jt_ast.specs.ExpressionView as written;
 ghost use Rattle.jt_ids.specs.FilterTable.{filter_id};
-ghost use Rattle.jt_meaning.specs.Operators as operators;
-ghost use Rattle.jt_meaning.specs.Resolve as resolve;
+ghost use Rattle.jt_semantics.specs.Operators as operators;
+ghost use Rattle.jt_semantics.specs.Resolve as resolve;
 ghost use Rattle.jt_ids.specs.declared.op_id.OpId.TheVariants as op;
-ghost use Rattle.jt_resolved.specs.Pool.{Constant};
-ghost use Rattle.jt_resolved.specs.Slots as slots;
-ghost use Rattle.jt_bind.specs.Resolving.{IsResolved, RowAdds, RowPuts, by_place, by_name, expr_of, row_of, asides_of, given_of, called_of, entries_of, filtered_of};
-ghost use Rattle.jt_bind.specs.Scoped.{values, IsShown, IsAdded, turn_in};
+ghost use Rattle.jt_ir.specs.Pool.{Constant};
+ghost use Rattle.jt_ir.specs.Slots as slots;
+ghost use Rattle.jt_bind.specs.internal.Resolving.{IsResolved, RowAdds, RowPuts, by_place, by_name};
+ghost use Rattle.jt_bind.specs.internal.Resolving.{expr_of};
+ghost use Rattle.jt_bind.specs.internal.Resolving.{row_of, asides_of, given_of, called_of};
+ghost use Rattle.jt_bind.specs.internal.Resolving.{entries_of};
+ghost use Rattle.jt_bind.specs.internal.Resolving.{filtered_of};
+ghost use Rattle.jt_bind.specs.internal.Scoped.{values, IsShown, IsAdded, turn_in};
 
 use crate::callee::{Callee, Signature};
-use crate::forms::{
+use crate::lookup::{absent, no_value, reading, told};
+use crate::operator_forms::{
     chosen, form_of, formed, literal_value, on_one, on_two, range_of, turn_among, turned,
     unary_operation,
 };
-use crate::lookup::{absent, no_value, reading, told};
 use crate::pool::{add_text, add_value};
 use crate::resolver::{Arguments, Resolver};
 use crate::rows::row_of;
-use jt_evaluation::{filter_of, filter_parameters, test_of};
+use jt_ast::{BinaryOperator, Expr, Polarity, UnaryOperator};
+use jt_eval::{filter_of, filter_parameters, test_of};
 use jt_ids::{FilterId, LoopField, OpId};
-use jt_layout::more;
+use jt_ir::{NaryOp, SlotExpr};
+use jt_layout::checked_sum;
 use jt_names::is_loop_name;
-use jt_resolved::{Maker, SlotExpr};
-use jt_trees::{BinaryOperator, Expr, Polarity, UnaryOperator};
 use jt_value::{NoMemory, Value};
 
 impl<'t, 's, 'a> Resolver<'t, 's, 'a> {
     /// Resolves an expression.
-    #[tactic(auto, using(jt_trees::proofs::ExpressionViews::view_List, jt_trees::proofs::ExpressionViews::view_Map, jt_trees::proofs::ExpressionViews::view_Attribute))]
+    #[tactic(auto, using(jt_ast::proofs::ExpressionViews::view_List, jt_ast::proofs::ExpressionViews::view_Map, jt_ast::proofs::ExpressionViews::view_Attribute))]
     #[cycle(expressions)]
     pub(crate) fn resolve_expression(
         &self,
@@ -85,17 +89,19 @@ impl<'t, 's, 'a> Resolver<'t, 's, 'a> {
 
     /// Resolves a list.
     #[cycle(expressions)]
+    #[inline(never)]
     fn resolve_list(&self, row: &[Expr], pool: &mut Vec<Value>) -> Result<SlotExpr, NoMemory>
         ensures { IfOk result (λ e. IsResolved self.now
             (trees.list_of (written.exprs_view row.now)) e pool.old pool.new) }
     {
         let mut items = Vec::new(self.alloc);
         self.resolve_row(row, &mut items, pool)?;
-        Ok(SlotExpr::Made(Maker::List, items))
+        Ok(SlotExpr::Made(NaryOp::List, items))
     }
 
     /// Resolves a map.
     #[cycle(expressions)]
+    #[inline(never)]
     fn resolve_map(
         &self,
         pairs: &[(String, Expr)],
@@ -106,11 +112,12 @@ impl<'t, 's, 'a> Resolver<'t, 's, 'a> {
     {
         let mut entries = Vec::new(self.alloc);
         self.resolve_entries(pairs, &mut entries, pool)?;
-        Ok(SlotExpr::Made(Maker::Map, entries))
+        Ok(SlotExpr::Made(NaryOp::Map, entries))
     }
 
-    /// Resolves an attribute, or what a loop tells.
+    /// Resolves an attribute, or a field of `loop`.
     #[cycle(expressions)]
+    #[inline(never)]
     fn resolve_attribute(
         &self,
         value: &Expr,
@@ -130,6 +137,7 @@ impl<'t, 's, 'a> Resolver<'t, 's, 'a> {
 
     /// Resolves an item.
     #[cycle(expressions)]
+    #[inline(never)]
     fn resolve_item(
         &self,
         value: &Expr,
@@ -145,8 +153,9 @@ impl<'t, 's, 'a> Resolver<'t, 's, 'a> {
         on_two(self.alloc, OpId::Item, whole, place)
     }
 
-    /// Resolves an operator in front of its operand.
+    /// Resolves a unary operator.
     #[cycle(expressions)]
+    #[inline(never)]
     fn resolve_unary(
         &self,
         operator: UnaryOperator,
@@ -160,8 +169,9 @@ impl<'t, 's, 'a> Resolver<'t, 's, 'a> {
         on_one(self.alloc, unary_operation(operator), value)
     }
 
-    /// Resolves an operator between its operands.
+    /// Resolves a binary operator.
     #[cycle(expressions)]
+    #[inline(never)]
     fn resolve_binary(
         &self,
         operator: BinaryOperator,
@@ -177,14 +187,15 @@ impl<'t, 's, 'a> Resolver<'t, 's, 'a> {
         let second = self.resolve_expression(right, pool)?;
         formed(
             self.alloc,
-            form_of(self.spot.escaping, operator),
+            form_of(self.senv.escaping, operator),
             first,
             second,
         )
     }
 
-    /// Resolves a choice without an other part.
+    /// Resolves a conditional expression without an `else` part.
     #[cycle(expressions)]
+    #[inline(never)]
     fn resolve_when(
         &self,
         condition: &Expr,
@@ -200,8 +211,9 @@ impl<'t, 's, 'a> Resolver<'t, 's, 'a> {
         chosen(self.alloc, asked, first, no_value())
     }
 
-    /// Resolves a choice.
+    /// Resolves a conditional expression.
     #[cycle(expressions)]
+    #[inline(never)]
     fn resolve_choice(
         &self,
         condition: &Expr,
@@ -219,7 +231,7 @@ impl<'t, 's, 'a> Resolver<'t, 's, 'a> {
         chosen(self.alloc, asked, first, second)
     }
 
-    /// Resolves a test, turned round where it says `is not`.
+    /// Resolves a test, which is negated after `is not`.
     #[cycle(expressions)]
     fn resolve_test(
         &self,
@@ -238,8 +250,9 @@ impl<'t, 's, 'a> Resolver<'t, 's, 'a> {
         turned(self.alloc, polarity.is_negated(), test)
     }
 
-    /// Resolves a test that is not turned round.
+    /// Resolves a test without negation.
     #[cycle(expressions)]
+    #[inline(never)]
     fn resolve_plain_test(
         &self,
         value: &Expr,
@@ -257,13 +270,14 @@ impl<'t, 's, 'a> Resolver<'t, 's, 'a> {
                 let first = self.resolve_expression(value, pool)?;
                 let mut operands = row_of(self.alloc, first)?;
                 self.resolve_row(row, &mut operands, pool)?;
-                Ok(SlotExpr::Made(Maker::Test(test), operands))
+                Ok(SlotExpr::Made(NaryOp::Test(test), operands))
             }
         }
     }
 
     /// Resolves a filter.
     #[cycle(expressions)]
+    #[inline(never)]
     fn resolve_filter(
         &self,
         value: &Expr,
@@ -284,8 +298,9 @@ impl<'t, 's, 'a> Resolver<'t, 's, 'a> {
         }
     }
 
-    /// Resolves a filter of what is resolved already.
+    /// Resolves a filter of a resolved value.
     #[cycle(expressions)]
+    #[inline(never)]
     pub(crate) fn resolve_filtered(
         &self,
         filter: FilterId,
@@ -303,9 +318,9 @@ impl<'t, 's, 'a> Resolver<'t, 's, 'a> {
         let parameters = filter_parameters(self.alloc, filter)?;
         self.fill_some(&parameters, arguments, &mut given, pool)?;
         Ok(SlotExpr::Made(
-            Maker::Filter {
+            NaryOp::Filter {
                 filter,
-                escaping: self.spot.escaping,
+                escaping: self.senv.escaping,
             },
             given,
         ))
@@ -313,6 +328,7 @@ impl<'t, 's, 'a> Resolver<'t, 's, 'a> {
 
     /// Resolves a call.
     #[cycle(expressions)]
+    #[inline(never)]
     fn resolve_call(
         &self,
         called: &Expr,
@@ -334,6 +350,7 @@ impl<'t, 's, 'a> Resolver<'t, 's, 'a> {
 
     /// Resolves the call of a macro.
     #[cycle(expressions)]
+    #[inline(never)]
     fn resolve_macro(
         &self,
         signature: Signature<'_>,
@@ -341,13 +358,13 @@ impl<'t, 's, 'a> Resolver<'t, 's, 'a> {
         pool: &mut Vec<Value>,
     ) -> Result<SlotExpr, NoMemory>
         ensures { IfOk result (λ e. IsAdded (slots.invoke signature.entry.unit
-            self.now.spot.escaping (called_of self.now signature.entry arguments.entry)) e pool.old
+            self.now.senv.escaping (called_of self.now signature.entry arguments.entry)) e pool.old
             pool.new) }
     {
         let mut given = Vec::new(self.alloc);
         self.resolve_given(arguments, &mut given, pool)?;
         self.fill(signature, arguments, &mut given)?;
-        let escaping = self.spot.escaping;
+        let escaping = self.senv.escaping;
         Ok(SlotExpr::Invoke {
             routine: signature.unit,
             escaping,
@@ -364,11 +381,12 @@ impl<'t, 's, 'a> Resolver<'t, 's, 'a> {
     {
         let mut operands = Vec::new(self.alloc);
         self.resolve_row(row, &mut operands, pool)?;
-        Ok(SlotExpr::Made(Maker::Operator(range_of(row.len())), operands))
+        Ok(SlotExpr::Made(NaryOp::Operator(range_of(row.len())), operands))
     }
 
-    /// Resolves `loop.cycle`: the item of a list by the turn.
+    /// Resolves `loop.cycle`: the item of a list at the index of the turn, modulo its length.
     #[cycle(expressions)]
+    #[inline(never)]
     fn resolve_cycle(&self, row: &[Expr], pool: &mut Vec<Value>) -> Result<SlotExpr, NoMemory>
         ensures { IfOk result (λ e. IsAdded (resolve.operation_of op.Item
             (expr_of self.now (trees.list_of (written.exprs_view row.now)))
@@ -379,7 +397,7 @@ impl<'t, 's, 'a> Resolver<'t, 's, 'a> {
         on_two(self.alloc, OpId::Item, items, turn)
     }
 
-    /// Resolves a row of expressions, behind others that are resolved.
+    /// Resolves a list of expressions and appends them.
     #[cycle(expressions)]
     pub(crate) fn resolve_row(
         &self,
@@ -397,9 +415,9 @@ impl<'t, 's, 'a> Resolver<'t, 's, 'a> {
         Ok(())
     }
 
-    /// Resolves what is given by name, behind others that are resolved: each is kept aside in a
-    /// local.
+    /// Resolves keyword arguments and appends them; each is kept aside in a local.
     #[cycle(expressions)]
+    #[inline(never)]
     pub(crate) fn resolve_asides(
         &self,
         pairs: &[(String, Expr)],
@@ -409,17 +427,17 @@ impl<'t, 's, 'a> Resolver<'t, 's, 'a> {
         ensures { IfOk result (λ u. RowPuts (asides_of self.now (written.pairs_view pairs.now))
             done.old done.new pool.old pool.new) }
     {
-        let mut spot = self.spot;
+        let mut senv = self.senv;
         for (_, value) in pairs {
-            let here = Resolver { spot, ..*self };
+            let here = Resolver { senv, ..*self };
             let next = here.resolve_expression(value, pool)?;
-            done.push((Some(spot.free), next))?;
-            spot.free = more(spot.free, 1)?;
+            done.push((Some(senv.free), next))?;
+            senv.free = checked_sum(senv.free, 1)?;
         }
         Ok(())
     }
 
-    /// Resolves the arguments by place, and then those by name.
+    /// Resolves the positional arguments, then the keyword arguments.
     #[cycle(expressions)]
     fn resolve_given(
         &self,
@@ -434,8 +452,9 @@ impl<'t, 's, 'a> Resolver<'t, 's, 'a> {
         self.resolve_asides(arguments.pairs, done, pool)
     }
 
-    /// Resolves keys and values in turn, behind others that are resolved.
+    /// Resolves keys and values in turn, and appends them.
     #[cycle(expressions)]
+    #[inline(never)]
     fn resolve_entries(
         &self,
         pairs: &[(String, Expr)],

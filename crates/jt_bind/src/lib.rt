@@ -1,34 +1,34 @@
-//! Names to slots: a chain becomes a program.
+//! Resolves names to slots, so that a chain becomes a program.
 //!
-//! `resolved` (resolving) has the chains and libraries laid out (tables), and resolves one after
-//! the other (homes, routines): a `Resolver` stands at a place of a chain (resolver, spot), and its
-//! methods resolve statements (statements) and the expressions in them (expressions), where names
-//! stand in name_scopes (name_scope) and values in a pool (pool, shared). Whether they keep the
-//! rules is another crate's matter. Read first: resolving.rt; what comes out is said in
-//! jt_meaning's specs/Resolve.antt.
+//! `resolved` (in `resolving`) lays out the chains and libraries (`tables`) and resolves them in
+//! order (`namespaces`, `routines`). A `Resolver` (`resolver`, `senv`) resolves statements
+//! (`statements`) and the expressions in them (`expressions`). Its environment keeps names in
+//! scopes (`name_scope`), and values go into a pool (`pool`, `shared`). jt_checks decides whether
+//! chains keep the rules. Read first: resolving.rt; specs/Resolve.antt of jt_semantics defines the
+//! result.
 #![tactic(auto)]
 
+mod argument_filling;
 mod blocks;
 mod callee;
-mod entering;
+mod emission;
 mod expressions;
-mod filling;
-mod filterings;
-mod forms;
-mod homes;
-mod locals;
+mod filter_calls;
+mod local_counts;
 mod lookup;
 mod name_scope;
+mod namespaces;
+mod operator_forms;
 mod placing;
 mod pool;
 mod program_names;
-mod putting;
 mod resolver;
 mod resolving;
 mod routines;
 mod rows;
+mod scope_entry;
+mod senv;
 mod shared;
-mod spot;
 mod statements;
 mod tables;
 mod targets;

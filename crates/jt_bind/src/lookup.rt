@@ -1,24 +1,24 @@
-//! What names read.
+//! Looks up the slots of names and builds reads of them.
 
 ghost use Rattle.std.specs.Prelude.{◌≡◌, option_map, IfOk};
-ghost use Rattle.jt_trees.specs.ExpressionView as written;
-ghost use Rattle.jt_meaning.specs.Layout.{slot_in};
-ghost use Rattle.jt_meaning.specs.Resolve as resolve;
-ghost use Rattle.jt_resolved.specs.Pool.{known};
-ghost use Rattle.jt_resolved.specs.Slots as slots;
-ghost use Rattle.jt_resolved.specs.View.{slot_view};
-ghost use Rattle.jt_bind.specs.Resolving.{kept_of, table_of};
-ghost use Rattle.jt_bind.specs.Scoped.{PutsNone, globals_in};
+ghost use Rattle.jt_ast.specs.ExpressionView as written;
+ghost use Rattle.jt_semantics.specs.Layout.{slot_in};
+ghost use Rattle.jt_semantics.specs.Resolve as resolve;
+ghost use Rattle.jt_ir.specs.Pool.{known};
+ghost use Rattle.jt_ir.specs.Slots as slots;
+ghost use Rattle.jt_ir.specs.View.{slot_view};
+ghost use Rattle.jt_bind.specs.internal.Resolving.{kept_of, table_of};
+ghost use Rattle.jt_bind.specs.internal.Scoped.{PutsNone, globals_in};
 
 use crate::resolver::Resolver;
 use crate::tables::Tables;
+use jt_ast::Expr;
 use jt_ids::LoopField;
-use jt_layout::more;
-use jt_resolved::{Slot, SlotExpr};
-use jt_trees::Expr;
+use jt_ir::{Slot, SlotExpr};
+use jt_layout::checked_sum;
 use jt_value::NoMemory;
 
-/// What a slot holds, or the value at a place of the pool.
+/// Returns a read of the slot, or of the pool place `place` if there is no slot.
 pub(crate) fn value_or(slot: Option<Slot>, place: usize) -> SlotExpr
     ensures { PutsNone (resolve.value_or (option_map slot_view slot) (known place)) result }
 {
@@ -28,28 +28,28 @@ pub(crate) fn value_or(slot: Option<Slot>, place: usize) -> SlotExpr
     }
 }
 
-/// What a name reads: a name that has no slot is undefined.
+/// Returns a read of the slot, or the undefined value if there is no slot.
 pub(crate) fn reading(slot: Option<Slot>) -> SlotExpr
     ensures { PutsNone (resolve.read_from (option_map slot_view slot)) result }
 {
     value_or(slot, 0)
 }
 
-/// No value.
+/// Returns the undefined value, for a name without a value.
 pub(crate) fn no_value() -> SlotExpr
     ensures { PutsNone resolve.no_value result }
 {
     SlotExpr::Pooled(0)
 }
 
-/// What no name means.
+/// Returns the expression of a name that has no meaning.
 pub(crate) fn absent() -> SlotExpr
     ensures { PutsNone slots.absent result }
 {
     SlotExpr::Absent
 }
 
-/// What the innermost loop tells; an unknown field is absent.
+/// Returns the field of the innermost loop; an unknown field is absent.
 pub(crate) fn told(field: Option<LoopField>) -> SlotExpr
     ensures { PutsNone (resolve.field_from field) result }
 {
@@ -60,7 +60,7 @@ pub(crate) fn told(field: Option<LoopField>) -> SlotExpr
 }
 
 impl<'a> Tables<'a> {
-    /// The slot of a name among the globals of the chain that is resolved.
+    /// Returns the slot of a name among the globals of the current chain.
     pub(crate) fn global_slot(&self, name: &str) -> Option<Slot>
         ensures { option_map slot_view result ≡ slot_in name.now (globals_in self.now) }
     {
@@ -73,21 +73,22 @@ impl<'a> Tables<'a> {
 }
 
 impl<'t, 's, 'a> Resolver<'t, 's, 'a> {
-    /// The slot of a name.
+    /// Returns the slot of a name: its local in the innermost scope that has it, or else its
+    /// global.
     pub(crate) fn slot(&self, name: &str) -> Option<Slot>
         ensures { option_map slot_view result ≡ slot_in name.now (table_of self.now) }
     {
-        let mut left = self.spot.name_scopes.len();
+        let mut left = self.senv.name_scopes.len();
         while left > 0 {
             left -= 1;
-            if let Some(local) = self.spot.name_scopes[left].index.place(name) {
+            if let Some(local) = self.senv.name_scopes[left].index.place(name) {
                 return Some(Slot::Local(local));
             }
         }
         self.tables.global_slot(name)
     }
 
-    /// The local that holds what is given by a name.
+    /// Returns the local that holds the keyword argument of this name, if there is one.
     pub(crate) fn kept(
         &self,
         pairs: &[(String, Expr)],
@@ -96,12 +97,12 @@ impl<'t, 's, 'a> Resolver<'t, 's, 'a> {
         ensures { IfOk result (λ s. option_map slot_view s
             ≡ slot_in name.now (kept_of self.now (written.pairs_view pairs.now))) }
     {
-        let mut local = self.spot.free;
+        let mut local = self.senv.free;
         for (key, _) in pairs {
             if key.as_str() == name {
                 return Ok(Some(Slot::Local(local)));
             }
-            local = more(local, 1)?;
+            local = checked_sum(local, 1)?;
         }
         Ok(None)
     }

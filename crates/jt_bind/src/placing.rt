@@ -1,55 +1,56 @@
-//! Blocks where their tags stand, and included chains.
+//! Resolves blocks at their tags, and includes.
 
 ghost use Rattle.std.specs.Prelude.{◌≡◌, ℕ, Bool, List, [], IfOk, if◌then◌else◌};
-ghost use Rattle.jt_bind.specs.Chains.{Chains};
-ghost use Rattle.jt_meaning.specs.Resolve as resolve;
-ghost use Rattle.jt_meaning.specs.Layout.{slot_in};
-ghost use Rattle.jt_bind.specs.Resolving.{StmtLeads, line_of, table_of};
-ghost use Rattle.jt_bind.specs.Scoped.{PutsNone, globals_in, spot_in};
-ghost use Rattle.jt_trees.specs.Statements as trees;
-ghost use Rattle.jt_trees.specs.StatementView.{is_ignored, are_seen};
-ghost use Rattle.jt_trees.specs.Texts.{texts};
+ghost use Rattle.jt_bind.specs.internal.Chains.{Chains};
+ghost use Rattle.jt_semantics.specs.Resolve as resolve;
+ghost use Rattle.jt_semantics.specs.Layout.{slot_in};
+ghost use Rattle.jt_bind.specs.internal.Resolving.{StmtLeads, line_of, table_of};
+ghost use Rattle.jt_bind.specs.internal.Scoped.{PutsNone, globals_in, senv_in};
+ghost use Rattle.jt_ast.specs.Statements as trees;
+ghost use Rattle.jt_ast.specs.StatementView.{is_ignored, passes_context};
+ghost use Rattle.jt_ast.specs.Texts.{texts};
 ghost use Rattle.jt_value.specs.Tree.{Tree};
-ghost use Rattle.jt_bind.specs.Stated.{Puts};
+ghost use Rattle.jt_bind.specs.internal.Stated.{Puts};
 
+use crate::emission::{put_assign, put_print, put_run};
 use crate::lookup::{absent, no_value, reading};
-use crate::putting::{put_assign, put_print, put_run};
 use crate::resolver::Resolver;
-use crate::spot::Spot;
-use jt_layout::{Laid, more};
-use jt_resolved::{Slot, SlotExpr, SlotStmt, Targets};
-use jt_trees::{Missing, NamesAround};
+use crate::senv::StaticEnv;
+use jt_ast::{IncludeContext, Missing};
+use jt_ir::{Slot, SlotExpr, SlotStmt, Targets};
+use jt_layout::{NamespaceLayout, checked_sum};
 use jt_value::NoMemory;
 
-/// Puts an included name without a source behind other statements: nothing where it may be missing,
-/// else what prints what is absent.
+/// Emits an include of a name without a source: nothing if it may be missing, or else a print of an
+/// absent value.
 fn put_missing(
-    spot: &Spot<'_, '_>,
+    senv: &StaticEnv<'_, '_>,
     line: u32,
     ignore_missing: bool,
     done: &mut Vec<SlotStmt>,
 ) -> Result<(), NoMemory>
     ensures { IfOk result (λ u. (s : Chains) (p : List Tree)
-        → Puts s (resolve.left_out (spot_in s spot.now) line ignore_missing) done.old done.new p
+        → Puts s (resolve.left_out (senv_in s senv.now) line ignore_missing) done.old done.new p
         p) }
 {
     if ignore_missing {
         return Ok(());
     }
-    put_print(spot, line, absent(), done)
+    put_print(senv, line, absent(), done)
 }
 
-/// Where a block's parameters are read: where its tag stands, or among the globals where the tag
-/// does not say `scoped`.
-fn seen_by<'s, 'a>(spot: &Spot<'s, 'a>, scoped: bool) -> Spot<'s, 'a>
+/// Returns the environment in which a block's arguments are read: that of its tag if the tag has
+/// `scoped`, or else one without scopes, so that names are globals.
+fn seen_by<'s, 'a>(senv: &StaticEnv<'s, 'a>, scoped: bool) -> StaticEnv<'s, 'a>
     ensures { (s : Chains)
-        → (spot_in s result).table ≡ (if scoped then (spot_in s spot.now).table else globals_in s) }
+        → (senv_in s result).table ≡ (if scoped then (senv_in s senv.now).table else globals_in s) }
 {
-    if scoped { *spot } else { spot.outside() }
+    if scoped { *senv } else { senv.outside() }
 }
 
 impl<'t, 's, 'a> Resolver<'t, 's, 'a> {
-    /// What an included chain is handed under a name: what the name reads, or nothing.
+    /// Returns the value that an included chain gets for a name: with context the value of the
+    /// name, or else the undefined value.
     fn handed(&self, with_context: bool, name: &str) -> SlotExpr
         ensures { PutsNone (resolve.read_from
             (slot_in name.now (if with_context then table_of self.now else []))) result }
@@ -61,12 +62,13 @@ impl<'t, 's, 'a> Resolver<'t, 's, 'a> {
         }
     }
 
-    /// Hands its names on to the globals of an included chain, behind other statements.
-    fn hand_on(
+    /// Emits assignments that pass the names of this environment to the globals of an included
+    /// chain.
+    fn pass_globals(
         &self,
         line: u32,
         with_context: bool,
-        there: &Laid<'_>,
+        there: &NamespaceLayout<'_>,
         done: &mut Vec<SlotStmt>,
     ) -> Result<(), NoMemory>
         ensures { IfOk result (λ u. (p : List Tree)
@@ -78,43 +80,44 @@ impl<'t, 's, 'a> Resolver<'t, 's, 'a> {
         for name in there.names.iter() {
             let value = self.handed(with_context, *name);
             put_assign(
-                &self.spot,
+                &self.senv,
                 line,
                 Targets::One(Slot::Global(global)),
                 value,
                 done,
             )?;
-            global = more(global, 1)?;
+            global = checked_sum(global, 1)?;
         }
         Ok(())
     }
 
-    /// Puts an included chain behind other statements: it is handed its names.
+    /// Emits an include: the names that are passed, then the run of the included chain.
+    #[inline(never)]
     pub(crate) fn put_include(
         &self,
         line: u32,
         name: &str,
         missing: Missing,
-        names: NamesAround,
+        names: IncludeContext,
         done: &mut Vec<SlotStmt>,
     ) -> Result<(), NoMemory>
         ensures { IfOk result (λ u. (p : List Tree)
             → StmtLeads self.now (trees.include line name.now (is_ignored missing)
-            (are_seen names)) done.old done.new p p) }
+            (passes_context names)) done.old done.new p p) }
     {
         if self.tables.is_missing(name) {
-            return put_missing(&self.spot, line, missing.is_ignored(), done);
+            return put_missing(&self.senv, line, missing.is_ignored(), done);
         }
         let Some(place) = self.tables.chain_place(name) else {
             return put_run(self.tables.units(), Vec::new(self.alloc), done);
         };
         let there = self.tables.at(place);
-        self.hand_on(line, names.are_seen(), there, done)?;
+        self.pass_globals(line, names.passes_context(), there, done)?;
         put_run(there.unit, Vec::new(self.alloc), done)
     }
 
-    /// Puts a block where its tag stands behind other statements. What a block without a body
-    /// prints is absent.
+    /// Emits a block at its tag. A block without a body prints an absent value.
+    #[inline(never)]
     pub(crate) fn put_block(
         &self,
         name: &str,
@@ -126,10 +129,10 @@ impl<'t, 's, 'a> Resolver<'t, 's, 'a> {
             p p) }
     {
         let Some(unit) = self.tables.first_body(name)? else {
-            return put_print(&self.spot, 1, absent(), done);
+            return put_print(&self.senv, 1, absent(), done);
         };
         let seen = Resolver {
-            spot: seen_by(&self.spot, scoped),
+            senv: seen_by(&self.senv, scoped),
             ..*self
         };
         let row = seen.block_arguments(name)?;

@@ -1,17 +1,17 @@
-//! The pool of values that resolving fills.
+//! Appends values to the pool.
 
 ghost use Rattle.std.specs.Prelude.{IfOk};
 ghost use Rattle.jt_value.specs.Tree as tree;
 ghost use Rattle.jt_value.specs.View.{view};
-ghost use Rattle.jt_resolved.specs.Pool.{own};
-ghost use Rattle.jt_resolved.specs.Slots as slots;
-ghost use Rattle.jt_bind.specs.Scoped.{IsAdded};
+ghost use Rattle.jt_ir.specs.Pool.{own};
+ghost use Rattle.jt_ir.specs.Slots as slots;
+ghost use Rattle.jt_bind.specs.internal.Scoped.{IsAdded};
 
-use jt_resolved::SlotExpr;
+use jt_ir::SlotExpr;
 use jt_value::{NoMemory, Value};
 use std::alloc::Global;
 
-/// Puts a value at the end of the pool, and gives the expression that it is.
+/// Appends a value to the pool and returns the expression that reads it.
 pub(crate) fn add_value(pool: &mut Vec<Value>, value: Value) -> Result<SlotExpr, NoMemory>
     ensures { IfOk result (λ e. IsAdded (slots.pooled (own (view value))) e pool.old pool.new) }
 {
@@ -20,7 +20,8 @@ pub(crate) fn add_value(pool: &mut Vec<Value>, value: Value) -> Result<SlotExpr,
     Ok(SlotExpr::Pooled(place))
 }
 
-/// Puts a text at the end of the pool, and gives the expression that it is.
+/// Appends a text to the pool and returns the expression that reads it.
+#[inline(never)]
 pub(crate) fn add_text(
     alloc: Global,
     text: &str,

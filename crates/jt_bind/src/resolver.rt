@@ -1,20 +1,20 @@
-//! What resolves the parts of a chain.
+//! Defines the resolver.
 
-use crate::spot::Spot;
+use crate::senv::StaticEnv;
 use crate::tables::Tables;
-use jt_trees::Expr;
+use jt_ast::Expr;
 use std::alloc::Global;
 
-/// What resolves the parts of a chain where it stands: names to slots, by the tables of the chains,
-/// and literals and data to places of a pool.
+/// A resolver in a static environment. It resolves names to slots, by the layouts of the chains,
+/// and literals and data to pool places.
 #[derive(Clone, Copy)]
 pub(crate) struct Resolver<'t, 's, 'a> {
     pub alloc: Global,
     pub tables: &'t Tables<'a>,
-    pub spot: Spot<'s, 'a>,
+    pub senv: StaticEnv<'s, 'a>,
 }
 
-/// What stands in the parentheses of a call: what is given by place, and by name.
+/// The arguments of a call: the positional ones, and the keywords with their values.
 #[derive(Clone, Copy)]
 pub(crate) struct Arguments<'e> {
     pub row: &'e [Expr],

@@ -1,33 +1,34 @@
-//! Resolves the routines of a chain or a library: the chain, its macros, and the bodies of its
-//! blocks.
+//! Resolves the routines of a chain or a library: the chain itself, its macros, and the bodies of
+//! its blocks.
 
 ghost use Rattle.std.specs.Prelude.{◌≡◌, IfOk};
 ghost use Rattle.jt_chains.specs.Chain.{a_chain};
-ghost use Rattle.jt_meaning.specs.Resolve as resolve;
-ghost use Rattle.jt_bind.specs.Resolving.{BodyAdds, sets_of, routine_of, layer_of};
-ghost use Rattle.jt_bind.specs.Scoped.{world_in, order_in, home_in, spot_in, top_in};
-ghost use Rattle.jt_trees.specs.Expressions.{Text};
-ghost use Rattle.jt_trees.specs.StatementView.{body_view};
-ghost use Rattle.jt_trees.specs.Texts.{texts};
-ghost use Rattle.jt_bind.specs.Routines.{RoutineIs, PutsAll, AddsAll, entry_in, macros_in, blocks_in, routines_in};
-ghost use Rattle.jt_bind.specs.Stated.{BodyLed, layers_in};
+ghost use Rattle.jt_semantics.specs.Resolve as resolve;
+ghost use Rattle.jt_bind.specs.internal.Resolving.{BodyAdds, sets_of, routine_of, layer_of};
+ghost use Rattle.jt_bind.specs.internal.Scoped.{cenv_in, order_in, namespace_in, senv_in, top_in};
+ghost use Rattle.jt_ast.specs.Expressions.{Text};
+ghost use Rattle.jt_ast.specs.StatementView.{body_view};
+ghost use Rattle.jt_ast.specs.Texts.{texts};
+ghost use Rattle.jt_bind.specs.internal.Routines.{RoutineIs, PutsAll, AddsAll, entry_in, macros_in};
+ghost use Rattle.jt_bind.specs.internal.Routines.{blocks_in, routines_in};
+ghost use Rattle.jt_bind.specs.internal.Stated.{BodyLed, layers_in};
 
-use crate::locals::{body_locals, larger};
+use crate::local_counts::{body_locals, larger};
 use crate::resolver::Resolver;
-use crate::spot::Spot;
+use crate::senv::StaticEnv;
 use crate::tables::Tables;
+use jt_ast::Stmt;
 use jt_chains::Layer;
+use jt_ir::{Routine, SlotStmt};
 use jt_names::parameter_names;
-use jt_resolved::{Routine, SlotStmt};
-use jt_trees::Stmt;
 use jt_value::{NoMemory, Value};
 use std::alloc::Global;
 
-/// At the top of a template, where names are globals.
-fn top_spot<'s, 'a>(tables: &'s Tables<'a>, template: usize) -> Spot<'s, 'a>
-    ensures { spot_in tables.now result ≡ top_in tables.now template }
+/// Returns the environment at the top of a template, where names are globals.
+fn top_senv<'s, 'a>(tables: &'s Tables<'a>, template: usize) -> StaticEnv<'s, 'a>
+    ensures { senv_in tables.now result ≡ top_in tables.now template }
 {
-    Spot {
+    StaticEnv {
         template,
         escaping: tables.chain().autoescape,
         body: None,
@@ -37,7 +38,7 @@ fn top_spot<'s, 'a>(tables: &'s Tables<'a>, template: usize) -> Spot<'s, 'a>
 }
 
 impl<'t, 's, 'a> Resolver<'t, 's, 'a> {
-    /// Resolves a body in a scope of its own, with these parameters.
+    /// Resolves a body as a routine with these parameters, in a scope of its own.
     fn resolve_routine(
         &self,
         body: &'a [Stmt],
@@ -59,7 +60,7 @@ impl<'t, 's, 'a> Resolver<'t, 's, 'a> {
         })
     }
 
-    /// Resolves those of statements that set names, behind other statements.
+    /// Resolves those statements that set names, and appends them.
     fn resolve_sets(
         &self,
         body: &'a [Stmt],
@@ -75,7 +76,8 @@ impl<'t, 's, 'a> Resolver<'t, 's, 'a> {
         Ok(())
     }
 
-    /// Resolves a template of a chain, behind other statements: the root, or what another one sets.
+    /// Resolves a template of a chain and appends it: all statements of the root, and only those
+    /// that set names of any other template.
     fn resolve_layer(
         &self,
         body: &'a [Stmt],
@@ -93,7 +95,7 @@ impl<'t, 's, 'a> Resolver<'t, 's, 'a> {
     }
 }
 
-/// Resolves the templates of a chain, behind other statements.
+/// Resolves the templates of a chain and appends them.
 fn resolve_layers<'a>(
     alloc: Global,
     tables: &Tables<'a>,
@@ -109,26 +111,26 @@ fn resolve_layers<'a>(
         let resolver = Resolver {
             alloc,
             tables,
-            spot: top_spot(tables, layer.template),
+            senv: top_senv(tables, layer.template),
         };
         resolver.resolve_layer(layer.body, is_root, done, pool)?;
     }
     Ok(())
 }
 
-/// Resolves a chain, without its macros and blocks.
+/// Resolves the routine of a chain, without its macros and blocks.
 fn resolve_chain<'a>(
     alloc: Global,
     tables: &Tables<'a>,
     pool: &mut Vec<Value>,
 ) -> Result<Routine, NoMemory>
     ensures { IfOk result (λ r. (n : Text)
-        → home_in tables.now ≡ a_chain n
-        → RoutineIs tables.now (resolve.chain_routine (world_in tables.now) (order_in tables.now) n)
+        → namespace_in tables.now ≡ a_chain n
+        → RoutineIs tables.now (resolve.chain_routine (cenv_in tables.now) (order_in tables.now) n)
         r pool.old pool.new) }
 {
     tables.stands();
-    let layers = tables.chain().layers(alloc, tables.home())?;
+    let layers = tables.chain().layers(alloc, tables.namespace())?;
     let mut done = Vec::new(alloc);
     resolve_layers(alloc, tables, &layers, &mut done, pool)?;
     let locals = body_locals(&done)?;
@@ -139,7 +141,7 @@ fn resolve_chain<'a>(
     })
 }
 
-/// Resolves a chain itself, behind other routines; a library is never rendered.
+/// Resolves the routine of a chain and appends it. A library has none: it is never rendered.
 fn resolve_entry<'a>(
     alloc: Global,
     tables: &Tables<'a>,
@@ -157,7 +159,7 @@ fn resolve_entry<'a>(
     Ok(())
 }
 
-/// Resolves the macros of a chain or a library, behind other routines.
+/// Resolves the macros of a chain or a library and appends their routines.
 fn resolve_macros<'a>(
     alloc: Global,
     tables: &Tables<'a>,
@@ -172,7 +174,7 @@ fn resolve_macros<'a>(
         let resolver = Resolver {
             alloc,
             tables,
-            spot: top_spot(tables, called.template),
+            senv: top_senv(tables, called.template),
         };
         let parameters = parameter_names(alloc, called.parameters)?;
         routines.push(resolver.resolve_routine(called.body, parameters, pool)?)?;
@@ -180,7 +182,7 @@ fn resolve_macros<'a>(
     Ok(())
 }
 
-/// Resolves the bodies of a chain's blocks, behind other routines.
+/// Resolves the bodies of a chain's blocks and appends their routines.
 fn resolve_blocks<'a>(
     alloc: Global,
     tables: &Tables<'a>,
@@ -192,7 +194,7 @@ fn resolve_blocks<'a>(
 {
     let here = tables.here();
     for (place, block) in here.blocks.iter().enumerate() {
-        let spot = Spot {
+        let senv = StaticEnv {
             template: block.template,
             escaping: block.escaping,
             body: Some(place),
@@ -202,7 +204,7 @@ fn resolve_blocks<'a>(
         let resolver = Resolver {
             alloc,
             tables,
-            spot,
+            senv,
         };
         let parameters = Vec::from_slice(alloc, tables.block_parameters(block.name))?;
         routines.push(resolver.resolve_routine(block.body, parameters, pool)?)?;
@@ -210,9 +212,9 @@ fn resolve_blocks<'a>(
     Ok(())
 }
 
-/// Resolves a chain or a library with its macros and the bodies of its blocks, behind other
+/// Resolves a chain or a library, its macros and the bodies of its blocks, and appends their
 /// routines.
-pub(crate) fn resolve_home<'a>(
+pub(crate) fn resolve_namespace<'a>(
     alloc: Global,
     tables: &Tables<'a>,
     routines: &mut Vec<Routine>,

@@ -1,20 +1,20 @@
-//! Rows of what names read.
+//! Builds lists of resolved expressions.
 
 ghost use Rattle.std.specs.Prelude.{◌≡◌, List, [], ◌∷◌, length, None, IfOk};
-ghost use Rattle.jt_trees.specs.Expressions.{Text};
-ghost use Rattle.jt_trees.specs.Texts.{texts};
-ghost use Rattle.jt_meaning.specs.Resolve as resolve;
-ghost use Rattle.jt_bind.specs.Resolving.{table_of};
-ghost use Rattle.jt_bind.specs.Scoped.{IsRow};
+ghost use Rattle.jt_ast.specs.Expressions.{Text};
+ghost use Rattle.jt_ast.specs.Texts.{texts};
+ghost use Rattle.jt_semantics.specs.Resolve as resolve;
+ghost use Rattle.jt_bind.specs.internal.Resolving.{table_of};
+ghost use Rattle.jt_bind.specs.internal.Scoped.{IsRow};
 
 use crate::lookup::reading;
 use crate::resolver::Resolver;
-use jt_resolved::{Slot, SlotExpr};
+use jt_ir::{Slot, SlotExpr};
 use jt_value::NoMemory;
 use std::alloc::Global;
 
 impl<'t, 's, 'a> Resolver<'t, 's, 'a> {
-    /// What names read, in a row.
+    /// Returns reads of the names, in their order.
     pub(crate) fn reads(&self, names: &[&str]) -> Result<Vec<(Option<usize>, SlotExpr)>, NoMemory>
         ensures { IfOk result (IsRow (resolve.reads (table_of self.now) (texts names.now))) }
     {
@@ -26,7 +26,7 @@ impl<'t, 's, 'a> Resolver<'t, 's, 'a> {
     }
 }
 
-/// The first so many locals, in a row.
+/// Returns reads of the first `count` locals.
 pub(crate) fn first_locals(
     alloc: Global,
     count: usize,
@@ -42,7 +42,8 @@ pub(crate) fn first_locals(
     Ok(row)
 }
 
-/// A row of one expression.
+/// Returns a list of one expression.
+#[inline(never)]
 pub(crate) fn row_of(
     alloc: Global,
     first: SlotExpr,

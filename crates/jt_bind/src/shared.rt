@@ -1,17 +1,17 @@
-//! The values in front of a pool.
+//! Builds the values at the beginning of the pool.
 
 ghost use Rattle.std.specs.Prelude.{◌≡◌, ◌++◌, List, map, IfOk};
 ghost use Rattle.jt_chains.specs.Chain.{Template};
 ghost use Rattle.jt_chains.specs.Parts.{macro_view};
-ghost use Rattle.jt_meaning.specs.Layout as layout;
-ghost use Rattle.jt_bind.specs.Scoped.{values, world_in, order_in};
-ghost use Rattle.jt_trees.specs.StatementView.{parameter_view};
-ghost use Rattle.jt_evaluation.specs.Filters.{default_value};
+ghost use Rattle.jt_semantics.specs.Layout as layout;
+ghost use Rattle.jt_bind.specs.internal.Scoped.{values, cenv_in, order_in};
+ghost use Rattle.jt_ast.specs.StatementView.{parameter_view};
+ghost use Rattle.jt_eval.specs.Filters.{default_value};
 
-use crate::forms::default_of;
+use crate::operator_forms::default_of;
 use crate::tables::Tables;
+use jt_ast::Parameter;
 use jt_chains::Macro;
-use jt_trees::Parameter;
 use jt_value::{NoMemory, Value};
 use std::alloc::Global;
 
@@ -41,15 +41,15 @@ fn add_macros(alloc: Global, macros: &[Macro<'_>], pool: &mut Vec<Value>) -> Res
     Ok(())
 }
 
-/// A pool with undefined and the defaults of all macros.
+/// Returns a pool that holds the undefined value and the defaults of all macros.
 pub(crate) fn shared_values(alloc: Global, tables: &Tables<'_>) -> Result<Vec<Value>, NoMemory>
     ensures { IfOk result
-        (λ vs. values vs ≡ layout.shared (world_in tables.now) (order_in tables.now)) }
+        (λ vs. values vs ≡ layout.shared (cenv_in tables.now) (order_in tables.now)) }
 {
     let mut pool = Vec::new(alloc);
     pool.push(Value::Undefined)?;
-    for home in tables.homes() {
-        add_macros(alloc, &home.macros, &mut pool)?;
+    for namespace in tables.namespaces() {
+        add_macros(alloc, &namespace.macros, &mut pool)?;
     }
     Ok(pool)
 }

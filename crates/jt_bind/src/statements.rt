@@ -1,31 +1,35 @@
 //! Resolves statements: names to slots, and literals and data to places of a pool.
 
 ghost use Rattle.std.specs.Prelude.{ℕ, option_map, IfOk, if◌then◌else◌};
-ghost use Rattle.jt_trees.specs.ExpressionView as written;
-ghost use Rattle.jt_meaning.specs.Resolve as resolve;
-ghost use Rattle.jt_meaning.specs.Meaning.{is_set};
-ghost use Rattle.jt_bind.specs.Resolving.{BodyAdds, BodyIs, StmtAdds, BranchIs, TurnsAre, templates_of, spot_of, stmt_of, body_of, scoped_of, values_of, inside_of, condition_of};
-ghost use Rattle.jt_bind.specs.Scoped.{values, BodyLeads};
-ghost use Rattle.jt_trees.specs.Statements as trees;
-ghost use Rattle.jt_trees.specs.StatementView.{stmt_view, body_view, branches_view, names_view, filterings_view};
-ghost use Rattle.jt_resolved.specs.Pool.{Constant};
-ghost use Rattle.jt_resolved.specs.Slots as slots;
-ghost use Rattle.jt_resolved.specs.View.{slot_view};
-ghost use Rattle.jt_trees.specs.Texts.{texts};
-ghost use Rattle.jt_bind.specs.Stated.{IsAsked};
+ghost use Rattle.jt_ast.specs.ExpressionView as written;
+ghost use Rattle.jt_semantics.specs.Resolve as resolve;
+ghost use Rattle.jt_semantics.specs.Meaning.{is_set};
+ghost use Rattle.jt_bind.specs.internal.Resolving.{BodyAdds, BodyIs, StmtAdds, BranchIs, TurnsAre};
+ghost use Rattle.jt_bind.specs.internal.Resolving.{templates_of, senv_of, stmt_of, body_of};
+ghost use Rattle.jt_bind.specs.internal.Resolving.{scoped_of};
+ghost use Rattle.jt_bind.specs.internal.Resolving.{values_of, inside_of, condition_of};
+ghost use Rattle.jt_bind.specs.internal.Scoped.{values, BodyLeads};
+ghost use Rattle.jt_ast.specs.Statements as trees;
+ghost use Rattle.jt_ast.specs.StatementView.{stmt_view, body_view, branches_view, names_view};
+ghost use Rattle.jt_ast.specs.StatementView.{filter_calls_view};
+ghost use Rattle.jt_ir.specs.Pool.{Constant};
+ghost use Rattle.jt_ir.specs.Slots as slots;
+ghost use Rattle.jt_ir.specs.View.{slot_view};
+ghost use Rattle.jt_ast.specs.Texts.{texts};
+ghost use Rattle.jt_bind.specs.internal.Stated.{IsAsked};
 
-use crate::entering::entered;
-use crate::putting::{Turns, put_assign, put_capture, put_choice, put_data, put_loop, put_print};
+use crate::emission::{Turns, put_assign, put_capture, put_choice, put_data, put_loop, put_print};
 use crate::resolver::Resolver;
+use crate::scope_entry::entered;
 use crate::targets::fresh_targets;
-use jt_layout::more;
+use jt_ast::{Branch, Expr, FilterCall, Stmt};
+use jt_ir::{Slot, SlotBranch, SlotExpr, SlotStmt, Targets};
+use jt_layout::checked_sum;
 use jt_names::{keyword_names, names_of, set_names};
-use jt_resolved::{Slot, SlotBranch, SlotExpr, SlotStmt, Targets};
-use jt_trees::{Branch, Expr, Filtering, Stmt};
 use jt_value::{NoMemory, Value};
 
 impl<'t, 's, 'a> Resolver<'t, 's, 'a> {
-    /// Resolves statements, behind others that are resolved.
+    /// Resolves statements and appends them to `done`.
     #[cycle(statements)]
     pub(crate) fn resolve_body(
         &self,
@@ -42,8 +46,9 @@ impl<'t, 's, 'a> Resolver<'t, 's, 'a> {
         Ok(())
     }
 
-    /// Resolves a statement, behind others that are resolved.
+    /// Resolves a statement and appends it to `done`.
     #[cycle(statements)]
+    #[inline(never)]
     pub(crate) fn resolve_statement(
         &self,
         statement: &'a Stmt,
@@ -67,7 +72,7 @@ impl<'t, 's, 'a> Resolver<'t, 's, 'a> {
             } => {
                 let turns = self.resolve_turns(body, targets, over, condition, pool)?;
                 let last = self.resolve_whole(other, pool)?;
-                put_loop(&self.spot, *line, turns, last, done)
+                put_loop(&self.senv, *line, turns, last, done)
             }
             Stmt::Set { .. } | Stmt::SetBlock { .. } => self.resolve_if_set(statement, done, pool),
             Stmt::With { line, values, body } => self.resolve_with(body, *line, values, done, pool),
@@ -93,8 +98,9 @@ impl<'t, 's, 'a> Resolver<'t, 's, 'a> {
         }
     }
 
-    /// Resolves a statement if it sets names, behind other statements.
+    /// Resolves a statement if it sets names, and appends it to `done`.
     #[cycle(statements)]
+    #[inline(never)]
     pub(crate) fn resolve_if_set(
         &self,
         statement: &'a Stmt,
@@ -113,7 +119,7 @@ impl<'t, 's, 'a> Resolver<'t, 's, 'a> {
             } => {
                 let given = self.resolve_expression(value, pool)?;
                 let targets = self.set_targets(names)?;
-                put_assign(&self.spot, *line, targets, given, done)
+                put_assign(&self.senv, *line, targets, given, done)
             }
             Stmt::SetBlock { name, body, .. } => {
                 self.resolve_text(body, self.set_slot(name), done, pool)
@@ -134,8 +140,9 @@ impl<'t, 's, 'a> Resolver<'t, 's, 'a> {
         }
     }
 
-    /// Resolves the branches of an `if` and its else part, behind other statements.
+    /// Resolves the branches of an `if` and its `else` part, and emits the `if`.
     #[cycle(statements)]
+    #[inline(never)]
     fn resolve_branches(
         &self,
         branches: &'a [Branch<Stmt>],
@@ -156,6 +163,7 @@ impl<'t, 's, 'a> Resolver<'t, 's, 'a> {
 
     /// Resolves a branch of an `if`.
     #[cycle(statements)]
+    #[inline(never)]
     fn resolve_branch(
         &self,
         branch: &'a Branch<Stmt>,
@@ -166,15 +174,16 @@ impl<'t, 's, 'a> Resolver<'t, 's, 'a> {
         let asked = self.resolve_expression(&branch.condition, pool)?;
         let taken = self.resolve_whole(&branch.body, pool)?;
         Ok(SlotBranch {
-            place: self.spot.place(branch.line),
+            place: self.senv.place(branch.line),
             condition: asked,
             body: taken,
         })
     }
 
-    /// Resolves what a loop goes over, and its condition and its body, where its names are in
+    /// Resolves the items of a loop, its condition and its body. The targets of the loop are in
     /// locals of their own.
     #[cycle(statements)]
+    #[inline(never)]
     fn resolve_turns(
         &self,
         body: &'a [Stmt],
@@ -188,24 +197,24 @@ impl<'t, 's, 'a> Resolver<'t, 's, 'a> {
             (body_view body.now) t pool.old pool.new) }
     {
         let items = self.resolve_expression(over, pool)?;
-        let inner = entered(self.alloc, &self.spot, names_of(self.alloc, names)?)?;
+        let inner = entered(self.alloc, &self.senv, names_of(self.alloc, names)?)?;
         let inside = Resolver {
-            spot: self.spot.inside(&inner),
+            senv: self.senv.inside(&inner),
             ..*self
         };
         let asked = inside.resolve_condition(condition, pool)?;
         let turn = inside.resolve_inside(body, pool)?;
         Ok(Turns {
-            targets: fresh_targets(self.alloc, self.spot.free, names)?,
+            targets: fresh_targets(self.alloc, self.senv.free, names)?,
             items,
             condition: asked,
             body: turn,
         })
     }
 
-    /// Resolves the values of a `with`, and its body in a scope that names them, behind other
-    /// statements.
+    /// Resolves the values of a `with` tag, and its body in a scope with their names.
     #[cycle(statements)]
+    #[inline(never)]
     fn resolve_with(
         &self,
         body: &'a [Stmt],
@@ -222,32 +231,34 @@ impl<'t, 's, 'a> Resolver<'t, 's, 'a> {
         self.resolve_within(body, keyword_names(self.alloc, pairs)?, done, pool)
     }
 
-    /// Resolves a body whose text is kept in a local, and puts what prints it through filters
-    /// behind it and other statements.
+    /// Resolves a body whose text is captured in a local, and emits a print of that text after the
+    /// filters.
     #[cycle(statements)]
+    #[inline(never)]
     fn resolve_filter_block(
         &self,
         body: &'a [Stmt],
         line: u32,
-        filters: &[Filtering],
+        filters: &[FilterCall],
         done: &mut Vec<SlotStmt>,
         pool: &mut Vec<Value>,
     ) -> Result<(), NoMemory>
         ensures { IfOk result (λ u. StmtAdds self.now (trees.filter_block line
-            (filterings_view filters.now) (body_view body.now)) done.old done.new pool.old
+            (filter_calls_view filters.now) (body_view body.now)) done.old done.new pool.old
             pool.new) }
     {
-        let kept = Slot::Local(self.spot.free);
+        let kept = Slot::Local(self.senv.free);
         let mut inside = *self;
-        inside.spot.free = more(self.spot.free, 1)?;
+        inside.senv.free = checked_sum(self.senv.free, 1)?;
         inside.resolve_text(body, kept, done, pool)?;
-        let shown = inside.resolve_filterings(filters, kept, pool)?;
-        put_print(&self.spot, line, shown, done)
+        let shown = inside.resolve_filter_calls(filters, kept, pool)?;
+        put_print(&self.senv, line, shown, done)
     }
 
-    /// Resolves a body in a scope of its own, where names are in locals from the first that holds
-    /// nothing, behind other statements.
+    /// Resolves a body in a scope of its own, with these names in locals from the first free one
+    /// on, and appends it.
     #[cycle(statements)]
+    #[inline(never)]
     pub(crate) fn resolve_within(
         &self,
         body: &'a [Stmt],
@@ -258,17 +269,18 @@ impl<'t, 's, 'a> Resolver<'t, 's, 'a> {
         ensures { IfOk result (λ u. BodyAdds self.now (scoped_of self.now (body_view body.now)
             (inside_of self.now (texts names.entry.items))) done.old done.new pool.old pool.new) }
     {
-        let inner = entered(self.alloc, &self.spot, names)?;
+        let inner = entered(self.alloc, &self.senv, names)?;
         let inside = Resolver {
-            spot: self.spot.inside(&inner),
+            senv: self.senv.inside(&inner),
             ..*self
         };
         inside.resolve_scoped(body, done, pool)
     }
 
-    /// Resolves a body in a scope of its own, behind other statements: what the body sets is first
-    /// what it reads around it.
+    /// Resolves a body in a scope of its own and appends it. Each name that the body sets begins
+    /// with its value outside.
     #[cycle(statements)]
+    #[inline(never)]
     fn resolve_scoped(
         &self,
         body: &'a [Stmt],
@@ -276,19 +288,19 @@ impl<'t, 's, 'a> Resolver<'t, 's, 'a> {
         pool: &mut Vec<Value>,
     ) -> Result<(), NoMemory>
         ensures { IfOk result (λ u. BodyAdds self.now (scoped_of self.now (body_view body.now)
-            (spot_of self.now)) done.old done.new pool.old pool.new) }
+            (senv_of self.now)) done.old done.new pool.old pool.new) }
     {
         let names = set_names(self.alloc, body)?;
         self.put_copies(&names, done)?;
-        let inner = entered(self.alloc, &self.spot, names)?;
+        let inner = entered(self.alloc, &self.senv, names)?;
         let inside = Resolver {
-            spot: self.spot.inside(&inner),
+            senv: self.senv.inside(&inner),
             ..*self
         };
         inside.resolve_body(body, done, pool)
     }
 
-    /// Resolves a body in a scope of its own.
+    /// Resolves a body in a scope of its own and returns it.
     #[cycle(statements)]
     fn resolve_inside(
         &self,
@@ -296,14 +308,14 @@ impl<'t, 's, 'a> Resolver<'t, 's, 'a> {
         pool: &mut Vec<Value>,
     ) -> Result<Vec<SlotStmt>, NoMemory>
         ensures { IfOk result (λ ss. BodyIs self.now
-            (scoped_of self.now (body_view body.now) (spot_of self.now)) ss pool.old pool.new) }
+            (scoped_of self.now (body_view body.now) (senv_of self.now)) ss pool.old pool.new) }
     {
         let mut done = Vec::new(self.alloc);
         self.resolve_scoped(body, &mut done, pool)?;
         Ok(done)
     }
 
-    /// Resolves a body in the scope around it.
+    /// Resolves a body in the current scope and returns it.
     #[cycle(statements)]
     fn resolve_whole(
         &self,
@@ -318,9 +330,9 @@ impl<'t, 's, 'a> Resolver<'t, 's, 'a> {
         Ok(done)
     }
 
-    /// Resolves a body in a scope of its own, and puts what keeps its text in a slot behind other
-    /// statements.
+    /// Resolves a body in a scope of its own and emits a capture of its text in a slot.
     #[cycle(statements)]
+    #[inline(never)]
     fn resolve_text(
         &self,
         body: &'a [Stmt],
@@ -329,15 +341,16 @@ impl<'t, 's, 'a> Resolver<'t, 's, 'a> {
         pool: &mut Vec<Value>,
     ) -> Result<(), NoMemory>
         ensures { IfOk result (λ u. BodyAdds self.now (resolve.alone
-            (slots.capture self.now.spot.escaping (slot_view slot) (scoped_of self.now
-            (body_view body.now) (spot_of self.now)))) done.old done.new pool.old pool.new) }
+            (slots.capture self.now.senv.escaping (slot_view slot) (scoped_of self.now
+            (body_view body.now) (senv_of self.now)))) done.old done.new pool.old pool.new) }
     {
         let text = self.resolve_inside(body, pool)?;
-        put_capture(self.spot.escaping, slot, text, done)
+        put_capture(self.senv.escaping, slot, text, done)
     }
 
-    /// Resolves a body under an autoescape state of its own.
+    /// Resolves a body in a scope and an autoescape state of its own, and appends it.
     #[cycle(statements)]
+    #[inline(never)]
     fn resolve_escaping(
         &self,
         body: &'a [Stmt],
@@ -350,11 +363,12 @@ impl<'t, 's, 'a> Resolver<'t, 's, 'a> {
             pool.new) }
     {
         let mut inside = *self;
-        inside.spot.escaping = escaping;
+        inside.senv.escaping = escaping;
         inside.resolve_scoped(body, done, pool)
     }
 
-    /// Resolves what prints a value, behind other statements.
+    /// Resolves a value and emits a print of it.
+    #[inline(never)]
     fn resolve_print(
         &self,
         line: u32,
@@ -366,17 +380,18 @@ impl<'t, 's, 'a> Resolver<'t, 's, 'a> {
             (trees.print line (written.expr_view value.now)) done.old done.new pool.old pool.new) }
     {
         let shown = self.resolve_expression(value, pool)?;
-        put_print(&self.spot, line, shown, done)
+        put_print(&self.senv, line, shown, done)
     }
 
     /// Resolves the condition of a loop, if it has one.
+    #[inline(never)]
     fn resolve_condition(
         &self,
         condition: &Option<Expr>,
         pool: &mut Vec<Value>,
     ) -> Result<Option<SlotExpr>, NoMemory>
         ensures { IfOk result (λ k. IsAsked (condition_of self.now
-            (option_map written.expr_view condition.now) (spot_of self.now)) k (values pool.old)
+            (option_map written.expr_view condition.now) (senv_of self.now)) k (values pool.old)
             (values pool.new)) }
     {
         match condition {
@@ -385,8 +400,9 @@ impl<'t, 's, 'a> Resolver<'t, 's, 'a> {
         }
     }
 
-    /// Resolves the values of a `with`, each into a local and all by the names around, behind other
-    /// statements.
+    /// Resolves the values of a `with` tag and stores each in a local. All values are resolved
+    /// outside the scope of the tag.
+    #[inline(never)]
     fn resolve_values(
         &self,
         line: u32,
@@ -399,13 +415,13 @@ impl<'t, 's, 'a> Resolver<'t, 's, 'a> {
             (values_of self.now (written.pairs_view pairs.now) line behind) behind
             done.old.items done.new.items (values pool.old) (values pool.new)) }
     {
-        let mut spot = self.spot;
+        let mut senv = self.senv;
         for (_, value) in pairs {
-            let here = Resolver { spot, ..*self };
+            let here = Resolver { senv, ..*self };
             let given = here.resolve_expression(value, pool)?;
-            let target = Targets::One(Slot::Local(spot.free));
-            put_assign(&spot, line, target, given, done)?;
-            spot.free = more(spot.free, 1)?;
+            let target = Targets::One(Slot::Local(senv.free));
+            put_assign(&senv, line, target, given, done)?;
+            senv.free = checked_sum(senv.free, 1)?;
         }
         Ok(())
     }

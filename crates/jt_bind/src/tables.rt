@@ -1,129 +1,130 @@
-//! The tables of the chains and libraries, which are laid out.
+//! Holds the layouts of the chains and libraries.
 
 ghost use Rattle.std.specs.Prelude.{◌≡◌, ◌<◌, length, IfOk};
 ghost use Rattle.std.specs.Option.{is_none};
 ghost use Rattle.jt_chains.specs.Chain.{a_chain, a_library};
-ghost use Rattle.jt_chains.specs.Places.{home_at};
-ghost use Rattle.jt_layout.specs.Laid.{IsHomeAt};
-ghost use Rattle.jt_meaning.specs.Layout.{keys};
-ghost use Rattle.jt_bind.specs.Scoped.{world_in, order_in, home_in, IsTable, AreTables};
+ghost use Rattle.jt_chains.specs.Places.{namespace_at};
+ghost use Rattle.jt_layout.specs.NamespaceLayout.{IsNamespaceAt};
+ghost use Rattle.jt_semantics.specs.Layout.{keys};
+ghost use Rattle.jt_bind.specs.internal.Scoped.{cenv_in, order_in, namespace_in, IsTable};
+ghost use Rattle.jt_bind.specs.internal.Scoped.{AreTables};
 
 use jt_chains::Chain;
-use jt_layout::{HomeTables, Laid, lay_out};
+use jt_layout::{NamespaceLayout, NamespaceTables, lay_out};
 use jt_value::NoMemory;
 use std::alloc::Global;
 use std::marker::Model;
 
-/// The tables of the chains and libraries, and the one of them that is resolved. They are laid out.
+/// The layouts of the chains and libraries, and the index of the selected one, which is resolved.
 #[derive(Drop)]
 pub(crate) struct Tables<'a> {
-    scope: HomeTables<'a>,
+    scope: NamespaceTables<'a>,
 }
 
 impl<'a> Model for Tables<'a> {
     ghost use Rattle.std.specs.Coded.{codes};
-    ghost use Rattle.jt_chains.specs.contracts.linked.Chain as chain;
-    ghost use Rattle.jt_layout.specs.Laid.{IsLaidOut};
-    ghost use Rattle.jt_bind.specs.Chains.{Chains};
+    ghost use Rattle.jt_chains.specs.contracts.chain.Chain as chain;
+    ghost use Rattle.jt_layout.specs.NamespaceLayout.{IsLaidOut};
+    ghost use Rattle.jt_bind.specs.internal.Chains.{Chains};
 
     ghost Value = { Chains };
 
     ghost coded = { Prim.hlevel (codes, chain.the_row.coded) };
 
-    ghost view = { λ t. record { chain = t.scope.chain; home = t.scope.home } };
+    ghost view = { λ t. record { chain = t.scope.chain; namespace = t.scope.namespace } };
 
     ghost invariant = { λ t. IsLaidOut t.scope };
 }
 
 impl<'a> Tables<'a> {
-    /// Lays out a chain, and begins with the entry's.
+    /// Lays out the chains and libraries, and selects the entry's chain.
     pub(crate) fn new(alloc: Global, chain: &'a Chain) -> Result<Self, NoMemory>
         ensures chain { IfOk result (λ t. t.chain.now ≡ chain.now) }
-        ensures first { IfOk result (λ t. t.home ≡ 0) }
+        ensures first { IfOk result (λ t. t.namespace ≡ 0) }
     {
         let scope = lay_out(alloc, chain)?;
         Ok(Tables { scope })
     }
 
-    /// The chains and libraries.
+    /// Returns the chain that is laid out.
     pub(crate) fn chain(&self) -> &'a Chain
         ensures { result.now ≡ self.now.chain.now }
     {
         self.scope.chain
     }
 
-    /// A law: what is resolved is one of the chains and libraries.
+    /// States a law: the selected index is in range.
     pub(crate) fn stands(&self)
-        ensures { self.now.home < length (order_in self.now) }
+        ensures { self.now.namespace < length (order_in self.now) }
     {
-        let _ = &self.scope.home;
+        let _ = &self.scope.namespace;
     }
 
-    /// The place of the chain or library that is resolved.
-    pub(crate) fn home(&self) -> usize
-        ensures is { result ≡ self.now.home }
+    /// Returns the index of the selected chain or library.
+    pub(crate) fn namespace(&self) -> usize
+        ensures is { result ≡ self.now.namespace }
         ensures inside { result < length (order_in self.now) }
     {
-        self.scope.home
+        self.scope.namespace
     }
 
-    /// The tables of all chains and libraries.
-    pub(crate) fn homes(&self) -> &[Laid<'a>]
+    /// Returns the layouts of all chains and libraries.
+    pub(crate) fn namespaces(&self) -> &[NamespaceLayout<'a>]
         ensures all { length result.now ≡ length (order_in self.now) }
         ensures each { AreTables self.now result.now }
     {
-        &self.scope.homes
+        &self.scope.namespaces
     }
 
-    /// The table of the chain or library at a place.
-    pub(crate) fn at(&self, home: usize) -> &Laid<'a>
-        requires { home < length (order_in self.now) }
-        ensures { IsTable self.now (home_at (order_in self.now) home) result.now }
+    /// Returns the layout of the chain or library at index `namespace`.
+    pub(crate) fn at(&self, namespace: usize) -> &NamespaceLayout<'a>
+        requires { namespace < length (order_in self.now) }
+        ensures { IsTable self.now (namespace_at (order_in self.now) namespace) result.now }
     {
-        &self.scope.homes[home]
+        &self.scope.namespaces[namespace]
     }
 
-    /// The table of the chain or library that is resolved.
-    pub(crate) fn here(&self) -> &Laid<'a>
-        ensures { IsTable self.now (home_in self.now) result.now }
+    /// Returns the layout of the selected chain or library.
+    pub(crate) fn here(&self) -> &NamespaceLayout<'a>
+        ensures { IsTable self.now (namespace_in self.now) result.now }
     {
-        &self.scope.homes[self.scope.home]
+        &self.scope.namespaces[self.scope.namespace]
     }
 
-    /// The place of the chain of a name, if it is there.
+    /// Returns the index of the chain of this name.
     pub(crate) fn chain_place(&self, name: &str) -> Option<usize>
-        ensures { IsHomeAt (order_in self.now) (a_chain name.now) result }
+        ensures { IsNamespaceAt (order_in self.now) (a_chain name.now) result }
     {
         self.scope.places.place(name)
     }
 
-    /// The place of the library of a name, if it is there.
+    /// Returns the index of the library of this name.
     pub(crate) fn library_place(&self, name: &str) -> Option<usize>
-        ensures { IsHomeAt (order_in self.now) (a_library name.now) result }
+        ensures { IsNamespaceAt (order_in self.now) (a_library name.now) result }
     {
         self.scope.libraries.place(name)
     }
 
-    /// Whether no template of the name was read.
+    /// Returns whether no template of this name was read.
     pub(crate) fn is_missing(&self, name: &str) -> bool
-        ensures { result ≡ is_none ((world_in self.now).sources name.now) }
+        ensures { result ≡ is_none ((cenv_in self.now).sources name.now) }
     {
         self.scope.sources.place(name).is_none()
     }
 
-    /// How many units there are.
+    /// Returns the number of units.
     pub(crate) fn units(&self) -> usize
-        ensures { result ≡ length (keys (world_in self.now) (order_in self.now)) }
+        ensures { result ≡ length (keys (cenv_in self.now) (order_in self.now)) }
     {
         self.scope.units
     }
 
-    /// Turns to the chain or library at a place.
-    pub(crate) fn turn_to(&mut self, home: usize)
-        requires { home < length (order_in self.old) }
+    /// Selects the chain or library at index `namespace`.
+    pub(crate) fn select(&mut self, namespace: usize)
+        requires { namespace < length (order_in self.old) }
         ensures same { self.new.chain.now ≡ self.old.chain.now }
-        ensures there { self.new.home ≡ home }
+        ensures there { self.new.namespace ≡ namespace }
     {
-        self.scope.home = home;
+        self.scope.namespace = namespace;
     }
 }

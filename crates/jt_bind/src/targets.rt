@@ -1,32 +1,32 @@
-//! What takes a value: the slots of names that are set, and the locals of a loop's targets.
+//! Resolves the targets of assignments and loops.
 
 ghost use Rattle.std.specs.Prelude.{◌≡◌, None, map, IfOk, option_map};
-ghost use Rattle.jt_meaning.specs.Resolve as resolve;
-ghost use Rattle.jt_meaning.specs.Layout.{slot_in};
-ghost use Rattle.jt_bind.specs.Names.{last_among};
-ghost use Rattle.jt_bind.specs.Resolving.{table_of};
-ghost use Rattle.jt_trees.specs.StatementView.{names_view};
-ghost use Rattle.jt_resolved.specs.View.{slot_view, targets_view};
-ghost use Rattle.jt_trees.specs.Texts.{texts};
-ghost use Rattle.jt_bind.specs.Stated.{slot_if};
+ghost use Rattle.jt_semantics.specs.Resolve as resolve;
+ghost use Rattle.jt_semantics.specs.Layout.{slot_in};
+ghost use Rattle.jt_bind.specs.internal.Names.{last_among};
+ghost use Rattle.jt_bind.specs.internal.Resolving.{table_of};
+ghost use Rattle.jt_ast.specs.StatementView.{names_view};
+ghost use Rattle.jt_ir.specs.View.{slot_view, targets_view};
+ghost use Rattle.jt_ast.specs.Texts.{texts};
+ghost use Rattle.jt_bind.specs.internal.Stated.{slot_if};
 
 use crate::name_scope::NameScope;
 use crate::resolver::Resolver;
-use jt_layout::more;
+use jt_ir::{Slot, Targets};
+use jt_layout::checked_sum;
 use jt_names::names_of;
-use jt_resolved::{Slot, Targets};
 use jt_value::NoMemory;
 use std::alloc::Global;
 
 impl<'t, 's, 'a> Resolver<'t, 's, 'a> {
-    /// The slot of a name that is set.
+    /// Returns the slot of a name that is set, or local 0 if it has none.
     pub(crate) fn set_slot(&self, name: &str) -> Slot
         ensures { slot_view result ≡ resolve.slot_of name.now (table_of self.now) }
     {
         self.slot(name).unwrap_or(Slot::Local(0))
     }
 
-    /// What is kept of a name that is set at a place: its slot where that place is its last.
+    /// Returns the slot of the name at index `place`, if this is its last occurrence.
     fn kept_slot(&self, last: &NameScope<'_>, place: usize, name: &str) -> Option<Slot>
         ensures { option_map slot_view result
             ≡ slot_if (last_among name.now (texts last.now.names.items) last.now.first None) place
@@ -39,7 +39,7 @@ impl<'t, 's, 'a> Resolver<'t, 's, 'a> {
         }
     }
 
-    /// The slots of names that are set: of a name that comes twice, the later value counts.
+    /// Returns the slots of names that are set. Of a name that occurs twice the last value counts.
     fn kept_slots(&self, names: &[String]) -> Result<Vec<Option<Slot>>, NoMemory>
         ensures { IfOk result (λ ss. map (option_map slot_view) ss.items
             ≡ resolve.kept_slots (table_of self.now) (names_view names.now)) }
@@ -52,7 +52,8 @@ impl<'t, 's, 'a> Resolver<'t, 's, 'a> {
         Ok(slots)
     }
 
-    /// What takes the value of a tag that sets names.
+    /// Returns the targets of a tag that sets names.
+    #[inline(never)]
     pub(crate) fn set_targets(&self, names: &[String]) -> Result<Targets, NoMemory>
         ensures { IfOk result (λ t. targets_view t
             ≡ resolve.set_targets (table_of self.now) (names_view names.now)) }
@@ -64,7 +65,7 @@ impl<'t, 's, 'a> Resolver<'t, 's, 'a> {
     }
 }
 
-/// Locals from one on.
+/// Returns consecutive locals from `first` on, one for each name.
 fn fresh_slots(alloc: Global, first: usize, names: &[String]) -> Result<Vec<Option<Slot>>, NoMemory>
     ensures { IfOk result
         (λ ss. map (option_map slot_view) ss.items ≡ resolve.fresh first (names_view names.now)) }
@@ -73,12 +74,13 @@ fn fresh_slots(alloc: Global, first: usize, names: &[String]) -> Result<Vec<Opti
     let mut local = first;
     for _name in names {
         slots.push(Some(Slot::Local(local)))?;
-        local = more(local, 1)?;
+        local = checked_sum(local, 1)?;
     }
     Ok(slots)
 }
 
-/// What takes the items of a loop: locals from one on.
+/// Returns the targets of a loop: consecutive locals from `first` on.
+#[inline(never)]
 pub(crate) fn fresh_targets(
     alloc: Global,
     first: usize,

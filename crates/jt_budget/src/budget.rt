@@ -1,16 +1,17 @@
-//! Budgets.
+//! Defines the budget of a run, and the calls that take from it.
 ghost use Rattle.std.specs.Prelude.{◌≡◌, ◌<◌, ◌≤◌, ◌+◌, ◌-◌, ◌^◌, ◌⊎◌, IfErr, OnOk};
 
 use crate::spent::Spent;
 
-/// What a run may use. Where one of the five numbers does not suffice, the run ends and names it.
+/// The resources that a run may use. If one of the five numbers does not suffice, the run ends and
+/// names it.
 #[derive(Clone, Copy, Debug, PartialEq, Eq)]
 pub struct Budget {
-    /// What the instructions may cost together.
+    /// The total cost of the instructions.
     pub fuel: u64,
-    /// How many calls may be open at a time.
+    /// The number of calls that may be open at one time.
     pub depth: u32,
-    /// How many bytes may be put into output buffers, captures included.
+    /// The number of bytes that may be written to output buffers, captures included.
     pub output: u64,
     /// The greatest size of a value.
     pub size: u32,
@@ -19,7 +20,11 @@ pub struct Budget {
 }
 
 impl Budget {
-    /// Takes a cost from the fuel. A cost above it is refused.
+    /// Takes `cost` from the fuel.
+    ///
+    /// # Errors
+    ///
+    /// `Fuel` if less than `cost` is left. The budget is then unchanged.
     pub fn charge(&mut self, cost: u64) -> Result<(), Spent>
         ensures ok { OnOk result ((cost ≤ self.old.fuel)
             × (self.new ≡ record self.old { fuel = self.old.fuel - cost })) }
@@ -33,7 +38,11 @@ impl Budget {
         Ok(())
     }
 
-    /// Takes so many bytes from the output. More than are left are refused.
+    /// Takes `bytes` from the output.
+    ///
+    /// # Errors
+    ///
+    /// `Output` if fewer than `bytes` are left. The budget is then unchanged.
     pub fn emit(&mut self, bytes: u64) -> Result<(), Spent>
         ensures ok { OnOk result ((bytes ≤ self.old.output)
             × (self.new ≡ record self.old { output = self.old.output - bytes })) }
@@ -47,7 +56,11 @@ impl Budget {
         Ok(())
     }
 
-    /// Takes one of the depth, as a call is opened. Where none is left it is refused.
+    /// Takes one from the depth when a call opens.
+    ///
+    /// # Errors
+    ///
+    /// `Depth` if none is left. The budget is then unchanged.
     pub fn enter(&mut self) -> Result<(), Spent>
         ensures ok { OnOk result
             ((1 ≤ self.old.depth) × (self.new ≡ record self.old { depth = self.old.depth - 1 })) }
@@ -61,7 +74,7 @@ impl Budget {
         Ok(())
     }
 
-    /// Gives one of the depth back, as a call comes back.
+    /// Returns one to the depth when a call returns.
     pub fn leave(&mut self)
         requires { self.old.depth < 2 ^ 32 - 1 }
         ensures { self.new ≡ record self.old { depth = self.old.depth + 1 } }
@@ -69,8 +82,13 @@ impl Budget {
         self.depth += 1;
     }
 
-    /// Whether a value of this size and nesting is within the limits. The size is tested first;
-    /// nothing is taken.
+    /// Checks that a value of this size and nesting is within the limits. It takes nothing from the
+    /// budget.
+    ///
+    /// # Errors
+    ///
+    /// - `Size` if the size is above its limit.
+    /// - `Nesting` if the size is within its limit and the nesting is above its own.
     pub fn fits(&self, size: u64, nesting: u32) -> Result<(), Spent>
         ensures ok { OnOk result ((size ≤ self.now.size) × (nesting ≤ self.now.nesting)) }
         ensures err { IfErr result (λ e. ((e ≡ Spent.Size) × (self.now.size < size))

@@ -1,6 +1,6 @@
-//! What a run may use, and which number did not suffice.
+//! Defines budgets: the resources that a run may use, and the name of the one that was spent.
 //!
-//! A budget's five numbers (budget) and their names (spent). Read first: budget.rt.
+//! The five numbers of a budget are in `budget`, and their names in `spent`. Read first: budget.rt.
 #![tactic(auto)]
 
 mod budget;

@@ -1,4 +1,4 @@
-//! The numbers of a budget by name.
+//! Defines the names of a budget's numbers.
 
 use thiserror::Error;
 

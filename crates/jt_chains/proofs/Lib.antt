@@ -1,4 +1,4 @@
-pub mod Included
-pub mod Libraries
-pub mod Placed
-pub mod Tabled
+pub mod IncludeCollection
+pub mod LibraryMacros
+pub mod TemplatesByIndex
+pub mod MacroTableLookup

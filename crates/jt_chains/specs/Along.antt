@@ -1,43 +1,43 @@
--- The templates at some places, in this order, and what they have.
+-- The templates at some indices, in this order, and the parts that they have.
 use Rattle.std.specs.Prelude.{ℕ, Bool, ◌<◌, List, [], ◌∷◌, ◌++◌, length, slice_get, unwrap_or, option_map}
 use Rattle.std.specs.List.{AllByRecursion}
 use Rattle.std.specs.Option.{option_to_list}
-use Rattle.jt_trees.specs.Expressions.{Text}
-use Rattle.jt_trees.specs.Statements.{Body, end}
+use Rattle.jt_ast.specs.Expressions.{Text}
+use Rattle.jt_ast.specs.Statements.{Body, end}
 use Rattle.jt_chains.specs.Chain.{Template, MacroBody, BlockBody, macros_in, blocks_in}
 use Rattle.jt_chains.specs.Parts.{name_at}
 
 module _ (ts : List Template) where
-  -- places of templates
+  -- Each number is the index of a template.
   abbrev pub ArePlaces : List ℕ → Type 0
   ArePlaces = AllByRecursion (λ i. i < length ts)
 
-  -- the templates themselves
+  -- The templates at the indices.
   abbrev pub templates_at : List ℕ → List Template
   templates_at [] = []
   templates_at (i ∷ is) = option_to_list (slice_get ts i) ++ templates_at is
 
-  -- the tree of the template at a place
+  -- The tree of the template at an index.
   abbrev pub body_at : ℕ → Body
   body_at i = unwrap_or (option_map (λ t. t.body) (slice_get ts i)) end
 
-  -- what the templates have, one behind the other
+  -- The results of g for the templates at the indices, concatenated.
   abbrev pub along : {A : Type 0} → (Text → Body → List A) → List ℕ → List A
   along g [] = []
   along g (i ∷ is) = g (name_at ts i) (body_at i) ++ along g is
 
-  -- their macros, and the bodies of their blocks
+  -- The macros of the templates, and the bodies of their blocks.
   abbrev pub macros_along : List ℕ → List MacroBody
   macros_along = along macros_in
 
   abbrev pub blocks_along : Bool → List ℕ → List BlockBody
   blocks_along escaping = along (λ n b. blocks_in n b escaping)
 
-  -- the templates themselves
+  -- The templates at the indices, with an empty template for each index out of range.
   abbrev pub layers_along : List ℕ → List Template
   layers_along = along (λ n b. record { name = n; body = b } ∷ [])
 
--- the statements of the first of some templates
+-- The statements of the first of some templates.
 abbrev pub first_body : List Template → Body
 first_body [] = end
 first_body (t ∷ ts) = t.body

@@ -1,12 +1,15 @@
--- Chains: the templates from an entry to the root, the bodies of their blocks, and what can be
--- called in them. Libraries: templates that are imported for their macros.
-use Rattle.std.specs.Prelude.{ℕ, zero, suc, ◌==◌, nat_lt, Bool, true, false, not, ◌&&◌, ◌||◌, List, [], ◌∷◌, ◌++◌, flat_map, filter, Option, Some, None, codes, if◌then◌else◌}
+-- Chains: the templates from an entry to the root, the bodies of their blocks, and the callees in
+-- them. Libraries: templates that are imported for their macros.
+use Rattle.std.specs.Prelude.{ℕ, zero, suc, ◌==◌, nat_lt, Bool, true, false, not, ◌&&◌, ◌||◌, List, [], ◌∷◌, ◌++◌}
+use Rattle.std.specs.Prelude.{flat_map, filter, Option, Some, None, codes, if◌then◌else◌}
 use Rattle.std.specs.List.{list_any}
 use Rattle.std.specs.Str.{bytes_eq}
-use Rattle.jt_trees.specs.Expressions.{Expr, name, attribute, Text}
-use Rattle.jt_trees.specs.Statements.{Parameter, Stmt, data_of, choose, for_each, set_block, with_values, filter_block, autoescape, macro, import_as, import_from, extends, block, Body, end, stmt, Branches, no_branches, branch}
+use Rattle.jt_ast.specs.Expressions.{Expr, name, attribute, Text}
+use Rattle.jt_ast.specs.Statements.{Parameter, Stmt, data_of, choose, for_each, set_block, with_values, filter_block}
+use Rattle.jt_ast.specs.Statements.{autoescape, macro, import_as, import_from, extends, block, Body, end, stmt}
+use Rattle.jt_ast.specs.Statements.{Branches, no_branches, branch}
 
--- the trees of a library's sources by their names; none where a name has no source
+-- The trees of templates by their names; `None` for a name without a source.
 abbrev pub Sources : Type 0
 Sources = Text → Option Body
 
@@ -14,94 +17,93 @@ pub record Template : Type 0 where
   pub name : Text
   pub body : Body
 
--- ---- the way to the root
+-- ---- the path to the root
 
 abbrev pub extends_of : Body → Option Text
 extends_of end = None
 extends_of (stmt (extends line parent) rest) = Some parent
-extends_of (stmt s rest) = extends_of rest
+extends_of (stmt first rest) = extends_of rest
 
 abbrev pub parent_of : Option Body → Option Text
 parent_of None = None
 parent_of (Some body) = extends_of body
 
--- the first k names on the way from a name to the root, whether they have a source or not
+-- The first `count` names on the path from a name to the root, with or without a source.
 abbrev pub names_up : Sources → ℕ → Option Text → List Text
-names_up sources zero n = []
-names_up sources (suc k) None = []
-names_up sources (suc k) (Some n) = n ∷ names_up sources k (parent_of (sources n))
+names_up sources zero start = []
+names_up sources (suc count) None = []
+names_up sources (suc count) (Some start) = start ∷ names_up sources count (parent_of (sources start))
 
--- the trees of these templates, by their names
+-- The sources whose trees are those of the given templates, by their names.
 abbrev pub sources_in : List Template → Sources
-sources_in [] n = None
-sources_in (t ∷ ts) n = if bytes_eq t.name n then Some t.body else sources_in ts n
+sources_in [] wanted = None
+sources_in (t ∷ ts) wanted = if bytes_eq t.name wanted then Some t.body else sources_in ts wanted
 
 abbrev pub template : Text → Option Body → List Template
-template n None = []
-template n (Some body) = record { name = n; body = body } ∷ []
+template template_name None = []
+template template_name (Some body) = record { name = template_name; body = body } ∷ []
 
 -- ---- libraries
 
--- space, tab, LF, CR, VT and FF
+-- Space, tab, LF, VT, FF and CR.
 abbrev pub is_space : ℕ → Bool
 is_space c = (c == 32) || (not (nat_lt c 9) && nat_lt c 14)
 
--- what a library may hold: macros, and whitespace between them
+-- A library may hold the statement: it is a macro, or whitespace between macros.
 abbrev pub of_a_library : Stmt → Bool
-of_a_library (data_of t) = not (list_any (λ c. not (is_space c)) t)
-of_a_library (macro line x ps body) = true
+of_a_library (data_of text) = not (list_any (λ c. not (is_space c)) text)
+of_a_library (macro line macro_name parameters body) = true
 of_a_library s = false
 
 abbrev pub holds_macros : Body → Bool
 holds_macros end = true
-holds_macros (stmt s rest) = of_a_library s && holds_macros rest
+holds_macros (stmt first rest) = of_a_library first && holds_macros rest
 
 abbrev pub is_a_library : Option Body → Bool
 is_a_library None = false
 is_a_library (Some body) = holds_macros body
 
--- the tree of a library, by its name: what holds anything else is none
+-- The template of a library, by its name; none if the tree holds anything other than macros.
 abbrev pub library_template : Text → Option Body → List Template
-library_template n None = []
-library_template n (Some body) = if holds_macros body then template n (Some body) else []
+library_template template_name None = []
+library_template template_name (Some body) = if holds_macros body then template template_name (Some body) else []
 
--- ---- homes
+-- ---- namespaces
 
--- where names and macros are at home: a chain, by the name of its entry, or a library, by its own.
+-- The owner of names and macros: a chain, by the name of its entry, or a library, by its own name.
 -- One template may be both.
-pub data Home : Type 0 where
-  a_chain : Text → Home
-  a_library : Text → Home
+pub data Namespace : Type 0 where
+  a_chain : Text → Namespace
+  a_library : Text → Namespace
 
-abbrev pub home_name : Home → Text
-home_name (a_chain n) = n
-home_name (a_library n) = n
+abbrev pub namespace_name : Namespace → Text
+namespace_name (a_chain own_name) = own_name
+namespace_name (a_library own_name) = own_name
 
-abbrev pub same_home : Home → Home → Bool
-same_home (a_chain n) (a_chain m) = bytes_eq n m
-same_home (a_library n) (a_library m) = bytes_eq n m
-same_home h k = false
+abbrev pub same_namespace : Namespace → Namespace → Bool
+same_namespace (a_chain n) (a_chain m) = bytes_eq n m
+same_namespace (a_library n) (a_library m) = bytes_eq n m
+same_namespace h k = false
 
--- whether a home is among others
-abbrev pub listed : Home → List Home → Bool
-listed h [] = false
-listed h (k ∷ ks) = same_home k h || listed h ks
+-- The namespace is in the list.
+abbrev pub listed : Namespace → List Namespace → Bool
+listed wanted [] = false
+listed wanted (namespace ∷ rest) = same_namespace namespace wanted || listed wanted rest
 
--- the greatest number of templates in a chain
+-- The greatest number of templates in a chain.
 abbrev pub max_templates : ℕ
 max_templates = 64
 
--- the templates of a chain from the entry to the root, no more than the greatest number; a
--- library's own
-abbrev pub templates : Sources → Home → List Template
-templates sources (a_chain n) =
-    flat_map (λ m. template m (sources m)) (names_up sources max_templates (Some n))
-templates sources (a_library n) = library_template n (sources n)
+-- The templates of a chain from the entry to the root, at most `max_templates` of them, or the one
+-- template of a library.
+abbrev pub templates : Sources → Namespace → List Template
+templates sources (a_chain own_name) =
+    flat_map (λ ancestor. template ancestor (sources ancestor)) (names_up sources max_templates (Some own_name))
+templates sources (a_library own_name) = library_template own_name (sources own_name)
 
 -- ---- blocks
 
--- one body of a block, with the template that it stands in and the autoescape state of its place
--- there
+-- A body of a block, with the name of its template and the autoescape state at its tag.
 pub record BlockBody : Type 0 where
   pub template : Text
   pub name : Text
@@ -110,43 +112,51 @@ pub record BlockBody : Type 0 where
   pub escaping : Bool
   pub body : Body
 
--- every block of a template, inner ones too, in the order of the source
+-- Every block of a template, nested ones included, in the order of the source.
 module _ (template : Text) where
   abbrev mutual
     pub blocks_of : Stmt → Bool → List BlockBody
-    blocks_of (block line x scoped required body) on =
-        record { template = template; name = x; scoped = scoped; required = required; escaping = on; body = body } ∷ blocks_in body on
+    blocks_of (block line block_name scoped required body) on =
+        record {
+          template = template;
+          name = block_name;
+          scoped = scoped;
+          required = required;
+          escaping = on;
+          body = body;
+        } ∷ blocks_in body on
     blocks_of (autoescape line now body) on = blocks_in body now
-    blocks_of (choose bs other) on = blocks_under bs on ++ blocks_in other on
-    blocks_of (for_each line xs e c body other) on = blocks_in body on ++ blocks_in other on
-    blocks_of (set_block line x body) on = blocks_in body on
-    blocks_of (with_values line ps body) on = blocks_in body on
-    blocks_of (filter_block line fs body) on = blocks_in body on
-    -- a macro has none that the grammar allows
-    blocks_of (macro line x ps body) on = blocks_in body on
+    blocks_of (choose branches other) on = blocks_under branches on ++ blocks_in other on
+    blocks_of (for_each line targets over condition body other) on = blocks_in body on ++ blocks_in other on
+    blocks_of (set_block line target body) on = blocks_in body on
+    blocks_of (with_values line values body) on = blocks_in body on
+    blocks_of (filter_block line filters body) on = blocks_in body on
+    -- The grammar allows no block in a macro.
+    blocks_of (macro line macro_name parameters body) on = blocks_in body on
     blocks_of s on = []
 
     pub blocks_in : Body → Bool → List BlockBody
     blocks_in end on = []
-    blocks_in (stmt s rest) on = blocks_of s on ++ blocks_in rest on
+    blocks_in (stmt first rest) on = blocks_of first on ++ blocks_in rest on
 
     pub blocks_under : Branches → Bool → List BlockBody
     blocks_under no_branches on = []
-    blocks_under (branch line c body rest) on = blocks_in body on ++ blocks_under rest on
+    blocks_under (branch line condition body rest) on = blocks_in body on ++ blocks_under rest on
 
--- all bodies of a chain, and those of one block, the entry's first; `escaping` is the compile
--- option
-abbrev pub all_bodies : Sources → Bool → Home → List BlockBody
-all_bodies sources escaping home =
-    flat_map (λ t. blocks_in t.name t.body escaping) (templates sources home)
+-- All bodies of a chain, the entry's first, and the bodies of one block; `escaping` is the compile
+-- option.
+abbrev pub all_bodies : Sources → Bool → Namespace → List BlockBody
+all_bodies sources escaping namespace =
+    flat_map (λ t. blocks_in t.name t.body escaping) (templates sources namespace)
 
-abbrev pub bodies : Sources → Bool → Home → Text → List BlockBody
-bodies sources escaping home x = filter (λ b. bytes_eq b.name x) (all_bodies sources escaping home)
+abbrev pub bodies : Sources → Bool → Namespace → Text → List BlockBody
+bodies sources escaping namespace block_name =
+    filter (λ body. bytes_eq body.name block_name) (all_bodies sources escaping namespace)
 
--- what `super()` goes on with: the bodies behind, from the next one on that isn't required
+-- The bodies that `super()` continues with: the list from its first body that is not required.
 abbrev pub from_given : List BlockBody → List BlockBody
 from_given [] = []
-from_given (b ∷ bs) = if b.required then from_given bs else b ∷ bs
+from_given (body ∷ rest) = if body.required then from_given rest else body ∷ rest
 
 -- ---- macros
 
@@ -156,92 +166,95 @@ pub record MacroBody : Type 0 where
   pub parameters : List Parameter
   pub body : Body
 
--- macros stand at top level
+-- Macros occur only at top level.
 abbrev pub macros_in : Text → Body → List MacroBody
-macros_in t end = []
-macros_in t (stmt (macro line x ps body) rest) =
-    record { name = x; template = t; parameters = ps; body = body } ∷ macros_in t rest
-macros_in t (stmt s rest) = macros_in t rest
+macros_in template_name end = []
+macros_in template_name (stmt (macro line macro_name parameters body) rest) =
+    record { name = macro_name; template = template_name; parameters = parameters; body = body }
+    ∷ macros_in template_name rest
+macros_in template_name (stmt first rest) = macros_in template_name rest
 
--- all macros of a chain, or of a library
-abbrev pub macros : Sources → Home → List MacroBody
-macros sources home = flat_map (λ t. macros_in t.name t.body) (templates sources home)
+-- All macros of a chain or of a library.
+abbrev pub macros : Sources → Namespace → List MacroBody
+macros sources namespace = flat_map (λ t. macros_in t.name t.body) (templates sources namespace)
 
 abbrev pub macro_of : Text → List MacroBody → Option MacroBody
-macro_of x [] = None
-macro_of x (m ∷ ms) = if bytes_eq m.name x then Some m else macro_of x ms
+macro_of wanted [] = None
+macro_of wanted (first ∷ rest) = if bytes_eq first.name wanted then Some first else macro_of wanted rest
 
 -- ---- imports
 
--- a macro whose name begins with `_` is private: for an importer the library doesn't have it
+-- A macro whose name begins with `_` is private: the library does not offer it to importers.
 abbrev pub is_private : Text → Bool
 is_private [] = false
 is_private (c ∷ cs) = c == 95
 
--- the macro of a library that an importer asks for
+-- The macro of this name that a library offers to importers.
 abbrev pub public_macro : Text → List MacroBody → Option MacroBody
-public_macro x ms = if is_private x then None else macro_of x ms
+public_macro macro_name all_macros = if is_private macro_name then None else macro_of macro_name all_macros
 
--- what a name of a chain is given to: a macro, with its home, or a library
-pub data Given : Type 0 where
-  one_macro : Home → MacroBody → Given
-  library : Text → Given
+-- The definition of a name in a chain: a macro, with its namespace, or a library.
+pub data Definition : Type 0 where
+  one_macro : Namespace → MacroBody → Definition
+  library : Text → Definition
 
--- the macros of a home, by their names
-abbrev pub own : Home → List MacroBody → List (Text × Given)
-own h [] = []
-own h (m ∷ ms) = (m.name, one_macro h m) ∷ own h ms
+-- The macros of a namespace, by their names.
+abbrev pub own : Namespace → List MacroBody → List (Text × Definition)
+own namespace [] = []
+own namespace (first ∷ rest) = (first.name, one_macro namespace first) ∷ own namespace rest
 
--- a name that is given to a macro of a library, where the library has it
-abbrev pub given_from : Text → Text → Option MacroBody → List (Text × Given)
-given_from n x None = []
-given_from n x (Some m) = (x, one_macro (a_library n) m) ∷ []
+-- The name of an imported macro; none if the library lacks the macro.
+abbrev pub given_from : Text → Text → Option MacroBody → List (Text × Definition)
+given_from library_name alias None = []
+given_from library_name alias (Some found) = (alias, one_macro (a_library library_name) found) ∷ []
 
 module _ (sources : Sources) where
-  -- the names that `from` gives
-  abbrev pub all_given_from : Text → List (Text × Text) → List (Text × Given)
-  all_given_from n [] = []
-  all_given_from n (x ∷ xs) =
-      given_from n x.1 (public_macro x.0 (macros sources (a_library n))) ++ all_given_from n xs
+  -- The names that a `from` tag binds.
+  abbrev pub all_given_from : Text → List (Text × Text) → List (Text × Definition)
+  all_given_from library_name [] = []
+  all_given_from library_name (first ∷ rest) =
+      given_from library_name first.1 (public_macro first.0 (macros sources (a_library library_name)))
+      ++ all_given_from library_name rest
 
-  -- imports stand at top level
-  abbrev pub imports_in : Body → List (Text × Given)
+  -- Imports occur only at top level.
+  abbrev pub imports_in : Body → List (Text × Definition)
   imports_in end = []
-  imports_in (stmt (import_as line n x) rest) = (x, library n) ∷ imports_in rest
-  imports_in (stmt (import_from line n xs) rest) = all_given_from n xs ++ imports_in rest
-  imports_in (stmt s rest) = imports_in rest
+  imports_in (stmt (import_as line library_name alias) rest) = (alias, library library_name) ∷ imports_in rest
+  imports_in (stmt (import_from line library_name macro_names) rest) =
+      all_given_from library_name macro_names ++ imports_in rest
+  imports_in (stmt first rest) = imports_in rest
 
-  -- a library imports nothing
-  abbrev pub imports : Home → List (Text × Given)
-  imports (a_chain n) = flat_map (λ t. imports_in t.body) (templates sources (a_chain n))
-  imports (a_library n) = []
+  -- A library imports nothing.
+  abbrev pub imports : Namespace → List (Text × Definition)
+  imports (a_chain own_name) = flat_map (λ file. imports_in file.body) (templates sources (a_chain own_name))
+  imports (a_library own_name) = []
 
-  -- all names of a home that stand for a macro or a library
-  abbrev pub given : Home → List (Text × Given)
-  given h = own h (macros sources h) ++ imports h
+  -- All names of a namespace that stand for a macro or a library.
+  abbrev pub given : Namespace → List (Text × Definition)
+  given namespace = own namespace (macros sources namespace) ++ imports namespace
 
-abbrev pub given_to : Text → List (Text × Given) → Option Given
-given_to x [] = None
-given_to x (g ∷ gs) = if bytes_eq g.0 x then Some g.1 else given_to x gs
+abbrev pub given_to : Text → List (Text × Definition) → Option Definition
+given_to wanted [] = None
+given_to wanted (first ∷ rest) = if bytes_eq first.0 wanted then Some first.1 else given_to wanted rest
 
--- the libraries that a template imports, by their names, as often as they stand there
+-- The names of the libraries that a template imports, once for each import tag.
 abbrev pub libraries_in : Body → List Text
 libraries_in end = []
-libraries_in (stmt (import_as line n x) rest) = n ∷ libraries_in rest
-libraries_in (stmt (import_from line n xs) rest) = n ∷ libraries_in rest
-libraries_in (stmt s rest) = libraries_in rest
+libraries_in (stmt (import_as line library_name alias) rest) = library_name ∷ libraries_in rest
+libraries_in (stmt (import_from line library_name macro_names) rest) = library_name ∷ libraries_in rest
+libraries_in (stmt first rest) = libraries_in rest
 
--- those of a chain; a library imports none
-abbrev pub libraries : Sources → Home → List Text
-libraries sources (a_chain n) = flat_map (λ t. libraries_in t.body) (templates sources (a_chain n))
-libraries sources (a_library n) = []
+-- The names of the libraries that a chain imports; a library imports none.
+abbrev pub libraries : Sources → Namespace → List Text
+libraries sources (a_chain own_name) = flat_map (λ file. libraries_in file.body) (templates sources (a_chain own_name))
+libraries sources (a_library own_name) = []
 
 -- ---- calls
 
--- what an expression names in front of the arguments of a call
+-- The callee that the expression before the arguments of a call names.
 pub data Callee : Type 0 where
-  -- with its home
-  a_macro : Home → MacroBody → Callee
+  -- A macro, with its namespace.
+  a_macro : Namespace → MacroBody → Callee
   a_range : Callee
   a_super : Callee
   a_block : Text → Callee
@@ -255,37 +268,39 @@ named_form x =
     else if bytes_eq x (codes "super") then a_super else no_callee
 
 module _ (sources : Sources) where
-  -- a name alone: a library is never called itself
-  abbrev pub named_alone : Option Given → Text → Callee
+  -- The callee of a bare name; a library itself is never called.
+  abbrev pub named_alone : Option Definition → Text → Callee
   named_alone None x = named_form x
-  named_alone (Some (one_macro h m)) x = a_macro h m
-  named_alone (Some (library n)) x = no_callee
+  named_alone (Some (one_macro namespace found)) x = a_macro namespace found
+  named_alone (Some (library library_name)) x = no_callee
 
-  -- a macro of a library, where it has it
+  -- The macro as a callee, if the library offers it.
   abbrev pub of_library : Text → Option MacroBody → Callee
-  of_library n None = no_callee
-  of_library n (Some m) = a_macro (a_library n) m
+  of_library library_name None = no_callee
+  of_library library_name (Some found) = a_macro (a_library library_name) found
 
-  abbrev pub in_library : Option Given → Text → Callee
-  in_library None x = no_callee
-  in_library (Some (one_macro h m)) x = no_callee
-  in_library (Some (library n)) x = of_library n (public_macro x (macros sources (a_library n)))
+  abbrev pub in_library : Option Definition → Text → Callee
+  in_library None macro_name = no_callee
+  in_library (Some (one_macro namespace found)) macro_name = no_callee
+  in_library (Some (library library_name)) macro_name =
+      of_library library_name (public_macro macro_name (macros sources (a_library library_name)))
 
-  -- `self.b`, `loop.cycle`, and a macro of a library that is imported under a name
-  abbrev pub named_in : Option Given → Text → Text → Callee
-  named_in o of x =
-      if bytes_eq of (codes "self") then a_block x
+  -- The callee of an attribute: `self.b`, `loop.cycle`, or a macro of a library that is imported
+  -- under a name.
+  abbrev pub named_in : Option Definition → Text → Text → Callee
+  named_in definition of member =
+      if bytes_eq of (codes "self") then a_block member
       else
       if bytes_eq of (codes "loop") then
-      (if bytes_eq x (codes "cycle") then a_cycle else no_callee)
-      else in_library o x
+      (if bytes_eq member (codes "cycle") then a_cycle else no_callee)
+      else in_library definition member
 
-  abbrev pub callee : List (Text × Given) → Expr → Callee
-  callee gs (name x) = named_alone (given_to x gs) x
-  callee gs (attribute (name of) x) = named_in (given_to of gs) of x
-  callee gs f = no_callee
+  abbrev pub callee : List (Text × Definition) → Expr → Callee
+  callee definitions (name x) = named_alone (given_to x definitions) x
+  callee definitions (attribute (name of) x) = named_in (given_to of definitions) of x
+  callee definitions other = no_callee
 
--- whether an expression is the bare name `loop`
+-- The expression is the bare name `loop`.
 abbrev pub is_loop : Expr → Bool
 is_loop (name x) = bytes_eq x (codes "loop")
 is_loop e = false

@@ -1,39 +1,43 @@
 -- The chains that a chain includes, the libraries that it imports, and the order of both.
-use Rattle.std.specs.Prelude.{Bool, true, false, not, ◌||◌, IsTrue, if◌then◌else◌, List, [], ◌∷◌, ◌++◌, map, flat_map, filter}
+use Rattle.std.specs.Prelude.{Bool, true, false, not, ◌||◌, IsTrue, if◌then◌else◌, List, [], ◌∷◌, ◌++◌, map, flat_map}
+use Rattle.std.specs.Prelude.{filter}
 use Rattle.std.specs.Coded.{×_prop, Unit-prop, Coded-set, coded_bool}
 use Rattle.std.specs.Option.{is_some}
-use Rattle.jt_trees.specs.Expressions.{Text}
-use Rattle.jt_trees.specs.Statements.{Stmt, choose, for_each, set_block, with_values, filter_block, autoescape, macro, include, block, Body, end, stmt, Branches, no_branches, branch}
-use Rattle.jt_chains.specs.Chain.{Sources, Home, a_chain, a_library, listed, templates, libraries}
+use Rattle.jt_ast.specs.Expressions.{Text}
+use Rattle.jt_ast.specs.Statements.{Stmt, choose, for_each, set_block, with_values, filter_block, autoescape, macro}
+use Rattle.jt_ast.specs.Statements.{include, block, Body, end, stmt, Branches, no_branches, branch}
+use Rattle.jt_chains.specs.Chain.{Sources, Namespace, a_chain, a_library, listed, templates, libraries}
 
--- ---- what statements include, in the order of the source: `give` tells what an include gives, by
--- the name of its template and by whether that may be missing
+-- ---- the includes in statements, in the order of the source
+
+-- `give` returns the items of one include, by the name of its template and by whether the template
+-- may be missing.
 
 module _ {A : Type 0} (give : Text → Bool → List A) where
   abbrev mutual
     pub includes_by : Stmt → List A
-    includes_by (include line n ignore_missing with_context) = give n ignore_missing
-    includes_by (choose bs other) = includes_under bs ++ includes_in other
-    includes_by (for_each line xs e c body other) = includes_in body ++ includes_in other
-    includes_by (set_block line x body) = includes_in body
-    includes_by (with_values line ps body) = includes_in body
-    includes_by (filter_block line fs body) = includes_in body
+    includes_by (include line template ignore_missing with_context) = give template ignore_missing
+    includes_by (choose branches other) = includes_under branches ++ includes_in other
+    includes_by (for_each line targets over condition body other) = includes_in body ++ includes_in other
+    includes_by (set_block line target body) = includes_in body
+    includes_by (with_values line values body) = includes_in body
+    includes_by (filter_block line filters body) = includes_in body
     includes_by (autoescape line on body) = includes_in body
-    includes_by (macro line x ps body) = includes_in body
-    includes_by (block line x scoped required body) = includes_in body
+    includes_by (macro line macro_name parameters body) = includes_in body
+    includes_by (block line block_name scoped required body) = includes_in body
     includes_by s = []
 
     pub includes_in : Body → List A
     includes_in end = []
-    includes_in (stmt s rest) = includes_by s ++ includes_in rest
+    includes_in (stmt first rest) = includes_by first ++ includes_in rest
 
     pub includes_under : Branches → List A
     includes_under no_branches = []
-    includes_under (branch line c body rest) = includes_in body ++ includes_under rest
+    includes_under (branch line condition body rest) = includes_in body ++ includes_under rest
 
--- the name of an include: of each, or of those alone that may not be missing
+-- The name of an include: every name, or only that of a template that may not be missing.
 abbrev pub need : Bool → Text → Bool → List Text
-need all n ignoring = if all || not ignoring then n ∷ [] else []
+need all template ignoring = if all || not ignoring then template ∷ [] else []
 
 abbrev pub needs_by : Bool → Stmt → List Text
 needs_by all = includes_by (need all)
@@ -44,39 +48,40 @@ needs_in all = includes_in (need all)
 abbrev pub needs_under : Bool → Branches → List Text
 needs_under all = includes_under (need all)
 
--- of these names those with a source
+-- The names that have a source.
 abbrev pub with_source : Sources → List Text → List Text
-with_source sources ns = filter (λ n. is_some (sources n)) ns
+with_source sources names = filter (λ name. is_some (sources name)) names
 
--- what a chain or a library leads to: the chains that it includes, and the libraries that it
--- imports
-abbrev pub included : Sources → Home → List Home
-included sources h =
-    map a_chain (with_source sources (flat_map (λ t. needs_in true t.body) (templates sources h)))
-    ++ map a_library (with_source sources (libraries sources h))
+-- The chains that a chain or a library includes, and the libraries that it imports.
+abbrev pub included : Sources → Namespace → List Namespace
+included sources namespace =
+    map a_chain (with_source sources (flat_map (λ file. needs_in true file.body) (templates sources namespace)))
+    ++ map a_library (with_source sources (libraries sources namespace))
 
--- ---- the order of chains and libraries: each once, and before those that it leads to
+-- ---- the order of chains and libraries
 
-abbrev pub AllIn : List Home → List Home → Type 0
-AllIn [] hs = Unit {0}
-AllIn (m ∷ ms) hs = IsTrue (listed m hs) × AllIn ms hs
+-- Each chain or library occurs once, before those that it leads to.
 
-pub AllIn-prop : (ms hs : List Home) → IsProp (AllIn ms hs)
+abbrev pub AllIn : List Namespace → List Namespace → Type 0
+AllIn [] namespaces = Unit {0}
+AllIn (first ∷ rest) namespaces = IsTrue (listed first namespaces) × AllIn rest namespaces
+
+pub AllIn-prop : (ms hs : List Namespace) → IsProp (AllIn ms hs)
 AllIn-prop [] hs = Unit-prop
 AllIn-prop (m ∷ ms) hs = ×_prop (Coded-set coded_bool (listed m hs) true) (AllIn-prop ms hs)
 
-abbrev pub InOrder : Sources → List Home → Type 0
+abbrev pub InOrder : Sources → List Namespace → Type 0
 InOrder sources [] = Unit {0}
-InOrder sources (h ∷ hs) =
-    IsTrue (not (listed h hs)) × (AllIn (included sources h) hs × InOrder sources hs)
+InOrder sources (first ∷ rest) =
+    IsTrue (not (listed first rest)) × (AllIn (included sources first) rest × InOrder sources rest)
 
-pub InOrder-prop : (sources : Sources) (hs : List Home) → IsProp (InOrder sources hs)
+pub InOrder-prop : (sources : Sources) (hs : List Namespace) → IsProp (InOrder sources hs)
 InOrder-prop sources [] = Unit-prop
 InOrder-prop sources (h ∷ hs) =
     ×_prop (Coded-set coded_bool (not (listed h hs)) true)
     (×_prop (AllIn-prop (included sources h) hs) (InOrder-prop sources hs))
 
--- whether a chain is the first
-abbrev pub begins_with_chain : List Home → Bool
-begins_with_chain (a_chain n ∷ hs) = true
-begins_with_chain hs = false
+-- The first namespace is a chain.
+abbrev pub begins_with_chain : List Namespace → Bool
+begins_with_chain (a_chain entry ∷ rest) = true
+begins_with_chain rest = false

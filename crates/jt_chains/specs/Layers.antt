@@ -1,6 +1,6 @@
--- What contracts see of the templates of a chain.
+-- The view in contracts of the templates of a chain.
 use Rattle.std.specs.Prelude.{List}
-use Rattle.jt_trees.specs.StatementView.{body_view}
+use Rattle.jt_ast.specs.StatementView.{body_view}
 use Rattle.jt_chains.specs.Chain.{Template}
 use Rattle.jt_chains.specs.Parts.{name_at}
 use Rattle.jt_chains.specs.declared.layers.Layer.{Layer}

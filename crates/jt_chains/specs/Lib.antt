@@ -5,13 +5,13 @@ pub mod Layers
 pub mod Named
 pub mod Names
 pub mod Needs
-pub mod Pages
+pub mod TemplateFiles
 pub mod Parts
 pub mod Places
 pub mod Rules
-pub mod Spots
 pub mod Supers
 pub mod Tables
 pub mod Uses
 pub mod View
 pub mod Weights
+pub mod internal

@@ -1,12 +1,12 @@
--- What contracts see of the macros and of the bodies of a chain.
+-- The views in contracts of the macros of a chain and of the bodies of its blocks.
 use Rattle.std.specs.Prelude.{ℕ, List, [], map, slice_get, unwrap_or, option_map}
-use Rattle.jt_trees.specs.Expressions.{Text}
-use Rattle.jt_trees.specs.StatementView.{parameters_view, body_view}
+use Rattle.jt_ast.specs.Expressions.{Text}
+use Rattle.jt_ast.specs.StatementView.{parameters_view, body_view}
 use Rattle.jt_chains.specs.Chain.{Template, MacroBody, BlockBody}
 use Rattle.jt_chains.specs.declared.parts.Macro.{Macro}
 use Rattle.jt_chains.specs.declared.parts.Block.{Block}
 
--- the name of the template at a place
+-- The name of the template at an index.
 abbrev pub name_at : List Template → ℕ → Text
 name_at ts i = unwrap_or (option_map (λ t. t.name) (slice_get ts i)) []
 

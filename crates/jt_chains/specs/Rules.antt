@@ -1,158 +1,166 @@
--- The static rules of chains: what a refusal of each name says of sources and an entry.
-use Rattle.std.specs.Prelude.{◌≡◌, ℕ, suc, ◌<◌, Bool, true, false, not, ◌&&◌, ◌||◌, ◌==◌, ◌⊎◌, IsTrue, List, [], ◌∷◌, ◌++◌, map, flat_map, length, Some, nat_lt}
+-- The static rules of chains: the meaning of each refusal, by sources and an entry.
+use Rattle.std.specs.Prelude.{◌≡◌, ℕ, suc, ◌<◌, Bool, true, false, not, ◌&&◌, ◌||◌, ◌==◌, ◌⊎◌, IsTrue, List, [], ◌∷◌}
+use Rattle.std.specs.Prelude.{◌++◌, map, flat_map, length, Some, nat_lt}
 use Rattle.std.specs.Option.{is_some, is_none}
 use Rattle.std.specs.List.{list_any}
 use Rattle.jt_chains.specs.Names.{IsName}
-use Rattle.jt_trees.specs.Expressions.{Text}
-use Rattle.jt_trees.specs.Statements.{import_from, Body, end, stmt}
-use Rattle.jt_chains.specs.Chain.{Sources, Home, a_chain, a_library, listed, names_up, max_templates, templates, BlockBody, blocks_in, all_bodies, bodies, from_given, macros, public_macro, given, libraries, is_a_library}
-use Rattle.jt_trees.specs.Texts.{among, repeated}
+use Rattle.jt_ast.specs.Expressions.{Text}
+use Rattle.jt_ast.specs.Statements.{import_from, Body, end, stmt}
+use Rattle.jt_chains.specs.Chain.{Sources, Namespace, a_chain, a_library, listed, names_up, max_templates, templates}
+use Rattle.jt_chains.specs.Chain.{BlockBody, blocks_in, all_bodies, bodies, from_given, macros, public_macro, given}
+use Rattle.jt_chains.specs.Chain.{libraries, is_a_library}
+use Rattle.jt_ast.specs.Texts.{among, repeated}
 use Rattle.jt_chains.specs.Includes.{included, needs_in}
 use Rattle.jt_chains.specs.Supers.{calls_super}
 
--- the greatest number of chains that an entry reaches, its own among them
+-- The greatest number of chains that an entry reaches, its own included.
 abbrev pub max_chains : ℕ
 max_chains = 1024
 
 abbrev pub is_required : List BlockBody → Bool
 is_required [] = false
-is_required (b ∷ bs) = b.required
+is_required (body ∷ rest) = body.required
 
 abbrev pub is_empty : {A : Type 0} → List A → Bool
 is_empty [] = true
 is_empty (x ∷ xs) = false
 
--- whether one of these bodies calls `super()` and none behind it can be meant
+-- One of these bodies calls `super()`, and each body after it, if any, is required.
 abbrev pub lacks_super : List BlockBody → Bool
 lacks_super [] = false
-lacks_super (b ∷ bs) = (calls_super b.body && is_empty (from_given bs)) || lacks_super bs
+lacks_super (body ∷ rest) = (calls_super body.body && is_empty (from_given rest)) || lacks_super rest
 
 -- ---- libraries
 
 module _ (sources : Sources) where
-  -- whether one of these macros is none that the library has for an importer
+  -- The library of this name does not offer all of these macros to importers.
   abbrev pub lacks_one : Text → List (Text × Text) → Bool
-  lacks_one n [] = false
-  lacks_one n (x ∷ xs) =
-      (is_a_library (sources n) && is_none (public_macro x.0 (macros sources (a_library n))))
-      || lacks_one n xs
+  lacks_one library [] = false
+  lacks_one library (first ∷ rest) =
+      (is_a_library (sources library) && is_none (public_macro first.0 (macros sources (a_library library))))
+      || lacks_one library rest
 
   abbrev pub lacks_macros : Body → Bool
   lacks_macros end = false
-  lacks_macros (stmt (import_from line n xs) rest) = lacks_one n xs || lacks_macros rest
-  lacks_macros (stmt s rest) = lacks_macros rest
+  lacks_macros (stmt (import_from line library macro_names) rest) = lacks_one library macro_names || lacks_macros rest
+  lacks_macros (stmt first rest) = lacks_macros rest
 
 module _ (sources : Sources) (escaping : Bool) where
-  -- the names on the way to the root, one more than a chain may have at most; a library's is its
-  -- own
-  abbrev pub way : Home → List Text
-  way (a_chain n) = names_up sources (suc max_templates) (Some n)
-  way (a_library n) = n ∷ []
+  -- The names on the path to the root, at most one more than a chain may have; for a library, its
+  -- own name.
+  abbrev pub extends_path : Namespace → List Text
+  extends_path (a_chain name) = names_up sources (suc max_templates) (Some name)
+  extends_path (a_library name) = name ∷ []
 
-  -- the names that are asked for: those on the way, the included ones that may not be missing, and
-  -- the libraries; with true, the other included ones too
-  abbrev pub asked : Bool → Home → List Text
-  asked all h =
-      way h ++ (flat_map (λ t. needs_in all t.body) (templates sources h) ++ libraries sources h)
+  -- The requested names: those on the path to the root, the included ones that may not be missing,
+  -- and the libraries. If `all` is true, every included name is requested.
+  abbrev pub asked : Bool → Namespace → List Text
+  asked all namespace =
+      extends_path namespace
+      ++ (flat_map (λ file. needs_in all file.body) (templates sources namespace) ++ libraries sources namespace)
 
-  -- one chain or library is the other, or reaches it by includes and imports
-  pub data Reaches : Home → Home → Type 0 where
-    here : {h : Home} → Reaches h h
-    through : {h m k : Home} → IsTrue (listed m (included sources h)) → Reaches m k → Reaches h k
+  -- A chain or library is another one, or reaches it by includes and imports.
+  pub data Reaches : Namespace → Namespace → Type 0 where
+    here : {namespace : Namespace} → Reaches namespace namespace
+    through : {namespace next target : Namespace} → IsTrue (listed next (included sources namespace))
+        → Reaches next target → Reaches namespace target
 
-  -- of some chain or library that is reached
-  abbrev pub Somewhere : Home → (Home → Type 0) → Type 0
-  Somewhere entry P = (h : Home) × Reaches entry h × P h
+  -- The property holds of a chain or library that the entry reaches.
+  abbrev pub Somewhere : Namespace → (Namespace → Type 0) → Type 0
+  Somewhere entry P = (namespace : Namespace) × Reaches entry namespace × P namespace
 
-  -- some chain or library that is reached asks for the name, if only where it may be missing
-  abbrev pub Asks : Home → Text → Type 0
-  Asks entry n = Somewhere entry (λ h. IsTrue (among n (asked true h)))
+  -- A reached chain or library requests the name, even if only where it may be missing.
+  abbrev pub Asks : Namespace → Text → Type 0
+  Asks entry name = Somewhere entry (λ namespace. IsTrue (among name (asked true namespace)))
 
-  -- the way to the root ends within 64 templates, and each of them has a source
-  abbrev pub is_whole : Home → Bool
-  is_whole h =
-      not (repeated (way h))
-      && (nat_lt (length (way h)) (suc max_templates)
-      && not (list_any (λ n. is_none (sources n)) (way h)))
+  -- The path to the root ends within 64 templates, and each of them has a source.
+  abbrev pub is_whole : Namespace → Bool
+  is_whole namespace =
+      not (repeated (extends_path namespace))
+      && (nat_lt (length (extends_path namespace)) (suc max_templates)
+      && not (list_any (λ name. is_none (sources name)) (extends_path namespace)))
 
-  -- of some whole one that is reached
-  abbrev pub InSomeChain : Home → (Home → Bool) → Type 0
-  InSomeChain entry p = Somewhere entry (λ h. IsTrue (is_whole h && p h))
+  -- The property holds of a whole chain or library that the entry reaches.
+  abbrev pub InSomeChain : Namespace → (Namespace → Bool) → Type 0
+  InSomeChain entry test = Somewhere entry (λ namespace. IsTrue (is_whole namespace && test namespace))
 
-  -- C1: a name that is asked for has no source
-  abbrev pub Missing : Home → Type 0
+  -- C1: a requested name has no source.
+  abbrev pub Missing : Namespace → Type 0
   Missing entry =
-      Somewhere entry (λ h. IsTrue (list_any (λ n. is_none (sources n)) (asked false h)))
+      Somewhere entry (λ namespace. IsTrue (list_any (λ name. is_none (sources name)) (asked false namespace)))
 
-  -- C2: a name that is asked for is no template's name
-  abbrev pub BadName : Home → Type 0
+  -- C2: a requested name is not valid for a template.
+  abbrev pub BadName : Namespace → Type 0
   BadName entry =
-      Somewhere entry (λ h. (n : Text) × IsTrue (among n (asked true h)) × (IsName n → ⊥))
+      Somewhere entry (λ namespace. (name : Text) × IsTrue (among name (asked true namespace)) × (IsName name → ⊥))
 
-  -- C3: a name comes again on the way to the root
-  abbrev pub ExtendsCycle : Home → Type 0
+  -- C3: a name occurs twice on the path to the root.
+  abbrev pub ExtendsCycle : Namespace → Type 0
   ExtendsCycle entry =
-      Somewhere entry (λ h.
-      (n : Text) × (h ≡ a_chain n) × (k : ℕ) × IsTrue (repeated (names_up sources k (Some n))))
+      Somewhere entry (λ namespace.
+      (name : Text) × (namespace ≡ a_chain name) × (count : ℕ) × IsTrue (repeated (names_up sources count (Some name))))
 
-  -- C4: the first 65 names differ, or more than 1,024 chains are reached
-  abbrev pub ChainTooLong : Home → Type 0
+  -- C4: the first 65 names on the path to the root differ, or more than 1,024 chains are reached.
+  abbrev pub ChainTooLong : Namespace → Type 0
   ChainTooLong entry =
       Somewhere entry
-      (λ h. IsTrue ((length (way h) == suc max_templates) && not (repeated (way h))))
-      ⊎ ((ns : List Text)
-      × (max_chains < length ns)
-      × IsTrue (not (repeated ns))
-      × ((n : Text) → IsTrue (among n ns) → Reaches entry (a_chain n)))
+      (λ namespace.
+      IsTrue ((length (extends_path namespace) == suc max_templates) && not (repeated (extends_path namespace))))
+      ⊎ ((names : List Text)
+      × (max_chains < length names)
+      × IsTrue (not (repeated names))
+      × ((name : Text) → IsTrue (among name names) → Reaches entry (a_chain name)))
 
-  -- C5: one block name twice in a template
-  abbrev pub DoubleBlock : Home → Type 0
+  -- C5: a template has two blocks of one name.
+  abbrev pub DoubleBlock : Namespace → Type 0
   DoubleBlock entry =
-      Somewhere entry (λ h.
-      IsTrue (list_any (λ t. repeated (map (λ b. b.name) (blocks_in t.name t.body escaping)))
-      (templates sources h)))
+      Somewhere entry (λ namespace.
+      IsTrue (list_any (λ file. repeated (map (λ b. b.name) (blocks_in file.name file.body escaping)))
+      (templates sources namespace)))
 
-  -- C6: the nearest body of a block is a required one
-  abbrev pub RequiredNotGiven : Home → Type 0
+  -- C6: the nearest body of a block is a required one.
+  abbrev pub RequiredNotGiven : Namespace → Type 0
   RequiredNotGiven entry =
-      InSomeChain entry (λ h.
-      list_any (λ b. is_required (bodies sources escaping h b.name))
-      (all_bodies sources escaping h))
+      InSomeChain entry (λ namespace.
+      list_any (λ b. is_required (bodies sources escaping namespace b.name))
+      (all_bodies sources escaping namespace))
 
-  -- C7: `super()` in a body behind which there is none to go on with
-  abbrev pub NoSuper : Home → Type 0
+  -- C7: a body calls `super()` and each body after it, if any, is required.
+  abbrev pub NoSuper : Namespace → Type 0
   NoSuper entry =
-      InSomeChain entry (λ h.
-      list_any (λ b. lacks_super (bodies sources escaping h b.name))
-      (all_bodies sources escaping h))
+      InSomeChain entry (λ namespace.
+      list_any (λ b. lacks_super (bodies sources escaping namespace b.name))
+      (all_bodies sources escaping namespace))
 
-  -- C8: a chain includes one that reaches it again, by itself or in the macros of a library
-  abbrev pub IncludeCycle : Home → Type 0
+  -- C8: a chain includes one that reaches it again, by itself or in the macros of a library.
+  abbrev pub IncludeCycle : Namespace → Type 0
   IncludeCycle entry =
-      Somewhere entry (λ h. (m : Home) × IsTrue (listed m (included sources h)) × Reaches m h)
+      Somewhere entry
+      (λ namespace. (next : Namespace) × IsTrue (listed next (included sources namespace)) × Reaches next namespace)
 
-  -- C9: one name twice in a chain or in a library, of its macros and of those that imports give
-  abbrev pub MacroTwice : Home → Type 0
-  MacroTwice entry = InSomeChain entry (λ h. repeated (map (λ g. g.0) (given sources h)))
+  -- C9: a name occurs twice in a chain or library among its macros and the names that imports bind.
+  abbrev pub MacroTwice : Namespace → Type 0
+  MacroTwice entry =
+      InSomeChain entry (λ namespace. repeated (map (λ definition. definition.0) (given sources namespace)))
 
-  -- C11: `from` names a macro that the library doesn't have for an importer
-  abbrev pub NoMacro : Home → Type 0
+  -- C11: `from` names a macro that the library does not offer to importers.
+  abbrev pub NoMacro : Namespace → Type 0
   NoMacro entry =
-      Somewhere entry (λ h.
-      (n : Text)
-      × (h ≡ a_chain n)
-      × IsTrue (list_any (λ t. lacks_macros sources t.body) (templates sources h)))
+      Somewhere entry (λ namespace.
+      (name : Text)
+      × (namespace ≡ a_chain name)
+      × IsTrue (list_any (λ file. lacks_macros sources file.body) (templates sources namespace)))
 
-  -- C12: an imported template holds something else than macros
-  abbrev pub NotALibrary : Home → Type 0
+  -- C12: an imported template holds something other than macros.
+  abbrev pub NotALibrary : Namespace → Type 0
   NotALibrary entry =
-      Somewhere entry (λ h.
-      (n : Text)
-      × (h ≡ a_library n)
-      × IsTrue (is_some (sources n) && not (is_a_library (sources n))))
+      Somewhere entry (λ namespace.
+      (name : Text)
+      × (namespace ≡ a_library name)
+      × IsTrue (is_some (sources name) && not (is_a_library (sources name))))
 
--- no rule of chains is broken
-pub record KeepsRules (sources : Sources) (escaping : Bool) (entry : Home) : Type 0 where
+-- The entry breaks no rule of chains.
+pub record KeepsRules (sources : Sources) (escaping : Bool) (entry : Namespace) : Type 0 where
   pub missing : Missing sources escaping entry → ⊥
   pub bad_name : BadName sources escaping entry → ⊥
   pub extends_cycle : ExtendsCycle sources escaping entry → ⊥

@@ -1,36 +1,36 @@
--- Tables of names: where a name stands first among templates, and among the macros of a library.
+-- Tables of names: the first index of a name among templates, and among the macros of a library.
 use Rattle.std.specs.Prelude.{◌≡◌, ℕ, suc, true, false, if◌then◌else◌, List, [], length, Option, Some, None, unwrap_or}
 use Rattle.std.specs.declared.string.String.{String}
 use Rattle.std.specs.declared.alloc.Global.{Global}
 use Rattle.std.specs.Coded.{×_prop, Coded-set, coded_ℕ, coded_bool, coded_option, Π_prop}
 use Rattle.std.specs.Str.{bytes_eq}
 use Rattle.std.specs.BTreeMap.{BTreeMap, get_by_text}
-use Rattle.jt_trees.specs.Expressions.{Text}
-use Rattle.jt_trees.specs.Statements.{Stmt, macro, Body, end, stmt}
+use Rattle.jt_ast.specs.Expressions.{Text}
+use Rattle.jt_ast.specs.Statements.{Stmt, macro, Body, end, stmt}
 use Rattle.jt_chains.specs.Chain.{Template, MacroBody, holds_macros, macros_in}
 use Rattle.jt_chains.specs.Places.{place_of}
 
 abbrev pub Table : Type 0
 Table = BTreeMap (String Global) ℕ
 
--- the macros of a template, where it is a library
+-- The macros of a template, if it is a library.
 abbrev pub library_macros : Text → Body → List MacroBody
 library_macros n b = if holds_macros b then macros_in n b else []
 
--- the place of the first macro of a name among statements, where they have the places from one on
+-- The index of the first macro of a name among statements, which are counted from i.
 abbrev pub macro_place : Text → ℕ → Body → Option ℕ
 macro_place x i end = None
-macro_place x i (stmt (macro line y ps body) rest) =
-    if bytes_eq y x then Some i else macro_place x (suc i) rest
-macro_place x i (stmt s rest) = macro_place x (suc i) rest
+macro_place x i (stmt (macro line macro_name parameters body) rest) =
+    if bytes_eq macro_name x then Some i else macro_place x (suc i) rest
+macro_place x i (stmt first rest) = macro_place x (suc i) rest
 
--- the macro that a statement of a template is
+-- The macro that a statement of a template defines.
 abbrev pub as_macro : Text → Stmt → Option MacroBody
-as_macro n (macro line x ps body) =
-    Some (record { name = x; template = n; parameters = ps; body = body })
+as_macro n (macro line macro_name parameters body) =
+    Some (record { name = macro_name; template = n; parameters = parameters; body = body })
 as_macro n s = None
 
--- a library has a table of its macros, and no other template has one
+-- A library has a table of its macros, and no other template has one.
 abbrev pub IsTable : Body → Option Table → Type 0
 IsTable b None = holds_macros b ≡ false
 IsTable b (Some m) = (holds_macros b ≡ true) × ((x : Text) → get_by_text m x ≡ macro_place x 0 b)
@@ -41,7 +41,7 @@ IsTable-prop b (Some m) =
     ×_prop (Coded-set coded_bool (holds_macros b) true)
     (Π_prop (λ x. Coded-set (coded_option coded_ℕ) (get_by_text m x) (macro_place x 0 b)))
 
--- a table of templates by their names
+-- A table of the indices of templates by their names.
 abbrev pub AreAt : List Template → Table → Type 0
 AreAt ts m = (n : Text) → unwrap_or (get_by_text m n) (length ts) ≡ place_of ts n
 

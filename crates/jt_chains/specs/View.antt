@@ -1,51 +1,51 @@
--- What contracts see of a chain: texts and trees, and not where they lie in memory.
+-- The view of a chain in contracts: texts and trees, without their memory.
 use Rattle.std.specs.Prelude.{◌≡◌, ◌≤◌, ℕ, Bool, List, [], map, length, Result, IfOk}
 use Rattle.std.specs.declared.alloc.AllocError.{AllocError}
 use Rattle.std.specs.declared.alloc.Global.{Global}
 use Rattle.std.specs.declared.vec.Vec.{Vec}
-use Rattle.jt_trees.specs.Expressions.{Text}
+use Rattle.jt_ast.specs.Expressions.{Text}
 use Rattle.jt_chains.specs.Along.{along}
 use Rattle.jt_chains.specs.Chain as chains
-use Rattle.jt_chains.specs.Chain.{Sources, Home, Template, imports_in, sources_in}
-use Rattle.jt_chains.specs.Pages.{pages_view, home_view}
-use Rattle.jt_chains.specs.Places.{home_at}
-use Rattle.jt_chains.specs.declared.linked.Chain.{Chain}
+use Rattle.jt_chains.specs.Chain.{Sources, Namespace, Template, imports_in, sources_in}
+use Rattle.jt_chains.specs.TemplateFiles.{files_view, namespace_view}
+use Rattle.jt_chains.specs.Places.{namespace_at}
+use Rattle.jt_chains.specs.declared.chain.Chain.{Chain}
 
--- an entry's chain with the chains and libraries that its includes and imports reach
+-- The chain of an entry, with the chains and libraries that its includes and imports reach.
 pub record Seen : Type 0 where
-  -- the templates that were read, each once
+  -- The templates that were read, each once.
   pub templates : List Template
-  -- the chains and libraries, each before those that it leads to: the entry's chain is the first
-  pub order : List Home
-  -- whether a text begins escaped
+  -- The chains and libraries, each before those that it leads to; the entry's chain is the first.
+  pub order : List Namespace
+  -- Whether text outside `autoescape` tags is escaped.
   pub escaping : Bool
 
 abbrev pub sources_of : Seen → Sources
-sources_of c = sources_in c.templates
+sources_of chain = sources_in chain.templates
 
 abbrev pub chain_view : Chain → Seen
-chain_view c =
+chain_view chain =
     record {
-      templates = pages_view c.templates.items;
-      order = map home_view c.homes.items;
-      escaping = c.autoescape;
+      templates = files_view chain.templates.items;
+      order = map namespace_view chain.namespaces.items;
+      escaping = chain.autoescape;
     }
 
--- its templates, and their sources
+-- The templates of a chain, and their sources.
 abbrev pub its_templates : Chain → List Template
-its_templates c = pages_view c.templates.items
+its_templates chain = files_view chain.templates.items
 
 abbrev pub its_sources : Chain → Sources
-its_sources c = sources_in (its_templates c)
+its_sources chain = sources_in (its_templates chain)
 
--- its chain or library of a number
-abbrev pub home_in : Chain → ℕ → Home
-home_in c = home_at (chain_view c).order
+-- The chain or library at an index.
+abbrev pub namespace_in : Chain → ℕ → Namespace
+namespace_in chain = namespace_at (chain_view chain).order
 
--- where there is none of this number, nothing is given
+-- The result is empty if the index is out of range.
 abbrev pub NoneBeyond : {A : Type 0} → Chain → ℕ → Result (Vec A Global) AllocError → Type 0
-NoneBeyond c number result = length c.homes.items ≤ number → IfOk result (λ v. v.items ≡ [])
+NoneBeyond chain number result = length chain.namespaces.items ≤ number → IfOk result (λ v. v.items ≡ [])
 
--- what the templates at some places import
-abbrev pub imports_along : Chain → List ℕ → List (Text × chains.Given)
-imports_along c = along (its_templates c) (λ n b. imports_in (its_sources c) b)
+-- The names that the imports of the templates at some indices bind.
+abbrev pub imports_along : Chain → List ℕ → List (Text × chains.Definition)
+imports_along chain = along (its_templates chain) (λ n b. imports_in (its_sources chain) b)

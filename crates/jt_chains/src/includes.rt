@@ -1,21 +1,21 @@
-//! The includes of templates.
+//! Collects the includes of templates.
 
 ghost use Rattle.std.specs.Prelude.{◌≡◌, ◌<◌, flat_map, length, IfOk};
-ghost use Rattle.jt_trees.specs.StatementView.{stmt_view, body_view};
+ghost use Rattle.jt_ast.specs.StatementView.{stmt_view, body_view};
 ghost use Rattle.jt_chains.specs.Chain.{templates};
 ghost use Rattle.jt_chains.specs.Includes.{includes_by, includes_in};
 ghost use Rattle.jt_chains.specs.Needs.{AddsNeeds, include_need, includes_along, needs_view};
-ghost use Rattle.jt_chains.specs.Pages.{pages_view};
-ghost use Rattle.jt_chains.specs.View.{NoneBeyond, home_in, its_sources};
+ghost use Rattle.jt_chains.specs.TemplateFiles.{files_view};
+ghost use Rattle.jt_chains.specs.View.{NoneBeyond, namespace_in, its_sources};
 
-use crate::linked::Chain;
-use crate::pages::Page;
-use crate::parts::body_of_page;
-use jt_trees::{Branch, Stmt};
+use crate::chain::Chain;
+use crate::files::TemplateFile;
+use crate::parts::body_of_file;
+use jt_ast::{Branch, Stmt};
 use std::alloc::{AllocError, Global};
 
-/// An include or an import: the template's name, whether it may be missing, and whether it is
-/// a library.
+/// An include or an import: the name of the template, whether the template may be missing, and
+/// whether it is a library.
 #[derive(Clone, Copy)]
 pub struct Include<'a> {
     pub name: &'a str,
@@ -35,7 +35,7 @@ fn add_includes<'a>(found: &mut Vec<Include<'a>>, body: &'a [Stmt]) -> Result<()
     Ok(())
 }
 
-/// Adds those of one statement.
+/// Adds the includes in a statement, in the order of the source.
 #[cycle(includes)]
 fn add_statement<'a>(found: &mut Vec<Include<'a>>, statement: &'a Stmt) -> Result<(), AllocError>
     ensures { IfOk result (λ _. AddsNeeds found.old.items found.new.items
@@ -77,32 +77,32 @@ fn add_statement<'a>(found: &mut Vec<Include<'a>>, statement: &'a Stmt) -> Resul
     }
 }
 
-/// The includes of templates at these places; where there is no template there is none.
+/// Returns the includes of the templates at `places`. An index out of range adds none.
 pub fn includes_at<'a>(
     alloc: Global,
-    pages: &'a [Page],
+    files: &'a [TemplateFile],
     places: &[usize],
 ) -> Result<Vec<Include<'a>>, AllocError>
     ensures { IfOk result
-        (λ ns. needs_view ns.items ≡ includes_along (pages_view pages.now) places.now) }
+        (λ needs. needs_view needs.items ≡ includes_along (files_view files.now) places.now) }
 {
     let mut found = Vec::new(alloc);
     for place in places {
-        add_includes(&mut found, body_of_page(pages, *place))?;
+        add_includes(&mut found, body_of_file(files, *place))?;
     }
     Ok(found)
 }
 
 impl Chain {
-    /// The includes of a chain, those of the entry's template first, as often as they stand there.
-    /// A chain that isn't there has none.
-    pub fn includes(&self, alloc: Global, home: usize) -> Result<Vec<Include<'_>>, AllocError>
-        ensures there { home < length self.now.homes.items → IfOk result (λ ns.
-            needs_view ns.items ≡ flat_map (λ t. includes_in include_need t.body)
-            (templates (its_sources self.now) (home_in self.now home))) }
-        ensures nowhere { NoneBeyond self.now home result }
+    /// Returns the includes of a chain, once for each tag; those of the entry's template come
+    /// first. Returns none if `namespace` is out of range.
+    pub fn includes(&self, alloc: Global, namespace: usize) -> Result<Vec<Include<'_>>, AllocError>
+        ensures there { namespace < length self.now.namespaces.items → IfOk result (λ needs.
+            needs_view needs.items ≡ flat_map (λ t. includes_in include_need t.body)
+            (templates (its_sources self.now) (namespace_in self.now namespace))) }
+        ensures nowhere { NoneBeyond self.now namespace result }
     {
-        match self.homes.get(home) {
+        match self.namespaces.get(namespace) {
             Some(found) => includes_at(alloc, &self.templates, &found.templates),
             None => Ok(Vec::new(alloc)),
         }

@@ -1,21 +1,21 @@
-//! The macros of a chain, and the bodies of its blocks.
+//! Collects the macros of a chain and the bodies of its blocks.
 
 ghost use Rattle.std.specs.Prelude.{◌≡◌, ◌<◌, ◌++◌, length, map, IfOk};
-ghost use Rattle.jt_trees.specs.StatementView.{stmt_view, body_view};
-ghost use Rattle.jt_trees.specs.Texts.{texts};
+ghost use Rattle.jt_ast.specs.StatementView.{stmt_view, body_view};
+ghost use Rattle.jt_ast.specs.Texts.{texts};
 ghost use Rattle.jt_chains.specs.Chain.{macros, macros_in, all_bodies, blocks_of, blocks_in};
-ghost use Rattle.jt_chains.specs.Pages.{pages_view};
+ghost use Rattle.jt_chains.specs.TemplateFiles.{files_view};
 ghost use Rattle.jt_chains.specs.Parts.{block_view, macros_view, blocks_view, name_at};
 ghost use Rattle.jt_chains.specs.Along.{body_at, macros_along, blocks_along};
-ghost use Rattle.jt_chains.specs.Spots.{AddsBlocks, spot_name};
-ghost use Rattle.jt_chains.specs.View.{NoneBeyond, home_in, its_sources, its_templates};
+ghost use Rattle.jt_chains.specs.internal.BodySites.{AddsBlocks, site_name};
+ghost use Rattle.jt_chains.specs.View.{NoneBeyond, namespace_in, its_sources, its_templates};
 
-use crate::linked::Chain;
-use crate::pages::Page;
-use jt_trees::{Branch, Parameter, Stmt};
+use crate::chain::Chain;
+use crate::files::TemplateFile;
+use jt_ast::{Branch, Parameter, Stmt};
 use std::alloc::{AllocError, Global};
 
-/// A macro: its name, the place of its template, its parameters and its body.
+/// A macro: its name, the index of its template, its parameters and its body.
 #[derive(Clone, Copy)]
 pub struct Macro<'a> {
     pub name: &'a str,
@@ -24,8 +24,8 @@ pub struct Macro<'a> {
     pub body: &'a [Stmt],
 }
 
-/// One body of a block: the place of its template, its name, whether its tag says `scoped` or
-/// `required`, the autoescape state of its place, and its statements.
+/// A body of a block: the index of its template, its name, whether its tag has `scoped` and
+/// `required`, the autoescape state at its tag, and its statements.
 #[derive(Clone, Copy)]
 pub struct Block<'a> {
     pub template: usize,
@@ -36,26 +36,26 @@ pub struct Block<'a> {
     pub body: &'a [Stmt],
 }
 
-/// Where statements stand: in which of the templates, and in which autoescape state.
+/// The context of statements: their template and the autoescape state.
 #[derive(Clone, Copy)]
-struct Spot<'a> {
-    pages: &'a [Page],
+struct BodySite<'a> {
+    files: &'a [TemplateFile],
     template: usize,
     escaping: bool,
 }
 
-impl<'a> Spot<'a> {
-    /// The same place, in another autoescape state.
+impl<'a> BodySite<'a> {
+    /// Returns this site with another autoescape state.
     fn inside(self, escaping: bool) -> Self
         ensures { result ≡ record self.entry { escaping = escaping } }
     {
-        Spot { escaping, ..self }
+        BodySite { escaping, ..self }
     }
 
-    /// The body of a block that stands there.
+    /// Returns the body of a block whose tag is at this site.
     fn block(self, name: &'a str, scoped: bool, required: bool, body: &'a [Stmt]) -> Block<'a>
-        ensures { block_view (pages_view self.entry.pages.now) result ≡ record {
-          template = spot_name self.entry;
+        ensures { block_view (files_view self.entry.files.now) result ≡ record {
+          template = site_name self.entry;
           name = name.now;
           scoped = scoped;
           required = required;
@@ -74,16 +74,16 @@ impl<'a> Spot<'a> {
     }
 }
 
-/// Adds the macros at the top of a template.
+/// Adds the macros at the top level of a template.
 pub(crate) fn add_macros<'a>(
-    pages: &'a [Page],
+    files: &'a [TemplateFile],
     template: usize,
     body: &'a [Stmt],
     found: &mut Vec<Macro<'a>>,
 ) -> Result<(), AllocError>
-    ensures { IfOk result (λ _. macros_view (pages_view pages.now) found.new.items
-        ≡ macros_view (pages_view pages.now) found.old.items
-        ++ macros_in (name_at (pages_view pages.now) template) (body_view body.now)) }
+    ensures { IfOk result (λ _. macros_view (files_view files.now) found.new.items
+        ≡ macros_view (files_view files.now) found.old.items
+        ++ macros_in (name_at (files_view files.now) template) (body_view body.now)) }
 {
     for statement in body {
         if let Stmt::Macro {
@@ -104,31 +104,31 @@ pub(crate) fn add_macros<'a>(
     Ok(())
 }
 
-/// Adds the bodies of the blocks in statements, inner ones too, in the order of the source.
+/// Adds the bodies of the blocks in statements, nested ones included, in the order of the source.
 #[cycle(blocks)]
 fn add_blocks<'a>(
-    spot: Spot<'a>,
+    site: BodySite<'a>,
     body: &'a [Stmt],
     found: &mut Vec<Block<'a>>,
 ) -> Result<(), AllocError>
-    ensures { IfOk result (λ _. AddsBlocks spot.entry found.old.items found.new.items
-        (blocks_in (spot_name spot.entry) (body_view body.now) spot.entry.escaping)) }
+    ensures { IfOk result (λ _. AddsBlocks site.entry found.old.items found.new.items
+        (blocks_in (site_name site.entry) (body_view body.now) site.entry.escaping)) }
 {
     for statement in body {
-        add_statement(spot, statement, found)?;
+        add_statement(site, statement, found)?;
     }
     Ok(())
 }
 
-/// Adds those of one statement.
+/// Adds the bodies of the blocks in a statement, nested ones included, in the order of the source.
 #[cycle(blocks)]
 fn add_statement<'a>(
-    spot: Spot<'a>,
+    site: BodySite<'a>,
     statement: &'a Stmt,
     found: &mut Vec<Block<'a>>,
 ) -> Result<(), AllocError>
-    ensures { IfOk result (λ _. AddsBlocks spot.entry found.old.items found.new.items
-        (blocks_of (spot_name spot.entry) (stmt_view statement.now) spot.entry.escaping)) }
+    ensures { IfOk result (λ _. AddsBlocks site.entry found.old.items found.new.items
+        (blocks_of (site_name site.entry) (stmt_view statement.now) site.entry.escaping)) }
 {
     match statement {
         Stmt::Data(_)
@@ -145,132 +145,134 @@ fn add_statement<'a>(
             body,
             ..
         } => {
-            found.push(spot.block(name, *scoped, *required, body))?;
-            add_blocks(spot, body, found)?;
+            found.push(site.block(name, *scoped, *required, body))?;
+            add_blocks(site, body, found)?;
             Ok(())
         }
         Stmt::Autoescape { escaping, body, .. } => {
-            add_blocks(spot.inside(*escaping), body, found)
+            add_blocks(site.inside(*escaping), body, found)
         }
         Stmt::If(branches, other) => {
             for Branch { body, .. } in branches {
-                add_blocks(spot, body, found)?;
+                add_blocks(site, body, found)?;
             }
-            add_blocks(spot, other, found)?;
+            add_blocks(site, other, found)?;
             Ok(())
         }
         Stmt::For { body, other, .. } => {
-            add_blocks(spot, body, found)?;
-            add_blocks(spot, other, found)?;
+            add_blocks(site, body, found)?;
+            add_blocks(site, other, found)?;
             Ok(())
         }
         Stmt::SetBlock { body, .. }
         | Stmt::With { body, .. }
         | Stmt::FilterBlock { body, .. }
-        | Stmt::Macro { body, .. } => add_blocks(spot, body, found),
+        | Stmt::Macro { body, .. } => add_blocks(site, body, found),
     }
 }
 
-/// The statements of the template at a place; none where there is no template.
-pub(crate) fn body_of_page(pages: &[Page], place: usize) -> &[Stmt]
-    ensures { body_view result.now ≡ body_at (pages_view pages.now) place }
+/// Returns the statements of the template at `place`, or none if the index is out of range.
+pub(crate) fn body_of_file(files: &[TemplateFile], place: usize) -> &[Stmt]
+    ensures { body_view result.now ≡ body_at (files_view files.now) place }
 {
-    match pages.get(place) {
-        Some(page) => page.template.body(),
+    match files.get(place) {
+        Some(file) => file.template.body(),
         None => &[],
     }
 }
 
-/// The macros of templates at these places; where there is no template there is none.
+/// Returns the macros of the templates at `places`. An index out of range adds none.
 pub fn macros_at<'a>(
     alloc: Global,
-    pages: &'a [Page],
+    files: &'a [TemplateFile],
     places: &[usize],
 ) -> Result<Vec<Macro<'a>>, AllocError>
-    ensures { IfOk result (λ ms. macros_view (pages_view pages.now) ms.items
-        ≡ macros_along (pages_view pages.now) places.now) }
+    ensures { IfOk result (λ found. macros_view (files_view files.now) found.items
+        ≡ macros_along (files_view files.now) places.now) }
 {
     let mut found = Vec::new(alloc);
     for place in places {
-        add_macros(pages, *place, body_of_page(pages, *place), &mut found)?;
+        add_macros(files, *place, body_of_file(files, *place), &mut found)?;
     }
     Ok(found)
 }
 
-/// The names of macros, in their order.
+/// Returns the names of macros, in their order.
 pub fn macro_names<'a>(alloc: Global, macros: &[Macro<'a>]) -> Result<Vec<&'a str>, AllocError>
-    ensures { IfOk result (λ ns. texts ns.items ≡ map (λ m. m.name.now) macros.now) }
+    ensures { IfOk result (λ names. texts names.items ≡ map (λ m. m.name.now) macros.now) }
 {
     macros.iter().map(|one| one.name).collect(alloc)
 }
 
-/// The bodies of the blocks of the template at a place; none where there is no template.
-pub fn blocks_of_page<'a>(
+/// Returns the bodies of the blocks of the template at `place`, or none if the index is out of
+/// range.
+pub fn blocks_of_file<'a>(
     alloc: Global,
-    pages: &'a [Page],
+    files: &'a [TemplateFile],
     place: usize,
     escaping: bool,
 ) -> Result<Vec<Block<'a>>, AllocError>
-    ensures { IfOk result (λ bs. blocks_view (pages_view pages.now) bs.items
-        ≡ blocks_in (name_at (pages_view pages.now) place) (body_at (pages_view pages.now) place)
+    ensures { IfOk result (λ bodies. blocks_view (files_view files.now) bodies.items
+        ≡ blocks_in (name_at (files_view files.now) place) (body_at (files_view files.now) place)
         escaping) }
 {
     let mut found = Vec::new(alloc);
-    let spot = Spot {
-        pages,
+    let site = BodySite {
+        files,
         template: place,
         escaping,
     };
-    add_blocks(spot, body_of_page(pages, place), &mut found)?;
+    add_blocks(site, body_of_file(files, place), &mut found)?;
     Ok(found)
 }
 
-/// The bodies of all blocks of templates at these places; where there is no template there is none.
+/// Returns the bodies of all blocks of the templates at `places`. An index out of range adds none.
 pub fn blocks_at<'a>(
     alloc: Global,
-    pages: &'a [Page],
+    files: &'a [TemplateFile],
     places: &[usize],
     escaping: bool,
 ) -> Result<Vec<Block<'a>>, AllocError>
-    ensures { IfOk result (λ bs. blocks_view (pages_view pages.now) bs.items
-        ≡ blocks_along (pages_view pages.now) escaping places.now) }
+    ensures { IfOk result (λ bodies. blocks_view (files_view files.now) bodies.items
+        ≡ blocks_along (files_view files.now) escaping places.now) }
 {
     let mut found = Vec::new(alloc);
     for place in places {
-        let spot = Spot {
-            pages,
+        let site = BodySite {
+            files,
             template: *place,
             escaping,
         };
-        add_blocks(spot, body_of_page(pages, *place), &mut found)?;
+        add_blocks(site, body_of_file(files, *place), &mut found)?;
     }
     Ok(found)
 }
 
 impl Chain {
-    /// All macros of a chain, those of the entry's template first. A chain that isn't there has
-    /// none.
-    pub fn macros(&self, alloc: Global, home: usize) -> Result<Vec<Macro<'_>>, AllocError>
-        ensures there { home < length self.now.homes.items → IfOk result (λ ms.
-            macros_view (its_templates self.now) ms.items
-            ≡ macros (its_sources self.now) (home_in self.now home)) }
-        ensures nowhere { NoneBeyond self.now home result }
+    /// Returns all macros of a chain; those of the entry's template come first. Returns none if
+    /// `namespace` is out of range.
+    pub fn macros(&self, alloc: Global, namespace: usize) -> Result<Vec<Macro<'_>>, AllocError>
+        ensures there { namespace < length self.now.namespaces.items → IfOk result (λ found.
+            macros_view (its_templates self.now) found.items
+            ≡ macros (its_sources self.now) (namespace_in self.now namespace)) }
+        ensures nowhere { NoneBeyond self.now namespace result }
     {
-        match self.homes.get(home) {
+        match self.namespaces.get(namespace) {
             Some(found) => macros_at(alloc, &self.templates, &found.templates),
             None => Ok(Vec::new(alloc)),
         }
     }
 
-    /// The bodies of all blocks of a chain, those of the entry's template first. A chain that isn't
-    /// there has none.
-    pub fn blocks(&self, alloc: Global, home: usize) -> Result<Vec<Block<'_>>, AllocError>
-        ensures there { home < length self.now.homes.items → IfOk result (λ bs.
-            blocks_view (its_templates self.now) bs.items
-            ≡ all_bodies (its_sources self.now) self.now.autoescape (home_in self.now home)) }
-        ensures nowhere { NoneBeyond self.now home result }
+    /// Returns the bodies of all blocks of a chain; those of the entry's template come first.
+    /// Returns none if `namespace` is out of range.
+    pub fn blocks(&self, alloc: Global, namespace: usize) -> Result<Vec<Block<'_>>, AllocError>
+        ensures there { namespace < length self.now.namespaces.items → IfOk result (λ bodies.
+            blocks_view (its_templates self.now) bodies.items
+            ≡ all_bodies (its_sources self.now) self.now.autoescape
+            (namespace_in self.now namespace)) }
+        ensures nowhere { NoneBeyond self.now namespace result }
     {
-        match self.homes.get(home) {
+        match self.namespaces.get(namespace) {
             Some(found) => blocks_at(alloc, &self.templates, &found.templates, self.autoescape),
             None => Ok(Vec::new(alloc)),
         }

@@ -1,20 +1,20 @@
-//! Tables of names, so that no name is looked for one after the other.
+//! Builds tables by name, which replace linear searches.
 
 ghost use Rattle.std.specs.Prelude.{◌≡◌, Some, if◌then◌else◌, IfOk, OnOk};
 ghost use Rattle.std.specs.BTreeMap.{get_by_text};
 ghost use Rattle.std.specs.Str.{bytes_eq};
-ghost use Rattle.jt_trees.specs.Expressions.{Text};
-ghost use Rattle.jt_trees.specs.StatementView.{body_view};
-ghost use Rattle.jt_chains.specs.Pages.{pages_view};
+ghost use Rattle.jt_ast.specs.Expressions.{Text};
+ghost use Rattle.jt_ast.specs.StatementView.{body_view};
+ghost use Rattle.jt_chains.specs.TemplateFiles.{files_view};
 ghost use Rattle.jt_chains.specs.Tables.{IsTable, AreAt};
 
-use crate::given::holds_macros;
-use crate::pages::Page;
-use jt_trees::Stmt;
+use crate::definitions::holds_macros;
+use crate::files::TemplateFile;
+use jt_ast::Stmt;
 use std::alloc::{AllocError, Global};
 use std::collections::BTreeMap;
 
-/// Gives a name its place, in the stead of an earlier one.
+/// Maps a name to a place and replaces an earlier entry of the name.
 fn put(
     alloc: Global,
     table: &mut BTreeMap<String, usize>,
@@ -29,8 +29,8 @@ fn put(
     Ok(())
 }
 
-/// The place of the first macro of each name among the statements of a library; where they are
-/// none of a library, there is no table.
+/// Returns a map from each macro name of a library to the index of its first macro statement.
+/// Returns `None` if the statements are not those of a library.
 pub(crate) fn macro_table(
     alloc: Global,
     body: &[Stmt],
@@ -51,15 +51,18 @@ pub(crate) fn macro_table(
     Ok(Some(table))
 }
 
-/// The place of the template of each name.
-pub fn places_by_name(alloc: Global, pages: &[Page]) -> Result<BTreeMap<String, usize>, AllocError>
-    ensures { IfOk result (λ t. AreAt (pages_view pages.now) t) }
+/// Returns a map from each template name to the index of the first template of that name.
+pub fn places_by_name(
+    alloc: Global,
+    files: &[TemplateFile],
+) -> Result<BTreeMap<String, usize>, AllocError>
+    ensures { IfOk result (λ table. AreAt (files_view files.now) table) }
 {
     let mut table = BTreeMap::new(alloc);
-    let mut left = pages.len();
+    let mut left = files.len();
     while left > 0 {
         left -= 1;
-        put(alloc, &mut table, &pages[left].name, left)?;
+        put(alloc, &mut table, &files[left].name, left)?;
     }
     Ok(table)
 }

@@ -1,3 +1,1 @@
-pub mod Standing
-pub mod Fitting
-pub mod ScopeView
+pub mod internal

@@ -1,36 +1,36 @@
-//! Whether arguments fit what they are given to.
+//! Checks that arguments fit the parameters of a callee.
 
 ghost use Rattle.std.specs.Prelude.{◌≡◌, ◌<◌, ◌≤◌, ◌^◌, ◌&&◌, not, length, drop, IfOk};
 ghost use Rattle.std.specs.List.{list_any};
-ghost use Rattle.jt_trees.specs.ExpressionView.{exprs_view, pairs_view};
-ghost use Rattle.jt_trees.specs.Texts.{among, repeated, texts};
-ghost use Rattle.jt_trees.specs.Expressions.{Text};
-ghost use Rattle.jt_trees.specs.StatementView.{names_view, parameter_view, parameters_view};
+ghost use Rattle.jt_ast.specs.ExpressionView.{exprs_view, pairs_view};
+ghost use Rattle.jt_ast.specs.Texts.{among, repeated, texts};
+ghost use Rattle.jt_ast.specs.Expressions.{Text};
+ghost use Rattle.jt_ast.specs.StatementView.{names_view, parameter_view, parameters_view};
 ghost use Rattle.jt_chains.specs.Uses.{count, keywords};
-ghost use Rattle.jt_evaluation.specs.TheFilters.{the_filters, filter_parameters};
-ghost use Rattle.jt_evaluation.specs.Inside.{names_well};
-ghost use Rattle.jt_evaluation.specs.Tests.{test_named};
+ghost use Rattle.jt_eval.specs.TheFilters.{the_filters, filter_parameters};
+ghost use Rattle.jt_eval.specs.Inside.{names_well};
+ghost use Rattle.jt_eval.specs.Tests.{test_named};
 ghost use Rattle.jt_rules.specs.Walk as rules;
-ghost use Rattle.jt_checks.specs.Fitting.{filter_takes};
-ghost use Rattle.jt_checks.specs.Standing.{is_among};
+ghost use Rattle.jt_checks.specs.internal.Fitting.{filter_takes};
+ghost use Rattle.jt_checks.specs.internal.ScopeLookup.{is_among};
 
-use crate::inside::are_names_well;
-use jt_evaluation::{filter_of, filter_parameters, test_of};
+use crate::nested_calls::are_names_well;
+use jt_ast::{Expr, Parameter};
+use jt_eval::{filter_of, filter_parameters, test_of};
 use jt_ids::FilterId;
 use jt_names::{keyword_names, parameter_names};
 use jt_rules::ScopeError;
-use jt_trees::{Expr, Parameter};
 use std::alloc::{AllocError, Global};
 use std::collections::BTreeSet;
 
-/// The rule, where something is wrong.
+/// Returns `rule` if `wrong` holds.
 pub(crate) fn refused(wrong: bool, rule: ScopeError) -> Option<ScopeError>
     ensures { result ≡ rules.refused wrong rule }
 {
     if wrong { Some(rule) } else { None }
 }
 
-/// What arguments break that ought to be right.
+/// Returns `BadArguments` unless the arguments are right.
 pub(crate) fn unless(right: bool) -> Option<ScopeError>
     ensures { result ≡ rules.unless right }
 {
@@ -41,7 +41,7 @@ pub(crate) fn unless(right: bool) -> Option<ScopeError>
     }
 }
 
-/// Whether one of the names comes again.
+/// Returns whether a name occurs twice.
 pub(crate) fn any_repeated(alloc: Global, names: &[&str]) -> Result<bool, AllocError>
     ensures { IfOk result (λ b. b ≡ repeated (texts names.now)) }
 {
@@ -54,7 +54,7 @@ pub(crate) fn any_repeated(alloc: Global, names: &[&str]) -> Result<bool, AllocE
     Ok(false)
 }
 
-/// The names, each once.
+/// Returns the names as a set.
 fn set_of<'a>(alloc: Global, names: &[&'a str]) -> Result<BTreeSet<&'a str>, AllocError>
     ensures { IfOk result (λ s. (x : Text) → is_among s x ≡ among x (texts names.now)) }
 {
@@ -65,7 +65,7 @@ fn set_of<'a>(alloc: Global, names: &[&'a str]) -> Result<BTreeSet<&'a str>, All
     Ok(set)
 }
 
-/// Whether each name is among those that are known.
+/// Returns whether each name is in `known`.
 fn all_known(alloc: Global, names: &[&str], known: &[&str]) -> Result<bool, AllocError>
     ensures { IfOk result
         (λ b. b ≡ not (list_any (λ k. not (among k (texts known.now))) (texts names.now))) }
@@ -79,8 +79,7 @@ fn all_known(alloc: Global, names: &[&str], known: &[&str]) -> Result<bool, Allo
     Ok(true)
 }
 
-/// Whether names are given once each, and only to parameters behind those that are filled by
-/// place.
+/// Returns whether names occur once each, and name only parameters after the first `filled` ones.
 fn names_fit(
     alloc: Global,
     parameters: &[Parameter],
@@ -99,7 +98,7 @@ fn names_fit(
     all_known(alloc, names, &left)
 }
 
-/// Whether arguments fit the parameters of a macro.
+/// Returns whether arguments fit the parameters of a macro.
 pub(crate) fn fits(
     alloc: Global,
     parameters: &[Parameter],
@@ -116,8 +115,8 @@ pub(crate) fn fits(
     names_fit(alloc, parameters, row.len(), &names)
 }
 
-/// What the arguments of `range` break.
-#[tactic(auto, using(crate::proofs::Counted::counted, crate::proofs::Counted::keyless))]
+/// Returns the rule that the arguments of `range` break.
+#[tactic(auto, using(crate::proofs::RowLengths::counted, crate::proofs::RowLengths::keyless))]
 pub(crate) fn range_broken(row: &[Expr], pairs: &[(String, Expr)]) -> Option<ScopeError>
     ensures { result ≡ rules.range_broken (exprs_view row.now) (pairs_view pairs.now) }
 {
@@ -125,8 +124,8 @@ pub(crate) fn range_broken(row: &[Expr], pairs: &[(String, Expr)]) -> Option<Sco
     unless(0 < given && given < 4 && pairs.is_empty())
 }
 
-/// What the arguments of a test break.
-#[tactic(auto, using(crate::proofs::Counted::counted, crate::proofs::Counted::keyless))]
+/// Returns the rule that the arguments of a test break.
+#[tactic(auto, using(crate::proofs::RowLengths::counted, crate::proofs::RowLengths::keyless))]
 pub(crate) fn test_broken(name: &str, row: &[Expr], pairs: &[(String, Expr)]) -> Option<ScopeError>
     ensures { result
         ≡ rules.test_broken (test_named name.now) (exprs_view row.now) (pairs_view pairs.now) }
@@ -135,14 +134,14 @@ pub(crate) fn test_broken(name: &str, row: &[Expr], pairs: &[(String, Expr)]) ->
     unless(test.takes(row.len() + 1) && pairs.is_empty())
 }
 
-/// Whether a parameter is among the names.
+/// Returns whether the parameter's name is among the names.
 fn is_given(parameter: &Parameter, names: &[&str]) -> bool
     ensures { result ≡ among (parameter_view parameter.now).name (texts names.now) }
 {
     names.iter().any(|name| *name == parameter.name.as_str())
 }
 
-/// How many of the parameters come before the last one that is given by name, with it.
+/// Returns the number of parameters up to the last one that is named, which is included.
 fn reached(parameters: &[Parameter], names: &[&str]) -> usize
     ensures value { result ≡ rules.reached (parameters_view parameters.now) (texts names.now) }
     ensures within { result ≤ length parameters.now }
@@ -157,7 +156,7 @@ fn reached(parameters: &[Parameter], names: &[&str]) -> usize
     0
 }
 
-/// Whether each parameter up to the last one that is given by name is given, or has a default.
+/// Returns whether each parameter up to the last one that is named is named or has a default.
 fn is_filled(parameters: &[Parameter], names: &[&str]) -> bool
     ensures { result ≡ rules.is_filled (parameters_view parameters.now) 0 (texts names.now) }
 {
@@ -165,7 +164,7 @@ fn is_filled(parameters: &[Parameter], names: &[&str]) -> bool
     counted.iter().all(|parameter| is_given(parameter, names) || parameter.default.is_some())
 }
 
-/// What the arguments of a filter break.
+/// Returns the rule that the arguments of a filter break.
 pub(crate) fn filter_broken(
     alloc: Global,
     name: &str,
@@ -182,7 +181,7 @@ pub(crate) fn filter_broken(
     }
 }
 
-/// Whether a filter takes these arguments, and what they name is named rightly.
+/// Returns whether a filter takes these arguments, and these name other things correctly.
 fn filter_accepts(
     alloc: Global,
     filter: FilterId,
@@ -199,7 +198,7 @@ fn filter_accepts(
     Ok(are_names_well(filter, row, pairs))
 }
 
-/// Whether a filter takes so many arguments by place, and these by name.
+/// Returns whether a filter takes `filled` positional arguments and these keyword arguments.
 fn filter_fits(
     alloc: Global,
     filter: FilterId,
@@ -218,7 +217,8 @@ fn filter_fits(
     filter_takes(alloc, filter, &parameters, filled, &names)
 }
 
-/// Whether a filter with these parameters takes so many arguments by place, and others by name.
+/// Returns whether a filter with these parameters takes `filled` positional arguments and the
+/// keywords `names`.
 fn filter_takes(
     alloc: Global,
     filter: FilterId,

@@ -1,12 +1,12 @@
-//! How often a template binds names, as often as written.
+//! Counts the names that a template binds, each as often as it is written.
 
 ghost use Rattle.std.specs.Prelude.{◌≡◌, ◌^◌, ◌-◌, min};
-ghost use Rattle.jt_trees.specs.Statements.{stmt_bound, body_bound};
-ghost use Rattle.jt_trees.specs.StatementView.{stmt_view, body_view};
+ghost use Rattle.jt_ast.specs.Statements.{stmt_bound, body_bound};
+ghost use Rattle.jt_ast.specs.StatementView.{stmt_view, body_view};
 
-use jt_trees::{Branch, Stmt};
+use jt_ast::{Branch, Stmt};
 
-/// How often a statement binds names; the greatest number where it is more.
+/// Returns how many names a statement binds, at most the greatest `usize`.
 #[cycle(bound)]
 fn bound_by(statement: &Stmt) -> usize
     ensures { result ≡ min (stmt_bound (stmt_view statement.now)) (2 ^ 64 - 1) }
@@ -48,7 +48,7 @@ fn bound_by(statement: &Stmt) -> usize
     }
 }
 
-/// How often statements bind names; the greatest number where it is more.
+/// Returns how many names statements bind, at most the greatest `usize`.
 #[cycle(bound)]
 pub(crate) fn bound_in(body: &[Stmt]) -> usize
     ensures { result ≡ min (body_bound (body_view body.now)) (2 ^ 64 - 1) }

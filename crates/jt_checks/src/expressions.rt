@@ -1,27 +1,31 @@
-//! The static rules of expressions: the first that is broken, from left to right.
+//! Checks the static rules of expressions and finds the first broken one, from left to right.
 
 ghost use Rattle.std.specs.Prelude.{◌≡◌, not, is_some, IfOk, IsOkAnd, option_map};
 ghost use Rattle.std.specs.Option.{option_or};
-ghost use Rattle.jt_trees.specs.Expressions as trees;
-ghost use Rattle.jt_trees.specs.ExpressionView.{expr_view, exprs_view, pairs_view};
-ghost use Rattle.jt_chains.specs.Chain.{callee, Home, named_form, named_alone, named_in, in_library};
-ghost use Rattle.jt_trees.specs.Expressions.{Text};
+ghost use Rattle.jt_ast.specs.Expressions as trees;
+ghost use Rattle.jt_ast.specs.ExpressionView.{expr_view, exprs_view, pairs_view};
+ghost use Rattle.jt_chains.specs.Chain.{callee, Namespace, named_form, named_alone, named_in};
+ghost use Rattle.jt_chains.specs.Chain.{in_library};
+ghost use Rattle.jt_ast.specs.Expressions.{Text};
 ghost use Rattle.jt_rules.specs.Walk as rules;
-ghost use Rattle.jt_rules.specs.World.{World};
-ghost use Rattle.jt_trees.specs.Texts.{texts};
-ghost use Rattle.jt_checks.specs.Standing.{is_block};
-ghost use Rattle.jt_checks.specs.ScopeView.{its_sources, its_given, given_in, in_scope, tree_found, Finds, FindsCall, arguments_found, is_bare, is_positional, within_view, name_in};
+ghost use Rattle.jt_rules.specs.CompileEnv.{CompileEnv};
+ghost use Rattle.jt_ast.specs.Texts.{texts};
+ghost use Rattle.jt_checks.specs.internal.ScopeLookup.{is_block};
+ghost use Rattle.jt_checks.specs.internal.ScopeView.{its_sources, its_given, given_in, in_scope};
+ghost use Rattle.jt_checks.specs.internal.ScopeView.{tree_found};
+ghost use Rattle.jt_checks.specs.internal.ScopeView.{Finds, FindsCall, arguments_found, is_bare};
+ghost use Rattle.jt_checks.specs.internal.ScopeView.{is_positional, within_view, name_in};
 ghost use Rattle.jt_rules.specs.declared.error.ScopeError.TheVariants as error;
 
 use crate::arguments::{filter_broken, fits, range_broken, refused, test_broken, unless};
-use crate::scope::{Known, Scope, Within};
+use crate::scope::{Enclosing, KnownName, Scope};
+use jt_ast::Expr;
 use jt_ids::LoopField;
 use jt_names::is_loop_name;
 use jt_rules::ScopeError;
-use jt_trees::Expr;
 use std::alloc::AllocError;
 
-/// What a name breaks that is read by itself.
+/// Returns the rule that a name breaks when it is read by itself.
 pub(crate) fn read_alone(name: &str) -> Option<ScopeError>
     ensures { result ≡ rules.read_alone name.now }
 {
@@ -32,14 +36,14 @@ pub(crate) fn read_alone(name: &str) -> Option<ScopeError>
     }
 }
 
-/// What a name breaks that is read as a value, or bound.
+/// Returns the rule that a name breaks when it is read as a value, or bound.
 pub(crate) fn used(scope: &Scope<'_>, name: &str) -> Option<ScopeError>
     ensures { result ≡ in_scope rules.used scope.now name.now }
 {
     read_alone(name).or(refused(scope.is_macro(name), ScopeError::MacroAsValue))
 }
 
-/// The first rule that names break which are read or bound.
+/// Returns the first rule that names break when they are read or bound.
 pub(crate) fn all_used(scope: &Scope<'_>, names: &[&str]) -> Option<ScopeError>
     ensures { result ≡ in_scope rules.all_used scope.now (texts names.now) }
 {
@@ -51,15 +55,16 @@ pub(crate) fn all_used(scope: &Scope<'_>, names: &[&str]) -> Option<ScopeError>
     None
 }
 
-/// What a call of `range` or `super` breaks by itself; no other name can be called.
+/// Returns the rule that a call of `range` or `super` breaks by itself. No other bare name is
+/// callable unless it stands for a macro.
 fn form_call_broken(
-    within: Within,
+    within: Enclosing,
     name: &str,
     row: &[Expr],
     pairs: &[(String, Expr)],
 ) -> Option<ScopeError>
-    ensures { (world : World) (home : Home) → result
-        ≡ rules.call_broken world home (named_form name.now) (within_view within)
+    ensures { (cenv : CompileEnv) (namespace : Namespace) → result
+        ≡ rules.call_broken cenv namespace (named_form name.now) (within_view within)
         (trees.name name.now) (exprs_view row.now) (pairs_view pairs.now) }
 {
     match name {
@@ -69,10 +74,10 @@ fn form_call_broken(
     }
 }
 
-/// What a call of a bare name breaks by itself.
+/// Returns the rule that a call of a bare name breaks by itself.
 fn name_call_broken(
     scope: &Scope<'_>,
-    within: Within,
+    within: Enclosing,
     name: &str,
     row: &[Expr],
     pairs: &[(String, Expr)],
@@ -81,15 +86,20 @@ fn name_call_broken(
         (given_in scope.now name.now) name.now) (trees.name name.now) row.now pairs.now) }
 {
     match scope.known(name) {
-        Some(Known::Macro(parameters)) => Ok(unless(fits(scope.alloc, parameters, row, pairs)?)),
-        Some(Known::Library(_)) => Ok(Some(ScopeError::NotCallable)),
+        Some(KnownName::Macro(parameters)) => Ok(unless(fits(
+            scope.alloc,
+            parameters,
+            row,
+            pairs,
+        )?)),
+        Some(KnownName::Library(_)) => Ok(Some(ScopeError::NotCallable)),
         None => Ok(form_call_broken(within, name, row, pairs)),
     }
 }
 
-/// What a call of `super` breaks.
-#[tactic(auto, using(crate::proofs::Counted::counted, crate::proofs::Counted::keyless))]
-fn super_broken(within: Within, row: &[Expr], pairs: &[(String, Expr)]) -> Option<ScopeError>
+/// Returns the rule that a call of `super` breaks.
+#[tactic(auto, using(crate::proofs::RowLengths::counted, crate::proofs::RowLengths::keyless))]
+fn super_broken(within: Enclosing, row: &[Expr], pairs: &[(String, Expr)]) -> Option<ScopeError>
     ensures { result ≡ option_or (rules.refused (not within.in_block) error.NotCallable)
         (rules.unless (is_bare (exprs_view row.now) (pairs_view pairs.now))) }
 {
@@ -97,8 +107,8 @@ fn super_broken(within: Within, row: &[Expr], pairs: &[(String, Expr)]) -> Optio
     outside.or(unless(row.is_empty() && pairs.is_empty()))
 }
 
-/// What a call of `self.b` breaks.
-#[tactic(auto, using(crate::proofs::Counted::counted, crate::proofs::Counted::keyless, crate::proofs::Known::not_not))]
+/// Returns the rule that a call of `self.b` breaks.
+#[tactic(auto, using(crate::proofs::RowLengths::counted, crate::proofs::RowLengths::keyless, crate::proofs::ScopeLookup::not_not))]
 fn self_broken(
     scope: &Scope<'_>,
     block: &str,
@@ -112,9 +122,9 @@ fn self_broken(
     unknown.or(unless(row.is_empty() && pairs.is_empty()))
 }
 
-/// What a call of `loop.cycle` breaks.
-#[tactic(auto, using(crate::proofs::Counted::counted, crate::proofs::Counted::keyless))]
-fn cycle_broken(within: Within, row: &[Expr], pairs: &[(String, Expr)]) -> Option<ScopeError>
+/// Returns the rule that a call of `loop.cycle` breaks.
+#[tactic(auto, using(crate::proofs::RowLengths::counted, crate::proofs::RowLengths::keyless))]
+fn cycle_broken(within: Enclosing, row: &[Expr], pairs: &[(String, Expr)]) -> Option<ScopeError>
     ensures { result ≡ option_or (rules.refused (not within.in_loop) error.LoopOutside)
         (rules.unless (is_positional (exprs_view row.now) (pairs_view pairs.now))) }
 {
@@ -123,10 +133,11 @@ fn cycle_broken(within: Within, row: &[Expr], pairs: &[(String, Expr)]) -> Optio
     outside.or(unless(0 < given && pairs.is_empty()))
 }
 
-/// What a call of a library's macro breaks by itself, by the names of both.
+/// Returns the rule that a call of a library's macro breaks by itself. `path` holds the names of
+/// both.
 fn library_call_broken(
     scope: &Scope<'_>,
-    within: Within,
+    within: Enclosing,
     path: (&str, &str),
     row: &[Expr],
     pairs: &[(String, Expr)],
@@ -136,7 +147,7 @@ fn library_call_broken(
         row.now pairs.now) }
 {
     let (of, field) = path;
-    let Some(Known::Library(library)) = scope.known(of) else {
+    let Some(KnownName::Library(library)) = scope.known(of) else {
         return Ok(Some(ScopeError::NotCallable));
     };
     match scope.chain.library_macro(library, field) {
@@ -145,12 +156,12 @@ fn library_call_broken(
     }
 }
 
-/// What a call breaks by itself that goes by an attribute: `self.b`, `loop.cycle`, and a macro of a
-/// library.
-#[tactic(auto, using(crate::proofs::Known::not_not))]
+/// Returns the rule that a call of an attribute breaks by itself: `self.b`, `loop.cycle`, or a
+/// macro of a library.
+#[tactic(auto, using(crate::proofs::ScopeLookup::not_not))]
 fn field_call_broken(
     scope: &Scope<'_>,
-    within: Within,
+    within: Enclosing,
     path: (&str, &str),
     row: &[Expr],
     pairs: &[(String, Expr)],
@@ -167,11 +178,11 @@ fn field_call_broken(
     }
 }
 
-/// What a call breaks by itself, by what it names.
-#[tactic(auto, using(crate::proofs::Forms::attribute_callee))]
+/// Returns the rule that a call breaks by itself, by its callee.
+#[tactic(auto, using(crate::proofs::AttributeForms::attribute_callee))]
 fn call_broken(
     scope: &Scope<'_>,
-    within: Within,
+    within: Enclosing,
     called: &Expr,
     row: &[Expr],
     pairs: &[(String, Expr)],
@@ -189,7 +200,7 @@ fn call_broken(
     }
 }
 
-/// The name that an expression is, if it is one.
+/// Returns the name of an expression that is a bare name.
 fn name_of(expr: &Expr) -> Option<&str>
     ensures { option_map (λ x. x.now) result ≡ name_in (expr_view expr.now) }
 {
@@ -199,10 +210,10 @@ fn name_of(expr: &Expr) -> Option<&str>
     }
 }
 
-// The arms of the two functions below have no early exit: a match with many of them is dear to
+// The arms of the two functions below have no early exit: a match with many of them is expensive to
 // prove.
 
-/// The first of two rules.
+/// Returns the first of two broken rules.
 fn either(
     first: Result<Option<ScopeError>, AllocError>,
     second: Result<Option<ScopeError>, AllocError>,
@@ -214,12 +225,12 @@ fn either(
     Ok(first.or(second))
 }
 
-/// The first rule that an expression breaks.
-#[tactic(auto, using(jt_trees::proofs::ExpressionViews::view_Map))]
+/// Returns the first rule that an expression breaks.
+#[tactic(auto, using(jt_ast::proofs::ExpressionViews::view_Map))]
 #[cycle(broken)]
 pub(crate) fn broken(
     scope: &Scope<'_>,
-    within: Within,
+    within: Enclosing,
     expr: &Expr,
 ) -> Result<Option<ScopeError>, AllocError>
     ensures { IfOk result (Finds rules.broken scope.now within (expr_view expr.now)) }
@@ -258,12 +269,12 @@ pub(crate) fn broken(
     }
 }
 
-/// The first rule that what is called breaks, where the named forms are no values that are read.
-#[tactic(auto, using(jt_trees::proofs::ExpressionViews::view_Map))]
+/// Returns the first rule that a callee breaks; the named forms do not count as reads.
+#[tactic(auto, using(jt_ast::proofs::ExpressionViews::view_Map))]
 #[cycle(broken)]
 fn called_broken(
     scope: &Scope<'_>,
-    within: Within,
+    within: Enclosing,
     called: &Expr,
 ) -> Result<Option<ScopeError>, AllocError>
     ensures { IfOk result (Finds rules.called_broken scope.now within (expr_view called.now)) }
@@ -307,11 +318,11 @@ fn called_broken(
     }
 }
 
-/// The first rule that two expressions break.
+/// Returns the first rule that two expressions break.
 #[cycle(broken)]
 fn both_broken(
     scope: &Scope<'_>,
-    within: Within,
+    within: Enclosing,
     first: &Expr,
     second: &Expr,
 ) -> Result<Option<ScopeError>, AllocError>
@@ -323,11 +334,11 @@ fn both_broken(
     either(first, second)
 }
 
-/// The first rule that three expressions break.
+/// Returns the first rule that three expressions break.
 #[cycle(broken)]
 fn three_broken(
     scope: &Scope<'_>,
-    within: Within,
+    within: Enclosing,
     first: &Expr,
     second: &Expr,
     third: &Expr,
@@ -340,11 +351,11 @@ fn three_broken(
     either(first, others)
 }
 
-/// The rule that is broken before arguments, or else the first one that they break.
+/// Returns the rule in `before`, or else the first one that the arguments break.
 #[cycle(broken)]
 fn or_arguments_broken(
     scope: &Scope<'_>,
-    within: Within,
+    within: Enclosing,
     before: Result<Option<ScopeError>, AllocError>,
     row: &[Expr],
     pairs: &[(String, Expr)],
@@ -357,11 +368,11 @@ fn or_arguments_broken(
     either(before, either(places, keywords))
 }
 
-/// The first rule that a value breaks, or else the arguments that are given for it.
+/// Returns the first rule that a value breaks, or else the first one that its arguments break.
 #[cycle(broken)]
 fn value_broken(
     scope: &Scope<'_>,
-    within: Within,
+    within: Enclosing,
     value: &Expr,
     row: &[Expr],
     pairs: &[(String, Expr)],
@@ -373,11 +384,11 @@ fn value_broken(
     or_arguments_broken(scope, within, value, row, pairs)
 }
 
-/// The first rule that an attribute breaks.
+/// Returns the first rule that an attribute breaks.
 #[cycle(broken)]
 fn attribute_broken(
     scope: &Scope<'_>,
-    within: Within,
+    within: Enclosing,
     value: &Expr,
     field: &str,
 ) -> Result<Option<ScopeError>, AllocError>
@@ -391,12 +402,12 @@ fn attribute_broken(
     broken(scope, within, value)
 }
 
-/// The first rule that an attribute breaks which is called.
-#[tactic(auto, using(crate::proofs::Forms::attribute_read))]
+/// Returns the first rule that an attribute breaks as a callee.
+#[tactic(auto, using(crate::proofs::AttributeForms::attribute_read))]
 #[cycle(broken)]
 fn field_read_broken(
     scope: &Scope<'_>,
-    within: Within,
+    within: Enclosing,
     value: &Expr,
     field: &str,
 ) -> Result<Option<ScopeError>, AllocError>
@@ -409,11 +420,11 @@ fn field_read_broken(
     }
 }
 
-/// The first rule that a row of expressions breaks.
+/// Returns the first rule that a list of expressions breaks.
 #[cycle(broken)]
 pub(crate) fn row_broken(
     scope: &Scope<'_>,
-    within: Within,
+    within: Enclosing,
     row: &[Expr],
 ) -> Result<Option<ScopeError>, AllocError>
     ensures { IfOk result (Finds rules.row_broken scope.now within (exprs_view row.now)) }
@@ -426,11 +437,11 @@ pub(crate) fn row_broken(
     Ok(None)
 }
 
-/// The first rule that values behind their keys break.
+/// Returns the first rule that the values of pairs break.
 #[cycle(broken)]
 pub(crate) fn pairs_broken(
     scope: &Scope<'_>,
-    within: Within,
+    within: Enclosing,
     pairs: &[(String, Expr)],
 ) -> Result<Option<ScopeError>, AllocError>
     ensures { IfOk result (Finds rules.pairs_broken scope.now within (pairs_view pairs.now)) }

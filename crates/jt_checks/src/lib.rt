@@ -1,15 +1,15 @@
-//! The check of the static rules of names and calls.
+//! Checks the static rules of names and calls.
 //!
-//! `check_rules` (checking) goes through statements (statements) and expressions (expressions,
-//! arguments, inside), knowing what can be called (scope). Read first: jt_rules' specs/Rules.antt,
-//! and statements.rt, which goes along it.
+//! `check_rules` (in `checking`) visits statements (`statements`) and expressions (`expressions`,
+//! `arguments`, `nested_calls`). `scope` holds what can be called. Read first: specs/Rules.antt of
+//! jt_rules, and statements.rt, which follows it.
 #![tactic(auto)]
 
 mod arguments;
 mod bindings;
 mod checking;
 mod expressions;
-mod inside;
+mod nested_calls;
 mod scope;
 mod statements;
 

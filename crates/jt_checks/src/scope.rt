@@ -1,90 +1,97 @@
-//! What can be called in a chain, by its name.
+//! Looks up by name what can be called in a chain.
 
 ghost use Rattle.std.specs.Prelude.{◌≡◌, ◌<◌, List, length, map, option_map, IfOk};
 ghost use Rattle.std.specs.List.{list_any};
 ghost use Rattle.std.specs.Str.{bytes_eq};
-ghost use Rattle.jt_trees.specs.Expressions.{Text};
+ghost use Rattle.jt_ast.specs.Expressions.{Text};
 ghost use Rattle.jt_chains.specs.Chain as chains;
 ghost use Rattle.jt_chains.specs.Chain.{Template, given_to};
 ghost use Rattle.jt_chains.specs.Named.{given_view, named_view};
 ghost use Rattle.jt_chains.specs.Parts.{block_view};
-ghost use Rattle.jt_checks.specs.Standing.{KnowsGiven, KnowsGiven-prop, KnowsBlocks, KnowsBlocks-prop, known_as, known_of, known_at, known_view, is_among, is_block};
+ghost use Rattle.jt_checks.specs.internal.ScopeLookup.{KnowsGiven, KnowsGiven-prop, KnowsBlocks};
+ghost use Rattle.jt_checks.specs.internal.ScopeLookup.{KnowsBlocks-prop, known_as, known_of};
+ghost use Rattle.jt_checks.specs.internal.ScopeLookup.{known_at};
+ghost use Rattle.jt_checks.specs.internal.ScopeLookup.{known_view, is_among, is_block};
 
-use jt_chains::{Block, Chain, Given, Named};
-use jt_trees::Parameter;
+use jt_ast::Parameter;
+use jt_chains::{Block, Chain, DefinedName, Definition};
 use std::alloc::{AllocError, Global};
 use std::collections::{BTreeMap, BTreeSet};
 
-/// What stands around an expression or a statement: a loop of the same block or macro body, and a
-/// block.
+/// The context of an expression or statement: whether it is inside a loop of the same block or
+/// macro body, and inside a block.
 #[derive(Clone, Copy)]
-pub(crate) struct Within {
+pub(crate) struct Enclosing {
     pub(crate) in_loop: bool,
     pub(crate) in_block: bool,
 }
 
-/// What a name is known as: a macro with these parameters, or a library.
+/// The meaning of a known name: a macro with these parameters, or a library of this name.
 #[derive(Clone, Copy)]
-pub(crate) enum Known<'a> {
+pub(crate) enum KnownName<'a> {
     Macro(&'a [Parameter]),
     Library(&'a str),
 }
 
-/// A chain among those that were read, and what can be called in it.
+/// A chain or library, and what can be called in it.
 #[derive(Drop)]
 pub(crate) struct Scope<'a> {
     pub(crate) alloc: Global,
     pub(crate) chain: &'a Chain,
-    pub(crate) home: usize,
+    pub(crate) namespace: usize,
     /// The names that stand for macros and libraries.
-    names: BTreeMap<&'a str, Known<'a>>,
+    names: BTreeMap<&'a str, KnownName<'a>>,
     /// The names of blocks.
     blocks: BTreeSet<&'a str>,
-    ghost stands: { home < length chain.now.homes.items },
-    ghost knows_given: { KnowsGiven chain.now home
-        names } by { KnowsGiven-prop chain.now home names },
-    ghost knows_blocks: { KnowsBlocks chain.now home
-        blocks } by { KnowsBlocks-prop chain.now home blocks },
+    ghost stands: { namespace < length chain.now.namespaces.items },
+    ghost knows_given: { KnowsGiven chain.now namespace
+        names } by { KnowsGiven-prop chain.now namespace names },
+    ghost knows_blocks: { KnowsBlocks chain.now namespace
+        blocks } by { KnowsBlocks-prop chain.now namespace blocks },
 }
 
 impl<'a> Scope<'a> {
     ghost use Rattle.jt_rules.specs.Walk as rules;
-    ghost use Rattle.jt_checks.specs.ScopeView.{its_given, in_scope};
+    ghost use Rattle.jt_checks.specs.internal.ScopeView.{its_given, in_scope};
 
-    /// What can be called in the chain at a place.
-    pub(crate) fn new(alloc: Global, chain: &'a Chain, home: usize) -> Result<Scope<'a>, AllocError>
-        requires { home < length chain.now.homes.items }
+    /// Creates the scope of the chain or library at index `namespace`.
+    pub(crate) fn new(
+        alloc: Global,
+        chain: &'a Chain,
+        namespace: usize,
+    ) -> Result<Scope<'a>, AllocError>
+        requires { namespace < length chain.now.namespaces.items }
         ensures same_chain { IfOk result (λ s. s.chain.now ≡ chain.now) }
-        ensures same_home { IfOk result (λ s. s.home ≡ home) }
+        ensures same_namespace { IfOk result (λ s. s.namespace ≡ namespace) }
     {
-        let parts = chain.given(alloc, home)?;
+        let parts = chain.given(alloc, namespace)?;
         let names = known_by_name(alloc, &parts)?;
-        let bodies = chain.blocks(alloc, home)?;
+        let bodies = chain.blocks(alloc, namespace)?;
         let blocks = block_names(alloc, &bodies)?;
         Ok(Scope {
             alloc,
             chain,
-            home,
+            namespace,
             names,
             blocks,
         })
     }
 
-    /// Whether a macro or a library has the name.
+    /// Returns whether the name stands for a macro or a library.
     pub(crate) fn is_macro(&self, name: &str) -> bool
         ensures { result ≡ in_scope rules.is_macro self.now name.now }
     {
         self.names.contains_key(name)
     }
 
-    /// What the name is known as.
-    pub(crate) fn known(&self, name: &str) -> Option<Known<'a>>
+    /// Returns what the name stands for, if it is a macro or a library.
+    pub(crate) fn known(&self, name: &str) -> Option<KnownName<'a>>
         ensures { option_map known_view result ≡ known_of (given_to name.now (its_given self.now)) }
     {
         self.names.get(name).copied()
     }
 
-    /// Whether a block has the name.
+    /// Returns whether the chain has a block of this name.
     pub(crate) fn is_block(&self, name: &str) -> bool
         ensures { result ≡ in_scope is_block self.now name.now }
     {
@@ -92,24 +99,24 @@ impl<'a> Scope<'a> {
     }
 }
 
-/// What is known of what a name is given to.
-fn known_as<'a>(given: Given<'a>) -> Known<'a>
-    ensures { (ts : List Template) (h : chains.Home)
+/// Returns the part of a definition that the checks need.
+fn known_as<'a>(given: Definition<'a>) -> KnownName<'a>
+    ensures { (ts : List Template) (h : chains.Namespace)
         → known_view result ≡ known_as (given_view ts h given.entry) }
 {
     match given {
-        Given::Own(found) => Known::Macro(found.parameters),
-        Given::Imported(_, found) => Known::Macro(found.parameters),
-        Given::Library(name) => Known::Library(name),
+        Definition::Own(found) => KnownName::Macro(found.parameters),
+        Definition::Imported(_, found) => KnownName::Macro(found.parameters),
+        Definition::Library(name) => KnownName::Library(name),
     }
 }
 
-/// What is known by names; the first of a name counts.
+/// Returns a map of the known names; the first definition of a name counts.
 fn known_by_name<'a>(
     alloc: Global,
-    names: &[Named<'a>],
-) -> Result<BTreeMap<&'a str, Known<'a>>, AllocError>
-    ensures { IfOk result (λ m. (ts : List Template) (h : chains.Home) (x : Text)
+    names: &[DefinedName<'a>],
+) -> Result<BTreeMap<&'a str, KnownName<'a>>, AllocError>
+    ensures { IfOk result (λ m. (ts : List Template) (h : chains.Namespace) (x : Text)
         → known_at m x ≡ known_of (given_to x (map (named_view ts h) names.now))) }
 {
     let mut by_name = BTreeMap::new(alloc);
@@ -122,7 +129,7 @@ fn known_by_name<'a>(
     Ok(by_name)
 }
 
-/// The names of blocks.
+/// Returns the set of the names of blocks.
 fn block_names<'a>(alloc: Global, blocks: &[Block<'a>]) -> Result<BTreeSet<&'a str>, AllocError>
     ensures { IfOk result (λ s. (ts : List Template) (x : Text)
         → is_among s x ≡ list_any (λ b. bytes_eq b.name x) (map (block_view ts) blocks.now)) }

@@ -1,58 +1,61 @@
-//! The static rules of statements: the first that is broken, from left to right.
+//! Checks the static rules of statements and finds the first broken one, from left to right.
 
 ghost use Rattle.std.specs.Prelude.{◌≡◌, ◌∷◌, [], option_map, true, IfOk};
 ghost use Rattle.std.specs.Option.{option_or};
-ghost use Rattle.jt_trees.specs.ExpressionView.{expr_view, pairs_view};
-ghost use Rattle.jt_trees.specs.StatementView.{stmt_view, body_view, branches_view, filtering_view, filterings_view, parameters_view, given_view};
-ghost use Rattle.jt_chains.specs.Chain.{Home};
+ghost use Rattle.jt_ast.specs.ExpressionView.{expr_view, pairs_view};
+ghost use Rattle.jt_ast.specs.StatementView.{stmt_view, body_view, branches_view, filter_call_view};
+ghost use Rattle.jt_ast.specs.StatementView.{filter_calls_view, parameters_view, given_view};
+ghost use Rattle.jt_chains.specs.Chain.{Namespace};
 ghost use Rattle.jt_chains.specs.Uses.{keywords};
-ghost use Rattle.jt_rules.specs.World.{World};
+ghost use Rattle.jt_rules.specs.CompileEnv.{CompileEnv};
 ghost use Rattle.jt_rules.specs.Walk as rules;
-ghost use Rattle.jt_checks.specs.ScopeView.{in_scope, found, body_found, tree_found, targets_found, Finds, Tells, within_view};
+ghost use Rattle.jt_checks.specs.internal.ScopeView.{in_scope, found, body_found, tree_found};
+ghost use Rattle.jt_checks.specs.internal.ScopeView.{targets_found};
+ghost use Rattle.jt_checks.specs.internal.ScopeView.{Finds, Tells, within_view};
 
 use crate::arguments::{any_repeated, filter_broken, refused, unless};
 use crate::expressions::{all_used, broken, pairs_broken, read_alone, row_broken, used};
-use crate::scope::{Scope, Within};
+use crate::scope::{Enclosing, Scope};
+use jt_ast::{Branch, Expr, FilterCall, Parameter, Stmt};
 use jt_names::{keyword_names, names_of, parameter_names};
 use jt_rules::ScopeError;
-use jt_trees::{Branch, Expr, Filtering, Parameter, Stmt};
 use std::alloc::AllocError;
 
-/// The greatest number of a macro's parameters.
+/// The greatest number of parameters of a macro.
 const MAX_PARAMETERS: usize = 255;
 
-/// What stands around the body of a macro.
-const IN_A_MACRO: Within = Within {
+/// The context of the body of a macro.
+const IN_A_MACRO: Enclosing = Enclosing {
     in_loop: false,
     in_block: false,
 };
 
-/// What stands around the body of a block.
-const IN_A_BLOCK: Within = Within {
+/// The context of the body of a block.
+const IN_A_BLOCK: Enclosing = Enclosing {
     in_loop: false,
     in_block: true,
 };
 
-/// What stands around the body of a loop.
-fn in_a_loop(within: Within) -> Within
+/// Returns the context of the body of a loop in the context `within`.
+fn in_a_loop(within: Enclosing) -> Enclosing
     ensures { result ≡ record within { in_loop = true } }
 {
-    Within {
+    Enclosing {
         in_loop: true,
         in_block: within.in_block,
     }
 }
 
-/// The first rule that the condition of a loop breaks: `loop` is not there yet.
+/// Returns the first rule that the condition of a loop breaks. No loop encloses the condition.
 fn condition_broken(
     scope: &Scope<'_>,
-    within: Within,
+    within: Enclosing,
     condition: &Option<Expr>,
 ) -> Result<Option<ScopeError>, AllocError>
     ensures { Tells rules.condition_broken scope.now within (option_map expr_view condition.now)
         result }
 {
-    let around = Within {
+    let around = Enclosing {
         in_loop: false,
         in_block: within.in_block,
     };
@@ -62,17 +65,17 @@ fn condition_broken(
     }
 }
 
-/// The first rule that targets break.
+/// Returns the first rule that targets break.
 fn targets_broken(scope: &Scope<'_>, targets: &[String]) -> Result<Option<ScopeError>, AllocError>
     ensures { IfOk result (λ o. o ≡ targets_found scope.now targets.now) }
 {
     Ok(all_used(scope, &names_of(scope.alloc, targets)?))
 }
 
-/// The first rule that values and the names for them break.
+/// Returns the first rule that the values of a `with` tag, or the names that it binds, break.
 fn bindings_broken(
     scope: &Scope<'_>,
-    within: Within,
+    within: Enclosing,
     pairs: &[(String, Expr)],
 ) -> Result<Option<ScopeError>, AllocError>
     ensures { IfOk result (λ o. o ≡ option_or
@@ -85,10 +88,10 @@ fn bindings_broken(
     Ok(all_used(scope, &keyword_names(scope.alloc, pairs)?))
 }
 
-/// The first rule that the head of a loop breaks.
+/// Returns the first rule that the head of a loop breaks.
 fn head_broken(
     scope: &Scope<'_>,
-    within: Within,
+    within: Enclosing,
     targets: &[String],
     items: &Expr,
     condition: &Option<Expr>,
@@ -106,10 +109,10 @@ fn head_broken(
     condition_broken(scope, within, condition)
 }
 
-/// The first rule that an assignment breaks.
+/// Returns the first rule that an assignment breaks.
 fn set_broken(
     scope: &Scope<'_>,
-    within: Within,
+    within: Enclosing,
     targets: &[String],
     value: &Expr,
 ) -> Result<Option<ScopeError>, AllocError>
@@ -122,18 +125,19 @@ fn set_broken(
     targets_broken(scope, targets)
 }
 
-/// The first rule that one filter of a filter tag breaks.
-fn filtering_broken(
+/// Returns the first rule that one filter of a filter tag breaks.
+fn filter_call_broken(
     scope: &Scope<'_>,
-    within: Within,
-    filtering: &Filtering,
+    within: Enclosing,
+    filter_call: &FilterCall,
 ) -> Result<Option<ScopeError>, AllocError>
-    ensures { Tells rules.filtering_broken scope.now within (filtering_view filtering.now ∷ [])
+    ensures { Tells rules.filter_call_broken scope.now within
+        (filter_call_view filter_call.now ∷ [])
         result }
 {
-    let arguments = &filtering.arguments;
-    let keywords = &filtering.keywords;
-    if let Some(rule) = filter_broken(scope.alloc, &filtering.name, arguments, keywords)? {
+    let arguments = &filter_call.arguments;
+    let keywords = &filter_call.keywords;
+    if let Some(rule) = filter_broken(scope.alloc, &filter_call.name, arguments, keywords)? {
         return Ok(Some(rule));
     }
     if let Some(rule) = row_broken(scope, within, arguments)? {
@@ -142,24 +146,24 @@ fn filtering_broken(
     pairs_broken(scope, within, keywords)
 }
 
-/// The first rule that the filters of a filter tag break.
-fn filterings_broken(
+/// Returns the first rule that the filters of a filter tag break.
+fn filter_calls_broken(
     scope: &Scope<'_>,
-    within: Within,
-    filterings: &[Filtering],
+    within: Enclosing,
+    filter_calls: &[FilterCall],
 ) -> Result<Option<ScopeError>, AllocError>
-    ensures { Tells rules.filtering_broken scope.now within
-        (filterings_view filterings.now) result }
+    ensures { Tells rules.filter_call_broken scope.now within
+        (filter_calls_view filter_calls.now) result }
 {
-    for filtering in filterings {
-        if let Some(rule) = filtering_broken(scope, within, filtering)? {
+    for filter_call in filter_calls {
+        if let Some(rule) = filter_call_broken(scope, within, filter_call)? {
             return Ok(Some(rule));
         }
     }
     Ok(None)
 }
 
-/// The first rule that a macro's own name and its parameters break.
+/// Returns the first rule that a macro's own name or its parameters break.
 fn macro_broken(
     scope: &Scope<'_>,
     name: &str,
@@ -175,10 +179,10 @@ fn macro_broken(
     Ok(own.or(again.or(many)))
 }
 
-/// The first rule that the names break that `from` gives.
+/// Returns the first rule that the names that `from` binds break.
 fn imports_broken(names: &[(String, String)]) -> Option<ScopeError>
-    ensures { (world : World) (home : Home)
-        → result ≡ rules.imports_broken world home (given_view names.now) }
+    ensures { (cenv : CompileEnv) (namespace : Namespace)
+        → result ≡ rules.imports_broken cenv namespace (given_view names.now) }
 {
     for (_, given) in names {
         if let Some(rule) = read_alone(given) {
@@ -188,11 +192,11 @@ fn imports_broken(names: &[(String, String)]) -> Option<ScopeError>
     None
 }
 
-/// The first rule that a choice breaks.
+/// Returns the first rule that an `if` breaks.
 #[cycle(body)]
 fn choice_broken(
     scope: &Scope<'_>,
-    within: Within,
+    within: Enclosing,
     branches: &[Branch<Stmt>],
     other: &[Stmt],
 ) -> Result<Option<ScopeError>, AllocError>
@@ -205,11 +209,11 @@ fn choice_broken(
     body_broken(scope, within, other)
 }
 
-/// The first rule that the two bodies of a loop break.
+/// Returns the first rule that the body of a loop or its `else` part breaks.
 #[cycle(body)]
 fn turns_broken(
     scope: &Scope<'_>,
-    within: Within,
+    within: Enclosing,
     inside: &[Stmt],
     otherwise: &[Stmt],
 ) -> Result<Option<ScopeError>, AllocError>
@@ -223,11 +227,11 @@ fn turns_broken(
     body_broken(scope, within, otherwise)
 }
 
-/// The rule that is broken first, or else the first one that the statements behind it break.
+/// Returns `first` if it is a broken rule, or else the first rule that the statements break.
 #[cycle(body)]
 fn or_body_broken(
     scope: &Scope<'_>,
-    within: Within,
+    within: Enclosing,
     first: Option<ScopeError>,
     inside: &[Stmt],
 ) -> Result<Option<ScopeError>, AllocError>
@@ -239,11 +243,11 @@ fn or_body_broken(
     }
 }
 
-/// The first rule that a statement breaks.
+/// Returns the first rule that a statement breaks.
 #[cycle(body)]
 fn statement_broken(
     scope: &Scope<'_>,
-    within: Within,
+    within: Enclosing,
     statement: &Stmt,
 ) -> Result<Option<ScopeError>, AllocError>
     ensures { IfOk result (Finds rules.stmt_broken scope.now within (stmt_view statement.now)) }
@@ -272,7 +276,7 @@ fn statement_broken(
             or_body_broken(scope, within, head, body)
         }
         Stmt::FilterBlock { filters, body, .. } => {
-            let head = filterings_broken(scope, within, filters)?;
+            let head = filter_calls_broken(scope, within, filters)?;
             or_body_broken(scope, within, head, body)
         }
         Stmt::Autoescape { body, .. } => body_broken(scope, within, body),
@@ -289,11 +293,11 @@ fn statement_broken(
     }
 }
 
-/// The first rule that the branches of a choice break.
+/// Returns the first rule that the branches of an `if` break.
 #[cycle(body)]
 fn branches_broken(
     scope: &Scope<'_>,
-    within: Within,
+    within: Enclosing,
     branches: &[Branch<Stmt>],
 ) -> Result<Option<ScopeError>, AllocError>
     ensures { Tells rules.branches_broken scope.now within (branches_view branches.now) result }
@@ -313,11 +317,11 @@ fn branches_broken(
     Ok(None)
 }
 
-/// The first rule that statements break.
+/// Returns the first rule that statements break.
 #[cycle(body)]
 pub(crate) fn body_broken(
     scope: &Scope<'_>,
-    within: Within,
+    within: Enclosing,
     body: &[Stmt],
 ) -> Result<Option<ScopeError>, AllocError>
     ensures { IfOk result (Finds rules.body_broken scope.now within (body_view body.now)) }

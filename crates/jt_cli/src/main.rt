@@ -1,7 +1,7 @@
-//! The program `jt`: `main` alone, which hands its words, files and outputs to `perform` of
-//! jt_program.
+//! The program `jt`: `main` passes its words, files and outputs to `perform` of jt_program.
 #![tactic(auto)]
 
+use jt_host::CallError;
 use jt_machine::IoSink;
 use jt_program::{Failure, SystemFiles, perform, report};
 use std::io;
@@ -15,28 +15,31 @@ fn main(rt: HostRuntime) -> ExitCode {
     ExitCode::from(status)
 }
 
-/// The words of the line without the program's name.
+/// Returns the words of the line without the program's name.
 fn arguments(rt: &HostRuntime) -> io::Result<Vec<String>> {
     let words = std::env::args(rt)?.skip(1).collect(rt.alloc())?;
     Ok(words)
 }
 
-/// Why there are no words: memory ran out, or one of them is no text.
+/// Returns why the words could not be read: memory ran out, or a word is not UTF-8.
 fn unread(error: &io::Error) -> Failure {
     if error.kind() == io::ErrorKind::OutOfMemory {
-        Failure::NoMemory
+        Failure::Call(CallError::NoMemory)
     } else {
         Failure::Words
     }
 }
 
-/// Does what `words` ask for on the machine's own files and outputs, and answers the status.
+/// Performs the line `words` on the machine's own files and outputs, and returns the status.
 fn perform_on(rt: &HostRuntime, words: &[String]) -> u8 {
     let alloc = rt.alloc();
     let mut texts = Vec::new(alloc);
     for word in words {
         if texts.push(word.as_str()).is_err() {
-            return report(&mut IoSink::new(rt.stderr()), &Failure::NoMemory);
+            return report(
+                &mut IoSink::new(rt.stderr()),
+                &Failure::Call(CallError::NoMemory),
+            );
         }
     }
     let mut files = SystemFiles::new(rt);

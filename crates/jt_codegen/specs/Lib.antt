@@ -1,6 +1,5 @@
-pub mod Statements
-pub mod Naming
 pub mod Units
 pub mod Compiled
 pub mod Limits
 pub mod Refusals
+pub mod internal

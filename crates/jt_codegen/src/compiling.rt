@@ -1,4 +1,4 @@
-//! Templates to images.
+//! Compiles templates to images.
 
 ghost use Rattle.std.specs.Prelude.{IfOk, IfErr};
 ghost use Rattle.jt_inherit.specs.Small.{IsSmall};
@@ -11,30 +11,32 @@ use crate::image::image_of;
 use jt_image::{Image, MAX_ENTRIES, code_laws};
 use jt_inherit::{Library, chain};
 use jt_lower::low_laws;
-use jt_meaning::program_laws;
 use jt_scan::Options;
 use jt_scopes::resolve;
+use jt_semantics::program_laws;
 use std::alloc::Global;
 
-/// The image of the entry, which stands in the library with all templates that it reaches.
+/// Compiles the entry of a library, with all templates that it reaches, to an image of version 2.
 ///
 /// # Errors
 ///
-/// What the chain, the names or the calls break; `CodeTooLong` where the image would pass a limit;
-/// `StackTooDeep` where a unit of it would need more than 1,024 entries; `NoMemory` where a growth
-/// was refused.
+/// * `Chain` if the entry has no chain in the library.
+/// * `Scope` if the chain breaks a rule of names or calls.
+/// * `CodeTooLong` if the image would pass a limit.
+/// * `StackTooDeep` if a unit would need more than 1,024 stack entries.
+/// * `NoMemory` if a growth is refused.
 pub fn compile<L: Library>(
     alloc: Global,
     entry: &str,
     library: &L,
     options: Options,
 ) -> Result<Image, CompileError>
-    // typed code, with the meaning of the entry's chain, which breaks no rule
+    // The code of version 2 is typed and does what the entry's lawful chain means.
     ensures compiled { IfOk result
         (λ image. IsCompiled (L.sources library.now) entry.now options image) }
-    // the refusal holds
+    // The refusal holds of the library and the entry.
     ensures refused { IfErr result (λ e. Breaks (L.sources library.now) entry.now options e) }
-    // a limit is never named where the chain is small
+    // A refusal names no limit if the chain is small.
     ensures small { IfErr result
         (λ e. NamesLimit e → ¬ (IsSmall (L.sources library.now) entry.now options)) }
 {

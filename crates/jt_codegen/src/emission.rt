@@ -1,29 +1,32 @@
-//! The code of resolved statements and routines.
+//! Emits the code of resolved statements and routines.
 
 ghost use Rattle.std.specs.Prelude.{◌≡◌, ◌≤◌, List, Some, length, option_map, IfOk, IfErr};
 ghost use Rattle.jt_image.specs.Parts.{section_of_unit};
-ghost use Rattle.jt_trees.specs.Expressions.{Text};
+ghost use Rattle.jt_ast.specs.Expressions.{Text};
 ghost use Rattle.jt_image.specs.declared.instruction.Instruction.TheVariants as op;
-ghost use Rattle.jt_resolved.specs.Slots as slots;
-ghost use Rattle.jt_resolved.specs.View.{slot_view, targets_view, place_view, expr_view, stmt_view, body_view, choice_view, routine_view};
+ghost use Rattle.jt_ir.specs.Slots as slots;
+ghost use Rattle.jt_ir.specs.View.{slot_view, targets_view, place_view, expr_view, stmt_view};
+ghost use Rattle.jt_ir.specs.View.{body_view, choice_view, routine_view};
 ghost use Rattle.jt_lower.specs.Asm.{one, both, when, each};
-ghost use Rattle.jt_lower.specs.Lower.{turn_asm, kept_asm, stmt_asm, body_asm, unit_of, routine_places};
+ghost use Rattle.jt_lower.specs.Lower.{turn_asm, kept_asm, stmt_asm, body_asm, unit_of};
+ghost use Rattle.jt_lower.specs.Lower.{routine_places};
 ghost use Rattle.jt_lower.specs.Emission.{tag_view, places_view, PutsFor, PutsAt};
-ghost use Rattle.jt_codegen.specs.Statements.{EmitsAt, Closes};
+ghost use Rattle.jt_codegen.specs.internal.Statements.{EmitsAt, Closes};
 ghost use Rattle.jt_codegen.specs.Units.{Refuses};
 
 use crate::targets::{emit_item, emit_targets};
+use jt_constants::TableError;
 use jt_image::{Instruction, Unit};
+use jt_ir::{Place, Routine, Slot, SlotBranch, SlotExpr, SlotStmt, Targets};
 use jt_lower::{Emitter, call_of, data_of, emit_expression, emit_row, flag, store_of};
-use jt_resolved::{Place, Routine, Slot, SlotBranch, SlotExpr, SlotStmt, Targets};
 use std::alloc::{AllocError, AllocFailed, Global};
 
-/// Why no code is made.
+/// The reason why no code is emitted.
 #[derive(Clone, Copy, Debug, Drop, PartialEq, Eq)]
 pub(crate) enum EmitError {
-    /// An image has no place for it.
+    /// Code that does not fit into an image.
     CodeTooLong,
-    /// A growth was refused.
+    /// A refused growth.
     NoMemory,
 }
 
@@ -49,19 +52,34 @@ impl<T: Drop> From<AllocFailed<T>> for EmitError {
     }
 }
 
-/// A unit, and the place of the tag of each of its instructions, if that has one.
+impl From<TableError> for EmitError {
+    ghost use Rattle.std.specs.Prelude.{◌≡◌};
+    ghost use Rattle.jt_codegen.specs.Units.{of_table};
+
+    ghost from_gives = { λ refusal e. e ≡ of_table refusal };
+
+    fn from(refusal: TableError) -> EmitError {
+        match refusal {
+            TableError::TooManyConstants => EmitError::CodeTooLong,
+            TableError::NoMemory => EmitError::NoMemory,
+        }
+    }
+}
+
+/// A unit, and for each of its instructions the place of its tag, if it has one.
 #[derive(Drop)]
 pub(crate) struct Emitted {
     pub(crate) unit: Unit,
     pub(crate) places: Vec<Option<Place>>,
 }
 
-/// The unit of a routine: its statements, and then the return. It has at most so many instructions
-/// as are left.
+/// Emits the unit of a routine: its statements, then the return. It has at most `left`
+/// instructions.
 ///
 /// # Errors
 ///
-/// `CodeTooLong` where an image has no place for it, `NoMemory` where a growth was refused.
+/// `CodeTooLong` if the unit does not fit into an image.
+/// `NoMemory` if a growth is refused.
 pub(crate) fn emit_unit(alloc: Global, routine: &Routine, left: usize) -> Result<Emitted, EmitError>
     ensures emitted { IfOk result (λ e. (templates : List Text)
         → section_of_unit e.unit ≡ Some (unit_of (routine_view templates routine.now))) }
@@ -96,7 +114,7 @@ pub(crate) fn emit_unit(alloc: Global, routine: &Routine, left: usize) -> Result
     })
 }
 
-/// Keeps the items for which the condition holds, in place of all.
+/// Emits the pass that keeps only the items for which the condition holds, if a condition exists.
 fn emit_condition(
     code: &mut Emitter,
     tag: Option<Place>,
@@ -120,7 +138,7 @@ fn emit_condition(
     }
 }
 
-/// Puts the code of an expression that is printed behind the others.
+/// Emits the output of an expression.
 fn emit_printed(
     code: &mut Emitter,
     tag: Place,
@@ -137,7 +155,7 @@ fn emit_printed(
     Ok(())
 }
 
-/// Puts the code of an assignment behind the others.
+/// Emits an assignment.
 fn emit_assigned(
     code: &mut Emitter,
     tag: Place,
@@ -154,7 +172,7 @@ fn emit_assigned(
     Ok(())
 }
 
-/// Lets the jumps at these points go behind all instructions.
+/// Patches the jumps at `ends` to go to the end of the code.
 fn close_all(code: &mut Emitter, ends: &[usize])
     ensures { Closes code.old ends.now code.new }
 {
@@ -163,7 +181,7 @@ fn close_all(code: &mut Emitter, ends: &[usize])
     }
 }
 
-/// Puts the code of a statement behind the others, with so many entries above the innermost loop.
+/// Emits a statement; `above` entries lie above the innermost loop.
 #[cycle(statements)]
 fn emit_statement(code: &mut Emitter, statement: &SlotStmt, above: usize) -> Result<(), AllocError>
     ensures { EmitsAt above code.old (λ texts. stmt_view texts statement.now) result code.new }
@@ -209,7 +227,7 @@ fn emit_statement(code: &mut Emitter, statement: &SlotStmt, above: usize) -> Res
     }
 }
 
-/// Puts the code of branches behind the others, and of what stands for none of them.
+/// Emits the branches of an `if` and its `else` part.
 #[cycle(statements)]
 fn emit_branches(
     code: &mut Emitter,
@@ -237,7 +255,7 @@ fn emit_branches(
     Ok(())
 }
 
-/// Puts the turns of the loop at the top behind the others.
+/// Emits the turns of the loop on top.
 #[cycle(statements)]
 fn emit_turns(
     code: &mut Emitter,
@@ -256,7 +274,7 @@ fn emit_turns(
     Ok(())
 }
 
-/// Puts the end of a loop behind the others, and what stands for no turn.
+/// Emits the end of a loop and its `else` part.
 #[cycle(statements)]
 fn emit_otherwise(
     code: &mut Emitter,
@@ -274,7 +292,7 @@ fn emit_otherwise(
     Ok(())
 }
 
-/// Puts the code of a capture behind the others: the text of its body goes into the slot.
+/// Emits a capture, which stores the text of its body in the slot.
 #[cycle(statements)]
 fn emit_capture(
     code: &mut Emitter,
@@ -294,7 +312,7 @@ fn emit_capture(
     Ok(())
 }
 
-/// Puts the code of statements behind the others.
+/// Emits statements; `above` entries lie above the innermost loop.
 #[cycle(statements)]
 fn emit_statements(code: &mut Emitter, body: &[SlotStmt], above: usize) -> Result<(), AllocError>
     ensures { EmitsAt above code.old (λ texts. body_view texts body.now) result code.new }

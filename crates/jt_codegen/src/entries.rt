@@ -1,17 +1,19 @@
-//! How many entries the code of resolved statements needs.
+//! Checks how many stack entries the code of resolved statements needs.
 
-ghost use Rattle.std.specs.Prelude.{◌≡◌, ◌&&◌, ◌≤◌, ◌↔◌, nat_le, ℕ, List, Option, option_map, map, IsTrue};
+ghost use Rattle.std.specs.Prelude.{◌≡◌, ◌&&◌, ◌≤◌, ◌↔◌, nat_le, ℕ, List, Option, option_map, map};
+ghost use Rattle.std.specs.Prelude.{IsTrue};
 ghost use Rattle.std.specs.List.{AllByRecursion};
-ghost use Rattle.jt_trees.specs.Expressions.{Text};
-ghost use Rattle.jt_resolved.specs.Size.{targets_height, condition_height, body_height};
-ghost use Rattle.jt_resolved.specs.Slots as slots;
-ghost use Rattle.jt_resolved.specs.Slots.{SBody};
-ghost use Rattle.jt_resolved.specs.View.{targets_view, expr_view, stmt_view, body_view, choice_view, routine_view};
+ghost use Rattle.jt_ast.specs.Expressions.{Text};
+ghost use Rattle.jt_ir.specs.Size.{targets_height, condition_height, body_height};
+ghost use Rattle.jt_ir.specs.Slots as slots;
+ghost use Rattle.jt_ir.specs.Slots.{SBody};
+ghost use Rattle.jt_ir.specs.View.{targets_view, expr_view, stmt_view, body_view, choice_view};
+ghost use Rattle.jt_ir.specs.View.{routine_view};
 
+use jt_ir::{Routine, SlotBranch, SlotExpr, SlotStmt, Targets};
 use jt_lower::{fits_expression, fits_row};
-use jt_resolved::{Routine, SlotBranch, SlotExpr, SlotStmt, Targets};
 
-/// Whether what takes a value needs at most so many entries.
+/// Returns whether storing into these targets needs at most `room` stack entries.
 fn fits_targets(targets: &Targets, room: usize) -> bool
     ensures { result ≡ nat_le (targets_height (targets_view targets.now)) room }
 {
@@ -21,7 +23,7 @@ fn fits_targets(targets: &Targets, room: usize) -> bool
     }
 }
 
-/// Whether a condition needs at most so many entries.
+/// Returns whether a condition needs at most `room` stack entries.
 fn fits_condition(condition: &Option<SlotExpr>, room: usize) -> bool
     ensures { result ≡ nat_le (condition_height (option_map expr_view condition.now)) room }
 {
@@ -31,7 +33,7 @@ fn fits_condition(condition: &Option<SlotExpr>, room: usize) -> bool
     }
 }
 
-/// Whether a statement needs at most so many entries.
+/// Returns whether a statement needs at most `room` stack entries.
 #[cycle(entries)]
 fn fits_statement(statement: &SlotStmt, room: usize) -> bool
     ensures { (templates : List Text) (behind : SBody ℕ)
@@ -67,7 +69,7 @@ fn fits_statement(statement: &SlotStmt, room: usize) -> bool
     }
 }
 
-/// Whether branches, and what stands for none of them, need at most so many entries.
+/// Returns whether the branches of an `if` and its `else` part need at most `room` stack entries.
 #[cycle(entries)]
 fn fits_branches(branches: &[SlotBranch<SlotStmt>], other: &[SlotStmt], room: usize) -> bool
     ensures { (templates : List Text) (behind : SBody ℕ)
@@ -89,7 +91,7 @@ fn fits_branches(branches: &[SlotBranch<SlotStmt>], other: &[SlotStmt], room: us
     fits_body(other, room)
 }
 
-/// Whether statements need at most so many entries.
+/// Returns whether statements need at most `room` stack entries.
 #[cycle(entries)]
 fn fits_body(body: &[SlotStmt], room: usize) -> bool
     ensures { (templates : List Text) (behind : SBody ℕ)
@@ -104,7 +106,7 @@ fn fits_body(body: &[SlotStmt], room: usize) -> bool
     true
 }
 
-/// Whether no routine needs more entries than that.
+/// Returns whether each routine needs at most `room` stack entries.
 pub(crate) fn fits_entries(routines: &[Routine], room: usize) -> bool
     ensures { (templates : List Text)
         → IsTrue result

@@ -1,26 +1,26 @@
-//! Why no image is made.
+//! Why a compilation is refused.
 
 use crate::emission::EmitError;
 use jt_inherit::ChainError;
 use jt_rules::ScopeError;
 use thiserror::Error;
 
-/// Why no image is made.
+/// Why a compilation is refused.
 #[derive(Debug, Drop, Error, PartialEq, Eq)]
 pub enum CompileError {
-    /// A template is missing, breaks a rule of chains, has no cut or spells no tree.
+    /// A template that is missing, cannot be scanned or parsed, or breaks a rule of chains.
     #[error("{0}")]
     Chain(ChainError),
-    /// A rule of names and calls is broken.
+    /// A broken rule of names and calls.
     #[error("{0}")]
     Scope(ScopeError),
-    /// The image would pass a limit.
+    /// An image that would pass a limit.
     #[error("G1 CodeTooLong")]
     CodeTooLong,
-    /// A growth was refused.
+    /// A refused growth.
     #[error("G2 NoMemory")]
     NoMemory,
-    /// A unit would need more than 1,024 entries.
+    /// A unit that would need more than 1,024 stack entries.
     #[error("G3 StackTooDeep")]
     StackTooDeep,
 }

@@ -1,9 +1,9 @@
-//! The image of a program.
+//! Builds the image of a program.
 
 ghost use Rattle.std.specs.Prelude.{◌≡◌, IfOk, IfErr};
 ghost use Rattle.jt_image.specs.IsCode.{IsCode};
 ghost use Rattle.jt_image.specs.Parts.{HasTables};
-ghost use Rattle.jt_resolved.specs.View.{program_of};
+ghost use Rattle.jt_ir.specs.View.{program_of};
 ghost use Rattle.jt_lower.specs.Fits.{ProgramFits};
 ghost use Rattle.jt_lower.specs.Lower.{compiled};
 ghost use Rattle.jt_codegen.specs.Units.{RefusesCode, HasFewValues, of_image};
@@ -11,16 +11,17 @@ ghost use Rattle.jt_codegen.specs.Units.{RefusesCode, HasFewValues, of_image};
 use crate::emission::EmitError;
 use crate::tables::parts_of;
 use jt_image::{Image, ImageError, assemble};
-use jt_resolved::Program;
+use jt_ir::Program;
 use std::alloc::Global;
 
-/// The image of a program, the names of which ascend and are not empty, and whose first routine has
-/// no parameters.
+/// Returns the image of a program. The names of the program must ascend and not be empty, and its
+/// first routine must have no parameters.
 ///
 /// # Errors
 ///
-/// `CodeTooLong` where an image has no place for it, `NoMemory` where a growth was refused.
-#[tactic(auto, using(crate::proofs::Refused::assembly_refused))]
+/// `CodeTooLong` if the code does not fit into an image.
+/// `NoMemory` if a growth is refused.
+#[tactic(auto, using(crate::proofs::RefusalsMapped::assembly_refused))]
 pub(crate) fn image_of(alloc: Global, program: &Program) -> Result<Image, EmitError>
     requires tables { HasTables (compiled (program_of program.now)) }
     requires fits { ProgramFits (program_of program.now) }
@@ -33,7 +34,8 @@ pub(crate) fn image_of(alloc: Global, program: &Program) -> Result<Image, EmitEr
     assemble(alloc, parts).map_err(|(_, refusal)| refused_by(refusal))
 }
 
-/// Why no code is made where parts are no image: all but want of memory is want of place.
+/// Maps a refusal of `assemble` to an emission error: `NoMemory` stays, every other refusal is
+/// `CodeTooLong`.
 fn refused_by(refusal: ImageError) -> EmitError
     ensures { result ≡ of_image refusal }
 {

@@ -1,8 +1,9 @@
-//! Templates to images: the compiler.
+//! Compiles templates to images.
 //!
-//! `compile` (compiling) is the whole way from an entry to an image; statements and routines
-//! (emission, targets, entries), tables and places (tables, places, image), and why there is none
-//! (error). Read first: compiling.rt, and specs/Compiled.antt, what is promised.
+//! `compile` (`compiling`) goes from an entry to an image. Statements and routines are emitted in
+//! `emission`, `targets` and `entries`, tables and places are built in `tables`, `places` and
+//! `image`, and refusals are in `error`. Read first: compiling.rt, and specs/Compiled.antt, which
+//! states the guarantee.
 #![tactic(auto)]
 
 mod compiling;

@@ -1,64 +1,64 @@
-//! What an image tells of places: the templates that are named, and for each place one of them and
-//! a line.
+//! Builds the place table of an image: the template names, and an encoded place per instruction.
 
 ghost use Rattle.std.specs.Prelude.{◌≡◌, ◌≤◌, ◌∷◌, [], length, map, IfOk, IfErr};
 ghost use Rattle.std.specs.List.{AllByRecursion};
 ghost use Rattle.jt_image.specs.IsCode.{max_count};
-ghost use Rattle.jt_image.specs.View.{texts_view, spot_view, spots_view};
-ghost use Rattle.jt_resolved.specs.View.{place_view};
+ghost use Rattle.jt_image.specs.View.{texts_view, loc_view, locs_view};
+ghost use Rattle.jt_ir.specs.View.{place_view};
 ghost use Rattle.jt_lower.specs.Emission.{tag_view};
-ghost use Rattle.jt_trees.specs.Texts.{all_inserted, texts};
-ghost use Rattle.jt_lower.specs.Spots.{templates_in, templates_of, number_of, spot_of};
-ghost use Rattle.jt_meaning.specs.Ascends.{Ascends};
-ghost use Rattle.jt_codegen.specs.Naming.{told_by, IsNamed};
+ghost use Rattle.jt_ast.specs.Texts.{all_inserted, texts};
+ghost use Rattle.jt_lower.specs.SourceLocs.{templates_in, templates_of, number_of, loc_of};
+ghost use Rattle.jt_semantics.specs.Ascends.{Ascends};
+ghost use Rattle.jt_codegen.specs.internal.Naming.{named_places, IsNamed};
 ghost use Rattle.jt_codegen.specs.Units.{RefusesTemplates};
 
 use crate::emission::EmitError;
-use jt_image::{MAX_COUNT, Spot};
-use jt_resolved::Place;
+use jt_image::{MAX_COUNT, SourceLoc};
+use jt_ir::Place;
 use std::alloc::{AllocError, Global};
 use std::collections::BTreeSet;
 
-/// What an image tells of places.
+/// The place table of an image: its template names, and one encoded place per instruction.
 #[derive(Drop)]
 pub(crate) struct PlaceTable {
-    /// The names of the templates that places name, strictly ascending.
+    /// The names of the templates that places refer to, strictly ascending.
     pub(crate) templates: Vec<String>,
-    /// One for each place.
-    pub(crate) spots: Vec<Spot>,
+    /// The encoded places, one per instruction.
+    pub(crate) places: Vec<SourceLoc>,
 }
 
-/// What an image tells of the places of its instructions, by the names of the program's templates.
+/// Builds the place table for the places of all instructions; `templates` are the names of the
+/// program's templates.
 ///
 /// # Errors
 ///
-/// `CodeTooLong` where an image has no place for so many templates, `NoMemory` where a growth was
-/// refused.
-pub(crate) fn told_places(
+/// * `CodeTooLong` if places refer to more templates than an image may have.
+/// * `NoMemory` if a growth is refused.
+pub(crate) fn place_table(
     alloc: Global,
     templates: &[String],
     places: &[Option<Place>],
 ) -> Result<PlaceTable, EmitError>
     ensures named { IfOk result
-        (λ p. texts_view p.templates.items ≡ templates_of (told_by templates.now places.now)) }
-    ensures told { IfOk result (λ p. let places = told_by templates.now places.now in
-        spots_view p.spots.items ≡ map (spot_of (templates_of places)) places) }
+        (λ p. texts_view p.templates.items ≡ templates_of (named_places templates.now places.now)) }
+    ensures told { IfOk result (λ p. let places = named_places templates.now places.now in
+        locs_view p.places.items ≡ map (loc_of (templates_of places)) places) }
     ensures refused { IfErr result
-        (λ e. RefusesTemplates e (templates_of (told_by templates.now places.now))) }
+        (λ e. RefusesTemplates e (templates_of (named_places templates.now places.now))) }
 {
     let named = named_templates(alloc, templates, places)?;
     if named.len() > MAX_COUNT {
         return Err(EmitError::CodeTooLong);
     }
-    let spots = spots_of(alloc, templates, &named, places)?;
+    let locs = locs_of(alloc, templates, &named, places)?;
     let names = copies_of(alloc, &named)?;
     Ok(PlaceTable {
         templates: names,
-        spots,
+        places: locs,
     })
 }
 
-/// The name of the template of a place.
+/// Returns the name of the template of a place.
 fn template_at(templates: &[String], place: Place) -> &str
     ensures { result.now ≡ (place_view (texts_view templates.now) place).template }
 {
@@ -68,13 +68,14 @@ fn template_at(templates: &[String], place: Place) -> &str
     }
 }
 
-/// The different templates that places name, in ascending order.
+/// Returns the distinct templates that places refer to, in ascending order.
 fn named_templates<'a>(
     alloc: Global,
     templates: &'a [String],
     places: &[Option<Place>],
 ) -> Result<Vec<&'a str>, AllocError>
-    ensures { IfOk result (λ ns. texts ns.items ≡ templates_of (told_by templates.now places.now)) }
+    ensures { IfOk result
+        (λ ns. texts ns.items ≡ templates_of (named_places templates.now places.now)) }
 {
     let mut named = BTreeSet::new(alloc);
     for tag in places {
@@ -83,7 +84,7 @@ fn named_templates<'a>(
     named.into_iter().collect(alloc)
 }
 
-/// Adds the template that a place names.
+/// Adds the template of a place, if the place exists.
 fn add_template<'a>(
     named: &mut BTreeSet<&'a str>,
     templates: &'a [String],
@@ -99,7 +100,7 @@ fn add_template<'a>(
     Ok(())
 }
 
-/// How many of these names, which ascend, stand before this one: all where it isn't among them.
+/// Returns the number of the ascending names before `name`; all of them if it is not among them.
 fn number_of(name: &str, named: &[&str]) -> usize
     requires ascend { Ascends (texts named.now) }
     ensures { result ≡ number_of name.now (texts named.now) }
@@ -107,41 +108,42 @@ fn number_of(name: &str, named: &[&str]) -> usize
     named.binary_search(&name).unwrap_or(named.len())
 }
 
-/// What an image tells of each place, by the numbers of these names.
-fn spots_of(
+/// Encodes each place by the number of its template among these names.
+fn locs_of(
     alloc: Global,
     templates: &[String],
     named: &[&str],
     places: &[Option<Place>],
-) -> Result<Vec<Spot>, AllocError>
+) -> Result<Vec<SourceLoc>, AllocError>
     requires few { length named.now ≤ max_count }
     requires ascend { Ascends (texts named.now) }
-    requires named { AllByRecursion (IsNamed (texts named.now)) (told_by templates.now places.now) }
-    ensures { IfOk result (λ ss. spots_view ss.items
-        ≡ map (spot_of (texts named.now)) (told_by templates.now places.now)) }
+    requires named { AllByRecursion (IsNamed (texts named.now))
+        (named_places templates.now places.now) }
+    ensures { IfOk result (λ ss. locs_view ss.items
+        ≡ map (loc_of (texts named.now)) (named_places templates.now places.now)) }
 {
-    let mut spots = Vec::with_capacity(alloc, places.len())?;
+    let mut locs = Vec::with_capacity(alloc, places.len())?;
     for tag in places {
-        spots.push(spot_of(templates, named, *tag))?;
+        locs.push(loc_of(templates, named, *tag))?;
     }
-    Ok(spots)
+    Ok(locs)
 }
 
-/// What an image tells of a place, by the numbers of these names: they are counted from 1.
-fn spot_of(templates: &[String], named: &[&str], tag: Option<Place>) -> Spot
+/// Encodes a place by the number of its template, counted from 1.
+fn loc_of(templates: &[String], named: &[&str], tag: Option<Place>) -> SourceLoc
     requires few { length named.now ≤ max_count }
     requires ascend { Ascends (texts named.now) }
     requires named { IsNamed (texts named.now) (tag_view (texts_view templates.now) tag) }
-    ensures { spot_view result ≡ spot_of (texts named.now) (tag_view (texts_view templates.now) tag) }
+    ensures { loc_view result ≡ loc_of (texts named.now) (tag_view (texts_view templates.now) tag) }
 {
     match tag {
-        None => Spot {
+        None => SourceLoc {
             template: 0,
             line: 0,
         },
         Some(place) => {
             let before = number_of(template_at(templates, place), named);
-            Spot {
+            SourceLoc {
                 template: (before + 1) as u16,
                 line: place.line,
             }
@@ -149,7 +151,7 @@ fn spot_of(templates: &[String], named: &[&str], tag: Option<Place>) -> Spot
     }
 }
 
-/// Copies of names.
+/// Returns copies of names.
 fn copies_of(alloc: Global, names: &[&str]) -> Result<Vec<String>, AllocError>
     ensures { IfOk result (λ ns. texts_view ns.items ≡ texts names.now) }
 {

@@ -1,11 +1,11 @@
-//! The parts of an image: the tables of names and constants, and the code.
+//! Builds the parts of an image: the tables of names and constants, the code, and the place table.
 
 ghost use Rattle.std.specs.Prelude.{◌≡◌, ◌≤◌, List, length, map, string_bytes, Some, IfOk, IfErr};
 ghost use Rattle.jt_image.specs.IsCode.{total_len, max_count, max_instructions};
 ghost use Rattle.jt_image.specs.Parts.{each_of, section_of_unit, code_of_parts};
 ghost use Rattle.jt_image.specs.View.{names_view};
-ghost use Rattle.jt_trees.specs.Expressions.{Text};
-ghost use Rattle.jt_resolved.specs.View.{routine_view, program_of};
+ghost use Rattle.jt_ast.specs.Expressions.{Text};
+ghost use Rattle.jt_ir.specs.View.{routine_view, program_of};
 ghost use Rattle.std.specs.List.{flat_map};
 ghost use Rattle.jt_lower.specs.Lower.{numbered, routine_places, compiled};
 ghost use Rattle.jt_lower.specs.Fits.{ProgramFits};
@@ -14,24 +14,25 @@ ghost use Rattle.jt_codegen.specs.Units.{routine_units, RefusesUnits, RefusesCod
 ghost use Rattle.jt_codegen.specs.declared.emission.EmitError.TheVariants.{NoMemory};
 
 use crate::emission::{EmitError, emit_unit};
-use crate::places::told_places;
+use crate::places::place_table;
 use jt_constants::{constant_table, move_constants};
 use jt_image::{MAX_COUNT, MAX_INSTRUCTIONS, Parts, Unit, Version};
+use jt_ir::{Place, Program, Routine};
 use jt_lower::low_laws;
-use jt_resolved::{Place, Program, Routine};
 use std::alloc::Global;
 
-/// The parts of the image of a program.
+/// Returns the parts of the image of a program.
 ///
 /// # Errors
 ///
-/// `CodeTooLong` where an image has no place for them, `NoMemory` where a growth was refused.
+/// `CodeTooLong` if the code does not fit into an image.
+/// `NoMemory` if a growth is refused.
 pub(crate) fn parts_of(alloc: Global, program: &Program) -> Result<Parts, EmitError>
     requires fits { ProgramFits (program_of program.now) }
     requires few { HasFewValues (program_of program.now) }
     ensures emitted { IfOk result
         (λ p. code_of_parts p ≡ Some (compiled (program_of program.now))) }
-    // a code that is too long is refused before it is built
+    // The code is within the limit of instructions; a longer code is refused before it is built.
     ensures short { IfOk result
         (λ p. total_len (compiled (program_of program.now)).units ≤ max_instructions) }
     ensures refused { IfErr result (λ e. RefusesCode e (compiled (program_of program.now))) }
@@ -43,13 +44,10 @@ pub(crate) fn parts_of(alloc: Global, program: &Program) -> Result<Parts, EmitEr
     if program.names.len() > MAX_COUNT {
         return Err(EmitError::CodeTooLong);
     }
-    if program.pool.len() > u32::MAX as usize {
-        return Err(EmitError::CodeTooLong);
-    }
     let table = constant_table(alloc, &program.pool)?;
     let mut code = units_of(alloc, &program.routines)?;
     move_constants(&mut code.units, &table.places);
-    let named = told_places(alloc, &program.templates, &code.places)?;
+    let named = place_table(alloc, &program.templates, &code.places)?;
     Ok(Parts {
         version: Version::Two,
         globals,
@@ -57,18 +55,19 @@ pub(crate) fn parts_of(alloc: Global, program: &Program) -> Result<Parts, EmitEr
         constants: table.constants,
         units: code.units,
         templates: named.templates,
-        spots: named.spots,
+        places: named.places,
     })
 }
 
-/// Units, and the place of the tag of each instruction of all of them, if that has one.
+/// The units, and for each of their instructions the place of its tag, if it has one.
 #[derive(Drop)]
 struct Units {
     units: Vec<Unit>,
     places: Vec<Option<Place>>,
 }
 
-/// The units of routines, each with what those before it leave of the instructions.
+/// Emits the units of routines. Each unit may have the instructions that the units before it leave
+/// of the limit.
 fn units_of(alloc: Global, routines: &[Routine]) -> Result<Units, EmitError>
     ensures emitted { IfOk result (λ us. (templates : List Text)
         → each_of section_of_unit us.units.items ≡ Some (routine_units templates routines.now)) }
@@ -93,7 +92,7 @@ fn units_of(alloc: Global, routines: &[Routine]) -> Result<Units, EmitError>
     Ok(Units { units, places })
 }
 
-/// Names with their slots, from the first one on.
+/// Returns copies of names with their slots, counted from 0.
 fn names_of(alloc: Global, names: &[String]) -> Result<Vec<(u16, String)>, EmitError>
     requires { length names.now ≤ max_count }
     ensures named { IfOk result

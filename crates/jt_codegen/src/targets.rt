@@ -1,19 +1,19 @@
-//! The code that takes a value into slots, and what begins a turn of a loop.
+//! Emits the code that stores a value into targets, and the start of a turn of a loop.
 
 ghost use Rattle.std.specs.Prelude.{None};
 ghost use Rattle.jt_image.specs.declared.instruction.Instruction.TheVariants as op;
-ghost use Rattle.jt_resolved.specs.View.{targets_view};
+ghost use Rattle.jt_ir.specs.View.{targets_view};
 ghost use Rattle.jt_lower.specs.Asm.{both, one};
 ghost use Rattle.jt_lower.specs.Lower.{take_asm, stores_asm};
 ghost use Rattle.jt_lower.specs.Emission.{tag_view, PutsFor};
-ghost use Rattle.jt_codegen.specs.Statements.{slots_view};
+ghost use Rattle.jt_codegen.specs.internal.Statements.{slots_view};
 
 use jt_image::{Instruction, LoopField};
+use jt_ir::{Place, Slot, Targets};
 use jt_lower::{Emitter, store_of, unpack_of};
-use jt_resolved::{Place, Slot, Targets};
 use std::alloc::AllocError;
 
-/// Takes a value into what takes it.
+/// Emits code that pops a value and stores it into targets.
 pub(crate) fn emit_targets(
     code: &mut Emitter,
     tag: Option<Place>,
@@ -35,7 +35,8 @@ pub(crate) fn emit_targets(
     }
 }
 
-/// Takes values into slots, the last one first; where there is no slot, a value is forgotten.
+/// Emits code that pops values and stores them into slots, the last value first. A value without a
+/// slot is dropped.
 fn emit_stores(
     code: &mut Emitter,
     tag: Option<Place>,
@@ -53,7 +54,7 @@ fn emit_stores(
     Ok(())
 }
 
-/// Takes the item of a turn.
+/// Emits the start of a turn, which stores the current item into the targets.
 pub(crate) fn emit_item(
     code: &mut Emitter,
     tag: Option<Place>,

@@ -1,7 +1,7 @@
-pub mod Front
-pub mod Same
-pub mod Runs
-pub mod Typed
-pub mod Sizes
-pub mod Lawful
-pub mod Growing
+pub mod LoopPrefix
+pub mod UniqueConstants
+pub mod MergeKeepsRuns
+pub mod MergeKeepsTyping
+pub mod MergeIsNoLarger
+pub mod MergedLawsHold
+pub mod TableGrowth

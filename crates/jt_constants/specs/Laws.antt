@@ -1,4 +1,4 @@
--- What holds of every code in which equal constants have been made one.
+-- The laws of every code in which equal constants were merged.
 use Rattle.std.specs.Prelude.{◌≡◌, ◌≤◌, ◌^◌, List, length, map}
 use Rattle.std.specs.List.{flat_map, AllByRecursion}
 use Rattle.jt_value.specs.Pairs.{Pairs}
@@ -9,17 +9,19 @@ use Rattle.jt_image.specs.Spelling.{constant_bytes}
 use Rattle.jt_image.specs.Typed.{IsTyped}
 use Rattle.jt_constants.specs.Merged.{each_once, new_places, moved_unit, merged}
 
--- Its runs come to what they came to, and it is typed as it was. Its constants are not more and not
--- longer, its instructions as many.
+-- A merged code has the outcomes of the code, and is typed if the code is typed. It has no more
+-- constants and no more bytes of constants, and the same number of instructions.
 pub record MergedLaws : Type 0 where
-  pub comes : (k : Code) (x : Pairs) (o : Free) → ComesTo (merged k) x o → ComesTo k x o
-  pub came : (k : Code) (x : Pairs) (o : Free) → ComesTo k x o → ComesTo (merged k) x o
-  pub typed : (k : Code) → IsTyped k → IsTyped (merged k)
-  pub fewer : (cs : List Constant) → length (each_once cs) ≤ length cs
-  pub shorter : (cs : List Constant)
-      → length (flat_map constant_bytes (each_once cs)) ≤ length (flat_map constant_bytes cs)
-  pub sized : (k : Code) → total_len (merged k).units ≡ total_len k.units
-  pub written : (cs : List Constant) (us : List Section) → length cs ≤ 2 ^ 32
-      → AllByRecursion (λ u. AllByRecursion IsInstruction u.code) us
+  pub comes : (code : Code) (context : Pairs) (result : Free) → ComesTo (merged code) context result
+      → ComesTo code context result
+  pub came : (code : Code) (context : Pairs) (result : Free) → ComesTo code context result
+      → ComesTo (merged code) context result
+  pub typed : (code : Code) → IsTyped code → IsTyped (merged code)
+  pub fewer : (constants : List Constant) → length (each_once constants) ≤ length constants
+  pub shorter : (constants : List Constant)
+      → length (flat_map constant_bytes (each_once constants)) ≤ length (flat_map constant_bytes constants)
+  pub sized : (code : Code) → total_len (merged code).units ≡ total_len code.units
+  pub written : (constants : List Constant) (units : List Section) → length constants ≤ 2 ^ 32
+      → AllByRecursion (λ u. AllByRecursion IsInstruction u.code) units
       → AllByRecursion (λ u. AllByRecursion IsInstruction u.code)
-      (map (moved_unit (new_places cs)) us)
+      (map (moved_unit (new_places constants)) units)

@@ -1,3 +1,4 @@
 pub mod Merged
-pub mod Keys
 pub mod Laws
+pub mod Refusals
+pub mod internal

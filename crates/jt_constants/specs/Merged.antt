@@ -1,6 +1,7 @@
--- A code in which equal constants stand once: each at its first place, and each instruction names
--- the place where its constant stands.
-use Rattle.std.specs.Prelude.{ℕ, suc, Bool, true, false, List, [], ◌∷◌, ◌++◌, map, fold, slice_get, unwrap_or, if◌then◌else◌}
+-- A code in which equal constants occur once, each at its first place; each instruction names the
+-- new place of its constant.
+use Rattle.std.specs.Prelude.{ℕ, suc, Bool, true, false, List, [], ◌∷◌, ◌++◌, map, fold, slice_get, unwrap_or}
+use Rattle.std.specs.Prelude.{if◌then◌else◌}
 use Rattle.std.specs.Bool.{beq}
 use Rattle.std.specs.List.{list_any}
 use Rattle.std.specs.Ordering.{int_eq}
@@ -11,7 +12,7 @@ use Rattle.jt_image.specs.declared.instruction.Instruction.{Instruction}
 use Rattle.jt_image.specs.declared.instruction.Instruction.TheVariants as op
 use Rattle.jt_image.specs.Code.{Constant, undefined, nothing, truth_value, number, text, markup, Section, Code}
 
--- the values of a pool are constants; it has no lists and maps
+-- The constant of a value; a pool has no lists and no maps.
 abbrev pub constant_of : Tree → Constant
 constant_of tree.undefined = undefined
 constant_of tree.nothing = nothing
@@ -22,7 +23,8 @@ constant_of (tree.markup s) = markup s
 constant_of (tree.list ts) = undefined
 constant_of (tree.map es) = undefined
 
--- the same value of one kind: a text is no markup, and a number no truth value
+-- Whether two constants are equal and of one kind: a text is never markup, and a number never a
+-- truth value.
 abbrev pub same : Constant → Constant → Bool
 same undefined undefined = true
 same nothing nothing = true
@@ -32,26 +34,26 @@ same (text s) (text t) = bytes_eq s t
 same (markup s) (markup t) = bytes_eq s t
 same _ _ = false
 
--- behind the others, unless it is one of them
+-- Appends a constant, unless it occurs already.
 abbrev pub with_new : List Constant → Constant → List Constant
-with_new cs c = if list_any (same c) cs then cs else cs ++ c ∷ []
+with_new constants constant = if list_any (same constant) constants then constants else constants ++ constant ∷ []
 
--- each of them once, in the order of their first places
+-- Each constant once, in the order of their first places.
 abbrev pub each_once : List Constant → List Constant
-each_once cs = fold with_new [] cs
+each_once constants = fold with_new [] constants
 
--- the first place of a constant
+-- The first place of a constant.
 abbrev pub place_in : List Constant → Constant → ℕ
-place_in [] c = 0
-place_in (d ∷ ds) c = if same c d then 0 else suc (place_in ds c)
+place_in [] constant = 0
+place_in (first ∷ rest) constant = if same constant first then 0 else suc (place_in rest constant)
 
--- where each of them stands then
+-- The new place of each constant.
 abbrev pub new_places : List Constant → List ℕ
-new_places cs = map (place_in (each_once cs)) cs
+new_places constants = map (place_in (each_once constants)) constants
 
--- the new one of a place; a place that isn't there stays
+-- The new place for a place; a place outside `places` stays.
 abbrev pub moved : List ℕ → ℕ → ℕ
-moved places n = unwrap_or (slice_get places n) n
+moved places place = unwrap_or (slice_get places place) place
 
 abbrev pub with_places : List ℕ → Instruction → Instruction
 with_places places (op.Const c) = op.Const (moved places c)
@@ -68,13 +70,13 @@ moved_unit places u =
     }
 
 abbrev pub merged : Code → Code
-merged k =
+merged code =
     record {
-      version = k.version;
-      globals = k.globals;
-      names = k.names;
-      constants = each_once k.constants;
-      units = map (moved_unit (new_places k.constants)) k.units;
-      templates = k.templates;
-      spots = k.spots;
+      version = code.version;
+      globals = code.globals;
+      names = code.names;
+      constants = each_once code.constants;
+      units = map (moved_unit (new_places code.constants)) code.units;
+      templates = code.templates;
+      places = code.places;
     }

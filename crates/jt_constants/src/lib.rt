@@ -1,13 +1,19 @@
-//! Constants: equal ones stand once in a code.
+//! Merges constants: equal constants occur once in a code.
 //!
-//! The constants of a pool, each once (table), and instructions that name their new places
-//! (moving); what that means for a code is a law (laws). Read first: specs/Merged.antt.
+//! - table: the constants of a pool, each once.
+//! - moving: instructions that name the new places of constants.
+//! - laws: the facts about codes with merged constants.
+//! - error: why a pool has no table.
+//!
+//! Read first: specs/Merged.antt.
 #![tactic(auto)]
 
+mod error;
 mod laws;
 mod moving;
 mod table;
 
+pub use error::TableError;
 pub use laws::merged_laws;
 pub use moving::move_constants;
 pub use table::{ConstantTable, constant_table};

@@ -1,4 +1,4 @@
-//! Instructions that name the places of constants in a table where each stands once.
+//! Moves instructions to the places of constants in a table that has each constant once.
 
 ghost use Rattle.std.specs.Prelude.{◌≡◌, List, Some, map};
 ghost use Rattle.jt_image.specs.Code.{Section};
@@ -9,18 +9,18 @@ ghost use Rattle.jt_constants.specs.Merged.{moved, with_places, moved_unit};
 
 use jt_image::{Instr, Instruction, Unit};
 
-/// Lets each instruction of these units that names a constant name its new place.
+/// Replaces the place of a constant in each instruction of the units by its new place.
 pub fn move_constants(units: &mut [Unit], places: &[u32])
-    ensures { (us : List Section)
-        → each_of section_of_unit units.old ≡ Some us
-        → each_of section_of_unit units.new ≡ Some (map (moved_unit places.now) us) }
+    ensures { (sections : List Section)
+        → each_of section_of_unit units.old ≡ Some sections
+        → each_of section_of_unit units.new ≡ Some (map (moved_unit places.now) sections) }
 {
     for at in 0..units.len() {
         move_unit(&mut units[at], places);
     }
 }
 
-/// Lets each instruction of a unit that names a constant name its new place.
+/// Replaces the place of a constant in each instruction of a unit by its new place.
 fn move_unit(unit: &mut Unit, places: &[u32])
     ensures { (u : Section)
         → section_of_unit unit.old ≡ Some u
@@ -29,7 +29,7 @@ fn move_unit(unit: &mut Unit, places: &[u32])
     move_instructions(&mut unit.code, places);
 }
 
-/// Lets each of these instructions that names a constant name its new place.
+/// Replaces the place of a constant in each of the instructions by its new place.
 fn move_instructions(code: &mut [Instr], places: &[u32])
     ensures { (is : List SpecInstruction)
         → each_of instruction_of code.old ≡ Some is
@@ -40,7 +40,7 @@ fn move_instructions(code: &mut [Instr], places: &[u32])
     }
 }
 
-/// The instruction with the new place of the constant that it names.
+/// Returns the instruction with the new place of the constant that it names, if it names one.
 fn moved_instruction(instruction: Instr, places: &[u32]) -> Instr
     ensures { (i : SpecInstruction)
         → instruction_of instruction ≡ Some i
@@ -59,7 +59,7 @@ fn moved_instruction(instruction: Instr, places: &[u32]) -> Instr
     }
 }
 
-/// The new one of a place; a place that isn't there stays.
+/// Returns the new place for a place. A place outside `places` stays.
 fn moved(place: u32, places: &[u32]) -> u32
     ensures { result ≡ moved places.now place }
 {

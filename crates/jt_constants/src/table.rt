@@ -1,12 +1,14 @@
-//! The table of constants of a pool of values.
+//! Builds the table of constants of a pool of values.
 
-ghost use Rattle.std.specs.Prelude.{◌≡◌, ◌<◌, ◌^◌, length, map, IfOk, OnOk};
+ghost use Rattle.std.specs.Prelude.{◌≡◌, ◌≤◌, ◌^◌, map, IfOk, IfErr, OnOk};
 ghost use Rattle.std.specs.BTreeMap.{get};
 ghost use Rattle.jt_value.specs.View.{view};
 ghost use Rattle.jt_image.specs.View.{constant_view, constants_view};
 ghost use Rattle.jt_constants.specs.Merged.{constant_of, each_once, new_places};
-ghost use Rattle.jt_constants.specs.Keys.{key_view, key_cmp, KnowsMore};
+ghost use Rattle.jt_constants.specs.Refusals.{RefusesTable};
+ghost use Rattle.jt_constants.specs.internal.Keys.{key_view, key_cmp, KnowsMore};
 
+use crate::error::TableError;
 use jt_image::Constant;
 use jt_value::Value;
 use std::alloc::{AllocError, Global};
@@ -17,11 +19,11 @@ use std::collections::BTreeMap;
 pub struct ConstantTable {
     /// The constants, in the order of their first places in the pool.
     pub constants: Vec<Constant>,
-    /// Where each value of the pool stands among them.
+    /// The place in `constants` of each value of the pool.
     pub places: Vec<u32>,
 }
 
-/// What tells constants apart.
+/// The identity of a constant.
 #[derive(Clone, Copy, PartialEq, Eq, PartialOrd, Ord)]
 enum Key<'a> {
     Undefined,
@@ -32,14 +34,14 @@ enum Key<'a> {
     Markup(&'a str),
 }
 
-/// The place of a key, if it has one.
+/// Returns the place of a key, if it has one.
 fn known_place<'a>(known: &BTreeMap<Key<'a>, u32>, key: Key<'a>) -> Option<u32>
     ensures { result ≡ get key_cmp known.now key.entry }
 {
     known.get(&key).copied()
 }
 
-/// The key has the place from now on.
+/// Adds a key with its place.
 fn add<'a>(known: &mut BTreeMap<Key<'a>, u32>, key: Key<'a>, place: u32) -> Result<(), AllocError>
     ensures { OnOk result (KnowsMore known.old key.entry place known.new) }
 {
@@ -47,13 +49,27 @@ fn add<'a>(known: &mut BTreeMap<Key<'a>, u32>, key: Key<'a>, place: u32) -> Resu
     Ok(())
 }
 
-/// The table of the constants of a pool.
-pub fn constant_table(alloc: Global, pool: &[Value]) -> Result<ConstantTable, AllocError>
-    requires few { length pool.now < 2 ^ 32 }
+/// Returns the place after `count` constants.
+fn place_after(count: usize) -> Result<u32, TableError>
+    ensures ok { IfOk result (λ place. place ≡ count) }
+    ensures err { IfErr result (λ e. (e ≡ TableError.TooManyConstants) × (2 ^ 32 ≤ count)) }
+{
+    u32::try_from(count).map_err(|_| TableError::TooManyConstants)
+}
+
+/// Builds the table of the constants of a pool.
+///
+/// # Errors
+///
+/// - `TooManyConstants` if the pool has more than 2^32 different constants.
+/// - `NoMemory` if a growth is refused.
+pub fn constant_table(alloc: Global, pool: &[Value]) -> Result<ConstantTable, TableError>
     ensures once { IfOk result (λ t. constants_view t.constants.items
         ≡ each_once (map constant_of (map view pool.now))) }
     ensures places { IfOk result (λ t. t.places.items
         ≡ new_places (map constant_of (map view pool.now))) }
+    ensures refused { IfErr result
+        (λ e. RefusesTable e (map constant_of (map view pool.now))) }
 {
     let mut constants = Vec::with_capacity(alloc, pool.len())?;
     let mut places = Vec::with_capacity(alloc, pool.len())?;
@@ -63,7 +79,7 @@ pub fn constant_table(alloc: Global, pool: &[Value]) -> Result<ConstantTable, Al
         let place = match known_place(&known, key) {
             Some(place) => place,
             None => {
-                let place = constants.len() as u32;
+                let place = place_after(constants.len())?;
                 add(&mut known, key, place)?;
                 constants.push(constant_of(alloc, key)?)?;
                 place
@@ -74,7 +90,7 @@ pub fn constant_table(alloc: Global, pool: &[Value]) -> Result<ConstantTable, Al
     Ok(ConstantTable { constants, places })
 }
 
-/// What tells a value of a pool from others. A pool has no lists and maps.
+/// Returns the key of a value of a pool. A pool has no lists and no maps.
 fn key_of(value: &Value) -> Key<'_>
     ensures { key_view result ≡ constant_of (view value.now) }
 {
@@ -89,7 +105,7 @@ fn key_of(value: &Value) -> Key<'_>
     }
 }
 
-/// The constant of a key.
+/// Builds the constant of a key.
 fn constant_of(alloc: Global, key: Key<'_>) -> Result<Constant, AllocError>
     ensures { IfOk result (λ c. constant_view c ≡ key_view key.entry) }
 {

@@ -1,3 +1,3 @@
-mod Members
+mod MemberValues
 mod KeyOrder
-mod Turns
+mod ParseSteps

@@ -1,8 +1,10 @@
--- The values that JSON stands for, and why some of it stands for none. What a text is as JSON is
--- the JSON crate's reading: an object has each key once, with the last of its values, in byte order
+-- The values of JSON, and the reason why some JSON has none. The JSON crate states how a text is
+-- read. In what it reads, an object has each key once, with the last of its values, in byte order
 -- of the keys.
-use Rattle.std.specs.Prelude.{◌≡◌, ◌^◌, ◌||◌, ℕ, pos, Bool, true, false, List, [], ◌∷◌, Option, Some, None, option_map, option_and_then, nat_lt, nat_le, if◌then◌else◌}
-use Rattle.serde_json.specs.Data.{Num, unsigned, negative, float, Data, null, boolean, number, string, array, object, Items, no_items, item, Members, no_members, member}
+use Rattle.std.specs.Prelude.{◌≡◌, ◌^◌, ◌||◌, ℕ, pos, Bool, true, false, List, [], ◌∷◌, Option, Some, None, option_map}
+use Rattle.std.specs.Prelude.{option_and_then, nat_lt, nat_le, if◌then◌else◌}
+use Rattle.serde_json.specs.Data.{Num, unsigned, negative, float, Data, null, boolean, number, string, array, object}
+use Rattle.serde_json.specs.Data.{Items, no_items, item, Members, no_members, member}
 use Rattle.serde_json.specs.Find.{as_object}
 use Rattle.serde_json.specs.Read.{read}
 use Rattle.jt_value.specs.Tree as tree
@@ -13,13 +15,14 @@ use Rattle.jt_contexts.specs.declared.error.ContextError.TheVariants as error
 
 -- ---- values
 
--- a whole number below 2^63 is a number; no other is
+-- A whole number below 2^63 has a value; no other number has one.
 abbrev pub number_of : Num → Option Tree
 number_of (unsigned n) = if nat_lt n (2 ^ 63) then Some (tree.number (pos n)) else None
 number_of (negative z) = Some (tree.number z)
 number_of (float x) = None
 
--- the value of JSON, where each number in it has one: `null` is none, and a text is plain
+-- The value of JSON, if each number in it has one. The value of `null` is none, and that of a text
+-- is a text without markup.
 abbrev mutual
   pub value_of : Data → Option Tree
   value_of null = Some tree.nothing
@@ -38,19 +41,19 @@ abbrev mutual
   entries_of (member k d ms) =
       option_and_then (λ t. option_map (tree.entry k t) (entries_of ms)) (value_of d)
 
--- the names of an object with their values, in its order
+-- The names of an object with their values, in the object's order.
 abbrev pub pairs_in : Members → Option Pairs
 pairs_in no_members = Some []
-pairs_in (member k d ms) =
-    option_and_then (λ t. option_map (λ ps. (k, t) ∷ ps) (pairs_in ms)) (value_of d)
+pairs_in (member key json members) =
+    option_and_then (λ value. option_map (λ pairs. (key, value) ∷ pairs) (pairs_in members)) (value_of json)
 
--- the text is an object of these names and values
+-- The text is an object of these names and values.
 abbrev pub IsContext : List ℕ → Pairs → Type 0
-IsContext text ps = (ms : Members) × (read text ≡ Some (object ms)) × (pairs_in ms ≡ Some ps)
+IsContext text pairs = (members : Members) × (read text ≡ Some (object members)) × (pairs_in members ≡ Some pairs)
 
--- ---- what is none
+-- ---- JSON without a value
 
--- some number in JSON is such
+-- Whether some number in the JSON satisfies the predicate.
 abbrev mutual
   pub has_number : (Num → Bool) → Data → Bool
   has_number p null = false
@@ -68,19 +71,19 @@ abbrev mutual
   members_have p no_members = false
   members_have p (member k d ms) = has_number p d || members_have p ms
 
--- a number that the JSON crate holds as a float
+-- Whether the JSON crate holds a number as a float.
 abbrev pub is_not_whole : Num → Bool
 is_not_whole (unsigned n) = false
 is_not_whole (negative z) = false
 is_not_whole (float x) = true
 
--- a whole number of 2^63 or more
+-- Whether a number is whole and at least 2^63.
 abbrev pub is_out_of_range : Num → Bool
 is_out_of_range (unsigned n) = nat_le (2 ^ 63) n
 is_out_of_range (negative z) = false
 is_out_of_range (float x) = false
 
--- the kind of number of which a refusal speaks is there; want of memory is no claim
+-- A number of the kind that the error names occurs. `NoMemory` claims nothing.
 abbrev pub Speaks : ((Num → Bool) → Bool) → ContextError → Type 0
 Speaks there error.NotJson = ⊥
 Speaks there error.NotObject = ⊥
@@ -100,7 +103,7 @@ ItemsFlaw ds = Speaks (λ p. items_have p ds)
 abbrev pub MembersFlaw : Members → ContextError → Type 0
 MembersFlaw ms = Speaks (λ p. members_have p ms)
 
--- what a refusal says of the text holds
+-- What the error states of the text holds.
 abbrev pub Holds : List ℕ → ContextError → Type 0
 Holds text error.NotJson = read text ≡ None
 Holds text error.NotObject = (d : Data) × (read text ≡ Some d) × (as_object d ≡ None)

@@ -1,43 +1,47 @@
-//! Contexts from JSON.
+//! Reads contexts from JSON.
 ghost use Rattle.std.specs.Prelude.{◌≡◌, IfOk, IfErr, map};
 ghost use Rattle.serde_json.specs.Errors.{IsMemory};
 ghost use Rattle.serde_json.specs.View.{view as json_view, items_view as json_items, members_view};
 ghost use Rattle.jt_value.specs.ContextView.{pairs_of};
 ghost use Rattle.jt_value.specs.View.{view, items_view, entries_view};
-ghost use Rattle.jt_contexts.specs.Json.{value_of as value_of_json, items_of as items_of_json, entries_of as entries_of_json, pairs_in};
+ghost use Rattle.jt_contexts.specs.Json.{value_of as value_of_json, items_of as items_of_json};
+ghost use Rattle.jt_contexts.specs.Json.{entries_of as entries_of_json, pairs_in};
 ghost use Rattle.jt_contexts.specs.Json.{IsContext, Holds, Flaw, ItemsFlaw, MembersFlaw};
 
 use crate::error::ContextError;
 use crate::numbers::number_value;
-use crate::reading::{Unread, read_context};
+use crate::reading::{ReadError, read_context};
 use jt_value::{Context, Value};
 use serde_json::Map;
 use std::alloc::Global;
 
-/// The context whose names have the values of the members of a JSON object, in byte order of the
-/// names.
+/// Reads a context from a JSON object: each member becomes a name with its value.
 ///
-/// `null` is none, and a map has its entries in byte order of their keys. Of a key that stands
-/// twice the last value counts.
+/// The names are in byte order. `null` becomes none, and a map has its entries in byte order of
+/// their keys. If a key occurs twice, its last value counts.
 ///
 /// # Errors
 ///
-/// `NotJson` where the text is no JSON, nests deeper than 127 or has a number too large for the
-/// float that it would be; `NotObject` where the JSON is no object; `NotWhole` where a number has a
-/// point or an exponent, is below -2^63 or above 2^64 - 1, or is `-0`; `OutOfRange` where one is
-/// 2^63 to 2^64 - 1; `NoMemory` where a growth was refused.
+/// - `NotJson` if the text is not JSON, nests deeper than 127, or has a number too large for the
+///   float that it would be.
+/// - `NotObject` if the JSON is not an object.
+/// - `NotWhole` if a number has a point or an exponent, is below -2^63 or above 2^64 - 1, or is
+///   `-0`.
+/// - `OutOfRange` if a number is from 2^63 to 2^64 - 1.
+/// - `NoMemory` if a growth is refused.
 pub fn context_from_json(alloc: Global, text: &str) -> Result<Context, ContextError>
     ensures ok { IfOk result (λ c. IsContext text.now (pairs_of c)) }
     ensures err { IfErr result (Holds text.now) }
 {
     match read_context(alloc, text) {
         Ok(context) => Ok(context),
-        Err(Unread::NoMemory) => Err(ContextError::NoMemory),
-        Err(Unread::NoContext) => converted(alloc, text),
+        Err(ReadError::NoMemory) => Err(ContextError::NoMemory),
+        Err(ReadError::NoContext) => converted(alloc, text),
     }
 }
 
-/// The same in two passes, for a text that one pass does not read. It finds out why.
+/// Reads a context in two passes. It serves a text that `read_context` does not read, and finds the
+/// reason.
 fn converted(alloc: Global, text: &str) -> Result<Context, ContextError>
     ensures ok { IfOk result (λ c. IsContext text.now (pairs_of c)) }
     ensures err { IfErr result (Holds text.now) }
@@ -49,7 +53,7 @@ fn converted(alloc: Global, text: &str) -> Result<Context, ContextError>
     }
 }
 
-/// Why a text was not read.
+/// Converts an error of the JSON parser: `NoMemory` if memory ran out, else `NotJson`.
 fn unread(error: &serde_json::Error) -> ContextError
     ensures memory { IsMemory error.now → result ≡ ContextError.NoMemory }
     ensures text { ¬ IsMemory error.now → result ≡ ContextError.NotJson }
@@ -61,7 +65,7 @@ fn unread(error: &serde_json::Error) -> ContextError
     }
 }
 
-/// The context of the members of an object.
+/// Builds the context of the members of an object.
 fn context_of(
     alloc: Global,
     members: Map<String, serde_json::Value>,
@@ -79,7 +83,7 @@ fn context_of(
     Ok(context)
 }
 
-/// The value that JSON stands for.
+/// Converts a JSON value.
 #[cycle(values)]
 fn value_of(alloc: Global, json: serde_json::Value) -> Result<Value, ContextError>
     ensures ok { IfOk result (λ v. value_of_json (json_view json) ≡ Some (view v)) }
@@ -97,7 +101,7 @@ fn value_of(alloc: Global, json: serde_json::Value) -> Result<Value, ContextErro
     }
 }
 
-/// The values of the items of an array.
+/// Converts the items of an array.
 #[cycle(values)]
 fn items_of(alloc: Global, items: Vec<serde_json::Value>) -> Result<Vec<Value>, ContextError>
     ensures ok { IfOk result
@@ -111,7 +115,7 @@ fn items_of(alloc: Global, items: Vec<serde_json::Value>) -> Result<Vec<Value>, 
     Ok(values)
 }
 
-/// The entries of the members of an object.
+/// Converts the members of an object.
 #[cycle(values)]
 fn entries_of(
     alloc: Global,

@@ -1,25 +1,25 @@
-//! Why there is no context.
+//! Defines the errors of reading a context.
 
 use jt_value::NoMemory;
 use std::alloc::{AllocError, AllocFailed};
 use thiserror::Error;
 
-/// Why a text gives no context. It prints as its code and its name.
+/// The reason why a text spells no context. It prints as its code and its name.
 #[derive(Clone, Copy, Debug, PartialEq, Eq, Error)]
 pub enum ContextError {
-    /// The text is no JSON.
+    /// A text that is not JSON.
     #[error("X1 NotJson")]
     NotJson,
-    /// The JSON is no object.
+    /// JSON that is not an object.
     #[error("X2 NotObject")]
     NotObject,
-    /// A number is not whole.
+    /// A number that is not whole.
     #[error("X3 NotWhole")]
     NotWhole,
-    /// A number is 2^63 or more.
+    /// A number from 2^63 to 2^64 - 1.
     #[error("X4 OutOfRange")]
     OutOfRange,
-    /// A growth was refused.
+    /// A refused growth.
     #[error("X5 NoMemory")]
     NoMemory,
 }

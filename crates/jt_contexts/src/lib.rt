@@ -1,8 +1,8 @@
-//! Contexts from JSON.
+//! Reads contexts from JSON.
 //!
-//! `context_from_json` (contexts) reads the tokens in one pass (reading, numbers); what is refused
-//! is told by a second reading (error). Read first: specs/Json.antt, the value that a JSON text
-//! stands for.
+//! `context_from_json` (contexts) reads the tokens in one pass (reading, numbers). A text that this
+//! pass refuses is read a second time to find its error (error). Read first: specs/Json.antt, the
+//! value of a JSON text.
 #![tactic(auto)]
 
 mod contexts;

@@ -1,5 +1,6 @@
-//! The numbers of JSON.
-ghost use Rattle.std.specs.Prelude.{IfOk, IfErr, IfSome, IsTrue, Some, true, false, option_and_then, ◌≡◌, ◌==◌, ◌<◌, length, slice_index};
+//! Converts the numbers of JSON.
+ghost use Rattle.std.specs.Prelude.{IfOk, IfErr, IfSome, IsTrue, Some, true, false};
+ghost use Rattle.std.specs.Prelude.{option_and_then, ◌≡◌, ◌==◌, ◌<◌, length, slice_index};
 ghost use Rattle.fast_float.specs.Text.{minus};
 ghost use Rattle.serde_json.specs.Read.{number_of as number_in, number_from};
 ghost use Rattle.serde_json.specs.View.{number_view};
@@ -12,7 +13,7 @@ use fast_float::Numeral;
 use jt_value::Value;
 use serde_json::Number;
 
-/// The value of a number.
+/// Converts a JSON number.
 pub(crate) fn number_value(number: &Number) -> Result<Value, ContextError>
     ensures ok { IfOk result (λ v. number_of (number_view number.now) ≡ Some (view v)) }
     ensures err { IfErr result (NumberFlaw (number_view number.now)) }
@@ -24,7 +25,7 @@ pub(crate) fn number_value(number: &Number) -> Result<Value, ContextError>
     }
 }
 
-/// The whole number that the text of a number spells, if it has 64 bits with a sign.
+/// Returns the whole number that the text of a number spells, if it fits in an `i64`.
 pub(crate) fn whole_number(text: &str) -> Option<i64>
     ensures { IfSome result
         (λ n. option_and_then number_of (number_in text.now) ≡ Some (tree.number n)) }
@@ -44,7 +45,7 @@ fn has_minus(bytes: &[u8]) -> bool
     !bytes.is_empty() && bytes[0] == b'-'
 }
 
-/// The number of a numeral with no sign.
+/// Returns the value of a numeral without a sign.
 fn from_zero(numeral: &Numeral<'_>) -> Option<i64>
     ensures { IfSome result
         (λ n. option_and_then number_of (number_from false numeral.now) ≡ Some (tree.number n)) }
@@ -55,7 +56,7 @@ fn from_zero(numeral: &Numeral<'_>) -> Option<i64>
     }
 }
 
-/// The number of a numeral behind a minus. `-0` is none.
+/// Returns the value of a numeral after a minus, or `None` for `-0`.
 fn below_zero(numeral: &Numeral<'_>) -> Option<i64>
     ensures { IfSome result
         (λ n. option_and_then number_of (number_from true numeral.now) ≡ Some (tree.number n)) }

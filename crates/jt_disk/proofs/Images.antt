@@ -1,5 +1,6 @@
--- What a line leaves on a disk, from what the program tells.
-use Rattle.std.proofs.Common.{◌≡◌, ◌≢◌, ◌↔◌, ◌∙◌, Bool, Err, Global, List, None, Ok, Option, Some, String, ap, arith, codes, inl, inr, refl, string_bytes, subst, sym, ℕ}
+-- The files that a line leaves on a disk, by the contract of the program.
+use Rattle.std.proofs.Common.{◌≡◌, ◌≢◌, ◌↔◌, ◌∙◌, Bool, Err, Global, List, None, Ok, Option, Some, String, ap, arith}
+use Rattle.std.proofs.Common.{codes, inl, inr, refl, string_bytes, subst, sym, ℕ}
 use Rattle.std.specs.Prelude.{IsSome, slice_get, unwrap_or}
 use Rattle.std.specs.Str.{IsUtf8}
 use Rattle.clap.specs.Words.{Row, Text as Word}
@@ -8,28 +9,31 @@ use Rattle.jt_args.specs.Line.{IsCommand}
 use Rattle.jt_args.specs.declared.Command.{Command}
 use Rattle.jt_args.specs.declared.Command.TheVariants as command
 use Rattle.jt_scan.specs.declared.Options.{Options}
+use Rattle.jt_host.specs.declared.CallError.TheVariants as call_error
 use Rattle.jt_program.specs.declared.Failure.{Failure}
 use Rattle.jt_program.specs.declared.Failure.TheVariants as failure
 use Rattle.jt_program.specs.Commands.{Answers, ChangesOnly, CommandEnds, Ending}
-use Rattle.jt_program.specs.Telling.{Tells}
+use Rattle.jt_program.specs.Reports.{Prints}
 use Rattle.jt_program.specs.Ending.{code_of, status_of}
 use Rattle.jt_program.specs.Files.{IsLibrary, IsSource, path_in}
-use Rattle.jt_program.specs.Program.{IsImage}
+use Rattle.jt_host.specs.Calls.{IsImage}
 use Rattle.jt_disk.specs.declared.disk.Disk.{Disk}
 use Rattle.jt_disk.specs.Disk.{AreNamesIn, IsName, file_at, known_of}
 use Rattle.jt_disk.specs.Images.{AreTextsIn, HoldsImage, HoldsUpgrade, IfCompiled, IfUpgraded}
 
--- what has the same values is the same
+-- Two options with the same values are equal.
 same_value : (x y : Option (List ℕ)) → ((v : List ℕ) → (x ≡ Some v) ↔ (y ≡ Some v)) → x ≡ y
 same_value None None h = refl
 same_value None (Some v) h = (h v).1 refl
 same_value (Some v) y h = sym ((h v).0 refl)
 
--- a disk that changes only at a path holds at each other one what it held
-pub same_file : (old new : Disk) (out path : List ℕ) → ChangesOnly (known_of old) (known_of new) out → path ≢ out → file_at new path ≡ file_at old path
-same_file old new out path only other = same_value (file_at new path) (file_at old path) (λ bytes. only path bytes other)
+-- A disk that changes only at one path keeps the file at every other path.
+pub same_file : (old new : Disk) (out path : List ℕ) → ChangesOnly (known_of old) (known_of new) out → path ≢ out
+    → file_at new path ≡ file_at old path
+same_file old new out path only other =
+    same_value (file_at new path) (file_at old path) (λ bytes. only path bytes other)
 
--- a source of a directory is the text of its file
+-- A source of a directory is the text of its file.
 source_is : (disk : Disk) (dir : List ℕ) (names : List (List ℕ)) (name source : List ℕ) → AreNamesIn disk dir names
     → (o : Option (List ℕ)) → IsSource (known_of disk) dir names name o
     → (o ≡ Some source) ↔ (IsName name × (file_at disk (path_in dir name) ≡ Some source) × IsUtf8 source)
@@ -45,33 +49,42 @@ source_is disk dir names name source listed None h = (
       absurd (found.2 (subst IsUtf8 same t.2)),
 )
 
-texts_in : (disk : Disk) (dir : List ℕ) (sources : List ℕ → Option (List ℕ)) → IsLibrary (known_of disk) dir sources → AreTextsIn disk dir sources
-texts_in disk dir sources library name source = source_is disk dir library.names name source library.listed (sources name) (library.each name)
+texts_in : (disk : Disk) (dir : List ℕ) (sources : List ℕ → Option (List ℕ)) → IsLibrary (known_of disk) dir sources
+    → AreTextsIn disk dir sources
+texts_in disk dir sources library name source =
+    source_is disk dir library.names name source library.listed (sources name) (library.each name)
 
--- the two commands that write have not one name
+-- The names of the two commands that write are different.
 two_names : codes "compile" ≡ codes "upgrade" → ⊥
 two_names e = let first : 99 ≡ 117 = ap (λ (t : Word). unwrap_or (slice_get t 0) 0) e in omega (arith, first)
 
--- a line of `compile` that is done leaves the image
-image_held : (old new : Disk) (name : Word) (rows : List Row) (k : Command) (o : Options) (b : Budget) (n : ℕ) (text : String Global) → IsCommand name rows k o b n
+-- A line of `compile` that succeeds leaves the image.
+image_held : (old new : Disk) (name : Word) (rows : List Row) (k : Command) (o : Options) (b : Budget) (n : ℕ)
+    (text : String Global)
+    → IsCommand name rows k o b n
     → CommandEnds (known_of old) (known_of new) k o b (Ok text) → name ≡ codes "compile" → HoldsImage old new rows
 image_held old new name rows (command.Compile dir template out) o b n text is (only, inl unread) named = absurd unread
 image_held old new name rows (command.Compile dir template out) o b n text is (only, inr compiles) named =
     let written = compiles.written.1 in
     record {
       sources = compiles.sources;
-      texts = subst (λ (d : List ℕ). AreTextsIn old d compiles.sources) is.1 (texts_in old (string_bytes dir) compiles.sources compiles.library);
+      texts =
+          subst (λ (d : List ℕ). AreTextsIn old d compiles.sources) is.1
+          (texts_in old (string_bytes dir) compiles.sources compiles.library);
       options = o;
       asked = is.4;
       bytes = written.0;
       held = subst (λ (path : List ℕ). file_at new path ≡ Some written.0) is.3 written.1;
       image = subst (λ (t : List ℕ). IsImage compiles.sources t o written.0) is.2 written.2;
     }
-image_held old new name rows (command.Upgrade image out) o b n text is ends named = absurd (two_names (sym named ∙ is.0))
+image_held old new name rows (command.Upgrade image out) o b n text is ends named =
+    absurd (two_names (sym named ∙ is.0))
 image_held old new name rows k o b n text is ends named = absurd (cc)
 
--- a line of `upgrade` that is done leaves the image in version 2
-upgrade_held : (old new : Disk) (name : Word) (rows : List Row) (k : Command) (o : Options) (b : Budget) (n : ℕ) (text : String Global) → IsCommand name rows k o b n
+-- A line of `upgrade` that succeeds leaves the image in version 2.
+upgrade_held : (old new : Disk) (name : Word) (rows : List Row) (k : Command) (o : Options) (b : Budget) (n : ℕ)
+    (text : String Global)
+    → IsCommand name rows k o b n
     → CommandEnds (known_of old) (known_of new) k o b (Ok text) → name ≡ codes "upgrade" → HoldsUpgrade old new rows
 upgrade_held old new name rows (command.Upgrade image out) o b n text is (only, inl unread) named = absurd unread
 upgrade_held old new name rows (command.Upgrade image out) o b n text is (only, inr upgrades) named =
@@ -83,29 +96,36 @@ upgrade_held old new name rows (command.Upgrade image out) o b n text is (only, 
       held = subst (λ (path : List ℕ). file_at new path ≡ Some written.0) is.2 written.1;
       image = written.2;
     }
-upgrade_held old new name rows (command.Compile dir template out) o b n text is ends named = absurd (two_names (sym is.0 ∙ named))
+upgrade_held old new name rows (command.Compile dir template out) o b n text is ends named =
+    absurd (two_names (sym is.0 ∙ named))
 upgrade_held old new name rows k o b n text is ends named = absurd (cc)
 
--- no failure has the status 0
+-- No failure has the status 0.
 not_done : (e : Failure) → code_of (status_of e) ≡ 0 → ⊥
-not_done (failure.Fault f q) h = absurd (omega (arith, h))
+not_done (failure.Call (call_error.Fault f q)) h = absurd (omega (arith, h))
 not_done e h = absurd (omega (arith, h))
 
--- what a line that is done leaves
+-- What a line that succeeds leaves.
 abbrev IsLeft : Disk → Disk → Option (Word × List Row) → Type 0
 IsLeft old new found = IfCompiled old new found × IfUpgraded old new found
 
-ended : (old new : Disk) (found : Option (Word × List Row)) (taken left : Option (List ℕ)) (sink_failed : Bool) (e : Ending) (status : ℕ) → Answers (known_of old) (known_of new) found e
-    → Tells taken left sink_failed e status → status ≡ 0 → IsLeft old new found
+ended : (old new : Disk) (found : Option (Word × List Row)) (taken left : Option (List ℕ)) (sink_failed : Bool)
+    (e : Ending) (status : ℕ)
+    → Answers (known_of old) (known_of new) found e
+    → Prints taken left sink_failed e status → status ≡ 0 → IsLeft old new found
 ended old new None taken left sink_failed e status answers tells done = (tt, tt)
 ended old new (Some c) taken left sink_failed (Ok text) status answers tells done =
     let job = answers.job in (
       image_held old new c.0 c.1 job.command job.options job.budget job.slice text answers.asked answers.ends,
       upgrade_held old new c.0 c.1 job.command job.options job.budget job.slice text answers.asked answers.ends,
     )
-ended old new (Some c) taken left sink_failed (Err e) status answers tells done = absurd (not_done e (sym tells.0 ∙ done))
+ended old new (Some c) taken left sink_failed (Err e) status answers tells done =
+    absurd (not_done e (sym tells.0 ∙ done))
 
--- a run that is done, of which the program tells how it ended
-pub is_left : (old new : Disk) (found : Option (Word × List Row)) (taken left : Option (List ℕ)) (sink_failed : Bool) (status : ℕ)
-    → (e : Ending) × Answers (known_of old) (known_of new) found e × Tells taken left sink_failed e status → status ≡ 0 → IsLeft old new found
-is_left old new found taken left sink_failed status (e, answers, tells) done = ended old new found taken left sink_failed e status answers tells done
+-- A line with the status 0, whose end the program reports, leaves its image.
+pub is_left : (old new : Disk) (found : Option (Word × List Row)) (taken left : Option (List ℕ)) (sink_failed : Bool)
+    (status : ℕ)
+    → (e : Ending) × Answers (known_of old) (known_of new) found e × Prints taken left sink_failed e status → status ≡ 0
+    → IsLeft old new found
+is_left old new found taken left sink_failed status (e, answers, tells) done =
+    ended old new found taken left sink_failed e status answers tells done

@@ -1,26 +1,26 @@
--- What a disk in memory holds, lists and lacks.
+-- The contents of a disk in memory, and what is known of it.
 use Rattle.std.specs.Prelude.{◌≡◌, ◌↔◌, ℕ, List, Contains, Option, Some, None, IsSome, Vec, option_map}
 use Rattle.std.specs.declared.alloc.Global.{Global}
 use Rattle.std.specs.BTreeMap.{get_by_text}
 use Rattle.jt_program.specs.Files.{Known, path_in}
 use Rattle.jt_disk.specs.declared.disk.Disk.{Disk}
 
--- the bytes of the file at a path, where there is one
+-- The bytes of the file at a path, if it exists.
 abbrev pub file_at : Disk → List ℕ → Option (List ℕ)
 file_at disk path = option_map (λ (v : Vec ℕ Global). v.items) (get_by_text disk.files path)
 
--- no slash stands in the name
+-- The name contains no slash.
 abbrev pub IsName : List ℕ → Type 0
 IsName name = Contains name 47 → ⊥
 
--- a name is among these exactly where the disk has a file of that name directly in the directory
+-- The names are exactly those of the files directly in the directory.
 abbrev pub AreNamesIn : Disk → List ℕ → List (List ℕ) → Type 0
 AreNamesIn disk dir names =
     (name : List ℕ)
     → (Contains names name) ↔ (IsName name × IsSome (file_at disk (path_in dir name)))
 
--- all of what is known of a disk: a file holds its bytes and no others, a directory lists its
--- files, and a path where there is no file fails
+-- All that is known of a disk: a file holds its bytes and no others, a directory lists its files,
+-- and each path without a file fails.
 abbrev pub known_of : Disk → Known
 known_of disk = record {
   holds = λ path bytes. file_at disk path ≡ Some bytes;

@@ -1,4 +1,4 @@
-//! Files in memory, of which a contract says all that is to be known.
+//! Files in memory. Contracts state their contents in full.
 
 ghost use Rattle.std.specs.Prelude.{◌≡◌, ◌≢◌, ℕ, List, Some, None, OnOk, IfSome, IfNone};
 ghost use Rattle.jt_program.specs.Files.{path_in};
@@ -8,7 +8,7 @@ use jt_program::{FileError, Files};
 use std::alloc::{AllocError, Global};
 use std::collections::BTreeMap;
 
-/// Files in memory, by their paths. `memory` gives none for want of memory.
+/// Files in memory, by their paths. Reading the path `memory` fails for lack of memory.
 #[derive(Drop)]
 pub struct Disk {
     alloc: Global,
@@ -16,7 +16,7 @@ pub struct Disk {
 }
 
 impl Disk {
-    /// No file.
+    /// Returns a disk without files.
     pub fn new(alloc: Global) -> Disk
         ensures { (path : List ℕ) → file_at result path ≡ None }
     {
@@ -26,7 +26,11 @@ impl Disk {
         }
     }
 
-    /// Makes `bytes` the contents of the file at `path`.
+    /// Sets the contents of the file at `path` to `bytes`.
+    ///
+    /// # Errors
+    ///
+    /// `AllocError` if a growth is refused.
     pub fn put(&mut self, path: &str, bytes: &[u8]) -> Result<(), AllocError>
         ensures put { OnOk result (file_at self.new path.now ≡ Some bytes.now) }
         ensures others { (other : List ℕ)
@@ -40,7 +44,7 @@ impl Disk {
     }
 }
 
-/// The name of a file directly in `dir`, by its path.
+/// Returns the name of the file at `path`, if it lies directly in `dir`.
 fn name_in<'a>(dir: &str, path: &'a str) -> Option<&'a str>
     ensures name { IfSome result
         (λ name. (path.now ≡ path_in dir.now name.now) × IsName name.now) }

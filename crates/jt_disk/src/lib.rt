@@ -1,7 +1,7 @@
-//! Files in memory, of which all is known, and what the program's contract then tells of them.
+//! A disk in memory whose contents are known in full, and the program's contract over such a disk.
 //!
-//! The disk (disk) and a line over it (over_disk). Read first: over_disk.rt, whose clause says
-//! which files a line leaves.
+//! The disk (disk) and a line of the program over it (over_disk). Read first: over_disk.rt, whose
+//! clauses state which files a line leaves.
 #![tactic(auto)]
 
 mod disk;

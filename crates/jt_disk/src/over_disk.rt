@@ -1,11 +1,11 @@
-//! What the program tells of a disk, of which all is known.
+//! Performs lines of the program on a disk whose contents are known in full.
 
 ghost use Rattle.std.specs.Prelude.{◌≡◌, ◌≢◌, ◌⊎◌, ℕ, List, codes};
 ghost use Rattle.clap.specs.Walk.{texts};
 ghost use Rattle.clap.specs.Words.{subcommand_of};
 ghost use Rattle.jt_args.specs.Line.{Asks, Takes, program_app};
 ghost use Rattle.jt_program.specs.Commands.{Answers, Ending, out_of};
-ghost use Rattle.jt_program.specs.Telling.{Explains, Tells};
+ghost use Rattle.jt_program.specs.Reports.{Explains, Prints};
 ghost use Rattle.jt_disk.specs.Disk.{file_at, known_of};
 ghost use Rattle.jt_disk.specs.Images.{IfCompiled, IfUpgraded};
 
@@ -14,7 +14,7 @@ use jt_machine::Sink;
 use jt_program::perform;
 use std::alloc::Global;
 
-/// Does over a disk what `words` ask for, and answers the status.
+/// Performs the line `words` on a disk, and returns the status.
 pub fn performed<W: Sink, E: Sink>(
     alloc: Global,
     words: &[&str],
@@ -22,26 +22,28 @@ pub fn performed<W: Sink, E: Sink>(
     out: &mut W,
     errors: &mut E,
 ) -> u8
-    // where it is 0, and the line one of `compile`, the disk holds the image
+    // if the status is 0 and the line is one of `compile`, the disk holds the image
     ensures compiled { result ≡ 0
         → IfCompiled disk.old disk.new (subcommand_of program_app (texts words.now)) }
-    // where it is 0, and the line one of `upgrade`, the disk holds the image of IN in version 2
+    // if the status is 0 and the line is one of `upgrade`, the disk holds the image of IN in
+    // version 2
     ensures upgraded { result ≡ 0
         → IfUpgraded disk.old disk.new (subcommand_of program_app (texts words.now)) }
-    // whatever it is, the disk holds at each path but OUT what it held there, or nothing
+    // whatever the status, every path other than OUT has the file that it had, or none as before
     ensures others { (path : List ℕ)
         → path ≢ out_of (subcommand_of program_app (texts words.now))
         → file_at disk.new path ≡ file_at disk.old path }
     ensures kept { ¬ Asks (codes "compile") (texts words.now)
         → ¬ Asks (codes "upgrade") (texts words.now)
         → disk.new ≡ disk.old }
-    // it tells how the command of the line ended, over all that is known of the disk
+    // unless the status is 2 or 6, it and both outputs report how the command of the line ended on
+    // this disk
     ensures ends { result ≢ 2
         → result ≢ 6
         → (e : Ending)
         × Answers (known_of disk.old) (known_of disk.new)
         (subcommand_of program_app (texts words.now)) e
-        × Tells (W.taken out.old) (W.taken out.new) (W.failed out.new) e result
+        × Prints (W.taken out.old) (W.taken out.new) (W.failed out.new) e result
         × Explains (E.taken errors.old) (E.taken errors.new) (E.failed errors.new) e result }
     ensures usage { ¬ Takes (texts words.now) → (result ≡ 2) ⊎ (result ≡ 6) }
     ensures taken { Takes (texts words.now) → result ≢ 2 }

@@ -1,14 +1,15 @@
-//! A host of templates over jt_host alone: sources, an image, and a letter for each of three
-//! contexts.
+//! A host of templates over jt_host alone: it compiles a letter from sources and prints it for each
+//! of three contexts.
 //!
-//! Read first: `main`; what is proved of the image is said at `accepted`, of a letter at `written`.
+//! Read first: `main`. The contract of `accepted` states what is proved of the image, that of
+//! `written` what is proved of a letter.
 #![tactic(auto)]
 
 ghost use Rattle.std.specs.Prelude.{◌≡◌, IfOk, IfSome, codes, option_map};
 ghost use Rattle.std.specs.List.{find};
 ghost use Rattle.std.specs.Str.{bytes_eq};
 ghost use Rattle.jt_host.specs.Compiled.{IsCompiled};
-ghost use Rattle.jt_embedding.specs.Letters.{IsLine, IsWritten, usual};
+ghost use Rattle.jt_embedding.specs.internal.Letters.{IsLine, IsWritten, usual};
 
 use jt_host::{
     Budget, Library, Options, Outcome, Verified, compile, context_from_json, run, verify,
@@ -24,15 +25,15 @@ const BUDGET: Budget = Budget {
     nesting: 8,
 };
 
-/// Templates by their names.
+/// A library over a list of names and sources.
 #[derive(Drop)]
-struct Shelf<'a> {
+struct MemoryLibrary<'a> {
     templates: &'a [(&'a str, &'a str)],
 }
 
-impl Library for Shelf<'_> {
-    ghost sources = { λ shelf name. option_map (λ pair. pair.1.now)
-        (find (λ pair. bytes_eq pair.0.now name) shelf.templates.now) };
+impl Library for MemoryLibrary<'_> {
+    ghost sources = { λ memory_library name. option_map (λ pair. pair.1.now)
+        (find (λ pair. bytes_eq pair.0.now name) memory_library.templates.now) };
 
     fn source(&self, name: &str) -> Option<&str> {
         match self.templates.iter().find(|pair| pair.0 == name) {
@@ -43,7 +44,7 @@ impl Library for Shelf<'_> {
 }
 
 fn main(rt: HostRuntime) -> io::Result<()> {
-    let shelf = Shelf {
+    let memory_library = MemoryLibrary {
         templates: &[
             ("page", "<p>{% block body %}{% endblock %}</p>"),
             (
@@ -52,7 +53,7 @@ fn main(rt: HostRuntime) -> io::Result<()> {
             ),
         ],
     };
-    let Some(letter) = accepted(rt.alloc(), "letter", &shelf) else {
+    let Some(letter) = accepted(rt.alloc(), "letter", &memory_library) else {
         return println!(rt; "no letter");
     };
     for json in [
@@ -66,7 +67,7 @@ fn main(rt: HostRuntime) -> io::Result<()> {
     Ok(())
 }
 
-/// The image of a template of a library, once and for all.
+/// Compiles and verifies a template of a library, once for any number of runs.
 fn accepted<L: Library>(alloc: Global, name: &str, library: &L) -> Option<Verified>
     ensures { IfSome result (IsCompiled (L.sources library.now) name.now usual) }
 {
@@ -74,7 +75,7 @@ fn accepted<L: Library>(alloc: Global, name: &str, library: &L) -> Option<Verifi
     verify(alloc, image).ok()
 }
 
-/// How a run of an image ends for a context in JSON.
+/// Runs an image for a context in JSON and returns its outcome.
 fn written(alloc: Global, letter: &Verified, json: &str) -> Option<Outcome>
     ensures { IfSome result (IsWritten letter.now json.now BUDGET) }
 {
@@ -82,7 +83,7 @@ fn written(alloc: Global, letter: &Verified, json: &str) -> Option<Outcome>
     run(alloc, letter, &context, BUDGET).ok()
 }
 
-/// The line that tells how a run ended.
+/// Returns the line that reports how a run ended.
 fn line(alloc: Global, outcome: Option<Outcome>) -> Result<String, AllocError>
     ensures { IfOk result (λ line. IsLine outcome line) }
 {

@@ -1,9 +1,8 @@
--- Escaping of texts, which are their UTF-8 bytes. The five characters are ASCII, and no byte of a
--- longer character is ASCII: so a byte with the code of one of them is that character.
+-- The escaped forms of texts, which are their UTF-8 bytes. The five characters are ASCII, and no
+-- byte of a longer character is ASCII. So a byte with the code of one of them is that character.
 use Rattle.std.specs.Prelude.{ℕ, ◌==◌, if◌then◌else◌, List, [], ◌∷◌, flat_map, Option, Some, None, unwrap_or, codes}
 
--- the entity that stands for a character, by the character's code: `&` is 38, `<` 60, `>` 62, `'`
--- 39 and `"` 34
+-- The entity of a character, by the character's code: `&` is 38, `<` 60, `>` 62, `'` 39 and `"` 34.
 abbrev pub entity : ℕ → Option (List ℕ)
 entity byte =
     if byte == 38 then Some (codes "&amp;") else
@@ -13,10 +12,10 @@ entity byte =
     if byte == 34 then Some (codes "&#34;") else
     None
 
--- what is written for one byte: its entity, or else the byte itself
+-- The escaped form of one byte: its entity, or the byte itself if no entity exists.
 abbrev pub escaped_byte : ℕ → List ℕ
 escaped_byte byte = unwrap_or (entity byte) (byte ∷ [])
 
--- what is written for a text
+-- The escaped form of a text.
 abbrev pub escaped : List ℕ → List ℕ
 escaped text = flat_map escaped_byte text

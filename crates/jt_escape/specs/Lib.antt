@@ -1,3 +1,3 @@
 pub mod Escaping
 pub mod Joining
-pub mod Appending
+pub mod internal

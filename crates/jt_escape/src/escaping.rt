@@ -1,18 +1,23 @@
-//! The five characters that HTML gives a meaning, written as its entities.
-ghost use Rattle.std.specs.Prelude.{◌≡◌, ◌+◌, ◌<◌, ◌++◌, length, option_map, OnOk, OnErr, string_bytes, string_len, string_capacity};
+//! Escapes the five characters that have a meaning in HTML.
+ghost use Rattle.std.specs.Prelude.{◌≡◌, ◌+◌, ◌<◌, ◌++◌, length, option_map, OnOk, OnErr};
+ghost use Rattle.std.specs.Prelude.{string_bytes, string_len, string_capacity};
 ghost use Rattle.jt_escape.specs.Escaping.{escaped, entity};
-ghost use Rattle.jt_escape.specs.Appending.{Extends};
+ghost use Rattle.jt_escape.specs.internal.Appending.{Extends};
 
 use jt_value::NoMemory;
 use std::alloc::AllocError;
 
-/// Appends the text with `&`, `<`, `>`, `'` and `"` written as `&amp;`, `&lt;`, `&gt;`, `&#39;` and
-/// `&#34;`. Where memory is refused, the string keeps the bytes that it had.
+/// Appends `text` to `into`, with `&`, `<`, `>`, `'` and `"` written as `&amp;`, `&lt;`, `&gt;`,
+/// `&#39;` and `&#34;`.
+///
+/// # Errors
+///
+/// `NoMemory` if a growth is refused. The string then keeps the bytes that it had.
 pub fn escape_into(text: &str, into: &mut String) -> Result<(), NoMemory>
     ensures ok { OnOk result (string_bytes into.new ≡ string_bytes into.old ++ escaped text.now) }
     ensures unchanged { OnErr result (string_bytes into.new ≡ string_bytes into.old) }
 
-    // It fails only where the string had to grow.
+    // It fails only if the string has to grow.
     ensures full { OnErr result
         (string_capacity into.old < string_len into.old + length (escaped text.now)) }
 {
@@ -24,14 +29,14 @@ pub fn escape_into(text: &str, into: &mut String) -> Result<(), NoMemory>
     Ok(())
 }
 
-/// Appends the escaped text. A refusal leaves what was appended before it.
+/// Appends the escaped text. If a growth is refused, the bytes that were already appended stay.
 pub(crate) fn append_escaped(text: &str, into: &mut String) -> Result<(), AllocError>
     ensures ok { OnOk result (string_bytes into.new ≡ string_bytes into.old ++ escaped text.now) }
     ensures full { OnErr result
         (string_capacity into.old < string_len into.old + length (escaped text.now)) }
     ensures grown { Extends (string_bytes into.old) (string_bytes into.new) }
 {
-    // All before `written` is appended. What lies between it and `at` needs no entity.
+    // All bytes before `written` are appended. The bytes from `written` to `at` need no entity.
     let mut written = 0;
     for (at, byte) in text.as_bytes().iter().enumerate() {
         if let Some(entity) = entity_of(*byte) {
@@ -44,7 +49,7 @@ pub(crate) fn append_escaped(text: &str, into: &mut String) -> Result<(), AllocE
     Ok(())
 }
 
-/// What stands for a byte, if it can't stand for itself.
+/// Returns the entity that replaces a byte, or `None` if the byte is printed as it is.
 fn entity_of(byte: u8) -> Option<&'static str>
     ensures { option_map (λ text. text.now) result ≡ entity byte }
 {

@@ -1,25 +1,32 @@
-//! The rule of filter `join`.
-ghost use Rattle.std.specs.Prelude.{◌≡◌, ◌++◌, Bool, IfErr, IsOk, IsSome, OnOk, if◌then◌else◌, option_map, string_bytes};
+//! Joins values by the rule of the filter `join`.
+ghost use Rattle.std.specs.Prelude.{◌≡◌, ◌++◌, Bool, IfErr, IsOk, IsSome, OnOk, if◌then◌else◌};
+ghost use Rattle.std.specs.Prelude.{option_map, string_bytes};
 ghost use Rattle.std.specs.List.{join_by};
 ghost use Rattle.std.specs.Option.{is_some};
 ghost use Rattle.jt_value.specs.Tree.{printed};
 ghost use Rattle.jt_value.specs.View.{view, items_view};
 ghost use Rattle.jt_escape.specs.Escaping.{escaped};
-ghost use Rattle.jt_escape.specs.Joining.{is_markup, has_markup, piece, pieces, joined_text, joined_plain, joined_as_markup, joined_markup, IsAnswer};
-ghost use Rattle.jt_escape.specs.Appending.{are_printable, led_pieces, Appends, Makes};
+ghost use Rattle.jt_escape.specs.Joining.{is_markup, has_markup, piece, pieces, joined_text};
+ghost use Rattle.jt_escape.specs.Joining.{joined_plain, joined_as_markup, joined_markup, IsAnswer};
+ghost use Rattle.jt_escape.specs.internal.Appending.{are_printable, led_pieces, Appends, Makes};
 
 use crate::escaping::append_escaped;
 use itoa::Buffer;
 use jt_value::{Fault, Value, ValueError};
 use std::alloc::{AllocError, Global};
 
-/// The items' printed texts with the separator's between them, as `join` gives them under
-/// autoescaping: markup where an item or the separator is, with all else escaped, and else a plain
-/// text. The only fault is `Unprintable`, the separator's included where there is nothing to
-/// separate.
+/// Joins the printed texts of `items` with the separator's text between them, as `join` does under
+/// autoescaping. If an item or the separator is markup, the result is markup and all else is
+/// escaped. Otherwise the result is a plain text.
+///
+/// # Errors
+///
+/// - `Unprintable` if an item or the separator has no printed text. The separator needs one even if
+///   there is nothing to separate.
+/// - `NoMemory` if a growth is refused.
 pub fn join_markup(alloc: Global, items: &[Value], separator: &Value) -> Result<Value, ValueError>
     ensures answer { IsAnswer (joined_markup (items_view items.now) (view separator.now)) result }
-    // Only where the join is a value is want of memory answered.
+    // Lack of memory is reported only if the join is a value.
     ensures memory { IfErr result (λ e. e ≡ ValueError.NoMemory
         → IsOk (joined_markup (items_view items.now) (view separator.now))) }
 {
@@ -29,11 +36,16 @@ pub fn join_markup(alloc: Global, items: &[Value], separator: &Value) -> Result<
     join_plain(alloc, items, separator)
 }
 
-/// The items' printed texts with the separator's between them, as `join` gives them without
-/// autoescaping: a plain text. The only fault is `Unprintable`.
+/// Joins the printed texts of `items` with the separator's text between them, as `join` does
+/// without autoescaping. The result is a plain text.
+///
+/// # Errors
+///
+/// - `Unprintable` if an item or the separator has no printed text.
+/// - `NoMemory` if a growth is refused.
 pub fn join_plain(alloc: Global, items: &[Value], separator: &Value) -> Result<Value, ValueError>
     ensures answer { IsAnswer (joined_plain (items_view items.now) (view separator.now)) result }
-    // Only where the join is a value is want of memory answered.
+    // Lack of memory is reported only if the join is a value.
     ensures memory { IfErr result (λ e. e ≡ ValueError.NoMemory
         → IsOk (joined_plain (items_view items.now) (view separator.now))) }
 {
@@ -75,7 +87,7 @@ fn are_printable(items: &[Value]) -> bool
     items.iter().all(|item| is_printable(item))
 }
 
-/// Whether the separator and each item have a printed text.
+/// Returns whether the separator and each item have a printed text.
 fn have_texts(items: &[Value], separator: &Value) -> bool
     ensures { (escaping : Bool)
         → is_some (joined_text escaping (items_view items.now) (view separator.now)) ≡ result }
@@ -83,7 +95,8 @@ fn have_texts(items: &[Value], separator: &Value) -> bool
     is_printable(separator) && are_printable(items)
 }
 
-/// The fault is looked for before anything is built. The separator is printed in every case.
+/// Joins the texts of items. Checks for the fault before it builds anything, and prints the
+/// separator in every case.
 fn join_text(
     alloc: Global,
     items: &[Value],
@@ -122,7 +135,7 @@ fn join_between(
     Ok(joined)
 }
 
-/// Appends each item's piece behind the separator's.
+/// Appends the piece of each item with the separator's piece before it.
 fn append_led(
     between: &str,
     items: &[Value],

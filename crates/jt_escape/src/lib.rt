@@ -1,6 +1,6 @@
-//! Escaping: texts written so that HTML reads them as text, and joins that keep markup.
+//! Escapes texts so that HTML reads them as text, and joins values so that markup is kept.
 //!
-//! The five characters (escaping) and the rule of `join` (joining). Read first:
+//! The five characters are in escaping, the rule of `join` in joining. Read first:
 //! specs/Escaping.antt.
 #![tactic(auto)]
 

@@ -1,4 +1,4 @@
--- The tokens of a cursor, and what its steps take of them.
+-- The tokens of a cursor, and those that its operations take.
 use Rattle.std.specs.Prelude.{◌≡◌, ℕ, Bool, false, List, [], ◌∷◌, map, Option, Some, None, Result, Ok, Err}
 use Rattle.std.specs.Str.{chars}
 use denote.Ref.{Bor}
@@ -12,11 +12,11 @@ use Rattle.jt_expr.specs.declared.error.ExprError.TheVariants as e
 use Rattle.jt_expr.specs.Front.{past}
 use Rattle.jt_expr.specs.Grammar.{Tokens, is_reserved}
 
--- the tokens that are still to be read
+-- The tokens that have not been read yet.
 abbrev pub ahead : Cursor → Tokens
 ahead c = map token_view c.rest.now
 
--- the token in front is taken where the test holds
+-- The first token is taken if the test holds.
 abbrev pub Passes : (Tokens → Bool) → Cursor → Cursor → Type 0
 Passes test old new = ahead new ≡ past (test (ahead old)) (ahead old)
 
@@ -24,14 +24,14 @@ abbrev pub Takes : Tokens → Option Token → Tokens → Type 0
 Takes ts None new = (ts ≡ []) × (new ≡ [])
 Takes ts (Some t) new = ts ≡ token_view t ∷ new
 
--- the sign, or it does not stand in front
+-- The sign is taken, or the tokens do not begin with it.
 abbrev pub TakesSign : Sign → Tokens → Result (Unit {0}) ExprError → Tokens → Type 0
 TakesSign k ts (Ok x) new = ts ≡ cut.sign k ∷ new
 TakesSign k ts (Err e.Syntax) new = (v : Tokens) → ts ≡ cut.sign k ∷ v → ⊥
 TakesSign k ts (Err e.TooDeep) new = ⊥
 TakesSign k ts (Err e.NoMemory) new = ⊥
 
--- a name, or none stands in front
+-- A name is taken, or the tokens do not begin with one.
 abbrev pub TakesAName : Tokens → Result (Bor (List ℕ)) ExprError → Tokens → Type 0
 TakesAName ts (Ok s) new = (ts ≡ cut.name (chars s.now) ∷ new) × (is_reserved (chars s.now) ≡ false)
 TakesAName ts (Err e.Syntax) new =

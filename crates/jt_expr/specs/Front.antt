@@ -1,12 +1,12 @@
--- What stands in front of tokens.
+-- Tests of the first token.
 use Rattle.std.specs.Prelude.{ℕ, Bool, false, ◌==◌, [], ◌∷◌, drop, bytes_eq, if◌then◌else◌}
 use Rattle.jt_scan.specs.declared.segment.Sign.{Sign}
 use Rattle.jt_scan.specs.declared.segment.Sign.TheVariants as s
 use Rattle.jt_scan.specs.Cut as cut
-use Rattle.jt_trees.specs.Expressions.{Text}
+use Rattle.jt_ast.specs.Expressions.{Text}
 use Rattle.jt_expr.specs.Grammar.{Tokens}
 
--- the place of a sign in the list of all
+-- The discriminant of a sign.
 abbrev pub code : Sign → ℕ
 code s.Plus = 0
 code s.Minus = 1
@@ -33,7 +33,7 @@ code s.NotEqual = 21
 code s.LessEqual = 22
 code s.GreaterEqual = 23
 
--- the sign
+-- The first token is the sign.
 abbrev pub sees : Sign → Tokens → Bool
 sees k [] = false
 sees k (cut.name x ∷ ts) = false
@@ -41,7 +41,7 @@ sees k (cut.number n ∷ ts) = false
 sees k (cut.text v ∷ ts) = false
 sees k (cut.sign j ∷ ts) = code j == code k
 
--- the word
+-- The first token is the word.
 abbrev pub says : Text → Tokens → Bool
 says w [] = false
 says w (cut.name x ∷ ts) = bytes_eq x w
@@ -49,6 +49,6 @@ says w (cut.number n ∷ ts) = false
 says w (cut.text v ∷ ts) = false
 says w (cut.sign k ∷ ts) = false
 
--- what stands behind the first token, where it is one that is taken
+-- The tokens without the first one, if it is taken.
 abbrev pub past : Bool → Tokens → Tokens
 past b ts = if b then drop 1 ts else ts

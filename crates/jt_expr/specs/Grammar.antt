@@ -1,25 +1,29 @@
--- Which tree the tokens of a tag spell: one rule a form. The tokens are those of the cut.
-use Rattle.std.specs.Prelude.{◌≡◌, ℤ, Bool, true, false, not, ◌||◌, List, [], ◌∷◌, ◌++◌, codes, encode_utf8_all, bytes_eq, Option, Some, None, if◌then◌else◌}
+-- The grammar of expressions: the trees that the tokens of a tag spell, with one rule for each
+-- form. The tokens are those of Cut in jt_scan.
+use Rattle.std.specs.Prelude.{◌≡◌, ℤ, Bool, true, false, not, ◌||◌, List, [], ◌∷◌, ◌++◌, codes, encode_utf8_all}
+use Rattle.std.specs.Prelude.{bytes_eq, Option, Some, None, if◌then◌else◌}
 use Rattle.std.specs.List.{list_any}
 use Rattle.jt_scan.specs.declared.segment.Sign.{Sign}
 use Rattle.jt_scan.specs.declared.segment.Sign.TheVariants as s
 use Rattle.jt_scan.specs.Cut as cut
 use Rattle.jt_scan.specs.Cut.{Token}
-use Rattle.jt_trees.specs.declared.expression.UnaryOperator.TheVariants as u
-use Rattle.jt_trees.specs.declared.expression.BinaryOperator.{BinaryOperator}
-use Rattle.jt_trees.specs.declared.expression.BinaryOperator.TheVariants as o
-use Rattle.jt_trees.specs.Expressions.{Text, Literal, number, text, truth, nothing, Expr, constant, name, group, list_of, map_of, attribute, item, call, filter, test, unary, binary, when, choice, Exprs, no_exprs, expr, Pairs, no_pairs, pair}
+use Rattle.jt_ast.specs.declared.expression.UnaryOperator.TheVariants as u
+use Rattle.jt_ast.specs.declared.expression.BinaryOperator.{BinaryOperator}
+use Rattle.jt_ast.specs.declared.expression.BinaryOperator.TheVariants as o
+use Rattle.jt_ast.specs.Expressions.{Text, Literal, number, text, truth, nothing, Expr, constant, name, group, list_of}
+use Rattle.jt_ast.specs.Expressions.{map_of, attribute, item, call, filter, test, unary, binary, when, choice, Exprs}
+use Rattle.jt_ast.specs.Expressions.{no_exprs, expr, Pairs, no_pairs, pair}
 
 abbrev pub Tokens : Type 0
 Tokens = List Token
 
 -- ---- words
 
--- a word of the language, as a token
+-- A word of the language, as a token.
 abbrev pub word : Text → Token
 word x = cut.name x
 
--- the reserved words, which are no names
+-- The reserved words, which cannot be names.
 abbrev pub reserved : List Text
 reserved =
     codes "and" ∷ codes "or" ∷ codes "not" ∷ codes "if" ∷ codes "else" ∷ codes "in" ∷ codes "is"
@@ -28,7 +32,7 @@ reserved =
 abbrev pub is_reserved : Text → Bool
 is_reserved x = list_any (bytes_eq x) reserved
 
--- the constants
+-- The literal that a word spells.
 abbrev pub literal_of : Text → Option Literal
 literal_of x =
     if bytes_eq x (codes "true") then Some (truth true)
@@ -41,7 +45,7 @@ literal_of x =
 
 -- ---- levels of the grammar
 
--- from the loosest to the tightest
+-- The precedence levels, from the loosest to the tightest.
 pub data Level : Type 0 where
   whole : Level
   disjunction : Level
@@ -52,12 +56,12 @@ pub data Level : Type 0 where
   concatenation : Level
   product : Level
   power : Level
-  -- filters and tests
+  -- Filters and tests.
   postscript : Level
   signed : Level
   postfix : Level
 
--- the next tighter one
+-- The next tighter level.
 abbrev pub next : Level → Level
 next whole = disjunction
 next disjunction = conjunction
@@ -72,7 +76,7 @@ next postscript = signed
 next signed = postfix
 next postfix = postfix
 
--- any number of operators, which group from the left
+-- The levels with any number of operators, which are left-associative.
 abbrev pub is_chain : Level → Bool
 is_chain disjunction = true
 is_chain conjunction = true
@@ -122,12 +126,12 @@ operator_tokens o.Power = cut.sign s.Power ∷ []
 
 -- ---- tests
 
--- `is`, or `is not`
+-- The tokens `is` or `is not`.
 abbrev pub is_tokens : Bool → Tokens
 is_tokens false = word (codes "is") ∷ []
 is_tokens true = word (codes "is") ∷ word (codes "not") ∷ []
 
--- A word behind these is a test's name. `not` directly behind `is` never is.
+-- The word after these tokens is the name of a test. A `not` directly after `is` is no such name.
 abbrev pub names_test : Bool → Text → Bool
 names_test true x = true
 names_test false x = not (bytes_eq x (codes "not"))
@@ -136,7 +140,7 @@ abbrev pub is_literal : Option Literal → Bool
 is_literal (Some l) = true
 is_literal None = false
 
--- a constant or a name
+-- The word is a constant or a name.
 abbrev pub is_operand : Text → Bool
 is_operand x = is_literal (literal_of x) || not (is_reserved x)
 
@@ -145,7 +149,7 @@ opens_argument s.LeftBracket = true
 opens_argument s.LeftBrace = true
 opens_argument _ = false
 
--- a test's argument without parentheses stands here
+-- The tokens begin with the argument of a test without parentheses.
 abbrev pub begins_argument : Tokens → Bool
 begins_argument [] = false
 begins_argument (cut.name x ∷ ts) = is_operand x
@@ -153,60 +157,60 @@ begins_argument (cut.number n ∷ ts) = true
 begins_argument (cut.text v ∷ ts) = true
 begins_argument (cut.sign k ∷ ts) = opens_argument k
 
--- ---- what stands in brackets
+-- ---- sequences in brackets
 
--- the items of a list, the entries of a map, or arguments, which all have names behind the first
--- that has one
-pub data Row : Type 0 where
-  items : Row
-  entries : Row
-  arguments : Row
-  keywords : Row
+-- The items of a list, the entries of a map, or arguments. After a keyword argument there are only
+-- keyword arguments.
+pub data SequenceKind : Type 0 where
+  items : SequenceKind
+  entries : SequenceKind
+  arguments : SequenceKind
+  keywords : SequenceKind
 
-abbrev pub closer : Row → Sign
+abbrev pub closer : SequenceKind → Sign
 closer items = s.RightBracket
 closer entries = s.RightBrace
 closer arguments = s.RightParen
 closer keywords = s.RightParen
 
--- expressions without a key may stand there
-abbrev pub takes_plain : Row → Bool
+-- The sequence may have expressions without a key.
+abbrev pub takes_plain : SequenceKind → Bool
 takes_plain items = true
 takes_plain arguments = true
 takes_plain _ = false
 
--- names may stand there, with `=` behind them
-abbrev pub takes_names : Row → Bool
+-- The sequence may have names with `=` as keys.
+abbrev pub takes_names : SequenceKind → Bool
 takes_names arguments = true
 takes_names keywords = true
 takes_names _ = false
 
--- what goes on behind a part with this key
-abbrev pub behind_key : Row → Option Text → Row
+-- The kind of the rest of a sequence after a part with this key.
+abbrev pub behind_key : SequenceKind → Option Text → SequenceKind
 behind_key arguments (Some k) = keywords
 behind_key r k = r
 
-abbrev pub Parts : Type 0
-Parts = Exprs × Pairs
+abbrev pub LeveledList : Type 0
+LeveledList = Exprs × Pairs
 
-abbrev pub no_parts : Parts
+abbrev pub no_parts : LeveledList
 no_parts = (no_exprs, no_pairs)
 
--- one part, with a key or without, before others
-abbrev pub put : Option Text → Expr → Parts → Parts
+-- A sequence with one part prepended, with or without a key.
+abbrev pub put : Option Text → Expr → LeveledList → LeveledList
 put None t p = (expr t p.0, p.1)
 put (Some k) t p = (p.0, pair k t p.1)
 
 -- ---- the rules
 
 mutual
-  -- the tokens spell the tree, as a form of the level
+  -- The tokens spell the tree as a form of the level.
   pub data Spells : Level → Expr → Tokens → Type 0 where
     plain : {t : Expr} {x : Tokens} → Spells disjunction t x → Spells whole t x
-    -- a if c
+    -- `a if c`
     an_if : {c a : Expr} {x y : Tokens} → Spells disjunction a x → Spells disjunction c y
         → Spells whole (when c a) (x ++ (word (codes "if") ∷ y))
-    -- a if c else b
+    -- `a if c else b`
     an_if_else : {c a b : Expr} {x y z : Tokens} → Spells disjunction a x → Spells disjunction c y
         → Spells whole b z
         → Spells whole (choice c a b) (x ++ (word (codes "if") ∷ (y ++ (word (codes "else") ∷ z))))
@@ -215,12 +219,12 @@ mutual
     inverted : {t : Expr} {x : Tokens} → Spells inversion t x
         → Spells inversion (unary u.Not t) (word (codes "not") ∷ x)
     upright : {t : Expr} {x : Tokens} → Spells comparison t x → Spells inversion t x
-    -- one comparison at most
+    -- At most one comparison.
     compared : {op : BinaryOperator} {a b : Expr} {x y : Tokens} → level_of op ≡ comparison
         → Spells sum a x → Spells sum b y
         → Spells comparison (binary op a b) (x ++ (operator_tokens op ++ y))
     alone : {t : Expr} {x : Tokens} → Spells sum t x → Spells comparison t x
-    -- filters and tests
+    -- Filters and tests.
     postscripts : {a t : Expr} {x y : Tokens} → Spells signed a x → Goes postscript a t y
         → Spells postscript t (x ++ y)
     minus : {t : Expr} {x : Tokens} → Spells signed t x
@@ -231,7 +235,7 @@ mutual
     postfixes : {a t : Expr} {x y : Tokens} → Primary a x → Goes postfix a t y
         → Spells postfix t (x ++ y)
 
-  -- behind the first tree the tokens make the second of it, in the same level
+  -- The tokens after the first tree extend it to the second tree, at the same level.
   pub data Goes : Level → Expr → Expr → Tokens → Type 0 where
     stay : {k : Level} {t : Expr} → Goes k t t []
     operated : {k : Level} {op : BinaryOperator} {a b t : Expr} {x y : Tokens} → is_chain k ≡ true
@@ -268,31 +272,31 @@ mutual
     a_map : {ps : Pairs} {x : Tokens} → Holds entries (no_exprs, ps) x
         → Primary (map_of ps) (cut.sign s.LeftBrace ∷ x)
 
-  -- of a filter: none, or some in parentheses
-  pub data Arguments : Parts → Tokens → Type 0 where
+  -- The arguments of a filter: none, or a sequence in parentheses.
+  pub data Arguments : LeveledList → Tokens → Type 0 where
     without : Arguments no_parts []
-    within : {p : Parts} {x : Tokens} → Holds arguments p x → Arguments p (cut.sign s.LeftParen ∷ x)
+    within : {p : LeveledList} {x : Tokens} → Holds arguments p x → Arguments p (cut.sign s.LeftParen ∷ x)
 
-  -- of a test: as of a filter, or one postfix form
-  pub data TestArguments : Parts → Tokens → Type 0 where
-    as_filter : {p : Parts} {x : Tokens} → Arguments p x → TestArguments p x
+  -- The arguments of a test: those of a filter, or one postfix form.
+  pub data TestArguments : LeveledList → Tokens → Type 0 where
+    as_filter : {p : LeveledList} {x : Tokens} → Arguments p x → TestArguments p x
     bare : {t : Expr} {x : Tokens} → begins_argument x ≡ true → Spells postfix t x
         → TestArguments (expr t no_exprs, no_pairs) x
 
-  -- a row's parts with commas between them, where one may stand behind the last, and the closing
-  -- sign
-  pub data Holds : Row → Parts → Tokens → Type 0 where
-    closed : {r : Row} → Holds r no_parts (cut.sign (closer r) ∷ [])
-    last : {r : Row} {k : Option Text} {t : Expr} {x : Tokens} → IsPart r k t x
+  -- The parts of a sequence with commas between them, and the closing sign. A comma may follow the
+  -- last part.
+  pub data Holds : SequenceKind → LeveledList → Tokens → Type 0 where
+    closed : {r : SequenceKind} → Holds r no_parts (cut.sign (closer r) ∷ [])
+    last : {r : SequenceKind} {k : Option Text} {t : Expr} {x : Tokens} → IsPart r k t x
         → Holds r (put k t no_parts) (x ++ (cut.sign (closer r) ∷ []))
-    more : {r : Row} {k : Option Text} {t : Expr} {p : Parts} {x y : Tokens} → IsPart r k t x
+    more : {r : SequenceKind} {k : Option Text} {t : Expr} {p : LeveledList} {x y : Tokens} → IsPart r k t x
         → Holds (behind_key r k) p y → Holds r (put k t p) (x ++ (cut.sign s.Comma ∷ y))
 
-  pub data IsPart : Row → Option Text → Expr → Tokens → Type 0 where
-    without_key : {r : Row} {t : Expr} {x : Tokens} → takes_plain r ≡ true → Spells whole t x
+  pub data IsPart : SequenceKind → Option Text → Expr → Tokens → Type 0 where
+    without_key : {r : SequenceKind} {t : Expr} {x : Tokens} → takes_plain r ≡ true → Spells whole t x
         → IsPart r None t x
     an_entry : {v : Text} {t : Expr} {x : Tokens} → Spells whole t x
         → IsPart entries (Some (encode_utf8_all v)) t (cut.text v ∷ cut.sign s.Colon ∷ x)
-    by_name : {r : Row} {n : Text} {t : Expr} {x : Tokens} → takes_names r ≡ true
+    by_name : {r : SequenceKind} {n : Text} {t : Expr} {x : Tokens} → takes_names r ≡ true
         → is_reserved n ≡ false → Spells whole t x
         → IsPart r (Some (encode_utf8_all n)) t (cut.name n ∷ cut.sign s.Assign ∷ x)

@@ -1,10 +1,7 @@
 pub mod Grammar
 pub mod Front
-pub mod Reading
 pub mod Cursor
-pub mod Elements
-pub mod Collecting
-pub mod Gives
 pub mod Sizes
 pub mod Named
 pub mod Promises
+pub mod internal

@@ -1,22 +1,23 @@
--- Filters and tests whose names have a meaning. A filter's arguments may name filters and tests
+-- Unknown filters and tests in expressions. The arguments of a filter may name filters and tests,
 -- too.
 use Rattle.std.specs.Prelude.{ℕ, suc, Bool, true, false, not, ◌||◌, Option, Some, None}
 use Rattle.std.specs.Option.{is_some}
 use Rattle.jt_ids.specs.TestTable.{test_of_name}
 use Rattle.jt_ids.specs.FilterTable.{filter_of_name, named_at}
 use Rattle.jt_ids.specs.declared.filter_id.FilterId.{FilterId}
-use Rattle.jt_ids.specs.declared.filter_id.Naming.{Naming}
-use Rattle.jt_ids.specs.declared.filter_id.Naming.TheVariants as naming
+use Rattle.jt_ids.specs.declared.filter_id.ArgumentRole.{ArgumentRole}
+use Rattle.jt_ids.specs.declared.filter_id.ArgumentRole.TheVariants as naming
 use Rattle.jt_expr.specs.declared.named.Named.{Named}
 use Rattle.jt_expr.specs.declared.named.Named.TheVariants as n
-use Rattle.jt_trees.specs.Written.{literal_text, filter_written}
-use Rattle.jt_trees.specs.Expressions.{Text, Expr, constant, name, group, list_of, map_of, attribute, item, call, filter, test, unary, binary, when, choice, Exprs, no_exprs, expr, Pairs, no_pairs, pair}
+use Rattle.jt_ast.specs.Written.{literal_text, filter_written}
+use Rattle.jt_ast.specs.Expressions.{Text, Expr, constant, name, group, list_of, map_of, attribute, item, call, filter}
+use Rattle.jt_ast.specs.Expressions.{test, unary, binary, when, choice, Exprs, no_exprs, expr, Pairs, no_pairs, pair}
 
--- a test has the name
+-- A test has the name.
 unfoldable pub is_test : Text → Bool
 is_test x = is_some (test_of_name x)
 
--- a filter has the name
+-- A filter has the name.
 unfoldable pub is_filter : Text → Bool
 is_filter x = is_some (filter_of_name x)
 
@@ -28,58 +29,62 @@ abbrev pub unknown_test : Named → Text → Bool
 unknown_test n.Filter x = false
 unknown_test n.Test x = not (is_test x)
 
--- a name that an argument gives; the key of an attribute always has a meaning
-abbrev pub unknown_naming : Named → Naming → Text → Bool
-unknown_naming u naming.Filter x = unknown_filter u x
-unknown_naming u naming.Test x = unknown_test u x
-unknown_naming u naming.Key x = false
+-- The name in an argument is that of an unknown filter or test. The key of an attribute is always
+-- known.
+abbrev pub unknown_naming : Named → ArgumentRole → Text → Bool
+unknown_naming wanted naming.Filter x = unknown_filter wanted x
+unknown_naming wanted naming.Test x = unknown_test wanted x
+unknown_naming wanted naming.Key x = false
 
-abbrev pub argument_unknown : Named → Option Naming → Option Text → Bool
-argument_unknown u None literal = false
-argument_unknown u (Some what) None = false
-argument_unknown u (Some what) (Some x) = unknown_naming u what x
+abbrev pub argument_unknown : Named → Option ArgumentRole → Option Text → Bool
+argument_unknown wanted None literal = false
+argument_unknown wanted (Some what) None = false
+argument_unknown wanted (Some what) (Some x) = unknown_naming wanted what x
 
--- one of a filter's arguments, from a place among its values on, names a filter or a test that
--- there is not
+-- One of the arguments, which are counted from `place`, names an unknown filter or test.
 abbrev pub arguments_unknown : Named → FilterId → ℕ → Exprs → Bool
-arguments_unknown u f place no_exprs = false
-arguments_unknown u f place (expr t ts) =
-    argument_unknown u (named_at f place) (literal_text t) || arguments_unknown u f (suc place) ts
+arguments_unknown wanted filter_id place no_exprs = false
+arguments_unknown wanted filter_id place (expr first rest) =
+    argument_unknown wanted (named_at filter_id place) (literal_text first)
+    || arguments_unknown wanted filter_id (suc place) rest
 
 abbrev pub inside_unknown : Named → Option FilterId → Exprs → Bool
-inside_unknown u None ts = false
-inside_unknown u (Some f) ts = arguments_unknown u f 1 ts
+inside_unknown wanted None arguments = false
+inside_unknown wanted (Some filter_id) arguments = arguments_unknown wanted filter_id 1 arguments
 
--- a filter's own name, or one that its arguments name
+-- The name of a filter, or a name in its arguments, is unknown.
 unfoldable pub filter_unknown : Named → Text → Exprs → Pairs → Bool
-filter_unknown u x ts ps = unknown_filter u x || inside_unknown u (filter_written x ts ps) ts
+filter_unknown wanted filter_name arguments keywords =
+    unknown_filter wanted filter_name || inside_unknown wanted (filter_written filter_name arguments keywords) arguments
 
--- in the tree stands a filter, or a test, whose name has no meaning
+-- The expression contains an unknown filter or test.
 abbrev mutual
   pub has_unknown : Named → Expr → Bool
-  has_unknown u (constant l) = false
-  has_unknown u (name x) = false
-  has_unknown u (group a) = has_unknown u a
-  has_unknown u (list_of ts) = exprs_have_unknown u ts
-  has_unknown u (map_of ps) = pairs_have_unknown u ps
-  has_unknown u (attribute a k) = has_unknown u a
-  has_unknown u (item a b) = has_unknown u a || has_unknown u b
-  has_unknown u (call a ts ps) =
-      has_unknown u a || (exprs_have_unknown u ts || pairs_have_unknown u ps)
-  has_unknown u (filter a x ts ps) =
-      filter_unknown u x ts ps
-      || (has_unknown u a || (exprs_have_unknown u ts || pairs_have_unknown u ps))
-  has_unknown u (test a b x ts ps) =
-      unknown_test u x || (has_unknown u a || (exprs_have_unknown u ts || pairs_have_unknown u ps))
-  has_unknown u (unary op a) = has_unknown u a
-  has_unknown u (binary op a b) = has_unknown u a || has_unknown u b
-  has_unknown u (when c a) = has_unknown u c || has_unknown u a
-  has_unknown u (choice c a b) = has_unknown u c || (has_unknown u a || has_unknown u b)
+  has_unknown wanted (constant literal) = false
+  has_unknown wanted (name x) = false
+  has_unknown wanted (group inner) = has_unknown wanted inner
+  has_unknown wanted (list_of items) = exprs_have_unknown wanted items
+  has_unknown wanted (map_of entries) = pairs_have_unknown wanted entries
+  has_unknown wanted (attribute value key) = has_unknown wanted value
+  has_unknown wanted (item value index) = has_unknown wanted value || has_unknown wanted index
+  has_unknown wanted (call callee arguments keywords) =
+      has_unknown wanted callee || (exprs_have_unknown wanted arguments || pairs_have_unknown wanted keywords)
+  has_unknown wanted (filter value filter_name arguments keywords) =
+      filter_unknown wanted filter_name arguments keywords
+      || (has_unknown wanted value || (exprs_have_unknown wanted arguments || pairs_have_unknown wanted keywords))
+  has_unknown wanted (test value negated test_name arguments keywords) =
+      unknown_test wanted test_name
+      || (has_unknown wanted value || (exprs_have_unknown wanted arguments || pairs_have_unknown wanted keywords))
+  has_unknown wanted (unary op operand) = has_unknown wanted operand
+  has_unknown wanted (binary op left right) = has_unknown wanted left || has_unknown wanted right
+  has_unknown wanted (when condition value) = has_unknown wanted condition || has_unknown wanted value
+  has_unknown wanted (choice condition value other) =
+      has_unknown wanted condition || (has_unknown wanted value || has_unknown wanted other)
 
   pub exprs_have_unknown : Named → Exprs → Bool
-  exprs_have_unknown u no_exprs = false
-  exprs_have_unknown u (expr t ts) = has_unknown u t || exprs_have_unknown u ts
+  exprs_have_unknown wanted no_exprs = false
+  exprs_have_unknown wanted (expr first rest) = has_unknown wanted first || exprs_have_unknown wanted rest
 
   pub pairs_have_unknown : Named → Pairs → Bool
-  pairs_have_unknown u no_pairs = false
-  pairs_have_unknown u (pair k t ps) = has_unknown u t || pairs_have_unknown u ps
+  pairs_have_unknown wanted no_pairs = false
+  pairs_have_unknown wanted (pair key value rest) = has_unknown wanted value || pairs_have_unknown wanted rest

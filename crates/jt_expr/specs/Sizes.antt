@@ -1,4 +1,4 @@
--- How long the names and texts of tokens are, in bytes.
+-- The length of the names and texts of tokens, in bytes.
 use Rattle.std.specs.Prelude.{ℕ, ◌+◌, List, [], ◌∷◌, length, encode_utf8_all}
 use Rattle.jt_scan.specs.Cut as cut
 use Rattle.jt_scan.specs.Cut.{Token}

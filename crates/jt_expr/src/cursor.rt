@@ -4,39 +4,40 @@ ghost use Rattle.std.specs.Prelude.{◌≡◌, length, map};
 ghost use Rattle.jt_scan.specs.View.{token_view};
 ghost use Rattle.jt_scan.specs.Words.{letters_of};
 ghost use Rattle.jt_expr.specs.Front as front;
-ghost use Rattle.jt_expr.specs.Reading as reading;
+ghost use Rattle.jt_expr.specs.internal.Reading as reading;
 ghost use Rattle.jt_expr.specs.Grammar as grammar;
 ghost use Rattle.jt_expr.specs.Cursor.{ahead, Passes, Takes, TakesSign, TakesAName};
-ghost use Rattle.jt_expr.specs.Gives.{level_of_chain, Operates, OperatesAt, NamesBy, TextsBy, GivesWord};
+ghost use Rattle.jt_expr.specs.internal.Pending.{level_view};
+ghost use Rattle.jt_expr.specs.internal.Gives.{Operates, OperatesAt, NamesBy, TextsBy, GivesWord};
 
 use crate::error::ExprError;
-use crate::rows::ChainLevel;
+use crate::pending::Level;
 use crate::words::{is_operand, is_reserved};
+use jt_ast::BinaryOperator;
 use jt_scan::{Sign, Token, is_word};
-use jt_trees::BinaryOperator;
 
-/// The tokens that are still to be read.
+/// The tokens of a tag that have not been read yet.
 #[derive(Drop)]
 pub struct Cursor<'a> {
     rest: &'a [Token<'a>],
 }
 
 impl<'a> Cursor<'a> {
-    /// All the tokens of a tag.
+    /// Creates a cursor over all tokens of a tag.
     pub fn new(tokens: &'a [Token<'a>]) -> Cursor<'a>
         ensures { ahead result ≡ map token_view tokens.now }
     {
         Cursor { rest: tokens }
     }
 
-    /// How many tokens there are.
+    /// Returns the number of remaining tokens.
     pub fn left(&self) -> usize
         ensures { result ≡ length (ahead self.now) }
     {
         self.rest.len()
     }
 
-    /// Whether the sign stands in front.
+    /// Returns whether the next token is this sign.
     pub(crate) fn sees(&self, sign: Sign) -> bool
         ensures { result ≡ front.sees sign (ahead self.now) }
     {
@@ -46,7 +47,7 @@ impl<'a> Cursor<'a> {
         }
     }
 
-    /// Whether the word stands in front.
+    /// Returns whether the next token is this word.
     pub(crate) fn says(&self, word: &str) -> bool
         ensures { result ≡ front.says (letters_of word.now) (ahead self.now) }
     {
@@ -56,7 +57,7 @@ impl<'a> Cursor<'a> {
         }
     }
 
-    /// Whether a test's argument without parentheses stands in front.
+    /// Returns whether the next token begins the argument of a test without parentheses.
     pub(crate) fn begins_argument(&self) -> bool
         ensures { result ≡ grammar.begins_argument (ahead self.now) }
     {
@@ -68,7 +69,7 @@ impl<'a> Cursor<'a> {
         }
     }
 
-    /// Takes the first token.
+    /// Takes the next token.
     pub fn take(&mut self) -> Option<Token<'a>>
         ensures { Takes (ahead self.old) result (ahead self.new) }
     {
@@ -81,7 +82,7 @@ impl<'a> Cursor<'a> {
         }
     }
 
-    /// Takes the sign, if it stands in front.
+    /// Takes the sign if it is the next token, and returns whether it was.
     pub fn eat(&mut self, sign: Sign) -> bool
         ensures found { result ≡ front.sees sign (ahead self.old) }
         ensures rest { Passes (front.sees sign) self.old self.new }
@@ -93,7 +94,7 @@ impl<'a> Cursor<'a> {
         found
     }
 
-    /// Takes the word, if it stands in front.
+    /// Takes the word if it is the next token, and returns whether it was.
     pub fn eat_word(&mut self, word: &str) -> bool
         ensures found { result ≡ front.says (letters_of word.now) (ahead self.old) }
         ensures rest { Passes (front.says (letters_of word.now)) self.old self.new }
@@ -105,7 +106,11 @@ impl<'a> Cursor<'a> {
         found
     }
 
-    /// Takes the sign, which must stand in front.
+    /// Takes the sign.
+    ///
+    /// # Errors
+    ///
+    /// `Syntax` if the next token is not this sign.
     pub fn expect(&mut self, sign: Sign) -> Result<(), ExprError>
         ensures { TakesSign sign (ahead self.old) result (ahead self.new) }
     {
@@ -116,8 +121,8 @@ impl<'a> Cursor<'a> {
         }
     }
 
-    /// Takes any word.
-    #[tactic(auto, unfolding(crate::specs::Reading::word_at))]
+    /// Takes a word, which may be reserved.
+    #[tactic(auto, unfolding(crate::specs::internal::Reading::word_at))]
     pub(crate) fn word(&mut self) -> Result<&'a str, ExprError>
         ensures { GivesWord (reading.word_at (ahead self.old)) result (ahead self.new) }
     {
@@ -128,6 +133,10 @@ impl<'a> Cursor<'a> {
     }
 
     /// Takes a name.
+    ///
+    /// # Errors
+    ///
+    /// `Syntax` if the next token is no name or a reserved word.
     pub fn name(&mut self) -> Result<&'a str, ExprError>
         ensures { TakesAName (ahead self.old) result (ahead self.new) }
     {
@@ -137,8 +146,8 @@ impl<'a> Cursor<'a> {
         }
     }
 
-    /// Takes a name and the `=` behind it.
-    #[tactic(auto, unfolding(crate::specs::Reading::keyword))]
+    /// Takes a name and the `=` after it, if they are next.
+    #[tactic(auto, unfolding(crate::specs::internal::Reading::keyword))]
     pub(crate) fn keyword(&mut self) -> Option<&'a str>
         ensures { NamesBy reading.keyword self.old result self.new }
     {
@@ -151,8 +160,8 @@ impl<'a> Cursor<'a> {
         }
     }
 
-    /// Takes a text and the colon behind it.
-    #[tactic(auto, unfolding(crate::specs::Reading::entry_key))]
+    /// Takes a text literal and the colon after it, if they are next.
+    #[tactic(auto, unfolding(crate::specs::internal::Reading::entry_key))]
     pub(crate) fn entry_key(&mut self) -> Option<&'a str>
         ensures { TextsBy reading.entry_key self.old result self.new }
     {
@@ -165,22 +174,26 @@ impl<'a> Cursor<'a> {
         }
     }
 
-    /// An operator of the level.
-    pub(crate) fn operator(&mut self, level: ChainLevel) -> Option<BinaryOperator>
-        ensures { OperatesAt (level_of_chain level) self.old result self.new }
+    /// Takes an operator of the level, if one is next.
+    #[tactic(auto, unfolding(crate::specs::internal::Reading::operator))]
+    pub(crate) fn operator(&mut self, level: Level) -> Option<BinaryOperator>
+        ensures { OperatesAt (level_view level) self.old result self.new }
     {
         match level {
-            ChainLevel::Disjunction => self.or_operator(),
-            ChainLevel::Conjunction => self.and_operator(),
-            ChainLevel::Sum => self.sum_operator(),
-            ChainLevel::Concatenation => self.concatenation_operator(),
-            ChainLevel::Product => self.product_operator(),
-            ChainLevel::Power => self.power_operator(),
+            Level::Disjunction => self.or_operator(),
+            Level::Conjunction => self.and_operator(),
+            Level::Comparison => self.comparison(),
+            Level::Sum => self.sum_operator(),
+            Level::Concatenation => self.concatenation_operator(),
+            Level::Product => self.product_operator(),
+            Level::Power => self.power_operator(),
+            Level::Whole | Level::Inversion | Level::Postscript | Level::Signed | Level::Postfix =>
+                None,
         }
     }
 
-    /// `or`
-    #[tactic(auto, unfolding(crate::specs::Reading::operator))]
+    /// Takes `or`, if it is next.
+    #[tactic(auto, unfolding(crate::specs::internal::Reading::operator))]
     fn or_operator(&mut self) -> Option<BinaryOperator>
         ensures { OperatesAt grammar.disjunction self.old result self.new }
     {
@@ -191,8 +204,8 @@ impl<'a> Cursor<'a> {
         }
     }
 
-    /// `and`
-    #[tactic(auto, unfolding(crate::specs::Reading::operator))]
+    /// Takes `and`, if it is next.
+    #[tactic(auto, unfolding(crate::specs::internal::Reading::operator))]
     fn and_operator(&mut self) -> Option<BinaryOperator>
         ensures { OperatesAt grammar.conjunction self.old result self.new }
     {
@@ -203,9 +216,9 @@ impl<'a> Cursor<'a> {
         }
     }
 
-    /// `==` and its like, `in` and `not in`
-    #[tactic(auto, unfolding(crate::specs::Reading::operator))]
-    pub(crate) fn comparison(&mut self) -> Option<BinaryOperator>
+    /// Takes a comparison operator, `in` or `not in`, if one is next.
+    #[tactic(auto, unfolding(crate::specs::internal::Reading::operator))]
+    fn comparison(&mut self) -> Option<BinaryOperator>
         ensures { OperatesAt grammar.comparison self.old result self.new }
     {
         if self.eat(Sign::Equal) {
@@ -227,7 +240,7 @@ impl<'a> Cursor<'a> {
         }
     }
 
-    /// `not in`, and nothing is taken where only the `not` stands.
+    /// Takes `not in`, if both words are next. A `not` alone is not taken.
     fn not_in(&mut self) -> Option<BinaryOperator>
         ensures { Operates (reading.not_in (ahead self.old)) (ahead self.old) result
             (ahead self.new) }
@@ -242,8 +255,8 @@ impl<'a> Cursor<'a> {
         }
     }
 
-    /// `+` and `-`
-    #[tactic(auto, unfolding(crate::specs::Reading::operator))]
+    /// Takes `+` or `-`, if one is next.
+    #[tactic(auto, unfolding(crate::specs::internal::Reading::operator))]
     fn sum_operator(&mut self) -> Option<BinaryOperator>
         ensures { OperatesAt grammar.sum self.old result self.new }
     {
@@ -256,8 +269,8 @@ impl<'a> Cursor<'a> {
         }
     }
 
-    /// `~`
-    #[tactic(auto, unfolding(crate::specs::Reading::operator))]
+    /// Takes `~`, if it is next.
+    #[tactic(auto, unfolding(crate::specs::internal::Reading::operator))]
     fn concatenation_operator(&mut self) -> Option<BinaryOperator>
         ensures { OperatesAt grammar.concatenation self.old result self.new }
     {
@@ -268,8 +281,8 @@ impl<'a> Cursor<'a> {
         }
     }
 
-    /// `*`, `//` and `%`
-    #[tactic(auto, unfolding(crate::specs::Reading::operator))]
+    /// Takes `*`, `//` or `%`, if one is next.
+    #[tactic(auto, unfolding(crate::specs::internal::Reading::operator))]
     fn product_operator(&mut self) -> Option<BinaryOperator>
         ensures { OperatesAt grammar.product self.old result self.new }
     {
@@ -284,8 +297,8 @@ impl<'a> Cursor<'a> {
         }
     }
 
-    /// `**`
-    #[tactic(auto, unfolding(crate::specs::Reading::operator))]
+    /// Takes `**`, if it is next.
+    #[tactic(auto, unfolding(crate::specs::internal::Reading::operator))]
     fn power_operator(&mut self) -> Option<BinaryOperator>
         ensures { OperatesAt grammar.power self.old result self.new }
     {
@@ -297,7 +310,7 @@ impl<'a> Cursor<'a> {
     }
 }
 
-/// The place of a sign in the list of all.
+/// Returns the discriminant of a sign.
 fn code(sign: Sign) -> u8
     ensures { result ≡ front.code sign }
 {

@@ -1,15 +1,15 @@
-//! Why tokens are no expression.
+//! The errors of the expression parser.
 
 use std::alloc::{AllocError, AllocFailed};
 
-/// Why tokens are no expression. Who reads a tag shows it, with the tag's line.
+/// The reason why tokens are no expression. The caller reports it with the line of the tag.
 #[derive(Clone, Copy, Debug, Drop, PartialEq, Eq)]
 pub enum ExprError {
-    /// No tree is spelled so.
+    /// The tokens spell no tree.
     Syntax,
-    /// Each tree that is spelled so has more levels than are allowed.
+    /// Each tree that the tokens spell has too many levels.
     TooDeep,
-    /// A growth was refused.
+    /// A growth is refused.
     NoMemory,
 }
 

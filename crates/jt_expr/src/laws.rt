@@ -1,9 +1,8 @@
-//! What callers' proofs rest on.
+//! The laws of expressions, for the proofs of callers.
 
 ghost use Rattle.jt_expr.specs.Promises.{ExpressionLaws};
 
-/// The laws of expressions and the tokens that spell them. It does nothing: a caller learns them
-/// from its contract.
+/// States the laws of expressions and their tokens in its contract. It does nothing.
 pub fn expression_laws()
     ensures { ExpressionLaws }
 {}

@@ -1,30 +1,34 @@
-//! Expressions of templates: the tree that the tokens of a tag spell.
+//! Parses the tokens of a tag into an expression.
 //!
-//! `expression` (tag) over a cursor (cursor); the rules of the grammar, a function a rule (grammar,
-//! rows), which count levels (part); names of filters and tests (named). Read first:
-//! specs/Grammar.antt, one rule a form, and grammar.rt beside it.
+//! `tag` has the entry point `expression`. `cursor` reads tokens, `grammar` and `rows` build trees,
+//! `moves` takes the tokens of one form, `reader` keeps the forms that wait for a tree, `part`
+//! counts levels, and `named` finds unknown filters and tests. Read first: specs/Grammar.antt,
+//! with one rule for each form, and reader.rt beside it.
 #![tactic(auto)]
 
+mod builders;
 mod cursor;
 mod error;
 mod grammar;
 mod laws;
-mod making;
+mod moves;
 mod named;
 mod part;
+mod pending;
+mod reader;
 mod rows;
 mod tag;
 mod words;
 
+pub use builders::copy_of;
 pub use cursor::Cursor;
 pub use error::ExprError;
 pub use grammar::{arguments, read};
 pub use laws::expression_laws;
-pub use making::copy_of;
 pub use named::{
     Named, any_unknown, any_unknown_argument, any_unknown_pair, has_unknown, is_filter_unknown,
 };
-pub use part::{Part, Parts};
-pub use rows::Form;
+pub use part::{LeveledExpr, LeveledList};
+pub use rows::NestedForm;
 pub use tag::expression;
 pub use words::literal_of;

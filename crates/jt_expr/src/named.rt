@@ -1,36 +1,36 @@
-//! Filters and tests whose names have a meaning, those too that a filter's arguments name.
+//! Finds the names of unknown filters and tests, also in the arguments of filters.
 
 ghost use Rattle.std.specs.Prelude.{◌≡◌, ◌||◌};
 ghost use Rattle.jt_ids.specs.FilterTable.{named_at};
-ghost use Rattle.jt_trees.specs.ExpressionView.{expr_view, exprs_view, pairs_view};
-ghost use Rattle.jt_trees.specs.Written.{literal_text};
+ghost use Rattle.jt_ast.specs.ExpressionView.{expr_view, exprs_view, pairs_view};
+ghost use Rattle.jt_ast.specs.Written.{literal_text};
 ghost use Rattle.jt_expr.specs.Named as spec;
 
-use jt_ids::{FilterId, Naming, TestId};
-use jt_trees::{Expr, filter_of, literal_text};
+use jt_ast::{Expr, filter_of, literal_text};
+use jt_ids::{ArgumentRole, FilterId, TestId};
 
-/// What has a name that may have no meaning.
+/// The kind of names that a search for unknown names looks at.
 #[derive(Clone, Copy)]
 pub enum Named {
     Filter,
     Test,
 }
 
-/// Whether a test has the name.
+/// Returns whether a test has this name.
 fn is_test(name: &str) -> bool
     ensures { result ≡ spec.is_test name.now }
 {
     TestId::by_name(name).is_some()
 }
 
-/// Whether a filter has the name.
+/// Returns whether a filter has this name.
 fn is_filter(name: &str) -> bool
     ensures { result ≡ spec.is_filter name.now }
 {
     FilterId::by_name(name).is_some()
 }
 
-/// Whether a test of this name is what is looked for.
+/// Returns whether the search is for tests and no test has this name.
 fn is_unknown_test(name: &str, named: Named) -> bool
     ensures { result ≡ spec.unknown_test named name.now }
 {
@@ -40,7 +40,7 @@ fn is_unknown_test(name: &str, named: Named) -> bool
     }
 }
 
-/// Whether a filter of this name is what is looked for.
+/// Returns whether the search is for filters and no filter has this name.
 fn is_unknown_filter(name: &str, named: Named) -> bool
     ensures { result ≡ spec.unknown_filter named name.now }
 {
@@ -50,18 +50,18 @@ fn is_unknown_filter(name: &str, named: Named) -> bool
     }
 }
 
-/// Whether a name that an argument gives is what is looked for.
-fn is_unknown_naming(naming: Naming, name: &str, named: Named) -> bool
+/// Returns whether a name with this role is an unknown name that the search is for.
+fn is_unknown_naming(naming: ArgumentRole, name: &str, named: Named) -> bool
     ensures { result ≡ spec.unknown_naming named naming name.now }
 {
     match naming {
-        Naming::Filter => is_unknown_filter(name, named),
-        Naming::Test => is_unknown_test(name, named),
-        Naming::Key => false,
+        ArgumentRole::Filter => is_unknown_filter(name, named),
+        ArgumentRole::Test => is_unknown_test(name, named),
+        ArgumentRole::Key => false,
     }
 }
 
-/// Whether the argument at a place of a filter gives such a name.
+/// Returns whether the argument at a position of a filter is an unknown name.
 fn argument_unknown(filter: FilterId, place: usize, argument: &Expr, named: Named) -> bool
     ensures { result ≡ spec.argument_unknown named (named_at filter place)
         (literal_text (expr_view argument.now)) }
@@ -75,7 +75,7 @@ fn argument_unknown(filter: FilterId, place: usize, argument: &Expr, named: Name
     }
 }
 
-/// Whether one of a filter's arguments by place gives such a name.
+/// Returns whether a positional argument of a filter is an unknown name.
 fn arguments_unknown(filter: FilterId, items: &[Expr], named: Named) -> bool
     ensures { result ≡ spec.arguments_unknown named filter 1 (exprs_view items.now) }
 {
@@ -87,7 +87,7 @@ fn arguments_unknown(filter: FilterId, items: &[Expr], named: Named) -> bool
     false
 }
 
-/// The same of a filter, if it is known.
+/// As `arguments_unknown`, but returns `false` if the filter is unknown.
 fn inside_unknown(filter: Option<FilterId>, items: &[Expr], named: Named) -> bool
     ensures { result ≡ spec.inside_unknown named filter (exprs_view items.now) }
 {
@@ -97,7 +97,7 @@ fn inside_unknown(filter: Option<FilterId>, items: &[Expr], named: Named) -> boo
     }
 }
 
-/// Whether a filter's name, or one that its arguments give, is what is looked for.
+/// Returns whether the name of a filter, or a name among its arguments, is unknown.
 pub fn is_filter_unknown(name: &str, items: &[Expr], pairs: &[(String, Expr)], named: Named) -> bool
     ensures { result
         ≡ spec.filter_unknown named name.now (exprs_view items.now) (pairs_view pairs.now) }
@@ -105,7 +105,7 @@ pub fn is_filter_unknown(name: &str, items: &[Expr], pairs: &[(String, Expr)], n
     is_unknown_filter(name, named) || inside_unknown(filter_of(name, items, pairs), items, named)
 }
 
-/// Whether such a name stands in an expression.
+/// Returns whether an expression contains an unknown name of this kind.
 #[cycle(names)]
 pub fn has_unknown(expr: &Expr, named: Named) -> bool
     ensures { result ≡ spec.has_unknown named (expr_view expr.now) }
@@ -151,7 +151,7 @@ pub fn has_unknown(expr: &Expr, named: Named) -> bool
     }
 }
 
-/// Whether such a name stands in a value, or in one of the arguments beside it.
+/// Returns whether a value or one of its arguments contains an unknown name.
 #[cycle(names)]
 fn has_unknown_with(
     value: &Expr,
@@ -167,7 +167,7 @@ fn has_unknown_with(
     has_unknown(value, named) || any_unknown_argument(arguments, keywords, named)
 }
 
-/// Whether such a name stands in one of the arguments, by place or by name.
+/// Returns whether a positional or keyword argument contains an unknown name of this kind.
 #[cycle(names)]
 pub fn any_unknown_argument(arguments: &[Expr], keywords: &[(String, Expr)], named: Named) -> bool
     ensures { result
@@ -177,7 +177,7 @@ pub fn any_unknown_argument(arguments: &[Expr], keywords: &[(String, Expr)], nam
     any_unknown(arguments, named) || any_unknown_pair(keywords, named)
 }
 
-/// Whether such a name stands in one of the expressions.
+/// Returns whether one of the expressions contains an unknown name of this kind.
 #[cycle(names)]
 pub fn any_unknown(items: &[Expr], named: Named) -> bool
     ensures { result ≡ spec.exprs_have_unknown named (exprs_view items.now) }
@@ -190,7 +190,7 @@ pub fn any_unknown(items: &[Expr], named: Named) -> bool
     false
 }
 
-/// Whether such a name stands in one of the values.
+/// Returns whether one of the values contains an unknown name of this kind.
 #[cycle(names)]
 pub fn any_unknown_pair(pairs: &[(String, Expr)], named: Named) -> bool
     ensures { result ≡ spec.pairs_have_unknown named (pairs_view pairs.now) }

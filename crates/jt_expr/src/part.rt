@@ -1,25 +1,26 @@
-//! Trees with the number of their levels.
+//! Expressions with their number of levels.
 
-ghost use Rattle.std.specs.Prelude.{◌≡◌, max};
-ghost use Rattle.jt_trees.specs.Expressions.{levels, exprs_levels, pairs_levels};
-ghost use Rattle.jt_trees.specs.ExpressionView.{expr_view, exprs_view, pairs_view};
+ghost use Rattle.std.specs.Prelude.{◌≡◌};
+ghost use Rattle.jt_ast.specs.Expressions.{levels, exprs_levels, pairs_levels};
+ghost use Rattle.jt_ast.specs.ExpressionView.{expr_view, exprs_view, pairs_view};
 
-use jt_trees::Expr;
+use jt_ast::Expr;
 
-/// A tree with its levels.
+/// An expression with its number of levels.
 #[derive(Drop)]
-pub struct Part {
+pub struct LeveledExpr {
     pub expr: Box<Expr>,
     pub height: usize,
     ghost counted: { height ≡ levels (expr_view expr.value) },
 }
 
-/// The parts of a row: those without a key, and those with one.
+/// The parts of a sequence, without and with a key, and the greatest numbers of their levels.
 #[derive(Drop)]
-pub struct Parts {
+pub struct LeveledList {
     pub items: Vec<Expr>,
     pub pairs: Vec<(String, Expr)>,
-    pub height: usize,
-    ghost counted: { height
-        ≡ max (exprs_levels (exprs_view items.items)) (pairs_levels (pairs_view pairs.items)) },
+    pub items_height: usize,
+    pub pairs_height: usize,
+    ghost items_counted: { items_height ≡ exprs_levels (exprs_view items.items) },
+    ghost pairs_counted: { pairs_height ≡ pairs_levels (pairs_view pairs.items) },
 }

@@ -1,63 +1,71 @@
-//! What the rules of the grammar hand on, and the rows of parts that stand in brackets.
+//! The nested forms, and the sequences of parts in brackets.
 
 ghost use Rattle.std.specs.Prelude.{◌≡◌, OnOk, Some, None, option_map, string_bytes};
 ghost use Rattle.jt_expr.specs.Grammar as grammar;
-ghost use Rattle.jt_trees.specs.ExpressionView.{expr_view};
-ghost use Rattle.jt_expr.specs.Promises.{parts_view};
-ghost use Rattle.jt_expr.specs.Gives.{row_view, keyed_view};
-ghost use Rattle.jt_expr.specs.Collecting.{then_part};
+ghost use Rattle.jt_ast.specs.ExpressionView.{expr_view};
+ghost use Rattle.jt_expr.specs.Promises.{parts_levels, parts_view};
+ghost use Rattle.jt_expr.specs.internal.Gives.{row_view, keyed_view};
+ghost use Rattle.jt_expr.specs.internal.Collecting.{then_part};
 
-use crate::part::{Part, Parts};
+use crate::part::{LeveledExpr, LeveledList};
 use jt_scan::Sign;
 use std::alloc::{AllocError, Global};
 
-/// A tree, with its key if it has one.
+/// An expression, with its key if it has one.
 #[derive(Drop)]
-pub struct Keyed {
+pub struct KeyedExpr {
     pub key: Option<String>,
-    pub part: Part,
+    pub part: LeveledExpr,
 }
 
-impl Parts {
-    pub(crate) fn new(alloc: Global) -> Parts
+impl LeveledList {
+    pub(crate) fn new(alloc: Global) -> LeveledList
         ensures { parts_view result ≡ grammar.no_parts }
     {
-        Parts {
+        LeveledList {
             items: Vec::new(alloc),
             pairs: Vec::new(alloc),
-            height: 0,
+            items_height: 0,
+            pairs_height: 0,
         }
     }
 
-    /// One part without a key behind the others.
-    fn push_item(&mut self, part: Part) -> Result<(), AllocError>
+    /// Returns the greatest number of levels of the parts.
+    pub(crate) fn height(&self) -> usize
+        ensures { result ≡ parts_levels (parts_view self.now) }
+    {
+        self.items_height.max(self.pairs_height)
+    }
+
+    /// Appends a part without a key.
+    fn push_item(&mut self, part: LeveledExpr) -> Result<(), AllocError>
         ensures { OnOk result (parts_view self.new
             ≡ then_part (parts_view self.old) (None, expr_view part.expr.value)) }
     {
-        let Part { expr, height } = part;
+        let LeveledExpr { expr, height } = part;
         self.items.push(Box::into_inner(expr))?;
-        self.height = self.height.max(height);
+        self.items_height = self.items_height.max(height);
         Ok(())
     }
 
-    /// One part with a key behind the others.
-    fn push_pair(&mut self, key: String, part: Part) -> Result<(), AllocError>
+    /// Appends a part with a key.
+    fn push_pair(&mut self, key: String, part: LeveledExpr) -> Result<(), AllocError>
         ensures { OnOk result (parts_view self.new
             ≡ then_part (parts_view self.old)
             (Some (string_bytes key), expr_view part.expr.value)) }
     {
-        let Part { expr, height } = part;
+        let LeveledExpr { expr, height } = part;
         self.pairs.push((key, Box::into_inner(expr)))?;
-        self.height = self.height.max(height);
+        self.pairs_height = self.pairs_height.max(height);
         Ok(())
     }
 
-    /// One part behind the others.
-    pub(crate) fn push(&mut self, added: Keyed) -> Result<(), AllocError>
+    /// Appends a part.
+    pub(crate) fn push(&mut self, added: KeyedExpr) -> Result<(), AllocError>
         ensures { OnOk result
             (parts_view self.new ≡ then_part (parts_view self.old) (keyed_view added)) }
     {
-        let Keyed { key, part } = added;
+        let KeyedExpr { key, part } = added;
         match key {
             Some(key) => self.push_pair(key, part),
             None => self.push_item(part),
@@ -65,28 +73,20 @@ impl Parts {
     }
 }
 
-/// What a step from a tree gives.
+/// One element of a sequence, and whether the sequence continues.
 #[derive(Drop)]
-pub enum Step {
-    Grown(Part),
-    /// The tree, where nothing goes on with it.
-    Ended(Part),
-}
-
-/// One part of a row, with what tells whether more follow.
-#[derive(Drop)]
-pub enum Element {
+pub enum ListElement {
     /// The closing sign alone.
     Closed,
-    /// The last part, and the closing sign.
-    Last(Keyed),
-    /// A part, and a comma.
-    Further(Keyed),
+    /// The last part and the closing sign.
+    Last(KeyedExpr),
+    /// A part and a comma.
+    Further(KeyedExpr),
 }
 
-/// What is read one level deeper.
+/// A form that is read one level deeper.
 #[derive(Clone, Copy)]
-pub enum Form {
+pub enum NestedForm {
     Whole,
     Disjunction,
     Inversion,
@@ -94,56 +94,45 @@ pub enum Form {
     Postfix,
 }
 
-/// A level at which any number of operators may stand between operands, from the loosest.
+/// The kind of a sequence in brackets.
 #[derive(Clone, Copy)]
-pub enum ChainLevel {
-    Disjunction,
-    Conjunction,
-    Sum,
-    Concatenation,
-    Product,
-    Power,
-}
-
-/// What a row holds.
-#[derive(Clone, Copy)]
-pub enum Row {
+pub enum SequenceKind {
     /// The items of a list.
     Items,
     /// The entries of a map.
     Entries,
-    /// Arguments.
+    /// The arguments of a call, filter or test.
     Arguments,
-    /// Arguments behind one that has a name.
+    /// The arguments after a keyword argument.
     Keywords,
 }
 
-impl Row {
-    /// The closing sign.
+impl SequenceKind {
+    /// Returns the closing sign of the sequence.
     pub(crate) fn closer(self) -> Sign
         ensures { result ≡ grammar.closer (row_view self) }
     {
         match self {
-            Row::Items => Sign::RightBracket,
-            Row::Entries => Sign::RightBrace,
-            Row::Arguments | Row::Keywords => Sign::RightParen,
+            SequenceKind::Items => Sign::RightBracket,
+            SequenceKind::Entries => Sign::RightBrace,
+            SequenceKind::Arguments | SequenceKind::Keywords => Sign::RightParen,
         }
     }
 
-    /// Whether parts without a key may stand there.
+    /// Returns whether the sequence may have parts without a key.
     pub(crate) fn takes_plain(self) -> bool
         ensures { result ≡ grammar.takes_plain (row_view self) }
     {
-        matches!(self, Row::Items | Row::Arguments)
+        matches!(self, SequenceKind::Items | SequenceKind::Arguments)
     }
 
-    /// What goes on behind a part with this key.
-    pub(crate) fn behind_key(self, key: &Option<String>) -> Row
+    /// Returns the kind of the rest of the sequence after a part with this key.
+    pub(crate) fn behind_key(self, key: &Option<String>) -> SequenceKind
         ensures { row_view result
             ≡ grammar.behind_key (row_view self) (option_map string_bytes key.now) }
     {
         match (self, key) {
-            (Row::Arguments, Some(_)) => Row::Keywords,
+            (SequenceKind::Arguments, Some(_)) => SequenceKind::Keywords,
             (row, _) => row,
         }
     }

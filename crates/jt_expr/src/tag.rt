@@ -1,50 +1,63 @@
-//! The expression that the tokens of a tag spell.
+//! Parses the expression that the tokens of a tag spell.
 
 ghost use Rattle.std.specs.Prelude.{◌≡◌, ◌≤◌, ◌<◌, map, IfOk, MatchResult, IsErrOf, []};
 ghost use Rattle.jt_scan.specs.View.{token_view};
-ghost use Rattle.jt_trees.specs.Expressions as trees;
-ghost use Rattle.jt_trees.specs.Expressions.{levels};
-ghost use Rattle.jt_trees.specs.ExpressionView.{expr_view};
+ghost use Rattle.jt_ast.specs.Expressions as trees;
+ghost use Rattle.jt_ast.specs.Expressions.{levels};
+ghost use Rattle.jt_ast.specs.ExpressionView.{expr_view};
 ghost use Rattle.jt_expr.specs.Grammar.{Spells, whole};
 ghost use Rattle.jt_expr.specs.Promises.{Reads};
 
 use crate::cursor::Cursor;
 use crate::error::ExprError;
 use crate::grammar;
-use crate::part::Part;
-use crate::rows::Form;
+use crate::part::LeveledExpr;
+use crate::rows::NestedForm;
+use jt_ast::Expr;
 use jt_scan::Token;
-use jt_trees::Expr;
 use std::alloc::Global;
 
-/// The expression that all the tokens spell, of at most so many levels.
+/// Parses all tokens as one expression of at most `limit` levels.
+///
+/// # Errors
+///
+/// - `Syntax` if the tokens spell no expression.
+/// - `TooDeep` if each expression that they spell has more than `limit` levels.
+/// - `NoMemory` if a growth is refused.
 pub fn expression(alloc: Global, tokens: &[Token<'_>], limit: u8) -> Result<Expr, ExprError>
-    // What is answered is spelled so, within the levels.
-    ensures spelled { IfOk result (λ x.
-        Spells whole (expr_view x) (map token_view tokens.now) × (levels (expr_view x) ≤ limit)) }
-    // A tree within the levels is answered, and no other is spelled so.
-    ensures only { (t : trees.Expr) → Spells whole t (map token_view tokens.now) → levels t ≤ limit
-        → MatchResult result (λ x. expr_view x ≡ t) (λ e. e ≡ ExprError.NoMemory) }
-    // No other tree of any depth is spelled so.
+    // The tokens spell the returned tree, which has at most `limit` levels.
+    ensures spelled { IfOk result (λ found.
+        Spells whole (expr_view found) (map token_view tokens.now)
+        × (levels (expr_view found) ≤ limit)) }
+    // If the tokens spell a tree of at most `limit` levels, the result is this tree or `NoMemory`.
+    ensures only { (tree : trees.Expr)
+        → Spells whole tree (map token_view tokens.now)
+        → levels tree ≤ limit
+        → MatchResult result (λ found. expr_view found ≡ tree) (λ e. e ≡ ExprError.NoMemory) }
+    // The tokens spell no other tree, whatever its depth.
     ensures alone { IfOk result
-        (λ x. (t : trees.Expr) → Spells whole t (map token_view tokens.now) → t ≡ expr_view x) }
-    // No tree of any depth is spelled so.
+        (λ found. (tree : trees.Expr)
+        → Spells whole tree (map token_view tokens.now)
+        → tree ≡ expr_view found) }
+    // After `Syntax`: the tokens spell no tree, whatever its depth.
     ensures syntax { IsErrOf result ExprError.Syntax
-        → (t : trees.Expr) → Spells whole t (map token_view tokens.now) → ⊥ }
-    // No tree within the levels is spelled so.
+        → (tree : trees.Expr) → Spells whole tree (map token_view tokens.now) → ⊥ }
+    // After `TooDeep`: each tree that the tokens spell has more than `limit` levels.
     ensures deep { IsErrOf result ExprError.TooDeep
-        → (t : trees.Expr) → Spells whole t (map token_view tokens.now) → limit < levels t }
+        → (tree : trees.Expr)
+        → Spells whole tree (map token_view tokens.now)
+        → limit < levels tree }
 {
     read_all(alloc, tokens, limit)
 }
 
-/// The same, where what all the tokens spell is what stands in front and ends there.
+/// Parses the whole token list as one expression and refuses tokens that are left over.
 fn read_all(alloc: Global, tokens: &[Token<'_>], limit: u8) -> Result<Expr, ExprError>
     ensures { Reads expr_view (Spells whole) (λ v. v ≡ []) levels limit
         (map token_view tokens.now) result [] }
 {
     let mut rest = Cursor::new(tokens);
-    let Part { expr, .. } = grammar::read(alloc, &mut rest, limit, Form::Whole)?;
+    let LeveledExpr { expr, .. } = grammar::read(alloc, &mut rest, limit, NestedForm::Whole)?;
     if rest.left() > 0 {
         return Err(ExprError::Syntax);
     }

@@ -1,14 +1,14 @@
-//! Words of the language.
+//! The words of the language.
 
 ghost use Rattle.std.specs.Prelude.{◌≡◌, option_map};
 ghost use Rattle.std.specs.Str.{chars};
 ghost use Rattle.jt_expr.specs.Grammar as grammar;
-ghost use Rattle.jt_trees.specs.ExpressionView.{literal_view};
+ghost use Rattle.jt_ast.specs.ExpressionView.{literal_view};
 
+use jt_ast::Literal;
 use jt_scan::is_word;
-use jt_trees::Literal;
 
-/// What a word is that stands for itself.
+/// Returns the literal that a word spells, or `None` if it spells none.
 pub fn literal_of(word: &str) -> Option<Literal>
     ensures { option_map literal_view result ≡ grammar.literal_of (chars word.now) }
 {
@@ -23,7 +23,7 @@ pub fn literal_of(word: &str) -> Option<Literal>
     }
 }
 
-/// Whether a word is reserved, and so no name.
+/// Returns whether a word is reserved, so that it cannot be a name.
 pub(crate) fn is_reserved(word: &str) -> bool
     ensures { result ≡ grammar.is_reserved (chars word.now) }
 {
@@ -42,7 +42,7 @@ pub(crate) fn is_reserved(word: &str) -> bool
         || is_word(word, "None")
 }
 
-/// Whether a word is a constant or a name.
+/// Returns whether a word is a constant or a name.
 pub(crate) fn is_operand(word: &str) -> bool
     ensures { result ≡ grammar.is_operand (chars word.now) }
 {

@@ -1,2 +1,4 @@
-pub mod Shelving
-pub mod Untelling
+pub mod HandlesAgree
+pub mod TemplateTables
+mod Steps
+pub mod CallErrors

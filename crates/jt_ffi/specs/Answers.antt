@@ -1,32 +1,38 @@
--- What calls answer, and what they put into the caller's buffer.
-use Rattle.std.specs.Prelude.{◌≡◌, ◌⊎◌, ℕ, List, [], ◌++◌, length, drop, nat_le, Some, None, Result, Ok, Err, Vec, string_bytes, if◌then◌else◌}
+-- The answers of calls, and what they write to the caller's buffer.
+use Rattle.std.specs.Prelude.{◌≡◌, ◌⊎◌, ℕ, List, [], ◌++◌, length, drop, nat_le, Some, None, Result, Ok, Err, Vec}
+use Rattle.std.specs.Prelude.{string_bytes, if◌then◌else◌}
 use Rattle.std.specs.declared.alloc.Global.{Global}
+use Rattle.jt_host.specs.declared.CallError.{CallError}
+use Rattle.jt_host.specs.declared.CallError.TheVariants as call_error
 use Rattle.jt_host.specs.declared.Fault.{Fault}
 use Rattle.jt_host.specs.declared.Fault.TheVariants as fault
 use Rattle.jt_host.specs.declared.Spent.{Spent}
 use Rattle.jt_host.specs.declared.Spent.TheVariants as spent
-use Rattle.jt_program.specs.Ending.{code_of, status_of}
-use Rattle.jt_program.specs.declared.Failure.{Failure}
-use Rattle.jt_program.specs.declared.Failure.TheVariants as failure
 use Rattle.jt_ffi.specs.declared.answer.Answer.{Answer}
-use Rattle.jt_ffi.specs.declared.untold.Untold.{Untold}
-use Rattle.jt_ffi.specs.declared.untold.Untold.TheVariants as untold
+use Rattle.jt_ffi.specs.declared.error.FfiError.{FfiError}
+use Rattle.jt_ffi.specs.declared.error.FfiError.TheVariants as ffi_error
 
--- how a call ends: with bytes, or why there are none
-abbrev pub Ending : Type 0
-Ending = Result (Vec ℕ Global) Untold
+-- The result of a call: bytes, or why there are none.
+abbrev pub CallResult : Type 0
+CallResult = Result (Vec ℕ Global) FfiError
 
--- the buffer, with what is told at its front where that fits, and else as it was
+-- The buffer with `bytes` at its start if they fit, or unchanged if they do not.
 abbrev pub put : List ℕ → List ℕ → List ℕ
-put told old = if nat_le (length told) (length old) then told ++ drop (length told) old else old
+put bytes old = if nat_le (length bytes) (length old) then bytes ++ drop (length bytes) old else old
 
--- so it is told, with these numbers
-abbrev pub IsTold : List ℕ → ℕ → ℕ → ℕ → List ℕ → List ℕ → Answer → Type 0
-IsTold told status code line old new a =
-    (a ≡ record { status = status; code = code; line = line; reserved = 0; length = length told })
-    × (new ≡ put told old)
+-- The answer has these numbers, and the buffer has `bytes` at its start if they fit.
+abbrev pub IsAnswer : List ℕ → ℕ → ℕ → ℕ → List ℕ → List ℕ → Answer → Type 0
+IsAnswer bytes status code line old new answer =
+    (answer ≡ record {
+      status = status;
+      code = code;
+      line = line;
+      reserved = 0;
+      length = length bytes;
+    })
+    × (new ≡ put bytes old)
 
--- the number in a fault's code
+-- The number in a fault's code.
 abbrev pub fault_number : Fault → ℕ
 fault_number fault.BadType = 1
 fault_number fault.Undefined = 2
@@ -38,7 +44,7 @@ fault_number fault.Unpack = 7
 fault_number fault.Range = 8
 fault_number fault.BadArgument = 9
 
--- the number that stands for a number of the budget
+-- The number that an answer has for a number of the budget.
 abbrev pub spent_number : Spent → ℕ
 spent_number spent.Fuel = 1
 spent_number spent.Depth = 2
@@ -46,27 +52,29 @@ spent_number spent.Output = 3
 spent_number spent.Size = 4
 spent_number spent.Nesting = 5
 
--- Why there is nothing, by the program's statuses: a fault by its number, its template and its
--- line, a number of the budget by its number, and all else by a reason, of which no more is said,
--- unless there is no memory for it.
-abbrev pub TellsFailure : Failure → List ℕ → List ℕ → Answer → Type 0
-TellsFailure (failure.Fault f (Some q)) old new a =
-    IsTold (string_bytes q.template) 1 (fault_number f) q.line old new a
-TellsFailure (failure.Fault f None) old new a = IsTold [] 1 (fault_number f) 0 old new a
-TellsFailure (failure.Spent s) old new a = IsTold [] 4 (spent_number s) 0 old new a
-TellsFailure failure.NoMemory old new a = IsTold [] 6 0 0 old new a
-TellsFailure e old new a =
-    IsTold [] 6 0 0 old new a
-    ⊎ ((reason : List ℕ) × IsTold reason (code_of (status_of e)) 0 0 old new a)
+-- An error is reported by the program's statuses: a fault by its number, its template and its
+-- line, a spent budget by its number, and a refusal by a reason. Nothing is stated of the reason,
+-- and lack of memory may replace it.
+abbrev pub ReportsError : CallError → List ℕ → List ℕ → Answer → Type 0
+ReportsError (call_error.Fault f (Some place)) old new answer =
+    IsAnswer (string_bytes place.template) 1 (fault_number f) place.line old new answer
+ReportsError (call_error.Fault f None) old new answer =
+    IsAnswer [] 1 (fault_number f) 0 old new answer
+ReportsError (call_error.Spent s) old new answer = IsAnswer [] 4 (spent_number s) 0 old new answer
+ReportsError call_error.NoMemory old new answer = IsAnswer [] 6 0 0 old new answer
+ReportsError refusal old new answer =
+    IsAnswer [] 6 0 0 old new answer
+    ⊎ ((reason : List ℕ) × IsAnswer reason 3 0 0 old new answer)
 
--- The ending is told: bytes with status 0, and a call that is none with status 2 and why it is
--- none.
-abbrev pub Tells : Ending → List ℕ → List ℕ → Answer → Type 0
-Tells (Ok bytes) old new a = IsTold bytes.items 0 0 0 old new a
-Tells (Err untold.Lengths) old new a = IsTold [] 2 1 0 old new a
-Tells (Err untold.NotText) old new a = IsTold [] 2 2 0 old new a
-Tells (Err (untold.Failure e)) old new a = TellsFailure e old new a
+-- A result is reported: bytes with status 0, misuse with status 2 and its number, an error as
+-- `ReportsError` states.
+abbrev pub Reports : CallResult → List ℕ → List ℕ → Answer → Type 0
+Reports (Ok bytes) old new answer = IsAnswer bytes.items 0 0 0 old new answer
+Reports (Err ffi_error.Lengths) old new answer = IsAnswer [] 2 1 0 old new answer
+Reports (Err ffi_error.NotText) old new answer = IsAnswer [] 2 2 0 old new answer
+Reports (Err ffi_error.NotHeld) old new answer = IsAnswer [] 2 3 0 old new answer
+Reports (Err (ffi_error.Call e)) old new answer = ReportsError e old new answer
 
--- the call ends in such a way, and that is told
-abbrev pub Answers : (Ending → Type 0) → List ℕ → List ℕ → Answer → Type 0
-Answers IsSo old new a = (e : Ending) × IsSo e × Tells e old new a
+-- The call has a result of this kind, and reports it.
+abbrev pub Answers : (CallResult → Type 0) → List ℕ → List ℕ → Answer → Type 0
+Answers IsSo old new answer = (r : CallResult) × IsSo r × Reports r old new answer

@@ -1,73 +1,78 @@
--- What each call comes to.
+-- The result of each call over bytes.
 use Rattle.std.specs.Prelude.{◌≡◌, ◌≢◌, ℕ, List, [], Result, Ok, Err, String, length, string_bytes}
 use Rattle.std.specs.declared.alloc.Global.{Global}
 use Rattle.std.specs.Str.{IsUtf8}
 use Rattle.jt_contexts.specs.Json.{IsContext}
+use Rattle.jt_host.specs.Calls.{ComesTo, GivesImage, IsImageOf, IsNoContext, IsNoImage, RendersTo}
 use Rattle.jt_host.specs.declared.Budget.{Budget}
+use Rattle.jt_host.specs.declared.CallError.{CallError}
+use Rattle.jt_host.specs.declared.CallError.TheVariants as call_error
 use Rattle.jt_host.specs.declared.Options.{Options}
 use Rattle.jt_image.specs.Code.{Code}
-use Rattle.jt_program.specs.Program.{ComesTo, GivesImage, IsImageOf, IsNoContext, IsNoImage, RendersTo}
-use Rattle.jt_program.specs.declared.Failure.{Failure}
-use Rattle.jt_program.specs.declared.Failure.TheVariants as failure
 use Rattle.jt_value.specs.Pairs.{Pairs}
-use Rattle.jt_ffi.specs.Answers.{Ending}
-use Rattle.jt_ffi.specs.Given.{AreTexts, sources_in, total}
+use Rattle.jt_ffi.specs.Answers.{CallResult}
+use Rattle.jt_ffi.specs.HostTemplates.{AreTexts, sources_in, total}
 use Rattle.jt_ffi.specs.declared.templates.Lengths.{Lengths}
-use Rattle.jt_ffi.specs.declared.untold.Untold.{Untold}
-use Rattle.jt_ffi.specs.declared.untold.Untold.TheVariants as untold
+use Rattle.jt_ffi.specs.declared.error.FfiError.{FfiError}
+use Rattle.jt_ffi.specs.declared.error.FfiError.TheVariants as ffi_error
 
--- the bytes spell a context, for which it comes so
+-- The bytes spell a context of this kind.
 abbrev pub ForContext : List ℕ → (Pairs → Type 0) → Type 0
-ForContext context IsSo = (x : Pairs) × IsContext context x × IsSo x
+ForContext bytes IsSo = (context : Pairs) × IsContext bytes context × IsSo context
 
--- the bytes are those of a text that comes so
-abbrev pub ForText : List ℕ → (Result (String Global) Failure → Type 0) → Type 0
+-- The bytes are those of a text that is a result of this kind.
+abbrev pub ForText : List ℕ → (Result (String Global) CallError → Type 0) → Type 0
 ForText bytes IsSo = (text : String Global) × (bytes ≡ string_bytes text) × IsSo (Ok text)
 
-module _ (ns : List Lengths) (texts entry : List ℕ) where
-  -- the lengths are those of the bytes, and each name and source is a text
+module _ (lengths : List Lengths) (texts entry : List ℕ) where
+  -- The lengths sum to the number of bytes, and each name and source and the entry are UTF-8.
   pub record IsGiven : Type 0 where
-    pub whole : total ns ≡ length texts
-    pub templates : AreTexts ns texts
+    pub whole : total lengths ≡ length texts
+    pub templates : AreTexts lengths texts
     pub name : IsUtf8 entry
 
-  -- or they aren't, and the reason says which
-  abbrev pub IsMisuse : Untold → Type 0
-  IsMisuse untold.Lengths = total ns ≢ length texts
-  IsMisuse untold.NotText = AreTexts ns texts → IsUtf8 entry → ⊥
-  IsMisuse (untold.Failure failure.NoMemory) = Unit {0}
-  IsMisuse (untold.Failure e) = ⊥
+  -- The lengths do not sum up, or a text is not UTF-8, and the error states which.
+  abbrev pub IsMisuse : FfiError → Type 0
+  IsMisuse ffi_error.Lengths = total lengths ≢ length texts
+  IsMisuse ffi_error.NotText = AreTexts lengths texts → IsUtf8 entry → ⊥
+  IsMisuse ffi_error.NotHeld = ⊥
+  IsMisuse (ffi_error.Call call_error.NoMemory) = Unit {0}
+  IsMisuse (ffi_error.Call e) = ⊥
 
-  -- the template of the entry is compiled to an image, or why there is none
-  abbrev pub Compiles : Options → Ending → Type 0
-  Compiles o (Ok bytes) = IsGiven × GivesImage (sources_in ns texts) entry o (Ok bytes)
-  Compiles o (Err (untold.Failure failure.NoMemory)) = Unit {0}
-  Compiles o (Err (untold.Failure e)) = IsGiven × GivesImage (sources_in ns texts) entry o (Err e)
-  Compiles o (Err e) = IsMisuse e
+  -- The template of the entry compiles to an image, or the error states why it does not.
+  abbrev pub Compiles : Options → CallResult → Type 0
+  Compiles options (Ok bytes) =
+      IsGiven × GivesImage (sources_in lengths texts) entry options (Ok bytes)
+  Compiles options (Err (ffi_error.Call call_error.NoMemory)) = Unit {0}
+  Compiles options (Err (ffi_error.Call e)) =
+      IsGiven × GivesImage (sources_in lengths texts) entry options (Err e)
+  Compiles options (Err e) = IsMisuse e
 
-  -- the template of the entry is rendered for a context under a budget, or why there is no text
-  abbrev pub Renders : Options → List ℕ → Budget → Ending → Type 0
-  Renders o context b (Ok bytes) =
-      IsGiven
-      × ForContext context (λ x. ForText bytes.items (RendersTo (sources_in ns texts) entry o x b))
-  Renders o context b (Err (untold.Failure (failure.Context e))) =
-      IsNoContext context (failure.Context e)
-  Renders o context b (Err (untold.Failure failure.NoMemory)) = Unit {0}
-  Renders o context b (Err (untold.Failure e)) =
-      IsGiven × ForContext context (λ x. RendersTo (sources_in ns texts) entry o x b (Err e))
-  Renders o context b (Err e) = IsMisuse e
+  -- The template of the entry renders for a context under a budget, or the error states why there
+  -- is no text.
+  abbrev pub Renders : Options → List ℕ → Budget → CallResult → Type 0
+  Renders options context b (Ok bytes) = IsGiven × ForContext context (λ pairs.
+      ForText bytes.items (RendersTo (sources_in lengths texts) entry options pairs b))
+  Renders options context b (Err (ffi_error.Call (call_error.Context e))) =
+      IsNoContext context (call_error.Context e)
+  Renders options context b (Err (ffi_error.Call call_error.NoMemory)) = Unit {0}
+  Renders options context b (Err (ffi_error.Call e)) = IsGiven × ForContext context (λ pairs.
+      RendersTo (sources_in lengths texts) entry options pairs b (Err e))
+  Renders options context b (Err e) = IsMisuse e
 
--- the bytes are an image that is accepted, and nothing is told, or why they are none
-abbrev pub Checks : List ℕ → Ending → Type 0
-Checks image (Ok bytes) = (bytes.items ≡ []) × ((k : Code) × IsImageOf image k)
-Checks image (Err (untold.Failure e)) = IsNoImage image e
+-- The bytes are an accepted image and nothing is returned, or the error states why they are not.
+abbrev pub Checks : List ℕ → CallResult → Type 0
+Checks image (Ok bytes) = (bytes.items ≡ []) × ((code : Code) × IsImageOf image code)
+Checks image (Err (ffi_error.Call e)) = IsNoImage image e
 Checks image (Err e) = ⊥
 
--- the image runs for a context under a budget, or why there is no text
-abbrev pub Runs : List ℕ → List ℕ → Budget → Ending → Type 0
-Runs image context b (Ok bytes) = ForContext context (λ x. ForText bytes.items (ComesTo image x b))
-Runs image context b (Err (untold.Failure (failure.Context e))) =
-    IsNoContext context (failure.Context e)
-Runs image context b (Err (untold.Failure failure.NoMemory)) = Unit {0}
-Runs image context b (Err (untold.Failure e)) = ForContext context (λ x. ComesTo image x b (Err e))
+-- The image runs for a context under a budget, or the error states why there is no text.
+abbrev pub Runs : List ℕ → List ℕ → Budget → CallResult → Type 0
+Runs image context b (Ok bytes) =
+    ForContext context (λ pairs. ForText bytes.items (ComesTo image pairs b))
+Runs image context b (Err (ffi_error.Call (call_error.Context e))) =
+    IsNoContext context (call_error.Context e)
+Runs image context b (Err (ffi_error.Call call_error.NoMemory)) = Unit {0}
+Runs image context b (Err (ffi_error.Call e)) =
+    ForContext context (λ pairs. ComesTo image pairs b (Err e))
 Runs image context b (Err e) = ⊥

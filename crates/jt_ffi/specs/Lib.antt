@@ -1,4 +1,6 @@
 pub mod Answers
 pub mod Calls
-pub mod Given
+pub mod Handles
+pub mod HostTemplates
+pub mod Owning
 pub mod Plain

@@ -1,98 +1,97 @@
-//! What a call answers.
+//! Writes the answer of a call.
 ghost use Rattle.std.specs.Prelude.{◌≡◌};
-ghost use Rattle.jt_ffi.specs.Answers.{IsTold, Tells, TellsFailure, fault_number, put as put_in, spent_number};
+ghost use Rattle.jt_ffi.specs.Answers.{IsAnswer, Reports, ReportsError, fault_number};
+ghost use Rattle.jt_ffi.specs.Answers.{put as put_in, spent_number};
 
-use crate::untold::Untold;
-use jt_host::{Fault, Spent};
-use jt_program::Failure;
-use std::alloc::{AllocError, Global};
+use crate::error::FfiError;
+use jt_host::{CallError, Fault, Spent};
+use std::alloc::Global;
 
-/// How a call ended, and how long what it tells is, whether or not the buffer holds it.
+/// How a call ended, and the length of its result, whether or not the buffer holds it.
 #[repr(C)]
 #[derive(Clone, Copy)]
 pub struct Answer {
-    /// As the program's statuses: 0 done, 1 fault, 2 a call that is none, 3 refused, 4 spent, 6
-    /// memory.
+    /// The exit status of the program: 0 done, 1 fault, 2 misuse, 3 refused, 4 spent, 6 memory.
     pub status: u32,
-    /// Of a fault its number, 2 for F2; of a budget that was spent 1 fuel, 2 depth, 3 output, 4
-    /// size, 5 nesting; of a call that is none 1 lengths, 2 no text; else 0.
+    /// For a fault its number, 2 for F2. For a spent budget 1 fuel, 2 depth, 3 output, 4 size, 5
+    /// nesting. For misuse 1 lengths, 2 not text, 3 not held. Else 0.
     pub code: u32,
-    /// Of a fault the line of its tag, counted from 1, or 0 where the image tells no place; else 0.
+    /// For a fault the line of its tag, counted from 1, or 0 if the image has no place. Else 0.
     pub line: u32,
-    /// 0.
+    /// Always 0.
     pub reserved: u32,
-    /// How many bytes are told: the text or the image, the template of a fault, the reason of a
-    /// refusal.
+    /// The length in bytes of the result: the text or the image, the template of a fault, or the
+    /// reason of a refusal.
     pub length: u64,
 }
 
-/// Tells how a call ended.
-pub(crate) fn tell_ending(alloc: Global, out: &mut [u8], ending: &Result<Vec<u8>, Untold>) -> Answer
-    ensures { Tells ending.now out.old out.new result }
+/// Writes the result of a call to the buffer and returns the answer.
+pub(crate) fn write_result(
+    alloc: Global,
+    out: &mut [u8],
+    outcome: &Result<Vec<u8>, FfiError>,
+) -> Answer
+    ensures { Reports outcome.now out.old out.new result }
 {
-    match ending {
-        Ok(bytes) => tell(out, bytes.as_slice(), 0, 0, 0),
-        Err(Untold::Lengths) => tell(out, b"", 2, 1, 0),
-        Err(Untold::NotText) => tell(out, b"", 2, 2, 0),
-        Err(Untold::Failure(failure)) => tell_failure(alloc, out, failure),
+    match outcome {
+        Ok(bytes) => write_answer(out, bytes.as_slice(), 0, 0, 0),
+        Err(FfiError::Lengths) => write_answer(out, b"", 2, 1, 0),
+        Err(FfiError::NotText) => write_answer(out, b"", 2, 2, 0),
+        Err(FfiError::NotHeld) => write_answer(out, b"", 2, 3, 0),
+        Err(FfiError::Call(error)) => write_error(alloc, out, error),
     }
 }
 
-/// Tells why there is nothing.
-fn tell_failure(alloc: Global, out: &mut [u8], failure: &Failure) -> Answer
-    ensures { TellsFailure failure.now out.old out.new result }
+/// Writes an error to the buffer and returns the answer. A refusal has its reason with its code, as
+/// `P1 Syntax in page line 2`.
+fn write_error(alloc: Global, out: &mut [u8], error: &CallError) -> Answer
+    ensures { ReportsError error.now out.old out.new result }
 {
-    match failure {
-        Failure::Fault(fault, Some(place)) => {
+    match error {
+        CallError::Fault(fault, Some(place)) => {
             let name = place.template.as_bytes();
-            tell(out, name, 1, number_of_fault(*fault), place.line)
+            write_answer(out, name, 1, number_of_fault(*fault), place.line)
         }
-        Failure::Fault(fault, None) => tell(out, b"", 1, number_of_fault(*fault), 0),
-        Failure::Spent(spent) => tell(out, b"", 4, number_of_spent(*spent), 0),
-        Failure::NoMemory => tell(out, b"", 6, 0, 0),
-        other => match reason(alloc, other) {
-            Ok(text) => tell(out, text.as_bytes(), u32::from(other.status().code()), 0, 0),
-            Err(_) => tell(out, b"", 6, 0, 0),
+        CallError::Fault(fault, None) => write_answer(out, b"", 1, number_of_fault(*fault), 0),
+        CallError::Spent(spent) => write_answer(out, b"", 4, number_of_spent(*spent), 0),
+        CallError::NoMemory => write_answer(out, b"", 6, 0, 0),
+        refusal => match format!(in alloc; "{refusal}") {
+            Ok(reason) => write_answer(out, reason.as_bytes(), 3, 0, 0),
+            Err(_) => write_answer(out, b"", 6, 0, 0),
         },
     }
 }
 
-/// Puts what is told at the front of the buffer, where it has room for it.
-fn tell(out: &mut [u8], told: &[u8], status: u32, code: u32, line: u32) -> Answer
-    ensures { IsTold told.now status code line out.old out.new result }
+/// Writes `bytes` to the start of the buffer, if they fit, and returns the answer.
+pub(crate) fn write_answer(
+    out: &mut [u8],
+    bytes: &[u8],
+    status: u32,
+    code: u32,
+    line: u32,
+) -> Answer
+    ensures { IsAnswer bytes.now status code line out.old out.new result }
 {
-    put(out, told);
+    put(out, bytes);
     Answer {
         status,
         code,
         line,
         reserved: 0,
-        length: told.len() as u64,
+        length: bytes.len() as u64,
     }
 }
 
-/// Puts bytes at the front of the buffer, where it has room for them.
-fn put(out: &mut [u8], told: &[u8])
-    ensures { out.new ≡ put_in told.now out.old }
+/// Writes `bytes` to the start of the buffer, if they fit.
+fn put(out: &mut [u8], bytes: &[u8])
+    ensures { out.new ≡ put_in bytes.now out.old }
 {
-    if told.len() <= out.len() {
-        out[..told.len()].copy_from_slice(told);
+    if bytes.len() <= out.len() {
+        out[..bytes.len()].copy_from_slice(bytes);
     }
 }
 
-/// The reason of a refusal, with its code, as `P1 Syntax in page line 2`. Of a line, a file and a
-/// host, which no call has, there is none.
-fn reason(alloc: Global, failure: &Failure) -> Result<String, AllocError> {
-    match failure {
-        Failure::Image(error) => format!(in alloc; "{error}"),
-        Failure::Code(refusal) => format!(in alloc; "{refusal}"),
-        Failure::Template(refusal) => format!(in alloc; "{refusal}"),
-        Failure::Context(error) => format!(in alloc; "{error}"),
-        _ => Ok(String::new(alloc)),
-    }
-}
-
-/// The number in a fault's code.
+/// Returns the number in a fault's code.
 fn number_of_fault(fault: Fault) -> u32
     ensures { result ≡ fault_number fault }
 {
@@ -109,7 +108,7 @@ fn number_of_fault(fault: Fault) -> u32
     }
 }
 
-/// The number that stands for a number of the budget.
+/// Returns the number that an answer has for a number of the budget.
 fn number_of_spent(spent: Spent) -> u32
     ensures { result ≡ spent_number spent }
 {

@@ -1,23 +1,43 @@
-//! `jt` for hosts in other languages: four calls over numbers and bytes, as a static library, which
-//! `bindings/c/jt.h` declares.
+//! `jt` for hosts in other languages: calls over numbers and bytes in a static library.
+//! `bindings/c/jt.h` declares them.
 //!
-//! Each call does one whole thing and keeps nothing, so calls of several threads cannot meet. A
-//! text, an image or the reason of a refusal goes into the caller's buffer; where it is longer than
-//! the buffer nothing is put there, and the answer tells how long it is.
+//! Four calls over bytes keep nothing, so calls of several threads do not affect each other. A
+//! text, an image or the reason of a refusal goes into the caller's buffer. If it is longer than
+//! the buffer, nothing is written there, and the answer states its length. The other calls keep
+//! libraries, images, contexts and outcomes in handles, whose memory is the caller's.
 //!
-//! What is given is read (templates, plain), the call does what a command of the program does
-//! (calls, untold), and how that ended is told (answer). Read first: exports.rt, the four calls;
-//! how each ends is specs/Calls.antt, and what is told of it specs/Answers.antt.
+//! A call reads its input (templates, repr), makes a call of jt_host (calls, held, error), and
+//! reports the result (answer). A handle (shared_handle, local_handle) holds the pointer (parts) of
+//! a boxed value (shared, local). Read first: exports.rt, the calls over bytes, and
+//! handle_exports.rt, the calls over handles. specs/Calls.antt and specs/Handles.antt state their
+//! results, and specs/Answers.antt what they report.
 #![tactic(auto)]
 
 mod answer;
 mod calls;
+mod error;
 mod exports;
-mod plain;
+mod handle_exports;
+mod held;
+mod local;
+mod local_handle;
+mod parts;
+mod repr;
+mod shared;
+mod shared_handle;
 mod templates;
-mod untold;
 
 pub use answer::Answer;
-pub use exports::{jt_check, jt_compile, jt_render, jt_run};
-pub use plain::{PlainBudget, PlainOptions};
+pub use error::FfiError;
+pub use exports::{jt_check, jt_compile, jt_render, jt_run, jt_version};
+pub use handle_exports::{
+    jt_context_free, jt_context_load, jt_image_free, jt_image_load, jt_image_run, jt_image_save,
+    jt_image_share, jt_library_compile, jt_library_free, jt_library_load, jt_library_share,
+    jt_outcome_free, jt_outcome_read,
+};
+pub use local::Local;
+pub use local_handle::LocalHandle;
+pub use repr::{FfiBudget, FfiOptions};
+pub use shared::Shared;
+pub use shared_handle::SharedHandle;
 pub use templates::Lengths;

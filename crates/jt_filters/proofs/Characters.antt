@@ -7,11 +7,15 @@ use Rattle.std.specs.Str.{chars, IsUtf8, IsCharBoundary}
 use Rattle.jt_value.specs.Iteration.{character_items}
 use Rattle.jt_value.specs.Tree as tree
 
--- a text may be cut behind its first character
-pub cut_behind : (bs rest : List ℕ) (c n : ℕ) → IsUtf8 bs → bs ≡ encode_utf8 c ++ rest → n ≡ length (encode_utf8 c) → IsCharBoundary bs n
-cut_behind bs rest c n valid is len = rw len (IsCharBoundary-at_seam bs (encode_utf8 c) rest is (IsUtf8-past_char bs rest c valid is))
+-- A text may be cut after its first character.
+pub cut_behind : (bs rest : List ℕ) (c n : ℕ) → IsUtf8 bs → bs ≡ encode_utf8 c ++ rest → n ≡ length (encode_utf8 c)
+    → IsCharBoundary bs n
+cut_behind bs rest c n valid is len =
+    rw len (IsCharBoundary-at_seam bs (encode_utf8 c) rest is (IsUtf8-past_char bs rest c valid is))
 
--- a text is its first character and what lies behind it
-pub first_behind : (bs rest first behind : List ℕ) (c n : ℕ) → IsUtf8 bs → bs ≡ encode_utf8 c ++ rest → n ≡ length (encode_utf8 c) → first ≡ take n bs → behind ≡ drop n bs
+-- A text is its first character followed by the rest.
+pub first_behind : (bs rest first behind : List ℕ) (c n : ℕ) → IsUtf8 bs → bs ≡ encode_utf8 c ++ rest
+    → n ≡ length (encode_utf8 c) → first ≡ take n bs → behind ≡ drop n bs
     → character_items (chars bs) ≡ tree.item (tree.text first) (character_items (chars behind))
-first_behind bs rest first behind c n valid is len front back = search (arith, rules, take-append_seam, drop-append_seam, chars_past_char)
+first_behind bs rest first behind c n valid is len front back =
+    search (arith, rules, take-append_seam, drop-append_seam, chars_past_char)

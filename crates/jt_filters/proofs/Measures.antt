@@ -1,4 +1,4 @@
--- Sizes and nestings of lists that are made of texts and maps.
+-- The sizes and nestings of lists that are made of texts and maps.
 use Rattle.std.proofs.Common.{◌≡◌, ℕ, ◌+◌, List, [], ◌∷◌, reverse, length, refl, ap, ◌∙◌, arith, length-append}
 use Rattle.std.specs.Str.{chars, encode_utf8_all, IsUtf8}
 use Rattle.std.specs.Char.{encode_utf8}
@@ -12,7 +12,7 @@ use Rattle.jt_value.specs.Payload.{more_items}
 use Rattle.jt_value.proofs.Lists.{items_view-push}
 use Rattle.jt_value.proofs.Lists.{joined_size, joined_nesting}
 use Rattle.jt_value.specs.Payload.{joined_items}
-use Rattle.jt_filter_meaning.specs.Listing.{reversed_items}
+use Rattle.jt_filter_semantics.specs.Listing.{reversed_items}
 
 characters_size_by : (cs : List ℕ) → items_size (character_items cs) ≡ length cs + length (encode_utf8_all cs)
 characters_size_by [] = omega arith
@@ -41,7 +41,7 @@ more_joined : (ts : Items) (u : Tree) → more_items ts u ≡ joined_items ts (i
 more_joined no_items u = refl
 more_joined (item t ts) u = ap (item t) (more_joined ts u)
 
--- the items of a list that is turned round
+-- The items of a reversed list are the reversed items.
 pub reversed_view : (vs : List Value) → items_view (reverse vs) ≡ reversed_items (items_view vs)
 reversed_view [] = refl
 reversed_view (v ∷ vs) =

@@ -1,4 +1,4 @@
--- A row more among a map's.
+-- The rows of a map with one more.
 use Rattle.std.proofs.Common.{◌≡◌, ℕ, ◌+◌, ◌<◌, List, ◌∷◌, length, drop, get_or, string_bytes, sym, ap, ◌∙◌}
 use Rattle.std.proofs.lemmas.List.{at_drop_more}
 use Rattle.std.specs.BTreeMap.{insert_entry}
@@ -7,16 +7,19 @@ use Rattle.std.specs.declared.alloc.Global.{Global}
 use denote.Ref.{Bor}
 use Rattle.jt_value.proofs.Lists.{Pair}
 use Rattle.jt_value.specs.View.{view, entries_view}
-use Rattle.jt_filters.specs.Codes.{Rows, code, rows, rows_in}
-use Rattle.jt_filters.proofs.Inserted.{cmp, read-inserted}
+use Rattle.jt_filters.specs.internal.Codes.{Rows, code, rows, rows_in}
+use Rattle.jt_filters.proofs.SortedInsertion.{cmp, read-inserted}
 
-pub row_put : (xs : List Pair) (n i : ℕ) (e : Pair) (before after : List (Bor (List ℕ) × Vec ℕ Global)) (k : Bor (List ℕ)) (v : Vec ℕ Global) → i + 1 ≡ n → i < length xs → e ≡ get_or xs i e
+pub row_put : (xs : List Pair) (n i : ℕ) (e : Pair) (before after : List (Bor (List ℕ) × Vec ℕ Global))
+    (k : Bor (List ℕ)) (v : Vec ℕ Global)
+    → i + 1 ≡ n → i < length xs → e ≡ get_or xs i e
     → after ≡ insert_entry (λ x y. cmp x.now y.now) before k v → k.now ≡ string_bytes e.0 → v.items ≡ code (view e.1)
     → rows_in before ≡ rows (entries_view (drop n xs)) → rows_in after ≡ rows (entries_view (drop i xs))
 row_put xs n i e before after k v next inside at put key value same =
     ap rows_in put
     ∙ read-inserted (λ (b : Bor (List ℕ)). b.now) (λ (w : Vec ℕ Global). w.items) before k v
-    ∙ ap (λ (rs : Rows). insert_entry cmp rs k.now v.items) (same ∙ ap (λ (j : ℕ). rows (entries_view (drop j xs))) (sym next))
+    ∙ ap (λ (rs : Rows). insert_entry cmp rs k.now v.items)
+    (same ∙ ap (λ (j : ℕ). rows (entries_view (drop j xs))) (sym next))
     ∙ ap (λ (l : List ℕ). insert_entry cmp (rows (entries_view (drop (i + 1) xs))) l v.items) key
     ∙ ap (λ (c : List ℕ). insert_entry cmp (rows (entries_view (drop (i + 1) xs))) (string_bytes e.0) c) value
     ∙ ap (λ (p : Pair). rows (entries_view (p ∷ drop (i + 1) xs))) at

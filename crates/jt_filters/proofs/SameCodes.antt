@@ -1,5 +1,6 @@
 -- Items that are alike have the same code.
-use Rattle.std.proofs.Common.{◌≡◌, ℕ, ℤ, Bool, true, false, cond, ◌&&◌, List, ◌∷◌, ◌++◌, Some, None, refl, sym, ap, ◌∙◌, true≢false, arith, rules}
+use Rattle.std.proofs.Common.{◌≡◌, ℕ, ℤ, Bool, true, false, cond, ◌&&◌, List, ◌∷◌, ◌++◌, Some, None, refl, sym, ap, ◌∙◌}
+use Rattle.std.proofs.Common.{true≢false, arith, rules}
 use Rattle.std.proofs.lemmas.Map.Text.{is_eq-slice_cmp}
 use Rattle.std.proofs.lemmas.Slice.Eq.{bytes_eq-Decides}
 use Rattle.std.specs.BTreeMap.{is_at}
@@ -16,9 +17,9 @@ use Rattle.jt_value.specs.Equality.{equal, equal_items, equal_at, truth_number}
 use Rattle.jt_value.specs.Payload.{text_of}
 use Rattle.jt_value.specs.Tree as tree
 use Rattle.jt_value.specs.Tree.{Tree, Items, no_items, item, Entries, no_entries, entry}
-use Rattle.jt_filters.specs.Codes.{number_code, text_code, Rows, rows_code, code, items_code, rows, item_code}
-use Rattle.jt_filter_meaning.specs.Ordering.{fold, alike}
-use Rattle.jt_filters.proofs.Inserted.{cmp, lookup-inserted, sorted-inserted, same_rows}
+use Rattle.jt_filters.specs.internal.Codes.{number_code, text_code, Rows, rows_code, code, items_code, rows, item_code}
+use Rattle.jt_filter_semantics.specs.Ordering.{fold, alike}
+use Rattle.jt_filters.proofs.SortedInsertion.{cmp, lookup-inserted, sorted-inserted, same_rows}
 use Rattle.jt_value.proofs.Equalities.{holds_of}
 
 pub folded_text : (t : Tree) (s : List ℕ) → Some s ≡ text_of t → item_code t ≡ text_code (fold s)
@@ -27,13 +28,14 @@ folded_text a0 a1 a2 = search (arith, rules)
 pub no_text : (t : Tree) → None ≡ text_of t → item_code t ≡ code t
 no_text a0 a1 = search (arith, rules)
 
--- the rows of a map: at each key the code of its first value, in the order of the keys
+-- The rows of a map have ascending keys, and at each key the code of its first value.
 sorted_rows : (es : Entries) → IsStrictlySortedBy cmp (keys_of (rows es))
 unfolding IsStrictlySortedBy
 sorted_rows no_entries = tt
 sorted_rows (entry k t es) = sorted-inserted k (code t) (rows es) (sorted_rows es)
 
-row_first : (b : Bool) (t : Tree) (o : Option Tree) → cond b (Some (code t)) (option_map code o) ≡ option_map code (cond b (Some t) o)
+row_first : (b : Bool) (t : Tree) (o : Option Tree)
+    → cond b (Some (code t)) (option_map code o) ≡ option_map code (cond b (Some t) o)
 row_first true t o = refl
 row_first false t o = refl
 
@@ -42,7 +44,8 @@ row_of q no_entries = refl
 row_of q (entry k t es) =
     lookup-inserted (λ (l : List ℕ). l) k (code t) q (rows es)
     ∙ ap (λ (o : Option (List ℕ)). cond (is_eq (cmp q k)) (Some (code t)) o) (row_of q es)
-    ∙ ap (λ (b : Bool). cond b (Some (code t)) (option_map code (entry_of q es))) (is_eq-slice_cmp q k ∙ nat_list_eq_equiv.symm q k)
+    ∙ ap (λ (b : Bool). cond b (Some (code t)) (option_map code (entry_of q es)))
+    (is_eq-slice_cmp q k ∙ nat_list_eq_equiv.symm q k)
     ∙ row_first (bytes_eq k q) t (entry_of q es)
 
 same_number : (x y : ℤ) → int_eq x y ≡ true → number_code x ≡ number_code y
@@ -55,7 +58,8 @@ no_key : (k : List ℕ) (es : Entries) → has_key k es ≡ false → entry_of k
 no_key k no_entries e = refl
 no_key k (entry l t es) e = by (bytes_eq l k) e (no_key k es)
   where
-    by : (b : Bool) → cond b true (has_key k es) ≡ false → (has_key k es ≡ false → entry_of k es ≡ None) → cond b (Some t) (entry_of k es) ≡ None
+    by : (b : Bool) → cond b true (has_key k es) ≡ false → (has_key k es ≡ false → entry_of k es ≡ None)
+        → cond b (Some t) (entry_of k es) ≡ None
     by true p rest = absurd (true≢false p)
     by false p rest = rest p
 
@@ -67,10 +71,13 @@ right : (a b : Bool) → (a && b) ≡ true → b ≡ true
 right true b e = e
 right false b e = absurd (true≢false (sym e))
 
--- equal maps have the same rows, where equal values at a key have the same code
-same_maps : (es fs : Entries) → ((k : List ℕ) (o : Option Tree) → equal_at es k o ≡ true → option_map code (entry_of k es) ≡ option_map code o)
+-- Equal maps have the same rows, if equal values at a key have the same code.
+same_maps : (es fs : Entries)
+    → ((k : List ℕ) (o : Option Tree) → equal_at es k o ≡ true → option_map code (entry_of k es) ≡ option_map code o)
     → equal (tree.map es) (tree.map fs) ≡ true → rows es ≡ rows fs
-same_maps es fs at e = same_rows (rows es) (rows fs) (sorted_rows es) (sorted_rows fs) (λ q. row_of q es ∙ by q (has_key q es) refl ∙ sym (row_of q fs))
+same_maps es fs at e =
+    same_rows (rows es) (rows fs) (sorted_rows es) (sorted_rows fs)
+    (λ q. row_of q es ∙ by q (has_key q es) refl ∙ sym (row_of q fs))
   where
     firsts : all_keys (λ k. equal_at es k (entry_of k fs)) es ≡ true
     firsts = left (all_keys (λ k. equal_at es k (entry_of k fs)) es) (all_keys (λ k. has_key k es) fs) e
@@ -86,14 +93,16 @@ same_maps es fs at e = same_rows (rows es) (rows fs) (sorted_rows es) (sorted_ro
     by q true there = at q (entry_of q fs) (holds_of (λ k. equal_at es k (entry_of k fs)) es q firsts there)
     by q false new = ap (option_map code) (no_key q es new ∙ sym (other q (has_key q fs) refl new))
 
--- the first value of a key and another one, where the key stands first or not
-at_first : (b : Bool) (t : Tree) (rest : Option Tree) (more : Bool) (o : Option Tree) → cond b (option_map_or (equal t) o false) more ≡ true
+-- The codes of a key's first value and of a value that equals it, whether or not the key is the
+-- first.
+at_first : (b : Bool) (t : Tree) (rest : Option Tree) (more : Bool) (o : Option Tree)
+    → cond b (option_map_or (equal t) o false) more ≡ true
     → ((u : Tree) → equal t u ≡ true → code t ≡ code u) → (more ≡ true → option_map code rest ≡ option_map code o)
     → option_map code (cond b (Some t) rest) ≡ option_map code o
 at_first a0 a1 a2 a3 a4 a5 a6 a7 = search (arith, rules)
 
 mutual
-  -- equal values have the same code
+  -- Equal values have the same code.
   same_code : (t u : Tree) → equal t u ≡ true → code t ≡ code u
   same_code tree.undefined tree.undefined e = refl
   same_code tree.nothing tree.nothing e = refl
@@ -106,7 +115,8 @@ mutual
   same_code (tree.markup x) (tree.text y) e = same_text x y e
   same_code (tree.markup x) (tree.markup y) e = same_text x y e
   same_code (tree.list ts) (tree.list us) e = ap (λ (s : List ℕ). 5 ∷ s) (same_items ts us e)
-  same_code (tree.map es) (tree.map fs) e = ap (λ (rs : Rows). 6 ∷ rows_code rs) (same_maps es fs (λ k o. same_at es k o) e)
+  same_code (tree.map es) (tree.map fs) e =
+      ap (λ (rs : Rows). 6 ∷ rows_code rs) (same_maps es fs (λ k o. same_at es k o) e)
   same_code t u e = absurd (true≢false (sym e))
 
   same_items : (ts us : Items) → equal_items ts us ≡ true → items_code ts ≡ items_code us
@@ -116,12 +126,14 @@ mutual
       ∙ ap (λ (s : List ℕ). code u ++ s) (same_items ts us (right (equal t u) (equal_items ts us) e))
   same_items ts us e = absurd (true≢false (sym e))
 
-  -- the first value of a key and another that equals it
-  same_at : (es : Entries) (k : List ℕ) (o : Option Tree) → equal_at es k o ≡ true → option_map code (entry_of k es) ≡ option_map code o
+  -- The first value of a key and a value that equals it have the same code.
+  same_at : (es : Entries) (k : List ℕ) (o : Option Tree) → equal_at es k o ≡ true
+      → option_map code (entry_of k es) ≡ option_map code o
   same_at no_entries k o e = absurd (true≢false (sym e))
-  same_at (entry l t es) k o e = at_first (bytes_eq l k) t (entry_of k es) (equal_at es k o) o e (λ u f. same_code t u f) (λ f. same_at es k o f)
+  same_at (entry l t es) k o e =
+      at_first (bytes_eq l k) t (entry_of k es) (equal_at es k o) o e (λ u f. same_code t u f) (λ f. same_at es k o f)
 
--- items that are alike have the same code
+-- Items that are alike have the same code.
 pub alike_code : (t u : Tree) → alike t u ≡ true → item_code t ≡ item_code u
 alike_code (tree.text x) (tree.text y) e = same_text (fold x) (fold y) e
 alike_code (tree.text x) (tree.markup y) e = same_text (fold x) (fold y) e

@@ -1,13 +1,13 @@
--- Items at keys that are texts.
+-- Items at text keys.
 use Rattle.std.proofs.Common.{◌≡◌, ℕ, List, false, Option, Some, None, arith, rules}
 use Rattle.std.specs.Prelude.{Ok, Err}
 use Rattle.jt_value.specs.declared.fault.Fault.TheVariants as fault
 use Rattle.jt_value.specs.Payload.{text_of, entries_of_map}
 use Rattle.jt_value.specs.Tree as tree
 use Rattle.jt_value.specs.Tree.{Tree}
-use Rattle.jt_op_meaning.specs.ItemOf.{item_of}
-use Rattle.jt_op_meaning.specs.Testing.{is_text, is_undefined}
-use Rattle.jt_filter_meaning.specs.Single.{attribute}
+use Rattle.jt_op_semantics.specs.ItemOf.{item_of}
+use Rattle.jt_op_semantics.specs.Testing.{is_text, is_undefined}
+use Rattle.jt_filter_semantics.specs.Single.{attribute}
 
 text_key : (t : Tree) (s : List ℕ) → attribute t (tree.text s) ≡ item_of t (tree.text s)
 text_key a0 a1 = search (arith, rules)
@@ -27,5 +27,6 @@ not_text a0 a1 = search (arith, rules)
 pub by_other : (t key : Tree) → None ≡ text_of key → is_undefined t ≡ false → attribute t key ≡ Err fault.BadArgument
 by_other a0 a1 a2 a3 = search (arith, rules, not_text)
 
-pub others_have_none : (t : Tree) (s : List ℕ) → None ≡ entries_of_map t → is_undefined t ≡ false → item_of t (tree.text s) ≡ Ok tree.undefined
+pub others_have_none : (t : Tree) (s : List ℕ) → None ≡ entries_of_map t → is_undefined t ≡ false
+    → item_of t (tree.text s) ≡ Ok tree.undefined
 others_have_none a0 a1 a2 a3 = search (arith, rules)

@@ -1,5 +1,1 @@
-pub mod Codes
-pub mod Operands
-pub mod Ranks
-pub mod Rows
-pub mod Seen
+pub mod internal

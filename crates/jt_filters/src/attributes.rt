@@ -1,16 +1,16 @@
-//! The item of an operand at a key that is a text. It takes no memory.
+//! The item of an operand at a text key. Nothing here allocates.
 ghost use Rattle.std.specs.Prelude.{◌≡◌, option_map, option_copied};
 ghost use Rattle.jt_value.specs.Tree as tree;
 ghost use Rattle.jt_value.specs.View.{view};
-ghost use Rattle.jt_op_meaning.specs.ItemOf as items;
-ghost use Rattle.jt_op_meaning.specs.ItemOf.{item_of};
-ghost use Rattle.jt_filters.specs.Operands.{tree_of, chosen};
-ghost use Rattle.jt_filter_meaning.specs.Single as single;
+ghost use Rattle.jt_op_semantics.specs.ItemOf as items;
+ghost use Rattle.jt_op_semantics.specs.ItemOf.{item_of};
+ghost use Rattle.jt_filters.specs.internal.Operands.{tree_of, chosen};
+ghost use Rattle.jt_filter_semantics.specs.Single as single;
 
 use crate::operand::Operand;
 use jt_value::{Fault, Value};
 
-/// Filter `attr`: the item at a key that is a text.
+/// Applies filter `attr`: returns the item at a text key.
 #[tactic(auto, using(crate::proofs::TextKeys::by_text, crate::proofs::TextKeys::by_other))]
 pub(crate) fn attribute<'a>(operand: Operand<'a>, key: &Value) -> Result<Operand<'a>, Fault>
     ensures { chosen result ≡ single.attribute (tree_of operand.entry) (view key.now) }
@@ -24,7 +24,8 @@ pub(crate) fn attribute<'a>(operand: Operand<'a>, key: &Value) -> Result<Operand
     }
 }
 
-/// The item at a key: of a map the value of the key; undefined where there is none.
+/// Returns the item at a key: of a map the value of the key, of any other operand undefined.
+/// Undefined itself has a fault.
 #[tactic(auto, using(crate::proofs::Payloads::map_is, crate::proofs::TextKeys::others_have_none))]
 pub(crate) fn item_of<'a>(operand: Operand<'a>, key: &str) -> Result<Operand<'a>, Fault>
     ensures { chosen result ≡ item_of (tree_of operand.entry) (tree.text key.now) }
@@ -39,7 +40,7 @@ pub(crate) fn item_of<'a>(operand: Operand<'a>, key: &str) -> Result<Operand<'a>
     }
 }
 
-/// A value that was found, undefined where there is none.
+/// Returns the found value, or undefined.
 fn or_undefined(found: Option<&Value>) -> Operand<'_>
     ensures { tree_of result ≡ items.or_undefined (option_map view (option_copied found.entry)) }
 {

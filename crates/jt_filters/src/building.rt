@@ -1,9 +1,9 @@
-//! What a filter gives, built. Its size and nesting are tested before.
+//! Builds the result of a filter. Its size and nesting were tested before.
 ghost use Rattle.std.specs.Prelude.{◌∷◌, [], Bool};
 ghost use Rattle.jt_value.specs.View.{view};
-ghost use Rattle.jt_filter_meaning.specs.Single.{single};
-ghost use Rattle.jt_filters.specs.Operands.{tree_of, inputs, Builds};
-ghost use Rattle.jt_filters.specs.Operands as operands;
+ghost use Rattle.jt_filter_semantics.specs.Single.{single};
+ghost use Rattle.jt_filters.specs.internal.Operands.{tree_of, inputs, Builds};
+ghost use Rattle.jt_filters.specs.internal.Operands as operands;
 
 use crate::attributes::attribute;
 use crate::joining::join;
@@ -18,8 +18,8 @@ use jt_ids::FilterId;
 use jt_value::{Fault, Value, ValueError};
 use std::alloc::Global;
 
-/// What a filter gives, or its fault. Want of memory is an answer only where there is a value with
-/// a payload.
+/// Returns a filter's result, or its fault. Fails for lack of memory only if the result has a
+/// payload.
 pub(crate) fn build(
     alloc: Global,
     filter: FilterId,
@@ -37,14 +37,14 @@ pub(crate) fn build(
     }
 }
 
-/// A value that is there, or a number.
+/// Returns the value of an operand, or its fault.
 fn scalar(alloc: Global, given: Result<Operand<'_>, Fault>) -> Result<Value, ValueError>
     ensures { Builds (operands.chosen given.entry) result }
 {
     Ok(given?.value(alloc)?)
 }
 
-/// The same of a filter of its input alone.
+/// Returns a filter's result on its input alone.
 fn build_one(
     alloc: Global,
     filter: FilterId,
@@ -82,7 +82,7 @@ fn build_one(
     }
 }
 
-/// The same of a filter of its input and one argument.
+/// Returns a filter's result on its input and one argument.
 fn build_two(
     alloc: Global,
     filter: FilterId,
@@ -106,7 +106,7 @@ fn build_two(
     }
 }
 
-/// The same of a filter of its input and two arguments.
+/// Returns a filter's result on its input and two arguments.
 fn build_three(
     alloc: Global,
     filter: FilterId,

@@ -1,41 +1,47 @@
-//! Codes of items: bytes by which they are told apart. Items that are alike have the same code, and
-//! others another one.
+//! Codes of items: bytes that tell items apart. Two items have the same code exactly if they are
+//! alike.
 ghost use Rattle.std.specs.Prelude.{◌≡◌, ◌∷◌, [], IfOk};
 ghost use Rattle.jt_value.specs.Tree as tree;
 ghost use Rattle.jt_value.specs.View.{view, items_view, entries_view};
-ghost use Rattle.jt_filters.specs.Codes as codes;
-ghost use Rattle.jt_filters.specs.Codes.{code, item_code, number_code, text_code, rows, rows_in, Adds};
-ghost use Rattle.jt_filters.specs.Operands.{tree_of};
-ghost use Rattle.jt_filter_meaning.specs.Ordering.{fold};
+ghost use Rattle.jt_filters.specs.internal.Codes as codes;
+ghost use Rattle.jt_filters.specs.internal.Codes.{code, item_code, number_code, text_code, rows};
+ghost use Rattle.jt_filters.specs.internal.Codes.{rows_in, Adds};
+ghost use Rattle.jt_filters.specs.internal.Operands.{tree_of};
+ghost use Rattle.jt_filter_semantics.specs.Ordering.{fold};
 
 use crate::operand::Operand;
 use jt_value::{NoMemory, Value};
 use std::alloc::Global;
 use std::collections::BTreeMap;
 
-/// The code of an item. A text, markup or not, has that of its fold.
+/// Returns the code of an item. A text, plain or markup, has the code of its fold.
 #[tactic(auto, using(crate::proofs::SameCodes::folded_text, crate::proofs::SameCodes::no_text))]
 pub(crate) fn code_of(alloc: Global, item: Operand<'_>) -> Result<Vec<u8>, NoMemory>
     ensures { IfOk result (λ v. v.items ≡ item_code (tree_of item.entry)) }
 {
     let mut bytes = Vec::new(alloc);
     match item.as_text() {
-        Some(text) => push_folded(alloc, &mut bytes, text)?,
+        Some(text) => push_folded(&mut bytes, text)?,
         None => push_operand(alloc, &mut bytes, item)?,
     }
     Ok(bytes)
 }
 
-/// Puts the code of a text's fold behind some bytes.
-fn push_folded(alloc: Global, bytes: &mut Vec<u8>, text: &str) -> Result<(), NoMemory>
+/// Appends the code of a text's fold.
+#[tactic(auto, using(crate::proofs::FoldedCodes::folded_codes))]
+fn push_folded(bytes: &mut Vec<u8>, text: &str) -> Result<(), NoMemory>
     ensures { Adds (text_code (fold text.now)) bytes.old bytes.new result }
 {
-    let mut folded = String::from_str(alloc, text)?;
-    folded.make_ascii_lowercase();
-    push_text(bytes, folded.as_str())
+    bytes.reserve(text.len() + 2)?;
+    bytes.push(4)?;
+    for byte in text.as_bytes() {
+        bytes.push(byte.to_ascii_lowercase())?;
+    }
+    bytes.push(255)?;
+    Ok(())
 }
 
-/// Puts the code of an operand behind some bytes.
+/// Appends the code of an operand.
 fn push_operand(alloc: Global, bytes: &mut Vec<u8>, operand: Operand<'_>) -> Result<(), NoMemory>
     ensures { Adds (code (tree_of operand.entry)) bytes.old bytes.new result }
 {
@@ -47,7 +53,7 @@ fn push_operand(alloc: Global, bytes: &mut Vec<u8>, operand: Operand<'_>) -> Res
     }
 }
 
-/// Puts a byte behind the others.
+/// Appends a byte.
 fn push_byte(bytes: &mut Vec<u8>, byte: u8) -> Result<(), NoMemory>
     ensures { Adds (byte ∷ []) bytes.old bytes.new result }
 {
@@ -55,7 +61,7 @@ fn push_byte(bytes: &mut Vec<u8>, byte: u8) -> Result<(), NoMemory>
     Ok(())
 }
 
-/// Puts the code of a number behind some bytes.
+/// Appends the code of a number.
 fn push_number(bytes: &mut Vec<u8>, number: i64) -> Result<(), NoMemory>
     ensures { Adds (number_code number) bytes.old bytes.new result }
 {
@@ -64,7 +70,7 @@ fn push_number(bytes: &mut Vec<u8>, number: i64) -> Result<(), NoMemory>
     Ok(())
 }
 
-/// Puts the code of a text behind some bytes.
+/// Appends the code of a text.
 fn push_text(bytes: &mut Vec<u8>, text: &str) -> Result<(), NoMemory>
     ensures { Adds (text_code text.now) bytes.old bytes.new result }
 {
@@ -74,7 +80,7 @@ fn push_text(bytes: &mut Vec<u8>, text: &str) -> Result<(), NoMemory>
     Ok(())
 }
 
-/// Puts the code of a value behind some bytes.
+/// Appends the code of a value.
 #[cycle(codes)]
 fn push_value(alloc: Global, bytes: &mut Vec<u8>, value: &Value) -> Result<(), NoMemory>
     ensures { Adds (code (view value.now)) bytes.old bytes.new result }
@@ -91,7 +97,7 @@ fn push_value(alloc: Global, bytes: &mut Vec<u8>, value: &Value) -> Result<(), N
     }
 }
 
-/// Puts the code of a list of items behind some bytes.
+/// Appends the code of a list of items.
 #[cycle(codes)]
 fn push_items(alloc: Global, bytes: &mut Vec<u8>, items: &[Value]) -> Result<(), NoMemory>
     ensures { Adds (code (tree.list (items_view items.now))) bytes.old bytes.new result }
@@ -103,7 +109,7 @@ fn push_items(alloc: Global, bytes: &mut Vec<u8>, items: &[Value]) -> Result<(),
     push_byte(bytes, 0)
 }
 
-/// The keys of a map in order, each with the code of its first value.
+/// Returns the keys of a map in order, each with the code of its first value.
 #[cycle(codes)]
 fn rows_of(alloc: Global, entries: &[(String, Value)]) -> Result<BTreeMap<&str, Vec<u8>>, NoMemory>
     ensures { IfOk result (λ m. rows_in m.entries ≡ rows (entries_view entries.now)) }
@@ -120,7 +126,7 @@ fn rows_of(alloc: Global, entries: &[(String, Value)]) -> Result<BTreeMap<&str, 
     Ok(rows)
 }
 
-/// Puts the code of a map's rows behind some bytes.
+/// Appends the code of a map's rows.
 fn push_rows(bytes: &mut Vec<u8>, rows: BTreeMap<&str, Vec<u8>>) -> Result<(), NoMemory>
     ensures { Adds (6 ∷ codes.rows_code (rows_in rows.entry.entries)) bytes.old bytes.new result }
 {

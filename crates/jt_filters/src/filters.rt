@@ -1,10 +1,10 @@
-//! Filters on values.
+//! Applies filters to values.
 ghost use Rattle.std.specs.Prelude.{◌≡◌, true, map, length, nat_le};
 ghost use Rattle.jt_value.specs.View.{view};
 ghost use Rattle.jt_ops.specs.Limited.{limited_by, Answers};
 ghost use Rattle.jt_ids.specs.FilterTable.{least_values, most_values};
-ghost use Rattle.jt_filter_meaning.specs.Filtering.{filtered};
-ghost use Rattle.jt_filters.specs.Operands.{given, measured, Builds};
+ghost use Rattle.jt_filter_semantics.specs.Filtering.{filtered};
+ghost use Rattle.jt_filters.specs.internal.Operands.{given, measured, Builds};
 
 use crate::building::build;
 use crate::mapping::{mapped, mapped_measure};
@@ -16,7 +16,7 @@ use jt_ops::{Limits, OpError, allow};
 use jt_value::{Fault, Value, ValueError};
 use std::alloc::Global;
 
-/// A filter with what it is applied to.
+/// A filter with its input and its arguments.
 #[derive(Clone, Copy)]
 struct Application<'a> {
     filter: FilterId,
@@ -25,13 +25,15 @@ struct Application<'a> {
     autoescape: bool,
 }
 
-/// What a filter gives of its values, the input first, under limits. `autoescape` says whether
-/// `join` keeps markup. The result's size and nesting are tested before it is built.
+/// Applies a filter to values, the input first, under limits. `autoescape` decides whether `join`
+/// keeps markup. The result's size and nesting are tested before it is built.
 ///
 /// # Errors
 ///
-/// The filter's fault; `TooLarge` where the result's size passes its limit, else `TooDeep` where
-/// its nesting does; `NoMemory` where a growth was refused.
+/// - The fault of the filter.
+/// - `TooLarge` if the result's size exceeds its limit.
+/// - `TooDeep` if only its nesting exceeds its limit.
+/// - `NoMemory` if a growth is refused.
 pub fn apply(
     alloc: Global,
     filter: FilterId,
@@ -58,8 +60,8 @@ pub fn apply(
     }
 }
 
-/// What an application gives under limits. `unique` finds its items once for its measure and its
-/// value.
+/// Returns the result of an application, under limits. `unique` finds its items once, for both the
+/// measure and the value.
 fn applied(alloc: Global, application: Application<'_>, limits: Limits) -> Result<Value, OpError>
     ensures { Answers result (limited_by limits (given application.entry)) }
 {
@@ -69,8 +71,8 @@ fn applied(alloc: Global, application: Application<'_>, limits: Limits) -> Resul
     }
 }
 
-/// The same, measured before it is built.
-#[tactic(auto, using(crate::proofs::Applied::faulty, crate::proofs::Applied::needs_memory))]
+/// Returns the result of an application, under limits. The result is measured before it is built.
+#[tactic(auto, using(crate::proofs::ApplyCorrect::refusals))]
 fn measured_and_built(
     alloc: Global,
     application: Application<'_>,
@@ -93,7 +95,7 @@ fn measured_and_built(
 }
 
 impl<'a> Application<'a> {
-    /// The measure of what it gives, of filters that call others too.
+    /// Returns the measure of the result, also for filters that call others.
     fn measure(self, alloc: Global) -> Result<(u64, u32), Fault>
         ensures { result ≡ measured (given self.entry) }
     {
@@ -115,7 +117,7 @@ impl<'a> Application<'a> {
         )
     }
 
-    /// What it gives, of filters that call others too.
+    /// Returns the result, also for filters that call others.
     fn value(self, alloc: Global) -> Result<Value, ValueError>
         ensures { Builds (given self.entry) result }
     {

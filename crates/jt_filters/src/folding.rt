@@ -1,8 +1,8 @@
-//! Texts compared by fold, which is their ASCII lower case.
+//! Comparison of texts by fold, which is their ASCII lower case.
 ghost use Rattle.std.specs.Prelude.{◌≡◌};
-ghost use Rattle.jt_filter_meaning.specs.Ordering as ordering;
+ghost use Rattle.jt_filter_semantics.specs.Ordering as ordering;
 
-/// Whether a text comes before another by fold.
+/// Returns whether a text precedes another one by fold.
 pub(crate) fn text_precedes(left: &str, right: &str) -> bool
     ensures { result ≡ ordering.text_precedes left.now right.now }
 {

@@ -1,12 +1,14 @@
-//! What is made of each item: it is kept or not, or replaced by its attribute or by what a filter
-//! gives of it.
-ghost use Rattle.std.specs.Prelude.{◌≡◌, ◌+◌, [], ◌∷◌, ◌++◌, map, length, Ok, IfErr, OnOk, option_map};
+//! The actions on each item: it is kept or dropped, or replaced by its attribute or by the result
+//! of a filter.
+ghost use Rattle.std.specs.Prelude.{◌≡◌, ◌+◌, [], ◌∷◌, ◌++◌, map, length, Ok, IfErr, OnOk};
+ghost use Rattle.std.specs.Prelude.{option_map};
 ghost use Rattle.jt_value.specs.View.{view, items_view};
 ghost use Rattle.jt_ids.specs.TestTable.{test_values};
-ghost use Rattle.jt_op_meaning.specs.Testing as testing;
-ghost use Rattle.jt_filter_meaning.specs.Mapping.{part_of, if_kept, in_front, alone};
-ghost use Rattle.jt_filters.specs.Operands.{tree_of, chosen};
-ghost use Rattle.jt_filters.specs.Rows.{judges, Judges, kept, gives, Gives, row_measured, RowFault};
+ghost use Rattle.jt_op_semantics.specs.Testing as testing;
+ghost use Rattle.jt_filter_semantics.specs.Mapping.{attribute_or_item, if_kept, in_front, alone};
+ghost use Rattle.jt_filters.specs.internal.Operands.{tree_of, chosen};
+ghost use Rattle.jt_filters.specs.internal.Rows.{judges, Judges, kept, gives, Gives, row_measured};
+ghost use Rattle.jt_filters.specs.internal.Rows.{RowFault};
 
 use crate::attributes::item_of;
 use crate::building::build;
@@ -17,23 +19,23 @@ use jt_ops::{test_of, test_of_text};
 use jt_value::{Fault, NoMemory, Value, ValueError};
 use std::alloc::Global;
 
-/// How a value is judged.
+/// The predicate that selects items.
 #[derive(Clone, Copy)]
-pub(crate) enum Judge<'a> {
-    /// By its truth.
+pub(crate) enum Predicate<'a> {
+    /// The truth of the value.
     Truth,
-    /// By a test with its arguments.
+    /// A test with its arguments.
     Test(TestId, &'a [Value]),
 }
 
-/// Which items are kept.
+/// The rule by which items are kept.
 #[derive(Clone, Copy)]
 pub(crate) struct Selection<'a> {
-    /// Whether those that pass are kept, or those that fail.
+    /// True to keep the items that pass the predicate, false to keep those that fail it.
     pub(crate) passes: bool,
-    /// The key of the attribute that is judged; without one the item itself is.
+    /// The key of the attribute that is tested. Without a key the item itself is tested.
     pub(crate) key: Option<&'a str>,
-    pub(crate) judge: Judge<'a>,
+    pub(crate) predicate: Predicate<'a>,
 }
 
 /// A filter that is called on each item.
@@ -44,31 +46,31 @@ pub(crate) struct InnerCall<'a> {
     pub(crate) arguments: &'a [Value],
 }
 
-/// What is made of each item.
+/// The action on each item.
 #[derive(Clone, Copy)]
-pub(crate) enum Change<'a> {
-    /// The item, if it is kept.
+pub(crate) enum ItemAction<'a> {
+    /// The item itself, if it is selected.
     Keep(Selection<'a>),
-    /// The item's attribute of a key.
+    /// The attribute of the item with this key.
     Attribute(&'a str),
-    /// What a filter gives of it.
+    /// The result of a filter on the item.
     Filter(InnerCall<'a>),
 }
 
-impl Judge<'_> {
-    /// Whether an operand passes.
+impl Predicate<'_> {
+    /// Returns whether an operand passes.
     fn passes(self, operand: Operand<'_>) -> Result<bool, Fault>
         requires { Judges self }
         ensures { result ≡ judges self.entry (tree_of operand.entry) }
     {
         match self {
-            Judge::Truth => Ok(operand.truth()),
-            Judge::Test(test, arguments) => test_operand(test, operand, arguments),
+            Predicate::Truth => Ok(operand.truth()),
+            Predicate::Test(test, arguments) => test_operand(test, operand, arguments),
         }
     }
 }
 
-/// Whether a test with its arguments is true of an operand.
+/// Returns whether a test with its arguments holds of an operand.
 fn test_operand(test: TestId, operand: Operand<'_>, arguments: &[Value]) -> Result<bool, Fault>
     requires { length arguments.now + 1 ≡ test_values test }
     ensures { result ≡ testing.tested test (tree_of operand.entry ∷ map view arguments.now) }
@@ -82,19 +84,19 @@ fn test_operand(test: TestId, operand: Operand<'_>, arguments: &[Value]) -> Resu
 }
 
 impl<'a> Selection<'a> {
-    /// Whether an item is kept.
+    /// Returns whether an item is kept.
     fn keeps(self, item: Operand<'a>) -> Result<bool, Fault>
-        requires { Judges self.judge }
+        requires { Judges self.predicate }
         ensures { result ≡ kept self.entry (tree_of item.entry) }
     {
-        let passes = self.judge.passes(self.part_of(item)?)?;
+        let passes = self.predicate.passes(self.attribute_or_item(item)?)?;
         Ok(passes == self.passes)
     }
 
-    /// What is judged of an item: the item itself, or its attribute.
-    fn part_of(self, item: Operand<'a>) -> Result<Operand<'a>, Fault>
+    /// Returns what the predicate tests: the item itself, or its attribute.
+    fn attribute_or_item(self, item: Operand<'a>) -> Result<Operand<'a>, Fault>
         ensures { chosen result
-            ≡ part_of (option_map (λ k. k.now) self.entry.key) (tree_of item.entry) }
+            ≡ attribute_or_item (option_map (λ k. k.now) self.entry.key) (tree_of item.entry) }
     {
         match self.key {
             Some(key) => item_of(item, key),
@@ -103,17 +105,17 @@ impl<'a> Selection<'a> {
     }
 }
 
-impl<'a> Change<'a> {
-    /// The size and the nesting of what an item gives.
-    #[tactic(auto, using(crate::proofs::Rows::alone_measured, crate::proofs::Rows::kept_measured))]
+impl<'a> ItemAction<'a> {
+    /// Returns the size and the nesting of what the action makes of an item.
+    #[tactic(auto, using(crate::proofs::ItemResults::action_measures))]
     pub(crate) fn measure(self, alloc: Global, item: Operand<'a>) -> Result<(u64, u32), Fault>
         requires { Gives self }
         ensures { result ≡ row_measured (gives self.entry (tree_of item.entry)) }
     {
         match self {
-            Change::Keep(selection) => Ok(measure_if(selection.keeps(item)?, item)),
-            Change::Attribute(key) => measured(item_of(item, key)),
-            Change::Filter(call) => measure(
+            ItemAction::Keep(selection) => Ok(measure_if(selection.keeps(item)?, item)),
+            ItemAction::Attribute(key) => measured(item_of(item, key)),
+            ItemAction::Filter(call) => measure(
                 alloc,
                 call.filter,
                 item,
@@ -123,8 +125,8 @@ impl<'a> Change<'a> {
         }
     }
 
-    /// Puts what an item gives behind some values.
-    #[tactic(auto, using(crate::proofs::Rows::put_alone, crate::proofs::Rows::put_none))]
+    /// Appends what the action makes of an item.
+    #[tactic(auto, using(crate::proofs::ItemResults::action_values))]
     pub(crate) fn push(
         self,
         alloc: Global,
@@ -138,14 +140,14 @@ impl<'a> Change<'a> {
         ensures fault { IfErr result (RowFault (gives self.entry (tree_of item.entry))) }
     {
         let value = match self {
-            Change::Keep(selection) => {
+            ItemAction::Keep(selection) => {
                 if !selection.keeps(item)? {
                     return Ok(());
                 }
                 item.value(alloc)?
             },
-            Change::Attribute(key) => item_of(item, key)?.value(alloc)?,
-            Change::Filter(call) => {
+            ItemAction::Attribute(key) => item_of(item, key)?.value(alloc)?,
+            ItemAction::Filter(call) => {
                 build(alloc, call.filter, item, call.arguments, call.autoescape)?
             },
         };
@@ -153,7 +155,7 @@ impl<'a> Change<'a> {
     }
 }
 
-/// Puts a value behind the others.
+/// Appends a value.
 fn put(values: &mut Vec<Value>, value: Value) -> Result<(), NoMemory>
     ensures { OnOk result (values.new.items ≡ values.old.items ++ value ∷ []) }
 {
@@ -161,7 +163,7 @@ fn put(values: &mut Vec<Value>, value: Value) -> Result<(), NoMemory>
     Ok(())
 }
 
-/// The size and the nesting of an item, nothing where it isn't kept.
+/// Returns the size and the nesting of an item, or zeros if it is not kept.
 fn measure_if(keeps: bool, item: Operand<'_>) -> (u64, u32)
     ensures { Ok result ≡ row_measured (if_kept (tree_of item.entry) (Ok keeps)) }
 {
@@ -172,7 +174,7 @@ fn measure_if(keeps: bool, item: Operand<'_>) -> (u64, u32)
     }
 }
 
-/// The size and the nesting of an operand that is there, as the only item.
+/// Returns the size and the nesting of an operand as the only item, or its fault.
 fn measured(given: Result<Operand<'_>, Fault>) -> Result<(u64, u32), Fault>
     ensures { result ≡ row_measured (alone (chosen given.entry)) }
 {

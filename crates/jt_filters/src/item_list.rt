@@ -1,16 +1,16 @@
-//! The items of values, one after the other. They take no memory.
+//! The items of values, in order. Nothing here allocates.
 ghost use Rattle.std.specs.Prelude.{◌≡◌, IfSome, IfNone};
 ghost use Rattle.std.specs.Str.{chars};
 ghost use Rattle.jt_value.specs.Iteration.{items_of_tree, character_items};
 ghost use Rattle.jt_value.specs.Tree as tree;
-ghost use Rattle.jt_op_meaning.specs.ItemOf.{items_count};
-ghost use Rattle.jt_filters.specs.Operands.{tree_of, items_in, HasItems};
+ghost use Rattle.jt_op_semantics.specs.ItemOf.{items_count};
+ghost use Rattle.jt_filters.specs.internal.Operands.{tree_of, items_in, HasItems};
 
 use crate::operand::Operand;
 use jt_ops::character_count;
 use jt_value::{Fault, Value};
 
-/// Items: values, the characters of a text, or the keys of a map.
+/// A list of items: values, the characters of a text, or the keys of a map.
 #[derive(Clone, Copy)]
 pub(crate) enum ItemList<'a> {
     Values(&'a [Value]),
@@ -19,8 +19,8 @@ pub(crate) enum ItemList<'a> {
 }
 
 impl<'a> ItemList<'a> {
-    /// How many items there are.
-    #[tactic(auto, using(jt_ops::proofs::Places::items_count_view, crate::proofs::Payloads::characters_count, crate::proofs::Payloads::keys_count))]
+    /// Returns how many items there are.
+    #[tactic(auto, using(crate::proofs::Payloads::item_counts))]
     pub(crate) fn len(self) -> usize
         ensures { result ≡ items_count (items_in self.entry) }
     {
@@ -31,7 +31,7 @@ impl<'a> ItemList<'a> {
         }
     }
 
-    /// The first item and those behind it.
+    /// Returns the first item and the items after it.
     pub(crate) fn split_first(self) -> Option<(Operand<'a>, ItemList<'a>)>
         ensures some { IfSome result
             (λ p. items_in self.entry ≡ tree.item (tree_of p.0) (items_in p.1)) }
@@ -54,7 +54,7 @@ impl<'a> ItemList<'a> {
     }
 }
 
-/// The first character of a text, as a text, and the rest.
+/// Returns the first character of a text, as a text, and the rest.
 fn split_character(text: &str) -> Option<(&str, &str)>
     ensures some { IfSome result (λ p. character_items (chars text.now)
         ≡ tree.item (tree.text p.0.now) (character_items (chars p.1.now))) }
@@ -66,7 +66,7 @@ fn split_character(text: &str) -> Option<(&str, &str)>
     }
 }
 
-/// The items of a value.
+/// Returns the items of a value.
 pub(crate) fn items_of(operand: Operand<'_>) -> Result<ItemList<'_>, Fault>
     ensures { HasItems (items_of_tree (tree_of operand.entry)) result }
 {

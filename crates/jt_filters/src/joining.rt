@@ -1,12 +1,13 @@
-//! Filter `join`: how long its text is, and the text.
+//! Filter `join`: the length of its text, and the text.
 ghost use Rattle.std.specs.Prelude.{◌≡◌, ◌&&◌, ◌||◌};
-ghost use Rattle.jt_op_meaning.specs.Testing.{is_markup};
-ghost use Rattle.jt_filters.specs.Operands as operands;
+ghost use Rattle.jt_op_semantics.specs.Testing.{is_markup};
+ghost use Rattle.jt_filters.specs.internal.Operands as operands;
 ghost use Rattle.jt_escape.specs.Joining.{IsAnswer, piece, joined_text};
 ghost use Rattle.jt_escape.specs.Joining as joins;
 ghost use Rattle.jt_value.specs.View.{view, items_view};
-ghost use Rattle.jt_filter_meaning.specs.Listing.{joined_by};
-ghost use Rattle.jt_filters.specs.Operands.{tree_of, items_in, joining, measured, text_length, led_length};
+ghost use Rattle.jt_filter_semantics.specs.Listing.{joined_by};
+ghost use Rattle.jt_filters.specs.internal.Operands.{tree_of, items_in, joining, measured};
+ghost use Rattle.jt_filters.specs.internal.Operands.{text_length, led_length};
 
 use crate::item_list::{ItemList, items_of};
 use crate::listing::values;
@@ -17,8 +18,8 @@ use jt_ops::Piece;
 use jt_value::{Fault, Value, ValueError};
 use std::alloc::Global;
 
-/// The measure of filter `join`.
-#[tactic(auto, using(crate::proofs::Joins::joined_measured))]
+/// Returns the measure of filter `join`.
+#[tactic(auto, using(crate::proofs::JoinLengths::joined_measured))]
 pub(crate) fn join_measure(
     operand: Operand<'_>,
     separator: Operand<'_>,
@@ -30,15 +31,15 @@ pub(crate) fn join_measure(
     text_measure(joined_len(items, separator, escapes(items, separator, autoescape)))
 }
 
-/// The measure of a text that is so long.
+/// Returns the measure of a text of this length.
 fn text_measure(len: Result<u64, Fault>) -> Result<(u64, u32), Fault>
     ensures { result ≡ operands.text_measure len }
 {
     Ok((len?.saturating_add(1), 0))
 }
 
-/// Whether a join escapes what isn't markup: under autoescaping, where an item or the separator is
-/// markup.
+/// Returns whether a join escapes plain items: only under autoescaping, and if an item or the
+/// separator is markup.
 fn escapes(items: ItemList<'_>, separator: Operand<'_>, autoescape: bool) -> bool
     ensures { result
         ≡ (autoescape
@@ -47,7 +48,7 @@ fn escapes(items: ItemList<'_>, separator: Operand<'_>, autoescape: bool) -> boo
     autoescape && (separator.is_markup() || has_markup(items))
 }
 
-/// Whether an item is markup.
+/// Returns whether one of the items is markup.
 fn has_markup(items: ItemList<'_>) -> bool
     ensures { result ≡ joins.has_markup (items_in items.entry) }
 {
@@ -61,9 +62,9 @@ fn has_markup(items: ItemList<'_>) -> bool
     false
 }
 
-/// How many bytes the joined text has, or the greatest number where they are more. The separator's
-/// fault counts first.
-#[tactic(auto, using(crate::proofs::Joins::joined_length, crate::proofs::Joins::none_joined, crate::proofs::Joins::unprintable_first, crate::proofs::Joins::unprintable_separator))]
+/// Returns the length in bytes of the joined text, at most 2^64 - 1. A fault of the separator comes
+/// before those of the items.
+#[tactic(auto, using(crate::proofs::JoinLengths::joined_lengths))]
 fn joined_len(items: ItemList<'_>, separator: Operand<'_>, escaping: bool) -> Result<u64, Fault>
     ensures { result
         ≡ text_length (joined_text escaping (items_in items.entry) (tree_of separator.entry)) }
@@ -75,7 +76,8 @@ fn joined_len(items: ItemList<'_>, separator: Operand<'_>, escaping: bool) -> Re
     }
 }
 
-/// How many bytes there are with items behind so many bytes, each with the separator's in front.
+/// Returns the joined length, at most 2^64 - 1: `first` bytes, then each item of `behind` with
+/// `between` bytes before it.
 fn led_len(first: u64, between: u64, behind: ItemList<'_>, escaping: bool) -> Result<u64, Fault>
     ensures { result ≡ led_length escaping first between (items_in behind.entry) }
 {
@@ -90,8 +92,8 @@ fn led_len(first: u64, between: u64, behind: ItemList<'_>, escaping: bool) -> Re
     Ok(total)
 }
 
-/// How many bytes an operand gives to a join, or the greatest number where they are more.
-#[tactic(auto, using(crate::proofs::Joins::piece_is, crate::proofs::Joins::no_piece))]
+/// Returns how many bytes an operand adds to a join, at most 2^64 - 1.
+#[tactic(auto, using(crate::proofs::JoinLengths::piece_is, crate::proofs::JoinLengths::no_piece))]
 fn piece_len(operand: Operand<'_>, escaping: bool) -> Result<u64, Fault>
     ensures { result ≡ text_length (piece escaping (tree_of operand.entry)) }
 {
@@ -104,7 +106,7 @@ fn piece_len(operand: Operand<'_>, escaping: bool) -> Result<u64, Fault>
     }
 }
 
-/// Filter `join`.
+/// Applies filter `join`.
 pub(crate) fn join(
     alloc: Global,
     operand: Operand<'_>,
@@ -121,7 +123,7 @@ pub(crate) fn join(
     }
 }
 
-/// The text of some values with a separator between them.
+/// Returns the text of the values with a separator between them.
 fn joined(
     alloc: Global,
     values: &[Value],

@@ -1,13 +1,13 @@
-//! Which items fit a filter.
+//! The kinds of items that filters accept.
 ghost use Rattle.std.specs.Prelude.{◌≡◌};
-ghost use Rattle.jt_filter_meaning.specs.Kinds as kinds;
-ghost use Rattle.jt_filter_meaning.specs.Kinds.{all_numbers, all_plain, have_order};
-ghost use Rattle.jt_filters.specs.Operands.{items_in};
+ghost use Rattle.jt_filter_semantics.specs.Kinds as kinds;
+ghost use Rattle.jt_filter_semantics.specs.Kinds.{all_numbers, all_plain, have_order};
+ghost use Rattle.jt_filters.specs.internal.Operands.{items_in};
 
 use crate::item_list::ItemList;
 use jt_value::Fault;
 
-/// Whether all items are numbers.
+/// Returns whether all items are numbers.
 pub(crate) fn are_numbers(items: ItemList<'_>) -> bool
     ensures { result ≡ all_numbers (items_in items.entry) }
 {
@@ -21,7 +21,7 @@ pub(crate) fn are_numbers(items: ItemList<'_>) -> bool
     true
 }
 
-/// Whether all items are plain texts.
+/// Returns whether all items are plain texts.
 pub(crate) fn are_plain(items: ItemList<'_>) -> bool
     ensures { result ≡ all_plain (items_in items.entry) }
 {
@@ -35,14 +35,14 @@ pub(crate) fn are_plain(items: ItemList<'_>) -> bool
     true
 }
 
-/// Whether items can be put in an order: all are numbers, or all plain texts.
+/// Returns whether the items can be ordered: all are numbers, or all are plain texts.
 pub(crate) fn are_in_order(items: ItemList<'_>) -> bool
     ensures { result ≡ have_order (items_in items.entry) }
 {
     are_numbers(items) || are_plain(items)
 }
 
-/// Whether an item is undefined.
+/// Returns whether one of the items is undefined.
 fn has_undefined(items: ItemList<'_>) -> bool
     ensures { result ≡ kinds.has_undefined (items_in items.entry) }
 {
@@ -56,9 +56,9 @@ fn has_undefined(items: ItemList<'_>) -> bool
     false
 }
 
-/// The fault of items that don't fit.
-pub(crate) fn misfit_of_items(items: ItemList<'_>) -> Fault
-    ensures { result ≡ kinds.misfit_of_items (items_in items.entry) }
+/// Returns the fault of items that a filter does not accept.
+pub(crate) fn operand_fault_of_items(items: ItemList<'_>) -> Fault
+    ensures { result ≡ kinds.operand_fault_of_items (items_in items.entry) }
 {
     if has_undefined(items) {
         Fault::Undefined

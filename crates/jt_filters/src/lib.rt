@@ -1,9 +1,10 @@
-//! Filters on values, under limits of size and nesting; jt_ops is handed on.
+//! Filters on values, under limits of size and nesting. Re-exports the operations of jt_ops and the
+//! ids.
 //!
-//! `apply` (filters) measures what a filter will give (measuring) before it builds it (building);
-//! both go to a module of each kind: texts, scalars, listing, sorting, unique, replacing, joining,
-//! mapping. Read first: building.rt beside measuring.rt, a line a filter; what each gives is said
-//! in jt_filter_meaning.
+//! `apply` (`filters`) measures the result of a filter (`measuring`) before it builds it
+//! (`building`). Both use a module per kind of filter: `texts`, `scalars`, `listing`, `sorting`,
+//! `unique`, `replacing`, `joining`, `mapping`. jt_filter_semantics defines the results. Read
+//! building.rt first, with measuring.rt beside it: both have one line per filter.
 #![tactic(auto)]
 
 mod attributes;

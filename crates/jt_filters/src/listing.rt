@@ -1,14 +1,15 @@
-//! Filters that give lists: the size and the nesting of what each gives, and what it gives.
+//! Filters whose results are lists: the measure (size and nesting) of each result, and the result.
 ghost use Rattle.std.specs.Prelude.{◌≡◌, ◌-◌, ◌^◌, min, Bool, IfOk, Ok};
 ghost use Rattle.jt_value.specs.Tree as tree;
 ghost use Rattle.jt_value.specs.Tree.{Tree, items_size, items_nesting};
 ghost use Rattle.jt_value.specs.View.{view, items_view, entries_view};
 ghost use Rattle.jt_escape.specs.Joining.{IsAnswer};
-ghost use Rattle.jt_filter_meaning.specs.Listing.{on_items, listed, reversed, reversed_items, pairs_of, pair_items};
-ghost use Rattle.jt_filter_meaning.specs.Listing as listing;
-ghost use Rattle.jt_filters.specs.Operands.{tree_of, items_in, measured};
-ghost use Rattle.jt_filter_meaning.specs.Ordering.{sorted_pairs};
-ghost use Rattle.jt_filter_meaning.specs.Ordering as ordering;
+ghost use Rattle.jt_filter_semantics.specs.Listing.{on_items, listed, reversed, reversed_items};
+ghost use Rattle.jt_filter_semantics.specs.Listing.{pairs_of, pair_items};
+ghost use Rattle.jt_filter_semantics.specs.Listing as listing;
+ghost use Rattle.jt_filters.specs.internal.Operands.{tree_of, items_in, measured};
+ghost use Rattle.jt_filter_semantics.specs.Ordering.{sorted_pairs};
+ghost use Rattle.jt_filter_semantics.specs.Ordering as ordering;
 
 use crate::item_list::{ItemList, items_of};
 use crate::operand::Operand;
@@ -17,7 +18,7 @@ use crate::texts::{backwards, backwards_measure};
 use jt_value::{Fault, NoMemory, Value, ValueError};
 use std::alloc::Global;
 
-/// The size and the nesting of some items, each the greatest number where it is greater.
+/// Returns the size of items, at most 2^64 - 1, and their nesting, at most 2^32 - 1.
 fn items_measure(items: ItemList<'_>) -> (u64, u32)
     ensures size { result.0 ≡ min (items_size (items_in items.entry)) (2 ^ 64 - 1) }
     ensures nesting { result.1 ≡ min (items_nesting (items_in items.entry)) (2 ^ 32 - 1) }
@@ -33,8 +34,8 @@ fn items_measure(items: ItemList<'_>) -> (u64, u32)
     (size, nesting)
 }
 
-/// The measure of the list of some items, in whichever order.
-#[tactic(auto, using(crate::proofs::Measures::reversed_size, crate::proofs::Measures::reversed_nesting, crate::proofs::Orders::sorted_size, crate::proofs::Orders::sorted_nesting))]
+/// Returns the measure of the list of the items, in any order.
+#[tactic(auto, using(crate::proofs::SortOrders::order_measures))]
 pub(crate) fn list_measure(items: ItemList<'_>) -> (u64, u32)
     ensures listed { Ok result ≡ measured (Ok (tree.list (items_in items.entry))) }
     ensures reversed { Ok result
@@ -46,8 +47,8 @@ pub(crate) fn list_measure(items: ItemList<'_>) -> (u64, u32)
     (size.saturating_add(1), nesting.saturating_add(1))
 }
 
-/// The values of some items.
-#[tactic(auto, using(crate::proofs::Lists::pushed, crate::proofs::Lists::joined_none))]
+/// Returns the values of the items.
+#[tactic(auto, using(crate::proofs::ListAppend::pushed, crate::proofs::ListAppend::joined_none))]
 pub(crate) fn values(alloc: Global, items: ItemList<'_>) -> Result<Vec<Value>, NoMemory>
     ensures { IfOk result (λ v. items_view v.items ≡ items_in items.entry) }
 {
@@ -60,25 +61,14 @@ pub(crate) fn values(alloc: Global, items: ItemList<'_>) -> Result<Vec<Value>, N
     Ok(values)
 }
 
-/// Copies of some values.
-pub(crate) fn copies(alloc: Global, items: &[Value]) -> Result<Vec<Value>, NoMemory>
-    ensures { IfOk result (λ v. items_view v.items ≡ items_view items.now) }
-{
-    let mut copies = Vec::with_capacity(alloc, items.len())?;
-    for item in items {
-        copies.push(item.try_clone(alloc)?)?;
-    }
-    Ok(copies)
-}
-
-/// The measure of filter `list`.
+/// Returns the measure of filter `list`.
 pub(crate) fn listed_measure(operand: Operand<'_>) -> Result<(u64, u32), Fault>
     ensures { result ≡ measured (on_items listed (tree_of operand.entry)) }
 {
     Ok(list_measure(items_of(operand)?))
 }
 
-/// Filter `list`.
+/// Applies filter `list`.
 pub(crate) fn list(alloc: Global, operand: Operand<'_>) -> Result<Value, ValueError>
     ensures { IsAnswer (on_items listed (tree_of operand.entry)) result }
 {
@@ -86,8 +76,8 @@ pub(crate) fn list(alloc: Global, operand: Operand<'_>) -> Result<Value, ValueEr
     Ok(Value::list(alloc, items)?)
 }
 
-/// The measure of filter `reverse`.
-#[tactic(auto, using(crate::proofs::Plains::reversed_text, crate::proofs::Plains::reversed_by_items, crate::proofs::Plains::others_not_reversed))]
+/// Returns the measure of filter `reverse`.
+#[tactic(auto, using(crate::proofs::OperandKinds::reversals))]
 pub(crate) fn reversed_measure(operand: Operand<'_>) -> Result<(u64, u32), Fault>
     ensures { result ≡ measured (reversed (tree_of operand.entry)) }
 {
@@ -96,12 +86,12 @@ pub(crate) fn reversed_measure(operand: Operand<'_>) -> Result<(u64, u32), Fault
     }
     match items_of(operand) {
         Ok(items) => Ok(list_measure(items)),
-        Err(_) => Err(operand.misfit()),
+        Err(_) => Err(operand.operand_fault()),
     }
 }
 
-/// Filter `reverse`.
-#[tactic(auto, using(crate::proofs::Plains::reversed_text, crate::proofs::Plains::reversed_by_items, crate::proofs::Plains::others_not_reversed))]
+/// Applies filter `reverse`.
+#[tactic(auto, using(crate::proofs::OperandKinds::reversals))]
 pub(crate) fn reverse(alloc: Global, operand: Operand<'_>) -> Result<Value, ValueError>
     ensures { IsAnswer (reversed (tree_of operand.entry)) result }
 {
@@ -110,11 +100,11 @@ pub(crate) fn reverse(alloc: Global, operand: Operand<'_>) -> Result<Value, Valu
     }
     match items_of(operand) {
         Ok(items) => Ok(Value::list(alloc, turned(values(alloc, items)?))?),
-        Err(_) => Err(operand.misfit().into()),
+        Err(_) => Err(operand.operand_fault().into()),
     }
 }
 
-/// Items backwards.
+/// Returns the items in reverse order.
 #[tactic(auto, using(crate::proofs::Measures::reversed_view))]
 fn turned(items: Vec<Value>) -> Vec<Value>
     ensures { items_view result.items ≡ reversed_items (items_view items.items) }
@@ -124,8 +114,8 @@ fn turned(items: Vec<Value>) -> Vec<Value>
     items
 }
 
-/// The measure of filter `items`.
-#[tactic(auto, using(crate::proofs::Payloads::map_is, crate::proofs::Plains::others_no_pairs))]
+/// Returns the measure of filter `items`.
+#[tactic(auto, using(crate::proofs::Payloads::map_is, crate::proofs::OperandKinds::others_no_pairs))]
 pub(crate) fn pairs_of_measure(operand: Operand<'_>) -> Result<(u64, u32), Fault>
     ensures { result ≡ measured (pairs_of (tree_of operand.entry)) }
 {
@@ -135,12 +125,12 @@ pub(crate) fn pairs_of_measure(operand: Operand<'_>) -> Result<(u64, u32), Fault
     if operand.is_undefined() {
         Ok((1, 1))
     } else {
-        Err(operand.misfit())
+        Err(operand.operand_fault())
     }
 }
 
-/// Filter `items`.
-#[tactic(auto, using(crate::proofs::Payloads::map_is, crate::proofs::Plains::others_no_pairs))]
+/// Applies filter `items`.
+#[tactic(auto, using(crate::proofs::Payloads::map_is, crate::proofs::OperandKinds::others_no_pairs))]
 pub(crate) fn items(alloc: Global, operand: Operand<'_>) -> Result<Value, ValueError>
     ensures { IsAnswer (pairs_of (tree_of operand.entry)) result }
 {
@@ -150,35 +140,35 @@ pub(crate) fn items(alloc: Global, operand: Operand<'_>) -> Result<Value, ValueE
     if operand.is_undefined() {
         Ok(Value::list(alloc, Vec::new(alloc))?)
     } else {
-        Err(operand.misfit().into())
+        Err(operand.operand_fault().into())
     }
 }
 
-/// The measure of filter `dictsort`.
-#[tactic(auto, using(crate::proofs::Payloads::map_is, crate::proofs::Plains::others_not_sorted))]
+/// Returns the measure of filter `dictsort`.
+#[tactic(auto, using(crate::proofs::Payloads::map_is, crate::proofs::OperandKinds::others_not_sorted))]
 pub(crate) fn dictsort_measure(operand: Operand<'_>) -> Result<(u64, u32), Fault>
     ensures { result ≡ measured (sorted_pairs (tree_of operand.entry)) }
 {
     match operand.as_map() {
         Some(map) => Ok(pair_list_measure(map.entries())),
-        None => Err(operand.misfit()),
+        None => Err(operand.operand_fault()),
     }
 }
 
-/// Filter `dictsort`.
-#[tactic(auto, using(crate::proofs::Payloads::map_is, crate::proofs::Plains::others_not_sorted))]
+/// Applies filter `dictsort`.
+#[tactic(auto, using(crate::proofs::Payloads::map_is, crate::proofs::OperandKinds::others_not_sorted))]
 pub(crate) fn dictsort(alloc: Global, operand: Operand<'_>) -> Result<Value, ValueError>
     ensures { IsAnswer (sorted_pairs (tree_of operand.entry)) result }
 {
     match operand.as_map() {
         Some(map) => Ok(sorted_entries(alloc, map.entries())?),
-        None => Err(operand.misfit().into()),
+        None => Err(operand.operand_fault().into()),
     }
 }
 
-/// The measure of the list of a map's entries, each a list of its key and its value, in whichever
-/// order.
-#[tactic(auto, using(crate::proofs::Orders::sorted_size, crate::proofs::Orders::sorted_nesting))]
+/// Returns the measure of the list of a map's entries, in any order. Each entry is a list of its
+/// key and its value.
+#[tactic(auto, using(crate::proofs::SortOrders::sorted_measures))]
 fn pair_list_measure(entries: &[(String, Value)]) -> (u64, u32)
     ensures listed { Ok result ≡ measured (Ok (tree.list (pair_items (entries_view entries.now)))) }
     ensures sorted { (before : Tree → Tree → Bool)
@@ -190,8 +180,8 @@ fn pair_list_measure(entries: &[(String, Value)]) -> (u64, u32)
     (size.saturating_add(1), nesting.saturating_add(1))
 }
 
-/// The size and the nesting of a map's entries as lists, each the greatest number where it is
-/// greater.
+/// Returns the size, at most 2^64 - 1, and the nesting, at most 2^32 - 1, of a map's entries as
+/// lists.
 fn pairs_measure(entries: &[(String, Value)]) -> (u64, u32)
     ensures size { result.0
         ≡ min (items_size (pair_items (entries_view entries.now))) (2 ^ 64 - 1) }
@@ -210,7 +200,7 @@ fn pairs_measure(entries: &[(String, Value)]) -> (u64, u32)
     (size, nesting)
 }
 
-/// A map's entries, each a list of its key and its value.
+/// Returns a map's entries, each as a list of its key and its value.
 pub(crate) fn pairs(alloc: Global, entries: &[(String, Value)]) -> Result<Vec<Value>, NoMemory>
     ensures { IfOk result (λ v. items_view v.items ≡ pair_items (entries_view entries.now)) }
 {
@@ -221,7 +211,7 @@ pub(crate) fn pairs(alloc: Global, entries: &[(String, Value)]) -> Result<Vec<Va
     Ok(pairs)
 }
 
-/// A key and a copy of its value, as a list.
+/// Returns the list of a key and a copy of its value.
 fn pair(alloc: Global, key: &str, value: &Value) -> Result<Value, NoMemory>
     ensures { IfOk result (λ v. view v ≡ listing.pair key.now (view value.now)) }
 {

@@ -2,22 +2,24 @@
 ghost use Rattle.std.specs.Prelude.{◌≡◌, map, Ok, IfOk, IfErr, Some, option_map};
 ghost use Rattle.jt_value.specs.Payload.{text_of};
 ghost use Rattle.jt_value.specs.View.{view, items_view};
-ghost use Rattle.jt_filter_meaning.specs.Listing.{on_items};
-ghost use Rattle.jt_filter_meaning.specs.Mapping as the;
+ghost use Rattle.jt_filter_semantics.specs.Listing.{on_items};
+ghost use Rattle.jt_filter_semantics.specs.Mapping as the;
 ghost use Rattle.jt_ids.specs.TestTable.{test_of_name};
-ghost use Rattle.jt_filter_meaning.specs.Mapping.{named_by, filter_named, gathered, gathered_by, as_list};
-ghost use Rattle.jt_filters.specs.Operands.{tree_of, items_in, measured, Builds};
-ghost use Rattle.jt_filters.specs.Rows.{gives, Gives, row_measured, Changes, MakesJudge, RowFault};
+ghost use Rattle.jt_filter_semantics.specs.Mapping.{named_by, filter_named, gathered, gathered_by};
+ghost use Rattle.jt_filter_semantics.specs.Mapping.{as_list};
+ghost use Rattle.jt_filters.specs.internal.Operands.{tree_of, items_in, measured, Builds};
+ghost use Rattle.jt_filters.specs.internal.Rows.{gives, Gives, row_measured, Changes};
+ghost use Rattle.jt_filters.specs.internal.Rows.{MakesPredicate, RowFault};
 
-use crate::inner::{Change, InnerCall, Judge, Selection};
+use crate::inner::{InnerCall, ItemAction, Predicate, Selection};
 use crate::item_list::{ItemList, items_of};
 use crate::operand::Operand;
 use jt_ids::{FilterId, TestId};
 use jt_value::{Fault, Value, ValueError};
 use std::alloc::Global;
 
-/// The measure of such a filter.
-#[tactic(auto, using(crate::proofs::Rows::no_items_given, crate::proofs::Rows::no_change, crate::proofs::Rows::whole))]
+/// Returns the measure of the result of a filter that works on each item.
+#[tactic(auto, using(crate::proofs::ItemResults::action_results))]
 pub(crate) fn mapped_measure(
     alloc: Global,
     filter: FilterId,
@@ -34,8 +36,8 @@ pub(crate) fn mapped_measure(
     row_list_measure(alloc, items, change)
 }
 
-/// What such a filter gives.
-#[tactic(auto, using(crate::proofs::Rows::no_items_given, crate::proofs::Rows::no_change, crate::proofs::Rows::whole))]
+/// Returns the result of a filter that works on each item.
+#[tactic(auto, using(crate::proofs::ItemResults::action_results))]
 pub(crate) fn mapped(
     alloc: Global,
     filter: FilterId,
@@ -51,12 +53,12 @@ pub(crate) fn mapped(
     row_list(alloc, items, change)
 }
 
-/// The measure of the list of what the items give.
-#[tactic(auto, using(crate::proofs::Rows::list_measured, crate::proofs::Rows::list_fault))]
+/// Returns the measure of the list of what the action makes of the items.
+#[tactic(auto, using(crate::proofs::ItemResults::list_measures))]
 fn row_list_measure<'a>(
     alloc: Global,
     items: ItemList<'a>,
-    change: Change<'a>,
+    change: ItemAction<'a>,
 ) -> Result<(u64, u32), Fault>
     requires { Gives change }
     ensures { result ≡ measured (as_list (gathered (gives change.entry) (items_in items.entry))) }
@@ -65,12 +67,13 @@ fn row_list_measure<'a>(
     Ok((size.saturating_add(1), nesting.saturating_add(1)))
 }
 
-/// The size and the nesting of what the items give, each the greatest number where it is greater.
-#[tactic(auto, using(crate::proofs::Rows::behind_item, crate::proofs::Rows::behind_item_fault, crate::proofs::Rows::behind_end, crate::proofs::Rows::behind_none))]
+/// Returns the size, at most 2^64 - 1, and the nesting, at most 2^32 - 1, of what the action makes
+/// of the items.
+#[tactic(auto, using(crate::proofs::ItemResults::rest_measures))]
 fn row_measure<'a>(
     alloc: Global,
     items: ItemList<'a>,
-    change: Change<'a>,
+    change: ItemAction<'a>,
 ) -> Result<(u64, u32), Fault>
     requires { Gives change }
     ensures { result ≡ row_measured (gathered (gives change.entry) (items_in items.entry)) }
@@ -90,8 +93,12 @@ fn row_measure<'a>(
     Ok((size, nesting))
 }
 
-/// The list of what the items give.
-fn row_list<'a>(alloc: Global, items: ItemList<'a>, change: Change<'a>) -> Result<Value, ValueError>
+/// Returns the list of what the action makes of the items.
+fn row_list<'a>(
+    alloc: Global,
+    items: ItemList<'a>,
+    change: ItemAction<'a>,
+) -> Result<Value, ValueError>
     requires { Gives change }
     ensures { Builds (as_list (gathered (gives change.entry) (items_in items.entry))) result }
 {
@@ -99,12 +106,12 @@ fn row_list<'a>(alloc: Global, items: ItemList<'a>, change: Change<'a>) -> Resul
     Ok(Value::list(alloc, values)?)
 }
 
-/// What the items give, in a row.
-#[tactic(auto, using(crate::proofs::Rows::front_item, crate::proofs::Rows::front_item_fault, crate::proofs::Rows::front_end))]
+/// Returns what the action makes of the items, in order.
+#[tactic(auto, using(crate::proofs::ItemResults::front_values))]
 fn row_values<'a>(
     alloc: Global,
     items: ItemList<'a>,
-    change: Change<'a>,
+    change: ItemAction<'a>,
 ) -> Result<Vec<Value>, ValueError>
     requires { Gives change }
     ensures ok { IfOk result
@@ -120,12 +127,12 @@ fn row_values<'a>(
     Ok(values)
 }
 
-/// What a filter with its arguments makes of each item.
+/// Returns the action of a filter with its arguments on each item.
 pub(crate) fn change_of(
     filter: FilterId,
     arguments: &[Value],
     autoescape: bool,
-) -> Result<Change<'_>, Fault>
+) -> Result<ItemAction<'_>, Fault>
     ensures { Changes (the.giving filter autoescape (map view arguments.now)) result }
 {
     match filter {
@@ -139,22 +146,26 @@ pub(crate) fn change_of(
     }
 }
 
-/// Items that pass or fail the judgement by a test's name and its arguments, or by truth where
-/// there is no name.
+/// Returns the action that keeps items by a test, given by its name and arguments, or by truth if
+/// there are no arguments.
 fn keeping<'a>(
     passes: bool,
     key: Option<&'a str>,
     arguments: &'a [Value],
-) -> Result<Change<'a>, Fault>
+) -> Result<ItemAction<'a>, Fault>
     ensures { let judged = the.judgement (map view arguments.now) in
         Changes (the.keeping passes (option_map (λ k. k.now) key.entry) judged) result }
 {
-    let judge = judge_of(arguments)?;
-    Ok(Change::Keep(Selection { passes, key, judge }))
+    let predicate = predicate_of(arguments)?;
+    Ok(ItemAction::Keep(Selection {
+        passes,
+        key,
+        predicate,
+    }))
 }
 
-/// The same of the item's attribute, whose key comes first.
-fn selecting_by(passes: bool, arguments: &[Value]) -> Result<Change<'_>, Fault>
+/// As `keeping`, but the predicate tests an attribute of the item. Its key is the first argument.
+fn selecting_by(passes: bool, arguments: &[Value]) -> Result<ItemAction<'_>, Fault>
     ensures { Changes (the.selecting_by passes (map view arguments.now)) result }
 {
     match arguments {
@@ -166,21 +177,22 @@ fn selecting_by(passes: bool, arguments: &[Value]) -> Result<Change<'_>, Fault>
     }
 }
 
-/// The attribute of a key.
-fn attributes(arguments: &[Value]) -> Result<Change<'_>, Fault>
+/// Returns the action that replaces an item by its attribute. The key is the only argument.
+fn attributes(arguments: &[Value]) -> Result<ItemAction<'_>, Fault>
     ensures { Changes (the.attributes (map view arguments.now)) result }
 {
     match arguments {
         [key] => match key.as_text() {
-            Some(key) => Ok(Change::Attribute(key)),
+            Some(key) => Ok(ItemAction::Attribute(key)),
             None => Err(Fault::BadArgument),
         },
         _ => Err(Fault::BadType),
     }
 }
 
-/// What a filter gives that is called by its name, with the arguments behind it.
-fn mapping(arguments: &[Value], autoescape: bool) -> Result<Change<'_>, Fault>
+/// Returns the action that calls a filter. Its name is the first argument, its own arguments
+/// follow.
+fn mapping(arguments: &[Value], autoescape: bool) -> Result<ItemAction<'_>, Fault>
     ensures { Changes (the.mapping autoescape (map view arguments.now)) result }
 {
     match arguments {
@@ -192,12 +204,12 @@ fn mapping(arguments: &[Value], autoescape: bool) -> Result<Change<'_>, Fault>
     }
 }
 
-/// What a filter gives that may be called with so many arguments.
-fn called(filter: FilterId, arguments: &[Value], autoescape: bool) -> Result<Change<'_>, Fault>
+/// Returns the action that calls `filter`, if it takes this number of arguments.
+fn called(filter: FilterId, arguments: &[Value], autoescape: bool) -> Result<ItemAction<'_>, Fault>
     ensures { Changes (the.mapping_by (Some filter) autoescape (map view arguments.now)) result }
 {
     if filter.takes(arguments.len() + 1) {
-        Ok(Change::Filter(InnerCall {
+        Ok(ItemAction::Filter(InnerCall {
             filter,
             autoescape,
             arguments,
@@ -207,7 +219,7 @@ fn called(filter: FilterId, arguments: &[Value], autoescape: bool) -> Result<Cha
     }
 }
 
-/// The filter that a value names, if `map` may call it.
+/// Returns the filter that a value names, if `map` may call it.
 fn inner_filter(name: &Value) -> Option<FilterId>
     ensures { result ≡ named_by filter_named (text_of (view name.now)) }
 {
@@ -217,7 +229,7 @@ fn inner_filter(name: &Value) -> Option<FilterId>
     }
 }
 
-/// The filter of a name, if `map` may call it.
+/// Returns the filter of a name, if `map` may call it.
 fn inner_by_name(name: &str) -> Option<FilterId>
     ensures { result ≡ filter_named name.now }
 {
@@ -233,7 +245,7 @@ fn inner_by_name(name: &str) -> Option<FilterId>
     }
 }
 
-/// The test that a value names.
+/// Returns the test that a value names.
 fn named_test(name: &Value) -> Option<TestId>
     ensures { result ≡ named_by test_of_name (text_of (view name.now)) }
 {
@@ -243,12 +255,13 @@ fn named_test(name: &Value) -> Option<TestId>
     }
 }
 
-/// The judgement by a test's name and its arguments, or by truth where there is no name.
-fn judge_of(arguments: &[Value]) -> Result<Judge<'_>, Fault>
-    ensures { MakesJudge (the.judgement (map view arguments.now)) result }
+/// Returns the predicate of a test, given by its name and arguments, or truth if there are no
+/// arguments.
+fn predicate_of(arguments: &[Value]) -> Result<Predicate<'_>, Fault>
+    ensures { MakesPredicate (the.judgement (map view arguments.now)) result }
 {
     match arguments {
-        [] => Ok(Judge::Truth),
+        [] => Ok(Predicate::Truth),
         [name, arguments @ ..] => match named_test(name) {
             Some(test) => tested(test, arguments),
             None => Err(Fault::BadArgument),
@@ -256,12 +269,12 @@ fn judge_of(arguments: &[Value]) -> Result<Judge<'_>, Fault>
     }
 }
 
-/// The judgement by a test, if it takes so many arguments.
-fn tested(test: TestId, arguments: &[Value]) -> Result<Judge<'_>, Fault>
-    ensures { MakesJudge (the.judgement_of (Some test) (map view arguments.now)) result }
+/// Returns the predicate of a test, if it takes this number of arguments.
+fn tested(test: TestId, arguments: &[Value]) -> Result<Predicate<'_>, Fault>
+    ensures { MakesPredicate (the.judgement_of (Some test) (map view arguments.now)) result }
 {
     if test.takes(arguments.len() + 1) {
-        Ok(Judge::Test(test, arguments))
+        Ok(Predicate::Test(test, arguments))
     } else {
         Err(Fault::BadArgument)
     }

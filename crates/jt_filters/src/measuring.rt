@@ -1,10 +1,10 @@
-//! The size and the nesting of what a filter gives, each the greatest number where it is greater.
-//! They need no memory: `unique` is slower where it is refused.
+//! Measures the result of a filter: its size, at most 2^64 - 1, and its nesting, at most 2^32 - 1.
+//! No measure fails for lack of memory: `unique` is only slower without it.
 ghost use Rattle.std.specs.Prelude.{◌≡◌, ◌∷◌, [], Bool};
 ghost use Rattle.jt_value.specs.View.{view};
-ghost use Rattle.jt_filter_meaning.specs.Single.{single};
-ghost use Rattle.jt_filters.specs.Operands.{tree_of, inputs, measured};
-ghost use Rattle.jt_filters.specs.Operands as operands;
+ghost use Rattle.jt_filter_semantics.specs.Single.{single};
+ghost use Rattle.jt_filters.specs.internal.Operands.{tree_of, inputs, measured};
+ghost use Rattle.jt_filters.specs.internal.Operands as operands;
 
 use crate::attributes::attribute;
 use crate::joining::join_measure;
@@ -19,8 +19,8 @@ use jt_ids::FilterId;
 use jt_value::{Fault, Value};
 use std::alloc::Global;
 
-/// The measure of what a filter gives, or its fault. A call with another number of values than the
-/// filter takes, which no caller makes, has the fault of the definition.
+/// Returns the measure of a filter's result, or its fault. A call with a number of values that the
+/// filter does not take has the fault of the definition; no caller makes one.
 pub(crate) fn measure(
     alloc: Global,
     filter: FilterId,
@@ -38,7 +38,7 @@ pub(crate) fn measure(
     }
 }
 
-/// The measure of a value that is there, or of a number.
+/// Returns the measure of an operand, or its fault.
 fn scalar_measure(given: Result<Operand<'_>, Fault>) -> Result<(u64, u32), Fault>
     ensures { result ≡ measured (operands.chosen given.entry) }
 {
@@ -46,7 +46,7 @@ fn scalar_measure(given: Result<Operand<'_>, Fault>) -> Result<(u64, u32), Fault
     Ok((operand.size(), operand.nesting()))
 }
 
-/// The same of a filter of its input alone.
+/// Returns the measure of a filter's result on its input alone.
 fn measure_one(
     alloc: Global,
     filter: FilterId,
@@ -84,7 +84,7 @@ fn measure_one(
     }
 }
 
-/// The same of a filter of its input and one argument.
+/// Returns the measure of a filter's result on its input and one argument.
 fn measure_two(
     filter: FilterId,
     operand: Operand<'_>,
@@ -108,7 +108,7 @@ fn measure_two(
     }
 }
 
-/// The same of a filter of its input and two arguments.
+/// Returns the measure of a filter's result on its input and two arguments.
 fn measure_three(
     filter: FilterId,
     operand: Operand<'_>,

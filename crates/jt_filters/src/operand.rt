@@ -1,19 +1,19 @@
-//! What a filter works on: a value, or a number or a text that is no value yet.
+//! The operand of a filter: a value, or a number or a text that has not been made a value.
 ghost use Rattle.std.specs.Prelude.{◌≡◌, ◌-◌, ◌^◌, min, option_map, IfOk, IfErr, Some, None};
 ghost use Rattle.jt_value.specs.Payload.{text_of, items_of_list, entries_of_map};
 ghost use Rattle.jt_value.specs.Tree.{truth, printed, size, nesting};
 ghost use Rattle.jt_value.specs.View.{items_view};
-ghost use Rattle.jt_op_meaning.specs.Operands as operands;
-ghost use Rattle.jt_op_meaning.specs.Testing as testing;
-ghost use Rattle.jt_filter_meaning.specs.Kinds.{is_plain};
-ghost use Rattle.jt_filters.specs.Operands.{tree_of, number_of, plain_of, Copies};
+ghost use Rattle.jt_op_semantics.specs.Operands as operands;
+ghost use Rattle.jt_op_semantics.specs.Testing as testing;
+ghost use Rattle.jt_filter_semantics.specs.Kinds.{is_plain};
+ghost use Rattle.jt_filters.specs.internal.Operands.{tree_of, number_of, plain_of, Copies};
 
 use itoa::Buffer;
 use jt_value::{Fault, NoMemory, Value, ValueMap};
 use std::alloc::Global;
 
-/// A value that is lent, or undefined, a number or a plain text, as a character or a key, that
-/// would be one.
+/// A borrowed value, or undefined, a number or a plain text in place of a value. The text is, for
+/// example, a character or a key.
 #[derive(Clone, Copy)]
 pub(crate) enum Operand<'a> {
     Undefined,
@@ -23,7 +23,7 @@ pub(crate) enum Operand<'a> {
 }
 
 impl<'a> Operand<'a> {
-    /// The characters of a text, markup or not.
+    /// Returns the characters of a text, plain or markup, or `None` for any other operand.
     pub(crate) fn as_text(self) -> Option<&'a str>
         ensures { option_map (λ s. s.now) result ≡ text_of (tree_of self.entry) }
     {
@@ -34,7 +34,7 @@ impl<'a> Operand<'a> {
         }
     }
 
-    /// The items of a list.
+    /// Returns the items of a list, or `None` for any other operand.
     pub(crate) fn as_list(self) -> Option<&'a [Value]>
         ensures { option_map (λ s. items_view s.now) result ≡ items_of_list (tree_of self.entry) }
     {
@@ -44,7 +44,7 @@ impl<'a> Operand<'a> {
         }
     }
 
-    /// The map that this is.
+    /// Returns the map, or `None` for any other operand.
     pub(crate) fn as_map(self) -> Option<&'a ValueMap>
         ensures { option_map (λ m. m.now) result ≡ entries_of_map (tree_of self.entry) }
     {
@@ -54,7 +54,7 @@ impl<'a> Operand<'a> {
         }
     }
 
-    /// Whether this is undefined.
+    /// Returns whether the operand is undefined.
     pub(crate) fn is_undefined(self) -> bool
         ensures { result ≡ testing.is_undefined (tree_of self.entry) }
     {
@@ -65,7 +65,7 @@ impl<'a> Operand<'a> {
         }
     }
 
-    /// Whether this is markup.
+    /// Returns whether the operand is markup.
     pub(crate) fn is_markup(self) -> bool
         ensures { result ≡ testing.is_markup (tree_of self.entry) }
     {
@@ -75,7 +75,7 @@ impl<'a> Operand<'a> {
         }
     }
 
-    /// The number that this is.
+    /// Returns the number, or `None` for any other operand.
     pub(crate) fn as_number(self) -> Option<i64>
         ensures { result ≡ number_of (tree_of self.entry) }
     {
@@ -86,7 +86,7 @@ impl<'a> Operand<'a> {
         }
     }
 
-    /// The characters of a plain text.
+    /// Returns the characters of a plain text, or `None` for any other operand.
     pub(crate) fn as_plain(self) -> Option<&'a str>
         ensures { option_map (λ s. s.now) result ≡ plain_of (tree_of self.entry) }
     {
@@ -97,7 +97,7 @@ impl<'a> Operand<'a> {
         }
     }
 
-    /// Whether this is a plain text.
+    /// Returns whether the operand is a plain text.
     pub(crate) fn is_plain(self) -> bool
         ensures { result ≡ is_plain (tree_of self.entry) }
     {
@@ -108,7 +108,7 @@ impl<'a> Operand<'a> {
         }
     }
 
-    /// Whether this counts as true.
+    /// Returns whether the operand counts as true.
     pub(crate) fn truth(self) -> bool
         ensures { result ≡ truth (tree_of self.entry) }
     {
@@ -120,7 +120,7 @@ impl<'a> Operand<'a> {
         }
     }
 
-    /// The printed text, lent: a number's by the buffer.
+    /// Returns the printed text as a slice. For a number it is a slice of `buffer`.
     pub(crate) fn shown(self, buffer: &'a mut Buffer) -> Result<&'a str, Fault>
         ensures ok { IfOk result (λ s. printed (tree_of self.entry) ≡ Some s.now) }
         ensures fault { IfErr result
@@ -134,9 +134,9 @@ impl<'a> Operand<'a> {
         }
     }
 
-    /// The fault of an operand that doesn't fit.
-    pub(crate) fn misfit(self) -> Fault
-        ensures { result ≡ operands.misfit_of_one (tree_of self.entry) }
+    /// Returns the fault of an operand that no case of an operation accepts.
+    pub(crate) fn operand_fault(self) -> Fault
+        ensures { result ≡ operands.operand_fault_of_one (tree_of self.entry) }
     {
         if self.is_undefined() {
             Fault::Undefined
@@ -145,7 +145,7 @@ impl<'a> Operand<'a> {
         }
     }
 
-    /// The size, or the greatest number where it is greater.
+    /// Returns the size, at most 2^64 - 1.
     pub(crate) fn size(self) -> u64
         ensures { result ≡ min (size (tree_of self.entry)) (2 ^ 64 - 1) }
     {
@@ -156,7 +156,7 @@ impl<'a> Operand<'a> {
         }
     }
 
-    /// The nesting, or the greatest number where it is greater.
+    /// Returns the nesting, at most 2^32 - 1.
     pub(crate) fn nesting(self) -> u32
         ensures { result ≡ min (nesting (tree_of self.entry)) (2 ^ 32 - 1) }
     {
@@ -166,7 +166,7 @@ impl<'a> Operand<'a> {
         }
     }
 
-    /// The value itself: a copy, or one that is made of the text.
+    /// Returns the value: a copy, or a new one.
     pub(crate) fn value(self, alloc: Global) -> Result<Value, NoMemory>
         ensures { Copies (tree_of self.entry) result }
     {

@@ -1,19 +1,20 @@
 //! Filter `replace`.
-ghost use Rattle.std.specs.Prelude.{◌≡◌, ◌<◌, ◌-◌, ◌^◌, min, length, IfOk, IfErr, Ok, Err, string_bytes};
+ghost use Rattle.std.specs.Prelude.{◌≡◌, ◌<◌, ◌-◌, ◌^◌, min, length, IfOk, IfErr, Ok, Err};
+ghost use Rattle.std.specs.Prelude.{string_bytes};
 ghost use Rattle.jt_value.specs.Tree as tree;
 ghost use Rattle.jt_value.specs.View.{view};
 ghost use Rattle.jt_escape.specs.Joining.{IsAnswer};
-ghost use Rattle.jt_filters.specs.Operands.{tree_of, measured};
-ghost use Rattle.jt_filter_meaning.specs.Texts.{replaced, replaced_behind};
+ghost use Rattle.jt_filters.specs.internal.Operands.{tree_of, measured};
+ghost use Rattle.jt_filter_semantics.specs.Texts.{replaced, replaced_behind};
 
 use crate::operand::Operand;
 use jt_value::{Fault, NoMemory, Value, ValueError};
 use std::alloc::Global;
 
-/// The texts of a replacement: the one to change, the old one and the new one.
+/// The texts of a replacement: the text to change, the old part and the new part.
 type Replacement<'a> = (&'a str, &'a str, &'a str);
 
-/// The measure of filter `replace`.
+/// Returns the measure of filter `replace`.
 pub(crate) fn replace_measure(
     operand: Operand<'_>,
     old: &Value,
@@ -25,7 +26,7 @@ pub(crate) fn replace_measure(
     Ok((replaced_len(text, old, new).saturating_add(1), 0))
 }
 
-/// Filter `replace`.
+/// Applies filter `replace`.
 pub(crate) fn replace(
     alloc: Global,
     operand: Operand<'_>,
@@ -38,8 +39,8 @@ pub(crate) fn replace(
     Ok(Value::from_text(replaced_text(alloc, text, old, new)?)?)
 }
 
-/// The texts of a replacement, if all are plain and the old one isn't empty.
-#[tactic(auto, using(crate::proofs::Plains::plain_is, crate::proofs::Plains::others_not_replaced))]
+/// Returns the texts of a replacement, or a fault if one is not plain or the old part is empty.
+#[tactic(auto, using(crate::proofs::OperandKinds::plain_is, crate::proofs::OperandKinds::others_not_replaced))]
 fn replacement<'a>(
     operand: Operand<'a>,
     old: &'a Value,
@@ -52,7 +53,7 @@ fn replacement<'a>(
         (λ f. replaced (tree_of operand.entry) (view old.now) (view new.now) ≡ Err f) }
 {
     let Some(text) = operand.as_plain() else {
-        return Err(operand.misfit());
+        return Err(operand.operand_fault());
     };
     match (old, new) {
         (Value::Text(old), Value::Text(new)) => {
@@ -65,7 +66,7 @@ fn replacement<'a>(
     }
 }
 
-/// How many bytes the text has then, or the greatest number where they are more.
+/// Returns the length in bytes of the replaced text, at most 2^64 - 1.
 fn replaced_len(text: &str, old: &str, new: &str) -> u64
     requires { 0 < length old.now }
     ensures { result ≡ min (length (replaced_behind 0 old.now new.now text.now)) (2 ^ 64 - 1) }
@@ -81,7 +82,7 @@ fn replaced_len(text: &str, old: &str, new: &str) -> u64
     size.saturating_add(rest.len() as u64)
 }
 
-/// The text itself.
+/// Returns the replaced text.
 fn replaced_text(alloc: Global, text: &str, old: &str, new: &str) -> Result<String, NoMemory>
     requires { 0 < length old.now }
     ensures { IfOk result (λ s. string_bytes s ≡ replaced_behind 0 old.now new.now text.now) }

@@ -1,35 +1,35 @@
-//! Filters that give a number, or a value that is there already. They take no memory.
+//! Filters whose result is a number or an existing value. They allocate nothing.
 ghost use Rattle.std.specs.Prelude.{◌≡◌, ◌||◌, ◌&&◌, not, if◌then◌else◌, Ok, pos};
 ghost use Rattle.jt_value.specs.Tree as tree;
 ghost use Rattle.jt_value.specs.Tree.{truth};
-ghost use Rattle.jt_op_meaning.specs.Arithmetic.{on_number, as_number};
-ghost use Rattle.jt_op_meaning.specs.Testing.{is_undefined};
-ghost use Rattle.jt_filter_meaning.specs.Listing.{on_items, first_item, last_item, length_of};
-ghost use Rattle.jt_filter_meaning.specs.Listing as listing;
-ghost use Rattle.jt_filter_meaning.specs.Numbers as numbers;
-ghost use Rattle.jt_filter_meaning.specs.Numbers.{as_int, sum_behind, total};
-ghost use Rattle.jt_filters.specs.Operands.{tree_of, items_in, chosen, last_of};
-ghost use Rattle.jt_filter_meaning.specs.Ordering as ordering;
-ghost use Rattle.jt_filter_meaning.specs.Ordering.{best_item};
+ghost use Rattle.jt_op_semantics.specs.Arithmetic.{on_number, as_number};
+ghost use Rattle.jt_op_semantics.specs.Testing.{is_undefined};
+ghost use Rattle.jt_filter_semantics.specs.Listing.{on_items, first_item, last_item, length_of};
+ghost use Rattle.jt_filter_semantics.specs.Listing as listing;
+ghost use Rattle.jt_filter_semantics.specs.Numbers as numbers;
+ghost use Rattle.jt_filter_semantics.specs.Numbers.{as_int, sum_behind, total};
+ghost use Rattle.jt_filters.specs.internal.Operands.{tree_of, items_in, chosen, last_of};
+ghost use Rattle.jt_filter_semantics.specs.Ordering as ordering;
+ghost use Rattle.jt_filter_semantics.specs.Ordering.{best_item};
 
 use crate::folding::text_precedes;
 use crate::item_list::{ItemList, items_of};
-use crate::kinds::{are_in_order, are_numbers, misfit_of_items};
+use crate::kinds::{are_in_order, are_numbers, operand_fault_of_items};
 use crate::operand::Operand;
 use jt_ops::character_count;
 use jt_value::{Fault, Value};
 
-/// Filter `abs`.
+/// Applies filter `abs`.
 pub(crate) fn abs(operand: Operand<'_>) -> Result<Operand<'_>, Fault>
     ensures { chosen result ≡ on_number numbers.absolute (tree_of operand.entry) }
 {
     match operand.as_number() {
         Some(number) => Ok(Operand::Number(absolute(number)?)),
-        None => Err(operand.misfit()),
+        None => Err(operand.operand_fault()),
     }
 }
 
-/// A number without its sign.
+/// Returns the absolute value of a number.
 fn absolute(number: i64) -> Result<i64, Fault>
     ensures { result ≡ numbers.absolute number }
 {
@@ -39,8 +39,8 @@ fn absolute(number: i64) -> Result<i64, Fault>
     }
 }
 
-/// Filter `default`: the other operand where the first is undefined, or false while `boolean` is
-/// true.
+/// Applies filter `default`: returns `default` if the operand is undefined, or if it counts as
+/// false and `boolean` is true.
 pub(crate) fn or_default<'a>(
     operand: Operand<'a>,
     default: Operand<'a>,
@@ -57,7 +57,7 @@ pub(crate) fn or_default<'a>(
     }
 }
 
-/// Filter `int`.
+/// Applies filter `int`.
 pub(crate) fn int<'a>(operand: Operand<'a>, default: Operand<'a>) -> Result<Operand<'a>, Fault>
     ensures { chosen result ≡ as_int (tree_of operand.entry) (tree_of default.entry) }
 {
@@ -77,7 +77,7 @@ pub(crate) fn int<'a>(operand: Operand<'a>, default: Operand<'a>) -> Result<Oper
     }
 }
 
-/// The number that a text writes, if it has 64 bits.
+/// Returns the number that a text writes, if it fits 64 bits.
 #[tactic(auto, using(crate::proofs::Numerals::number_of_text_is))]
 fn number_of_text(text: &str) -> Option<i64>
     ensures { result ≡ numbers.number_of_text text.now }
@@ -85,7 +85,7 @@ fn number_of_text(text: &str) -> Option<i64>
     text.parse::<i64>().ok()
 }
 
-/// Filter `length`.
+/// Applies filter `length`.
 pub(crate) fn length(operand: Operand<'_>) -> Result<Operand<'_>, Fault>
     ensures { chosen result ≡ length_of (tree_of operand.entry) }
 {
@@ -101,11 +101,11 @@ pub(crate) fn length(operand: Operand<'_>) -> Result<Operand<'_>, Fault>
     if operand.is_undefined() {
         counted(0)
     } else {
-        Err(operand.misfit())
+        Err(operand.operand_fault())
     }
 }
 
-/// A count as a number.
+/// Returns a count as a number.
 fn counted<'a>(count: usize) -> Result<Operand<'a>, Fault>
     ensures { chosen result ≡ listing.counted count }
 {
@@ -115,8 +115,8 @@ fn counted<'a>(count: usize) -> Result<Operand<'a>, Fault>
     }
 }
 
-/// Filter `first`.
-#[tactic(auto, using(crate::proofs::Firsts::first_there))]
+/// Applies filter `first`.
+#[tactic(auto, using(crate::proofs::EndItems::first_there))]
 pub(crate) fn first(operand: Operand<'_>) -> Result<Operand<'_>, Fault>
     ensures { chosen result ≡ on_items first_item (tree_of operand.entry) }
 {
@@ -126,15 +126,15 @@ pub(crate) fn first(operand: Operand<'_>) -> Result<Operand<'_>, Fault>
     }
 }
 
-/// Filter `last`.
-#[tactic(auto, using(crate::proofs::Firsts::last_there))]
+/// Applies filter `last`.
+#[tactic(auto, using(crate::proofs::EndItems::last_there))]
 pub(crate) fn last(operand: Operand<'_>) -> Result<Operand<'_>, Fault>
     ensures { chosen result ≡ on_items last_item (tree_of operand.entry) }
 {
     Ok(last_of(items_of(operand)?))
 }
 
-/// The last item, undefined where there is none.
+/// Returns the last item, or undefined if there are no items.
 fn last_of(items: ItemList<'_>) -> Operand<'_>
     ensures { tree_of result ≡ last_of tree.undefined (items_in items.entry) }
 {
@@ -147,7 +147,7 @@ fn last_of(items: ItemList<'_>) -> Operand<'_>
     last
 }
 
-/// Filters `min`, and in reverse `max`.
+/// Applies filter `min`, or `max` if `reverse` is true.
 pub(crate) fn best_item(operand: Operand<'_>, reverse: bool) -> Result<Operand<'_>, Fault>
     ensures { chosen result ≡ on_items (best_item reverse) (tree_of operand.entry) }
 {
@@ -155,12 +155,12 @@ pub(crate) fn best_item(operand: Operand<'_>, reverse: bool) -> Result<Operand<'
     if are_in_order(items) {
         Ok(best(items, reverse))
     } else {
-        Err(misfit_of_items(items))
+        Err(operand_fault_of_items(items))
     }
 }
 
-/// The first of the items that none comes before; in reverse, that none comes behind. Undefined
-/// where there is none.
+/// Returns the first least item, or the first greatest one if `reverse` is true. Returns undefined
+/// if there are no items.
 fn best(items: ItemList<'_>, reverse: bool) -> Operand<'_>
     ensures { tree_of result ≡ ordering.best (ordering.comes_first reverse) (items_in items.entry) }
 {
@@ -170,7 +170,8 @@ fn best(items: ItemList<'_>, reverse: bool) -> Operand<'_>
     }
 }
 
-/// The first of an item and others that none comes before; in reverse, that none comes behind.
+/// Returns the first least item of `first` and `behind`, or the first greatest one if `reverse` is
+/// true.
 fn best_of<'a>(first: Operand<'a>, behind: ItemList<'a>, reverse: bool) -> Operand<'a>
     ensures { tree_of result
         ≡ ordering.best_of (ordering.comes_first reverse) (tree_of first.entry)
@@ -187,8 +188,8 @@ fn best_of<'a>(first: Operand<'a>, behind: ItemList<'a>, reverse: bool) -> Opera
     best
 }
 
-/// Whether an item comes before another, or in reverse behind it: numbers by value, plain texts by
-/// fold.
+/// Returns whether an item precedes another one, or follows it if `reverse` is true. Numbers
+/// compare by value, plain texts by fold.
 fn comes_first(item: Operand<'_>, other: Operand<'_>, reverse: bool) -> bool
     ensures { result ≡ ordering.comes_first reverse (tree_of item.entry) (tree_of other.entry) }
 {
@@ -199,7 +200,7 @@ fn comes_first(item: Operand<'_>, other: Operand<'_>, reverse: bool) -> bool
     }
 }
 
-/// Whether a number or a plain text comes before another.
+/// Returns whether a number or a plain text precedes another one.
 fn precedes(item: Operand<'_>, other: Operand<'_>) -> bool
     ensures { result ≡ ordering.precedes (tree_of item.entry) (tree_of other.entry) }
 {
@@ -215,7 +216,7 @@ fn precedes(item: Operand<'_>, other: Operand<'_>) -> bool
     }
 }
 
-/// Filter `sum`.
+/// Applies filter `sum`.
 pub(crate) fn sum(operand: Operand<'_>) -> Result<Operand<'_>, Fault>
     ensures { chosen result ≡ on_items total (tree_of operand.entry) }
 {
@@ -223,11 +224,11 @@ pub(crate) fn sum(operand: Operand<'_>) -> Result<Operand<'_>, Fault>
     if are_numbers(items) {
         Ok(Operand::Number(sum_of(items)?))
     } else {
-        Err(misfit_of_items(items))
+        Err(operand_fault_of_items(items))
     }
 }
 
-/// The sum of numbers, from the left.
+/// Returns the sum of numbers, added from the left.
 fn sum_of(items: ItemList<'_>) -> Result<i64, Fault>
     ensures { result ≡ sum_behind (Ok (pos 0)) (items_in items.entry) }
 {

@@ -1,13 +1,15 @@
-//! Filters on printed texts: the size and the nesting of what each gives, and what it gives.
+//! Filters on printed texts: the measure (size and nesting) of each result, and the result.
 ghost use Rattle.std.specs.Prelude.{◌≡◌, ℕ, List, reverse, IfOk, Ok, string_bytes};
 ghost use Rattle.jt_value.specs.Tree as tree;
-ghost use Rattle.std.specs.Str.{chars, str_to_ascii_lowercase as lowercase, str_to_ascii_uppercase as uppercase};
+ghost use Rattle.std.specs.Str.{chars, str_to_ascii_lowercase as lowercase};
+ghost use Rattle.std.specs.Str.{str_to_ascii_uppercase as uppercase};
 ghost use Rattle.jt_value.specs.View.{view};
 ghost use Rattle.jt_escape.specs.Joining.{IsAnswer};
 ghost use Rattle.jt_ops.specs.Pieces.{of_kind, written};
-ghost use Rattle.jt_filters.specs.Operands.{tree_of, measured};
-ghost use Rattle.jt_filter_meaning.specs.Texts.{keeping_kind, unchanged, of_same_kind, escaped_once, escaped_again};
-ghost use Rattle.jt_filter_meaning.specs.Texts as texts;
+ghost use Rattle.jt_filters.specs.internal.Operands.{tree_of, measured};
+ghost use Rattle.jt_filter_semantics.specs.Texts.{keeping_kind, unchanged, of_same_kind};
+ghost use Rattle.jt_filter_semantics.specs.Texts.{escaped_once, escaped_again};
+ghost use Rattle.jt_filter_semantics.specs.Texts as texts;
 
 use crate::operand::Operand;
 use itoa::Buffer;
@@ -15,8 +17,8 @@ use jt_ops::{Piece, TextKind};
 use jt_value::{Fault, NoMemory, Value, ValueError};
 use std::alloc::Global;
 
-/// The measure of the printed text, with the case of its letters or its kind changed or not.
-#[tactic(auto, using(crate::proofs::Measured::unchanged_measured, crate::proofs::Measured::lower_measured, crate::proofs::Measured::upper_measured, crate::proofs::Measured::capitalized_measured, crate::proofs::Measured::safe_measured))]
+/// Returns the measure of the printed text. A change of letter case or of kind does not affect it.
+#[tactic(auto, using(crate::proofs::TextMeasures::printed_measures))]
 pub(crate) fn printed_measure(operand: Operand<'_>) -> Result<(u64, u32), Fault>
     ensures same { result ≡ measured (keeping_kind unchanged (tree_of operand.entry)) }
     ensures lower { result ≡ measured (keeping_kind lowercase (tree_of operand.entry)) }
@@ -29,8 +31,8 @@ pub(crate) fn printed_measure(operand: Operand<'_>) -> Result<(u64, u32), Fault>
     Ok(((text.len() as u64).saturating_add(1), 0))
 }
 
-/// The measure of filter `trim`.
-#[tactic(auto, using(crate::proofs::Measured::trimmed_measured))]
+/// Returns the measure of filter `trim`.
+#[tactic(auto, using(crate::proofs::TextMeasures::trimmed_measured))]
 pub(crate) fn trim_measure(operand: Operand<'_>) -> Result<(u64, u32), Fault>
     ensures { result ≡ measured (keeping_kind texts.trimmed (tree_of operand.entry)) }
 {
@@ -39,8 +41,8 @@ pub(crate) fn trim_measure(operand: Operand<'_>) -> Result<(u64, u32), Fault>
     Ok(((text.len() as u64).saturating_add(1), 0))
 }
 
-/// The measure of filter `forceescape`.
-#[tactic(auto, using(crate::proofs::Measured::escaped_measured))]
+/// Returns the measure of filter `forceescape`.
+#[tactic(auto, using(crate::proofs::TextMeasures::escaped_measured))]
 pub(crate) fn force_escape_measure(operand: Operand<'_>) -> Result<(u64, u32), Fault>
     ensures { result ≡ measured (escaped_again (tree_of operand.entry)) }
 {
@@ -49,8 +51,8 @@ pub(crate) fn force_escape_measure(operand: Operand<'_>) -> Result<(u64, u32), F
     Ok((text.len().saturating_add(1), 0))
 }
 
-/// The measure of filter `escape`.
-#[tactic(auto, using(crate::proofs::Measured::markup_stays, crate::proofs::Measured::others_escaped))]
+/// Returns the measure of filter `escape`.
+#[tactic(auto, using(crate::proofs::TextMeasures::escaped_kinds))]
 pub(crate) fn escape_measure(operand: Operand<'_>) -> Result<(u64, u32), Fault>
     ensures { result ≡ measured (escaped_once (tree_of operand.entry)) }
 {
@@ -61,8 +63,8 @@ pub(crate) fn escape_measure(operand: Operand<'_>) -> Result<(u64, u32), Fault>
     }
 }
 
-/// The kind that an operand's text keeps.
-#[tactic(auto, using(crate::proofs::Measured::markup_kept, crate::proofs::Measured::others_kept))]
+/// Returns the kind of the text that a filter makes of an operand: markup for markup, else plain.
+#[tactic(auto, using(crate::proofs::TextMeasures::markup_kept, crate::proofs::TextMeasures::others_kept))]
 fn kind_of(operand: Operand<'_>) -> TextKind
     ensures { (s : List ℕ) → of_kind result s ≡ of_same_kind (tree_of operand.entry) s }
 {
@@ -73,7 +75,7 @@ fn kind_of(operand: Operand<'_>) -> TextKind
     }
 }
 
-/// The text of one piece.
+/// Returns the text of one piece.
 fn piece_value(alloc: Global, piece: &Piece<'_>, kind: TextKind) -> Result<Value, NoMemory>
     ensures { IfOk result (λ v. view v ≡ of_kind kind (written piece.now)) }
 {
@@ -82,7 +84,7 @@ fn piece_value(alloc: Global, piece: &Piece<'_>, kind: TextKind) -> Result<Value
     kind.value(text)
 }
 
-/// Filter `string`.
+/// Applies filter `string`.
 pub(crate) fn string(alloc: Global, operand: Operand<'_>) -> Result<Value, ValueError>
     ensures { IsAnswer (keeping_kind unchanged (tree_of operand.entry)) result }
 {
@@ -91,7 +93,7 @@ pub(crate) fn string(alloc: Global, operand: Operand<'_>) -> Result<Value, Value
     Ok(piece_value(alloc, &Piece::Raw(text), kind_of(operand))?)
 }
 
-/// Filter `safe`.
+/// Applies filter `safe`.
 pub(crate) fn safe(alloc: Global, operand: Operand<'_>) -> Result<Value, ValueError>
     ensures { IsAnswer (texts.safe (tree_of operand.entry)) result }
 {
@@ -100,8 +102,8 @@ pub(crate) fn safe(alloc: Global, operand: Operand<'_>) -> Result<Value, ValueEr
     Ok(piece_value(alloc, &Piece::Raw(text), TextKind::Markup)?)
 }
 
-/// Filter `escape`.
-#[tactic(auto, using(crate::proofs::Measured::markup_stays, crate::proofs::Measured::others_escaped))]
+/// Applies filter `escape`.
+#[tactic(auto, using(crate::proofs::TextMeasures::escaped_kinds))]
 pub(crate) fn escape(alloc: Global, operand: Operand<'_>) -> Result<Value, ValueError>
     ensures { IsAnswer (escaped_once (tree_of operand.entry)) result }
 {
@@ -112,7 +114,7 @@ pub(crate) fn escape(alloc: Global, operand: Operand<'_>) -> Result<Value, Value
     }
 }
 
-/// Filter `forceescape`.
+/// Applies filter `forceescape`.
 pub(crate) fn force_escape(alloc: Global, operand: Operand<'_>) -> Result<Value, ValueError>
     ensures { IsAnswer (escaped_again (tree_of operand.entry)) result }
 {
@@ -121,7 +123,7 @@ pub(crate) fn force_escape(alloc: Global, operand: Operand<'_>) -> Result<Value,
     Ok(piece_value(alloc, &Piece::Escaped(text), TextKind::Markup)?)
 }
 
-/// Filter `lower`.
+/// Applies filter `lower`.
 pub(crate) fn lower(alloc: Global, operand: Operand<'_>) -> Result<Value, ValueError>
     ensures { IsAnswer (keeping_kind lowercase (tree_of operand.entry)) result }
 {
@@ -131,7 +133,7 @@ pub(crate) fn lower(alloc: Global, operand: Operand<'_>) -> Result<Value, ValueE
     Ok(kind_of(operand).value(text)?)
 }
 
-/// Filter `upper`.
+/// Applies filter `upper`.
 pub(crate) fn upper(alloc: Global, operand: Operand<'_>) -> Result<Value, ValueError>
     ensures { IsAnswer (keeping_kind uppercase (tree_of operand.entry)) result }
 {
@@ -141,7 +143,7 @@ pub(crate) fn upper(alloc: Global, operand: Operand<'_>) -> Result<Value, ValueE
     Ok(kind_of(operand).value(text)?)
 }
 
-/// Filter `capitalize`.
+/// Applies filter `capitalize`.
 pub(crate) fn capitalize(alloc: Global, operand: Operand<'_>) -> Result<Value, ValueError>
     ensures { IsAnswer (keeping_kind texts.capitalized (tree_of operand.entry)) result }
 {
@@ -150,7 +152,7 @@ pub(crate) fn capitalize(alloc: Global, operand: Operand<'_>) -> Result<Value, V
     Ok(kind_of(operand).value(text)?)
 }
 
-/// A text with its first character upper and the others lower.
+/// Returns the text with its first character in upper case and the rest in lower case.
 fn capitalized(alloc: Global, text: &str) -> Result<String, NoMemory>
     ensures { IfOk result (λ s. string_bytes s ≡ texts.capitalized text.now) }
 {
@@ -168,7 +170,7 @@ fn capitalized(alloc: Global, text: &str) -> Result<String, NoMemory>
     Ok(changed)
 }
 
-/// Filter `trim`.
+/// Applies filter `trim`.
 pub(crate) fn trim(alloc: Global, operand: Operand<'_>) -> Result<Value, ValueError>
     ensures { IsAnswer (keeping_kind texts.trimmed (tree_of operand.entry)) result }
 {
@@ -177,14 +179,14 @@ pub(crate) fn trim(alloc: Global, operand: Operand<'_>) -> Result<Value, ValueEr
     Ok(piece_value(alloc, &Piece::Raw(text), kind_of(operand))?)
 }
 
-/// Whether a byte is whitespace.
+/// Returns whether a byte is whitespace.
 fn is_whitespace(byte: u8) -> bool
     ensures { result ≡ texts.is_whitespace byte }
 {
     byte == b' ' || (9 <= byte && byte <= 13)
 }
 
-/// A text without the whitespace that it begins with.
+/// Returns the text without leading whitespace.
 fn trimmed_front(text: &str) -> &str
     ensures { result.now ≡ texts.trimmed_front text.now }
 {
@@ -198,7 +200,7 @@ fn trimmed_front(text: &str) -> &str
     ""
 }
 
-/// A text without the whitespace that it ends with.
+/// Returns the text without trailing whitespace.
 fn trimmed_back(text: &str) -> &str
     ensures { result.now ≡ reverse (texts.trimmed_front (reverse text.now)) }
 {
@@ -210,23 +212,23 @@ fn trimmed_back(text: &str) -> &str
     &text[..end]
 }
 
-/// The measure of the characters of a text backwards.
-#[tactic(auto, using(crate::proofs::Changes::backwards_length))]
+/// Returns the measure of a text's characters in reverse order.
+#[tactic(auto, using(crate::proofs::TextTransforms::backwards_length))]
 pub(crate) fn backwards_measure(text: &str) -> (u64, u32)
     ensures { Ok result ≡ measured (Ok (tree.text (texts.backwards text.now))) }
 {
     ((text.len() as u64).saturating_add(1), 0)
 }
 
-/// The characters of a text backwards, as a plain text.
+/// Returns a text's characters in reverse order, as a plain text value.
 pub(crate) fn backwards(alloc: Global, text: &str) -> Result<Value, NoMemory>
     ensures { IfOk result (λ v. view v ≡ tree.text (texts.backwards text.now)) }
 {
     Value::from_text(turned(alloc, text)?)
 }
 
-/// The characters of a text backwards.
-#[tactic(auto, using(crate::proofs::Changes::encodes_more))]
+/// Returns a text's characters in reverse order.
+#[tactic(auto, using(crate::proofs::TextTransforms::encodes_more))]
 fn turned(alloc: Global, text: &str) -> Result<String, NoMemory>
     ensures { IfOk result (λ s. string_bytes s ≡ texts.backwards text.now) }
 {
@@ -239,7 +241,7 @@ fn turned(alloc: Global, text: &str) -> Result<String, NoMemory>
     Ok(turned)
 }
 
-/// The characters of a text.
+/// Returns the characters of a text.
 fn characters(alloc: Global, text: &str) -> Result<Vec<char>, NoMemory>
     ensures { IfOk result (λ v. v.items ≡ chars text.now) }
 {

@@ -1,6 +1,8 @@
-//! Filter `unique`. An item is looked for by its code among those in front of it, so a list takes
-//! time in proportion to n log n.
-ghost use Rattle.std.specs.Prelude.{◌≡◌, ◌+◌, ◌-◌, ◌^◌, ◌||◌, min, max, IfOk, OnOk, Ok, Err};
+//! Filter `unique`. Each item is looked up among the earlier ones, numbers by value and other items
+//! by their codes. So a list of n items takes time in proportion to n log n.
+ghost use Rattle.std.specs.Prelude.{◌≡◌, ℤ, ◌+◌, ◌-◌, ◌^◌, ◌||◌, min, max, IfOk, OnOk, Ok, Err};
+ghost use Rattle.std.specs.Prelude.{None};
+ghost use Rattle.std.specs.Ordering.{int_eq};
 ghost use Rattle.jt_value.specs.Tree as tree;
 ghost use Rattle.jt_value.specs.Tree.{Items, items_size, items_nesting};
 ghost use Rattle.jt_value.specs.Payload.{joined_items};
@@ -8,11 +10,13 @@ ghost use Rattle.jt_value.specs.Equality.{equal};
 ghost use Rattle.jt_value.specs.View.{view, items_view};
 ghost use Rattle.jt_escape.specs.Joining.{IsAnswer};
 ghost use Rattle.jt_ops.specs.Limited.{limited_by, Answers};
-ghost use Rattle.jt_filter_meaning.specs.Listing.{on_items};
-ghost use Rattle.jt_filters.specs.Operands.{tree_of, items_in, measured, front};
-ghost use Rattle.jt_filter_meaning.specs.Ordering.{distinct, unseen};
-ghost use Rattle.jt_filter_meaning.specs.Ordering as ordering;
-ghost use Rattle.jt_filters.specs.Seen.{operand_items, Knows, KnowsNext, Before};
+ghost use Rattle.jt_filter_semantics.specs.Listing.{on_items};
+ghost use Rattle.jt_filters.specs.internal.Operands.{tree_of, items_in, measured, front};
+ghost use Rattle.jt_filter_semantics.specs.Ordering.{distinct, unseen};
+ghost use Rattle.jt_filter_semantics.specs.Ordering as ordering;
+ghost use Rattle.jt_filters.specs.internal.Seen.{operand_items, has_number, Knows, KnowsCodes};
+ghost use Rattle.jt_filters.specs.internal.Seen.{CodesKnowNext, KnowsNext, Before};
+ghost use Rattle.jt_filters.specs.internal.Seen as seen;
 
 use crate::codes::code_of;
 use crate::item_list::{ItemList, items_of};
@@ -20,10 +24,10 @@ use crate::operand::Operand;
 use jt_ops::{Limits, OpError, allow};
 use jt_value::{Fault, NoMemory, Value, ValueError};
 use std::alloc::Global;
-use std::collections::BTreeMap;
+use std::collections::{BTreeMap, BTreeSet};
 
-/// Filter `unique` under limits. The first items are found once, then measured, and then the list
-/// is built of them.
+/// Applies filter `unique`, under limits. The first items are found once, then measured, and then
+/// the list of them is built.
 pub(crate) fn unique_under(
     alloc: Global,
     operand: Operand<'_>,
@@ -41,7 +45,7 @@ pub(crate) fn unique_under(
     }
 }
 
-/// The list of some operands under limits.
+/// Returns the list of the operands, under limits.
 fn list_under(alloc: Global, operands: &[Operand<'_>], limits: Limits) -> Result<Value, OpError>
     ensures { Answers result (limited_by limits (Ok (tree.list (operand_items operands.now)))) }
 {
@@ -55,8 +59,8 @@ fn list_under(alloc: Global, operands: &[Operand<'_>], limits: Limits) -> Result
     }
 }
 
-/// Why there is no list of the first items where memory is refused: the limit that the list passes,
-/// else the refusal.
+/// Returns the error if memory for the first items is refused: the limit that their list exceeds,
+/// else `NoMemory`.
 fn refused(items: ItemList<'_>, limits: Limits) -> OpError
     ensures { Answers (Err result)
         (limited_by limits (Ok (tree.list (unseen tree.no_items (items_in items.entry))))) }
@@ -68,8 +72,8 @@ fn refused(items: ItemList<'_>, limits: Limits) -> OpError
     }
 }
 
-/// The measure of filter `unique`. Where memory is refused each item is compared to all in front of
-/// it, which takes none.
+/// Returns the measure of filter `unique`. If memory is refused each item is compared to all
+/// earlier ones, which allocates nothing.
 pub(crate) fn unique_measure(alloc: Global, operand: Operand<'_>) -> Result<(u64, u32), Fault>
     ensures { result ≡ measured (on_items distinct (tree_of operand.entry)) }
 {
@@ -80,7 +84,7 @@ pub(crate) fn unique_measure(alloc: Global, operand: Operand<'_>) -> Result<(u64
     }
 }
 
-/// The measure of the list of some operands.
+/// Returns the measure of the list of the operands.
 fn list_measure(operands: &[Operand<'_>]) -> (u64, u32)
     ensures { Ok result ≡ measured (Ok (tree.list (operand_items operands.now))) }
 {
@@ -88,7 +92,7 @@ fn list_measure(operands: &[Operand<'_>]) -> (u64, u32)
     (size.saturating_add(1), nesting.saturating_add(1))
 }
 
-/// The measure of the list of the items that are like none in front of them, without memory.
+/// Returns the measure of the list of the items that are like no earlier one. Allocates nothing.
 fn unseen_list_measure(items: ItemList<'_>) -> (u64, u32)
     ensures { Ok result ≡ measured (Ok (tree.list (unseen tree.no_items (items_in items.entry)))) }
 {
@@ -96,7 +100,7 @@ fn unseen_list_measure(items: ItemList<'_>) -> (u64, u32)
     (size.saturating_add(1), nesting.saturating_add(1))
 }
 
-/// The size and the nesting of some operands, each the greatest number where it is greater.
+/// Returns the size of the operands, at most 2^64 - 1, and their nesting, at most 2^32 - 1.
 fn operands_measure(operands: &[Operand<'_>]) -> (u64, u32)
     ensures size { result.0 ≡ min (items_size (operand_items operands.now)) (2 ^ 64 - 1) }
     ensures nesting { result.1 ≡ min (items_nesting (operand_items operands.now)) (2 ^ 32 - 1) }
@@ -110,8 +114,8 @@ fn operands_measure(operands: &[Operand<'_>]) -> (u64, u32)
     (size, nesting)
 }
 
-/// The size and the nesting of the items that are like none in front of them, each the greatest
-/// number where it is greater.
+/// Returns the size, at most 2^64 - 1, and the nesting, at most 2^32 - 1, of the items that are
+/// like no earlier one.
 fn unseen_measure(all: ItemList<'_>) -> (u64, u32)
     ensures size { result.0
         ≡ min (items_size (unseen tree.no_items (items_in all.entry))) (2 ^ 64 - 1) }
@@ -133,9 +137,9 @@ fn unseen_measure(all: ItemList<'_>) -> (u64, u32)
     (size, nesting)
 }
 
-/// The size and the nesting of an item that has so many others in front, nothing where it is like
-/// one of them.
-#[tactic(auto, using(crate::proofs::Alike::left_size, crate::proofs::Alike::kept_size, crate::proofs::Alike::left_nesting, crate::proofs::Alike::kept_nesting))]
+/// Returns the size and the nesting of an item, or zeros if it is like one of the first `count`
+/// items.
+#[tactic(auto, using(crate::proofs::DistinctItems::item_measures))]
 fn item_measure(item: Operand<'_>, all: ItemList<'_>, count: usize) -> (u64, u32)
     ensures size { Before count (items_in all.entry) (tree_of item.entry) (λ left behind.
         min (result.0 + items_size behind) (2 ^ 64 - 1) ≡ min (items_size left) (2 ^ 64 - 1)) }
@@ -150,7 +154,7 @@ fn item_measure(item: Operand<'_>, all: ItemList<'_>, count: usize) -> (u64, u32
     }
 }
 
-/// Filter `unique`.
+/// Applies filter `unique`.
 pub(crate) fn unique(alloc: Global, operand: Operand<'_>) -> Result<Value, ValueError>
     ensures { IsAnswer (on_items distinct (tree_of operand.entry)) result }
 {
@@ -158,14 +162,14 @@ pub(crate) fn unique(alloc: Global, operand: Operand<'_>) -> Result<Value, Value
     Ok(operand_list(alloc, &firsts)?)
 }
 
-/// The list of some operands.
+/// Returns the list of the operands.
 fn operand_list(alloc: Global, operands: &[Operand<'_>]) -> Result<Value, NoMemory>
     ensures { IfOk result (λ v. view v ≡ tree.list (operand_items operands.now)) }
 {
     Value::list(alloc, operand_values(alloc, operands)?)
 }
 
-/// The values of some operands.
+/// Returns the values of the operands.
 fn operand_values(alloc: Global, operands: &[Operand<'_>]) -> Result<Vec<Value>, NoMemory>
     ensures { IfOk result (λ v. items_view v.items ≡ operand_items operands.now) }
 {
@@ -176,23 +180,33 @@ fn operand_values(alloc: Global, operands: &[Operand<'_>]) -> Result<Vec<Value>,
     Ok(values)
 }
 
-/// What is known of the items in front: for each code the one that had it first, and those that are
-/// like none in front of them.
+/// The keys of the items that were seen: the numbers that one of them equals, and for each code of
+/// any other item the first item that has it.
 #[derive(Drop)]
-struct Met<'a> {
-    seen: BTreeMap<Vec<u8>, Operand<'a>>,
+struct SeenKeys<'a> {
+    numbers: BTreeSet<i64>,
+    codes: BTreeMap<Vec<u8>, Operand<'a>>,
+}
+
+/// The items that were seen: their keys, and the items that are like no earlier one.
+#[derive(Drop)]
+struct SeenItems<'a> {
+    seen: SeenKeys<'a>,
     firsts: Vec<Operand<'a>>,
 }
 
-/// The items that are like none in front of them.
+/// Returns the items that are like no earlier one.
 fn first_items(alloc: Global, all: ItemList<'_>) -> Result<Vec<Operand<'_>>, NoMemory>
     ensures { IfOk result (λ v. operand_items v.items ≡ unseen tree.no_items (items_in all.entry)) }
 {
     let total = all.len();
     let mut left = total;
     let mut items = all;
-    let mut met = Met {
-        seen: BTreeMap::new(alloc),
+    let mut met = SeenItems {
+        seen: SeenKeys {
+            numbers: BTreeSet::new(alloc),
+            codes: BTreeMap::new(alloc),
+        },
         firsts: Vec::new(alloc),
     };
     while let Some((item, behind)) = items.split_first() {
@@ -200,16 +214,16 @@ fn first_items(alloc: Global, all: ItemList<'_>) -> Result<Vec<Operand<'_>>, NoM
         left -= 1;
         items = behind;
     }
-    let Met { firsts, .. } = met;
+    let SeenItems { firsts, .. } = met;
     Ok(firsts)
 }
 
-/// Puts an item that has so many others in front, which are known, behind the first ones, unless it
-/// is like one of those.
-#[tactic(auto, using(crate::proofs::Alike::values_left, crate::proofs::Known::firsts_kept))]
+/// Appends an item to the first ones unless it is like one of the first `count` items, whose keys
+/// `met` holds.
+#[tactic(auto, using(crate::proofs::SeenCodes::first_items))]
 fn push_new<'a>(
     alloc: Global,
-    met: &mut Met<'a>,
+    met: &mut SeenItems<'a>,
     item: Operand<'a>,
     all: ItemList<'a>,
     count: usize,
@@ -227,10 +241,11 @@ fn push_new<'a>(
     Ok(())
 }
 
-/// Whether an item is like one of so many others in front, which are known. It is known then too.
+/// Returns whether an item is like one of the first `count` items, whose keys `seen` holds.
+/// Afterwards `seen` holds the item's key too.
 fn was_seen<'a>(
     alloc: Global,
-    seen: &mut BTreeMap<Vec<u8>, Operand<'a>>,
+    seen: &mut SeenKeys<'a>,
     item: Operand<'a>,
     all: ItemList<'a>,
     count: usize,
@@ -241,16 +256,60 @@ fn was_seen<'a>(
     ensures known { OnOk result
         (KnowsNext seen.new count (items_in all.entry) (tree_of item.entry)) }
 {
+    match number_like(item) {
+        Some(number) => was_number_seen(&mut seen.numbers, number),
+        None => was_code_seen(alloc, &mut seen.codes, item, all, count),
+    }
+}
+
+/// Returns the number that an item equals, if any: its own, or 0 or 1 for a truth value.
+fn number_like(item: Operand<'_>) -> Option<i64>
+    ensures { result ≡ seen.number_like (tree_of item.entry) }
+{
+    match item {
+        Operand::Number(number) => Some(number),
+        Operand::Value(Value::Int(number)) => Some(*number),
+        Operand::Value(Value::Bool(truth)) => Some(if *truth { 1 } else { 0 }),
+        _ => None,
+    }
+}
+
+/// Returns whether the numbers have this one. Afterwards they have it.
+#[tactic(auto, using(crate::proofs::SeenNumbers::was_there, crate::proofs::SeenNumbers::or_is))]
+fn was_number_seen(numbers: &mut BTreeSet<i64>, number: i64) -> Result<bool, NoMemory>
+    ensures had { IfOk result (λ b. b ≡ has_number numbers.old number) }
+    ensures has { OnOk result ((z : ℤ)
+        → has_number numbers.new z ≡ (int_eq number z || has_number numbers.old z)) }
+{
+    Ok(!numbers.insert(number)?)
+}
+
+/// Returns whether an item that equals no number is like one of the first `count` items, whose
+/// codes `codes` holds. Afterwards `codes` holds the item's code too.
+fn was_code_seen<'a>(
+    alloc: Global,
+    codes: &mut BTreeMap<Vec<u8>, Operand<'a>>,
+    item: Operand<'a>,
+    all: ItemList<'a>,
+    count: usize,
+) -> Result<bool, NoMemory>
+    requires plain { seen.number_like (tree_of item) ≡ None }
+    requires known { KnowsCodes codes.old (front count (items_in all)) }
+    ensures like { IfOk result
+        (λ b. b ≡ ordering.has_alike (tree_of item.entry) (front count (items_in all.entry))) }
+    ensures known { OnOk result
+        (CodesKnowNext codes.new count (items_in all.entry) (tree_of item.entry)) }
+{
     let code = code_of(alloc, item)?;
-    if let Some(first) = seen.get(code.as_slice()).copied() {
+    if let Some(first) = codes.get(code.as_slice()).copied() {
         return Ok(is_like(item, first, all, count));
     }
-    seen.insert(code, item)?;
+    codes.insert(code, item)?;
     Ok(false)
 }
 
-/// Whether an item is like another one, or like one of so many items from the front. Two that have
-/// the same code are alike, so that no more than one comparison is made.
+/// Returns whether an item is like another one, or like one of the first `count` items. Items with
+/// the same code are alike, so a single comparison is made.
 fn is_like(item: Operand<'_>, other: Operand<'_>, all: ItemList<'_>, count: usize) -> bool
     ensures { result
         ≡ (ordering.alike (tree_of item.entry) (tree_of other.entry)
@@ -259,8 +318,8 @@ fn is_like(item: Operand<'_>, other: Operand<'_>, all: ItemList<'_>, count: usiz
     are_alike(item, other) || has_alike(item, all, count)
 }
 
-/// Whether one of so many items from the front is like an item.
-#[tactic(auto, using(crate::proofs::Alike::front_more, crate::proofs::Alike::front_none))]
+/// Returns whether an item is like one of the first `count` items.
+#[tactic(auto, using(crate::proofs::DistinctItems::fronts))]
 fn has_alike(item: Operand<'_>, items: ItemList<'_>, count: usize) -> bool
     ensures { result
         ≡ ordering.has_alike (tree_of item.entry) (front count (items_in items.entry)) }
@@ -280,8 +339,8 @@ fn has_alike(item: Operand<'_>, items: ItemList<'_>, count: usize) -> bool
     false
 }
 
-/// Whether two items count once: texts, markup or not, by fold, all else by equality.
-#[tactic(auto, using(crate::proofs::Alike::alike_texts, crate::proofs::Alike::first_no_text, crate::proofs::Alike::second_no_text))]
+/// Returns whether two items count once: texts, plain or markup, by fold, others by equality.
+#[tactic(auto, using(crate::proofs::DistinctItems::likenesses))]
 fn are_alike(left: Operand<'_>, right: Operand<'_>) -> bool
     ensures { result ≡ ordering.alike (tree_of left.entry) (tree_of right.entry) }
 {
@@ -294,7 +353,7 @@ fn are_alike(left: Operand<'_>, right: Operand<'_>) -> bool
     }
 }
 
-/// Whether two items are equal.
+/// Returns whether two items are equal.
 fn are_equal(left: Operand<'_>, right: Operand<'_>) -> bool
     ensures { result ≡ equal (tree_of left.entry) (tree_of right.entry) }
 {
@@ -306,7 +365,7 @@ fn are_equal(left: Operand<'_>, right: Operand<'_>) -> bool
     }
 }
 
-/// Whether a value equals an item.
+/// Returns whether a value equals an item.
 fn equals(value: &Value, other: Operand<'_>) -> bool
     ensures { result ≡ equal (view value.now) (tree_of other.entry) }
 {
@@ -322,7 +381,7 @@ fn equals(value: &Value, other: Operand<'_>) -> bool
     }
 }
 
-/// Whether a plain text equals an item.
+/// Returns whether a plain text equals an item.
 fn equals_text(text: &str, other: Operand<'_>) -> bool
     ensures { result ≡ equal (tree.text text.now) (tree_of other.entry) }
 {

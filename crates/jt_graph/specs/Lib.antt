@@ -1,3 +1,3 @@
 pub mod Graph
 pub mod View
-pub mod Walks
+pub mod internal

@@ -1,4 +1,4 @@
--- What contracts see of a graph in memory.
+-- The view of a graph in contracts.
 use Rattle.std.specs.Prelude.{ℕ, List, map}
 use Rattle.std.specs.declared.vec.Vec.{Vec}
 use Rattle.std.specs.declared.alloc.Global.{Global}

@@ -1,11 +1,11 @@
-//! Whether a graph leads to its own numbers alone.
+//! Checks that every successor in a graph is a node of the graph.
 
 ghost use Rattle.std.specs.Prelude.{◌<◌, ◌↔◌, IsTrue};
 ghost use Rattle.std.specs.List.{AllByRecursion};
 ghost use Rattle.jt_graph.specs.Graph.{IsClosed};
 ghost use Rattle.jt_graph.specs.View.{graph_of};
 
-/// Whether each of some numbers is less than a count.
+/// Returns whether each of the numbers is less than `count`.
 fn are_below(numbers: &[usize], count: usize) -> bool
     ensures { IsTrue result ↔ AllByRecursion (λ i. i < count) numbers.now }
 {
@@ -17,7 +17,7 @@ fn are_below(numbers: &[usize], count: usize) -> bool
     true
 }
 
-/// Whether the numbers of a graph lead to its own numbers alone.
+/// Returns whether every successor is a node of the graph.
 pub(crate) fn is_closed(next: &[Vec<usize>]) -> bool
     ensures { IsTrue result ↔ IsClosed (graph_of next.now) }
 {

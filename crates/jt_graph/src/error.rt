@@ -1,11 +1,12 @@
-//! Why there is no order.
+//! Defines the error of `order`.
 
 use std::alloc::{AllocError, AllocFailed};
 
-/// Why there is no order. It has no text: a caller says what its numbers are.
+/// The reason why a graph has no order. It has no text, since only the caller knows what the nodes
+/// are.
 #[derive(Debug, Drop, PartialEq, Eq)]
 pub enum OrderError {
-    /// A number leads to itself.
+    /// A node reaches itself.
     Cycle,
     /// A growth was refused.
     NoMemory,

@@ -1,6 +1,6 @@
-//! An order of the numbers of a graph in which each stands before those that come next.
+//! Orders the nodes of a graph so that each precedes its successors.
 //!
-//! `order` (ordering) over a walk, depth first (walk). Read first: specs/Graph.antt.
+//! `order` (in `ordering`) runs a depth-first search (in `walk`). Read first: specs/Graph.antt.
 #![tactic(auto)]
 
 mod closed;

@@ -1,4 +1,4 @@
-//! An order of numbers.
+//! Orders the nodes of a graph.
 
 ghost use Rattle.std.specs.Prelude.{◌≡◌, [], IfOk};
 ghost use Rattle.jt_graph.specs.Graph.{HasCycle, IsClosed, IsOrder};
@@ -9,17 +9,18 @@ use crate::error::OrderError;
 use crate::walk::{begin, visit};
 use std::alloc::Global;
 
-/// The numbers of a graph, each before those that come next; `next[i]` has those of `i`. A graph
-/// that leads to other numbers than its own has no order, and the answer is empty. The time is
-/// linear in the numbers and their next ones, and calls go as deep as the longest way.
+/// Returns the nodes of a graph, each before its successors; `next[i]` lists the successors of node
+/// `i`. Returns an empty list if a successor is no node of the graph. Takes linear time in the
+/// nodes and edges, and recurses as deep as the longest path.
 ///
 /// # Errors
 ///
-/// `Cycle` where a number leads to itself; `NoMemory` where a growth was refused.
+/// - `Cycle` if a node reaches itself.
+/// - `NoMemory` if a growth is refused.
 pub fn order(alloc: Global, next: &[Vec<usize>]) -> Result<Vec<usize>, OrderError>
     ensures ordered { IsClosed (graph_of next.now)
-        → IfOk result (λ is. IsOrder (graph_of next.now) is.items) }
-    ensures elsewhere { ¬ IsClosed (graph_of next.now) → IfOk result (λ is. is.items ≡ []) }
+        → IfOk result (λ nodes. IsOrder (graph_of next.now) nodes.items) }
+    ensures elsewhere { ¬ IsClosed (graph_of next.now) → IfOk result (λ nodes. nodes.items ≡ []) }
     ensures cycle { result ≡ Err OrderError.Cycle → HasCycle (graph_of next.now) }
 {
     if !is_closed(next) {

@@ -1,33 +1,33 @@
-//! A walk over a graph, depth first.
+//! Implements a depth-first search over a graph.
 
 ghost use Rattle.std.specs.Prelude.{◌≡◌, ◌<◌, ℕ, true, false, length, OnOk, IfOk};
 ghost use Rattle.jt_graph.specs.Graph.{HasCycle, IsClosed};
 ghost use Rattle.jt_graph.specs.View.{graph_of};
-ghost use Rattle.jt_graph.specs.Walks.{IsWalk, LeadTo, GoesOn, is_done, is_open, visit_of};
+ghost use Rattle.jt_graph.specs.internal.Walks.{IsWalk, LeadTo, GoesOn, is_done, is_open, visit_of};
 
 use crate::error::OrderError;
 use std::alloc::{AllocError, Global};
 
-/// What is known of a number.
+/// The state of a node in the search.
 #[derive(Clone, Copy, PartialEq, Eq)]
 pub(crate) enum VisitState {
-    /// Nothing yet.
+    /// A node that was not visited yet.
     New,
-    /// It leads to the number at which the walk is, or it is that number.
+    /// A node that reaches the current node of the search, or is that node.
     Open,
-    /// It is in its place, and so are all to which it leads.
+    /// A finished node; all nodes that it reaches are finished.
     Done,
 }
 
-/// How far a walk has come: a mark for each number, and those that are done, the last place of the
-/// order first.
+/// The state of a search: the state of each node, and the finished nodes. The node that finished
+/// last comes first in the order.
 #[derive(Drop)]
 pub(crate) struct Walk {
     pub(crate) visits: Vec<VisitState>,
     pub(crate) done: Vec<usize>,
 }
 
-/// A walk over so many numbers that has not begun.
+/// Returns a search over the nodes of `next` that has not begun.
 pub(crate) fn begin(alloc: Global, next: &[Vec<usize>]) -> Result<Walk, AllocError>
     ensures walk { IfOk result (IsWalk (graph_of next.now)) }
     ensures closed { IfOk result (λ w. (j : ℕ) → is_open (visit_of w.visits.items j) ≡ false) }
@@ -38,8 +38,8 @@ pub(crate) fn begin(alloc: Global, next: &[Vec<usize>]) -> Result<Walk, AllocErr
     })
 }
 
-/// Puts a number, and all to which it leads, in their places. Its calls go as deep as the longest
-/// way from the number.
+/// Adds a node and all nodes that it reaches to the finished ones. The recursion is as deep as the
+/// longest path from the node.
 pub(crate) fn visit(next: &[Vec<usize>], walk: &mut Walk, number: usize) -> Result<(), OrderError>
     requires within { number < length next.now }
     requires closed { IsClosed (graph_of next.now) }

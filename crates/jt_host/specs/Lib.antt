@@ -1,6 +1,9 @@
+pub mod CallErrors
+pub mod Calls
 pub mod Rendering
--- what clauses of the calls cite that this crate hands on, and what an embedder's own clauses may
--- want
+pub mod Templates
+-- The modules that the clauses of the exported calls cite, and that an embedder's own clauses may
+-- need.
 pub use Rattle.jt_codegen.specs.Compiled
 pub use Rattle.jt_codegen.specs.Refusals
 pub use Rattle.jt_contexts.specs.Json

@@ -1,9 +1,9 @@
--- What rendering the entry of a library for a context under a budget comes to.
+-- The results of rendering the entry of a library for a context under a budget.
 use Rattle.std.specs.Prelude.{◌≢◌}
 use Rattle.jt_scan.specs.declared.options.Options.{Options}
 use Rattle.jt_value.specs.Pairs.{Pairs}
-use Rattle.jt_inherit.specs.Chains.{Given}
-use Rattle.jt_trees.specs.Expressions.{Text}
+use Rattle.jt_inherit.specs.Chains.{SourceTexts}
+use Rattle.jt_ast.specs.Expressions.{Text}
 use Rattle.jt_inherit.specs.Small.{IsSmall}
 use Rattle.jt_image.specs.Code.{Code}
 use Rattle.jt_image.specs.Run.{Run}
@@ -17,27 +17,27 @@ use Rattle.jt_machine.specs.declared.Outcome.{Outcome}
 use Rattle.jt_host.specs.declared.error.RenderError.{RenderError}
 use Rattle.jt_host.specs.declared.error.RenderError.TheVariants as error
 
-module _ (sources : Given) (entry : Text) (options : Options) where
-  -- The run of some code that the entry compiles to ends so. What such a code gives as a text or a
-  -- fault is the meaning of the entry's template, whichever of them it is.
+module _ (sources : SourceTexts) (entry : Text) (options : Options) where
+  -- The run of some code to which the entry compiles ends so. The text or fault of such a code is
+  -- the meaning of the entry's template, whichever code it is.
   pub record IsRendered (x : Pairs) (b : Budget) (o : Outcome) : Type 0 where
     pub code : Code
     pub compiled : IsCompiled sources entry options code
     pub runs : Run code x (budget_view b) (outcome_view o)
 
-  -- a refusal that the compiler may answer: it holds, and it names a limit only where the chain
-  -- isn't small
+  -- A refusal that the compiler may return: it holds, and it names a limit only if the chain is not
+  -- small.
   pub record IsRefused (e : CompileError) : Type 0 where
     pub fault : e ≢ compile_error.NoMemory
     pub holds : Breaks sources entry options e
     pub limit : NamesLimit e → IsSmall sources entry options → ⊥
 
-  -- why there is no outcome; want of memory is no claim
+  -- Why there is no outcome. Lack of memory claims nothing.
   abbrev pub IsUnrendered : RenderError → Type 0
   IsUnrendered (error.Compile e) = IsRefused e
   IsUnrendered error.NoMemory = Unit {0}
 
--- a refusal of the compiler is passed on, and want of memory is one refusal
+-- The error of rendering for an error of the compiler. Lack of memory is an error of its own.
 abbrev pub of_compile : CompileError → RenderError
 of_compile compile_error.NoMemory = error.NoMemory
 of_compile e = error.Compile e

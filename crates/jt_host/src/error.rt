@@ -1,10 +1,10 @@
-//! Why nothing is rendered.
+//! The errors of rendering.
 
 use jt_codegen::CompileError;
 use jt_value::NoMemory;
 use thiserror::Error;
 
-/// Why nothing is rendered.
+/// Why `render` returns no outcome.
 #[derive(Debug, Drop, Error, PartialEq, Eq)]
 pub enum RenderError {
     /// The templates do not compile.

@@ -1,4 +1,4 @@
-//! Templates to texts.
+//! Renders templates in one call.
 ghost use Rattle.std.specs.Prelude.{IfOk, IfErr};
 ghost use Rattle.jt_value.specs.ContextView.{pairs_of};
 ghost use Rattle.jt_host.specs.Rendering.{IsRendered, IsUnrendered};
@@ -13,12 +13,13 @@ use jt_value::Context;
 use jt_verify::verify;
 use std::alloc::Global;
 
-/// How the template of the entry ends for a context under a budget: it is compiled, verified and
-/// run.
+/// Compiles, verifies and runs the template of the entry for a context under a budget, and returns
+/// the outcome.
 ///
 /// # Errors
 ///
-/// `Compile` with what the compiler refuses; `NoMemory` where a growth was refused.
+/// - `Compile` with the compiler's refusal.
+/// - `NoMemory` if a growth is refused.
 pub fn render<L: Library>(
     alloc: Global,
     entry: &str,
@@ -27,16 +28,16 @@ pub fn render<L: Library>(
     context: &Context,
     budget: Budget,
 ) -> Result<Outcome, RenderError>
-    // the outcome is that of a run of a code that the entry compiles to
+    // the outcome is that of a run of a code to which the entry compiles
     ensures rendered { IfOk result
         (IsRendered (L.sources library.now) entry.now options (pairs_of context.now) budget) }
-    // the refusal is one that the compiler may answer
+    // the refusal is one that the compiler may return
     ensures refused { IfErr result (IsUnrendered (L.sources library.now) entry.now options) }
 {
     let image = compile(alloc, entry, library, options)?;
     match verify(alloc, image) {
         Ok(verified) => Ok(run(alloc, &verified, context, budget)?),
-        // What the compiler makes is typed, so the verifier refuses it only for want of memory.
+        // The compiler makes typed images, so the verifier refuses one only for lack of memory.
         Err(_refused) => Err(RenderError::NoMemory),
     }
 }

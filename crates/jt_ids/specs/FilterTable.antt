@@ -1,14 +1,19 @@
--- The filters: the id by which an image names each, the least and the most values that it takes
--- with its input, its names, and its arguments that may be given by name, the first at place 1.
--- `map` by an attribute has no name of its own: it is `map` whose only argument is given by the
--- name `attribute`.
-use Rattle.std.specs.Prelude.{ℕ, ◌==◌, ◌+◌, Bool, true, false, List, [], ◌∷◌, Option, Some, None, option_map, position, codes, if◌then◌else◌, find}
+-- The table of filters. Each filter has a row:
+-- - its id in an image;
+-- - the least number of values that it takes, its input included;
+-- - the greatest number of values that it takes, its input included;
+-- - its names.
+-- The values that follow the input are arguments, and the first argument has position 1. `map` by
+-- an attribute has no name of its own: it is `map` whose only argument is given by the name
+-- `attribute`.
+use Rattle.std.specs.Prelude.{ℕ, ◌==◌, ◌+◌, Bool, true, false, List, [], ◌∷◌, Option, Some, None, option_map, position}
+use Rattle.std.specs.Prelude.{codes, if◌then◌else◌, find}
 use Rattle.std.specs.List.{list_any}
 use Rattle.std.specs.Str.{bytes_eq}
 use Rattle.jt_ids.specs.declared.filter_id.FilterId.{FilterId}
 use Rattle.jt_ids.specs.declared.filter_id.FilterId.TheVariants as filter
-use Rattle.jt_ids.specs.declared.filter_id.Naming.{Naming}
-use Rattle.jt_ids.specs.declared.filter_id.Naming.TheVariants as naming
+use Rattle.jt_ids.specs.declared.filter_id.ArgumentRole.{ArgumentRole}
+use Rattle.jt_ids.specs.declared.filter_id.ArgumentRole.TheVariants as naming
 
 abbrev pub filter_row : FilterId → ℕ × ℕ × ℕ × List (List ℕ)
 filter_row filter.Abs = (0, 1, 1, codes "abs" ∷ [])
@@ -56,7 +61,7 @@ most_values f = (filter_row f).2
 abbrev pub filter_names : FilterId → List (List ℕ)
 filter_names f = (filter_row f).3
 
--- the arguments that may be given by name
+-- The names of the arguments that may be given by name, in order of position.
 abbrev pub argument_names : FilterId → List (List ℕ)
 argument_names filter.Attr = codes "name" ∷ []
 argument_names filter.Default = codes "default_value" ∷ codes "boolean" ∷ []
@@ -67,14 +72,15 @@ argument_names filter.Sort = codes "reverse" ∷ []
 argument_names filter.MapAttribute = codes "attribute" ∷ []
 argument_names f = []
 
--- the place among the values of an argument that is given by its name
+-- The position of an argument that is given by name, among the values of the filter.
 abbrev pub place_of : FilterId → List ℕ → Option ℕ
 place_of f name =
     option_map (λ i. i + 1) (position (λ other. bytes_eq other name) (argument_names f))
 
--- what the value at a place names: the filter or the test that is called on each item, with the
--- values behind it as arguments, or the key of an attribute; in a template these are text literals
-abbrev pub named_at : FilterId → ℕ → Option Naming
+-- The role of the value at a position. It names the filter or the test that is called on each item
+-- with the values after it, or the key of an attribute. In a template such a value is a text
+-- literal.
+abbrev pub named_at : FilterId → ℕ → Option ArgumentRole
 named_at filter.Map place = if place == 1 then Some naming.Filter else None
 named_at filter.Select place = if place == 1 then Some naming.Test else None
 named_at filter.Reject place = if place == 1 then Some naming.Test else None
@@ -85,7 +91,8 @@ named_at filter.RejectAttr place =
 named_at filter.MapAttribute place = if place == 1 then Some naming.Key else None
 named_at f place = None
 
--- whether `map` may call it: those that name a filter, a test or an attribute it may not
+-- True if `map` may call the filter. It may not call one that names a filter, a test or an
+-- attribute.
 abbrev pub may_be_inner : FilterId → Bool
 may_be_inner filter.Map = false
 may_be_inner filter.MapAttribute = false
@@ -95,7 +102,7 @@ may_be_inner filter.Select = false
 may_be_inner filter.SelectAttr = false
 may_be_inner f = true
 
--- all filters, in the order of their ids
+-- All filters, in the order of their ids.
 abbrev pub filters : List FilterId
 filters =
     filter.Abs
@@ -106,12 +113,12 @@ filters =
     ∷ filter.Select ∷ filter.SelectAttr ∷ filter.Sort ∷ filter.String ∷ filter.Sum ∷ filter.Trim
     ∷ filter.Unique ∷ filter.Upper ∷ filter.MapAttribute ∷ []
 
--- the filter of a name
+-- The filter with this name, if it exists.
 abbrev pub filter_of_name : List ℕ → Option FilterId
 filter_of_name name = find (λ f. list_any (bytes_eq name) (filter_names f)) filters
 
--- what a name means as it is written: `map` whose only argument is given by the name `attribute` is
--- `map` by an attribute
+-- The filter that a found one means: `map` is `map` by an attribute if its only argument is given
+-- by the name `attribute`.
 abbrev pub with_only : Option FilterId → Option (List ℕ) → Option FilterId
 with_only (Some filter.Map) (Some argument) =
     if bytes_eq argument (codes "attribute") then Some filter.MapAttribute else Some filter.Map

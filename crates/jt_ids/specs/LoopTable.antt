@@ -1,5 +1,5 @@
--- The fields of a loop: the id by which an image names each, and its name behind `loop.`; the current
--- item has none, since templates read it by the names that the loop binds.
+-- The table of the fields of a loop: the id of each in an image, and its name after `loop.`. The
+-- current item has no such name, since templates read it by the names that the loop binds.
 use Rattle.std.specs.Prelude.{ℕ, List, [], ◌∷◌, Option, codes, find, slice_get}
 use Rattle.std.specs.List.{list_any}
 use Rattle.std.specs.Str.{bytes_eq}
@@ -24,17 +24,17 @@ field_id f = (field_row f).0
 abbrev pub field_names : LoopField → List (List ℕ)
 field_names f = (field_row f).1
 
--- all fields, in the order of their ids
+-- All fields, in the order of their ids.
 abbrev pub loop_fields : List LoopField
 loop_fields =
     field.Item
     ∷ field.Index ∷ field.Index0 ∷ field.RevIndex ∷ field.RevIndex0 ∷ field.First ∷ field.Last
     ∷ field.Length ∷ field.Previous ∷ field.Next ∷ []
 
--- the field of an id, if there is one
+-- The field with this id, if it exists.
 unfoldable pub field_of : ℕ → Option LoopField
-field_of a = slice_get loop_fields a
+field_of id = slice_get loop_fields id
 
--- the field of a name, if there is one
+-- The field with this name, if it exists.
 abbrev pub field_named : List ℕ → Option LoopField
 field_named name = find (λ f. list_any (bytes_eq name) (field_names f)) loop_fields

@@ -1,4 +1,4 @@
--- The operators: the id by which an image names each, and how many operands it takes.
+-- The table of operators: the id of each in an image, and the number of its operands.
 use Rattle.std.specs.Prelude.{ℕ, List, [], ◌∷◌}
 use Rattle.jt_ids.specs.declared.op_id.OpId.{OpId}
 use Rattle.jt_ids.specs.declared.op_id.OpId.TheVariants as op
@@ -33,7 +33,7 @@ op_id o = (op_row o).0
 abbrev pub op_operands : OpId → ℕ
 op_operands o = (op_row o).1
 
--- all operators, in the order of their ids
+-- All operators, in the order of their ids.
 abbrev pub operators : List OpId
 operators =
     op.Add

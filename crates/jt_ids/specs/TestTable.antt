@@ -1,5 +1,5 @@
--- The tests: the id by which an image names each, how many values it takes with the tested one, and
--- its names.
+-- The table of tests: the id of each in an image, the number of values that it takes with the
+-- tested one, and its names.
 use Rattle.std.specs.Prelude.{ℕ, List, [], ◌∷◌, Option, codes, find}
 use Rattle.std.specs.List.{list_any}
 use Rattle.std.specs.Str.{bytes_eq}
@@ -37,7 +37,7 @@ test_values t = (test_row t).1
 abbrev pub test_names : TestId → List (List ℕ)
 test_names t = (test_row t).2
 
--- all tests, in the order of their ids
+-- All tests, in the order of their ids.
 abbrev pub tests : List TestId
 tests =
     test.Boolean
@@ -46,6 +46,6 @@ tests =
     ∷ test.Less ∷ test.In ∷ test.Integer ∷ test.Mapping ∷ test.None ∷ test.String ∷ test.Undefined
     ∷ []
 
--- the test of a name
+-- The test with this name, if it exists.
 abbrev pub test_of_name : List ℕ → Option TestId
 test_of_name name = find (λ t. list_any (bytes_eq name) (test_names t)) tests

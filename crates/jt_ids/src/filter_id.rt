@@ -1,10 +1,12 @@
-//! The filters, and the id, names and arguments of each.
-ghost use Rattle.std.specs.Prelude.{◌≡◌, ◌&&◌, ◌+◌, ◌∷◌, [], Some, IfSome, Contains, nat_le, option_map, position};
+//! Defines the filters, with the id, the names and the arguments of each.
+ghost use Rattle.std.specs.Prelude.{◌≡◌, ◌&&◌, ◌+◌, ◌∷◌, [], Some, IfSome, Contains, nat_le};
+ghost use Rattle.std.specs.Prelude.{option_map, position};
 ghost use Rattle.std.specs.Str.{bytes_eq};
 ghost use Rattle.jt_ids.specs.FilterTable as table;
-ghost use Rattle.jt_ids.specs.FilterTable.{filter_id, filter_names, least_values, most_values, place_of, filter_of_name, filter_meant, with_only};
+ghost use Rattle.jt_ids.specs.FilterTable.{filter_id, filter_names, least_values, most_values};
+ghost use Rattle.jt_ids.specs.FilterTable.{place_of, filter_of_name, filter_meant, with_only};
 
-/// A filter. They stand in the order of their ids, from 0.
+/// A filter. The variants are in the order of their ids, from 0.
 #[derive(Clone, Copy, Debug, PartialEq, Eq)]
 pub enum FilterId {
     Abs,
@@ -42,26 +44,26 @@ pub enum FilterId {
     MapAttribute,
 }
 
-/// What an argument of a filter names.
+/// The role of an argument of a filter that names something.
 #[derive(Clone, Copy, Debug, PartialEq, Eq)]
-pub enum Naming {
+pub enum ArgumentRole {
     /// The filter that is called on each item.
     Filter,
-    /// The test that each item is put to.
+    /// The test that is applied to each item.
     Test,
     /// The key of an attribute.
     Key,
 }
 
 impl FilterId {
-    /// The id of the filter in an image.
+    /// Returns the id of the filter in an image.
     pub fn id(self) -> u8
         ensures { result ≡ filter_id self }
     {
         self as u8
     }
 
-    /// The filter of an id; none where no filter has it.
+    /// Returns the filter with this id, or `None` if no filter has it.
     pub fn by_id(id: u8) -> Option<FilterId>
         ensures found { IfSome result (λ filter. filter_id filter ≡ id) }
         ensures only { (filter : FilterId) → filter_id filter ≡ id → result ≡ Some filter }
@@ -103,9 +105,9 @@ impl FilterId {
         }
     }
 
-    /// The filter of a name; none where no filter has it. `map` by an attribute has no name of its
-    /// own.
-    #[tactic(auto, using(crate::proofs::Rows::filter_named))]
+    /// Returns the filter with this name, or `None` if no filter has it. `MapAttribute` has no name
+    /// of its own.
+    #[tactic(auto, using(crate::proofs::LookupByName::filter_named))]
     pub fn by_name(name: &str) -> Option<FilterId>
         ensures found { IfSome result (λ filter. Contains (filter_names filter) name.now) }
         ensures only { (filter : FilterId)
@@ -149,8 +151,8 @@ impl FilterId {
         }
     }
 
-    /// The filter that a name means, where `only` is the name of its only argument, if it has just
-    /// one and that is given by its name: `map(attribute=key)` is another filter than `map`.
+    /// Returns the filter that a name means. `only` is the name of the only argument, if there is
+    /// exactly one and it is given by name: `map(attribute=key)` is another filter than `map`.
     pub fn named(name: &str, only: Option<&str>) -> Option<FilterId>
         ensures { result ≡ filter_meant name.now (option_map (λ s. s.now) only.entry) }
     {
@@ -160,7 +162,8 @@ impl FilterId {
         }
     }
 
-    /// What the filter of a name is where its only argument is given by this name, if it is.
+    /// Returns the filter that this one means. `only` is the name of the only argument, if there is
+    /// exactly one and it is given by name.
     fn with_only(self, only: Option<&str>) -> FilterId
         ensures { Some result ≡ with_only (Some self) (option_map (λ s. s.now) only.entry) }
     {
@@ -170,7 +173,7 @@ impl FilterId {
         }
     }
 
-    /// Whether the filter takes this many values, its input among them.
+    /// Returns whether the filter takes `values` values, its input included.
     pub fn takes(self, values: usize) -> bool
         ensures { result ≡ (nat_le (least_values self) values && nat_le values (most_values self)) }
     {
@@ -186,8 +189,8 @@ impl FilterId {
         least <= values && values <= most
     }
 
-    /// The place among the values of an argument that is given by its name, where the input has
-    /// place 0; none where the filter has no such argument.
+    /// Returns the position among the values of an argument that is given by name, or `None` if the
+    /// filter has no such argument. The input has position 0.
     pub fn place(self, argument: &str) -> Option<usize>
         ensures { result ≡ place_of self argument.now }
     {
@@ -203,27 +206,27 @@ impl FilterId {
         }
     }
 
-    /// What the value at a place names, where the input has place 0: the filter or the test that is
-    /// called on each item, with the values behind it as arguments, or an attribute's key. In a
-    /// template these are text literals.
-    pub fn named_at(self, place: usize) -> Option<Naming>
+    /// Returns the role of the value at this position; the input has position 0. Such a value names
+    /// an attribute's key, or the filter or test that is called on each item with the values after
+    /// it. In a template it is a text literal.
+    pub fn named_at(self, place: usize) -> Option<ArgumentRole>
         ensures { result ≡ table.named_at self place }
     {
         match (self, place) {
-            (FilterId::Map, 1) => Some(Naming::Filter),
-            (FilterId::Select, 1) => Some(Naming::Test),
-            (FilterId::Reject, 1) => Some(Naming::Test),
-            (FilterId::SelectAttr, 1) => Some(Naming::Key),
-            (FilterId::SelectAttr, 2) => Some(Naming::Test),
-            (FilterId::RejectAttr, 1) => Some(Naming::Key),
-            (FilterId::RejectAttr, 2) => Some(Naming::Test),
-            (FilterId::MapAttribute, 1) => Some(Naming::Key),
+            (FilterId::Map, 1) => Some(ArgumentRole::Filter),
+            (FilterId::Select, 1) => Some(ArgumentRole::Test),
+            (FilterId::Reject, 1) => Some(ArgumentRole::Test),
+            (FilterId::SelectAttr, 1) => Some(ArgumentRole::Key),
+            (FilterId::SelectAttr, 2) => Some(ArgumentRole::Test),
+            (FilterId::RejectAttr, 1) => Some(ArgumentRole::Key),
+            (FilterId::RejectAttr, 2) => Some(ArgumentRole::Test),
+            (FilterId::MapAttribute, 1) => Some(ArgumentRole::Key),
             _ => None,
         }
     }
 
-    /// Whether `map` may call the filter: one that names a filter, a test or an attribute it may
-    /// not.
+    /// Returns whether `map` may call the filter. It may not call one that names a filter, a test
+    /// or an attribute.
     pub fn may_be_inner(self) -> bool
         ensures { result ≡ table.may_be_inner self }
     {
@@ -239,7 +242,7 @@ impl FilterId {
     }
 }
 
-/// The place of an argument, where one may be given by name.
+/// Returns the position of an argument of a filter with one named argument.
 fn place_of_one(first: &str, argument: &str) -> Option<usize>
     ensures { result
         ≡ option_map (λ i. i + 1)
@@ -248,7 +251,7 @@ fn place_of_one(first: &str, argument: &str) -> Option<usize>
     if first == argument { Some(1) } else { None }
 }
 
-/// The place of an argument, where two may be given by name.
+/// Returns the position of an argument of a filter with two named arguments.
 fn place_of_two(first: &str, second: &str, argument: &str) -> Option<usize>
     ensures { result
         ≡ option_map (λ i. i + 1)

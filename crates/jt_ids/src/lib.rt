@@ -1,8 +1,9 @@
-//! The operators, tests, filters and fields of a loop that there are: the id by which an image names
-//! each, its names and how many values it takes.
+//! Defines the operators, tests, filters and loop fields of the language: their ids in an image,
+//! their names and the number of values that each takes.
 //!
-//! An enum each (op_id, test_id, filter_id, loop_field). Read first: specs/FilterTable.antt, one row
-//! a filter; specs/OpTable.antt, specs/TestTable.antt and specs/LoopTable.antt are alike.
+//! One enum each (op_id, test_id, filter_id, loop_field). Read first: specs/FilterTable.antt, with
+//! one row per filter. specs/OpTable.antt, specs/TestTable.antt and specs/LoopTable.antt are tables
+//! of this form too.
 #![tactic(auto)]
 
 mod filter_id;
@@ -10,7 +11,7 @@ mod loop_field;
 mod op_id;
 mod test_id;
 
-pub use filter_id::{FilterId, Naming};
+pub use filter_id::{ArgumentRole, FilterId};
 pub use loop_field::LoopField;
 pub use op_id::OpId;
 pub use test_id::TestId;

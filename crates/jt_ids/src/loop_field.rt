@@ -1,41 +1,41 @@
-//! The fields of a loop, and the id and the name of each.
+//! Defines the fields of a loop, with the id and the name of each.
 ghost use Rattle.std.specs.Prelude.{◌≡◌, Some, IfSome, Contains};
 ghost use Rattle.jt_ids.specs.LoopTable.{field_id, field_names, field_named, field_of};
 
-/// A field of a running loop. They stand in the order of their ids, from 0.
+/// A field of a running loop. The variants are in the order of their ids, from 0.
 #[derive(Clone, Copy, Debug, PartialEq, Eq)]
 pub enum LoopField {
-    /// The current item, which templates read by the names that the loop binds.
+    /// The current item. Templates read it by the names that the loop binds.
     Item,
-    /// The turn, from 1.
+    /// The number of the turn, from 1.
     Index,
-    /// The turn, from 0.
+    /// The number of the turn, from 0.
     Index0,
-    /// The turns from this one on.
+    /// The number of turns from this one on.
     RevIndex,
-    /// The turns behind this one.
+    /// The number of turns after this one.
     RevIndex0,
-    /// Whether it is the first turn.
+    /// A truth value that is true at the first turn.
     First,
-    /// Whether it is the last turn.
+    /// A truth value that is true at the last turn.
     Last,
-    /// How many turns there are.
+    /// The number of all turns.
     Length,
-    /// The item of the turn before.
+    /// The item of the previous turn.
     Previous,
     /// The item of the next turn.
     Next,
 }
 
 impl LoopField {
-    /// The id of the field in an image.
+    /// Returns the id of the field in an image.
     pub fn id(self) -> u8
         ensures { result ≡ field_id self }
     {
         self as u8
     }
 
-    /// The field of an id; none where no field has it.
+    /// Returns the field with this id, or `None` if no field has it.
     #[tactic(auto, unfolding(crate::specs::LoopTable::field_of))]
     pub fn by_id(id: u8) -> Option<LoopField>
         ensures { result ≡ field_of id }
@@ -55,8 +55,9 @@ impl LoopField {
         }
     }
 
-    /// The field that a template reads as `loop.` and this name; none where no field has it.
-    #[tactic(auto, using(crate::proofs::Rows::loop_field_named))]
+    /// Returns the field that templates read as `loop.` and this name, or `None` if no field has
+    /// it.
+    #[tactic(auto, using(crate::proofs::LookupByName::loop_field_named))]
     pub fn by_name(name: &str) -> Option<LoopField>
         ensures found { IfSome result (λ field. Contains (field_names field) name.now) }
         ensures only { (field : LoopField) → Contains (field_names field) name.now

@@ -1,8 +1,8 @@
-//! The operators, and the id by which an image names each.
+//! Defines the operators, with the id and the number of operands of each.
 ghost use Rattle.std.specs.Prelude.{◌≡◌, ◌==◌, Some, IfSome};
 ghost use Rattle.jt_ids.specs.OpTable.{op_id, op_operands};
 
-/// An operator. They stand in the order of their ids, from 0.
+/// An operator. The variants are in the order of their ids, from 0.
 #[derive(Clone, Copy, Debug, PartialEq, Eq)]
 pub enum OpId {
     Add,
@@ -30,14 +30,14 @@ pub enum OpId {
 }
 
 impl OpId {
-    /// The id of the operator in an image.
+    /// Returns the id of the operator in an image.
     pub fn id(self) -> u8
         ensures { result ≡ op_id self }
     {
         self as u8
     }
 
-    /// The operator of an id; none where no operator has it.
+    /// Returns the operator with this id, or `None` if no operator has it.
     pub fn by_id(id: u8) -> Option<OpId>
         ensures found { IfSome result (λ op. op_id op ≡ id) }
         ensures only { (op : OpId) → op_id op ≡ id → result ≡ Some op }
@@ -69,7 +69,7 @@ impl OpId {
         }
     }
 
-    /// How many operands the operator takes: 1, 2 or 3.
+    /// Returns the number of operands of the operator: 1, 2 or 3.
     pub fn operands(self) -> usize
         ensures { result ≡ op_operands self }
     {
@@ -80,7 +80,7 @@ impl OpId {
         }
     }
 
-    /// Whether the operator takes this many operands.
+    /// Returns whether the operator takes `values` operands.
     pub fn takes(self, values: usize) -> bool
         ensures { result ≡ (values == op_operands self) }
     {

@@ -1,8 +1,8 @@
-//! The tests, and the id and names of each.
+//! Defines the tests, with the id and the names of each.
 ghost use Rattle.std.specs.Prelude.{◌≡◌, ◌==◌, Some, IfSome, Contains};
 ghost use Rattle.jt_ids.specs.TestTable.{test_id, test_values, test_names, test_of_name};
 
-/// A test. They stand in the order of their ids, from 0.
+/// A test. The variants are in the order of their ids, from 0.
 #[derive(Clone, Copy, Debug, PartialEq, Eq)]
 pub enum TestId {
     Boolean,
@@ -28,14 +28,14 @@ pub enum TestId {
 }
 
 impl TestId {
-    /// The id of the test in an image.
+    /// Returns the id of the test in an image.
     pub fn id(self) -> u8
         ensures { result ≡ test_id self }
     {
         self as u8
     }
 
-    /// The test of an id; none where no test has it.
+    /// Returns the test with this id, or `None` if no test has it.
     pub fn by_id(id: u8) -> Option<TestId>
         ensures found { IfSome result (λ test. test_id test ≡ id) }
         ensures only { (test : TestId) → test_id test ≡ id → result ≡ Some test }
@@ -65,8 +65,8 @@ impl TestId {
         }
     }
 
-    /// The test of a name; none where no test has it.
-    #[tactic(auto, using(crate::proofs::Rows::test_named))]
+    /// Returns the test with this name, or `None` if no test has it.
+    #[tactic(auto, using(crate::proofs::LookupByName::test_named))]
     pub fn by_name(name: &str) -> Option<TestId>
         ensures found { IfSome result (λ test. Contains (test_names test) name.now) }
         ensures only { (test : TestId) → Contains (test_names test) name.now → result ≡ Some test }
@@ -97,7 +97,7 @@ impl TestId {
         }
     }
 
-    /// Whether the test takes this many values, the tested one among them.
+    /// Returns whether the test takes `values` values, the tested one included.
     pub fn takes(self, values: usize) -> bool
         ensures { result ≡ (values == test_values self) }
     {

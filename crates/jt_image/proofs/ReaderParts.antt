@@ -1,5 +1,6 @@
--- Names, texts and headers in the reader, as the definitions see them.
-use Rattle.std.proofs.Common.{◌≡◌, ℕ, ◌+◌, ◌-◌, ◌++◌, false, true, ◌<◌, ◌≤◌, Bool, take, drop, ltb, ◌≢◌, Ok, Err, List, [], ◌∷◌, length, get_or, set, refl, map, sym, arith, Some, None, rules, zero, suc, subst}
+-- Names, texts and headers in the reader, and their views.
+use Rattle.std.proofs.Common.{◌≡◌, ℕ, ◌+◌, ◌-◌, ◌++◌, false, true, ◌<◌, ◌≤◌, Bool, take, drop, ltb, ◌≢◌, Ok, Err, List}
+use Rattle.std.proofs.Common.{[], ◌∷◌, length, get_or, set, refl, map, sym, arith, Some, None, rules, zero, suc, subst}
 use Rattle.std.specs.Prelude.{◌==◌, ◌||◌, replicate}
 use Rattle.std.specs.Str.{IsUtf8, is_utf8}
 use Rattle.std.proofs.lemmas.Str.{is_utf8-from_IsUtf8, IsUtf8-from_is_utf8}
@@ -11,12 +12,14 @@ use Rattle.std.specs.List.{last_or}
 use Rattle.jt_image.specs.Code as code
 use Rattle.jt_image.specs.Reading.{Header, IsTable, is_used, text_at, header_total, is_first}
 
-last_from : {A B : Type 0} (view : A → B) (x : A) (xs : List A) (d : A) → last_or (Some (view x)) (map view xs) ≡ Some (view (get_or (x ∷ xs) (length xs) d))
+last_from : {A B : Type 0} (view : A → B) (x : A) (xs : List A) (d : A)
+    → last_or (Some (view x)) (map view xs) ≡ Some (view (get_or (x ∷ xs) (length xs) d))
 last_from view x [] d = refl
 last_from view x (y ∷ ys) d = last_from view y ys d
 
--- the last of what is seen is seen of the last
-pub last_seen : {A B : Type 0} (view : A → B) (xs : List A) (d : A) → 0 < length xs → last_or None (map view xs) ≡ Some (view (get_or xs (length xs - 1) d))
+-- The last view is the view of the last element.
+pub last_seen : {A B : Type 0} (view : A → B) (xs : List A) (d : A) → 0 < length xs
+    → last_or None (map view xs) ≡ Some (view (get_or xs (length xs - 1) d))
 last_seen view [] d lt = absurd (omega arith)
 last_seen view (x ∷ xs) d lt = let e : length (x ∷ xs) - 1 ≡ length xs = omega arith in rw e (last_from view x xs d)
 
@@ -28,7 +31,8 @@ pub is_first-push : (hs : List Header) (h : Header) → is_first (hs ++ h ∷ []
 is_first-push [] h = refl
 is_first-push (g ∷ hs) h = refl
 
-pub text_ok : (n : ℕ) (bytes : List ℕ) → n ≤ length bytes → IsUtf8 (take n bytes) → text_at n bytes ≡ Ok (take n bytes, drop n bytes)
+pub text_ok : (n : ℕ) (bytes : List ℕ) → n ≤ length bytes → IsUtf8 (take n bytes)
+    → text_at n bytes ≡ Ok (take n bytes, drop n bytes)
 unfolding text_at
 text_ok n bytes le u =
     let short : ltb (length bytes) n ≡ false = le-ltb _ _ le in
@@ -48,7 +52,8 @@ text_bad n bytes le u =
 
 -- ---- the table of used slots
 
-pub is_used-push : (s : ℕ) (ns : List code.Name) (n : code.Name) → is_used s (ns ++ n ∷ []) ≡ (is_used s ns || (n.slot == s))
+pub is_used-push : (s : ℕ) (ns : List code.Name) (n : code.Name)
+    → is_used s (ns ++ n ∷ []) ≡ (is_used s ns || (n.slot == s))
 is_used-push s [] n = grind (arith, nat_tests)
 is_used-push s (m ∷ ns) n = search (arith, rules, is_used-push s ns n)
 
@@ -60,8 +65,11 @@ other_slot : (n s : ℕ) → s ≢ n → (b : Bool) → (b || (n == s)) ≡ b
 other_slot n s ne true = refl
 other_slot n s ne false = grind (arith, nat_tests)
 
-pub IsTable-push : (used : List Bool) (globals : ℕ) (ns : List code.Name) (n : code.Name) → n.slot < globals → IsTable used globals ns → IsTable (set used n.slot true) globals (ns ++ n ∷ [])
-IsTable-push used globals ns n lt t = search (arith, rules, length-set, cases_eq, get_or, get_or-set_same, is_used-push, same_slot, get_or-set_other, other_slot)
+pub IsTable-push : (used : List Bool) (globals : ℕ) (ns : List code.Name) (n : code.Name) → n.slot < globals
+    → IsTable used globals ns → IsTable (set used n.slot true) globals (ns ++ n ∷ [])
+IsTable-push used globals ns n lt t =
+    search
+    (arith, rules, length-set, cases_eq, get_or, get_or-set_same, is_used-push, same_slot, get_or-set_other, other_slot)
 
 none_used : (n s : ℕ) → get_or (replicate n false) s false ≡ false
 none_used zero s = refl
@@ -69,4 +77,6 @@ none_used (suc n) zero = refl
 none_used (suc n) (suc s) = none_used n s
 
 pub IsTable-start : (used : List Bool) (globals : ℕ) → used ≡ replicate globals false → IsTable used globals []
-IsTable-start used globals e = subst (λ (us : List Bool). IsTable us globals []) (sym e) (record { len = length-replicate globals false; each = λ s lt. none_used globals s })
+IsTable-start used globals e =
+    subst (λ (us : List Bool). IsTable us globals []) (sym e)
+    (record { len = length-replicate globals false; each = λ s lt. none_used globals s })

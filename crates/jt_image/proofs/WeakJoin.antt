@@ -1,4 +1,5 @@
--- Why kinds are compared where paths meet: a code that is typed with lengths alone, and goes wrong.
+-- It is not enough to compare lengths where paths join: some code that is typed by lengths alone
+-- has a run that is wrong.
 use Rattle.std.proofs.Common.{◌≡◌, ℕ, zero, suc, ◌≤◌, false, List, [], ◌∷◌, length, Some, refl, subst, arith}
 use Rattle.std.specs.Prelude.{slice_get}
 use Rattle.std.specs.List.{AllByRecursion}
@@ -14,15 +15,31 @@ use Rattle.jt_image.specs.Effect.{Shape}
 use Rattle.jt_image.specs.Typed.{Shapes, SameLength, max_entries, IsFineBy, IsTypedUnit, IsTypedWith}
 use Rattle.jt_image.specs.Laws.{NeedsKinds}
 
--- a loop and a capture meet at point 6, where the loop ends
+-- A loop and a capture join at point 6, which ends the loop.
 abbrev y_unit : Section
-y_unit = record { parameters = 0; kind = 0; locals = 0; code = op.Const 0 ∷ op.JumpIfFalse 5 ∷ op.Const 1 ∷ op.LoopStart ∷ op.Jump 6 ∷ op.CaptureBegin ∷ op.LoopEnd ∷ op.Drop ∷ op.Return ∷ [] }
+y_unit = record {
+  parameters = 0;
+  kind = 0;
+  locals = 0;
+  code = op.Const 0 ∷ op.JumpIfFalse 5 ∷ op.Const 1 ∷ op.LoopStart ∷ op.Jump 6 ∷ op.CaptureBegin ∷ op.LoopEnd ∷ op.Drop
+      ∷ op.Return ∷ [];
+}
 
 abbrev y_code : Code
-y_code = record { version = version.One; globals = 0; names = []; constants = code.truth_value false ∷ code.text (97 ∷ []) ∷ []; units = y_unit ∷ []; templates = []; spots = [] }
+y_code = record {
+  version = version.One;
+  globals = 0;
+  names = [];
+  constants = code.truth_value false ∷ code.text (97 ∷ []) ∷ [];
+  units = y_unit ∷ [];
+  templates = [];
+  places = [];
+}
 
 abbrev y_list : List Shape
-y_list = [] ∷ (kind.Value ∷ []) ∷ [] ∷ (kind.Value ∷ []) ∷ (kind.Frame ∷ []) ∷ [] ∷ (kind.Frame ∷ []) ∷ (kind.Value ∷ []) ∷ [] ∷ []
+y_list =
+    [] ∷ (kind.Value ∷ []) ∷ [] ∷ (kind.Value ∷ []) ∷ (kind.Frame ∷ []) ∷ [] ∷ (kind.Frame ∷ []) ∷ (kind.Value ∷ [])
+    ∷ [] ∷ []
 
 abbrev y_shapes : Shapes
 y_shapes p = slice_get y_list p
@@ -33,36 +50,83 @@ IsFine p s = IsFineBy SameLength y_code y_unit y_shapes p s
 same_shape : (r s : Shape) → Some r ≡ Some s → r ≡ s
 same_shape r s e = cc
 
--- a shape of the list is in order at its point
+-- If the listed shape is in order at its point, the shape at the point is in order.
 listed : (p : ℕ) (r s : Shape) → Some r ≡ Some s → IsFine p r → IsFine p s
 listed p r s e h = subst (IsFine p) (same_shape r s e) h
 
 fine : (p : ℕ) (s : Shape) → y_shapes p ≡ Some s → IsFine p s
-fine zero s e = listed 0 [] s e (record { leads = record { shape = kind.Value ∷ []; points = 1 ∷ [] }; effect = refl; agree = ((kind.Value ∷ [], refl, refl), tt) })
-fine (suc zero) s e = listed 1 (kind.Value ∷ []) s e (record { leads = record { shape = []; points = 2 ∷ 5 ∷ [] }; effect = refl; agree = (([], refl, refl), (([], refl, refl), tt)) })
-fine (suc (suc zero)) s e = listed 2 [] s e (record { leads = record { shape = kind.Value ∷ []; points = 3 ∷ [] }; effect = refl; agree = ((kind.Value ∷ [], refl, refl), tt) })
-fine (suc (suc (suc zero))) s e = listed 3 (kind.Value ∷ []) s e (record { leads = record { shape = kind.Frame ∷ []; points = 4 ∷ [] }; effect = refl; agree = ((kind.Frame ∷ [], refl, refl), tt) })
-fine (suc (suc (suc (suc zero)))) s e = listed 4 (kind.Frame ∷ []) s e (record { leads = record { shape = kind.Frame ∷ []; points = 6 ∷ [] }; effect = refl; agree = ((kind.Frame ∷ [], refl, refl), tt) })
-fine (suc (suc (suc (suc (suc zero))))) s e = listed 5 [] s e (record { leads = record { shape = kind.Capture ∷ []; points = 6 ∷ [] }; effect = refl; agree = ((kind.Frame ∷ [], refl, refl), tt) })
-fine (suc (suc (suc (suc (suc (suc zero)))))) s e = listed 6 (kind.Frame ∷ []) s e (record { leads = record { shape = kind.Value ∷ []; points = 7 ∷ [] }; effect = refl; agree = ((kind.Value ∷ [], refl, refl), tt) })
-fine (suc (suc (suc (suc (suc (suc (suc zero))))))) s e = listed 7 (kind.Value ∷ []) s e (record { leads = record { shape = []; points = 8 ∷ [] }; effect = refl; agree = (([], refl, refl), tt) })
-fine (suc (suc (suc (suc (suc (suc (suc (suc zero)))))))) s e = listed 8 [] s e (record { leads = record { shape = []; points = [] }; effect = refl; agree = tt })
+fine zero s e =
+    listed 0 [] s e (record {
+      leads = record { shape = kind.Value ∷ []; points = 1 ∷ [] };
+      effect = refl;
+      agree = ((kind.Value ∷ [], refl, refl), tt);
+    })
+fine (suc zero) s e =
+    listed 1 (kind.Value ∷ []) s e (record {
+      leads = record { shape = []; points = 2 ∷ 5 ∷ [] };
+      effect = refl;
+      agree = (([], refl, refl), (([], refl, refl), tt));
+    })
+fine (suc (suc zero)) s e =
+    listed 2 [] s e (record {
+      leads = record { shape = kind.Value ∷ []; points = 3 ∷ [] };
+      effect = refl;
+      agree = ((kind.Value ∷ [], refl, refl), tt);
+    })
+fine (suc (suc (suc zero))) s e =
+    listed 3 (kind.Value ∷ []) s e (record {
+      leads = record { shape = kind.Frame ∷ []; points = 4 ∷ [] };
+      effect = refl;
+      agree = ((kind.Frame ∷ [], refl, refl), tt);
+    })
+fine (suc (suc (suc (suc zero)))) s e =
+    listed 4 (kind.Frame ∷ []) s e (record {
+      leads = record { shape = kind.Frame ∷ []; points = 6 ∷ [] };
+      effect = refl;
+      agree = ((kind.Frame ∷ [], refl, refl), tt);
+    })
+fine (suc (suc (suc (suc (suc zero))))) s e =
+    listed 5 [] s e (record {
+      leads = record { shape = kind.Capture ∷ []; points = 6 ∷ [] };
+      effect = refl;
+      agree = ((kind.Frame ∷ [], refl, refl), tt);
+    })
+fine (suc (suc (suc (suc (suc (suc zero)))))) s e =
+    listed 6 (kind.Frame ∷ []) s e (record {
+      leads = record { shape = kind.Value ∷ []; points = 7 ∷ [] };
+      effect = refl;
+      agree = ((kind.Value ∷ [], refl, refl), tt);
+    })
+fine (suc (suc (suc (suc (suc (suc (suc zero))))))) s e =
+    listed 7 (kind.Value ∷ []) s e
+    (record { leads = record { shape = []; points = 8 ∷ [] }; effect = refl; agree = (([], refl, refl), tt) })
+fine (suc (suc (suc (suc (suc (suc (suc (suc zero)))))))) s e =
+    listed 8 [] s e (record { leads = record { shape = []; points = [] }; effect = refl; agree = tt })
 fine (suc (suc (suc (suc (suc (suc (suc (suc (suc p))))))))) s e = absurd cc
 
--- each shape of a list is as short as all of them are
-short_at : (ss : List Shape) (p : ℕ) (s : Shape) → AllByRecursion (λ r. length r ≤ max_entries) ss → slice_get ss p ≡ Some s → length s ≤ max_entries
+-- Each listed shape is within the limit, since all are.
+short_at : (ss : List Shape) (p : ℕ) (s : Shape) → AllByRecursion (λ r. length r ≤ max_entries) ss
+    → slice_get ss p ≡ Some s → length s ≤ max_entries
 short_at [] p s h e = absurd cc
 short_at (r ∷ ss) zero s h e = subst (λ (x : Shape). length x ≤ max_entries) (same_shape r s e) h.0
 short_at (r ∷ ss) (suc p) s h e = short_at ss p s h.1 e
 
 all_short : AllByRecursion (λ (r : Shape). length r ≤ max_entries) y_list
-all_short = (omega arith, (omega arith, (omega arith, (omega arith, (omega arith, (omega arith, (omega arith, (omega arith, (omega arith, tt)))))))))
+all_short = (
+  omega arith,
+  (
+    omega arith,
+    (omega arith, (omega arith, (omega arith, (omega arith, (omega arith, (omega arith, (omega arith, tt))))))),
+  ),
+)
 
 same_unit : (u : Section) → Some y_unit ≡ Some u → y_unit ≡ u
 same_unit u e = cc
 
 typed : IsTypedWith SameLength y_code
-typed zero u e = subst (IsTypedUnit SameLength y_code) (same_unit u e) (y_shapes, record { start = refl; small = λ p s. short_at y_list p s all_short; fine = fine })
+typed zero u e =
+    subst (IsTypedUnit SameLength y_code) (same_unit u e)
+    (y_shapes, record { start = refl; small = λ p s. short_at y_list p s all_short; fine = fine })
 typed (suc n) u e = absurd cc
 
 ascii : IsAscii (97 ∷ [])
@@ -79,13 +143,22 @@ is_code = record {
   count_constants = omega arith;
   constants = (tt, ((omega arith, IsUtf8-from_ascii (97 ∷ []) ascii), tt));
   count_units = omega arith;
-  units = (record { parameters = omega arith; kind = omega arith; locals = omega arith; within = omega arith; code = (omega arith, (omega arith, (omega arith, (tt, (omega arith, (tt, (tt, (tt, (tt, tt))))))))) }, tt);
+  units = (
+    record {
+      parameters = omega arith;
+      kind = omega arith;
+      locals = omega arith;
+      within = omega arith;
+      code = (omega arith, (omega arith, (omega arith, (tt, (omega arith, (tt, (tt, (tt, (tt, tt)))))))));
+    },
+    tt,
+  );
   entry = record { entry = y_unit; is = refl; emits = refl; plain = refl };
   instructions = omega arith;
   count_templates = omega arith;
   templates = tt;
   ascend_templates = tt;
-  spots = tt;
+  places = tt;
   placed = (refl, refl);
   bytes = omega arith;
 }

@@ -4,11 +4,9 @@ pub mod IsCode
 pub mod Places
 pub mod Reading
 pub mod View
-pub mod HeaderView
 pub mod Readers
 pub mod InPlace
 pub mod Held
-pub mod BackView
 pub mod Ids
 pub mod Effect
 pub mod Typed
@@ -21,3 +19,4 @@ pub mod FreeRun
 pub mod Laws
 pub mod Parts
 pub mod Upgrading
+pub mod internal

@@ -1,16 +1,19 @@
--- What code parts are, and what a refusal to assemble them says of it.
-use Rattle.std.specs.Prelude.{◌≡◌, ℕ, ◌<◌, ◌≤◌, ◌-◌, ◌^◌, min, Bool, not, ◌&&◌, nat_lt, List, [], ◌∷◌, ◌++◌, length, Option, Some, None, option_map, Vec, Result, OnOk, IsUtf8, FitsSigned}
+-- The code of parts, and what a refusal to assemble them claims about it.
+use Rattle.std.specs.Prelude.{◌≡◌, ℕ, ◌<◌, ◌≤◌, ◌-◌, ◌^◌, min, Bool, not, ◌&&◌, nat_lt, List, [], ◌∷◌, ◌++◌, length}
+use Rattle.std.specs.Prelude.{Option, Some, None, option_map, Vec, Result, OnOk, IsUtf8, FitsSigned}
 use Rattle.std.specs.List.{AllByRecursion}
 use Rattle.std.specs.Int.{w64}
 use Rattle.std.specs.declared.alloc.Global.{Global}
 use Rattle.jt_image.specs.declared.error.ImageError.{ImageError}
-use Rattle.jt_image.specs.declared.error.ImageError.TheVariants.{BadMagic, BadVersion, Truncated, Trailing, BadText, BadOpcode, BadTable, LimitPassed, NoMemory}
+use Rattle.jt_image.specs.declared.error.ImageError.TheVariants.{BadMagic, BadVersion, Truncated, Trailing, BadText}
+use Rattle.jt_image.specs.declared.error.ImageError.TheVariants.{BadOpcode, BadTable, LimitPassed, NoMemory}
 use Rattle.jt_image.specs.declared.parts.Unit as given
 use Rattle.jt_image.specs.declared.parts.Parts.{Parts}
 use Rattle.jt_image.specs.Code.{Constant, undefined, nothing, truth_value, number, text, markup, Name, Section, Code}
-use Rattle.jt_image.specs.View.{names_view, constants_view, units_view, texts_view, spots_view, IsKnownUnit}
+use Rattle.jt_image.specs.View.{names_view, constants_view, units_view, texts_view, locs_view, IsKnownUnit}
 use Rattle.jt_image.specs.Spelling.{place_bytes, spelling}
-use Rattle.jt_image.specs.IsCode.{Ascend, AreDistinct, AscendTexts, IsSpot, IsPlaced, IsInstruction, HasEntry, total_len, max_count, max_locals, max_instructions, max_bytes}
+use Rattle.jt_image.specs.IsCode.{Ascend, AreDistinct, AscendTexts, IsSourceLoc, IsPlaced, IsInstruction, HasEntry}
+use Rattle.jt_image.specs.IsCode.{total_len, max_count, max_locals, max_instructions, max_bytes}
 use Rattle.jt_image.specs.Reading.{instruction_of, is_used, follows, last_name}
 
 abbrev pub in_front : {A : Type 0} → Option A → Option (List A) → Option (List A)
@@ -18,19 +21,19 @@ in_front None ys = None
 in_front (Some y) None = None
 in_front (Some y) (Some ys) = Some (y ∷ ys)
 
--- what each of them gives, if each gives something
+-- The results of `f` on all elements, if each of them exists.
 abbrev pub each_of : {A B : Type 0} → (A → Option B) → List A → Option (List B)
 each_of f [] = Some []
 each_of f (x ∷ xs) = in_front (f x) (each_of f xs)
 
--- the unit, if each of its instructions is one
+-- The unit, if the fields of each of its instructions are those of an instruction.
 abbrev pub section_of_unit : given.Unit → Option Section
 section_of_unit u =
     option_map
     (λ code. record { parameters = u.parameters; kind = u.kind; locals = u.locals; code = code })
     (each_of instruction_of u.code.items)
 
--- these tables, with these units
+-- The code with the tables of these parts and these units.
 abbrev pub code_with : Parts → List Section → Code
 code_with p us =
     record {
@@ -40,89 +43,89 @@ code_with p us =
       constants = constants_view p.constants.items;
       units = us;
       templates = texts_view p.templates.items;
-      spots = spots_view p.spots.items;
+      places = locs_view p.places.items;
     }
 
--- the code that the parts are: none where an instruction is none
+-- The code of the parts, if all their instructions exist.
 abbrev pub code_of_parts : Parts → Option Code
 code_of_parts p = option_map (code_with p) (each_of section_of_unit p.units.items)
 
--- the names of globals: each slot is there, no name is empty, they strictly ascend, and no slot has
--- two
-pub record AreInOrder (globals : ℕ) (ns : List Name) : Type 0 where
-  pub slots : AllByRecursion (λ n. n.slot < globals) ns
-  pub some : AllByRecursion (λ n. 0 < length n.text) ns
-  pub ascend : Ascend ns
-  pub distinct : AreDistinct ns
+-- The names of globals: each slot exists, no name is empty, the names strictly ascend, and no slot
+-- has two names.
+pub record AreInOrder (globals : ℕ) (names : List Name) : Type 0 where
+  pub slots : AllByRecursion (λ n. n.slot < globals) names
+  pub some : AllByRecursion (λ n. 0 < length n.text) names
+  pub ascend : Ascend names
+  pub distinct : AreDistinct names
 
--- a unit emits (0) or gives a value (1), and its parameters are locals
+-- A unit emits (0) or returns a value (1), and its parameters are among its locals.
 abbrev pub IsUnitInOrder : Section → Type 0
-IsUnitInOrder u = (u.kind ≤ 1) × (u.parameters ≤ u.locals)
+IsUnitInOrder unit = (unit.kind ≤ 1) × (unit.parameters ≤ unit.locals)
 
--- the templates: none is empty, and they strictly ascend
-pub record AreTemplates (ts : List (List ℕ)) : Type 0 where
-  pub some : AllByRecursion (λ t. 0 < length t) ts
-  pub ascend : AscendTexts ts
+-- The templates: no name is empty, and the names strictly ascend.
+pub record AreTemplates (templates : List (List ℕ)) : Type 0 where
+  pub some : AllByRecursion (λ t. 0 < length t) templates
+  pub ascend : AscendTexts templates
 
--- The tables are in order, and there is a first unit that emits and has no parameters. Each
--- instruction has its spot in version 2; in version 1 there are no templates and spots.
-pub record HasTables (k : Code) : Type 0 where
-  pub names : AreInOrder k.globals k.names
-  pub units : AllByRecursion IsUnitInOrder k.units
-  pub entry : HasEntry k
-  pub templates : AreTemplates k.templates
-  pub spots : AllByRecursion (IsSpot (length k.templates)) k.spots
-  pub placed : IsPlaced k.version (total_len k.units) k.templates k.spots
+-- The tables are in order, and unit 0 exists, emits, and has no parameters. In version 2 each
+-- instruction has an encoded place; version 1 has no templates and no places.
+pub record HasTables (code : Code) : Type 0 where
+  pub names : AreInOrder code.globals code.names
+  pub units : AllByRecursion IsUnitInOrder code.units
+  pub entry : HasEntry code
+  pub templates : AreTemplates code.templates
+  pub places : AllByRecursion (IsSourceLoc (length code.templates)) code.places
+  pub placed : IsPlaced code.version (total_len code.units) code.templates code.places
 
--- tables and names are not too long for their fields, and the limits are kept; so a constant's text
--- fits its field too
-pub record KeepsLimits (k : Code) : Type 0 where
-  pub names : length k.names ≤ max_count
-  pub texts : AllByRecursion (λ n. length n.text ≤ max_count) k.names
-  pub constants : length k.constants ≤ max_count
-  pub units : length k.units ≤ max_count
-  pub locals : AllByRecursion (λ u. u.locals ≤ max_locals) k.units
-  pub instructions : total_len k.units ≤ max_instructions
-  pub templates : length k.templates ≤ max_count
-  pub template_texts : AllByRecursion (λ t. length t ≤ max_count) k.templates
-  pub bytes : length (spelling k) ≤ max_bytes
+-- Tables and names fit their fields, and the limits are kept. It follows that a constant's text
+-- fits its field.
+pub record KeepsLimits (code : Code) : Type 0 where
+  pub names : length code.names ≤ max_count
+  pub texts : AllByRecursion (λ n. length n.text ≤ max_count) code.names
+  pub constants : length code.constants ≤ max_count
+  pub units : length code.units ≤ max_count
+  pub locals : AllByRecursion (λ u. u.locals ≤ max_locals) code.units
+  pub instructions : total_len code.units ≤ max_instructions
+  pub templates : length code.templates ≤ max_count
+  pub template_texts : AllByRecursion (λ t. length t ≤ max_count) code.templates
+  pub bytes : length (spelling code) ≤ max_bytes
 
 abbrev pub BreaksTable : Option Code → Type 0
 BreaksTable None = ⊥
-BreaksTable (Some k) = ¬ (HasTables k)
+BreaksTable (Some code) = ¬ (HasTables code)
 
 abbrev pub PassesLimit : Option Code → Type 0
 PassesLimit None = ⊥
-PassesLimit (Some k) = ¬ (KeepsLimits k)
+PassesLimit (Some code) = ¬ (KeepsLimits code)
 
--- what a refusal says of the code that the parts are
+-- The claim of a refusal about the code of the parts.
 abbrev pub IsRefusal : ImageError → Option Code → Type 0
-IsRefusal BadOpcode k = k ≡ None
-IsRefusal BadTable k = BreaksTable k
-IsRefusal LimitPassed k = PassesLimit k
-IsRefusal NoMemory k = Unit {0}
-IsRefusal BadMagic k = ⊥
-IsRefusal BadVersion k = ⊥
-IsRefusal Truncated k = ⊥
-IsRefusal Trailing k = ⊥
-IsRefusal BadText k = ⊥
+IsRefusal BadOpcode code = code ≡ None
+IsRefusal BadTable code = BreaksTable code
+IsRefusal LimitPassed code = PassesLimit code
+IsRefusal NoMemory code = Unit {0}
+IsRefusal BadMagic code = ⊥
+IsRefusal BadVersion code = ⊥
+IsRefusal Truncated code = ⊥
+IsRefusal Trailing code = ⊥
+IsRefusal BadText code = ⊥
 
--- ---- what the checks say of the parts of a code
+-- ---- the claims of the checks about the parts of a code
 
--- the code that the parts are seen as, whatever their instructions are
+-- The code as which the parts are viewed, whatever their instructions are.
 abbrev pub code_seen : Parts → Code
-code_seen p = code_with p (units_view p.units.items)
+code_seen parts = code_with parts (units_view parts.units.items)
 
--- each of the instructions is one
+-- The fields of each instruction are those of an instruction.
 abbrev pub AreKnown : List given.Unit → Type 0
-AreKnown us = AllByRecursion IsKnownUnit us
+AreKnown units = AllByRecursion IsKnownUnit units
 
--- the numbers of a unit and of its instructions fit their fields
-pub record IsWritable (u : Section) : Type 0 where
-  pub parameters : u.parameters < 2 ^ 8
-  pub code : AllByRecursion IsInstruction u.code
+-- The numbers of a unit and of its instructions fit their fields.
+pub record IsWritable (unit : Section) : Type 0 where
+  pub parameters : unit.parameters < 2 ^ 8
+  pub code : AllByRecursion IsInstruction unit.code
 
--- a number of 64 bits, a text in UTF-8
+-- A number has 64 bits, and a text is UTF-8.
 abbrev pub IsHeld : Constant → Type 0
 IsHeld undefined = Unit {0}
 IsHeld nothing = Unit {0}
@@ -131,62 +134,63 @@ IsHeld (number z) = FitsSigned w64 z
 IsHeld (text t) = IsUtf8 t
 IsHeld (markup t) = IsUtf8 t
 
--- a first unit that emits and has no parameters
+-- Unit 0 exists, emits, and has no parameters.
 abbrev pub Starts : List Section → Type 0
 Starts [] = ⊥
-Starts (u ∷ us) = (u.kind ≡ 0) × (u.parameters ≡ 0)
+Starts (unit ∷ units) = (unit.kind ≡ 0) × (unit.parameters ≡ 0)
 
--- how many these bytes are, as far as a number of 64 bits can tell
-abbrev pub told_len : List ℕ → ℕ
-told_len bytes = min (length bytes) (2 ^ 64 - 1)
+-- The number of bytes, or the greatest number of 64 bits if it is greater.
+abbrev pub saturated_len : List ℕ → ℕ
+saturated_len bytes = min (length bytes) (2 ^ 64 - 1)
 
--- what stands behind the instructions of a code
-abbrev pub back_bytes : Code → List ℕ
-back_bytes k = place_bytes k.version k.templates k.spots
+-- The trailer of a code: the bytes after its instructions.
+abbrev pub trailer_bytes : Code → List ℕ
+trailer_bytes code = place_bytes code.version code.templates code.places
 
--- a code of so many instructions has the places that its version may have
+-- A code with this number of instructions has the places that its version requires.
 abbrev pub HasPlaces : ℕ → Code → Type 0
-HasPlaces instructions k = IsPlaced k.version instructions k.templates k.spots
+HasPlaces instructions code = IsPlaced code.version instructions code.templates code.places
 
--- its templates and its spots are in order, and it has the places that its version may have
-abbrev pub HasBack : ℕ → Code → Type 0
-HasBack instructions k =
-    AreTemplates k.templates
-    × AllByRecursion (IsSpot (length k.templates)) k.spots
-    × HasPlaces instructions k
+-- The templates and the places of the code are in order, and it has the places that its version
+-- requires.
+abbrev pub HasTrailer : ℕ → Code → Type 0
+HasTrailer instructions code =
+    AreTemplates code.templates
+    × AllByRecursion (IsSourceLoc (length code.templates)) code.places
+    × HasPlaces instructions code
 
--- no name, template and number of locals is too large for its field
+-- All names, templates and numbers of locals fit their fields.
 abbrev pub FitNames : List Name → Type 0
-FitNames ns = AllByRecursion (λ n. length n.text ≤ max_count) ns
+FitNames names = AllByRecursion (λ n. length n.text ≤ max_count) names
 
 abbrev pub FitTexts : List (List ℕ) → Type 0
-FitTexts ts = AllByRecursion (λ t. length t ≤ max_count) ts
+FitTexts texts = AllByRecursion (λ t. length t ≤ max_count) texts
 
 abbrev pub FitLocals : List Section → Type 0
-FitLocals us = AllByRecursion (λ u. u.locals ≤ max_locals) us
+FitLocals units = AllByRecursion (λ u. u.locals ≤ max_locals) units
 
 abbrev pub FitFields : Code → Type 0
-FitFields k = FitNames k.names × FitTexts k.templates × FitLocals k.units
+FitFields code = FitNames code.names × FitTexts code.templates × FitLocals code.units
 
--- a text in UTF-8 that fits its field
-pub record IsShort (n : Name) : Type 0 where
-  pub fits : length n.text < 2 ^ 16
-  pub utf8 : IsUtf8 n.text
+-- A name in UTF-8 that fits its field.
+pub record IsShort (name : Name) : Type 0 where
+  pub fits : length name.text < 2 ^ 16
+  pub utf8 : IsUtf8 name.text
 
--- a template's text in UTF-8 that fits its field
-pub record IsShortText (t : List ℕ) : Type 0 where
-  pub fits : length t < 2 ^ 16
-  pub utf8 : IsUtf8 t
+-- A template name in UTF-8 that fits its field.
+pub record IsShortText (name : List ℕ) : Type 0 where
+  pub fits : length name < 2 ^ 16
+  pub utf8 : IsUtf8 name
 
--- whether a name may stand behind these: its slot is there and has no name yet, and its text is in
--- order
+-- Whether a name may follow those before it: its slot exists and has no name yet, and its text is
+-- in order.
 abbrev pub is_next : ℕ → List Name → Name → Bool
-is_next globals before n =
-    nat_lt n.slot globals
-    && (not (is_used n.slot before) && follows (last_name before) n.text)
+is_next globals before name =
+    nat_lt name.slot globals
+    && (not (is_used name.slot before) && follows (last_name before) name.text)
 
--- ---- what is put behind bytes
+-- ---- appended bytes
 
--- where it goes well, these bytes come behind those before
+-- On success, these bytes are appended to the old ones.
 abbrev pub Adds : {E : Type 0} → Vec ℕ Global → Vec ℕ Global → Result (Unit {0}) E → List ℕ → Type 0
 Adds old new result bytes = OnOk result (new.items ≡ old.items ++ bytes)

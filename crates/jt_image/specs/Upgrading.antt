@@ -1,42 +1,44 @@
--- What an image becomes in version 2.
+-- The upgrade of a code to version 2.
 use Rattle.std.specs.Prelude.{◌<◌, [], length, replicate}
 use Rattle.jt_image.specs.declared.error.ImageError.{ImageError}
-use Rattle.jt_image.specs.declared.error.ImageError.TheVariants.{BadMagic, BadVersion, Truncated, Trailing, BadText, BadOpcode, BadTable, LimitPassed, NoMemory}
+use Rattle.jt_image.specs.declared.error.ImageError.TheVariants.{BadMagic, BadVersion, Truncated, Trailing, BadText}
+use Rattle.jt_image.specs.declared.error.ImageError.TheVariants.{BadOpcode, BadTable, LimitPassed, NoMemory}
 use Rattle.jt_image.specs.declared.version.Version.{Version}
 use Rattle.jt_image.specs.declared.version.Version.TheVariants as version
 use Rattle.jt_image.specs.Code.{Code}
 use Rattle.jt_image.specs.IsCode.{total_len, max_bytes}
 use Rattle.jt_image.specs.Spelling.{spelling}
 
--- the same code without places
+-- The code in version 2, with no places.
 abbrev pub unplaced : Code → Code
-unplaced k =
+unplaced code =
     record {
       version = version.Two;
-      globals = k.globals;
-      names = k.names;
-      constants = k.constants;
-      units = k.units;
+      globals = code.globals;
+      names = code.names;
+      constants = code.constants;
+      units = code.units;
       templates = [];
-      spots = replicate (total_len k.units) (record { template = 0; line = 0 });
+      places = replicate (total_len code.units) (record { template = 0; line = 0 });
     }
 
 abbrev pub upgraded_from : Version → Code → Code
-upgraded_from version.One k = unplaced k
-upgraded_from version.Two k = k
+upgraded_from version.One code = unplaced code
+upgraded_from version.Two code = code
 
--- a code of version 1 becomes one of version 2 that has no places
+-- The upgrade of a code. A code of version 1 becomes one of version 2 without places, and a code of
+-- version 2 stays as it is.
 abbrev pub upgraded : Code → Code
-upgraded k = upgraded_from k.version k
+upgraded code = upgraded_from code.version code
 
--- what a refusal says: the image would be too long, or memory ran out
+-- The claim of a refusal: the upgraded image would be too long, or memory ran out.
 abbrev pub IsNotUpgraded : ImageError → Code → Type 0
-IsNotUpgraded LimitPassed k = max_bytes < length (spelling (upgraded k))
-IsNotUpgraded NoMemory k = Unit {0}
-IsNotUpgraded BadMagic k = ⊥
-IsNotUpgraded BadVersion k = ⊥
-IsNotUpgraded Truncated k = ⊥
-IsNotUpgraded Trailing k = ⊥
-IsNotUpgraded BadText k = ⊥
-IsNotUpgraded BadOpcode k = ⊥
-IsNotUpgraded BadTable k = ⊥
+IsNotUpgraded LimitPassed code = max_bytes < length (spelling (upgraded code))
+IsNotUpgraded NoMemory code = Unit {0}
+IsNotUpgraded BadMagic code = ⊥
+IsNotUpgraded BadVersion code = ⊥
+IsNotUpgraded Truncated code = ⊥
+IsNotUpgraded Trailing code = ⊥
+IsNotUpgraded BadText code = ⊥
+IsNotUpgraded BadOpcode code = ⊥
+IsNotUpgraded BadTable code = ⊥

@@ -1,4 +1,4 @@
--- What contracts see of the parts from which an image is assembled.
+-- The views of the parts from which an image is assembled.
 use Rattle.std.specs.Prelude.{ℕ, List, map, String, string_bytes, unwrap_or}
 use Rattle.std.specs.List.{AllByRecursion}
 use Rattle.std.specs.Option.{IsSome}
@@ -9,11 +9,11 @@ use Rattle.jt_image.specs.declared.instruction.Instruction.{Instruction}
 use Rattle.jt_image.specs.declared.instruction.Instruction.TheVariants as op
 use Rattle.jt_image.specs.declared.image.Constant.{Constant}
 use Rattle.jt_image.specs.declared.image.Constant.TheVariants as constant
-use Rattle.jt_image.specs.declared.parts.Spot as spot
+use Rattle.jt_image.specs.declared.parts.SourceLoc as loc
 use Rattle.jt_image.specs.declared.parts.Unit as given
 use Rattle.jt_image.specs.declared.wire.Instr.{Instr}
 
--- a slot and its name
+-- A slot and its name.
 abbrev pub name_view : ℕ × String Global → code.Name
 name_view n = record { slot = n.0; text = string_bytes n.1 }
 
@@ -31,7 +31,7 @@ constant_view (constant.Markup s) = code.markup (string_bytes s)
 abbrev pub constants_view : List Constant → List code.Constant
 constants_view cs = map constant_view cs
 
--- the instruction with these fields; one that is none is seen as some instruction
+-- The instruction with these fields; unknown fields are viewed as some instruction.
 abbrev pub instruction_view : Instr → Instruction
 instruction_view w = unwrap_or (instruction_of w) op.Return
 
@@ -47,16 +47,15 @@ unit_view u =
 abbrev pub units_view : List given.Unit → List code.Section
 units_view us = map unit_view us
 
--- each instruction of the unit is one
+-- The fields of each instruction of the unit are those of an instruction.
 abbrev pub IsKnownUnit : given.Unit → Type 0
 IsKnownUnit u = AllByRecursion (λ w. IsSome (instruction_of w)) u.code.items
 
--- the texts
 abbrev pub texts_view : List (String Global) → List (List ℕ)
 texts_view ts = map string_bytes ts
 
-abbrev pub spot_view : spot.Spot → code.Spot
-spot_view s = record { template = s.template; line = s.line }
+abbrev pub loc_view : loc.SourceLoc → code.SourceLoc
+loc_view s = record { template = s.template; line = s.line }
 
-abbrev pub spots_view : List spot.Spot → List code.Spot
-spots_view ss = map spot_view ss
+abbrev pub locs_view : List loc.SourceLoc → List code.SourceLoc
+locs_view ss = map loc_view ss

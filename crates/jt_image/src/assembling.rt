@@ -1,32 +1,43 @@
-//! Parts to images.
-ghost use Rattle.std.specs.Prelude.{◌≡◌, ◌+◌, ◌-◌, ◌*◌, ◌<◌, ◌≤◌, ◌^◌, ◌↔◌, ◌&&◌, min, not, nat_lt, List, length, option_map, string_bytes, IsTrue, IsUtf8, IfOk, IfErr, MatchResult, Some, None, Ok, Err, false};
+//! Assembles parts into images.
+ghost use Rattle.std.specs.Prelude.{◌≡◌, ◌+◌, ◌-◌, ◌*◌, ◌<◌, ◌≤◌, ◌^◌, ◌↔◌, ◌&&◌, min, not, nat_lt};
+ghost use Rattle.std.specs.Prelude.{List, length, option_map, string_bytes, IsTrue, IsUtf8, IfOk};
+ghost use Rattle.std.specs.Prelude.{IfErr, MatchResult, Some, None, Ok, Err, false};
 ghost use Rattle.std.specs.List.{flat_map, AllByRecursion};
 ghost use Rattle.jt_image.specs.Code.{Code};
-ghost use Rattle.jt_image.specs.View.{name_view, names_view, constant_view, constants_view, unit_view, units_view, texts_view, spot_view, spots_view, IsKnownUnit};
-ghost use Rattle.jt_image.specs.IsCode.{total_len, max_count, max_locals, max_instructions, max_bytes, IsSpot, IsPlaced, IsCode};
+ghost use Rattle.jt_image.specs.View.{name_view, names_view, constant_view, constants_view};
+ghost use Rattle.jt_image.specs.View.{unit_view, units_view, texts_view, loc_view, locs_view};
+ghost use Rattle.jt_image.specs.View.{IsKnownUnit};
+ghost use Rattle.jt_image.specs.IsCode.{total_len, max_count, max_locals, max_instructions};
+ghost use Rattle.jt_image.specs.IsCode.{max_bytes, IsSourceLoc, IsPlaced, IsCode};
 ghost use Rattle.jt_image.specs.Spelling.{name_bytes, constant_bytes, template_bytes, place_bytes};
-ghost use Rattle.jt_image.specs.Reading.{instruction_of, is_used, follows, last_text, last_name, IsTable};
-ghost use Rattle.jt_image.specs.Parts.{each_of, is_next, section_of_unit, code_of_parts, code_seen, AreKnown, AreInOrder, IsUnitInOrder, AreTemplates, KeepsLimits, IsRefusal, IsWritable, IsHeld, Starts, told_len, back_bytes, HasPlaces, HasBack, FitNames, FitTexts, FitLocals, FitFields, IsShort, IsShortText};
+ghost use Rattle.jt_image.specs.Reading.{instruction_of, is_used, follows, last_text, last_name};
+ghost use Rattle.jt_image.specs.Reading.{IsTable};
+ghost use Rattle.jt_image.specs.Parts.{each_of, is_next, section_of_unit, code_of_parts, code_seen};
+ghost use Rattle.jt_image.specs.Parts.{AreKnown, AreInOrder, IsUnitInOrder, AreTemplates};
+ghost use Rattle.jt_image.specs.Parts.{KeepsLimits, IsRefusal, IsWritable, IsHeld, Starts};
+ghost use Rattle.jt_image.specs.Parts.{saturated_len, trailer_bytes, HasPlaces, HasTrailer};
+ghost use Rattle.jt_image.specs.Parts.{FitNames, FitTexts, FitLocals, FitFields, IsShort};
+ghost use Rattle.jt_image.specs.Parts.{IsShortText};
 ghost use Rattle.jt_image.specs.declared.error.ImageError.TheVariants.{LimitPassed, NoMemory};
 
-use crate::back::is_line;
 use crate::error::ImageError;
 use crate::fields::follows;
 use crate::image::{Constant, Image};
 use crate::limits::{MAX_BYTES, MAX_COUNT, MAX_INSTRUCTIONS, MAX_LOCALS};
-use crate::parts::{Parts, Spot, Unit};
+use crate::parts::{Parts, SourceLoc, Unit};
 use crate::reading::read;
 use crate::spelling::spelled;
+use crate::trailer::is_line;
 use crate::version::Version;
 use std::alloc::{AllocError, Global};
 
-// magic, version, globals and three counts
+// The number of bytes of the magic number, the version, the number of globals, and three counts.
 const FIXED_BYTES: usize = 14;
 
-// a spot's template and line
-const SPOT_BYTES: usize = 6;
+// The number of bytes of an encoded place.
+const LOC_BYTES: usize = 6;
 
-// whether each instruction of the unit is one
+// Returns whether the fields of each instruction of the unit are those of an instruction.
 fn is_known(unit: &Unit) -> bool
     ensures known { IsTrue result ↔ IsKnownUnit unit.now }
     ensures fits { IsTrue result → IsWritable (unit_view unit.now) }
@@ -39,7 +50,8 @@ fn is_known(unit: &Unit) -> bool
     true
 }
 
-// whether each instruction is one, so that the units are those of a code
+// Returns whether the fields of each instruction of each unit are those of an instruction. The
+// units are then the units of a code.
 fn are_known(units: &[Unit]) -> bool
     ensures known { IsTrue result → AreKnown units.now }
     ensures fits { IsTrue result → AllByRecursion IsWritable (units_view units.now) }
@@ -49,7 +61,7 @@ fn are_known(units: &[Unit]) -> bool
     units.iter().all(|unit| is_known(unit))
 }
 
-// how many instructions all units have, unless they are too many
+// Returns the number of instructions in all units, or `LimitPassed` if it exceeds the limit.
 fn instruction_count(units: &[Unit]) -> Result<u32, ImageError>
     ensures { MatchResult result
         (λ n. (n ≡ total_len (units_view units.now)) × (n ≤ max_instructions))
@@ -66,9 +78,9 @@ fn instruction_count(units: &[Unit]) -> Result<u32, ImageError>
     Ok(total)
 }
 
-// how many bytes the names take; no more than fit a number is all that is said beyond that
+// Returns the number of bytes of the encoded names, or the greatest `usize` if it is greater.
 fn names_len(names: &[(u16, String)]) -> usize
-    ensures len { result ≡ told_len (flat_map name_bytes (names_view names.now)) }
+    ensures len { result ≡ saturated_len (flat_map name_bytes (names_view names.now)) }
     ensures utf8 { AllByRecursion (λ n. IsUtf8 n.text) (names_view names.now) }
 {
     let mut len: usize = 0;
@@ -80,7 +92,7 @@ fn names_len(names: &[(u16, String)]) -> usize
 }
 
 fn constant_len(constant: &Constant) -> usize
-    ensures len { result ≡ told_len (constant_bytes (constant_view constant.now)) }
+    ensures len { result ≡ saturated_len (constant_bytes (constant_view constant.now)) }
     ensures held { IsHeld (constant_view constant.now) }
 {
     match constant {
@@ -91,7 +103,7 @@ fn constant_len(constant: &Constant) -> usize
 }
 
 fn constants_len(constants: &[Constant]) -> usize
-    ensures len { result ≡ told_len (flat_map constant_bytes (constants_view constants.now)) }
+    ensures len { result ≡ saturated_len (flat_map constant_bytes (constants_view constants.now)) }
     ensures held { AllByRecursion IsHeld (constants_view constants.now) }
 {
     let mut len: usize = 0;
@@ -101,9 +113,9 @@ fn constants_len(constants: &[Constant]) -> usize
     len
 }
 
-// how many bytes the templates take, as for the names
+// Returns the number of bytes of the encoded templates, or the greatest `usize` if it is greater.
 fn templates_len(templates: &[String]) -> usize
-    ensures len { result ≡ told_len (flat_map template_bytes (texts_view templates.now)) }
+    ensures len { result ≡ saturated_len (flat_map template_bytes (texts_view templates.now)) }
     ensures utf8 { AllByRecursion IsUtf8 (texts_view templates.now) }
 {
     let mut len: usize = 0;
@@ -114,16 +126,16 @@ fn templates_len(templates: &[String]) -> usize
     len
 }
 
-// how many bytes stand behind the instructions
+// Returns the number of bytes of the trailer, or the greatest `usize` if it is greater.
 fn places_len(parts: &Parts) -> usize
-    ensures len { result ≡ told_len (back_bytes (code_seen parts.now)) }
+    ensures len { result ≡ saturated_len (trailer_bytes (code_seen parts.now)) }
     ensures utf8 { AllByRecursion IsUtf8 (texts_view parts.now.templates.items) }
 {
     let templates = templates_len(&parts.templates);
     match parts.version {
         Version::One => 0,
         Version::Two => templates
-            .saturating_add(parts.spots.len().saturating_mul(SPOT_BYTES))
+            .saturating_add(parts.places.len().saturating_mul(LOC_BYTES))
             .saturating_add(2),
     }
 }
@@ -146,8 +158,8 @@ fn locals_fit(units: &[Unit]) -> bool
     units.iter().all(|unit| unit.locals <= MAX_LOCALS)
 }
 
-// whether the image is small enough: the numbers of a unit take eight bytes, and so does an
-// instruction
+// Returns whether the image is small enough. A unit's header and an instruction take eight bytes
+// each.
 fn is_small(tables: usize, units: usize, instructions: u32) -> bool
     requires units { units ≤ max_count }
     requires instructions { instructions ≤ max_instructions }
@@ -222,34 +234,34 @@ fn templates_are_in_order(templates: &[String]) -> bool
     true
 }
 
-fn is_spot(templates: usize, spot: Spot) -> bool
-    ensures { IsTrue result ↔ IsSpot templates (spot_view spot) }
+fn is_loc(templates: usize, loc: SourceLoc) -> bool
+    ensures { IsTrue result ↔ IsSourceLoc templates (loc_view loc) }
 {
-    usize::from(spot.template) <= templates && is_line(spot.template, spot.line)
+    usize::from(loc.template) <= templates && is_line(loc.template, loc.line)
 }
 
-fn spots_are_in_order(templates: usize, spots: &[Spot]) -> bool
-    ensures { IsTrue result ↔ AllByRecursion (IsSpot templates) (spots_view spots.now) }
+fn locs_are_in_order(templates: usize, locs: &[SourceLoc]) -> bool
+    ensures { IsTrue result ↔ AllByRecursion (IsSourceLoc templates) (locs_view locs.now) }
 {
-    spots.iter().all(|spot| is_spot(templates, *spot))
+    locs.iter().all(|loc| is_loc(templates, *loc))
 }
 
-// whether the version may have these places
+// Returns whether the version permits the templates and the number of places.
 fn are_placed(parts: &Parts, instructions: u32) -> bool
     ensures { IsTrue result ↔ HasPlaces instructions (code_seen parts.now) }
 {
     match parts.version {
-        Version::One => parts.templates.is_empty() && parts.spots.is_empty(),
-        Version::Two => parts.spots.len() == instructions as usize,
+        Version::One => parts.templates.is_empty() && parts.places.is_empty(),
+        Version::Two => parts.places.len() == instructions as usize,
     }
 }
 
 fn places_are_in_order(parts: &Parts, instructions: u32) -> bool
     requires { AllByRecursion IsShortText (texts_view parts.now.templates.items) }
-    ensures { IsTrue result ↔ HasBack instructions (code_seen parts.now) }
+    ensures { IsTrue result ↔ HasTrailer instructions (code_seen parts.now) }
 {
     templates_are_in_order(&parts.templates)
-        && spots_are_in_order(parts.templates.len(), &parts.spots)
+        && locs_are_in_order(parts.templates.len(), &parts.places)
         && are_placed(parts, instructions)
 }
 
@@ -262,8 +274,8 @@ fn last_name(names: &[(u16, String)]) -> Option<&str>
     }
 }
 
-// whether a name may stand behind these: its slot is there and has no name yet, and its text is in
-// order
+// Returns whether a name may follow those before it: its slot exists and has no name yet, and its
+// text is in order.
 fn is_next(globals: u16, used: &[bool], before: &[(u16, String)], name: &(u16, String)) -> bool
     requires { IsTable used.now globals (names_view before.now) }
     ensures { result ≡ is_next globals (names_view before.now) (name_view name.now) }
@@ -290,7 +302,7 @@ fn names_are_in_order(
     Ok(true)
 }
 
-// tests that the parts are a code with a spelling
+// Checks that the parts are a code with a spelling.
 fn check(alloc: Global, parts: &Parts) -> Result<(), ImageError>
     ensures known { IfOk result (λ _. AreKnown parts.now.units.items) }
     ensures seen { IfOk result (λ _. code_of_parts parts.now ≡ Some (code_seen parts.now)) }
@@ -314,31 +326,38 @@ fn check(alloc: Global, parts: &Parts) -> Result<(), ImageError>
     Ok(())
 }
 
-// the image of parts that have a spelling
+// Returns the image of the parts.
 fn image_of(alloc: Global, parts: &Parts) -> Result<Image, ImageError>
     ensures is { IfOk result (λ i. IsCode i × (code_of_parts parts.now ≡ Some i)) }
     ensures refused { IfErr result (λ e. IsRefusal e (code_of_parts parts.now)) }
 {
     check(alloc, parts)?;
     let bytes = spelled(alloc, parts)?;
-    let places = read(alloc, &bytes)?;
-    Ok(Image { bytes, places })
+    let offsets = read(alloc, &bytes)?;
+    Ok(Image { bytes, offsets })
 }
 
-/// The image with these parts. Else they are handed back with what is wrong with them: an
-/// instruction that is none (`BadOpcode`), a table that is not in order (`BadTable`), a table, a
-/// text or an image that is too long (`LimitPassed`), or a growth that was refused (`NoMemory`).
+/// Assembles an image from its parts.
+///
+/// # Errors
+///
+/// The parts are returned with the reason:
+///
+/// * `BadOpcode` if an opcode is unknown, or an unused field is not 0.
+/// * `BadTable` if a table is not in order.
+/// * `LimitPassed` if a table, a text or the image is too long.
+/// * `NoMemory` if a growth is refused.
 pub fn assemble(alloc: Global, parts: Parts) -> Result<Image, (Parts, ImageError)>
-    // the image is the code that the parts are
+    // The image is the code that the parts are.
     ensures ok { IfOk result (λ i. IsCode i × (code_of_parts parts ≡ Some i)) }
-    // a code with a spelling is refused for memory alone
-    ensures only { (k : Code)
-        → code_of_parts parts ≡ Some k
-        → IsCode k
-        → MatchResult result (λ i. i ≡ k) (λ e. e.1 ≡ NoMemory) }
-    // the parts come back as they were
+    // A code with a spelling is refused only for lack of memory.
+    ensures only { (code : Code)
+        → code_of_parts parts ≡ Some code
+        → IsCode code
+        → MatchResult result (λ i. i ≡ code) (λ e. e.1 ≡ NoMemory) }
+    // The parts are returned unchanged.
     ensures back { IfErr result (λ e. e.0 ≡ parts) }
-    // what is named holds
+    // The reason holds of the code of the parts.
     ensures named { IfErr result (λ e. IsRefusal e.1 (code_of_parts parts)) }
 {
     match image_of(alloc, &parts) {

@@ -1,4 +1,4 @@
-//! Bytes to images.
+//! Decodes bytes into images.
 ghost use Rattle.std.specs.Prelude.{◌≡◌, IfOk};
 ghost use Rattle.jt_image.specs.Spelling.{spelling};
 ghost use Rattle.jt_image.specs.IsCode.{IsCode};
@@ -9,16 +9,21 @@ use crate::image::Image;
 use crate::reading::read;
 use std::alloc::Global;
 
-/// The image that the bytes spell, or the first fault of them.
+/// Returns the image that the bytes spell, with a copy of the bytes.
+///
+/// # Errors
+///
+/// The first fault in the bytes, I1 to I8.
+/// `NoMemory` if a growth is refused.
 pub fn decode(alloc: Global, bytes: &[u8]) -> Result<Image, ImageError>
-    // the code, or the first fault
+    // The result is the code of the bytes or their first fault, unless memory runs out.
     ensures reads { Gives (λ i. i) result (code_of bytes.now) }
-    // what is read is a code, and the bytes are its spelling
+    // A result is a code, and the bytes are its spelling.
     ensures found { IfOk result (λ i. IsCode i × (bytes.now ≡ spelling i)) }
-    // the spelling of a code is read as that code, unless memory runs out
+    // The spelling of a code is read as that code, unless memory runs out.
     ensures only { ReadsSpelling (λ i. i) bytes.now result }
 {
-    let places = read(alloc, bytes)?;
+    let offsets = read(alloc, bytes)?;
     let bytes = Vec::from_slice(alloc, bytes)?;
-    Ok(Image { bytes, places })
+    Ok(Image { bytes, offsets })
 }

@@ -1,4 +1,4 @@
-//! Images to bytes.
+//! Encodes images as bytes.
 ghost use Rattle.std.specs.Prelude.{◌≡◌, IfOk};
 ghost use Rattle.jt_image.specs.Spelling.{spelling};
 
@@ -6,7 +6,11 @@ use crate::image::Image;
 use jt_value::NoMemory;
 use std::alloc::Global;
 
-/// The one spelling of the image.
+/// Returns the spelling of the image: the only bytes that decode to it.
+///
+/// # Errors
+///
+/// `NoMemory` if a growth is refused.
 pub fn encode(alloc: Global, image: &Image) -> Result<Vec<u8>, NoMemory>
     ensures { IfOk result (λ v. v.items ≡ spelling image.now) }
 {

@@ -1,4 +1,4 @@
-//! Why bytes or parts are no image.
+//! Defines why bytes or parts are not an image.
 ghost use Rattle.std.specs.Prelude.{◌≡◌};
 ghost use Rattle.jt_image.specs.declared.error.ImageError.TheVariants.{NoMemory};
 
@@ -6,34 +6,34 @@ use jt_value::NoMemory;
 use std::alloc::{AllocError, AllocFailed};
 use thiserror::Error;
 
-/// What is wrong with an image. Reading answers the first fault that it meets.
+/// Why bytes or parts are not an image. A reader reports the first fault in the bytes.
 #[derive(Clone, Copy, Debug, PartialEq, Eq, Error)]
 pub enum ImageError {
-    /// The bytes do not begin with `JTBC`.
+    /// Bytes that do not begin with `JTBC`.
     #[error("I1 BadMagic")]
     BadMagic,
-    /// The version is not known.
+    /// An unknown version.
     #[error("I2 BadVersion")]
     BadVersion,
-    /// The bytes end early.
+    /// Bytes that end early.
     #[error("I3 Truncated")]
     Truncated,
-    /// Bytes follow the last instruction.
+    /// Bytes after the end of the image.
     #[error("I4 Trailing")]
     Trailing,
-    /// A text is not UTF-8.
+    /// A text that is not UTF-8.
     #[error("I5 BadText")]
     BadText,
-    /// An opcode that there is not, or an unused field that is not 0.
+    /// An unknown opcode, or an unused field that is not 0.
     #[error("I6 BadOpcode")]
     BadOpcode,
-    /// A table is not in order.
+    /// A table that is not in order.
     #[error("I7 BadTable")]
     BadTable,
-    /// There are more bytes, locals or instructions than an image may have.
+    /// More bytes, locals or instructions, or a longer table or name, than is allowed.
     #[error("I8 LimitPassed")]
     LimitPassed,
-    /// A growth was refused.
+    /// A refused growth.
     #[error("I9 NoMemory")]
     NoMemory,
 }

@@ -1,7 +1,8 @@
-//! Fields of an image: each reader answers a value and the bytes behind it.
+//! Reads the fields of an image. Each reader returns a value and the bytes after it.
 ghost use Rattle.std.specs.Prelude.{◌≡◌, ◌≤◌, List, length, take, drop, option_map, Ok, Err};
 ghost use Rattle.std.specs.Int.{w16, w32, w64, from_le_bytes};
-ghost use Rattle.jt_image.specs.Reading.{Gives, number_at, byte_at, text_at, follows, text_behind, long_text_at, magic_at, version_at, start_at};
+ghost use Rattle.jt_image.specs.Reading.{Gives, number_at, byte_at, text_at, follows, text_after};
+ghost use Rattle.jt_image.specs.Reading.{long_text_at, magic_at, version_at, start_at};
 
 use crate::error::ImageError;
 use crate::version::Version;
@@ -15,7 +16,7 @@ pub(crate) fn u8_at(bytes: &[u8]) -> Result<(u8, &[u8]), ImageError>
     }
 }
 
-/// The number in the first two bytes.
+/// Returns the number in the first two bytes.
 pub(crate) fn u16_in(bytes: &[u8]) -> u16
     requires { 2 ≤ length bytes.now }
     ensures { result ≡ from_le_bytes w16 (take 2 bytes.now) }
@@ -34,7 +35,7 @@ pub(crate) fn u16_at(bytes: &[u8]) -> Result<(u16, &[u8]), ImageError>
     Ok((u16_in(bytes), rest))
 }
 
-/// The number in the first four bytes.
+/// Returns the number in the first four bytes.
 pub(crate) fn u32_in(bytes: &[u8]) -> u32
     requires { 4 ≤ length bytes.now }
     ensures { result ≡ from_le_bytes w32 (take 4 bytes.now) }
@@ -53,7 +54,7 @@ pub(crate) fn u32_at(bytes: &[u8]) -> Result<(u32, &[u8]), ImageError>
     Ok((u32_in(bytes), rest))
 }
 
-/// The number in the first eight bytes.
+/// Returns the number in the first eight bytes.
 pub(crate) fn u64_in(bytes: &[u8]) -> u64
     requires { 8 ≤ length bytes.now }
     ensures { result ≡ from_le_bytes w64 (take 8 bytes.now) }
@@ -74,7 +75,7 @@ pub(crate) fn u64_at(bytes: &[u8]) -> Result<(u64, &[u8]), ImageError>
     Ok((u64_in(bytes), rest))
 }
 
-/// That many bytes, which are UTF-8.
+/// Reads the first `len` bytes as a text, which must be UTF-8.
 #[tactic(auto, unfolding(crate::specs::Reading::text_at))]
 pub(crate) fn text_at(len: usize, bytes: &[u8]) -> Result<(&str, &[u8]), ImageError>
     ensures { Gives (λ x. (x.0.now, x.1.now)) result (text_at len bytes.now) }
@@ -89,8 +90,8 @@ pub(crate) fn text_at(len: usize, bytes: &[u8]) -> Result<(&str, &[u8]), ImageEr
     }
 }
 
-/// Whether a text may stand behind the last one of its table: it is above that one, and the first
-/// is not empty.
+/// Returns whether `text` may follow `last`, the last text of its table: it is greater, or it is
+/// the first text and not empty.
 pub(crate) fn follows(last: Option<&str>, text: &str) -> bool
     ensures { result ≡ follows (option_map (λ t. t.now) last.entry) text.now }
 {
@@ -100,14 +101,14 @@ pub(crate) fn follows(last: Option<&str>, text: &str) -> bool
     }
 }
 
-/// A text behind its length, which may stand behind the last one of its table.
-#[tactic(auto, unfolding(crate::specs::Reading::text_behind))]
-pub(crate) fn text_behind<'a>(
+/// Reads a text after its length; the text must be allowed to follow `last` in its table.
+#[tactic(auto, unfolding(crate::specs::Reading::text_after))]
+pub(crate) fn text_after<'a>(
     last: Option<&str>,
     bytes: &'a [u8],
 ) -> Result<(&'a str, &'a [u8]), ImageError>
     ensures { Gives (λ x. (x.0.now, x.1.now)) result
-        (text_behind (option_map (λ t. t.now) last.entry) bytes.now) }
+        (text_after (option_map (λ t. t.now) last.entry) bytes.now) }
 {
     let (len, rest) = u16_at(bytes)?;
     let (text, rest) = text_at(len as usize, rest)?;
@@ -117,7 +118,7 @@ pub(crate) fn text_behind<'a>(
     Ok((text, rest))
 }
 
-/// A text behind its length.
+/// Reads a text after its length of four bytes.
 #[tactic(auto, unfolding(crate::specs::Reading::long_text_at))]
 pub(crate) fn long_text_at(bytes: &[u8]) -> Result<(&str, &[u8]), ImageError>
     ensures { Gives (λ x. (x.0.now, x.1.now)) result (long_text_at bytes.now) }
@@ -152,7 +153,7 @@ fn version_at(bytes: &[u8]) -> Result<(Version, &[u8]), ImageError>
     }
 }
 
-/// Magic and version.
+/// Reads the magic number and the version.
 #[tactic(auto, unfolding(crate::specs::Reading::start_at))]
 pub(crate) fn start_at(bytes: &[u8]) -> Result<(Version, &[u8]), ImageError>
     ensures { Gives (λ x. (x.0, x.1.now)) result (start_at bytes.now) }

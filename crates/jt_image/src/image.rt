@@ -1,7 +1,7 @@
-//! An image, which contracts see as its code.
+//! Defines images, which own the bytes that spell their code.
 
 use crate::code::Code;
-use crate::places::{Places, Reader};
+use crate::offsets::{Offsets, Reader};
 use std::marker::Model;
 
 /// A constant.
@@ -15,12 +15,12 @@ pub enum Constant {
     Markup(String),
 }
 
-/// An image: the bytes that spell its code. Texts and instructions are read from them as they are
-/// asked for.
+/// An image: the bytes that spell its code. Texts and instructions are read from them on demand.
+/// Contracts see its code.
 #[derive(Drop)]
 pub struct Image {
     pub(crate) bytes: Vec<u8>,
-    pub(crate) places: Places,
+    pub(crate) offsets: Offsets,
 }
 
 impl Model for Image {
@@ -33,7 +33,7 @@ impl Model for Image {
 
     ghost view = { image_code };
 
-    ghost invariant = { λ i. Spells i.bytes.items i.places };
+    ghost invariant = { λ i. Spells i.bytes.items i.offsets };
 }
 
 impl Code for Image {
@@ -43,7 +43,7 @@ impl Code for Image {
     fn reader(&self) -> Reader<'_> {
         Reader {
             bytes: &self.bytes,
-            places: &self.places,
+            offsets: &self.offsets,
         }
     }
 }

@@ -1,14 +1,14 @@
-//! A view: a code that is read in place, which contracts see as that code.
+//! Defines views, which borrow the bytes that spell their code.
 
 use crate::code::Code;
-use crate::places::{Places, Reader};
+use crate::offsets::{Offsets, Reader};
 use std::marker::Model;
 
-/// A code in place: it borrows the bytes that spell it.
+/// A view: a code in place, which borrows the bytes that spell it. Contracts see its code.
 #[derive(Drop)]
 pub struct View<'a> {
     pub(crate) bytes: &'a [u8],
-    pub(crate) places: Places,
+    pub(crate) offsets: Offsets,
 }
 
 impl<'a> Model for View<'a> {
@@ -21,7 +21,7 @@ impl<'a> Model for View<'a> {
 
     ghost view = { view_code };
 
-    ghost invariant = { λ v. Spells v.bytes.now v.places };
+    ghost invariant = { λ v. Spells v.bytes.now v.offsets };
 }
 
 impl<'a> Code for View<'a> {
@@ -31,7 +31,7 @@ impl<'a> Code for View<'a> {
     fn reader(&self) -> Reader<'_> {
         Reader {
             bytes: self.bytes,
-            places: &self.places,
+            offsets: &self.offsets,
         }
     }
 }

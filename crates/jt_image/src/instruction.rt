@@ -1,65 +1,66 @@
-//! The instructions of a unit.
+//! Defines the instructions of a unit.
 
-/// One instruction, with the fields that it uses.
+/// An instruction, with the fields that it uses.
 #[derive(Clone, Copy, Debug, PartialEq, Eq)]
 pub enum Instruction {
     /// Pushes a constant.
     Const { constant: u32 },
     /// Pushes a local.
     Load { local: u32 },
-    /// Takes a value into a local.
+    /// Pops a value into a local.
     Store { local: u32 },
     /// Pushes a global.
     GLoad { global: u32 },
-    /// Takes a value into a global.
+    /// Pops a value into a global.
     GStore { global: u32 },
-    /// Takes a value and forgets it.
+    /// Pops a value and discards it.
     Drop,
-    /// Pushes the top value once more.
+    /// Duplicates the top value.
     Dup,
-    /// Takes a value and puts its printed text into the buffer, escaped if the flag is 1 and the
-    /// value is no markup.
+    /// Pops a value and appends its printed text to the innermost buffer, escaped if `flag` is 1
+    /// and the value is not markup.
     Emit { flag: u8 },
-    /// Puts a text constant into the buffer.
+    /// Appends a text constant to the innermost buffer.
     Data { constant: u32 },
-    /// Goes to a point.
+    /// Jumps to `target`.
     Jump { target: u32 },
-    /// Takes a value and goes to a point if it is false.
+    /// Pops a value and jumps to `target` if it is false.
     JumpIfFalse { target: u32 },
-    /// Takes a value and goes to a point if it is true.
+    /// Pops a value and jumps to `target` if it is true.
     JumpIfTrue { target: u32 },
-    /// Takes an operator's operands and pushes what it gives.
+    /// Pops the operands of an operator and pushes its result.
     Op { operator: u8 },
-    /// Takes that many values, the input deepest, and pushes what a filter gives on them, while
-    /// escaping if the flag is 1.
+    /// Pops `values` values, the input of the filter deepest, and pushes the result. `flag` is 1 if
+    /// escaping is on.
     Filter { filter: u8, values: u16, flag: u32 },
-    /// Takes that many values, the tested one deepest, and pushes whether the test holds.
+    /// Pops `values` values, the tested one deepest, and pushes whether the test holds.
     Test { test: u8, values: u16 },
-    /// Takes that many values and pushes their list, the deepest first.
+    /// Pops `items` values and pushes the list of them; the deepest one comes first.
     MakeList { items: u32 },
-    /// Takes a key and a value for each entry and pushes their map, the deepest first.
+    /// Pops `entries` pairs, each a key below its value, and pushes the map of them; the deepest
+    /// pair comes first.
     MakeMap { entries: u32 },
-    /// Takes a value and begins a loop over its items.
+    /// Pops a value and starts a loop over its items.
     LoopStart,
-    /// Takes the next item of the loop on top, or goes to a point where there is none left.
+    /// Takes the next item of the loop on top, or jumps to `target` if no item is left.
     LoopNext { target: u32 },
-    /// Pushes a field of the loop that has so many entries above it.
+    /// Pushes a field of the loop that lies below `above` entries.
     LoopGet { field: u8, above: u32 },
-    /// Takes a value, and if it is true keeps the current item of the loop that then has so many
-    /// entries above it.
+    /// Pops a value and, if it is true, keeps the current item of the loop that then lies below
+    /// `above` entries.
     LoopKeep { above: u32 },
-    /// Lets the loop on top begin again over the items that it kept.
+    /// Restarts the loop on top over the items that it kept.
     LoopRewind,
-    /// Ends the loop on top and pushes whether no item was taken.
+    /// Ends the loop on top and pushes whether it took no item.
     LoopEnd,
-    /// Opens a buffer.
+    /// Opens a buffer and pushes a capture.
     CaptureBegin,
-    /// Closes the buffer that was opened last and pushes its text, as markup if the flag is 1.
+    /// Pops a capture, closes the innermost buffer and pushes its text, as markup if `flag` is 1.
     CaptureEnd { flag: u8 },
-    /// Takes a value and pushes its items, the last one on top, if there are that many.
+    /// Pops a value and pushes its items, the last one on top. Faults unless it has `values` items.
     Unpack { values: u32 },
-    /// Takes a unit's arguments and runs it.
+    /// Pops the arguments of a unit and calls it.
     Call { unit: u32 },
-    /// Ends the unit.
+    /// Returns from the unit.
     Return,
 }

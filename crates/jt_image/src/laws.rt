@@ -1,7 +1,7 @@
-//! What callers' proofs rest on.
+//! States the facts about codes that proofs of callers use.
 ghost use Rattle.jt_image.specs.Laws.{CodeLaws};
 
-/// The laws of codes and their runs. It does nothing: a caller learns them from its contract.
+/// Has no effect. Its contract states the laws of codes and of their runs.
 pub fn code_laws()
     ensures { CodeLaws }
 {}

@@ -1,14 +1,13 @@
-//! Images: codes as bytes, and what a code means.
+//! Defines images: codes as bytes, and what a code does.
 //!
-//! An image (image) or a view of bytes (in_place) has a code (code); bytes are read once, from left
-//! to right (reading, decoding, viewing), and written (spelling, encoding, wire); parts become an
-//! image (parts, assembling); version 1 becomes 2 (upgrading). Read first: specs/Effect.antt and
-//! specs/Step.antt, a row an instruction, and specs/Run.antt, what a run is; specs/Spelling.antt is
-//! the format.
+//! An image (`image`) or a view of bytes (`in_place`) has a code (`code`). Bytes are read once,
+//! from left to right (`reading`, `decoding`, `viewing`), and written (`spelling`, `encoding`,
+//! `wire`). Parts are assembled into an image (`parts`, `assembling`), and version 1 is upgraded to
+//! version 2 (`upgrading`). Read first: specs/Effect.antt and specs/Step.antt, with one case for
+//! each instruction, and specs/Run.antt, which defines a run. specs/Spelling.antt is the format.
 #![tactic(auto)]
 
 mod assembling;
-mod back;
 mod code;
 mod decoding;
 mod encoding;
@@ -20,13 +19,14 @@ mod instruction;
 mod kind;
 mod laws;
 mod limits;
+mod offsets;
 mod parts;
-mod places;
 mod reading;
 mod sections;
 mod spelling;
-mod stretch;
 mod tables;
+mod trailer;
+mod unit_code;
 mod units;
 mod upgrading;
 mod version;
@@ -45,9 +45,9 @@ pub use jt_ids::LoopField;
 pub use kind::{Flaw, Kind};
 pub use laws::code_laws;
 pub use limits::{MAX_COUNT, MAX_ENTRIES, MAX_INSTRUCTIONS};
-pub use parts::{Parts, Spot, Unit};
-pub use places::Reader;
-pub use stretch::Stretch;
+pub use offsets::Reader;
+pub use parts::{Parts, SourceLoc, Unit};
+pub use unit_code::UnitCode;
 pub use upgrading::upgrade;
 pub use version::Version;
 pub use viewing::view;

@@ -1,4 +1,4 @@
-//! What an image is assembled from.
+//! Defines the parts from which an image is assembled.
 
 use crate::image::Constant;
 use crate::version::Version;
@@ -7,41 +7,41 @@ use crate::wire::Instr;
 /// A unit: its numbers, and its instructions by their fields.
 #[derive(Drop)]
 pub struct Unit {
-    /// How many parameters it takes. They are the first locals.
+    /// The number of parameters. They are the first locals.
     pub parameters: u8,
-    /// 0 where it emits, 1 where it gives a value.
+    /// The kind: 0 if the unit emits, 1 if it returns a value.
     pub kind: u8,
-    /// How many locals it has, at most 4,096.
+    /// The number of locals, at most 4,096.
     pub locals: u16,
-    /// Its instructions. A point is an index here.
+    /// The instructions. A point is an index into them.
     pub code: Vec<Instr>,
 }
 
-/// What an instruction says of its place.
+/// The encoded place of an instruction.
 #[derive(Clone, Copy, Debug, PartialEq, Eq)]
-pub struct Spot {
-    /// The number of the template, counted from 1; 0 where there is no place.
+pub struct SourceLoc {
+    /// The number of the template, counted from 1; 0 if the instruction has no place.
     pub template: u16,
-    /// The line in it, from 1 to 1,048,577; 0 where there is no place.
+    /// The line of the tag, from 1 to 1,048,577; 0 if the instruction has no place.
     pub line: u32,
 }
 
 /// The parts of an image.
 #[derive(Drop)]
 pub struct Parts {
-    /// The version. The first one has no templates and spots.
+    /// The version. Version 1 has no templates and no places.
     pub version: Version,
-    /// How many globals there are.
+    /// The number of globals.
     pub globals: u16,
-    /// The globals that the context fills, each a slot and its name. No name is empty, they
-    /// strictly ascend by their bytes, and no slot has two.
+    /// The globals that the context fills, each a slot and its name. No name is empty, the names
+    /// strictly ascend by their bytes, and no slot has two names.
     pub names: Vec<(u16, String)>,
     /// The constants.
     pub constants: Vec<Constant>,
-    /// The units. A run starts the first one, which emits and has no parameters.
+    /// The units. A run starts at the first one, which emits and has no parameters.
     pub units: Vec<Unit>,
     /// The names of templates. None is empty, and they strictly ascend by their bytes.
     pub templates: Vec<String>,
-    /// One for each instruction, in the order of the units.
-    pub spots: Vec<Spot>,
+    /// The places of the instructions, one for each, in the order of the units.
+    pub places: Vec<SourceLoc>,
 }

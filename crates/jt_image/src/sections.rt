@@ -1,25 +1,27 @@
-//! Reading the instructions of units: what stays of them is where those of each unit begin.
+//! Reads the instructions of units, and stores the offset at which those of each unit begin.
 ghost use Rattle.std.specs.Prelude.{◌≡◌, ◌≤◌, length, IfOk};
-ghost use Rattle.jt_image.specs.HeaderView.{header_view, headers_view};
-ghost use Rattle.jt_image.specs.InPlace.{instructions_in, section_in, sections_in, HasUnit, AreCounted, AreLast, AreRead};
+ghost use Rattle.jt_image.specs.internal.HeaderView.{header_view, headers_view};
+ghost use Rattle.jt_image.specs.InPlace.{instructions_in, section_in, sections_in, HasUnit};
+ghost use Rattle.jt_image.specs.InPlace.{AreCounted, AreLast, AreRead};
 ghost use Rattle.jt_image.specs.IsCode.{total_len, max_instructions};
-ghost use Rattle.jt_image.specs.Reading.{Gives, header_total, instructions_at, section_at, sections_at, units_at};
+ghost use Rattle.jt_image.specs.Reading.{Gives, header_total, instructions_at, section_at};
+ghost use Rattle.jt_image.specs.Reading.{sections_at, units_at};
 
 use crate::error::ImageError;
 use crate::fields::u16_at;
-use crate::places::UnitPlace;
+use crate::offsets::UnitOffset;
 use crate::units::{Header, headers_at, instruction_at};
 use std::alloc::Global;
 
-/// Units, and how many instructions they have together.
+/// The units, and the number of instructions that they have together.
 #[derive(Drop)]
 pub(crate) struct Units {
-    pub(crate) items: Vec<UnitPlace>,
+    pub(crate) items: Vec<UnitOffset>,
     pub(crate) instructions: u32,
 }
 
-// the bytes behind that many instructions
-fn behind_instructions(count: u32, bytes: &[u8]) -> Result<&[u8], ImageError>
+// Returns the bytes after the first `count` instructions.
+fn after_instructions(count: u32, bytes: &[u8]) -> Result<&[u8], ImageError>
     ensures { Gives (λ rest. (instructions_in count bytes.now, rest.now)) result
         (instructions_at count bytes.now) }
 {
@@ -32,12 +34,12 @@ fn behind_instructions(count: u32, bytes: &[u8]) -> Result<&[u8], ImageError>
 }
 
 #[tactic(auto, unfolding(crate::specs::Reading::section_at))]
-fn place_at<'a>(
+fn offset_at<'a>(
     header: &Header,
     first: u32,
     bytes: &[u8],
     front: &'a [u8],
-) -> Result<(UnitPlace, &'a [u8]), ImageError>
+) -> Result<(UnitOffset, &'a [u8]), ImageError>
     requires { AreLast bytes.now front.now }
     ensures gives { Gives (λ x. (section_in bytes.now x.0, x.1.now)) result
         (section_at (header_view header.now) front.now) }
@@ -45,8 +47,8 @@ fn place_at<'a>(
     ensures counted { IfOk result (λ x. (x.0.first ≡ first) × (x.0.len ≡ header.now.len)) }
     ensures last { IfOk result (λ x. AreLast bytes.now x.1.now) }
 {
-    let rest = behind_instructions(header.len, front)?;
-    let place = UnitPlace {
+    let rest = after_instructions(header.len, front)?;
+    let place = UnitOffset {
         parameters: header.parameters,
         kind: header.kind,
         locals: header.locals,
@@ -57,12 +59,12 @@ fn place_at<'a>(
     Ok((place, rest))
 }
 
-fn places_at<'a>(
+fn offsets_at<'a>(
     alloc: Global,
     headers: &[Header],
     bytes: &[u8],
     front: &'a [u8],
-) -> Result<(Vec<UnitPlace>, &'a [u8]), ImageError>
+) -> Result<(Vec<UnitOffset>, &'a [u8]), ImageError>
     requires last { AreLast bytes.now front.now }
     requires within { header_total (headers_view headers.now) ≤ max_instructions }
     ensures gives { Gives (λ x. (sections_in bytes.now x.0.items, x.1.now)) result
@@ -70,19 +72,19 @@ fn places_at<'a>(
     ensures read { IfOk result (λ x. AreRead (HasUnit bytes.now) bytes.now x.0.items x.1.now) }
     ensures counted { IfOk result (λ x. AreCounted 0 x.0.items) }
 {
-    let mut places: Vec<UnitPlace> = Vec::new(alloc);
+    let mut offsets: Vec<UnitOffset> = Vec::new(alloc);
     let mut rest = front;
     let mut first = 0;
-    'places: for header in headers {
-        let (place, after) = place_at(header, first, bytes, rest)?;
-        places.push(place)?;
+    'offsets: for header in headers {
+        let (place, after) = offset_at(header, first, bytes, rest)?;
+        offsets.push(place)?;
         first += header.len;
         rest = after;
     }
-    Ok((places, rest))
+    Ok((offsets, rest))
 }
 
-/// The units, and how many instructions they have.
+/// Reads the units and counts their instructions.
 #[tactic(auto, unfolding(crate::specs::Reading::units_at))]
 pub(crate) fn units_at<'a>(
     alloc: Global,
@@ -103,7 +105,7 @@ pub(crate) fn units_at<'a>(
         return Err(ImageError::BadTable);
     }
     let (headers, rest) = headers_at(alloc, count, rest)?;
-    let (items, rest) = places_at(alloc, &headers.items, bytes, rest)?;
+    let (items, rest) = offsets_at(alloc, &headers.items, bytes, rest)?;
     let units = Units {
         items,
         instructions: headers.total,

@@ -1,16 +1,19 @@
-//! Parts to bytes.
+//! Writes parts as bytes.
 ghost use Rattle.std.specs.Prelude.{◌≡◌, ◌<◌, ◌^◌, ◌++◌, ◌∷◌, [], length, map, IfOk};
 ghost use Rattle.std.specs.Int.{w16, w32, w64, to_le_bytes, cast_unsigned};
 ghost use Rattle.std.specs.List.{flat_map, AllByRecursion};
-ghost use Rattle.jt_image.specs.View.{name_view, names_view, constant_view, constants_view, unit_view, units_view, instruction_view, texts_view, spot_view, spots_view};
+ghost use Rattle.jt_image.specs.View.{name_view, names_view, constant_view, constants_view};
+ghost use Rattle.jt_image.specs.View.{unit_view, units_view, instruction_view, texts_view};
+ghost use Rattle.jt_image.specs.View.{loc_view, locs_view};
 ghost use Rattle.jt_image.specs.IsCode.{IsConstant, IsCode};
 ghost use Rattle.std.specs.Option.{IsSome};
 ghost use Rattle.jt_image.specs.Reading.{instruction_of};
-ghost use Rattle.jt_image.specs.Parts.{AreKnown, Adds, back_bytes, code_seen};
-ghost use Rattle.jt_image.specs.Spelling.{name_bytes, constant_bytes, header_bytes, instruction_bytes, template_bytes, spot_bytes, spelling};
+ghost use Rattle.jt_image.specs.Parts.{AreKnown, Adds, trailer_bytes, code_seen};
+ghost use Rattle.jt_image.specs.Spelling.{name_bytes, constant_bytes, header_bytes};
+ghost use Rattle.jt_image.specs.Spelling.{instruction_bytes, template_bytes, loc_bytes, spelling};
 
 use crate::image::Constant;
-use crate::parts::{Parts, Spot, Unit};
+use crate::parts::{Parts, SourceLoc, Unit};
 use crate::version::Version;
 use crate::wire::Instr;
 use jt_value::NoMemory;
@@ -165,34 +168,34 @@ fn put_templates(out: &mut Vec<u8>, templates: &[String]) -> Result<(), NoMemory
     Ok(())
 }
 
-fn put_spot(out: &mut Vec<u8>, spot: Spot) -> Result<(), NoMemory>
-    ensures { Adds out.old out.new result (spot_bytes (spot_view spot)) }
+fn put_loc(out: &mut Vec<u8>, loc: SourceLoc) -> Result<(), NoMemory>
+    ensures { Adds out.old out.new result (loc_bytes (loc_view loc)) }
 {
-    out.extend_from_slice(&spot.template.to_le_bytes())?;
-    out.extend_from_slice(&spot.line.to_le_bytes())?;
+    out.extend_from_slice(&loc.template.to_le_bytes())?;
+    out.extend_from_slice(&loc.line.to_le_bytes())?;
     Ok(())
 }
 
-fn put_spots(out: &mut Vec<u8>, spots: &[Spot]) -> Result<(), NoMemory>
-    ensures { Adds out.old out.new result (flat_map spot_bytes (spots_view spots.now)) }
+fn put_locs(out: &mut Vec<u8>, locs: &[SourceLoc]) -> Result<(), NoMemory>
+    ensures { Adds out.old out.new result (flat_map loc_bytes (locs_view locs.now)) }
 {
-    'spots: for spot in spots {
-        put_spot(out, *spot)?;
+    'locs: for loc in locs {
+        put_loc(out, *loc)?;
     }
     Ok(())
 }
 
-// what stands behind the instructions
+// Appends the trailer: the templates and the places.
 fn put_places(out: &mut Vec<u8>, parts: &Parts) -> Result<(), NoMemory>
     requires { IsCode (code_seen parts.now) }
-    ensures { Adds out.old out.new result (back_bytes (code_seen parts.now)) }
+    ensures { Adds out.old out.new result (trailer_bytes (code_seen parts.now)) }
 {
     match parts.version {
         Version::One => Ok(()),
         Version::Two => {
             put_count(out, parts.templates.len())?;
             put_templates(out, &parts.templates)?;
-            put_spots(out, &parts.spots)
+            put_locs(out, &parts.places)
         }
     }
 }
@@ -216,7 +219,7 @@ fn put_parts(out: &mut Vec<u8>, parts: &Parts) -> Result<(), NoMemory>
     Ok(())
 }
 
-/// The spelling of the code that the parts are.
+/// Returns the spelling of the code that the parts are.
 pub(crate) fn spelled(alloc: Global, parts: &Parts) -> Result<Vec<u8>, NoMemory>
     requires code { IsCode (code_seen parts.now) }
     requires known { AreKnown parts.now.units.items }

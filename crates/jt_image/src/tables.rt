@@ -1,18 +1,21 @@
-//! Reading the tables of names and constants: what stays of them are their places in the bytes.
-ghost use Rattle.std.specs.Prelude.{◌≡◌, ◌<◌, ◌≤◌, ◌==◌, ◌&&◌, not, nat_lt, List, length, option_map, IfOk, Ok, Some, None, [], true, Err};
+//! Reads the tables of names and constants, and stores the offsets of their entries.
+ghost use Rattle.std.specs.Prelude.{◌≡◌, ◌<◌, ◌≤◌, ◌==◌, ◌&&◌, not, nat_lt, List, length};
+ghost use Rattle.std.specs.Prelude.{option_map, IfOk, Ok, Some, None, [], true, Err};
 ghost use Rattle.std.specs.Int.{w16, w64, cast_signed};
 ghost use Rattle.std.specs.List.{AllByRecursion};
-ghost use Rattle.jt_image.specs.InPlace.{names_in, HasName, constants_in, HasConstant, AreLast, AreRead};
+ghost use Rattle.jt_image.specs.InPlace.{names_in, HasName, constants_in, HasConstant, AreLast};
+ghost use Rattle.jt_image.specs.InPlace.{AreRead};
 ghost use Rattle.jt_image.specs.Readers.{constant_ref_view, name_ref_view};
-ghost use Rattle.jt_image.specs.Reading.{Gives, IsTable, is_used, last_name, slot_at, name_at, all_names_at, constant_of, constant_at, all_constants_at};
+ghost use Rattle.jt_image.specs.Reading.{Gives, IsTable, is_used, last_name, slot_at, name_at};
+ghost use Rattle.jt_image.specs.Reading.{all_names_at, constant_of, constant_at, all_constants_at};
 
 use crate::code::ConstantRef;
 use crate::error::ImageError;
-use crate::fields::{long_text_at, text_behind, u8_at, u16_at, u64_at};
-use crate::places::name_in;
+use crate::fields::{long_text_at, text_after, u8_at, u16_at, u64_at};
+use crate::offsets::name_in;
 use std::alloc::Global;
 
-/// A slot that is below the globals and has no name yet.
+/// Reads a slot, which must be below `globals` and have no name yet.
 #[tactic(auto, unfolding(crate::specs::Reading::slot_at))]
 fn slot_at<'a>(
     globals: u16,
@@ -61,11 +64,11 @@ fn name_at<'a>(
     ensures below { IfOk result (λ x. x.0.0 < globals) }
 {
     let (slot, rest) = slot_at(globals, used, bytes, before, rest)?;
-    let (text, rest) = text_behind(last_name(bytes, before), rest)?;
+    let (text, rest) = text_after(last_name(bytes, before), rest)?;
     Ok(((slot, text), rest))
 }
 
-/// The names of globals.
+/// Reads the names of globals and returns their offsets.
 #[tactic(auto, unfolding(crate::specs::Reading::all_names_at))]
 pub(crate) fn all_names_at<'a>(
     alloc: Global,
@@ -124,7 +127,7 @@ fn constant_at(bytes: &[u8]) -> Result<(ConstantRef<'_>, &[u8]), ImageError>
     constant_of(tag, rest)
 }
 
-/// The constants.
+/// Reads the constants and returns their offsets.
 #[tactic(auto, unfolding(crate::specs::Reading::all_constants_at))]
 pub(crate) fn all_constants_at<'a>(
     alloc: Global,

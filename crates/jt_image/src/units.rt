@@ -1,9 +1,12 @@
-//! Reading units: their numbers first, then the instructions of each.
-ghost use Rattle.std.specs.Prelude.{◌≡◌, ◌+◌, ◌≤◌, ◌==◌, ◌||◌, not, nat_le, nat_lt, List, length, IfOk, Ok, Some, None, [], true, Err};
+//! Reads units: the headers of all units come first, then the instructions of each unit.
+ghost use Rattle.std.specs.Prelude.{◌≡◌, ◌+◌, ◌≤◌, ◌==◌, ◌||◌, not, nat_le, nat_lt, List, length};
+ghost use Rattle.std.specs.Prelude.{IfOk, Ok, Some, None, [], true, Err};
 ghost use Rattle.std.specs.Int.{w16, w32};
-ghost use Rattle.jt_image.specs.HeaderView.{header_view, headers_view};
+ghost use Rattle.jt_image.specs.internal.HeaderView.{header_view, headers_view};
 ghost use Rattle.jt_image.specs.IsCode.{max_instructions};
-ghost use Rattle.jt_image.specs.Reading.{Gives, parameters_at, kind_at, locals_at, len_at, header_of, header_total, headers_at, known_of, instruction_at};
+ghost use Rattle.jt_image.specs.Reading.{Gives, parameters_at, kind_at, locals_at, len_at};
+ghost use Rattle.jt_image.specs.Reading.{header_of, header_total, headers_at, known_of};
+ghost use Rattle.jt_image.specs.Reading.{instruction_at};
 
 use crate::error::ImageError;
 use crate::fields::{u8_at, u16_at, u32_at};
@@ -12,7 +15,7 @@ use crate::limits::{MAX_INSTRUCTIONS, MAX_LOCALS};
 use crate::wire::Instr;
 use std::alloc::Global;
 
-/// The numbers of a unit.
+/// The header of a unit.
 #[derive(Drop)]
 pub(crate) struct Header {
     pub(crate) parameters: u8,
@@ -93,7 +96,7 @@ fn header_at(first: bool, total: u32, bytes: &[u8]) -> Result<(Header, &[u8]), I
     ))
 }
 
-/// The numbers of all units, and how many instructions there are.
+/// The headers of all units, and the number of instructions in all units.
 #[derive(Drop)]
 pub(crate) struct Headers {
     pub(crate) items: Vec<Header>,
@@ -142,7 +145,7 @@ fn known(instr: Instr) -> Result<Instruction, ImageError>
 }
 
 #[tactic(auto, unfolding(crate::specs::Reading::instruction_at))]
-fn by_fields(bytes: &[u8]) -> Result<(Instruction, &[u8]), ImageError>
+fn decode_fields(bytes: &[u8]) -> Result<(Instruction, &[u8]), ImageError>
     ensures { Gives (λ x. (x.0, x.1.now)) result (instruction_at bytes.now) }
 {
     let (op, rest) = u8_at(bytes)?;
@@ -161,12 +164,13 @@ fn by_fields(bytes: &[u8]) -> Result<(Instruction, &[u8]), ImageError>
     Ok((instruction, rest))
 }
 
-// eight bytes at once where they are an instruction, else field by field for the first fault
+// Decodes eight bytes together if they are an instruction, else field by field to find the first
+// fault.
 pub(crate) fn instruction_at(bytes: &[u8]) -> Result<(Instruction, &[u8]), ImageError>
     ensures { Gives (λ x. (x.0, x.1.now)) result (instruction_at bytes.now) }
 {
     if bytes.len() < 8 {
-        return by_fields(bytes);
+        return decode_fields(bytes);
     }
     let (front, rest) = bytes.split_at(8);
     let b = u16::from_le_bytes([front[2], front[3]]);
@@ -179,6 +183,6 @@ pub(crate) fn instruction_at(bytes: &[u8]) -> Result<(Instruction, &[u8]), Image
     };
     match instr.instruction() {
         Some(instruction) => Ok((instruction, rest)),
-        None => by_fields(bytes),
+        None => decode_fields(bytes),
     }
 }

@@ -1,4 +1,4 @@
-//! Images of version 1 in version 2.
+//! Upgrades images of version 1 to version 2.
 ghost use Rattle.std.specs.Prelude.{◌≡◌, ◌≤◌, ◌*◌, ◌+◌, replicate, IfOk, IfErr};
 ghost use Rattle.jt_value.specs.Pairs.{Pairs};
 ghost use Rattle.jt_image.specs.Config.{Budget, Outcome};
@@ -19,7 +19,8 @@ use crate::version::Version;
 use jt_value::NoMemory;
 use std::alloc::Global;
 
-// magic and version, behind which the versions spell the same
+// The number of bytes of the magic number and the version. In both versions the same bytes follow,
+// up to the trailer.
 const START_BYTES: usize = 6;
 
 fn put_zeros(out: &mut Vec<u8>, count: usize) -> Result<(), NoMemory>
@@ -31,13 +32,13 @@ fn put_zeros(out: &mut Vec<u8>, count: usize) -> Result<(), NoMemory>
     Ok(())
 }
 
-// how many bytes the places take: a count of no templates, and a spot without a place for each
-// instruction
+// Returns the number of bytes of the added places: a count of 0 templates, and an empty place for
+// each instruction.
 fn places_len(image: &Image) -> usize
     ensures len { result ≡ 2 + 6 * total_len image.now.units }
     ensures within { result ≤ 2 + 6 * max_instructions }
 {
-    2 + 6 * image.places.instructions as usize
+    2 + 6 * image.offsets.instructions as usize
 }
 
 fn put_unplaced(out: &mut Vec<u8>, image: &Image) -> Result<(), NoMemory>
@@ -61,22 +62,31 @@ fn unplaced(alloc: Global, image: &Image) -> Result<Image, ImageError>
     }
     let mut bytes = Vec::new(alloc);
     put_unplaced(&mut bytes, image)?;
-    let places = read(alloc, &bytes)?;
-    Ok(Image { bytes, places })
+    let offsets = read(alloc, &bytes)?;
+    Ok(Image { bytes, offsets })
 }
 
-/// The image in version 2: one of version 1 gets no places, and one of version 2 comes back as it
-/// is. Else it is handed back, since it would be too long (`LimitPassed`), or a growth was refused
-/// (`NoMemory`).
+/// Upgrades an image to version 2. An image of version 1 gets no places, and one of version 2 is
+/// returned as it is.
+///
+/// # Errors
+///
+/// The image is returned with the reason:
+///
+/// * `LimitPassed` if the upgraded image would be too long.
+/// * `NoMemory` if a growth is refused.
 pub fn upgrade(alloc: Global, image: Image) -> Result<Image, (Image, ImageError)>
-    // the same code, without places
+    // The result is the same code in version 2; an image of version 1 gets no places.
     ensures ok { IfOk result (λ i. i ≡ upgraded image) }
-    // the image comes back as it was
+    // The image is returned unchanged.
     ensures back { IfErr result (λ e. e.0 ≡ image) }
-    // what is named holds
+    // The reason holds of the image.
     ensures named { IfErr result (λ e. IsNotUpgraded e.1 image) }
-    // its runs end as before
-    ensures runs { IfOk result (λ i. (x : Pairs) (b : Budget) (o : Outcome) → Run image x b o → Run i x b o) }
+    // The runs of the result end as before.
+    ensures runs { IfOk result
+        (λ new. (context : Pairs) (budget : Budget) (outcome : Outcome)
+        → Run image context budget outcome
+        → Run new context budget outcome) }
 {
     match image.version() {
         Version::Two => Ok(image),

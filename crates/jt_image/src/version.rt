@@ -1,8 +1,8 @@
-//! The versions of images.
+//! Defines the versions of images.
 ghost use Rattle.std.specs.Prelude.{◌≡◌};
 ghost use Rattle.jt_image.specs.Spelling.{version_number};
 
-/// How an image is spelled. In the second version its instructions have places.
+/// The version of an image's format. In version 2 instructions have places.
 #[derive(Clone, Copy, Debug, PartialEq, Eq)]
 pub enum Version {
     One,
@@ -10,7 +10,7 @@ pub enum Version {
 }
 
 impl Version {
-    /// The number of the version in an image.
+    /// Returns the version number that an image stores.
     pub(crate) fn number(self) -> u16
         ensures { result ≡ version_number self }
     {

@@ -1,4 +1,4 @@
-//! Instructions as they stand in an image: the one table of opcodes.
+//! Encodes instructions, by the one table of opcodes.
 ghost use Rattle.std.specs.Prelude.{◌≡◌, ◌≢◌, MatchBool, MatchOption, IfSome, None, Some};
 ghost use Rattle.std.specs.Option.{IsSome};
 ghost use Rattle.jt_image.specs.Spelling.{wire_of};
@@ -7,12 +7,12 @@ ghost use Rattle.jt_image.specs.Reading.{instruction_of};
 
 use crate::instruction::Instruction;
 
-/// The four fields of an instruction. A field that the instruction does not use is 0.
+/// The four fields of an encoded instruction. A field that the instruction does not use is 0.
 #[derive(Clone, Copy, PartialEq, Eq)]
 pub struct Instr {
     /// The opcode.
     pub op: u8,
-    /// A number of an operator, filter, test or loop field, or a flag.
+    /// The id of an operator, filter, test or loop field, or a flag.
     pub a: u8,
     /// A count of values.
     pub b: u16,
@@ -56,7 +56,7 @@ fn with_ab(op: u8, a: u8, b: u16) -> Instr
 }
 
 impl Instruction {
-    /// The fields of the instruction.
+    /// Returns the fields of the instruction.
     pub fn wire(self) -> Instr
         ensures { result ≡ wire_of self }
     {
@@ -103,7 +103,7 @@ impl Instruction {
 }
 
 impl Instr {
-    /// Whether its opcode is one, and each field that this does not use is 0.
+    /// Returns whether the opcode is known and each field that it does not use is 0.
     #[tactic(auto, unfolding(crate::specs::Reading::instruction_of))]
     fn is_instruction(self) -> bool
         ensures { MatchBool result (IsSome (instruction_of self)) (instruction_of self ≡ None) }
@@ -130,7 +130,7 @@ impl Instr {
         }
     }
 
-    /// The instruction with these fields, where there is one.
+    /// Returns the instruction with these fields, which must exist.
     #[tactic(auto, unfolding(crate::specs::Reading::instruction_of))]
     pub(crate) fn known(self) -> Instruction
         requires { IsSome (instruction_of self) }
@@ -174,15 +174,16 @@ impl Instr {
         }
     }
 
-    /// The instruction with these fields: `None` for an opcode that there is not, or a field that
-    /// is not used and not 0.
+    /// Returns the instruction with these fields, or `None` if the opcode is unknown or a field
+    /// that it does not use is not 0.
     pub fn instruction(self) -> Option<Instruction>
-        // by the table of opcodes
+        // The result is the one that the table of opcodes has.
         ensures table { result ≡ instruction_of self }
-        // the one instruction with these fields
+        // The result is the one instruction with these fields, and `None` only if no instruction
+        // has them.
         ensures exact { MatchOption result ((i : Instruction) → wire_of i ≢ self)
             (λ i. wire_of i ≡ self) }
-        // its fields fit the wire's
+        // The fields of the instruction fit the fields of the encoding.
         ensures fits { IfSome result (λ i. IsInstruction i) }
     {
         self.by_opcode()

@@ -1,26 +1,34 @@
--- Sets of names: where a name is, and which numbers there are when one is put.
-use Rattle.std.proofs.Common.{◌≡◌, ℕ, false, cond, ◌||◌, List, [], ◌∷◌, ◌++◌, length, refl, ap, ◌∙◌, arith, Option, Some, String, Global, string_bytes, MatchOption, rules}
+-- Sets of names: lookup, and the numbers after an insertion.
+use Rattle.std.proofs.Common.{◌≡◌, ℕ, false, cond, ◌||◌, List, [], ◌∷◌, ◌++◌, length, refl, ap, ◌∙◌, arith, Option}
+use Rattle.std.proofs.Common.{Some, String, Global, string_bytes, MatchOption, rules}
 use Rattle.std.specs.Prelude.{slice_get}
 use Rattle.std.specs.BTreeMap.{get_by_text}
 use Rattle.std.specs.List.{list_any}
 use Rattle.std.specs.Str.{bytes_eq}
 use Rattle.std.proofs.lemmas.Option.{slice_get-map}
-use Rattle.jt_trees.specs.Texts.{among}
-use Rattle.jt_trees.specs.Expressions.{Text}
+use Rattle.jt_ast.specs.Texts.{among}
+use Rattle.jt_ast.specs.Expressions.{Text}
 use Rattle.jt_chains.specs.Tables.{Table}
-use Rattle.jt_inherit.specs.Numbers.{AreNumbers, is_text}
-use Rattle.jt_inherit.specs.SetView.{strings}
-use Rattle.jt_inherit.proofs.Numbered.{first_none, first_found, numbers_more}
-use Rattle.jt_inherit.proofs.Among.{same, symmetric}
+use Rattle.jt_inherit.specs.internal.Numbers.{AreNumbers, is_text}
+use Rattle.jt_inherit.specs.internal.SetView.{strings}
+use Rattle.jt_inherit.proofs.NumberTables.{first_none, first_found, numbers_more}
+use Rattle.jt_inherit.proofs.NameMembership.{same, symmetric}
 
 any_string : (x : Text) (ks : List (String Global)) → list_any (is_text x) ks ≡ among x (strings ks)
 any_string x [] = refl
-any_string x (k ∷ ks) = ap (λ b. b || list_any (is_text x) ks) (symmetric x (string_bytes k)) ∙ ap (λ b. bytes_eq (string_bytes k) x || b) (any_string x ks)
+any_string x (k ∷ ks) =
+    ap (λ b. b || list_any (is_text x) ks) (symmetric x (string_bytes k))
+    ∙ ap (λ b. bytes_eq (string_bytes k) x || b) (any_string x ks)
 
-pub find_told : (x : Text) (ks : List (String Global)) (m : Table) (r : Option ℕ) → AreNumbers is_text ks m → r ≡ get_by_text m x
+pub find_told : (x : Text) (ks : List (String Global)) (m : Table) (r : Option ℕ) → AreNumbers is_text ks m
+    → r ≡ get_by_text m x
     → MatchOption r (among x (strings ks) ≡ false) (λ i. slice_get (strings ks) i ≡ Some x)
 find_told x ks m a3 k e = search (arith, rules, any_string, first_none, first_found, slice_get-map, string_bytes, same)
 
-pub put_told : (ks : List (String Global)) (k : String Global) (m n : Table) → AreNumbers is_text ks m → among (string_bytes k) (strings ks) ≡ false
-    → ((x : Text) → get_by_text n x ≡ cond (bytes_eq (string_bytes k) x) (Some (length ks)) (get_by_text m x)) → AreNumbers is_text (ks ++ k ∷ []) n
-put_told ks k m n told new more = numbers_more is_text ks m n (string_bytes k) k told (λ z. symmetric z (string_bytes k)) (any_string (string_bytes k) ks ∙ new) more
+pub put_told : (ks : List (String Global)) (k : String Global) (m n : Table) → AreNumbers is_text ks m
+    → among (string_bytes k) (strings ks) ≡ false
+    → ((x : Text) → get_by_text n x ≡ cond (bytes_eq (string_bytes k) x) (Some (length ks)) (get_by_text m x))
+    → AreNumbers is_text (ks ++ k ∷ []) n
+put_told ks k m n told new more =
+    numbers_more is_text ks m n (string_bytes k) k told (λ z. symmetric z (string_bytes k))
+    (any_string (string_bytes k) ks ∙ new) more

@@ -1,16 +1,6 @@
-pub mod Along
 pub mod Chains
-pub mod Checks
-pub mod Faults
-pub mod Found
-pub mod Given
-pub mod Kept
 pub mod Laws
-pub mod Lines
-pub mod Numbers
 pub mod Refusals
 pub mod Refused
-pub mod SetView
-pub mod Sets
 pub mod Small
-pub mod Ways
+pub mod internal

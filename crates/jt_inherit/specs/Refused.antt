@@ -1,4 +1,4 @@
--- What becomes of a refusal of an order.
+-- The error of a chain that each error of an order becomes.
 use Rattle.std.specs.Prelude.{◌≡◌}
 use Rattle.jt_graph.specs.declared.error.OrderError.{OrderError}
 use Rattle.jt_graph.specs.declared.error.OrderError.TheVariants as order

@@ -1,94 +1,113 @@
-//! The chains and libraries that an entry reaches, in the order in which they are found.
+//! Finds the chains and libraries that an entry reaches.
 
 ghost use Rattle.std.specs.Prelude.{◌≡◌, ◌+◌, ◌<◌, length, OnOk, IfOk, IfErr};
-ghost use Rattle.jt_inherit.specs.Found.{IsFirst, IsFound, found_homes, root_of};
+ghost use Rattle.jt_inherit.specs.internal.Found.{IsFirst, IsFound, found_namespaces, root_of};
 ghost use Rattle.jt_inherit.specs.Refusals.{Breaks};
 
 use crate::error::ChainError;
-use crate::including::{next_homes, read_includes};
-use crate::library::{Library, Origin};
-use crate::sets::{HomeKey, Homes, Names};
-use crate::way::read_home;
-use jt_chains::Page;
+use crate::extends_path::read_namespace;
+use crate::including::{next_namespaces, read_includes};
+use crate::library::{Library, Loader};
+use crate::sets::{Names, NamespaceKey, Namespaces};
+use jt_chains::TemplateFile;
 use std::alloc::{AllocError, Global};
 
-/// What was found so far.
+/// The state of the search: the templates, chains and libraries that were found.
 #[derive(Drop)]
-pub(crate) struct Found {
+pub(crate) struct Discovery {
     /// The names of the templates that were read.
     pub(crate) names: Names,
-    /// These templates, each once.
-    pub(crate) pages: Vec<Page>,
-    /// The chains and libraries, each once.
-    pub(crate) homes: Homes,
-    /// Of each that was followed the places of its templates.
-    pub(crate) ways: Vec<Vec<usize>>,
-    /// Of each that was followed the numbers of those that it includes or imports.
+    /// The templates that were read, each once.
+    pub(crate) files: Vec<TemplateFile>,
+    /// The chains and libraries that were found, each once.
+    pub(crate) namespaces: Namespaces,
+    /// The indices of the templates of each chain or library that was followed.
+    pub(crate) extends_paths: Vec<Vec<usize>>,
+    /// The numbers of the chains and libraries that each followed one includes or imports.
     pub(crate) next: Vec<Vec<usize>>,
 }
 
-/// Nothing but the entry.
-fn begin(alloc: Global, entry: &str) -> Result<Found, AllocError>
+/// Returns the state that holds only the entry's chain.
+fn begin(alloc: Global, entry: &str) -> Result<Discovery, AllocError>
     ensures { IfOk result (λ f. IsFirst entry.now f) }
 {
-    let mut homes = Homes::new(alloc);
+    let mut namespaces = Namespaces::new(alloc);
     let name = String::from_str(alloc, entry)?;
-    homes.put(
+    namespaces.put(
         alloc,
-        HomeKey {
+        NamespaceKey {
             name,
             is_library: false,
         },
     )?;
-    Ok(Found {
+    Ok(Discovery {
         names: Names::new(alloc),
-        pages: Vec::new(alloc),
-        homes,
-        ways: Vec::new(alloc),
+        files: Vec::new(alloc),
+        namespaces,
+        extends_paths: Vec::new(alloc),
         next: Vec::new(alloc),
     })
 }
 
-/// Follows the next chain or library: reads its templates and what they include and import.
+/// Follows the next chain or library: reads its templates and those that they include or import.
 fn follow<L: Library>(
     alloc: Global,
-    found: &mut Found,
-    origin: &Origin<'_, L>,
+    found: &mut Discovery,
+    loader: &Loader<'_, L>,
 ) -> Result<(), ChainError>
-    requires found { IsFound (L.sources origin.now.library.now) origin.now.options found.old }
-    requires more { length found.old.ways.items < length (found_homes found.old) }
+    requires found { IsFound (L.sources loader.now.library.now) loader.now.options found.old }
+    requires more { length found.old.extends_paths.items < length (found_namespaces found.old) }
     ensures found { OnOk result
-        (IsFound (L.sources origin.now.library.now) origin.now.options found.new) }
-    ensures one { OnOk result (length found.new.ways.items ≡ length found.old.ways.items + 1) }
+        (IsFound (L.sources loader.now.library.now) loader.now.options found.new) }
+    ensures one { OnOk result
+        (length found.new.extends_paths.items ≡ length found.old.extends_paths.items + 1) }
     ensures root { OnOk result (root_of found.new ≡ root_of found.old) }
     ensures refused { IfErr result
-        (λ e. Breaks e (L.sources origin.now.library.now) (root_of found.old) origin.now.options) }
+        (λ e. Breaks e (L.sources loader.now.library.now) (root_of found.old) loader.now.options) }
 {
-    let home = found.homes.get(found.ways.len());
-    let way = read_home(alloc, &mut found.names, &mut found.pages, home, origin)?;
-    let mut fresh = read_includes(alloc, &mut found.names, &found.pages, &way, origin)?;
-    found.pages.append(&mut fresh)?;
-    let next = next_homes(alloc, &found.names, &mut found.homes, &found.pages, &way)?;
-    found.ways.push(way)?;
+    let namespace = found.namespaces.get(found.extends_paths.len());
+    let extends_path = read_namespace(
+        alloc,
+        &mut found.names,
+        &mut found.files,
+        namespace,
+        loader,
+    )?;
+    let mut newly_read = read_includes(
+        alloc,
+        &mut found.names,
+        &found.files,
+        &extends_path,
+        loader,
+    )?;
+    found.files.append(&mut newly_read)?;
+    let next = next_namespaces(
+        alloc,
+        &found.names,
+        &mut found.namespaces,
+        &found.files,
+        &extends_path,
+    )?;
+    found.extends_paths.push(extends_path)?;
     found.next.push(next)?;
     Ok(())
 }
 
-/// Finds the chains and libraries that an entry reaches.
+/// Finds the chains and libraries that an entry reaches, in breadth-first order.
 pub(crate) fn discover<L: Library>(
     alloc: Global,
     entry: &str,
-    origin: &Origin<'_, L>,
-) -> Result<Found, ChainError>
-    ensures found { IfOk result (IsFound (L.sources origin.now.library.now) origin.now.options) }
-    ensures all { IfOk result (λ f. length f.ways.items ≡ length (found_homes f)) }
+    loader: &Loader<'_, L>,
+) -> Result<Discovery, ChainError>
+    ensures found { IfOk result (IsFound (L.sources loader.now.library.now) loader.now.options) }
+    ensures all { IfOk result (λ f. length f.extends_paths.items ≡ length (found_namespaces f)) }
     ensures root { IfOk result (λ f. root_of f ≡ entry.now) }
     ensures refused { IfErr result
-        (λ e. Breaks e (L.sources origin.now.library.now) entry.now origin.now.options) }
+        (λ e. Breaks e (L.sources loader.now.library.now) entry.now loader.now.options) }
 {
     let mut found = begin(alloc, entry)?;
-    'chains: while found.ways.len() < found.homes.len() {
-        follow(alloc, &mut found, origin)?;
+    'chains: while found.extends_paths.len() < found.namespaces.len() {
+        follow(alloc, &mut found, loader)?;
     }
     Ok(found)
 }

@@ -1,7 +1,7 @@
-//! Why there is no chain.
+//! Defines the error of `chain`.
 
 ghost use Rattle.std.specs.Prelude.{◌≡◌};
-ghost use Rattle.jt_inherit.specs.Lines as lines;
+ghost use Rattle.jt_inherit.specs.internal.Lines as lines;
 
 use jt_graph::OrderError;
 use jt_parse::ParseError;
@@ -9,20 +9,20 @@ use jt_scan::ScanError;
 use std::alloc::{AllocError, AllocFailed};
 use thiserror::Error;
 
-/// Why there is no chain.
+/// The reason why an entry has no chain.
 #[derive(Debug, Drop, Error, PartialEq, Eq)]
 pub enum ChainError {
-    /// The library has no source of the name.
+    /// The library has no source of this name.
     #[error("C1 Missing")]
     Missing,
-    /// The name is none that a template may have.
+    /// The name is not valid for a template.
     #[error("C2 BadName")]
     BadName,
-    /// A template extends itself, by way of others or not.
+    /// A template extends itself, directly or through others.
     #[error("C3 ExtendsCycle")]
     ExtendsCycle,
-    /// A chain has more than 64 templates, or the entry's chain and those that includes reach are
-    /// more than 1,024.
+    /// A chain has more than 64 templates, or the entry reaches more than 1,024 chains, its own
+    /// included.
     #[error("C4 ChainTooLong")]
     ChainTooLong,
     /// A template has two blocks of one name.
@@ -31,25 +31,25 @@ pub enum ChainError {
     /// A required block has no body.
     #[error("C6 RequiredNotGiven")]
     RequiredNotGiven,
-    /// `super()` stands where no further body is.
+    /// A body calls `super()`, and each further body of its block, if any, is required.
     #[error("C7 NoSuper")]
     NoSuper,
-    /// A chain includes itself, by way of others or not.
+    /// A chain includes itself, directly or through others.
     #[error("C8 IncludeCycle")]
     IncludeCycle,
-    /// A chain or a library has a name twice, of its macros and of those that imports give.
+    /// A chain or a library has a name twice among its macros and the names that imports bind.
     #[error("C9 MacroTwice")]
     MacroTwice,
     /// A growth was refused.
     #[error("C10 NoMemory")]
     NoMemory,
-    /// `from` names a macro that the library doesn't have.
+    /// `from` names a macro that the library does not offer.
     #[error("C11 NoMacro")]
     NoMacro,
-    /// An imported template holds something else than macros.
+    /// An imported template holds something other than macros.
     #[error("C12 NotALibrary")]
     NotALibrary,
-    /// The source of the template of this name has no cut.
+    /// The source of the template of this name cannot be cut into segments.
     #[error("{1} in {0} line {line}", line = scan_line(.1))]
     Scan(String, ScanError),
     /// The source of the template of this name spells no tree.
@@ -57,7 +57,7 @@ pub enum ChainError {
     Parse(String, ParseError),
 }
 
-/// The line that a refusal of the scanner names, or 1.
+/// Returns the line that an error of the scanner names, or 1.
 fn scan_line(refusal: &ScanError) -> u32
     ensures { result ≡ lines.scan_line refusal.now }
 {
@@ -73,7 +73,7 @@ fn scan_line(refusal: &ScanError) -> u32
     }
 }
 
-/// The line that a refusal of the parser names, or 1.
+/// Returns the line that an error of the parser names, or 1.
 fn parse_line(refusal: &ParseError) -> u32
     ensures { result ≡ lines.parse_line refusal.now }
 {

@@ -1,51 +1,52 @@
-//! What the imports of a chain give.
+//! Collects the names that the imports of a chain bind, and finds imports of missing macros.
 
 ghost use Rattle.std.specs.Prelude.{◌≡◌, IfOk};
-ghost use Rattle.jt_trees.specs.StatementView.{body_view, given_view};
+ghost use Rattle.jt_ast.specs.StatementView.{body_view, given_view};
 ghost use Rattle.jt_chains.specs.Along.{ArePlaces};
 ghost use Rattle.jt_chains.specs.Chain.{a_library, macros};
-ghost use Rattle.jt_chains.specs.Pages.{pages_view};
+ghost use Rattle.jt_chains.specs.TemplateFiles.{files_view};
 ghost use Rattle.jt_chains.specs.Rules as rules;
-ghost use Rattle.jt_inherit.specs.Kept as spec;
-ghost use Rattle.jt_inherit.specs.Kept.{names_from, imported_names, their_names};
-ghost use Rattle.jt_inherit.specs.Given.{IsGiven, macros_held, its_sources, its_templates};
-ghost use Rattle.jt_trees.specs.Texts.{texts};
-ghost use Rattle.jt_inherit.specs.SetView.{AddsTexts};
+ghost use Rattle.jt_inherit.specs.internal.RuleTests as spec;
+ghost use Rattle.jt_inherit.specs.internal.RuleTests.{names_from, imported_names, their_names};
+ghost use Rattle.jt_inherit.specs.internal.Given.{IsGiven, macros_held, its_sources, its_templates};
+ghost use Rattle.jt_ast.specs.Texts.{texts};
+ghost use Rattle.jt_inherit.specs.internal.SetView.{AddsTexts};
 
-use crate::shelf::Shelf;
-use jt_chains::{Page, macro_names, macros_at};
-use jt_trees::Stmt;
+use crate::store::TemplateStore;
+use jt_ast::Stmt;
+use jt_chains::{TemplateFile, macro_names, macros_at};
 use std::alloc::{AllocError, Global};
 
-/// The template of a library, where it was read.
-fn library_page<'a>(shelf: Shelf<'a>, library: &str) -> Option<&'a Page>
-    ensures { IsGiven (pages_view shelf.entry.pages.now) library.now result }
+/// Returns the template of a library, if it was read.
+fn library_file<'a>(store: TemplateStore<'a>, library: &str) -> Option<&'a TemplateFile>
+    ensures { IsGiven (files_view store.entry.files.now) library.now result }
 {
-    let place = shelf.names.find(library)?;
-    Some(&shelf.pages[place])
+    let place = store.names.find(library)?;
+    Some(&store.files[place])
 }
 
-/// Whether a template lacks one of the macros that are asked for, where it is a library.
-fn has_not(page: &Page, names: &[(String, String)]) -> bool
-    ensures { result ≡ spec.has_not (macros_held page.now) (given_view names.now) }
+/// Returns whether a template does not offer all of these macros to importers.
+fn has_not(file: &TemplateFile, names: &[(String, String)]) -> bool
+    ensures { result ≡ spec.has_not (macros_held file.now) (given_view names.now) }
 {
-    names.iter().any(|(name, _)| !page.gives(name))
+    names.iter().any(|(name, _)| !file.gives(name))
 }
 
-/// Whether `from` asks for a macro that the library lacks.
-fn lacks_one(shelf: Shelf<'_>, library: &str, names: &[(String, String)]) -> bool
+/// Returns whether a `from` tag names a macro that the library does not offer. A template that was
+/// not read, or is no library, lacks none.
+fn lacks_one(store: TemplateStore<'_>, library: &str, names: &[(String, String)]) -> bool
     ensures { result
-        ≡ rules.lacks_one (its_sources shelf.entry) library.now (given_view names.now) }
+        ≡ rules.lacks_one (its_sources store.entry) library.now (given_view names.now) }
 {
-    match library_page(shelf, library) {
-        Some(page) => page.is_library() && has_not(page, names),
+    match library_file(store, library) {
+        Some(file) => file.is_library() && has_not(file, names),
         None => false,
     }
 }
 
-/// Whether a template asks for a macro that a library lacks.
-fn lacks_macros(shelf: Shelf<'_>, body: &[Stmt]) -> bool
-    ensures { result ≡ rules.lacks_macros (its_sources shelf.entry) (body_view body.now) }
+/// Returns whether a template imports a macro that its library does not offer.
+fn lacks_macros(store: TemplateStore<'_>, body: &[Stmt]) -> bool
+    ensures { result ≡ rules.lacks_macros (its_sources store.entry) (body_view body.now) }
 {
     for statement in body {
         if let Stmt::From {
@@ -54,7 +55,7 @@ fn lacks_macros(shelf: Shelf<'_>, body: &[Stmt]) -> bool
             ..
         } = statement
         {
-            if lacks_one(shelf, library, macros) {
+            if lacks_one(store, library, macros) {
                 return true;
             }
         }
@@ -62,56 +63,56 @@ fn lacks_macros(shelf: Shelf<'_>, body: &[Stmt]) -> bool
     false
 }
 
-/// Whether one of the templates at these places does.
-pub(crate) fn any_lacks_macros(shelf: Shelf<'_>, places: &[usize]) -> bool
-    requires { ArePlaces (pages_view shelf.pages.now) places.now }
-    ensures { result ≡ spec.any_lacks_macros (its_sources shelf.entry)
-        (its_templates shelf.entry places.now) }
+/// Returns whether a template at `places` imports a macro that its library does not offer.
+pub(crate) fn any_lacks_macros(store: TemplateStore<'_>, places: &[usize]) -> bool
+    requires { ArePlaces (files_view store.files.now) places.now }
+    ensures { result ≡ spec.any_lacks_macros (its_sources store.entry)
+        (its_templates store.entry places.now) }
 {
-    places.iter().any(|place| lacks_macros(shelf, shelf.pages[*place].template.body()))
+    places.iter().any(|place| lacks_macros(store, store.files[*place].template.body()))
 }
 
-/// Adds the names that `from` gives to macros that the library has.
+/// Adds the names that a `from` tag binds to macros that the library offers.
 fn add_from<'a>(
-    page: &Page,
+    file: &TemplateFile,
     names: &'a [(String, String)],
     given: &mut Vec<&'a str>,
 ) -> Result<(), AllocError>
     ensures { IfOk result (λ _. AddsTexts given.old.items given.new.items
-        (names_from (macros_held page.now) (given_view names.now))) }
+        (names_from (macros_held file.now) (given_view names.now))) }
 {
     for (name, one) in names {
-        if page.gives(name) {
+        if file.gives(name) {
             given.push(one.as_str())?;
         }
     }
     Ok(())
 }
 
-/// Adds the names that an import gives to a library's macros.
+/// Adds the names that a `from` tag binds to macros of the library `library`.
 fn add_given<'a>(
-    shelf: Shelf<'_>,
+    store: TemplateStore<'_>,
     library: &str,
     names: &'a [(String, String)],
     given: &mut Vec<&'a str>,
 ) -> Result<(), AllocError>
     ensures { IfOk result (λ _. AddsTexts given.old.items given.new.items (names_from
-        (macros (its_sources shelf.entry) (a_library library.now)) (given_view names.now))) }
+        (macros (its_sources store.entry) (a_library library.now)) (given_view names.now))) }
 {
-    match library_page(shelf, library) {
-        Some(page) => add_from(page, names, given),
+    match library_file(store, library) {
+        Some(file) => add_from(file, names, given),
         None => Ok(()),
     }
 }
 
-/// Adds the names that the imports of a template give.
+/// Adds the names that the imports of a template bind.
 fn add_imported<'a>(
-    shelf: Shelf<'_>,
+    store: TemplateStore<'_>,
     body: &'a [Stmt],
     given: &mut Vec<&'a str>,
 ) -> Result<(), AllocError>
     ensures { IfOk result (λ _. AddsTexts given.old.items given.new.items
-        (imported_names (its_sources shelf.entry) (body_view body.now))) }
+        (imported_names (its_sources store.entry) (body_view body.now))) }
 {
     for statement in body {
         match statement {
@@ -120,27 +121,28 @@ fn add_imported<'a>(
                 library,
                 macros,
                 ..
-            } => add_given(shelf, library, macros, given)?,
+            } => add_given(store, library, macros, given)?,
             _ => {}
         }
     }
     Ok(())
 }
 
-/// The names of the macros of the templates at these places, and those that their imports give.
+/// Returns the names of the macros of the templates at `places`, then the names that their imports
+/// bind.
 pub(crate) fn names_at<'a>(
     alloc: Global,
-    shelf: Shelf<'a>,
+    store: TemplateStore<'a>,
     places: &[usize],
 ) -> Result<Vec<&'a str>, AllocError>
-    requires { ArePlaces (pages_view shelf.pages.now) places.now }
+    requires { ArePlaces (files_view store.files.now) places.now }
     ensures { IfOk result (λ ns. texts ns.items
-        ≡ their_names (its_sources shelf.entry) (its_templates shelf.entry places.now)) }
+        ≡ their_names (its_sources store.entry) (its_templates store.entry places.now)) }
 {
-    let macros = macros_at(alloc, shelf.pages, places)?;
+    let macros = macros_at(alloc, store.files, places)?;
     let mut given = macro_names(alloc, &macros)?;
     for place in places {
-        add_imported(shelf, shelf.pages[*place].template.body(), &mut given)?;
+        add_imported(store, store.files[*place].template.body(), &mut given)?;
     }
     Ok(given)
 }

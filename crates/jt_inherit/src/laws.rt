@@ -1,9 +1,9 @@
-//! What callers' proofs rest on.
+//! States the laws that proofs of callers use.
 
 ghost use Rattle.jt_inherit.specs.Laws.{RefusalLaws};
 
-/// The law of refusals: a rule that what was read breaks is broken in each reading of the library.
-/// It does nothing: a caller learns it from its contract.
+/// States the law of refusals: a rule that the templates read so far break is broken in each
+/// reading of the library. Does nothing: a caller learns the law from the contract.
 pub fn refusal_laws()
     ensures { RefusalLaws }
 {}

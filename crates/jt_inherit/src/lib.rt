@@ -1,14 +1,17 @@
-//! Chains of templates: what an entry extends, includes and imports, read from a library.
+//! Reads chains of templates: all that an entry extends, includes and imports.
 //!
-//! `chain` (chaining) reads each template once (reading, shelf), goes its way to the root (way),
-//! finds what is reached (discovery, including, importing), and looks at the rules (rules, supers).
-//! Names are kept in order (sets). Where sources come from is the trait `Library` (library), and
-//! that a refusal lasts is a law (laws). Read first: specs/Chains.antt, which chains an entry has.
+//! `chain` (in `chaining`) reads each template once (`reading`, `store`) and follows its path to
+//! the root (`extends_path`). It finds the chains and libraries that are reached (`discovery`,
+//! `including`, `importing`) and checks the rules (`rules`, `supers`). Names are kept in order
+//! (`sets`). The trait `Library` (in `library`) supplies the sources. `refusal_laws` (in `laws`)
+//! states that a refusal is permanent. Read first: specs/Chains.antt, which defines the chain of an
+//! entry.
 #![tactic(auto)]
 
 mod chaining;
 mod discovery;
 mod error;
+mod extends_path;
 mod importing;
 mod including;
 mod laws;
@@ -17,13 +20,12 @@ mod names;
 mod reading;
 mod rules;
 mod sets;
-mod shelf;
 mod statements;
+mod store;
 mod supers;
-mod way;
 
 pub use chaining::chain;
 pub use error::ChainError;
-pub use jt_chains::{Block, Chain, Home, Layer, Macro, Page};
+pub use jt_chains::{Block, Chain, Layer, Macro, Namespace, TemplateFile};
 pub use laws::refusal_laws;
 pub use library::Library;

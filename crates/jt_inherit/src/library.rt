@@ -1,23 +1,23 @@
-//! Where sources come from.
+//! Defines the sources of templates.
 
 ghost use Rattle.std.specs.Prelude.{◌≡◌, ℕ, List, Option, option_map};
 
 use jt_scan::Options;
 
-/// Sources of templates by their names.
+/// A library of template sources, by their names.
 pub trait Library {
-    /// The source of each name, both in bytes. It is told by the library alone, so that a name
-    /// has one answer as long as the library is borrowed.
+    /// The source of each name, both as bytes. It depends on the library alone, so a name has one
+    /// source for as long as the library is borrowed.
     ghost sources: { Self → List ℕ → Option (List ℕ) };
 
-    /// The source of the template of this name.
+    /// Returns the source of the template of this name, or `None` if the library has none.
     fn source(&self, name: &str) -> Option<&str>
         ensures { option_map (λ s. s.now) result ≡ sources self.now name.now };
 }
 
-/// A library, and the options under which its sources are read.
+/// A library, and the options for reading its sources.
 #[derive(Drop)]
-pub(crate) struct Origin<'a, L> {
+pub(crate) struct Loader<'a, L> {
     pub(crate) library: &'a L,
     pub(crate) options: Options,
 }

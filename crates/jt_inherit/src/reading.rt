@@ -1,52 +1,52 @@
-//! Reading: the tree that the source of a template spells.
+//! Reads a template: scans and parses its source.
 
 ghost use Rattle.std.specs.Prelude.{◌≡◌, ◌≤◌, length, string_bytes, IfOk, IfErr};
-ghost use Rattle.jt_trees.specs.Sizes.{body_bytes};
-ghost use Rattle.jt_trees.specs.Statements.{Body, body_weight};
-ghost use Rattle.jt_trees.specs.StatementView.{body_of};
+ghost use Rattle.jt_ast.specs.Sizes.{body_bytes};
+ghost use Rattle.jt_ast.specs.Statements.{Body, body_weight};
+ghost use Rattle.jt_ast.specs.StatementView.{body_of};
 ghost use Rattle.jt_inherit.specs.Chains.{IsTree, IsRead, IsOnly};
-ghost use Rattle.jt_inherit.specs.Faults.{IsFault, IsFaultOf, IsScan, IsParse};
+ghost use Rattle.jt_inherit.specs.internal.Faults.{IsFault, IsFaultOf, IsScan, IsParse};
 ghost use Rattle.jt_chains.specs.Names.{IsName};
-ghost use Rattle.jt_chains.specs.Pages.{page_view};
-ghost use Rattle.jt_inherit.specs.Ways.{IsWithin};
+ghost use Rattle.jt_chains.specs.TemplateFiles.{file_view};
+ghost use Rattle.jt_inherit.specs.internal.ExtendsPaths.{IsWithin};
 
 use crate::error::ChainError;
-use crate::library::{Library, Origin};
+use crate::library::{Library, Loader};
 use crate::names::is_name;
-use jt_chains::Page;
+use jt_ast::Template;
+use jt_chains::TemplateFile;
 use jt_parse::{ParseError, parse};
 use jt_scan::{Options, ScanError, Source, scan};
-use jt_trees::Template;
 use std::alloc::Global;
 
-/// Reads the template of a name from the library.
-pub(crate) fn read_page<L: Library>(
+/// Reads the template of this name from the library.
+pub(crate) fn read_file<L: Library>(
     alloc: Global,
     name: &str,
-    origin: &Origin<'_, L>,
-) -> Result<Page, ChainError>
+    loader: &Loader<'_, L>,
+) -> Result<TemplateFile, ChainError>
     ensures named { IfOk result (λ p. string_bytes p.name ≡ name.now) }
     ensures read { IfOk result (λ p.
-        IsRead (L.sources origin.now.library.now) origin.now.options (page_view p)) }
+        IsRead (L.sources loader.now.library.now) loader.now.options (file_view p)) }
     ensures only { IfOk result (λ p.
-        IsOnly (L.sources origin.now.library.now) origin.now.options (page_view p)) }
-    ensures within { IfOk result (λ p. IsWithin (L.sources origin.now.library.now) (page_view p)) }
+        IsOnly (L.sources loader.now.library.now) loader.now.options (file_view p)) }
+    ensures within { IfOk result (λ p. IsWithin (L.sources loader.now.library.now) (file_view p)) }
     ensures refused { IfErr result (λ e.
-        IsFaultOf e (L.sources origin.now.library.now) name.now origin.now.options) }
+        IsFaultOf e (L.sources loader.now.library.now) name.now loader.now.options) }
     ensures missing { result ≡ Err ChainError.Missing → IsName name.now }
 {
     if !is_name(name) {
         return Err(ChainError::BadName);
     }
-    let Some(source) = origin.library.source(name) else {
+    let Some(source) = loader.library.source(name) else {
         return Err(ChainError::Missing);
     };
-    let template = template_of(alloc, name, source, origin.options)?;
+    let template = template_of(alloc, name, source, loader.options)?;
     let name = String::from_str(alloc, name)?;
-    Ok(Page::new(alloc, name, template)?)
+    Ok(TemplateFile::new(alloc, name, template)?)
 }
 
-/// The template that the source of a name spells.
+/// Scans and parses the source of the template `name`.
 fn template_of(
     alloc: Global,
     name: &str,
@@ -73,7 +73,7 @@ fn template_of(
     }
 }
 
-/// A refusal of the scanner, with the template's name.
+/// Converts an error of the scanner and adds the template's name to it.
 fn unscanned(alloc: Global, name: &str, refusal: ScanError) -> ChainError
     ensures { IsScan name.now refusal result }
 {
@@ -86,7 +86,7 @@ fn unscanned(alloc: Global, name: &str, refusal: ScanError) -> ChainError
     }
 }
 
-/// A refusal of the parser, with the template's name.
+/// Converts an error of the parser and adds the template's name to it.
 fn unparsed(alloc: Global, name: &str, refusal: ParseError) -> ChainError
     ensures { IsParse name.now refusal result }
 {

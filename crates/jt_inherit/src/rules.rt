@@ -1,26 +1,27 @@
-//! The rules that a whole chain keeps, or a library.
+//! Checks the rules on the blocks, macros and imports of a whole chain or library.
 
-ghost use Rattle.std.specs.Prelude.{◌≡◌, ◌&&◌, ◌||◌, ◌++◌, ◌∷◌, [], List, not, IfOk, IfErr, OnOk, if◌then◌else◌};
+ghost use Rattle.std.specs.Prelude.{◌≡◌, ◌&&◌, ◌||◌, ◌++◌, ◌∷◌, [], List, not, IfOk, IfErr, OnOk};
+ghost use Rattle.std.specs.Prelude.{if◌then◌else◌};
 ghost use Rattle.std.specs.Str.{bytes_eq};
-ghost use Rattle.jt_trees.specs.Texts.{among, repeated, texts};
-ghost use Rattle.jt_trees.specs.Expressions.{Text};
+ghost use Rattle.jt_ast.specs.Texts.{among, repeated, texts};
+ghost use Rattle.jt_ast.specs.Expressions.{Text};
 ghost use Rattle.jt_chains.specs.Along.{ArePlaces, templates_at};
 ghost use Rattle.jt_chains.specs.Chain.{Template};
-ghost use Rattle.jt_inherit.specs.Checks.{lacks_body, lacks_next, block_names};
-ghost use Rattle.jt_inherit.specs.Kept as spec;
-ghost use Rattle.jt_chains.specs.Pages.{pages_view};
+ghost use Rattle.jt_inherit.specs.internal.Checks.{lacks_body, lacks_next, block_names};
+ghost use Rattle.jt_inherit.specs.internal.RuleTests as spec;
+ghost use Rattle.jt_chains.specs.TemplateFiles.{files_view};
 ghost use Rattle.jt_chains.specs.Parts.{blocks_view};
-ghost use Rattle.jt_inherit.specs.Given.{its_sources, its_templates};
+ghost use Rattle.jt_inherit.specs.internal.Given.{its_sources, its_templates};
 
 use crate::error::ChainError;
 use crate::importing::{any_lacks_macros, names_at};
-use crate::shelf::Shelf;
+use crate::store::TemplateStore;
 use crate::supers::calls_super;
-use jt_chains::{Block, Page, blocks_at, blocks_of_page};
+use jt_chains::{Block, TemplateFile, blocks_at, blocks_of_file};
 use std::alloc::{AllocError, Global};
 use std::collections::BTreeSet;
 
-/// Adds a name; whether it was there before.
+/// Adds a name and returns whether the set had it before.
 fn note<'a>(names: &mut BTreeSet<&'a str>, name: &'a str) -> Result<bool, AllocError>
     ensures known { IfOk result (λ known. known ≡ among name.now (texts names.old.keys)) }
     ensures noted { OnOk result ((x : Text) → among x (texts names.new.keys)
@@ -30,7 +31,7 @@ fn note<'a>(names: &mut BTreeSet<&'a str>, name: &'a str) -> Result<bool, AllocE
     Ok(!added)
 }
 
-/// Whether two of the bodies have one name.
+/// Returns whether two of the bodies have the same name.
 pub(crate) fn blocks_repeat(alloc: Global, blocks: &[Block<'_>]) -> Result<bool, AllocError>
     ensures { IfOk result (λ found. found ≡ repeated (block_names blocks.now)) }
 {
@@ -43,7 +44,7 @@ pub(crate) fn blocks_repeat(alloc: Global, blocks: &[Block<'_>]) -> Result<bool,
     Ok(false)
 }
 
-/// Whether two of the names are one.
+/// Returns whether two of the names are equal.
 fn names_repeat(alloc: Global, given: &[&str]) -> Result<bool, AllocError>
     ensures { IfOk result (λ found. found ≡ repeated (texts given.now)) }
 {
@@ -56,14 +57,14 @@ fn names_repeat(alloc: Global, given: &[&str]) -> Result<bool, AllocError>
     Ok(false)
 }
 
-/// Whether a body is asked for that isn't there.
+/// Returns whether a body is required but does not exist.
 fn is_lacking(there: bool, asked: bool) -> bool
     ensures { result ≡ (not there && asked) }
 {
     !there && asked
 }
 
-/// Adds the name of a body to go on with.
+/// Adds the name of a body, unless the body is a required one.
 fn note_given<'a>(given: &mut BTreeSet<&'a str>, block: &Block<'a>) -> Result<(), AllocError>
     ensures { IfOk result (λ _. (x : Text)
         → among x (texts given.new.keys)
@@ -76,7 +77,7 @@ fn note_given<'a>(given: &mut BTreeSet<&'a str>, block: &Block<'a>) -> Result<()
     Ok(())
 }
 
-/// Whether the nearest body of a block is a required one.
+/// Returns whether the nearest body of a block is a required one.
 pub(crate) fn any_lacks_body(alloc: Global, blocks: &[Block<'_>]) -> Result<bool, AllocError>
     ensures { IfOk result
         (λ found. (ts : List Template) → found ≡ lacks_body (blocks_view ts blocks.now)) }
@@ -91,8 +92,8 @@ pub(crate) fn any_lacks_body(alloc: Global, blocks: &[Block<'_>]) -> Result<bool
     Ok(false)
 }
 
-/// Whether a body calls `super()` with none behind it to go on with. The bodies are taken from the
-/// last one on.
+/// Returns whether a body calls `super()` and each body of its block after it, if any, is required.
+/// Visits the bodies from the last to the first.
 pub(crate) fn any_lacks_next(alloc: Global, mut bodies: Vec<Block<'_>>) -> Result<bool, AllocError>
     ensures { IfOk result
         (λ found. (ts : List Template) → found ≡ lacks_next (blocks_view ts bodies.entry.items)) }
@@ -107,19 +108,19 @@ pub(crate) fn any_lacks_next(alloc: Global, mut bodies: Vec<Block<'_>>) -> Resul
     Ok(false)
 }
 
-/// Whether one of the templates at these places has two blocks of one name.
+/// Returns whether a template at `places` has two blocks of one name.
 fn any_double(
     alloc: Global,
-    pages: &[Page],
+    files: &[TemplateFile],
     places: &[usize],
     escaping: bool,
 ) -> Result<bool, AllocError>
-    requires { ArePlaces (pages_view pages.now) places.now }
+    requires { ArePlaces (files_view files.now) places.now }
     ensures { IfOk result (λ found.
-        found ≡ spec.any_double escaping (templates_at (pages_view pages.now) places.now)) }
+        found ≡ spec.any_double escaping (templates_at (files_view files.now) places.now)) }
 {
     for place in places {
-        let blocks = blocks_of_page(alloc, pages, *place, escaping)?;
+        let blocks = blocks_of_file(alloc, files, *place, escaping)?;
         if blocks_repeat(alloc, &blocks)? {
             return Ok(true);
         }
@@ -127,30 +128,30 @@ fn any_double(
     Ok(false)
 }
 
-/// Refuses a chain or a library of the templates at these places where its blocks, macros or
-/// imports break a rule.
+/// Refuses a chain or library, given by its templates, whose blocks, macros or imports break a
+/// rule.
 pub(crate) fn check_rules(
     alloc: Global,
-    shelf: Shelf<'_>,
+    store: TemplateStore<'_>,
     places: &[usize],
     escaping: bool,
 ) -> Result<(), ChainError>
-    requires { ArePlaces (pages_view shelf.pages.now) places.now }
-    ensures kept { OnOk result (spec.KeepAll (its_sources shelf.entry) escaping
-        (its_templates shelf.entry places.now)) }
-    ensures broken { IfErr result (spec.BreakOne (its_sources shelf.entry) escaping
-        (its_templates shelf.entry places.now)) }
+    requires { ArePlaces (files_view store.files.now) places.now }
+    ensures kept { OnOk result (spec.KeepAll (its_sources store.entry) escaping
+        (its_templates store.entry places.now)) }
+    ensures broken { IfErr result (spec.BreakOne (its_sources store.entry) escaping
+        (its_templates store.entry places.now)) }
 {
-    if any_double(alloc, shelf.pages, places, escaping)? {
+    if any_double(alloc, store.files, places, escaping)? {
         return Err(ChainError::DoubleBlock);
     }
-    if any_lacks_macros(shelf, places) {
+    if any_lacks_macros(store, places) {
         return Err(ChainError::NoMacro);
     }
-    if names_repeat(alloc, &names_at(alloc, shelf, places)?)? {
+    if names_repeat(alloc, &names_at(alloc, store, places)?)? {
         return Err(ChainError::MacroTwice);
     }
-    let blocks = blocks_at(alloc, shelf.pages, places, escaping)?;
+    let blocks = blocks_at(alloc, store.files, places, escaping)?;
     if any_lacks_body(alloc, &blocks)? {
         return Err(ChainError::RequiredNotGiven);
     }

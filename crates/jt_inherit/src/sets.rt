@@ -1,38 +1,40 @@
-//! Sets of names, and of chains and libraries, in the order in which they were put. A stranger
-//! chooses the names, so that they are found by their order: no choice makes that slow, as it would
-//! a hash.
+//! Defines sets of names and of namespaces that keep the order of insertion. The names come from
+//! untrusted templates, so the sets use ordered maps: no choice of names makes these slow, as it
+//! could make a hash table.
 
-ghost use Rattle.std.specs.Prelude.{◌≡◌, ◌^◌, ◌<◌, ◌++◌, ◌∷◌, [], false, length, slice_get, Some, OnOk, string_bytes};
-ghost use Rattle.jt_trees.specs.Texts.{among};
+ghost use Rattle.std.specs.Prelude.{◌≡◌, ◌^◌, ◌<◌, ◌++◌, ◌∷◌, [], false, length, slice_get, Some};
+ghost use Rattle.std.specs.Prelude.{OnOk, string_bytes};
+ghost use Rattle.jt_ast.specs.Texts.{among};
 ghost use Rattle.jt_chains.specs.Chain.{listed};
-ghost use Rattle.jt_inherit.specs.Numbers.{AreNumbers, AreNumbers-prop, is_text, is_chain, is_library};
-ghost use Rattle.jt_inherit.specs.SetView.{FindsIn, strings, key_view, keys_view};
+ghost use Rattle.jt_inherit.specs.internal.Numbers.{AreNumbers, AreNumbers-prop, is_text, is_chain};
+ghost use Rattle.jt_inherit.specs.internal.Numbers.{is_library};
+ghost use Rattle.jt_inherit.specs.internal.SetView.{FindsIn, strings, key_view, keys_view};
 
 use std::alloc::{AllocError, Global};
 use std::collections::BTreeMap;
 
-/// A chain, by the name of its entry, or a library, by its own.
+/// A chain, by the name of its entry, or a library, by its own name.
 #[derive(Drop)]
-pub(crate) struct HomeKey {
+pub(crate) struct NamespaceKey {
     pub(crate) name: String,
     pub(crate) is_library: bool,
 }
 
-/// Names, each once.
+/// A set of names, numbered in the order of insertion.
 #[derive(Drop)]
 pub(crate) struct Names {
-    /// They have the numbers from 0 on.
+    /// The names; the index of a name is its number.
     items: Vec<String>,
-    /// The number of each.
+    /// The number of each name.
     numbers: BTreeMap<String, usize>,
     ghost numbered: { AreNumbers is_text items.items
         numbers } by { AreNumbers-prop is_text items.items numbers },
 }
 
 impl Names {
-    ghost use Rattle.jt_inherit.specs.Sets.{names_view};
+    ghost use Rattle.jt_inherit.specs.internal.Sets.{names_view};
 
-    /// None.
+    /// Returns an empty set.
     pub(crate) fn new(alloc: Global) -> Names
         ensures { result.items.items ≡ [] }
     {
@@ -42,14 +44,14 @@ impl Names {
         }
     }
 
-    /// The number of a name.
+    /// Returns the number of a name.
     pub(crate) fn find(&self, name: &str) -> Option<usize>
         ensures { FindsIn among (strings self.now.items.items) name.now result }
     {
         self.numbers.get(name).copied()
     }
 
-    /// Puts a name that isn't there behind the others.
+    /// Appends a name that the set does not have.
     pub(crate) fn put(&mut self, alloc: Global, name: &str) -> Result<(), AllocError>
         requires { among name.now (names_view self.old) ≡ false }
         ensures { OnOk result (names_view self.new ≡ names_view self.old ++ name.now ∷ []) }
@@ -64,14 +66,14 @@ impl Names {
     }
 }
 
-/// Chains and libraries, each once.
+/// A set of chains and libraries, numbered in the order of insertion.
 #[derive(Drop)]
-pub(crate) struct Homes {
-    /// They have the numbers from 0 on.
-    items: Vec<HomeKey>,
-    /// The number of the chain of each name.
+pub(crate) struct Namespaces {
+    /// The chains and libraries; the index of each is its number.
+    items: Vec<NamespaceKey>,
+    /// The number of each chain, by its name.
     chains: BTreeMap<String, usize>,
-    /// The number of the library of each name.
+    /// The number of each library, by its name.
     libraries: BTreeMap<String, usize>,
     ghost chains_numbered: { AreNumbers is_chain items.items
         chains } by { AreNumbers-prop is_chain items.items chains },
@@ -79,22 +81,22 @@ pub(crate) struct Homes {
         libraries } by { AreNumbers-prop is_library items.items libraries },
 }
 
-impl Homes {
-    ghost use Rattle.jt_inherit.specs.Found.{chains_of};
-    ghost use Rattle.jt_inherit.specs.Sets.{homes_view};
+impl Namespaces {
+    ghost use Rattle.jt_inherit.specs.internal.Found.{chains_of};
+    ghost use Rattle.jt_inherit.specs.internal.Sets.{namespaces_view};
 
-    /// None.
-    pub(crate) fn new(alloc: Global) -> Homes
+    /// Returns an empty set.
+    pub(crate) fn new(alloc: Global) -> Namespaces
         ensures { result.items.items ≡ [] }
     {
-        Homes {
+        Namespaces {
             items: Vec::new(alloc),
             chains: BTreeMap::new(alloc),
             libraries: BTreeMap::new(alloc),
         }
     }
 
-    /// How many there are.
+    /// Returns how many chains and libraries there are.
     pub(crate) fn len(&self) -> usize
         ensures len { result ≡ length self.now.items.items }
         ensures small { result < 2 ^ 63 }
@@ -102,49 +104,50 @@ impl Homes {
         self.items.len()
     }
 
-    /// The one of a number.
-    pub(crate) fn get(&self, number: usize) -> &HomeKey
+    /// Returns the chain or library of a number.
+    pub(crate) fn get(&self, number: usize) -> &NamespaceKey
         requires { number < length self.now.items.items }
-        ensures { slice_get (homes_view self.now) number ≡ Some (key_view result.now) }
+        ensures { slice_get (namespaces_view self.now) number ≡ Some (key_view result.now) }
     {
         &self.items[number]
     }
 
-    /// The number of a chain or a library.
-    pub(crate) fn find(&self, home: &HomeKey) -> Option<usize>
-        ensures { FindsIn listed (keys_view self.now.items.items) (key_view home.now) result }
+    /// Returns the number of a chain or library.
+    pub(crate) fn find(&self, namespace: &NamespaceKey) -> Option<usize>
+        ensures { FindsIn listed (keys_view self.now.items.items) (key_view namespace.now) result }
     {
-        if home.is_library {
-            return self.libraries.get(home.name.as_str()).copied();
+        if namespace.is_library {
+            return self.libraries.get(namespace.name.as_str()).copied();
         }
-        self.chains.get(home.name.as_str()).copied()
+        self.chains.get(namespace.name.as_str()).copied()
     }
 
-    /// Puts a chain or a library that isn't there behind the others.
-    pub(crate) fn put(&mut self, alloc: Global, home: HomeKey) -> Result<(), AllocError>
-        requires { listed (key_view home) (homes_view self.old) ≡ false }
-        ensures { OnOk result (homes_view self.new ≡ homes_view self.old ++ key_view home ∷ []) }
+    /// Appends a chain or library that the set does not have.
+    pub(crate) fn put(&mut self, alloc: Global, namespace: NamespaceKey) -> Result<(), AllocError>
+        requires { listed (key_view namespace) (namespaces_view self.old) ≡ false }
+        ensures { OnOk result
+            (namespaces_view self.new ≡ namespaces_view self.old ++ key_view namespace ∷ []) }
     {
         let number = self.items.len();
-        let name = String::from_str(alloc, &home.name)?;
+        let name = String::from_str(alloc, &namespace.name)?;
         self.items.reserve(1)?;
-        if home.is_library {
+        if namespace.is_library {
             self.libraries.insert(name, number)?;
-            self.items.push(home)?;
+            self.items.push(namespace)?;
             return Ok(());
         }
         self.chains.insert(name, number)?;
-        self.items.push(home)?;
+        self.items.push(namespace)?;
         Ok(())
     }
 
-    /// How many of them are chains.
+    /// Returns how many of the namespaces are chains.
     pub(crate) fn count_chains(&self) -> usize
-        ensures { result ≡ length (chains_of (homes_view self.now)) }
+        ensures { result ≡ length (chains_of (namespaces_view self.now)) }
     {
         let mut count = 0;
-        for home in &self.items {
-            if !home.is_library {
+        for namespace in &self.items {
+            if !namespace.is_library {
                 count += 1;
             }
         }

@@ -1,16 +1,15 @@
-//! What the statements of a template name: the template that it extends, and the libraries that it
-//! imports.
+//! Finds the templates that statements name: the parent of a template and its imported libraries.
 
 ghost use Rattle.std.specs.Prelude.{◌≡◌, map, option_map, IfOk};
-ghost use Rattle.jt_trees.specs.StatementView.{body_view};
+ghost use Rattle.jt_ast.specs.StatementView.{body_view};
 ghost use Rattle.jt_chains.specs.Chain.{extends_of, libraries_in};
 ghost use Rattle.jt_chains.specs.Needs.{library_need, need_view, AddsNeeds};
 
+use jt_ast::Stmt;
 use jt_chains::Include;
-use jt_trees::Stmt;
 use std::alloc::AllocError;
 
-/// The name of the template that statements extend.
+/// Returns the name of the template that the statements extend.
 pub(crate) fn parent_of(body: &[Stmt]) -> Option<&str>
     ensures { option_map (λ s. s.now) result ≡ extends_of (body_view body.now) }
 {
@@ -22,7 +21,7 @@ pub(crate) fn parent_of(body: &[Stmt]) -> Option<&str>
     None
 }
 
-/// A library that is imported.
+/// Returns the import of a library.
 fn imported(name: &str) -> Include<'_>
     ensures { need_view result ≡ library_need name.now }
 {

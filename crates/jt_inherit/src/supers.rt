@@ -1,13 +1,14 @@
-//! Whether a block's body calls `super()`, inner blocks apart.
+//! Finds calls of `super()` in the body of a block, nested blocks excluded.
 
 ghost use Rattle.std.specs.Prelude.{◌≡◌, option_map};
-ghost use Rattle.jt_trees.specs.ExpressionView.{expr_view, exprs_view, pairs_view};
+ghost use Rattle.jt_ast.specs.ExpressionView.{expr_view, exprs_view, pairs_view};
 ghost use Rattle.jt_chains.specs.Supers as spec;
-ghost use Rattle.jt_trees.specs.StatementView.{stmt_view, body_view, branches_view, filtering_view, filterings_view};
+ghost use Rattle.jt_ast.specs.StatementView.{stmt_view, body_view, branches_view, filter_call_view};
+ghost use Rattle.jt_ast.specs.StatementView.{filter_calls_view};
 
-use jt_trees::{Branch, Expr, Filtering, Stmt};
+use jt_ast::{Branch, Expr, FilterCall, Stmt};
 
-/// Whether an expression is the name `super`.
+/// Returns whether an expression is the name `super`.
 fn is_super(expr: &Expr) -> bool
     ensures { result ≡ spec.is_super (expr_view expr.now) }
 {
@@ -17,7 +18,7 @@ fn is_super(expr: &Expr) -> bool
     }
 }
 
-/// Whether it is called in an expression.
+/// Returns whether an expression calls `super`.
 #[cycle(expressions)]
 fn has_super(expr: &Expr) -> bool
     ensures { result ≡ spec.has_super (expr_view expr.now) }
@@ -62,7 +63,7 @@ fn has_super(expr: &Expr) -> bool
     }
 }
 
-/// Whether it is called in one of the expressions.
+/// Returns whether one of the expressions calls `super`.
 #[cycle(expressions)]
 fn any_super(items: &[Expr]) -> bool
     ensures { result ≡ spec.row_super (exprs_view items.now) }
@@ -75,7 +76,7 @@ fn any_super(items: &[Expr]) -> bool
     false
 }
 
-/// Whether it is called in one of the values.
+/// Returns whether one of the values calls `super`.
 #[cycle(expressions)]
 fn any_super_pair(pairs: &[(String, Expr)]) -> bool
     ensures { result ≡ spec.pairs_super (pairs_view pairs.now) }
@@ -88,21 +89,21 @@ fn any_super_pair(pairs: &[(String, Expr)]) -> bool
     false
 }
 
-/// Whether it is called in a condition.
+/// Returns whether a condition calls `super`.
 fn condition_super(condition: &Option<Expr>) -> bool
     ensures { result ≡ spec.condition_super (option_map expr_view condition.now) }
 {
     condition.as_ref().is_some_and(has_super)
 }
 
-/// Whether it is called in an argument of one of the filters.
-fn filters_super(filters: &[Filtering]) -> bool
-    ensures { result ≡ spec.filtering_super (filterings_view filters.now) }
+/// Returns whether an argument of one of the filters calls `super`.
+fn filters_super(filters: &[FilterCall]) -> bool
+    ensures { result ≡ spec.filter_call_super (filter_calls_view filters.now) }
 {
     filters.iter().any(|filter| any_super(&filter.arguments) || any_super_pair(&filter.keywords))
 }
 
-/// Whether statements call `super()`, inner blocks apart.
+/// Returns whether statements call `super()`, nested blocks excluded.
 #[cycle(statements)]
 pub(crate) fn calls_super(body: &[Stmt]) -> bool
     ensures { result ≡ spec.calls_super (body_view body.now) }
@@ -115,7 +116,7 @@ pub(crate) fn calls_super(body: &[Stmt]) -> bool
     false
 }
 
-/// Whether one statement does.
+/// Returns whether a statement calls `super()`, nested blocks excluded.
 #[cycle(statements)]
 fn statement_super(statement: &Stmt) -> bool
     ensures { result ≡ spec.stmt_super (stmt_view statement.now) }

@@ -1,8 +1,8 @@
-pub mod Bodied
-pub mod Called
-pub mod Firsts
-pub mod Fronts
-pub mod FirstGiven
-pub mod Homes
-pub mod Named
-pub mod Tables
+pub mod BodyIndices
+pub mod FirstMacro
+pub mod FirstOccurrences
+pub mod OffsetSteps
+pub mod FirstDefinition
+pub mod NamespacesByName
+pub mod NamesInOrder
+pub mod LayoutCorrect

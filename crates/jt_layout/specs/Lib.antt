@@ -1,6 +1,4 @@
-pub mod Front
-pub mod Homes
-pub mod Laid
+pub mod NamespaceLayout
 pub mod Names
-pub mod Places
 pub mod Sums
+pub mod internal

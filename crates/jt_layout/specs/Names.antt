@@ -1,11 +1,11 @@
--- Names and their places, and not where they lie in memory.
+-- Names and their numbers, without their memory.
 use Rattle.std.specs.Prelude.{ℕ, Option}
 use Rattle.std.specs.Ordering.{nat_cmp}
 use Rattle.std.specs.Cmp.Lexicographic.{slice_cmp}
 use Rattle.std.specs.BTreeMap.{BTreeMap, get_by}
 use denote.Ref.{Bor}
-use Rattle.jt_trees.specs.Expressions.{Text}
+use Rattle.jt_ast.specs.Expressions.{Text}
 
--- the place of a name
+-- The number of a name.
 abbrev pub place_in : BTreeMap (Bor Text) ℕ → Text → Option ℕ
 place_in m x = get_by (λ k. slice_cmp nat_cmp x k.now) m

@@ -1,7 +1,7 @@
--- Sums that may pass the type.
+-- Sums that may overflow.
 use Rattle.std.specs.Prelude.{◌≡◌, ℕ, ◌+◌, ◌≤◌, ◌^◌, Result, Ok, Err}
 
--- a sum, or an error where it passes the type
+-- The result is the sum, or an error if the sum overflows.
 abbrev pub IsSum : {E : Type 0} → ℕ → ℕ → Result ℕ E → Type 0
 IsSum m n (Ok k) = k ≡ m + n
 IsSum m n (Err e) = 2 ^ 64 ≤ m + n

@@ -1,41 +1,41 @@
-//! The bodies of the blocks of a chain.
+//! Indexes the bodies of the blocks of a chain.
 
 ghost use Rattle.std.specs.Prelude.{◌≡◌, ◌<◌, ◌&&◌, List, length, map, IfOk};
 ghost use Rattle.std.specs.List.{list_any};
 ghost use Rattle.std.specs.Option.{is_some};
 ghost use Rattle.std.specs.Str.{bytes_eq};
-ghost use Rattle.jt_trees.specs.Expressions.{Text};
+ghost use Rattle.jt_ast.specs.Expressions.{Text};
 ghost use Rattle.jt_chains.specs.Chain.{Template};
 ghost use Rattle.jt_chains.specs.Parts.{block_view, blocks_view};
 ghost use Rattle.jt_chains.specs.Uses as uses;
-ghost use Rattle.jt_meaning.specs.Layout.{counted_from, is_scoped};
-ghost use Rattle.jt_trees.specs.Texts.{texts};
-ghost use Rattle.jt_chains.specs.View.{home_in, its_sources, its_templates};
-ghost use Rattle.jt_layout.specs.Homes.{its_world, its_bodies};
+ghost use Rattle.jt_semantics.specs.Layout.{counted_from, is_scoped};
+ghost use Rattle.jt_ast.specs.Texts.{texts};
+ghost use Rattle.jt_chains.specs.View.{namespace_in, its_sources, its_templates};
+ghost use Rattle.jt_layout.specs.internal.Namespaces.{its_cenv, its_bodies};
 ghost use Rattle.jt_layout.specs.Names.{place_in};
-ghost use Rattle.jt_layout.specs.Places.{nexts, ArePlaces};
+ghost use Rattle.jt_layout.specs.internal.Places.{nexts, ArePlaces};
 
-use crate::index::Index;
+use crate::index::NameIndex;
 use crate::lists::{block_names, list_of};
 use jt_chains::{Block, Chain};
 use jt_names::scope_names;
 use jt_value::NoMemory;
 use std::alloc::Global;
 
-/// The first body of each block.
-fn first_bodies<'a>(alloc: Global, blocks: &[Block<'a>]) -> Result<Index<'a>, NoMemory>
+/// Returns the index of the first body of each block, by the name of the block.
+fn first_bodies<'a>(alloc: Global, blocks: &[Block<'a>]) -> Result<NameIndex<'a>, NoMemory>
     ensures { IfOk result (λ i. ArePlaces 0 (map (λ k. k.name.now) blocks.now) i.places) }
 {
     let names = block_names(alloc, blocks)?;
-    Index::of(alloc, &names, 0)
+    NameIndex::of(alloc, &names, 0)
 }
 
-/// For each body the next one of its block that is not required.
+/// Returns for each body the index of the next body of its block that is not required.
 fn next_bodies(alloc: Global, blocks: &[Block<'_>]) -> Result<Vec<Option<usize>>, NoMemory>
     ensures { IfOk result (λ ns.
         (ts : List Template) → ns.items ≡ nexts (counted_from 0 (map (block_view ts) blocks.now))) }
 {
-    let mut given = Index::new(alloc);
+    let mut given = NameIndex::new(alloc);
     let mut next = vec![in alloc; None; blocks.len()]?;
     let mut left = blocks.len();
     while left > 0 {
@@ -50,13 +50,13 @@ fn next_bodies(alloc: Global, blocks: &[Block<'_>]) -> Result<Vec<Option<usize>>
     Ok(next)
 }
 
-/// The blocks of which a tag says `scoped`.
-fn scoped_blocks<'a>(alloc: Global, blocks: &[Block<'a>]) -> Result<Index<'a>, NoMemory>
+/// Returns the names of the blocks that have a `scoped` tag.
+fn scoped_blocks<'a>(alloc: Global, blocks: &[Block<'a>]) -> Result<NameIndex<'a>, NoMemory>
     ensures { IfOk result (λ i. (ts : List Template) (x : Text)
         → is_some (place_in i.places x)
         ≡ list_any (λ b. b.scoped && bytes_eq b.name x) (map (block_view ts) blocks.now)) }
 {
-    let mut scoped = Index::new(alloc);
+    let mut scoped = NameIndex::new(alloc);
     for block in blocks {
         if !block.scoped {
             continue;
@@ -70,34 +70,36 @@ fn scoped_blocks<'a>(alloc: Global, blocks: &[Block<'a>]) -> Result<Index<'a>, N
 #[derive(Drop)]
 pub(crate) struct Bodies<'a> {
     pub(crate) all: Vec<Block<'a>>,
-    /// The first body of each block, and the next one of each that is not required.
-    pub(crate) firsts: Index<'a>,
+    /// The index of the first body of each block, by its name.
+    pub(crate) firsts: NameIndex<'a>,
+    /// For each body, the index of the next body of its block that is not required.
     pub(crate) nexts: Vec<Option<usize>>,
-    /// The names that the chain's scopes bind, and the blocks that have them as parameters.
+    /// The names that the chain's scopes bind.
     pub(crate) scope_names: Vec<&'a str>,
-    pub(crate) scoped: Index<'a>,
+    /// The blocks that have these names as parameters.
+    pub(crate) scoped: NameIndex<'a>,
 }
 
-/// The bodies of the blocks of a chain.
+/// Returns the bodies of the blocks of a chain.
 pub(crate) fn bodies_of<'a>(
     alloc: Global,
     chain: &'a Chain,
-    home: usize,
+    namespace: usize,
 ) -> Result<Bodies<'a>, NoMemory>
-    requires { home < length chain.now.homes.items }
+    requires { namespace < length chain.now.namespaces.items }
     ensures all { IfOk result
-        (λ b. blocks_view (its_templates chain.now) b.all.items ≡ its_bodies chain.now home) }
+        (λ b. blocks_view (its_templates chain.now) b.all.items ≡ its_bodies chain.now namespace) }
     ensures firsts { IfOk result
         (λ b. ArePlaces 0 (map (λ k. k.name.now) b.all.items) b.firsts.places) }
     ensures nexts { IfOk result
-        (λ b. b.nexts.items ≡ nexts (counted_from 0 (its_bodies chain.now home))) }
+        (λ b. b.nexts.items ≡ nexts (counted_from 0 (its_bodies chain.now namespace))) }
     ensures names { IfOk result (λ b. texts b.scope_names.items
-        ≡ uses.scope_names (its_sources chain.now) (home_in chain.now home)) }
+        ≡ uses.scope_names (its_sources chain.now) (namespace_in chain.now namespace)) }
     ensures scoped { IfOk result (λ b. (x : Text) → is_some (place_in b.scoped.places x)
-        ≡ is_scoped (its_world chain.now) (home_in chain.now home) x) }
+        ≡ is_scoped (its_cenv chain.now) (namespace_in chain.now namespace) x) }
 {
-    let scope_names = list_of(alloc, scope_names(alloc, chain, home)?)?;
-    let all = chain.blocks(alloc, home)?;
+    let scope_names = list_of(alloc, scope_names(alloc, chain, namespace)?)?;
+    let all = chain.blocks(alloc, namespace)?;
     let firsts = first_bodies(alloc, &all)?;
     let nexts = next_bodies(alloc, &all)?;
     let scoped = scoped_blocks(alloc, &all)?;

@@ -1,15 +1,15 @@
-//! Sums of places.
+//! Adds numbers without overflow.
 
 ghost use Rattle.jt_layout.specs.Sums.{IsSum};
 
 use jt_value::NoMemory;
 
-/// So many more.
+/// Returns `count + by`.
 ///
 /// # Errors
 ///
-/// `NoMemory` where the sum passes the type.
-pub fn more(count: usize, by: usize) -> Result<usize, NoMemory>
+/// `NoMemory` if the sum overflows.
+pub fn checked_sum(count: usize, by: usize) -> Result<usize, NoMemory>
     ensures { IsSum count by result }
 {
     count.checked_add(by).ok_or(NoMemory)

@@ -1,9 +1,9 @@
-//! What is in front of a chain.
+//! Defines the first free numbers at a chain.
 
-/// The first slot, the first unit and the first place of a default that the chains in front do not
-/// have.
+/// The first slot, the first unit and the first pool place of a default that the chains before do
+/// not use.
 #[derive(Clone, Copy)]
-pub(crate) struct Front {
+pub(crate) struct FirstFree {
     pub(crate) slot: usize,
     pub(crate) unit: usize,
     pub(crate) default: usize,

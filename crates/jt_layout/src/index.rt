@@ -1,47 +1,48 @@
-//! Places of names.
+//! Defines an index from names to numbers.
 
 ghost use Rattle.std.specs.Prelude.{◌≡◌, IfOk, Some, None, if◌then◌else◌};
-ghost use Rattle.jt_trees.specs.Texts.{texts};
+ghost use Rattle.jt_ast.specs.Texts.{texts};
 ghost use Rattle.std.specs.Str.{bytes_eq};
-ghost use Rattle.jt_trees.specs.Expressions.{Text};
+ghost use Rattle.jt_ast.specs.Expressions.{Text};
 ghost use Rattle.jt_layout.specs.Names.{place_in};
-ghost use Rattle.jt_layout.specs.Places.{ArePlaces};
+ghost use Rattle.jt_layout.specs.internal.Places.{ArePlaces};
 
-use crate::count::more;
+use crate::count::checked_sum;
 use jt_value::NoMemory;
 use std::alloc::Global;
 use std::collections::BTreeMap;
 
-/// A place for each of some names.
+/// A number for each name of a set.
 #[derive(Drop)]
-pub struct Index<'a> {
+pub struct NameIndex<'a> {
     pub places: BTreeMap<&'a str, usize>,
 }
 
-impl<'a> Index<'a> {
-    /// No names.
+impl<'a> NameIndex<'a> {
+    /// Returns an empty index.
     pub fn new(alloc: Global) -> Self
         ensures { (x : Text) → place_in result.places x ≡ None }
     {
-        Index {
+        NameIndex {
             places: BTreeMap::new(alloc),
         }
     }
 
-    /// The places of names, from one on; the first of a name counts.
+    /// Returns the index that numbers the names from `first` on; the first occurrence of a name
+    /// counts.
     pub(crate) fn of(alloc: Global, names: &[&'a str], first: usize) -> Result<Self, NoMemory>
         ensures { IfOk result (λ i. ArePlaces first (texts names.now) i.places) }
     {
-        let mut index = Index::new(alloc);
+        let mut index = NameIndex::new(alloc);
         let mut left = names.len();
         while left > 0 {
             left -= 1;
-            index.put(names[left], more(first, left)?)?;
+            index.put(names[left], checked_sum(first, left)?)?;
         }
         Ok(index)
     }
 
-    /// Gives a name its place, in the stead of an earlier one.
+    /// Maps a name to a number and replaces an earlier entry of the name.
     pub fn put(&mut self, name: &'a str, place: usize) -> Result<(), NoMemory>
         ensures { IfOk result (λ u. (x : Text)
             → place_in self.new.places x
@@ -51,7 +52,7 @@ impl<'a> Index<'a> {
         Ok(())
     }
 
-    /// The place of a name.
+    /// Returns the number of a name.
     pub fn place(&self, name: &str) -> Option<usize>
         ensures { result ≡ place_in self.now.places name.now }
     {

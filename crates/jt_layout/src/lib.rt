@@ -1,26 +1,27 @@
-//! How the names, macros and bodies of chains and libraries are laid out: names in slots of
-//! globals, macros and bodies as units.
+//! Lays out the names, macros and bodies of chains and libraries: names in global slots, macros and
+//! bodies as units.
 //!
-//! `lay_out` (laying) makes a table of each chain and library (laid), and all of them together are
-//! a `HomeTables` (home_tables). Read first: specs/Laid.antt, what the tables say.
+//! `lay_out` (in `layout`) makes a `NamespaceLayout` of each chain and library; a `NamespaceTables`
+//! holds all of them. Read first: specs/NamespaceLayout.antt, which defines the meaning of the
+//! tables.
 #![tactic(auto)]
 
 mod bodies;
+mod collected;
 mod count;
 mod front;
-mod gathered;
 mod given;
-mod home_tables;
 mod index;
-mod laid;
-mod laying;
+mod layout;
 mod lists;
 mod macros;
+mod namespace_layout;
+mod namespace_tables;
 mod places;
 
-pub use count::more;
-pub use home_tables::HomeTables;
-pub use index::Index;
+pub use count::checked_sum;
+pub use index::NameIndex;
 pub use jt_value::NoMemory;
-pub use laid::Laid;
-pub use laying::lay_out;
+pub use layout::lay_out;
+pub use namespace_layout::NamespaceLayout;
+pub use namespace_tables::NamespaceTables;

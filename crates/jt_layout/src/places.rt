@@ -1,35 +1,36 @@
-//! The places of chains and libraries.
+//! Indexes chains and libraries by their names.
 
 ghost use Rattle.std.specs.Prelude.{◌≡◌, map, IfOk};
-ghost use Rattle.jt_trees.specs.Expressions.{Text};
-ghost use Rattle.jt_chains.specs.Pages.{home_view};
+ghost use Rattle.jt_ast.specs.Expressions.{Text};
+ghost use Rattle.jt_chains.specs.TemplateFiles.{namespace_view};
 ghost use Rattle.jt_layout.specs.Names.{place_in};
-ghost use Rattle.jt_layout.specs.Places.{home_named, first_home};
+ghost use Rattle.jt_layout.specs.internal.Places.{namespace_named, first_namespace};
 
-use crate::index::Index;
-use jt_chains::Home;
+use crate::index::NameIndex;
+use jt_chains::Namespace;
 use jt_value::NoMemory;
 use std::alloc::Global;
 
-/// The places of the chains, or of the libraries, by their names: one of each may have the same
-/// name.
-pub(crate) fn home_places<'a>(
+/// Returns the indices of the chains, or those of the libraries, by name. A chain and a library may
+/// have the same name.
+pub(crate) fn namespace_places<'a>(
     alloc: Global,
-    homes: &'a [Home],
+    namespaces: &'a [Namespace],
     libraries: bool,
-) -> Result<Index<'a>, NoMemory>
+) -> Result<NameIndex<'a>, NoMemory>
     ensures { IfOk result (λ i. (x : Text)
-        → place_in i.places x ≡ first_home (home_named libraries x) 0 (map home_view homes.now)) }
+        → place_in i.places x
+        ≡ first_namespace (namespace_named libraries x) 0 (map namespace_view namespaces.now)) }
 {
-    let mut places = Index::new(alloc);
-    let mut left = homes.len();
+    let mut places = NameIndex::new(alloc);
+    let mut left = namespaces.len();
     while left > 0 {
         left -= 1;
-        let home = &homes[left];
-        if home.is_library != libraries {
+        let namespace = &namespaces[left];
+        if namespace.is_library != libraries {
             continue;
         }
-        places.put(home.name.as_str(), left)?;
+        places.put(namespace.name.as_str(), left)?;
     }
     Ok(places)
 }

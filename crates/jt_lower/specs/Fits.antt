@@ -1,34 +1,35 @@
--- What a program must keep so that its code does what it means: each number is in its table, each
--- row has as many values as what takes it, and fields of loops stand in loops.
-use Rattle.std.specs.Prelude.{◌≡◌, ℕ, ◌<◌, ◌≤◌, Bool, true, false, IsTrue, List, [], ◌∷◌, length, Option, Some, None, slice_get}
+-- The conditions under which a program's code does what it means. Each number is in its table, each
+-- operation has the values that it takes, and loop fields occur only in loops.
+use Rattle.std.specs.Prelude.{◌≡◌, ℕ, ◌<◌, ◌≤◌, Bool, true, false, IsTrue, List, [], ◌∷◌, length, Option, Some, None}
+use Rattle.std.specs.Prelude.{slice_get}
 use Rattle.jt_value.specs.Tree as tree
 use Rattle.jt_value.specs.Tree.{Tree}
 use Rattle.jt_ids.specs.OpTable.{op_operands}
 use Rattle.jt_ids.specs.TestTable.{test_values}
-use Rattle.jt_filter_meaning.specs.FilterIds.{filter_of, accepts}
+use Rattle.jt_filter_semantics.specs.FilterIds.{filter_of, accepts}
 use Rattle.jt_image.specs.Typed.{max_entries}
-use Rattle.jt_resolved.specs.Takes.{InPairs}
-use Rattle.jt_trees.specs.Expressions.{Text}
-use Rattle.jt_resolved.specs.Slots as slots
-use Rattle.jt_resolved.specs.Slots.{Slot, local, global, Maker, SlotExpr, SRow, Targets, SlotStmt, SBody, Routine, Program}
-use Rattle.jt_resolved.specs.Size.{row_count, body_height}
+use Rattle.jt_ir.specs.Takes.{InPairs}
+use Rattle.jt_ast.specs.Expressions.{Text}
+use Rattle.jt_ir.specs.Slots as slots
+use Rattle.jt_ir.specs.Slots.{Slot, local, global, NaryOp, SlotExpr, SRow, Targets, SlotStmt, SBody, Routine, Program}
+use Rattle.jt_ir.specs.Size.{row_count, body_height}
 
--- each takes so many values
-abbrev pub MakerFits : Maker → ℕ → Type 0
-MakerFits (slots.operator o) n = op_operands o ≡ n
-MakerFits (slots.test t) n = test_values t ≡ n
-MakerFits (slots.filter f escaping) n = IsTrue (accepts (filter_of f) n)
-MakerFits slots.a_list n = Unit {0}
-MakerFits slots.a_map n = InPairs n
+-- The operation takes `n` values.
+abbrev pub NaryOpFits : NaryOp → ℕ → Type 0
+NaryOpFits (slots.operator o) n = op_operands o ≡ n
+NaryOpFits (slots.test t) n = test_values t ≡ n
+NaryOpFits (slots.filter f escaping) n = IsTrue (accepts (filter_of f) n)
+NaryOpFits slots.a_list n = Unit {0}
+NaryOpFits slots.a_map n = InPairs n
 
--- the routine of a call takes so many values
+-- The routine of a call exists and takes `n` values.
 pub record TakesRow (rs : List (Routine ℕ)) (u : ℕ) (n : ℕ) : Type 0 where
   pub routine : Routine ℕ
   pub is : slice_get rs u ≡ Some routine
   pub parameters : routine.parameters ≡ n
 
--- constants and variables alone: nothing of the row fails, so that each fault of a statement is met
--- in a tag
+-- The arguments are only constants and variables and cannot fail: each fault of a statement occurs
+-- in a tag.
 abbrev pub IsBare : {K : Type 0} → SRow K → Type 0
 IsBare slots.none = Unit {0}
 IsBare (slots.item (slots.pooled i) es) = IsBare es
@@ -36,7 +37,7 @@ IsBare (slots.item (slots.variable s) es) = IsBare es
 IsBare (slots.item e es) = ⊥
 IsBare (slots.aside i e es) = ⊥
 
--- said of the slot, if there is one; of each of them; and of what takes a value
+-- A property of a slot, if it exists; of each slot in a list; and of each slot of the targets.
 abbrev pub OfSome : (Slot → Type 0) → Option Slot → Type 0
 OfSome P None = Unit {0}
 OfSome P (Some s) = P s
@@ -49,20 +50,20 @@ abbrev pub OfTargets : (Slot → Type 0) → Targets → Type 0
 OfTargets P (slots.one s) = P s
 OfTargets P (slots.several ss) = OfSlots P ss
 
--- in a program, in a routine of so many locals
+-- The conditions in a program and a routine with this number of locals.
 module _ (p : Program) (locals : ℕ) where
   abbrev pub SlotFits : Slot → Type 0
   SlotFits (local i) = i < locals
   SlotFits (global i) = i < p.globals
 
-  -- true inside a loop of the routine
+  -- The conditions on expressions; the flag is true inside a loop of the routine.
   abbrev mutual
     pub ExprFits : Bool → SlotExpr ℕ → Type 0
     ExprFits inside (slots.pooled i) = i < length p.pool
     ExprFits inside (slots.variable s) = SlotFits s
     ExprFits inside (slots.field f) = inside ≡ true
     ExprFits inside slots.absent = ⊥
-    ExprFits inside (slots.made k es) = MakerFits k (row_count es) × RowFits inside es
+    ExprFits inside (slots.made k es) = NaryOpFits k (row_count es) × RowFits inside es
     ExprFits inside (slots.conjunction a b) = ExprFits inside a × ExprFits inside b
     ExprFits inside (slots.disjunction a b) = ExprFits inside a × ExprFits inside b
     ExprFits inside (slots.choice c a b) = ExprFits inside c × ExprFits inside a × ExprFits inside b
@@ -74,12 +75,12 @@ module _ (p : Program) (locals : ℕ) where
     RowFits inside (slots.item e es) = ExprFits inside e × RowFits inside es
     RowFits inside (slots.aside i e es) = (i < locals) × ExprFits inside e × RowFits inside es
 
-  -- a condition sees no loop
+  -- The condition of a loop fits; it sees no loop.
   abbrev pub ConditionFits : Option (SlotExpr ℕ) → Type 0
   ConditionFits None = Unit {0}
   ConditionFits (Some c) = ExprFits false c
 
-  -- a plain text of the pool
+  -- The value is a plain text.
   abbrev pub TextFits : ℕ → Type 0
   TextFits i = (t : Text) × (slice_get p.pool i ≡ Some (tree.text t))
 
@@ -104,12 +105,12 @@ module _ (p : Program) (locals : ℕ) where
     BodyFits inside slots.end = Unit {0}
     BodyFits inside (slots.stmt s rest) = StmtFits inside s × BodyFits inside rest
 
--- a routine begins outside loops, and needs no more entries than a shape may have
-pub record RoutineFits (p : Program) (r : Routine ℕ) : Type 0 where
-  pub body : BodyFits p r.locals false r.body
-  pub low : body_height r.body ≤ max_entries
+-- A routine starts outside loops, and needs no more entries than a shape may have.
+pub record RoutineFits (program : Program) (routine : Routine ℕ) : Type 0 where
+  pub body : BodyFits program routine.locals false routine.body
+  pub low : body_height routine.body ≤ max_entries
 
--- no list and no map
+-- The value is neither a list nor a map.
 abbrev pub IsPooled : Tree → Type 0
 IsPooled (tree.list ts) = ⊥
 IsPooled (tree.map es) = ⊥

@@ -1,28 +1,28 @@
--- What resolving must keep beside what each operation takes, before constants have their places in
--- the pool: then the program fits.
+-- The conditions on resolved routines, other than arity, before constants have places in the pool.
+-- With them the program fits.
 use Rattle.std.specs.Prelude.{◌≡◌, ℕ, ◌<◌, ◌≤◌, false, List, ◌++◌, length, Option, Some, None, slice_get}
 use Rattle.std.specs.List.{AllByRecursion}
 use Rattle.jt_value.specs.Tree as tree
 use Rattle.jt_value.specs.Tree.{Tree}
 use Rattle.jt_image.specs.Typed.{max_entries}
-use Rattle.jt_trees.specs.Expressions.{Text}
-use Rattle.jt_resolved.specs.Slots as slots
-use Rattle.jt_resolved.specs.Slots.{Slot, local, global, SlotExpr, SRow, Targets, SlotStmt, SBody, Routine, Program}
-use Rattle.jt_evaluation.specs.TheFilters.{the_filters}
-use Rattle.jt_resolved.specs.Takes.{BodyTakes}
-use Rattle.jt_resolved.specs.Locals.{body_locals}
-use Rattle.jt_resolved.specs.Pool.{Constant, own, known, routines_values, placed_routines}
-use Rattle.jt_resolved.specs.Size.{body_height}
+use Rattle.jt_ast.specs.Expressions.{Text}
+use Rattle.jt_ir.specs.Slots as slots
+use Rattle.jt_ir.specs.Slots.{Slot, local, global, SlotExpr, SRow, Targets, SlotStmt, SBody, Routine, Program}
+use Rattle.jt_eval.specs.TheFilters.{the_filters}
+use Rattle.jt_ir.specs.Takes.{BodyTakes}
+use Rattle.jt_ir.specs.Locals.{body_locals}
+use Rattle.jt_ir.specs.Pool.{Constant, own, known, routines_values, placed_routines}
+use Rattle.jt_ir.specs.Size.{body_height}
 use Rattle.jt_lower.specs.Fits.{IsBare, OfTargets, IsPooled}
 
--- Under so many values in front of the pool, and so many globals. Locals need no law: a routine has
--- as many as its body uses.
+-- `front` is the number of given values before the pool's own, and `globals` the number of globals.
+-- Locals need no condition, since a routine has the locals that its body uses.
 module _ (front globals : ℕ) where
   abbrev pub ConstantLawful : Constant → Type 0
   ConstantLawful (own v) = IsPooled v
   ConstantLawful (known i) = i < front
 
-  -- a plain text
+  -- The constant is a plain text.
   abbrev pub TextLawful : Constant → Type 0
   TextLawful (own (tree.text t)) = Unit {0}
   TextLawful k = ⊥
@@ -71,12 +71,12 @@ module _ (front globals : ℕ) where
     BodyLawful slots.end = Unit {0}
     BodyLawful (slots.stmt s rest) = StmtLawful s × BodyLawful rest
 
--- the routine has the locals that it uses
+-- The routine has the locals that it uses.
 pub record RoutineLawful (front globals : ℕ) (r : Routine Constant) : Type 0 where
   pub body : BodyLawful front globals r.body
   pub locals : body_locals r.body ≤ r.locals
 
--- the program of routines, with these values in front of the pool
+-- The program of these routines, with the given values first in the pool.
 abbrev pub program_with : List Text → ℕ → List Tree → List (Routine Constant) → Program
 program_with names globals front rs =
     record {
@@ -90,7 +90,8 @@ pub record AreLawful (names : List Text) (globals : ℕ) (front : List Tree) (rs
   pub few : length names ≤ globals
   pub pooled : AllByRecursion IsPooled front
   pub routines : AllByRecursion (RoutineLawful (length front) globals) rs
-  -- each operation and call gets as many values as it takes, and fields stand in loops
+  -- Each operation and each call has the number of values that it takes, and loop fields occur in
+  -- loops.
   pub takes :
       AllByRecursion (λ (r : Routine ℕ).
       BodyTakes the_filters (program_with names globals front rs).routines false r.body)
@@ -98,6 +99,6 @@ pub record AreLawful (names : List Text) (globals : ℕ) (front : List Tree) (rs
   pub entry : Routine Constant
   pub is_entry : slice_get rs 0 ≡ Some entry
 
--- no routine needs more entries than a shape may have
+-- No routine needs more entries than a shape may have.
 abbrev pub AreLow : List (Routine Constant) → Type 0
 AreLow rs = AllByRecursion (λ (r : Routine Constant). body_height r.body ≤ max_entries) rs

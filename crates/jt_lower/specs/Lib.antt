@@ -1,5 +1,5 @@
 pub mod Asm
-pub mod Spots
+pub mod SourceLocs
 pub mod Lower
 pub mod Fits
 pub mod Lawful

@@ -1,4 +1,4 @@
--- The code of resolved programs, its jumps still in pairs.
+-- The structured code of resolved programs.
 use Rattle.std.specs.Prelude.{ℕ, zero, suc, Bool, true, false, List, [], ◌∷◌, ◌++◌, length, map, Option, Some, None}
 use Rattle.std.specs.List.{flat_map}
 use Rattle.jt_ids.specs.OpTable.{op_id}
@@ -11,31 +11,31 @@ use Rattle.jt_image.specs.Code.{Name, Section, Code}
 pub use Rattle.jt_constants.specs.Merged.{constant_of}
 use Rattle.jt_constants.specs.Merged.{merged}
 use Rattle.jt_value.specs.Place.{Place}
-use Rattle.jt_trees.specs.Expressions.{Text}
-use Rattle.jt_resolved.specs.Size.{row_count}
-use Rattle.jt_resolved.specs.Slots as slots
-use Rattle.jt_resolved.specs.Slots.{Slot, local, global, Maker, SlotExpr, SRow, Targets, SlotStmt, SBody, Routine, Program}
+use Rattle.jt_ast.specs.Expressions.{Text}
+use Rattle.jt_ir.specs.Size.{row_count}
+use Rattle.jt_ir.specs.Slots as slots
+use Rattle.jt_ir.specs.Slots.{Slot, local, global, NaryOp, SlotExpr, SRow, Targets, SlotStmt, SBody, Routine, Program}
 use Rattle.jt_lower.specs.Asm.{Asm, nil, one, both, choose, when, each, invoke, flat, places}
-use Rattle.jt_lower.specs.Spots.{templates_of, spot_of}
+use Rattle.jt_lower.specs.SourceLocs.{templates_of, loc_of}
 
--- keys and values in turn are half as many entries
+-- Half of a number of values: the number of entries that alternating keys and values make.
 abbrev pub half : ℕ → ℕ
 half zero = zero
 half (suc zero) = zero
 half (suc (suc n)) = suc (half n)
 
--- escaped or not, markup or plain
+-- The flag of an instruction: 1 for escaped or markup, 0 for plain.
 abbrev pub flag : Bool → ℕ
 flag true = 1
 flag false = 0
 
--- what makes one value of that many
-abbrev pub maker : Maker → ℕ → Instruction
-maker (slots.operator o) n = op.Op (op_id o)
-maker (slots.test t) n = op.Test (test_id t) n
-maker (slots.filter f escaping) n = op.Filter f n (flag escaping)
-maker slots.a_list n = op.MakeList n
-maker slots.a_map n = op.MakeMap (half n)
+-- The instruction that makes one value of `n` values.
+abbrev pub nary_op : NaryOp → ℕ → Instruction
+nary_op (slots.operator o) n = op.Op (op_id o)
+nary_op (slots.test t) n = op.Test (test_id t) n
+nary_op (slots.filter f escaping) n = op.Filter f n (flag escaping)
+nary_op slots.a_list n = op.MakeList n
+nary_op slots.a_map n = op.MakeMap (half n)
 
 abbrev pub load_of : Slot → Instruction
 load_of (local i) = op.Load i
@@ -45,16 +45,16 @@ abbrev pub store_of : Slot → Instruction
 store_of (local i) = op.Store i
 store_of (global i) = op.GStore i
 
--- Each has the place of its tag, which a fault of it gets, and the entries above the innermost loop
--- of its routine.
+-- The structured code of expressions. The arguments are the place of the tag, which faults get, and
+-- the number of entries above the innermost loop of the routine.
 abbrev mutual
   pub expr_asm : Option Place → SlotExpr ℕ → ℕ → Asm
   expr_asm o (slots.pooled i) h = one o (op.Const i)
   expr_asm o (slots.variable s) h = one o (load_of s)
   expr_asm o (slots.field f) h = one o (op.LoopGet (field_id f) h)
   expr_asm o slots.absent h = nil
-  expr_asm o (slots.made k es) h = both (row_asm o es h) (one o (maker k (row_count es)))
-  -- the right operand in place of the left one
+  expr_asm o (slots.made k es) h = both (row_asm o es h) (one o (nary_op k (row_count es)))
+  -- The right operand replaces the left one.
   expr_asm o (slots.conjunction a b) h =
       both (expr_asm o a h)
       (both (one o op.Dup) (choose (both (one o op.Drop) (expr_asm o b h)) nil))
@@ -73,12 +73,12 @@ abbrev mutual
   row_asm o (slots.aside i e es) h =
       both (expr_asm o e h) (both (one o (op.Store i)) (row_asm o es h))
 
--- a value into a slot, or into none
+-- The store of a value into a slot; without a slot the value is dropped.
 abbrev pub store_if_of : Option Slot → Instruction
 store_if_of None = op.Drop
 store_if_of (Some s) = store_of s
 
--- values into slots, the last one first
+-- The stores of values into slots, the last value first.
 abbrev pub stores_asm : Option Place → List (Option Slot) → Asm
 stores_asm o [] = nil
 stores_asm o (s ∷ ss) = both (stores_asm o ss) (one o (store_if_of s))
@@ -87,15 +87,15 @@ abbrev pub take_asm : Option Place → Targets → Asm
 take_asm o (slots.one s) = one o (store_of s)
 take_asm o (slots.several ss) = both (one o (op.Unpack (length ss))) (stores_asm o ss)
 
--- the item of a turn is taken, and then this is done
+-- A turn: the item is stored in the targets, then the body is executed.
 abbrev pub turn_asm : Option Place → Targets → Asm → Asm
 turn_asm o xs body = both (both (one o (op.LoopGet 0 0)) (take_asm o xs)) body
 
--- the turns of the loop at the top, and the other part where there was none
+-- The turns of the loop on top, and the `else` part if it has no turn.
 abbrev pub over_asm : Option Place → Targets → Asm → Asm → Asm
 over_asm o xs body other = both (each (turn_asm o xs body)) (both (one o op.LoopEnd) (when other))
 
--- the items for which the condition holds, in place of all
+-- The pass that keeps the items for which the condition holds.
 abbrev pub kept_asm : Option Place → Targets → Option (SlotExpr ℕ) → Asm
 kept_asm o xs None = nil
 kept_asm o xs (Some c) =
@@ -123,7 +123,7 @@ abbrev mutual
   body_asm slots.end h = nil
   body_asm (slots.stmt s rest) h = both (stmt_asm s h) (body_asm rest h)
 
--- a routine's unit: its body, and Return
+-- The unit of a routine: its body, then `Return`.
 abbrev pub unit_of : Routine ℕ → Section
 unit_of r =
     record {
@@ -133,32 +133,32 @@ unit_of r =
       code = flat (body_asm r.body 0) 0 ++ op.Return ∷ [];
     }
 
--- each name with its slot
+-- The names with their slots.
 abbrev pub numbered : ℕ → List Text → List Name
 numbered n [] = []
 numbered n (x ∷ xs) = record { slot = n; text = x } ∷ numbered (suc n) xs
 
--- the places of a routine's instructions; Return has none
+-- The places of a routine's instructions; `Return` has none.
 abbrev pub routine_places : Routine ℕ → List (Option Place)
 routine_places r = places (body_asm r.body 0) ++ None ∷ []
 
--- the places of all instructions
+-- The places of all instructions.
 abbrev pub places_of : Program → List (Option Place)
 places_of p = flat_map routine_places p.routines
 
--- the code of a program, with a constant for each place of the pool
+-- The code of a program, with one constant for each place of the pool.
 abbrev pub lowered : Program → Code
-lowered p =
+lowered program =
     record {
       version = version.Two;
-      globals = p.globals;
-      names = numbered 0 p.names;
-      constants = map constant_of p.pool;
-      units = map unit_of p.routines;
-      templates = templates_of (places_of p);
-      spots = map (spot_of (templates_of (places_of p))) (places_of p);
+      globals = program.globals;
+      names = numbered 0 program.names;
+      constants = map constant_of program.pool;
+      units = map unit_of program.routines;
+      templates = templates_of (places_of program);
+      places = map (loc_of (templates_of (places_of program))) (places_of program);
     }
 
--- the code of a program, in which equal constants stand once
+-- The code of a program, in which equal constants are merged.
 abbrev pub compiled : Program → Code
-compiled p = merged (lowered p)
+compiled program = merged (lowered program)

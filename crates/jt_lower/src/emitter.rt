@@ -1,24 +1,24 @@
-//! The instructions of a unit while it is written, and jumps that are written when their target is
-//! known.
+//! Builds the code of a unit, with jumps that are patched when their target is known.
 
 ghost use Rattle.std.specs.Prelude.{◌≤◌, length};
 
 use crate::instructions::{jump_of, test_of, turn_of};
 use jt_image::{Instr, Instruction};
-use jt_resolved::Place;
+use jt_ir::Place;
 use std::alloc::{AllocError, Global};
 
-/// The instructions of a unit while it is written.
+/// The code of a unit under construction.
 #[derive(Drop)]
 pub struct Emitter {
     /// The instructions, by their fields.
     pub code: Vec<Instr>,
-    /// Where the tag of each instruction stands; none for jumps, and for what stands in no tag.
+    /// The place of the tag of each instruction; `None` for a jump and for an instruction outside
+    /// tags.
     pub places: Vec<Option<Place>>,
-    /// How many there may be.
+    /// The greatest number of instructions.
     pub limit: usize,
-    /// Whether there would be more, or some instruction holds more than its fields have place for:
-    /// then the code means nothing.
+    /// The flag that the limit was exceeded or an operand did not fit its field. If it is set, the
+    /// code has no meaning.
     pub overflowed: bool,
     pub ghost within: { length code.items ≤ limit },
 }
@@ -26,11 +26,12 @@ pub struct Emitter {
 impl Emitter {
     ghost use Rattle.std.specs.Prelude.{◌≡◌, false, List, [], IfOk, OnOk};
     ghost use Rattle.jt_image.specs.declared.instruction.Instruction.TheVariants as op;
-    ghost use Rattle.jt_trees.specs.Expressions.{Text};
+    ghost use Rattle.jt_ast.specs.Expressions.{Text};
     ghost use Rattle.jt_lower.specs.Asm.{one};
-    ghost use Rattle.jt_lower.specs.Emission.{Given, tag_view, Puts, Reserves, Patches, Ends, EndsTurns};
+    ghost use Rattle.jt_lower.specs.Emission.{Given, tag_view, Puts, Reserves, Patches, Ends};
+    ghost use Rattle.jt_lower.specs.Emission.{EndsTurns};
 
-    /// No instructions yet; there may be so many.
+    /// Returns an emitter without instructions that takes at most `limit` of them.
     pub fn new(alloc: Global, limit: usize) -> Emitter
         ensures empty { result.code.items ≡ [] }
         ensures nowhere { result.places.items ≡ [] }
@@ -45,8 +46,12 @@ impl Emitter {
         }
     }
 
-    /// Puts an instruction of a tag behind the others; none stands for one that its fields have no
-    /// place for.
+    /// Appends an instruction of a tag. `None` represents an instruction with an operand that does
+    /// not fit its field; it sets `overflowed`.
+    ///
+    /// # Errors
+    ///
+    /// `AllocError` if a growth is refused.
     pub fn put(
         &mut self,
         tag: Option<Place>,
@@ -63,7 +68,7 @@ impl Emitter {
         Ok(())
     }
 
-    /// Puts an instruction of a tag behind the others, if there may be one more.
+    /// Appends an instruction of a tag, or sets `overflowed` if the limit is reached.
     fn push(&mut self, tag: Option<Place>, instruction: Instruction) -> Result<(), AllocError>
         ensures { OnOk result ((templates : List Text)
             → Puts templates self.old (one (tag_view templates tag) instruction) self.new) }
@@ -77,7 +82,7 @@ impl Emitter {
         Ok(())
     }
 
-    /// Puts a jump behind the others that is written when its target is known, and gives its point.
+    /// Appends a jump whose target is patched later, and returns its point.
     fn reserve(&mut self, jump: Instruction) -> Result<usize, AllocError>
         ensures { IfOk result (λ point. Reserves self.old jump point self.new) }
     {
@@ -86,7 +91,7 @@ impl Emitter {
         Ok(point)
     }
 
-    /// Puts an instruction in place of the one at a point; nothing where the code ends before that.
+    /// Replaces the instruction at `point`, if it exists. `None` sets `overflowed`, as in `put`.
     fn patch(&mut self, point: usize, instruction: Option<Instruction>)
         ensures { (i : Instruction) → Given instruction i → Patches self.old point i self.new }
     {
@@ -96,7 +101,7 @@ impl Emitter {
         }
     }
 
-    /// Puts an instruction in place of the one at a point, if there is one.
+    /// Replaces the instruction at `point`, if it exists.
     fn replace(&mut self, point: usize, instruction: Instruction)
         ensures { Patches self.old point instruction self.new }
     {
@@ -105,8 +110,12 @@ impl Emitter {
         }
     }
 
-    /// Puts a test behind the others that goes past what a true value does, once that is known;
-    /// gives its point.
+    /// Appends a test that jumps over the code for a true value, and returns its point. Its target
+    /// is patched later.
+    ///
+    /// # Errors
+    ///
+    /// `AllocError` if a growth is refused.
     pub fn begin_choice(&mut self) -> Result<usize, AllocError>
         ensures { IfOk result (λ choice. Reserves self.old (op.JumpIfFalse 0) choice self.new) }
     {
@@ -114,8 +123,12 @@ impl Emitter {
         Ok(choice)
     }
 
-    /// Puts the jump out of a branch behind the others, and lets the test in front of the branch go
-    /// behind it.
+    /// Appends the jump out of a branch and returns its point. Patches the test at `choice` to go
+    /// to the point after this jump.
+    ///
+    /// # Errors
+    ///
+    /// `AllocError` if a growth is refused.
     pub fn end_branch(&mut self, choice: usize) -> Result<usize, AllocError>
         ensures { IfOk result (λ last. Ends self.old choice last self.new) }
     {
@@ -125,7 +138,7 @@ impl Emitter {
         Ok(last)
     }
 
-    /// Lets the jump at this point go behind all instructions.
+    /// Patches the jump at `last` to go to the end of the code.
     pub fn close(&mut self, last: usize)
         ensures { Patches self.old last (op.Jump (length self.old.code.items)) self.new }
     {
@@ -133,8 +146,8 @@ impl Emitter {
         self.patch(last, past);
     }
 
-    /// Lets the test at this point go behind all instructions: what it tests for stands there
-    /// alone.
+    /// Patches the test at `choice` to go to the end of the code. A false value has no code of its
+    /// own.
     pub fn end_when(&mut self, choice: usize)
         ensures { Patches self.old choice (op.JumpIfFalse (length self.old.code.items)) self.new }
     {
@@ -142,7 +155,12 @@ impl Emitter {
         self.patch(choice, past);
     }
 
-    /// Puts the test for one more turn behind the others, and gives its point.
+    /// Appends the test for another turn of a loop, and returns its point. Its target is patched
+    /// later.
+    ///
+    /// # Errors
+    ///
+    /// `AllocError` if a growth is refused.
     pub fn begin_turns(&mut self) -> Result<usize, AllocError>
         ensures { IfOk result (λ top. Reserves self.old (op.LoopNext 0) top self.new) }
     {
@@ -150,7 +168,12 @@ impl Emitter {
         Ok(top)
     }
 
-    /// Puts the way back to the test behind the others, and lets the test go behind it.
+    /// Appends the jump back to the test at `top`, and patches the test to go to the end of the
+    /// code.
+    ///
+    /// # Errors
+    ///
+    /// `AllocError` if a growth is refused.
     pub fn end_turns(&mut self, top: usize) -> Result<(), AllocError>
         ensures { OnOk result (EndsTurns self.old top self.new) }
     {

@@ -1,21 +1,24 @@
-//! The code of resolved expressions.
+//! Emits the code of resolved expressions.
 
 ghost use Rattle.std.specs.Prelude.{◌≡◌};
-ghost use Rattle.jt_resolved.specs.Size.{row_count};
-ghost use Rattle.jt_resolved.specs.Slots.{none};
-ghost use Rattle.jt_resolved.specs.View.{expr_view, row_view};
+ghost use Rattle.jt_ir.specs.Size.{row_count};
+ghost use Rattle.jt_ir.specs.Slots.{none};
+ghost use Rattle.jt_ir.specs.View.{expr_view, row_view};
 ghost use Rattle.jt_lower.specs.Asm.{choose};
 ghost use Rattle.jt_lower.specs.Lower.{expr_asm, row_asm};
 ghost use Rattle.jt_lower.specs.Emission.{tag_view, side_asm, instead_asm, PutsAt};
 
 use crate::emitter::Emitter;
-use crate::instructions::{call_of, constant_of, flag, load_of, made_of, store_of, told_of};
+use crate::instructions::{call_of, constant_of, flag, load_of, loop_get_of, made_of, store_of};
 use jt_image::Instruction;
-use jt_resolved::{Place, Slot, SlotExpr};
+use jt_ir::{Place, Slot, SlotExpr};
 use std::alloc::AllocError;
 
-/// Puts the code of an expression of a tag behind the others, with so many entries above the
-/// innermost loop.
+/// Emits an expression of a tag; `above` entries lie above the innermost loop.
+///
+/// # Errors
+///
+/// `AllocError` if a growth is refused.
 #[cycle(expressions)]
 pub fn emit_expression(
     code: &mut Emitter,
@@ -29,7 +32,7 @@ pub fn emit_expression(
     match expr {
         SlotExpr::Pooled(place) => code.put(tag, constant_of(*place)),
         SlotExpr::Variable(slot) => code.put(tag, load_of(*slot)),
-        SlotExpr::Field(told) => code.put(tag, told_of(*told, above)),
+        SlotExpr::Field(loop_field) => code.put(tag, loop_get_of(*loop_field, above)),
         SlotExpr::Absent => Ok(()),
         SlotExpr::Made(made, row) => {
             emit_row(code, tag, row, above)?;
@@ -67,8 +70,7 @@ pub fn emit_expression(
     }
 }
 
-/// Puts a test of the value at the top behind the others, and an expression in place of that value
-/// where it is so.
+/// Emits a test of the top value, and an expression that replaces this value if its truth is `so`.
 #[cycle(expressions)]
 fn emit_instead(
     code: &mut Emitter,
@@ -89,7 +91,7 @@ fn emit_instead(
     Ok(())
 }
 
-/// Puts an expression in place of the value at the top behind the others, where that is wanted.
+/// Emits an expression that replaces the top value, if `wanted` is set.
 #[cycle(expressions)]
 fn emit_side(
     code: &mut Emitter,
@@ -108,7 +110,7 @@ fn emit_side(
     Ok(())
 }
 
-/// Puts a test behind the others, and one of two values.
+/// Emits a test of the top value, and the two expressions between which it chooses.
 #[cycle(expressions)]
 fn emit_choice(
     code: &mut Emitter,
@@ -129,7 +131,8 @@ fn emit_choice(
     Ok(())
 }
 
-/// How many values a row has: what is kept aside is none of them.
+/// Returns the number of values of a sequence. An expression that is stored in a local is not
+/// counted.
 fn count_values(row: &[(Option<usize>, SlotExpr)]) -> usize
     ensures { result ≡ row_count (row_view row.now none) }
 {
@@ -142,7 +145,12 @@ fn count_values(row: &[(Option<usize>, SlotExpr)]) -> usize
     count
 }
 
-/// Puts the code of a row of expressions behind the others, from left to right.
+/// Emits a sequence of expressions from left to right; `above` entries lie above the innermost
+/// loop.
+///
+/// # Errors
+///
+/// `AllocError` if a growth is refused.
 #[cycle(expressions)]
 pub fn emit_row(
     code: &mut Emitter,

@@ -1,13 +1,13 @@
-//! How many entries the code of resolved expressions needs, above those that are there.
+//! Checks how many stack entries the code of expressions needs above the existing ones.
 
 ghost use Rattle.std.specs.Prelude.{◌≡◌, nat_le};
-ghost use Rattle.jt_resolved.specs.Size.{expr_height, row_height};
-ghost use Rattle.jt_resolved.specs.Slots.{none};
-ghost use Rattle.jt_resolved.specs.View.{expr_view, row_view};
+ghost use Rattle.jt_ir.specs.Size.{expr_height, row_height};
+ghost use Rattle.jt_ir.specs.Slots.{none};
+ghost use Rattle.jt_ir.specs.View.{expr_view, row_view};
 
-use jt_resolved::SlotExpr;
+use jt_ir::SlotExpr;
 
-/// Whether an expression needs at most so many entries.
+/// Returns whether an expression needs at most `room` stack entries.
 #[cycle(heights)]
 pub fn fits_expression(expr: &SlotExpr, room: usize) -> bool
     ensures { result ≡ nat_le (expr_height (expr_view expr.now)) room }
@@ -32,7 +32,8 @@ pub fn fits_expression(expr: &SlotExpr, room: usize) -> bool
     }
 }
 
-/// Whether a row of expressions, each above the values before it, needs at most so many entries.
+/// Returns whether a sequence of expressions needs at most `room` stack entries. Each expression
+/// lies above the values before it.
 #[cycle(heights)]
 pub fn fits_row(row: &[(Option<usize>, SlotExpr)], room: usize) -> bool
     ensures { result ≡ nat_le (row_height (row_view row.now none)) room }

@@ -1,10 +1,10 @@
-//! What callers' proofs rest on.
+//! States the facts about compiled programs that proofs of callers use.
 ghost use Rattle.jt_lower.specs.Compiles.{LowLaws};
 
 use jt_constants::merged_laws;
 use jt_image::code_laws;
 
-/// The laws of the code of programs. It does nothing: a caller learns them from its contract.
+/// Has no effect. Its contract states the laws of compiled programs.
 pub fn low_laws()
     ensures { LowLaws }
 {

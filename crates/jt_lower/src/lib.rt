@@ -1,9 +1,10 @@
-//! The code of resolved programs: what it is, that it does what they mean, and the emission of
-//! their expressions.
+//! Defines the code of resolved programs, proves that it does what they mean, and emits
+//! expressions.
 //!
-//! Instructions put behind one another, with jumps that wait (emitter), expressions (expressions),
-//! how many entries they need (heights), and the law of all code (laws). Read first:
-//! specs/Lower.antt, the code of each form.
+//! Instructions are appended and jumps are patched in `emitter`. Expressions are emitted in
+//! `expressions`, with `instructions`. The number of entries that they need is in `heights`, and
+//! the laws of compiled programs are in `laws`. Read first: specs/Lower.antt, the code of each
+//! form.
 #![tactic(auto)]
 
 mod emitter;

@@ -1,19 +1,20 @@
-//! Calls, and how they come back.
+//! Executes calls of units and returns from them.
 ghost use Rattle.std.specs.Prelude.{◌≡◌, ◌≢◌, ◌+◌, ◌<◌, ◌≤◌, ◌^◌, Option, IfOk, length};
 ghost use Rattle.jt_image.specs.Code.{Section};
 ghost use Rattle.jt_image.specs.IsCode.{IsCode};
 ghost use Rattle.jt_image.specs.Step.{locals_of};
 ghost use Rattle.jt_image.specs.Run.{Wrong};
 ghost use Rattle.jt_machine.specs.Entries.{values_view};
-ghost use Rattle.jt_machine.specs.Parts.{call as call_next, return_from, went_back, back_with};
-ghost use Rattle.jt_machine.specs.StackView.{caller_view};
+ghost use Rattle.jt_machine.specs.InstructionSteps.{call as call_next, return_from, went_back};
+ghost use Rattle.jt_machine.specs.InstructionSteps.{back_with};
+ghost use Rattle.jt_machine.specs.internal.StackView.{caller_view};
 ghost use Rattle.jt_machine.specs.View.{config_view, IsNext, given_view, IsReady};
 
-use crate::entries::Entry;
-use crate::limits::passed_limit;
-use crate::making::take_values;
+use crate::aggregates::take_values;
+use crate::charging::charge_fuel;
+use crate::entries::StackEntry;
+use crate::limits::exceeded_limit;
 use crate::outcome::Outcome;
-use crate::parts::pay;
 use crate::stack::Caller;
 use crate::state::State;
 use jt_image::Code;
@@ -21,7 +22,7 @@ use jt_value::{NoMemory, Value};
 use std::alloc::Global;
 use std::mem;
 
-// The locals of a unit: its arguments first, and others undefined.
+// Returns the locals of a unit: its arguments first, and undefined for all other locals.
 fn locals_with(arguments: Vec<Value>, locals: u16) -> Result<Vec<Value>, NoMemory>
     requires { length arguments.items ≤ locals }
     ensures { IfOk result
@@ -35,7 +36,7 @@ fn locals_with(arguments: Vec<Value>, locals: u16) -> Result<Vec<Value>, NoMemor
     Ok(values)
 }
 
-/// Takes the arguments of a unit and begins it.
+/// Pops the arguments of a unit and begins it.
 pub(crate) fn call<C: Code>(
     alloc: Global,
     code: &C,
@@ -44,13 +45,13 @@ pub(crate) fn call<C: Code>(
 ) -> Result<Option<Outcome>, NoMemory>
     requires whole { IsCode (C.code code.now) }
     requires ready { IsReady (call_next (C.code code.now) unit (config_view state.old)) state.old }
-    // Only a call that begins takes memory.
+    // Allocates only if the call begins.
     ensures { IsNext result state.new (call_next (C.code code.now) unit (config_view state.old)) }
 {
     let Some(header) = code.unit(unit as usize) else {
         unreachable!()
     };
-    if let Some(outcome) = pay(state, 1) {
+    if let Some(outcome) = charge_fuel(state, 1) {
         return Ok(Some(outcome));
     }
     if let Err(spent) = state.left.enter() {
@@ -65,7 +66,7 @@ pub(crate) fn call<C: Code>(
     Ok(None)
 }
 
-// Lets a caller go on, whose entries are those of the activation that runs.
+// Continues a caller whose entries are already those of the running activation.
 fn go_on(state: &mut State, caller: Caller)
     requires { state.old.left.depth + 1 < 2 ^ 32 }
     ensures { config_view state.new
@@ -84,15 +85,16 @@ fn go_on(state: &mut State, caller: Caller)
     state.left.leave();
 }
 
-// Lets a caller go on with what the unit gives, or says which limit it passes.
-#[tactic(auto, using(crate::proofs::Returning::back_goes_on, crate::proofs::Growing::lost))]
+// Continues a caller with the result of the unit, or returns the outcome if the result exceeds a
+// limit.
+#[tactic(auto, using(crate::proofs::ReturnCorrect::back_goes_on, crate::proofs::AllocationPoints::lost))]
 fn resume(
     state: &mut State,
     caller: Caller,
     given: Option<Value>,
 ) -> Result<Option<Outcome>, NoMemory>
     requires { state.old.left.depth + 1 < 2 ^ 32 }
-    // Only a value within the limits takes memory.
+    // Allocates only if the result is within the limits.
     ensures { IsNext result state.new
         (back_with (caller_view caller state.old.stack.running) state.old.stack.callers
         (given_view given) (config_view state.old)) }
@@ -101,22 +103,22 @@ fn resume(
         go_on(state, caller);
         return Ok(None);
     };
-    if let Some(spent) = passed_limit(&value, &state.left) {
+    if let Some(spent) = exceeded_limit(&value, &state.left) {
         return Ok(Some(Outcome::Spent(spent)));
     }
     go_on(state, caller);
-    state.stack.push(Entry::Value(value))?;
+    state.stack.push(StackEntry::Value(value))?;
     Ok(None)
 }
 
-/// Goes back to the caller with what the unit gives, or ends with the text of the buffer.
+/// Returns to the caller with the result of the unit, or ends the run with the text of the buffer.
 pub(crate) fn finish(alloc: Global, state: &mut State) -> Result<Option<Outcome>, NoMemory>
     requires depth { state.old.left.depth + length state.old.stack.callers < 2 ^ 32 }
     ensures { (u : Option Section)
         → return_from u (config_view state.old) ≢ Wrong
         → IsNext result state.new (return_from u (config_view state.old)) }
 {
-    if let Some(outcome) = pay(state, 1) {
+    if let Some(outcome) = charge_fuel(state, 1) {
         return Ok(Some(outcome));
     }
     let given = state.stack.take_given();

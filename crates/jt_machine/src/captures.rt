@@ -1,20 +1,22 @@
-//! Captures: buffers that are opened and closed.
-ghost use Rattle.std.specs.Prelude.{◌≡◌, ◌≢◌, ◌∷◌, [], ◌+◌, ◌<◌, ◌^◌, if◌then◌else◌, IfOk, OnOk, string_bytes};
+//! Opens and closes captures.
+ghost use Rattle.std.specs.Prelude.{◌≡◌, ◌≢◌, ◌∷◌, [], ◌+◌, ◌<◌, ◌^◌, if◌then◌else◌, IfOk, OnOk};
+ghost use Rattle.std.specs.Prelude.{string_bytes};
 ghost use Rattle.jt_value.specs.Tree as tree;
 ghost use Rattle.jt_value.specs.View.{view};
-ghost use Rattle.jt_machine.specs.Parts.{open_capture as open_next, close_capture as close_next};
+ghost use Rattle.jt_machine.specs.InstructionSteps.{open_capture as open_next};
+ghost use Rattle.jt_machine.specs.InstructionSteps.{close_capture as close_next};
 ghost use Rattle.jt_machine.specs.View.{config_view, IsNext, outer_view, IsReady};
 
-use crate::entries::Entry;
+use crate::charging::{charge_fuel, push_checked, step_on};
+use crate::entries::StackEntry;
 use crate::limits::flat_limit;
 use crate::outcome::Outcome;
-use crate::parts::{pay, push_fitting, step_on};
 use crate::state::State;
 use jt_value::{NoMemory, Value};
 use std::alloc::Global;
 use std::mem;
 
-// Puts a buffer around the open one.
+// Pushes a buffer around the open one.
 fn push_outer(outer: &mut Vec<String>, buffer: String) -> Result<(), NoMemory>
     ensures { OnOk result
         (outer_view outer.new.items ≡ string_bytes buffer ∷ outer_view outer.old.items) }
@@ -23,21 +25,21 @@ fn push_outer(outer: &mut Vec<String>, buffer: String) -> Result<(), NoMemory>
     Ok(())
 }
 
-/// Opens a buffer.
+/// Opens a capture with an empty buffer.
 pub(crate) fn open_capture(alloc: Global, state: &mut State) -> Result<Option<Outcome>, NoMemory>
     requires { state.old.point + 1 < 2 ^ 64 }
     ensures { IsNext result state.new (open_next (config_view state.old)) }
 {
-    if let Some(outcome) = pay(state, 1) {
+    if let Some(outcome) = charge_fuel(state, 1) {
         return Ok(Some(outcome));
     }
-    state.stack.push(Entry::Capture)?;
+    state.stack.push(StackEntry::Capture)?;
     let around = mem::replace(&mut state.buffer, String::new(alloc));
     push_outer(&mut state.outer, around)?;
     Ok(step_on(state))
 }
 
-// Takes the buffer around the open one.
+// Pops the buffer around the open one.
 fn pop_outer(outer: &mut Vec<String>) -> String
     requires { outer_view outer.old.items ≢ [] }
     ensures { outer_view outer.old.items ≡ string_bytes result ∷ outer_view outer.new.items }
@@ -48,7 +50,7 @@ fn pop_outer(outer: &mut Vec<String>) -> String
     }
 }
 
-// A captured text as a value.
+// Returns a captured text as a value.
 fn captured(text: String, marked: bool) -> Result<Value, NoMemory>
     ensures { IfOk result (λ v. view v
         ≡ (if marked then tree.markup (string_bytes text) else tree.text (string_bytes text))) }
@@ -60,20 +62,20 @@ fn captured(text: String, marked: bool) -> Result<Value, NoMemory>
     }
 }
 
-/// Closes the buffer that was opened last, and puts its text on top, as markup if it is to be.
+/// Closes the innermost capture and pushes its text, as markup if `marked` is true.
 pub(crate) fn close_capture(state: &mut State, marked: bool) -> Result<Option<Outcome>, NoMemory>
     requires { IsReady (close_next marked (config_view state.old)) state.old }
-    // Only a text within the limits takes memory.
+    // Allocates only if the text is within the limits.
     ensures { IsNext result state.new (close_next marked (config_view state.old)) }
 {
     state.stack.pop_capture();
     let around = pop_outer(&mut state.outer);
-    if let Some(outcome) = pay(state, 1) {
+    if let Some(outcome) = charge_fuel(state, 1) {
         return Ok(Some(outcome));
     }
     if let Some(spent) = flat_limit(1 + state.buffer.len() as u64, &state.left) {
         return Ok(Some(Outcome::Spent(spent)));
     }
     let text = mem::replace(&mut state.buffer, around);
-    push_fitting(state, captured(text, marked)?)
+    push_checked(state, captured(text, marked)?)
 }

@@ -1,12 +1,12 @@
-//! Output that escaped texts take.
+//! Checks whether texts need escaping, and charges the output of escaped texts.
 ghost use Rattle.std.specs.Prelude.{◌≡◌, ◌-◌, ◌<◌, ◌≤◌, ◌∷◌, [], true, IfErr, OnOk, length};
 ghost use Rattle.jt_escape.specs.Escaping.{escaped, escaped_byte};
 
 use jt_budget::{Budget, Spent};
 
-// Whether a byte is written as it is. Those above the last one that is not, as letters, are found
-// by one comparison.
-#[tactic(auto, using(crate::proofs::Computed::kept_above))]
+// Returns whether a byte is written as it is. One comparison decides for bytes above `>`, such as
+// letters.
+#[tactic(auto, using(crate::proofs::NumberOperators::kept_above))]
 fn is_kept(byte: u8) -> bool
     ensures { result ≡ true → escaped_byte byte ≡ byte ∷ [] }
 {
@@ -16,8 +16,8 @@ fn is_kept(byte: u8) -> bool
     !matches!(byte, b'&' | b'<' | b'>' | b'\'' | b'"')
 }
 
-/// Whether a text is written as it is. All of it is read, which takes less for each byte than to
-/// look whether to stop.
+/// Returns whether a text is written as it is. It reads the whole text, which costs less per byte
+/// than checking whether to stop.
 pub(crate) fn is_plain(text: &str) -> bool
     ensures { result ≡ true → escaped text.now ≡ text.now }
 {
@@ -28,15 +28,15 @@ pub(crate) fn is_plain(text: &str) -> bool
     plain
 }
 
-// Whether a text stays one that is written as it is, with a byte more.
+// Returns whether a text that is `plain` so far stays so with one more byte.
 fn stays_plain(plain: bool, byte: u8) -> bool
     ensures { result ≡ true → (plain ≡ true) × (escaped_byte byte ≡ byte ∷ []) }
 {
     is_kept(byte) && plain
 }
 
-// How many bytes are written for one.
-#[tactic(auto, using(crate::proofs::Computed::kept_above))]
+// Returns the number of bytes that are written for one byte.
+#[tactic(auto, using(crate::proofs::NumberOperators::kept_above))]
 fn escaped_len(byte: u8) -> u64
     ensures { result ≡ length (escaped_byte byte) }
 {
@@ -50,7 +50,7 @@ fn escaped_len(byte: u8) -> u64
     }
 }
 
-/// Takes as many bytes from the output as the escaped text has. More than are left are refused.
+/// Takes the length of the escaped text from the output budget. Refuses if fewer bytes are left.
 pub(crate) fn emit_escaped(left: &mut Budget, text: &str) -> Result<(), Spent>
     ensures ok { OnOk result ((length (escaped text.now) ≤ left.old.output)
         × (left.new ≡ record left.old { output = left.old.output - length (escaped text.now) })) }

@@ -1,18 +1,18 @@
-//! The items that a value gives.
+//! Computes the items of a value.
 ghost use Rattle.std.specs.Prelude.{◌≡◌, IfOk, encode_utf8, string_bytes};
 ghost use Rattle.std.specs.Str.{chars};
 ghost use Rattle.jt_value.specs.Tree as tree;
 ghost use Rattle.jt_value.specs.Iteration.{character_items, key_items, items_of_tree};
 ghost use Rattle.jt_value.specs.View.{view, items_view, entries_view};
-ghost use Rattle.jt_machine.specs.Iterating.{counted, AreItems};
+ghost use Rattle.jt_machine.specs.internal.Iterating.{counted, AreItems};
 
 use jt_ops::character_count;
 use jt_value::{Fault, NoMemory, Value, ValueError, ValueList};
 use std::alloc::Global;
 use std::rc::Rc;
 
-/// A list gives its items, a map its keys, a text its characters, undefined none; all else is a
-/// fault.
+/// Returns the items of a value: the items of a list, the keys of a map, the characters of a text,
+/// and none for undefined. Every other value is a fault.
 pub(crate) fn items_of(alloc: Global, value: Value) -> Result<Vec<Value>, ValueError>
     ensures { AreItems (items_of_tree (view value)) result }
 {
@@ -28,7 +28,7 @@ pub(crate) fn items_of(alloc: Global, value: Value) -> Result<Vec<Value>, ValueE
     }
 }
 
-/// How many items a value gives, or its fault. Nothing is built.
+/// Returns the number of items of a value, or its fault. Nothing is built.
 pub(crate) fn count_of(value: &Value) -> Result<usize, Fault>
     ensures { result ≡ counted (items_of_tree (view value.now)) }
 {
@@ -42,14 +42,15 @@ pub(crate) fn count_of(value: &Value) -> Result<usize, Fault>
     }
 }
 
-// The items of a list: moved out of it where no other value shares it, and else copies.
+// Returns the items of a list. They are moved if no other value shares the list, and copied
+// otherwise.
 fn list_items(list: Rc<ValueList>) -> Result<Vec<Value>, NoMemory>
     ensures { IfOk result (λ vs. items_view vs.items ≡ list.value) }
 {
     Ok(Rc::unwrap_or_clone(list)?.into_items())
 }
 
-// The keys of a map as texts.
+// Returns the keys of a map as texts.
 fn keys(alloc: Global, entries: &[(String, Value)]) -> Result<Vec<Value>, NoMemory>
     ensures { IfOk result (λ vs. items_view vs.items ≡ key_items (entries_view entries.now)) }
 {
@@ -60,7 +61,7 @@ fn keys(alloc: Global, entries: &[(String, Value)]) -> Result<Vec<Value>, NoMemo
     Ok(keys)
 }
 
-// A character as a text.
+// Returns a character as a text.
 fn text_of(alloc: Global, c: char) -> Result<String, NoMemory>
     ensures { IfOk result (λ s. string_bytes s ≡ encode_utf8 c) }
 {
@@ -69,7 +70,7 @@ fn text_of(alloc: Global, c: char) -> Result<String, NoMemory>
     Ok(text)
 }
 
-// The characters of a text as texts.
+// Returns the characters of a text as texts.
 fn characters(alloc: Global, text: &str) -> Result<Vec<Value>, NoMemory>
     ensures { IfOk result (λ vs. items_view vs.items ≡ character_items (chars text.now)) }
 {

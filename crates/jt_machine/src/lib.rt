@@ -1,28 +1,33 @@
 //! Runs verified images under budgets.
 //!
-//! `run` (runs) and `run_to` into a sink (writing, sink), a `Machine` that stops and goes on
-//! (machine), one step (step) with a module for each kind of instruction, those that do least many
-//! at a time (at_once, numbers), text constants made once in a run (constants), and how runs end
-//! (outcome). Read first: runs.rt; what a step is, is said in jt_image's specs/Step.antt.
+//! - runs: `run`, a whole run in one call.
+//! - writing, sink: `run_to`, a run that writes its text into a sink.
+//! - machine: `Machine`, a run that stops and goes on later.
+//! - step: one step, with a module for each kind of instruction.
+//! - fast_path, numbers: cheap instructions, many of them in one call.
+//! - constants: text constants, each built once in a run.
+//! - outcome: how runs end.
+//!
+//! Read first: runs.rt. specs/Step.antt of jt_image defines what a step does.
 #![tactic(auto)]
 
-mod at_once;
+mod aggregates;
 mod calls;
 mod captures;
+mod charging;
 mod constants;
 mod entries;
 mod escaping;
+mod fast_path;
+mod fault_place;
 mod items;
 mod limits;
 mod loops;
 mod machine;
-mod making;
 mod maps;
 mod measure;
 mod numbers;
 mod outcome;
-mod parts;
-mod placing;
 mod runs;
 mod sink;
 mod stack;

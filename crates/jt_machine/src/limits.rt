@@ -1,4 +1,4 @@
-//! Values against the limits of a budget.
+//! Checks values against the limits of a budget.
 ghost use Rattle.std.specs.Prelude.{◌≡◌, ◌-◌, ◌^◌, min, option_map};
 ghost use Rattle.jt_value.specs.Tree as tree;
 ghost use Rattle.jt_value.specs.Tree.{Tree, no_entries};
@@ -8,16 +8,16 @@ ghost use Rattle.jt_image.specs.Step.{put_entries};
 ghost use Rattle.jt_machine.specs.Entries.{all_held};
 ghost use Rattle.jt_machine.specs.View.{budget_view, limit_view};
 
-use crate::entries::Entry;
+use crate::entries::StackEntry;
 use crate::measure::{deepest, lasting, sizes};
 use jt_budget::{Budget, Spent};
 use jt_value::Value;
 
-/// The limit that a value passes: its size is tested first, then its nesting.
-pub(crate) fn passed_limit(value: &Value, budget: &Budget) -> Option<Spent>
+/// Returns the limit that a value exceeds. Its size is checked before its nesting.
+pub(crate) fn exceeded_limit(value: &Value, budget: &Budget) -> Option<Spent>
     ensures { option_map limit_view result ≡ limit_of (budget_view budget.now) (view value.now) }
 {
-    // Only read, so that the limits are known to have fewer bits than what is counted.
+    // Read only so that the prover knows that the limits have fewer bits than the counts.
     let _size = budget.size;
     let _nesting = budget.nesting;
     match budget.fits(value.size(), value.nesting()) {
@@ -26,7 +26,7 @@ pub(crate) fn passed_limit(value: &Value, budget: &Budget) -> Option<Spent>
     }
 }
 
-/// The limit that a value of this size passes which is neither a list nor a map.
+/// Returns the limit that a value of this size exceeds, if it is neither a list nor a map.
 pub(crate) fn flat_limit(size: u64, budget: &Budget) -> Option<Spent>
     ensures { (t : Tree)
         → tree.size t ≡ size
@@ -39,15 +39,15 @@ pub(crate) fn flat_limit(size: u64, budget: &Budget) -> Option<Spent>
     }
 }
 
-// The limit that a value of this size and nesting passes. The greatest numbers stand for all that
-// are greater.
+// Returns the limit that a value of this size and nesting exceeds. The greatest `u64` and `u32`
+// represent all greater numbers.
 fn limit_by(size: u64, nesting: u32, budget: &Budget) -> Option<Spent>
     ensures { (t : Tree)
         → size ≡ min (tree.size t) (2 ^ 64 - 1)
         → nesting ≡ min (tree.nesting t) (2 ^ 32 - 1)
         → option_map limit_view result ≡ limit_of (budget_view budget.now) t }
 {
-    // Only read, so that the limits are known to have fewer bits than what is counted.
+    // Read only so that the prover knows that the limits have fewer bits than the counts.
     let _size = budget.size;
     let _nesting = budget.nesting;
     match budget.fits(size, nesting) {
@@ -56,8 +56,8 @@ fn limit_by(size: u64, nesting: u32, budget: &Budget) -> Option<Spent>
     }
 }
 
-/// The limit that the list of the values passes that entries hold. It isn't built.
-pub(crate) fn list_limit(entries: &[Entry], budget: &Budget) -> Option<Spent>
+/// Returns the limit that the list of the values in `entries` exceeds. The list is not built.
+pub(crate) fn list_limit(entries: &[StackEntry], budget: &Budget) -> Option<Spent>
     ensures { option_map limit_view result
         ≡ limit_of (budget_view budget.now) (tree.list (items_of (all_held entries.now))) }
 {
@@ -66,9 +66,10 @@ pub(crate) fn list_limit(entries: &[Entry], budget: &Budget) -> Option<Spent>
     limit_by(size, nesting, budget)
 }
 
-/// The limit that the map of keys and values in turn passes. It isn't built. Where all of the
-/// values fit together it fits too; only else is looked for keys that are given twice.
-pub(crate) fn map_limit(pairs: &[Entry], budget: &Budget) -> Option<Spent>
+/// Returns the limit that the map of alternating keys and values exceeds. The map is not built. If
+/// the list of all of them fits, the map fits. Repeated keys are searched for only if the list does
+/// not fit.
+pub(crate) fn map_limit(pairs: &[StackEntry], budget: &Budget) -> Option<Spent>
     ensures { option_map limit_view result ≡ limit_of (budget_view budget.now)
         (tree.map (put_entries no_entries (all_held pairs.now))) }
 {

@@ -1,5 +1,6 @@
-//! Runs that stop and go on.
-ghost use Rattle.std.specs.Prelude.{◌≡◌, ◌<◌, None, IfOk, IfErr, IfNone, OnOk, OnErr, option_map, option_copied, Some};
+//! Runs an image in slices: a run stops and goes on later.
+ghost use Rattle.std.specs.Prelude.{◌≡◌, ◌<◌, None, IfOk, IfErr, IfNone, OnOk, OnErr, option_map};
+ghost use Rattle.std.specs.Prelude.{option_copied, Some};
 ghost use Rattle.jt_value.specs.Pairs.{Pairs};
 ghost use Rattle.jt_value.specs.ContextView.{pairs_of};
 ghost use Rattle.jt_image.specs.IsCode.{IsCode};
@@ -7,14 +8,14 @@ ghost use Rattle.jt_image.specs.Typed.{IsTyped};
 ghost use Rattle.jt_image.specs.Config as config;
 ghost use Rattle.jt_image.specs.Run.{IsSafe, after};
 ghost use Rattle.jt_machine.specs.Growing.{ComesToGrow};
-ghost use Rattle.jt_machine.specs.Session.{SessionLaws, led, told_of};
+ghost use Rattle.jt_machine.specs.Session.{SessionLaws, led, stage_progress};
 ghost use Rattle.jt_machine.specs.StageView.{stage_view, IsReached, IsUnderway};
 ghost use Rattle.jt_machine.specs.View.{config_view, next_view};
 
-use crate::at_once::hurry;
-use crate::constants::Made;
+use crate::constants::ConstantCache;
+use crate::fast_path::run_fast;
 use crate::outcome::{Outcome, Progress};
-use crate::start::{context_passes, start};
+use crate::start::{context_limit, start};
 use crate::state::State;
 use crate::step::step;
 use jt_budget::Budget;
@@ -25,7 +26,7 @@ use std::alloc::Global;
 use std::marker::Model;
 use std::mem;
 
-/// Where a run stands.
+/// The stage of a run: it goes on, has ended, or was lost for lack of memory.
 #[derive(Drop)]
 pub(crate) enum Stage {
     Going(State),
@@ -33,7 +34,7 @@ pub(crate) enum Stage {
     Lost,
 }
 
-/// A run of an image that stops after so many instructions and goes on later.
+/// A run of an image that stops after a given number of instructions and goes on later.
 #[derive(Drop)]
 pub struct Machine {
     alloc: Global,
@@ -51,22 +52,23 @@ impl Model for Machine {
 
     ghost use Rattle.jt_machine.specs.StageView.{stage_view, IsUnderway};
 
-    ghost view = { λ m. record { code = m.verified; status = stage_view m.stage } };
+    ghost view = { λ m. record { code = m.verified; stage = stage_view m.stage } };
 
     ghost invariant = { λ m. IsUnderway m.verified m.stage };
 }
 
 impl Machine {
     ghost use Rattle.jt_machine.specs.Growing.{HasTables, MayLose};
-    ghost use Rattle.jt_machine.specs.Session.{started, advanced, lost_session, is_lost, outcome_of, told_of, RunsInSlices};
+    ghost use Rattle.jt_machine.specs.Session.{started, advanced, lost_session, is_lost};
+    ghost use Rattle.jt_machine.specs.Session.{outcome_of, stage_progress, RunsInSlices};
     ghost use Rattle.jt_machine.specs.View.{budget_view, outcome_view};
 
-    /// The run of an image for a context under a budget, before its first instruction. Where a
-    /// value of the context passes a limit it has ended.
+    /// Starts the run of an image for a context under a budget, before its first instruction. If a
+    /// value of the context exceeds a limit, the run has ended.
     ///
     /// # Errors
     ///
-    /// Hands the image back where a growth was refused.
+    /// The image and `NoMemory` if a growth was refused.
     pub fn start(
         alloc: Global,
         verified: Verified,
@@ -76,15 +78,17 @@ impl Machine {
         ensures started { IfOk result
             (λ m. m ≡ started verified (pairs_of context.now) (budget_view budget)) }
         ensures back { IfErr result (λ e. e.0 ≡ verified) }
-        // Only the tables take memory.
+        // Only the tables are allocated.
         ensures memory { OnErr result (HasTables verified) }
         // Every run of the image has one outcome, stays within its fuel and is never wrong.
-        ensures safe { (x : Pairs) (b : config.Budget) → IsSafe verified x b }
-        // In slices it comes to that outcome.
-        ensures slices { (x : Pairs) (b : config.Budget) → RunsInSlices verified x b }
+        ensures safe { (any_context : Pairs) (any_budget : config.Budget)
+            → IsSafe verified any_context any_budget }
+        // A run in slices reaches the outcome of the run.
+        ensures slices { (any_context : Pairs) (any_budget : config.Budget)
+            → RunsInSlices verified any_context any_budget }
     {
         code_laws();
-        if let Some(spent) = context_passes(verified.image(), context, &budget) {
+        if let Some(spent) = context_limit(verified.image(), context, &budget) {
             return Ok(Machine {
                 alloc,
                 verified,
@@ -101,21 +105,20 @@ impl Machine {
         }
     }
 
-    /// Carries out so many instructions, or fewer where the run ends, and says whether it goes on
-    /// still.
+    /// Executes `k` instructions, or fewer if the run ends, and returns whether the run goes on.
     ///
     /// # Errors
     ///
-    /// `NoMemory` where a growth was refused. The run is lost then: it has no outcome, and each
-    /// later call answers the same.
+    /// `NoMemory` if a growth was refused. The run is then lost: it has no outcome, and each later
+    /// call returns `NoMemory`.
     pub fn advance(&mut self, k: u32) -> Result<Progress, NoMemory>
         ensures steps { OnOk result (self.new ≡ advanced k self.old) }
-        ensures progress { IfOk result (λ p. told_of self.new.status ≡ Some p) }
+        ensures progress { IfOk result (λ p. stage_progress self.new.stage ≡ Some p) }
         ensures lost { OnErr result (self.new ≡ lost_session self.old) }
-        // Memory is wanted only where one of these steps goes on and puts something, or ends with a
+        // Memory is needed only if one of these steps goes on and may allocate, or ends with a
         // fault that has a place.
         ensures memory { OnErr result (MayLose k self.old) }
-        // A run that has ended wants no memory.
+        // A run that has ended needs no memory.
         ensures unended { IfErr result (λ e. outcome_of self.old ≡ None) }
     {
         match mem::replace(&mut self.stage, Stage::Lost) {
@@ -132,7 +135,7 @@ impl Machine {
         }
     }
 
-    /// The outcome, once the run has ended.
+    /// Returns the outcome, once the run has ended.
     pub fn outcome(&self) -> Option<&Outcome>
         ensures { option_map outcome_view (option_copied result) ≡ outcome_of self.now }
     {
@@ -143,9 +146,9 @@ impl Machine {
         }
     }
 
-    /// Whether the run was lost, since a growth was refused.
+    /// Returns whether the run was lost because a growth was refused.
     pub fn is_lost(&self) -> bool
-        ensures { result ≡ is_lost self.now.status }
+        ensures { result ≡ is_lost self.now.stage }
     {
         match &self.stage {
             Stage::Going(_) => false,
@@ -154,7 +157,7 @@ impl Machine {
         }
     }
 
-    /// The image, and the outcome if the run has ended.
+    /// Returns the image, and the outcome if the run has ended.
     pub fn finish(self) -> (Verified, Option<Outcome>)
         ensures image { result.0 ≡ self.code }
         ensures outcome { option_map outcome_view result.1 ≡ outcome_of self }
@@ -172,7 +175,7 @@ impl Machine {
     }
 }
 
-// Where so many instructions lead, and whether the run goes on still.
+// Returns the stage after `k` instructions, and whether the run goes on.
 fn go_on<C: Code>(
     alloc: Global,
     code: &C,
@@ -187,7 +190,7 @@ fn go_on<C: Code>(
     ensures memory { OnErr result
         ((h : ComesToGrow (C.code code.now) (config_view state)) × (h.steps < k)) }
     ensures underway { IfOk result (λ r. IsUnderway (C.code code.now) r.0) }
-    ensures progress { IfOk result (λ r. told_of (stage_view r.0) ≡ Some r.1) }
+    ensures progress { IfOk result (λ r. stage_progress (stage_view r.0) ≡ Some r.1) }
 {
     match take_steps(alloc, code, &mut state, k)? {
         None => Ok((Stage::Going(state), Progress::Going)),
@@ -195,7 +198,7 @@ fn go_on<C: Code>(
     }
 }
 
-// Carries out so many instructions, or fewer where the run ends.
+// Executes `k` instructions, or fewer if the run ends. Returns the outcome if it ends.
 fn take_steps<C: Code>(
     alloc: Global,
     code: &C,
@@ -213,21 +216,21 @@ fn take_steps<C: Code>(
 {
     code_laws();
     let mut left = u64::from(k);
-    let mut made = Made::new(alloc);
-    let mut ahead = None;
+    let mut made = ConstantCache::new(alloc);
+    let mut prefetched = None;
     'steps: loop {
-        left = hurry(code, state, left, &mut ahead);
+        left = run_fast(code, state, left, &mut prefetched);
         if left == 0 {
             return Ok(None);
         }
-        if let Some(outcome) = step(alloc, code, &mut made, state, ahead)? {
+        if let Some(outcome) = step(alloc, code, &mut made, state, prefetched)? {
             return Ok(Some(outcome));
         }
         left -= 1;
     }
 }
 
-/// Slices of runs add up.
+/// States that the slices of a run add up; it executes nothing.
 pub fn session_laws()
     ensures { SessionLaws }
 {}

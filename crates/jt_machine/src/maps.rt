@@ -1,19 +1,23 @@
-//! Maps of keys and values in turn.
-ghost use Rattle.std.specs.Prelude.{◌≡◌, ◌<◌, ◌∷◌, [], true, length, map, reverse, Ok, IfOk, IfSome, IfNone, OnOk};
+//! Makes a map from alternating keys and values.
+ghost use Rattle.std.specs.Prelude.{◌≡◌, ◌<◌, ◌∷◌, [], true, length, map, reverse, Ok, IfOk};
+ghost use Rattle.std.specs.Prelude.{IfSome, IfNone, OnOk};
 ghost use Rattle.std.specs.List.{list_all};
 ghost use Rattle.jt_value.specs.Tree.{Tree, Entries, no_entries};
 ghost use Rattle.jt_value.specs.View.{view, entries_view};
-ghost use Rattle.jt_op_meaning.specs.Testing.{is_text};
+ghost use Rattle.jt_op_semantics.specs.Testing.{is_text};
 ghost use Rattle.jt_image.specs.Config.{Config};
 ghost use Rattle.jt_image.specs.Step.{mapped, keys_of, key_bytes, put_entry, put_entries};
 ghost use Rattle.jt_image.specs.Run.{Ends};
 ghost use Rattle.jt_machine.specs.Entries.{entry_view, held, all_held};
-ghost use Rattle.jt_machine.specs.Making.{key_fault as key_fault_of, keys_fault as keys_fault_of, first_fault as first_fault_of, upward, HasTextKeys, IsWithin};
-ghost use Rattle.jt_machine.specs.Members.{IsMissing, StandsAt};
-ghost use Rattle.jt_machine.specs.Parts.{answering, push as pushes, step_on as steps_on};
+ghost use Rattle.jt_machine.specs.internal.Making.{key_fault as key_fault_of};
+ghost use Rattle.jt_machine.specs.internal.Making.{keys_fault as keys_fault_of};
+ghost use Rattle.jt_machine.specs.internal.Making.{first_fault as first_fault_of, upward};
+ghost use Rattle.jt_machine.specs.internal.Making.{HasTextKeys, IsWithin};
+ghost use Rattle.jt_machine.specs.internal.Members.{IsMissing, StandsAt};
+ghost use Rattle.jt_machine.specs.InstructionSteps.{answering, push as pushes, step_on as steps_on};
 ghost use Rattle.jt_machine.specs.View.{budget_view, outcome_view};
 
-use crate::entries::Entry;
+use crate::entries::StackEntry;
 use crate::limits::map_limit;
 use crate::measure::text_of;
 use crate::outcome::Outcome;
@@ -21,7 +25,7 @@ use jt_budget::Budget;
 use jt_value::{Fault, NoMemory, Value};
 use std::alloc::Global;
 
-/// The map of keys and values in turn, where each key is a text. A key that is there keeps its
+/// Returns the map of alternating keys and values; each key is a text. A repeated key keeps its
 /// place and takes the later value.
 pub(crate) fn map_of(alloc: Global, values: Vec<Value>) -> Result<Value, NoMemory>
     requires { list_all is_text (keys_of (map view values.items)) ≡ true }
@@ -31,8 +35,9 @@ pub(crate) fn map_of(alloc: Global, values: Vec<Value>) -> Result<Value, NoMemor
     Value::from_entries(alloc, entries)
 }
 
-/// How the run ends where keys and values in turn give no map within the limits. Nothing is built.
-pub(crate) fn map_refusal(pairs: &[Entry], budget: &Budget) -> Option<Outcome>
+/// Returns how the run ends if alternating keys and values make no map within the limits. Nothing
+/// is built.
+pub(crate) fn map_refusal(pairs: &[StackEntry], budget: &Budget) -> Option<Outcome>
     ensures ends { IfSome result (λ o. (c : Config)
         → c.left ≡ budget_view budget.now
         → answering (mapped (all_held pairs.now)) (λ t. pushes t c steps_on)
@@ -48,7 +53,7 @@ pub(crate) fn map_refusal(pairs: &[Entry], budget: &Budget) -> Option<Outcome>
     }
 }
 
-// The fault of a key: one that is no text has one.
+// Returns the fault of a key that is not a text.
 fn key_fault(key: &Value) -> Option<Fault>
     ensures { result ≡ key_fault_of (view key.now) }
 {
@@ -59,7 +64,7 @@ fn key_fault(key: &Value) -> Option<Fault>
     }
 }
 
-// The fault of two that counts: Undefined before BadType.
+// Returns the fault that takes precedence of two: `Undefined` before `BadType`.
 fn first_fault(one: Option<Fault>, other: Option<Fault>) -> Option<Fault>
     ensures { result ≡ first_fault_of one other }
 {
@@ -70,19 +75,19 @@ fn first_fault(one: Option<Fault>, other: Option<Fault>) -> Option<Fault>
     }
 }
 
-// The fault of the key that an entry holds.
-fn held_fault(key: &Entry) -> Option<Fault>
+// Returns the fault of the key that an entry holds.
+fn held_fault(key: &StackEntry) -> Option<Fault>
     ensures { result ≡ key_fault_of (held (entry_view key.now)) }
 {
     match key {
-        Entry::Value(key) => key_fault(key),
-        Entry::Frame(_) => Some(Fault::Undefined),
-        Entry::Capture => Some(Fault::Undefined),
+        StackEntry::Value(key) => key_fault(key),
+        StackEntry::Frame(_) => Some(Fault::Undefined),
+        StackEntry::Capture => Some(Fault::Undefined),
     }
 }
 
-// The fault of the keys, where keys and values stand in turn.
-fn keys_fault(pairs: &[Entry]) -> Option<Fault>
+// Returns the fault of the keys among alternating keys and values.
+fn keys_fault(pairs: &[StackEntry]) -> Option<Fault>
     ensures { result ≡ keys_fault_of (all_held pairs.now) }
 {
     match pairs {
@@ -92,7 +97,7 @@ fn keys_fault(pairs: &[Entry]) -> Option<Fault>
     }
 }
 
-// Takes the last value.
+// Pops the last value.
 pub(crate) fn pop_last(values: &mut Vec<Value>) -> Option<Value>
     ensures some { IfSome result (λ v. upward values.old.items ≡ view v ∷ upward values.new.items) }
     ensures none { IfNone result (upward values.old.items ≡ []) }
@@ -101,7 +106,7 @@ pub(crate) fn pop_last(values: &mut Vec<Value>) -> Option<Value>
     values.pop()
 }
 
-// Takes the last key and its value, where keys and values stand in turn from the end.
+// Pops the last key and its value. Keys and values alternate from the end.
 fn pop_pair(values: &mut Vec<Value>) -> Option<(Value, Value)>
     requires { HasTextKeys values.old.items }
     ensures some { IfSome result (λ p. (es : Entries)
@@ -117,7 +122,7 @@ fn pop_pair(values: &mut Vec<Value>) -> Option<(Value, Value)>
     Some((key, value))
 }
 
-// The place of a key among entries, if it is there.
+// Returns the index of a key among entries, if it occurs.
 fn place_of(entries: &[(String, Value)], key: &str) -> Option<usize>
     ensures there { IfSome result (λ i. StandsAt key.now entries.now i) }
     ensures missing { IfNone result (IsMissing key.now entries.now) }
@@ -132,7 +137,7 @@ fn place_of(entries: &[(String, Value)], key: &str) -> Option<usize>
     None
 }
 
-// Puts a value at a key. A key that is there keeps its place.
+// Sets the value of a key. A key that exists keeps its place.
 fn put_pair(
     alloc: Global,
     entries: &mut Vec<(String, Value)>,
@@ -150,7 +155,7 @@ fn put_pair(
     Ok(())
 }
 
-// The entries of keys and values in turn.
+// Returns the entries of alternating keys and values.
 fn entries_of(alloc: Global, mut values: Vec<Value>) -> Result<Vec<(String, Value)>, NoMemory>
     requires { list_all is_text (keys_of (map view values.items)) ≡ true }
     ensures { IfOk result

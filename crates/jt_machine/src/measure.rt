@@ -1,39 +1,40 @@
-//! What values at the top weigh, before a value is made of them.
+//! Measures entries of the stack before a value is made of them.
 ghost use Rattle.std.specs.Prelude.{◌≡◌, ◌-◌, ◌+◌, ◌^◌, ℕ, min, max, length, if◌then◌else◌};
 ghost use Rattle.jt_value.specs.Tree.{size, nesting, items_size, items_nesting};
 ghost use Rattle.jt_value.specs.View.{view, items_of};
 ghost use Rattle.jt_image.specs.Step.{key_bytes};
 ghost use Rattle.jt_machine.specs.Entries.{entry_view, held, all_held};
-ghost use Rattle.jt_machine.specs.Making.{is_named as is_named_in, lasting_size, lasting_nesting};
+ghost use Rattle.jt_machine.specs.internal.Making.{is_named as is_named_in, lasting_size};
+ghost use Rattle.jt_machine.specs.internal.Making.{lasting_nesting};
 
-use crate::entries::Entry;
+use crate::entries::StackEntry;
 use jt_value::Value;
 
-// The size of the value that an entry holds.
-fn held_size(entry: &Entry) -> u64
+// Returns the size of the value that an entry holds.
+fn held_size(entry: &StackEntry) -> u64
     ensures { result ≡ min (size (held (entry_view entry.now))) (2 ^ 64 - 1) }
 {
     match entry {
-        Entry::Value(value) => value.size(),
-        Entry::Frame(_) => 1,
-        Entry::Capture => 1,
+        StackEntry::Value(value) => value.size(),
+        StackEntry::Frame(_) => 1,
+        StackEntry::Capture => 1,
     }
 }
 
-// The nesting of the value that an entry holds.
-fn held_nesting(entry: &Entry) -> u32
+// Returns the nesting of the value that an entry holds.
+fn held_nesting(entry: &StackEntry) -> u32
     ensures { result ≡ min (nesting (held (entry_view entry.now))) (2 ^ 32 - 1) }
 {
     match entry {
-        Entry::Value(value) => value.nesting(),
-        Entry::Frame(_) => 0,
-        Entry::Capture => 0,
+        StackEntry::Value(value) => value.nesting(),
+        StackEntry::Frame(_) => 0,
+        StackEntry::Capture => 0,
     }
 }
 
-/// The sizes of the values that entries hold added up, or the greatest number where the sum is
-/// greater.
-pub(crate) fn sizes(entries: &[Entry]) -> u64
+/// Returns the sum of the sizes of the values that entries hold, or the greatest `u64` if the sum
+/// is greater.
+pub(crate) fn sizes(entries: &[StackEntry]) -> u64
     ensures { result ≡ min (items_size (items_of (all_held entries.now))) (2 ^ 64 - 1) }
 {
     let mut total = 0u64;
@@ -43,8 +44,8 @@ pub(crate) fn sizes(entries: &[Entry]) -> u64
     total
 }
 
-/// The greatest nesting of the values that entries hold.
-pub(crate) fn deepest(entries: &[Entry]) -> u32
+/// Returns the greatest nesting of the values that entries hold.
+pub(crate) fn deepest(entries: &[StackEntry]) -> u32
     ensures { result ≡ min (items_nesting (items_of (all_held entries.now))) (2 ^ 32 - 1) }
 {
     let mut most = 0u32;
@@ -54,7 +55,7 @@ pub(crate) fn deepest(entries: &[Entry]) -> u32
     most
 }
 
-/// The text of a key.
+/// Returns the text of a key.
 pub(crate) fn text_of(value: &Value) -> &str
     ensures { result.now ≡ key_bytes (view value.now) }
 {
@@ -65,19 +66,19 @@ pub(crate) fn text_of(value: &Value) -> &str
     }
 }
 
-// The text of the key that an entry holds.
-fn key_of(entry: &Entry) -> &str
+// Returns the text of the key that an entry holds.
+fn key_of(entry: &StackEntry) -> &str
     ensures { result.now ≡ key_bytes (held (entry_view entry.now)) }
 {
     match entry {
-        Entry::Value(value) => text_of(value),
-        Entry::Frame(_) => "",
-        Entry::Capture => "",
+        StackEntry::Value(value) => text_of(value),
+        StackEntry::Frame(_) => "",
+        StackEntry::Capture => "",
     }
 }
 
-// Whether a key is among keys and values in turn.
-fn is_named(key: &str, pairs: &[Entry]) -> bool
+// Returns whether a key occurs among entries that are alternately keys and values.
+fn is_named(key: &str, pairs: &[StackEntry]) -> bool
     ensures { result ≡ is_named_in key.now (all_held pairs.now) }
 {
     match pairs {
@@ -86,9 +87,9 @@ fn is_named(key: &str, pairs: &[Entry]) -> bool
     }
 }
 
-// What keys and values in turn weigh, with one key and its value more; nothing more where the key
-// is named again.
-fn weighed(key: &Entry, value: &Entry, named: bool, rest: (u64, u32)) -> (u64, u32)
+// Returns the size and the nesting `rest` with one key and its value added. Adds nothing if `named`
+// is true, since the key occurs again.
+fn weighed(key: &StackEntry, value: &StackEntry, named: bool, rest: (u64, u32)) -> (u64, u32)
     ensures size { (n : ℕ)
         → rest.0 ≡ min n (2 ^ 64 - 1)
         → result.0 ≡ min (n + (if named then 0
@@ -109,9 +110,9 @@ fn weighed(key: &Entry, value: &Entry, named: bool, rest: (u64, u32)) -> (u64, u
     )
 }
 
-/// The size and the nesting that keys and values in turn have as entries of a map, where of a key
-/// that is given twice the last value counts.
-pub(crate) fn lasting(pairs: &[Entry]) -> (u64, u32)
+/// Returns the size and the nesting that alternating keys and values have as entries of a map. If a
+/// key occurs twice, its last value counts.
+pub(crate) fn lasting(pairs: &[StackEntry]) -> (u64, u32)
     ensures size { result.0 ≡ min (lasting_size (all_held pairs.now)) (2 ^ 64 - 1) }
     ensures nesting { result.1 ≡ min (lasting_nesting (all_held pairs.now)) (2 ^ 32 - 1) }
 {

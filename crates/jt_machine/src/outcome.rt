@@ -1,17 +1,17 @@
-//! How runs end.
+//! Defines how runs end.
 
 use jt_budget::Spent;
 use jt_value::Fault;
 
-/// A place in a template: its name, and the line of a tag.
+/// A place in a template: the template's name, and the line of a tag.
 #[derive(Debug, PartialEq, Eq, Drop)]
 pub struct Place {
     pub template: String,
     pub line: u32,
 }
 
-/// How a run ends: with a text, with a fault of the template and its place if it has one, or with a
-/// number of the budget that did not suffice.
+/// The outcome of a run: a text, a fault with its place if it has one, or the number of the budget
+/// that was spent.
 #[derive(Debug, Drop)]
 pub enum Outcome {
     Text(String),
@@ -19,8 +19,8 @@ pub enum Outcome {
     Spent(Spent),
 }
 
-/// How a run ends whose text is written as it is made: whole, with a fault of the template and its
-/// place if it has one, or with a number of the budget that did not suffice.
+/// The outcome of a run that writes its text as it is emitted. It is the whole text, a fault with
+/// its place if it has one, or the number of the budget that was spent.
 #[derive(Debug, PartialEq, Eq, Drop)]
 pub enum Ended {
     Whole,
@@ -28,7 +28,7 @@ pub enum Ended {
     Spent(Spent),
 }
 
-/// Whether a run that was carried on goes on still.
+/// The progress of a run after a slice: it goes on, or it has ended.
 #[derive(Clone, Copy, Debug, PartialEq, Eq)]
 pub enum Progress {
     Going,

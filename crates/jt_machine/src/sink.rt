@@ -1,26 +1,31 @@
-//! Writers of pieces.
-ghost use Rattle.std.specs.Prelude.{◌≡◌, ◌≢◌, ◌<◌, ◌≤◌, ℕ, Bool, true, false, List, [], length, take, Option, IfOk, IsErr, OnOk, OnErr};
+//! Defines sinks, which take bytes in pieces, and a sink over a writer of std.
+ghost use Rattle.std.specs.Prelude.{◌≡◌, ◌≢◌, ◌<◌, ◌≤◌, ℕ, Bool, true, false, List, [], length};
+ghost use Rattle.std.specs.Prelude.{take, Option, IfOk, IsErr, OnOk, OnErr};
 ghost use Rattle.std.specs.Io.KnownBytes.{Appends};
 ghost use Rattle.jt_machine.specs.Sinks.{HasFailed, TookFront};
 
 use std::io::Write;
 use thiserror::Error;
 
-/// A sink has refused a piece.
+/// The error of a sink that refused a piece.
 #[derive(Clone, Copy, Debug, PartialEq, Eq, Error)]
 #[error("a sink has failed")]
 pub struct SinkFailed;
 
-/// A writer that takes bytes in pieces. Once it has refused a piece it has failed for good.
+/// A writer that takes bytes in pieces. Once it has refused a piece, it has failed permanently.
 pub trait Sink {
-    /// The bytes that it took, where they are known.
+    /// Returns the bytes that the sink took, if they are known.
     ghost taken: { Self → Option (List ℕ) };
 
-    /// Whether it has refused a piece.
+    /// Returns whether the sink has refused a piece.
     ghost failed: { Self → Bool };
 
-    /// Takes a beginning of the piece and answers its length, which is 0 only for an empty piece;
-    /// or refuses, and takes nothing. A sink that has failed refuses every piece.
+    /// Takes a prefix of the piece and returns its length, which is 0 only for an empty piece.
+    ///
+    /// # Errors
+    ///
+    /// `SinkFailed` if the sink refuses the piece; it then takes nothing. A sink that has failed
+    /// refuses every piece.
     fn put(&mut self, piece: &[u8]) -> Result<usize, SinkFailed>
         ensures idle { failed self.old ≡ true → self.new ≡ self.old }
         ensures refuses { failed self.old ≡ true → IsErr result }
@@ -32,12 +37,12 @@ pub trait Sink {
         ensures nothing { OnErr result (Appends (taken self.old) (taken self.new) []) }
         ensures fails { OnErr result (failed self.new ≡ true) };
 
-    /// Whether it has refused a piece.
+    /// Returns whether the sink has refused a piece.
     fn has_failed(&self) -> bool
         ensures { result ≡ failed self.now };
 }
 
-/// A sink over a writer of std. An error of the writer is a failure, and so is that it takes no
+/// A sink over a writer of std. It fails if the writer returns an error, or if the writer takes no
 /// byte of a piece that is not empty.
 #[derive(Drop)]
 pub struct IoSink<W: Write> {
@@ -46,7 +51,7 @@ pub struct IoSink<W: Write> {
 }
 
 impl<W: Write> IoSink<W> {
-    /// A sink that has not failed, over the writer.
+    /// Returns a sink over `writer` that has not failed.
     pub fn new(writer: W) -> IoSink<W>
         ensures writer { ⟦<IoSink<W> as Sink>⟧.taken result ≡ W.contents writer }
         ensures works { ⟦<IoSink<W> as Sink>⟧.failed result ≡ false }
@@ -57,7 +62,7 @@ impl<W: Write> IoSink<W> {
         }
     }
 
-    /// The writer.
+    /// Returns the writer.
     pub fn into_inner(self) -> W
         ensures { W.contents result ≡ ⟦<IoSink<W> as Sink>⟧.taken self }
     {
@@ -81,7 +86,7 @@ impl<W: Write> Sink for IoSink<W> {
         ensures nothing { OnErr result
             (Appends (W.contents self.old.writer) (W.contents self.new.writer) []) }
         ensures fails { OnErr result (self.new.failed ≡ true) }
-        // A sink that works refuses a piece only where the writer failed at it.
+        // A sink that has not failed refuses a piece only if the writer failed at it.
         ensures why { OnErr result (self.old.failed ≡ false
             → HasFailed (W.contents self.old.writer) (W.contents self.new.writer) piece.now) }
     {
@@ -102,12 +107,12 @@ impl<W: Write> Sink for IoSink<W> {
     }
 }
 
-/// Puts all of the bytes, or those that the sink takes before it refuses a piece.
+/// Writes all bytes into a sink, or the bytes that it takes before it refuses a piece.
 ///
 /// # Errors
 ///
-/// Where the sink had failed, and then nothing is put, or refuses a piece, and so has failed. What
-/// it took is then a beginning of the bytes.
+/// `SinkFailed` if the sink had failed before, and then nothing is written; or if it refuses a
+/// piece. What it took is then a prefix of the bytes.
 pub fn put_all<W: Sink>(sink: &mut W, bytes: &[u8]) -> Result<(), SinkFailed>
     ensures idle { W.failed sink.old ≡ true → sink.new ≡ sink.old }
     ensures all { OnOk result (Appends (W.taken sink.old) (W.taken sink.new) bytes.now) }

@@ -1,15 +1,17 @@
-//! How a run starts: the context is tested, and fills the globals.
-ghost use Rattle.std.specs.Prelude.{◌≡◌, ◌+◌, ◌<◌, ◌^◌, IfOk, OnOk, OnErr, length, option_map, slice_set, unwrap_or, replicate};
+//! Starts a run: checks the context and fills the globals.
+ghost use Rattle.std.specs.Prelude.{◌≡◌, ◌+◌, ◌<◌, ◌^◌, IfOk, OnOk, OnErr, length, option_map};
+ghost use Rattle.std.specs.Prelude.{slice_set, unwrap_or, replicate};
 ghost use Rattle.jt_value.specs.Tree as tree;
 ghost use Rattle.jt_value.specs.View.{view};
 ghost use Rattle.jt_value.specs.Pairs.{look};
 ghost use Rattle.jt_value.specs.ContextView.{pairs_of};
-ghost use Rattle.jt_image.specs.Run.{limit_of_named, passed, filled, entry_locals as entry_locals_of, start as start_of};
+ghost use Rattle.jt_image.specs.Run.{limit_of_named, passed, filled};
+ghost use Rattle.jt_image.specs.Run.{entry_locals as entry_locals_of, start as start_of};
 ghost use Rattle.jt_machine.specs.Entries.{values_view};
 ghost use Rattle.jt_machine.specs.Growing.{HasTables};
 ghost use Rattle.jt_machine.specs.View.{budget_view, limit_view, config_view};
 
-use crate::limits::passed_limit;
+use crate::limits::exceeded_limit;
 use crate::stack::Stack;
 use crate::state::State;
 use jt_budget::{Budget, Spent};
@@ -17,19 +19,19 @@ use jt_image::Code;
 use jt_value::{Context, NoMemory, Value};
 use std::alloc::Global;
 
-// The limit that the value of a name passes. A name that the context lacks passes none.
-fn named_passes(name: &str, context: &Context, budget: &Budget) -> Option<Spent>
+// Returns the limit that the value of a name exceeds. A name that the context lacks exceeds none.
+fn named_limit(name: &str, context: &Context, budget: &Budget) -> Option<Spent>
     ensures { option_map limit_view result
         ≡ limit_of_named (budget_view budget.now) (look name.now (pairs_of context.now)) }
 {
     match context.get(name) {
-        Some(value) => passed_limit(value, budget),
+        Some(value) => exceeded_limit(value, budget),
         None => None,
     }
 }
 
-/// The first limit that a value of the context passes, in the order of the code's names.
-pub(crate) fn context_passes<C: Code>(code: &C, context: &Context, budget: &Budget) -> Option<Spent>
+/// Returns the first limit that a value of the context exceeds, in the order of the code's names.
+pub(crate) fn context_limit<C: Code>(code: &C, context: &Context, budget: &Budget) -> Option<Spent>
     ensures { option_map limit_view result
         ≡ passed (budget_view budget.now) (pairs_of context.now) (C.code code.now).names }
 {
@@ -37,14 +39,14 @@ pub(crate) fn context_passes<C: Code>(code: &C, context: &Context, budget: &Budg
         let Some((_, name)) = code.name(i) else {
             unreachable!()
         };
-        if let Some(spent) = named_passes(name, context, budget) {
+        if let Some(spent) = named_limit(name, context, budget) {
             return Some(spent);
         }
     }
     None
 }
 
-// The value of a name, or undefined.
+// Returns a copy of the value of a name, or undefined.
 fn named_value(alloc: Global, name: &str, context: &Context) -> Result<Value, NoMemory>
     ensures { IfOk result
         (λ v. view v ≡ unwrap_or (look name.now (pairs_of context.now)) tree.undefined) }
@@ -86,7 +88,7 @@ fn undefined_values(alloc: Global, count: u16) -> Result<Vec<Value>, NoMemory>
     Ok(values)
 }
 
-// The globals: the context's values by their names, and others undefined.
+// Returns the globals: the context's values by their names, and undefined for all others.
 fn globals_of<C: Code>(alloc: Global, code: &C, context: &Context) -> Result<Vec<Value>, NoMemory>
     ensures values { IfOk result (λ gs. values_view gs.items
         ≡ filled (pairs_of context.now) (C.code code.now).names
@@ -104,7 +106,7 @@ fn globals_of<C: Code>(alloc: Global, code: &C, context: &Context) -> Result<Vec
     Ok(globals)
 }
 
-// How many locals unit 0 has.
+// Returns the number of locals of unit 0.
 fn entry_locals<C: Code>(code: &C) -> u16
     ensures { result ≡ entry_locals_of (C.code code.now).units }
 {
@@ -114,7 +116,7 @@ fn entry_locals<C: Code>(code: &C) -> u16
     }
 }
 
-/// The state at unit 0, before its first instruction.
+/// Returns the state at unit 0, before its first instruction.
 pub(crate) fn start<C: Code>(
     alloc: Global,
     code: &C,
@@ -124,10 +126,10 @@ pub(crate) fn start<C: Code>(
     ensures state { IfOk result (λ s.
         config_view s ≡ start_of (C.code code.now) (pairs_of context.now) (budget_view budget)) }
     ensures depth { IfOk result (λ s. s.left.depth + length s.stack.callers < 2 ^ 32) }
-    // Only the tables take memory.
+    // Only the tables are allocated.
     ensures memory { OnErr result (HasTables (C.code code.now)) }
 {
-    // Only read, so that the depth is known to have 32 bits.
+    // Read only so that the prover knows that the depth has 32 bits.
     let _depth = budget.depth;
     let locals = undefined_values(alloc, entry_locals(code))?;
     let globals = globals_of(alloc, code, context)?;

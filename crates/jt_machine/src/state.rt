@@ -1,16 +1,16 @@
-//! The state of a run between two instructions.
+//! Defines the state of a run between two instructions.
 ghost use Rattle.std.specs.Prelude.{◌≡◌, ◌<◌, length, slice_set};
 ghost use Rattle.jt_value.specs.View.{view};
 ghost use Rattle.jt_machine.specs.Entries.{values_view};
-ghost use Rattle.jt_machine.specs.Parts.{with_value};
+ghost use Rattle.jt_machine.specs.InstructionSteps.{with_value};
 ghost use Rattle.jt_machine.specs.View.{config_view, held_in};
 
 use crate::stack::Stack;
 use jt_budget::Budget;
 use jt_value::Value;
 
-/// A run between two instructions. The innermost of the buffers around the open one is the last
-/// one.
+/// The state of a run between two instructions. The last element of `outer` is the innermost buffer
+/// around the open one.
 #[derive(Drop)]
 pub(crate) struct State {
     pub(crate) unit: usize,
@@ -23,7 +23,7 @@ pub(crate) struct State {
     pub(crate) left: Budget,
 }
 
-/// A table of values: that of the whole run, or that of the call that runs.
+/// A table of values: the globals of the whole run, or the locals of the running activation.
 #[derive(Clone, Copy)]
 pub(crate) enum Table {
     Globals,
@@ -31,7 +31,7 @@ pub(crate) enum Table {
 }
 
 impl State {
-    /// The values of a table.
+    /// Returns the values of a table.
     #[inline(always)]
     pub(crate) fn values(&self, table: Table) -> &[Value]
         ensures { result.now ≡ held_in table self.now }
@@ -42,7 +42,7 @@ impl State {
         }
     }
 
-    /// Puts a value into a table.
+    /// Sets a value of a table.
     #[inline(always)]
     pub(crate) fn set(&mut self, table: Table, index: usize, value: Value)
         requires { index < length (held_in table self.old) }
@@ -56,7 +56,7 @@ impl State {
     }
 }
 
-/// Puts a value in the place of another one.
+/// Replaces the value at an index.
 #[inline(always)]
 pub(crate) fn set_value(values: &mut Vec<Value>, index: usize, value: Value)
     requires { index < length values.old.items }

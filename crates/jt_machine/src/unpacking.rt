@@ -1,4 +1,4 @@
-//! Values unpacked.
+//! Unpacks a value: its items are pushed.
 ghost use Rattle.std.specs.Prelude.{◌≡◌, ◌+◌, ◌-◌, ◌<◌, ◌^◌, min, map, IfOk, IfSome, IfNone, OnOk};
 ghost use Rattle.std.specs.Str.{chars};
 ghost use Rattle.jt_value.specs.Tree as tree;
@@ -10,22 +10,24 @@ ghost use Rattle.jt_image.specs.Step.{greatest, piled};
 ghost use Rattle.jt_image.specs.Run.{Ends};
 ghost use Rattle.jt_machine.specs.Activations.{with_running};
 ghost use Rattle.jt_machine.specs.Entries.{values_view};
-ghost use Rattle.jt_machine.specs.Iterating.{AreFitting};
-ghost use Rattle.jt_machine.specs.Parts.{iterating, piled_on, spread as spread_next, unpack as unpack_next};
-ghost use Rattle.jt_machine.specs.View.{budget_view, config_view, IsNext, outcome_view, AreSized, IsReady};
+ghost use Rattle.jt_machine.specs.internal.Iterating.{AreFitting};
+ghost use Rattle.jt_machine.specs.InstructionSteps.{iterating, piled_on, spread as spread_next};
+ghost use Rattle.jt_machine.specs.InstructionSteps.{unpack as unpack_next};
+ghost use Rattle.jt_machine.specs.View.{budget_view, config_view, IsNext, outcome_view, AreSized};
+ghost use Rattle.jt_machine.specs.View.{IsReady};
 
-use crate::entries::Entry;
+use crate::charging::{charge_for, step_on};
+use crate::entries::StackEntry;
 use crate::items::{count_of, items_of};
 use crate::maps::pop_last;
 use crate::outcome::Outcome;
-use crate::parts::{pay_for, step_on};
 use crate::stack::Stack;
 use crate::state::State;
 use jt_budget::Budget;
 use jt_value::{Fault, NoMemory, Value, ValueError};
 use std::alloc::Global;
 
-// The greatest size of the values.
+// Returns the greatest size of the values.
 fn greatest_size(values: &[Value]) -> u64
     ensures { result ≡ min (greatest tree.size (values_view values.now)) (2 ^ 64 - 1) }
 {
@@ -36,7 +38,7 @@ fn greatest_size(values: &[Value]) -> u64
     most
 }
 
-// The greatest nesting of the values.
+// Returns the greatest nesting of the values.
 fn greatest_nesting(values: &[Value]) -> u32
     ensures { result ≡ min (greatest tree.nesting (values_view values.now)) (2 ^ 32 - 1) }
 {
@@ -47,7 +49,7 @@ fn greatest_nesting(values: &[Value]) -> u32
     most
 }
 
-// Puts all of the values on top, the last one uppermost.
+// Pushes all values, the last one uppermost.
 fn push_all(stack: &mut Stack, values: Vec<Value>) -> Result<(), NoMemory>
     ensures { OnOk result
         (stack.new ≡ with_running (piled (values_view values.items) stack.old.running) stack.old) }
@@ -55,12 +57,12 @@ fn push_all(stack: &mut Stack, values: Vec<Value>) -> Result<(), NoMemory>
     let mut values = values;
     values.reverse();
     'values: while let Some(value) = pop_last(&mut values) {
-        stack.push(Entry::Value(value))?;
+        stack.push(StackEntry::Value(value))?;
     }
     Ok(())
 }
 
-// The greatest size of the characters of a text, each as a text.
+// Returns the greatest size of the characters of a text, each as a text.
 fn greatest_character(text: &str) -> u64
     ensures { result ≡ greatest tree.size (trees_of (character_items (chars text.now))) }
 {
@@ -71,7 +73,7 @@ fn greatest_character(text: &str) -> u64
     most
 }
 
-// The greatest size of the keys of a map, each as a text.
+// Returns the greatest size of the keys of a map, each as a text.
 fn greatest_key(entries: &[(String, Value)]) -> u64
     ensures { result ≡ greatest tree.size (trees_of (key_items (entries_view entries.now))) }
 {
@@ -82,7 +84,7 @@ fn greatest_key(entries: &[(String, Value)]) -> u64
     most
 }
 
-// The greatest size of the items that a value gives.
+// Returns the greatest size of the items of a value.
 fn greatest_item(value: &Value) -> u64
     ensures { IfOk (items_of_tree (view value.now))
         (λ ts. result ≡ min (greatest tree.size (trees_of ts)) (2 ^ 64 - 1)) }
@@ -96,8 +98,8 @@ fn greatest_item(value: &Value) -> u64
     }
 }
 
-// The greatest nesting of the items that a value gives: only a list has items that are nested.
-#[tactic(auto, using(crate::proofs::Spreading::characters_flat, crate::proofs::Spreading::keys_flat))]
+// Returns the greatest nesting of the items of a value. Only a list has items that are nested.
+#[tactic(auto, using(crate::proofs::UnpackCorrect::characters_flat, crate::proofs::UnpackCorrect::keys_flat))]
 fn deepest_item(value: &Value) -> u32
     ensures { IfOk (items_of_tree (view value.now))
         (λ ts. result ≡ min (greatest tree.nesting (trees_of ts)) (2 ^ 32 - 1)) }
@@ -108,7 +110,8 @@ fn deepest_item(value: &Value) -> u32
     }
 }
 
-// How the run ends where a value does not give that many items within the limits. Nothing is built.
+// Returns how the run ends if a value does not have `count` items within the limits. Nothing is
+// built.
 fn refusal(value: &Value, count: u32, budget: &Budget) -> Option<Outcome>
     ensures ends { IfSome result (λ o. (c : Config)
         → c.left ≡ budget_view budget.now
@@ -117,7 +120,7 @@ fn refusal(value: &Value, count: u32, budget: &Budget) -> Option<Outcome>
     ensures fits { IfNone result
         (AreFitting count (items_of_tree (view value.now)) (budget_view budget.now)) }
 {
-    // Only read, so that the limits are known to have fewer bits than what is counted.
+    // Read only so that the prover knows that the limits have fewer bits than the counts.
     let _size = budget.size;
     let _nesting = budget.nesting;
     match count_of(value) {
@@ -130,7 +133,7 @@ fn refusal(value: &Value, count: u32, budget: &Budget) -> Option<Outcome>
     }
 }
 
-// Puts all of the values on top and goes on.
+// Pushes all values and goes on.
 fn push_values(state: &mut State, values: Vec<Value>) -> Result<Option<Outcome>, NoMemory>
     requires { state.old.point + 1 < 2 ^ 64 }
     ensures { IsNext result state.new
@@ -140,7 +143,7 @@ fn push_values(state: &mut State, values: Vec<Value>) -> Result<Option<Outcome>,
     Ok(step_on(state))
 }
 
-// Puts the items of a value on top and goes on, if there are that many, or says how the run ends.
+// Pushes the items of a value and goes on if it has `count` items, or returns how the run ends.
 fn spread_items(
     alloc: Global,
     state: &mut State,
@@ -161,7 +164,7 @@ fn spread_items(
     }
 }
 
-/// Takes a value and puts its items on top, if there are that many.
+/// Pops a value and pushes its items, if it has `count` items.
 pub(crate) fn unpack(
     alloc: Global,
     state: &mut State,
@@ -169,11 +172,11 @@ pub(crate) fn unpack(
 ) -> Result<Option<Outcome>, NoMemory>
     requires ready { IsReady (unpack_next count (config_view state.old)) state.old }
     requires sized { AreSized state.old }
-    // Only items that are put take memory.
+    // Allocates only if the items are pushed.
     ensures { IsNext result state.new (unpack_next count (config_view state.old)) }
 {
     let value = state.stack.pop();
-    if let Some(outcome) = pay_for(state, &value) {
+    if let Some(outcome) = charge_for(state, &value) {
         return Ok(Some(outcome));
     }
     spread_items(alloc, state, count, value)

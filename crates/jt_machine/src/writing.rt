@@ -1,4 +1,4 @@
-//! Runs whose text is written in pieces.
+//! Runs an image and writes its text into a sink in pieces.
 ghost use Rattle.std.specs.Prelude.{◌≡◌, [], true, false, IfOk, IfErr, OnOk, OnErr, string_bytes};
 ghost use Rattle.std.specs.Result.{is_err};
 ghost use Rattle.jt_value.specs.Pairs.{Pairs};
@@ -7,16 +7,17 @@ ghost use Rattle.jt_image.specs.IsCode.{IsCode};
 ghost use Rattle.jt_image.specs.Typed.{IsTyped};
 ghost use Rattle.jt_image.specs.Config as config;
 ghost use Rattle.jt_image.specs.Run.{IsSafe};
-ghost use Rattle.jt_machine.specs.Emitting.{HasWritten, HasBegun, outcome_of, emitted_by, config_behind, text_written};
+ghost use Rattle.jt_machine.specs.Emitting.{HasWritten, HasBegun, outcome_of, emitted_by};
+ghost use Rattle.jt_machine.specs.Emitting.{config_prefixed, text_written};
 ghost use Rattle.jt_machine.specs.Growing.{MayWant};
 ghost use Rattle.jt_machine.specs.Sinks.{HasPut};
 ghost use Rattle.jt_machine.specs.View.{budget_view, config_view, outcome_view};
 
-use crate::at_once::hurry;
-use crate::constants::Made;
+use crate::constants::ConstantCache;
+use crate::fast_path::run_fast;
 use crate::outcome::{Ended, Outcome};
 use crate::sink::{Sink, SinkFailed, put_all};
-use crate::start::{context_passes, start};
+use crate::start::{context_limit, start};
 use crate::state::State;
 use crate::step::step;
 use jt_budget::Budget;
@@ -26,13 +27,13 @@ use jt_verify::Verified;
 use std::alloc::Global;
 use thiserror::Error;
 
-/// Why a run that is written was cut short.
+/// The error of a run that writes into a sink.
 #[derive(Clone, Copy, Debug, PartialEq, Eq, Error)]
 pub enum RunToError {
-    /// A growth was refused.
+    /// A refused growth.
     #[error("no memory")]
     NoMemory,
-    /// The sink failed.
+    /// A failure of the sink.
     #[error("a sink has failed")]
     Write,
 }
@@ -59,13 +60,15 @@ impl From<SinkFailed> for RunToError {
     }
 }
 
-/// Runs an image for a context under a budget, and puts its text into a sink as it is emitted to
+/// Runs an image for a context under a budget, and writes its text into a sink as it is emitted to
 /// the outermost buffer.
 ///
 /// # Errors
 ///
-/// `NoMemory` only where a growth was refused, and `Write` only where the sink failed. What was
-/// written is then a beginning of what the run emits.
+/// - `NoMemory` only if a growth was refused.
+/// - `Write` only if the sink failed.
+///
+/// What was written is then a prefix of what the run emits.
 pub fn run_to<W: Sink>(
     alloc: Global,
     verified: &Verified,
@@ -74,29 +77,30 @@ pub fn run_to<W: Sink>(
     sink: &mut W,
 ) -> Result<Ended, RunToError>
     requires works { W.failed sink.old ≡ false }
-    // The run ends so, and just what it emitted to the outermost buffer is written: its text, where
-    // it is whole.
+    // The run ends as returned. Exactly what it emitted to the outermost buffer is written: the
+    // whole text, if the run ends with a text.
     ensures ended { IfOk result (λ e. HasWritten verified.now (pairs_of context.now)
         (budget_view budget) e (W.taken sink.old) (W.taken sink.new)) }
-    // On an error a beginning of that is written.
+    // On an error a prefix of what the run emits is written.
     ensures begun { OnErr result (HasBegun verified.now (pairs_of context.now) (budget_view budget)
         (W.taken sink.old) (W.taken sink.new)) }
-    // The sink has failed exactly where that is the answer.
+    // The sink has failed exactly if the error is `Write`.
     ensures write { IfErr result (λ e. e ≡ RunToError.Write → W.failed sink.new ≡ true) }
     ensures memory { IfErr result (λ e. e ≡ RunToError.NoMemory → W.failed sink.new ≡ false) }
     ensures still { OnOk result (W.failed sink.new ≡ false) }
-    // Memory is wanted only for the tables at the start, and at a step that goes on and puts
-    // something, or ends with a fault that has a place.
+    // Memory is needed only for tables at the start, at steps that go on and may allocate, and for
+    // faults with a place.
     ensures wanted { IfErr result (λ e. e ≡ RunToError.NoMemory
         → MayWant verified.now (pairs_of context.now) (budget_view budget)) }
     // Every run of the image has one outcome, stays within its fuel and is never wrong.
-    ensures safe { (x : Pairs) (b : config.Budget) → IsSafe verified.now x b }
+    ensures safe { (any_context : Pairs) (any_budget : config.Budget)
+        → IsSafe verified.now any_context any_budget }
 {
     code_laws();
     write_code(alloc, verified.image(), context, budget, sink)
 }
 
-// Runs a typed code, and puts its text into a sink.
+// Runs a typed code, and writes its text into a sink.
 fn write_code<C: Code, W: Sink>(
     alloc: Global,
     code: &C,
@@ -118,27 +122,27 @@ fn write_code<C: Code, W: Sink>(
         → MayWant (C.code code.now) (pairs_of context.now) (budget_view budget)) }
 {
     code_laws();
-    if let Some(spent) = context_passes(code, context, &budget) {
+    if let Some(spent) = context_limit(code, context, &budget) {
         return Ok(Ended::Spent(spent));
     }
     let mut state = start(alloc, code, context, budget)?;
-    let mut made = Made::new(alloc);
-    let mut ahead = None;
+    let mut made = ConstantCache::new(alloc);
+    let mut prefetched = None;
     'steps: loop {
         send(&mut state, sink)?;
-        hurry(code, &mut state, u64::MAX, &mut ahead);
-        if let Some(outcome) = step(alloc, code, &mut made, &mut state, ahead)? {
+        run_fast(code, &mut state, u64::MAX, &mut prefetched);
+        if let Some(outcome) = step(alloc, code, &mut made, &mut state, prefetched)? {
             return Ok(close(outcome, sink)?);
         }
     }
 }
 
-// Puts what stands in the outermost buffer, and empties the buffer.
+// Writes the contents of the outermost buffer into the sink, and empties the buffer.
 fn send<W: Sink>(state: &mut State, sink: &mut W) -> Result<(), SinkFailed>
     requires { W.failed sink.old ≡ false }
     ensures put { HasPut result (emitted_by (config_view state.old))
         (W.taken sink.old) (W.taken sink.new) }
-    ensures emptied { OnOk result (config_behind (emitted_by (config_view state.old))
+    ensures emptied { OnOk result (config_prefixed (emitted_by (config_view state.old))
         (config_view state.new)
         ≡ config_view state.old) }
     ensures fails { W.failed sink.new ≡ is_err result }
@@ -149,7 +153,7 @@ fn send<W: Sink>(state: &mut State, sink: &mut W) -> Result<(), SinkFailed>
     }
 }
 
-// Puts what stands in a buffer, and empties it.
+// Writes the contents of a buffer into the sink, and empties the buffer.
 fn drain<W: Sink>(buffer: &mut String, sink: &mut W) -> Result<(), SinkFailed>
     requires { W.failed sink.old ≡ false }
     ensures put { HasPut result (string_bytes buffer.old) (W.taken sink.old) (W.taken sink.new) }
@@ -161,7 +165,7 @@ fn drain<W: Sink>(buffer: &mut String, sink: &mut W) -> Result<(), SinkFailed>
     Ok(())
 }
 
-// Puts the text that a run ended with, and says how it ended.
+// Writes the text with which a run ended, and returns how it ended.
 fn close<W: Sink>(outcome: Outcome, sink: &mut W) -> Result<Ended, SinkFailed>
     requires { W.failed sink.old ≡ false }
     ensures ended { IfOk result

@@ -1,7 +1,11 @@
-//! The names that a chain's templates read, bind or set.
+//! Collects the names that a chain's templates read, bind or set.
 //!
-//! Of a chain (own, chains), of its scopes (scopes), of a body (sets), and as they stand in a row
-//! (lists). Read first: specs/Names.antt.
+//! - The names of a chain: `own` and `chains`.
+//! - The names that its scopes bind: `scopes`.
+//! - The names that a body sets: `sets`.
+//! - Names in lists: `lists`.
+//!
+//! Read first: specs/Names.antt.
 #![tactic(auto)]
 
 mod chains;

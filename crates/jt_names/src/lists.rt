@@ -1,23 +1,23 @@
-//! Names that stand in a tree, as lists.
+//! Lists the names in parts of a tree, in their order.
 
 ghost use Rattle.std.specs.Prelude.{◌≡◌, IfOk};
-ghost use Rattle.jt_trees.specs.ExpressionView.{pairs_view};
-ghost use Rattle.jt_trees.specs.StatementView.{names_view};
-ghost use Rattle.jt_trees.specs.Texts.{texts};
+ghost use Rattle.jt_ast.specs.ExpressionView.{pairs_view};
+ghost use Rattle.jt_ast.specs.StatementView.{names_view};
+ghost use Rattle.jt_ast.specs.Texts.{texts};
 ghost use Rattle.jt_chains.specs.Uses.{keywords};
 ghost use Rattle.jt_names.specs.Names.{parameter_names};
 
-use jt_trees::{Expr, Parameter};
+use jt_ast::{Expr, Parameter};
 use std::alloc::{AllocError, Global};
 
-/// Names, in their order.
+/// Returns the names as borrowed texts, in their order.
 pub fn names_of<'a>(alloc: Global, names: &'a [String]) -> Result<Vec<&'a str>, AllocError>
     ensures { IfOk result (λ ns. texts ns.items ≡ names_view names.now) }
 {
     names.iter().map(|name| name.as_str()).collect(alloc)
 }
 
-/// The names of arguments that are given by name, or the keys of a map.
+/// Returns the names of keyword arguments, or the keys of a map.
 pub fn keyword_names<'a>(
     alloc: Global,
     pairs: &'a [(String, Expr)],
@@ -27,7 +27,7 @@ pub fn keyword_names<'a>(
     pairs.iter().map(|pair| pair.0.as_str()).collect(alloc)
 }
 
-/// The names of parameters.
+/// Returns the names of parameters.
 pub fn parameter_names<'a>(
     alloc: Global,
     parameters: &'a [Parameter],

@@ -1,19 +1,22 @@
-//! The different names that a chain reads or binds.
+//! Collects the different names that a chain reads or binds.
 
 ghost use Rattle.std.specs.Prelude.{◌≡◌, ◌++◌, ◌∷◌, if◌then◌else◌, [], option_map, IfOk};
-ghost use Rattle.jt_trees.specs.ExpressionView.{expr_view, exprs_view, pairs_view};
-ghost use Rattle.jt_trees.specs.Texts.{inserted};
+ghost use Rattle.jt_ast.specs.ExpressionView.{expr_view, exprs_view, pairs_view};
+ghost use Rattle.jt_ast.specs.Texts.{inserted};
 ghost use Rattle.jt_chains.specs.Chain.{is_loop};
-ghost use Rattle.jt_trees.specs.StatementView.{stmt_view, body_view, branches_view, names_view, filterings_view};
-ghost use Rattle.jt_chains.specs.Uses.{expr_names, row_names, pair_names, condition_names, filtering_names, stmt_names, body_names, branch_names, keywords};
+ghost use Rattle.jt_ast.specs.StatementView.{stmt_view, body_view, branches_view, names_view};
+ghost use Rattle.jt_ast.specs.StatementView.{filter_calls_view};
+ghost use Rattle.jt_chains.specs.Uses.{expr_names, row_names, pair_names, condition_names};
+ghost use Rattle.jt_chains.specs.Uses.{filter_call_names, stmt_names, body_names, branch_names};
+ghost use Rattle.jt_chains.specs.Uses.{keywords};
 ghost use Rattle.jt_names.specs.Names.{Puts, parameter_names};
-ghost use Rattle.jt_trees.specs.Texts.{texts};
+ghost use Rattle.jt_ast.specs.Texts.{texts};
 
-use jt_trees::{Branch, Expr, Filtering, Parameter, Stmt};
+use jt_ast::{Branch, Expr, FilterCall, Parameter, Stmt};
 use std::alloc::AllocError;
 use std::collections::BTreeSet;
 
-/// Whether an expression is the bare name `loop`.
+/// Returns whether an expression is the bare name `loop`.
 pub fn is_loop_name(expr: &Expr) -> bool
     ensures { result ≡ is_loop (expr_view expr.now) }
 {
@@ -32,7 +35,7 @@ pub(crate) fn add_name<'a>(names: &mut BTreeSet<&'a str>, name: &'a str) -> Resu
 }
 
 /// Adds the names of an expression.
-#[tactic(auto, using(jt_trees::proofs::ExpressionViews::view_Map))]
+#[tactic(auto, using(jt_ast::proofs::ExpressionViews::view_Map))]
 #[cycle(gather)]
 fn add_expression<'a>(names: &mut BTreeSet<&'a str>, expr: &'a Expr) -> Result<(), AllocError>
     ensures { IfOk result (λ _. Puts names.old names.new (expr_names (expr_view expr.now))) }
@@ -72,8 +75,8 @@ fn add_expression<'a>(names: &mut BTreeSet<&'a str>, expr: &'a Expr) -> Result<(
     }
 }
 
-/// Adds the names of what a filter or a test is applied to, and of its arguments.
-#[tactic(auto, using(crate::proofs::Inserted::inserted_both))]
+/// Adds the names of the operand of a filter or a test, and those of its arguments.
+#[tactic(auto, using(crate::proofs::SortedNames::inserted_both))]
 #[cycle(gather)]
 fn add_applied<'a>(
     names: &mut BTreeSet<&'a str>,
@@ -89,8 +92,8 @@ fn add_applied<'a>(
     Ok(())
 }
 
-/// Adds the names of arguments by place and by name.
-#[tactic(auto, using(crate::proofs::Inserted::inserted_both))]
+/// Adds the names of positional and keyword arguments.
+#[tactic(auto, using(crate::proofs::SortedNames::inserted_both))]
 #[cycle(gather)]
 fn add_arguments<'a>(
     names: &mut BTreeSet<&'a str>,
@@ -106,7 +109,7 @@ fn add_arguments<'a>(
 }
 
 /// Adds the names of three expressions.
-#[tactic(auto, using(crate::proofs::Inserted::inserted_both))]
+#[tactic(auto, using(crate::proofs::SortedNames::inserted_both))]
 #[cycle(gather)]
 fn add_three<'a>(
     names: &mut BTreeSet<&'a str>,
@@ -123,7 +126,7 @@ fn add_three<'a>(
 }
 
 /// Adds the names of two expressions.
-#[tactic(auto, using(crate::proofs::Inserted::inserted_both))]
+#[tactic(auto, using(crate::proofs::SortedNames::inserted_both))]
 #[cycle(gather)]
 fn add_both<'a>(
     names: &mut BTreeSet<&'a str>,
@@ -138,7 +141,7 @@ fn add_both<'a>(
     Ok(())
 }
 
-/// Adds the names of what has an attribute; `loop` is none.
+/// Adds the names of the operand of an attribute, unless it is `loop`.
 #[cycle(gather)]
 fn add_of_attribute<'a>(names: &mut BTreeSet<&'a str>, value: &'a Expr) -> Result<(), AllocError>
     ensures { IfOk result (λ _. Puts names.old names.new (if is_loop (expr_view value.now) then []
@@ -150,7 +153,7 @@ fn add_of_attribute<'a>(names: &mut BTreeSet<&'a str>, value: &'a Expr) -> Resul
     add_expression(names, value)
 }
 
-/// Adds the names of a row of expressions.
+/// Adds the names of a list of expressions.
 #[cycle(gather)]
 fn add_row<'a>(names: &mut BTreeSet<&'a str>, row: &'a [Expr]) -> Result<(), AllocError>
     ensures { IfOk result (λ _. Puts names.old names.new (row_names (exprs_view row.now))) }
@@ -161,7 +164,7 @@ fn add_row<'a>(names: &mut BTreeSet<&'a str>, row: &'a [Expr]) -> Result<(), All
     Ok(())
 }
 
-/// Adds the names of values behind their keys.
+/// Adds the names of the values of pairs.
 #[cycle(gather)]
 fn add_pairs<'a>(
     names: &mut BTreeSet<&'a str>,
@@ -226,21 +229,21 @@ fn add_condition<'a>(
 }
 
 /// Adds the names of the filters of a filter tag.
-fn add_filterings<'a>(
+fn add_filter_calls<'a>(
     names: &mut BTreeSet<&'a str>,
-    filterings: &'a [Filtering],
+    filter_calls: &'a [FilterCall],
 ) -> Result<(), AllocError>
-    ensures { IfOk result (λ _. Puts names.old names.new (filtering_names
-        (filterings_view filterings.now))) }
+    ensures { IfOk result (λ _. Puts names.old names.new (filter_call_names
+        (filter_calls_view filter_calls.now))) }
 {
-    for filtering in filterings {
-        add_arguments(names, &filtering.arguments, &filtering.keywords)?;
+    for filter_call in filter_calls {
+        add_arguments(names, &filter_call.arguments, &filter_call.keywords)?;
     }
     Ok(())
 }
 
 /// Adds the names of the head of a loop.
-#[tactic(auto, using(crate::proofs::Inserted::inserted_both))]
+#[tactic(auto, using(crate::proofs::SortedNames::inserted_both))]
 fn add_head<'a>(
     names: &mut BTreeSet<&'a str>,
     items: &'a Expr,
@@ -257,7 +260,7 @@ fn add_head<'a>(
 }
 
 /// Adds the names of an assignment.
-#[tactic(auto, using(crate::proofs::Inserted::inserted_both))]
+#[tactic(auto, using(crate::proofs::SortedNames::inserted_both))]
 fn add_set<'a>(
     names: &mut BTreeSet<&'a str>,
     targets: &'a [String],
@@ -271,7 +274,7 @@ fn add_set<'a>(
     Ok(())
 }
 
-/// Adds the names of the branches of a choice.
+/// Adds the names of the branches of an `if`.
 #[cycle(add)]
 fn add_branches<'a>(
     names: &mut BTreeSet<&'a str>,
@@ -291,8 +294,8 @@ fn add_branches<'a>(
     Ok(())
 }
 
-/// Adds the names of a choice: its branches, and what stands for none of them.
-#[tactic(auto, using(crate::proofs::Inserted::inserted_both))]
+/// Adds the names of an `if`: those of its branches and of its `else` part.
+#[tactic(auto, using(crate::proofs::SortedNames::inserted_both))]
 #[cycle(add)]
 fn add_choice<'a>(
     names: &mut BTreeSet<&'a str>,
@@ -307,8 +310,8 @@ fn add_choice<'a>(
     Ok(())
 }
 
-/// Adds the names of the turns of a loop, and of what stands for none.
-#[tactic(auto, using(crate::proofs::Inserted::inserted_both))]
+/// Adds the names of a loop's body and of its `else` part.
+#[tactic(auto, using(crate::proofs::SortedNames::inserted_both))]
 #[cycle(add)]
 fn add_turns<'a>(
     names: &mut BTreeSet<&'a str>,
@@ -323,7 +326,7 @@ fn add_turns<'a>(
     Ok(())
 }
 
-/// Adds the name that a block sets, and the names in it.
+/// Adds the name that a `set` block binds, and the names in its body.
 #[cycle(add)]
 fn add_set_block<'a>(
     names: &mut BTreeSet<&'a str>,
@@ -338,8 +341,8 @@ fn add_set_block<'a>(
     Ok(())
 }
 
-/// Adds the names of the values of a `with` tag, what it binds, and the names in it.
-#[tactic(auto, using(crate::proofs::Inserted::inserted_both))]
+/// Adds the names of the values of a `with` tag, the names that it binds, and those in its body.
+#[tactic(auto, using(crate::proofs::SortedNames::inserted_both))]
 #[cycle(add)]
 fn add_with<'a>(
     names: &mut BTreeSet<&'a str>,
@@ -355,24 +358,24 @@ fn add_with<'a>(
     Ok(())
 }
 
-/// Adds the names in a filter tag, and those of its filters.
-#[tactic(auto, using(crate::proofs::Inserted::inserted_both))]
+/// Adds the names in the body of a filter tag, and those of its filters.
+#[tactic(auto, using(crate::proofs::SortedNames::inserted_both))]
 #[cycle(add)]
 fn add_filter_block<'a>(
     names: &mut BTreeSet<&'a str>,
-    filters: &'a [Filtering],
+    filters: &'a [FilterCall],
     body: &'a [Stmt],
 ) -> Result<(), AllocError>
     ensures { IfOk result (λ _. Puts names.old names.new (body_names (body_view body.now)
-        ++ filtering_names (filterings_view filters.now))) }
+        ++ filter_call_names (filter_calls_view filters.now))) }
 {
     add_statements(names, body)?;
-    add_filterings(names, filters)?;
+    add_filter_calls(names, filters)?;
     Ok(())
 }
 
-/// Adds the parameters of a macro, and the names in it.
-#[tactic(auto, using(crate::proofs::Inserted::inserted_both))]
+/// Adds the parameters of a macro, and the names in its body.
+#[tactic(auto, using(crate::proofs::SortedNames::inserted_both))]
 #[cycle(add)]
 fn add_macro<'a>(
     names: &mut BTreeSet<&'a str>,
@@ -388,7 +391,7 @@ fn add_macro<'a>(
 }
 
 /// Adds the names of a statement.
-#[tactic(auto, using(jt_trees::proofs::StatementViews::view_Set))]
+#[tactic(auto, using(jt_ast::proofs::StatementViews::view_Set))]
 #[cycle(add)]
 fn add_statement<'a>(names: &mut BTreeSet<&'a str>, statement: &'a Stmt) -> Result<(), AllocError>
     ensures { IfOk result (λ _. Puts names.old names.new (stmt_names (stmt_view statement.now))) }

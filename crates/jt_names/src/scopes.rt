@@ -1,14 +1,15 @@
-//! The names that scopes bind: targets of loops, parameters, values of `with`, and what is set in a
-//! scope.
+//! Collects the names that scopes bind: targets of loops, parameters, values of `with`, and the
+//! names that are set in a scope.
 
 ghost use Rattle.std.specs.Prelude.{◌++◌, IfOk};
-ghost use Rattle.jt_trees.specs.ExpressionView.{pairs_view};
-ghost use Rattle.jt_chains.specs.Uses.{keywords, set_in, scope_names_by, scope_names_in, scope_names_under};
-ghost use Rattle.jt_trees.specs.StatementView.{stmt_view, body_view, branches_view, names_view};
+ghost use Rattle.jt_ast.specs.ExpressionView.{pairs_view};
+ghost use Rattle.jt_chains.specs.Uses.{keywords, set_in, scope_names_by, scope_names_in};
+ghost use Rattle.jt_chains.specs.Uses.{scope_names_under};
+ghost use Rattle.jt_ast.specs.StatementView.{stmt_view, body_view, branches_view, names_view};
 ghost use Rattle.jt_names.specs.Names.{Adds, parameter_names};
 
 use crate::sets::{add_sets, add_targets};
-use jt_trees::{Branch, Expr, Parameter, Stmt};
+use jt_ast::{Branch, Expr, Parameter, Stmt};
 use std::alloc::AllocError;
 
 /// Adds the keys of pairs.
@@ -45,7 +46,7 @@ pub(crate) fn add_scopes<'a>(found: &mut Vec<&'a str>, body: &'a [Stmt]) -> Resu
     Ok(())
 }
 
-/// Adds what a scope of its own sets, and the names that the scopes in it bind.
+/// Adds the names that the body of a scope sets, and those that the scopes in it bind.
 #[cycle(scopes)]
 fn add_inside<'a>(found: &mut Vec<&'a str>, body: &'a [Stmt]) -> Result<(), AllocError>
     ensures { IfOk result (λ _. Adds found.old found.new (set_in (body_view body.now) ++
@@ -56,7 +57,7 @@ fn add_inside<'a>(found: &mut Vec<&'a str>, body: &'a [Stmt]) -> Result<(), Allo
     Ok(())
 }
 
-/// Adds the names that the scopes in the branches of a choice bind.
+/// Adds the names that the scopes in the branches of an `if` bind.
 #[cycle(scopes)]
 fn add_branches<'a>(
     found: &mut Vec<&'a str>,
@@ -71,7 +72,7 @@ fn add_branches<'a>(
     Ok(())
 }
 
-/// Adds the targets of a loop, the names of the scope inside, and those of what stands for none.
+/// Adds a loop's targets, the names bound in its body, and those bound in its `else` part.
 #[cycle(scopes)]
 fn add_loop<'a>(
     found: &mut Vec<&'a str>,
@@ -89,10 +90,11 @@ fn add_loop<'a>(
     Ok(())
 }
 
-/// Adds those of one statement.
+/// Adds the names that the scopes in a statement bind.
 #[cycle(scopes)]
 fn add_scope<'a>(found: &mut Vec<&'a str>, statement: &'a Stmt) -> Result<(), AllocError>
-    ensures { IfOk result (λ _. Adds found.old found.new (scope_names_by (stmt_view statement.now))) }
+    ensures { IfOk result
+        (λ _. Adds found.old found.new (scope_names_by (stmt_view statement.now))) }
 {
     match statement {
         Stmt::If(branches, other) => {

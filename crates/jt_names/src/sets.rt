@@ -1,11 +1,11 @@
-//! The names that a body sets in its own scope.
+//! Collects the names that a body sets in its own scope.
 
 ghost use Rattle.std.specs.Prelude.{IfOk};
 ghost use Rattle.jt_chains.specs.Uses.{set_by, set_in};
-ghost use Rattle.jt_trees.specs.StatementView.{stmt_view, body_view, names_view};
+ghost use Rattle.jt_ast.specs.StatementView.{stmt_view, body_view, names_view};
 ghost use Rattle.jt_names.specs.Names.{Adds};
 
-use jt_trees::{Branch, Stmt};
+use jt_ast::{Branch, Stmt};
 use std::alloc::AllocError;
 
 /// Adds the names of targets.
@@ -32,7 +32,7 @@ pub(crate) fn add_sets<'a>(found: &mut Vec<&'a str>, body: &'a [Stmt]) -> Result
     Ok(())
 }
 
-/// Adds those of one statement.
+/// Adds the names that a statement sets in its scope.
 #[cycle(sets)]
 fn add_set<'a>(found: &mut Vec<&'a str>, statement: &'a Stmt) -> Result<(), AllocError>
     ensures { IfOk result (λ _. Adds found.old found.new (set_by (stmt_view statement.now))) }

@@ -1,7 +1,7 @@
-pub mod Answering
-pub mod Finding
-pub mod Loops
-pub mod Members
+pub mod RefusalsPropagate
+pub mod SubstringSearch
+pub mod AppendSteps
+pub mod MembershipTests
 pub mod Numbers
 pub mod Pieces
 pub mod Places

@@ -1,5 +1,6 @@
--- Numbers in their range.
-use Rattle.std.proofs.Common.{◌≡◌, ℕ, zero, suc, ◌%◌, ◌^◌, ◌<◌, ◌≤◌, Bool, true, false, cond, Option, Some, None, ℤ, pos, negsuc, neg_ℤ, refl, sym, ◌∙◌, arith}
+-- Numbers in the range of 64 signed bits.
+use Rattle.std.proofs.Common.{◌≡◌, ℕ, zero, suc, ◌%◌, ◌^◌, ◌<◌, ◌≤◌, Bool, true, false, cond, Option, Some, None, ℤ}
+use Rattle.std.proofs.Common.{pos, negsuc, neg_ℤ, refl, sym, ◌∙◌, arith}
 use Rattle.std.specs.Prelude.{◌≢◌, Ok, Err, SomeIff, FitsSigned, nat_lt}
 use Rattle.std.specs.Int.{w64, int_pow}
 use Rattle.std.specs.Option.{ok_or}
@@ -7,9 +8,9 @@ use Rattle.std.proofs.lemmas.Bool.Decides.{nat_tests}
 use Rattle.std.proofs.Math.Nat.{pow-zero, pow-suc, mul-le-mul}
 use Rattle.std.proofs.Math.Pow.{pow_mono}
 use Rattle.jt_value.specs.declared.fault.Fault.TheVariants.{Overflow}
-use Rattle.jt_op_meaning.specs.Arithmetic.{in_range}
+use Rattle.jt_op_semantics.specs.Arithmetic.{in_range}
 
--- a checked operation answers the number in range
+-- A checked operation returns the number in range, or an overflow.
 pub in_range_is : (r : Option ℤ) (z : ℤ) → SomeIff r (FitsSigned w64 z) z → ok_or r Overflow ≡ in_range z
 in_range_is None (pos n) h =
     let none : n < 2 ^ 63 → ⊥ = λ lt. h (record { sfits = lt }) in
@@ -28,7 +29,7 @@ in_range_is (Some x) (negsuc n) h =
     let f : nat_lt n (2 ^ 63) ≡ true = grind (arith, nat_tests) in
     rw (f, h.1) refl
 
--- ---- great powers
+-- ---- Great powers
 
 pub zero_pow : (e : ℕ) → 0 < e → 0 ^ e ≡ 0
 zero_pow zero h = absurd (omega arith)
@@ -68,12 +69,13 @@ far_either : (b : Bool) (m : ℕ) → 2 ^ 64 ≤ m → in_range (cond b (pos m) 
 far_either true m h = far_up m h
 far_either false m h = far_down m h
 
-pub power_beyond : (x : ℤ) (e : ℕ) → x ≢ pos 0 → x ≢ pos 1 → x ≢ negsuc 0 → 64 ≤ e → Err Overflow ≡ in_range (int_pow x e)
+pub power_beyond : (x : ℤ) (e : ℕ) → x ≢ pos 0 → x ≢ pos 1 → x ≢ negsuc 0 → 64 ≤ e
+    → Err Overflow ≡ in_range (int_pow x e)
 power_beyond (pos zero) e a b c h = absurd (a refl)
 power_beyond (pos (suc zero)) e a b c h = absurd (b refl)
 power_beyond (pos (suc (suc n))) e a b c h = sym (far_up _ (great_pow (suc (suc n)) e (omega arith) h))
 power_beyond (negsuc zero) e a b c h = absurd (c refl)
 power_beyond (negsuc (suc n)) e a b c h = sym (far_either _ _ (great_pow (suc (suc n)) e (omega arith) h))
 
--- each power whose exponent is great
+-- The powers with a great exponent.
 pub ruleset great_powers = (power_of_zero, power_of_one, power_even, power_odd, power_beyond)

@@ -1,4 +1,4 @@
--- Values of texts that are put together: their measures.
+-- The measures of texts that are built from pieces.
 use Rattle.std.proofs.Common.{◌≡◌, ℕ, ◌+◌, true, List, length, refl, arith}
 use Rattle.jt_value.specs.Payload.{has_payload}
 use Rattle.jt_value.specs.Tree.{size, nesting}

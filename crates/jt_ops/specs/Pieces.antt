@@ -1,4 +1,4 @@
--- The pieces that a text is put together from.
+-- The pieces that texts are built from.
 use Rattle.std.specs.Prelude.{ℕ, List}
 use Rattle.jt_value.specs.Tree.{Tree, text, markup}
 use Rattle.jt_escape.specs.Escaping.{escaped}
@@ -7,12 +7,12 @@ use Rattle.jt_ops.specs.declared.text.TextKind.TheVariants as kind
 use Rattle.jt_ops.specs.declared.text.Piece.{Piece}
 use Rattle.jt_ops.specs.declared.text.Piece.TheVariants as piece
 
--- what a piece writes
+-- The bytes that a piece writes.
 abbrev pub written : Piece → List ℕ
 written (piece.Raw t) = t.now
 written (piece.Escaped t) = escaped t.now
 
--- the value of a text
+-- The text of a kind with these bytes.
 abbrev pub of_kind : TextKind → List ℕ → Tree
 of_kind kind.Plain bytes = text bytes
 of_kind kind.Markup bytes = markup bytes

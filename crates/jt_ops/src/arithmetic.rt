@@ -1,20 +1,22 @@
-//! Operators on numbers. A result without 64 signed bits is an overflow.
-ghost use Rattle.std.specs.Prelude.{◌≡◌, ◌≤◌, ◌<◌, ◌≢◌, unsigned_abs, ◌-ℤ◌, ◌*ℤ◌, pos, Ok, IfOk, IfErr};
+//! Operators on numbers. A result outside 64 signed bits is an overflow.
+ghost use Rattle.std.specs.Prelude.{◌≡◌, ◌≤◌, ◌<◌, ◌≢◌, unsigned_abs, ◌-ℤ◌, ◌*ℤ◌, pos, Ok, IfOk};
+ghost use Rattle.std.specs.Prelude.{IfErr};
 ghost use Rattle.std.specs.Int.{int_pow};
 ghost use Rattle.jt_value.specs.Tree.{number};
 ghost use Rattle.jt_value.specs.Tree as tree;
 ghost use Rattle.jt_value.specs.View.{view};
-ghost use Rattle.jt_op_meaning.specs.Arithmetic.{as_number, on_numbers, on_number, in_range, floor, NoNumbers, NoNumber};
-ghost use Rattle.jt_op_meaning.specs.Arithmetic as arithmetic;
+ghost use Rattle.jt_op_semantics.specs.Arithmetic.{as_number, on_numbers, on_number, in_range};
+ghost use Rattle.jt_op_semantics.specs.Arithmetic.{floor, NoNumbers, NoNumber};
+ghost use Rattle.jt_op_semantics.specs.Arithmetic as arithmetic;
 
-use crate::operands::{misfit, misfit_of_one};
+use crate::operands::{operand_fault, operand_fault_of_one};
 use jt_value::{Fault, Value};
 
-/// The sum of two numbers.
+/// Returns `x + y`.
 ///
 /// # Errors
 ///
-/// `Overflow` where it has no 64 bits with a sign.
+/// `Overflow` if the sum does not fit 64 signed bits.
 #[inline(always)]
 #[tactic(auto, using(crate::proofs::Numbers::in_range_is))]
 pub fn sum(x: i64, y: i64) -> Result<i64, Fault>
@@ -23,11 +25,11 @@ pub fn sum(x: i64, y: i64) -> Result<i64, Fault>
     x.checked_add(y).ok_or(Fault::Overflow)
 }
 
-/// What is left of the first number without the second.
+/// Returns `x - y`.
 ///
 /// # Errors
 ///
-/// `Overflow` where it has no 64 bits with a sign.
+/// `Overflow` if the difference does not fit 64 signed bits.
 #[inline(always)]
 #[tactic(auto, using(crate::proofs::Numbers::in_range_is))]
 pub fn difference(x: i64, y: i64) -> Result<i64, Fault>
@@ -36,11 +38,11 @@ pub fn difference(x: i64, y: i64) -> Result<i64, Fault>
     x.checked_sub(y).ok_or(Fault::Overflow)
 }
 
-/// The product of two numbers.
+/// Returns `x * y`.
 ///
 /// # Errors
 ///
-/// `Overflow` where it has no 64 bits with a sign.
+/// `Overflow` if the product does not fit 64 signed bits.
 #[inline(always)]
 #[tactic(auto, using(crate::proofs::Numbers::in_range_is))]
 pub fn product(x: i64, y: i64) -> Result<i64, Fault>
@@ -49,7 +51,7 @@ pub fn product(x: i64, y: i64) -> Result<i64, Fault>
     x.checked_mul(y).ok_or(Fault::Overflow)
 }
 
-/// The number of a size, with the sign of another number.
+/// Returns `size` as a number, negated if `sign` is negative.
 #[inline(always)]
 fn with_sign(sign: i64, size: u64) -> Result<i64, Fault>
     ensures { result ≡ in_range (arithmetic.with_sign sign size) }
@@ -62,7 +64,7 @@ fn with_sign(sign: i64, size: u64) -> Result<i64, Fault>
     signed.ok_or(Fault::Overflow)
 }
 
-/// The quotient of two numbers, rounded down: the sizes' quotient where the signs agree, and else
+/// Returns `x / y` rounded down. If the signs agree it is the quotient of the absolute values, else
 /// that quotient rounded up and negated.
 fn quotient(x: i64, y: i64) -> Result<i64, Fault>
     ensures { result ≡ arithmetic.quotient x y }
@@ -80,8 +82,8 @@ fn quotient(x: i64, y: i64) -> Result<i64, Fault>
     quotient.ok_or(Fault::Overflow)
 }
 
-/// The size of what the rounded quotient leaves. That it has the divisor's sign and is smaller is
-/// what rounding down means.
+/// Returns the absolute value of the remainder of the division rounded down. The remainder has the
+/// divisor's sign, and its absolute value is less than the divisor's.
 #[inline(always)]
 fn rest_size(x: i64, y: i64) -> u64
     requires { pos 0 ≢ y }
@@ -99,11 +101,11 @@ fn rest_size(x: i64, y: i64) -> u64
     divisor - rest
 }
 
-/// What the quotient, rounded down, leaves: 0, or of the divisor's sign.
+/// Returns the remainder of the division rounded down: 0, or a number with the divisor's sign.
 ///
 /// # Errors
 ///
-/// `ZeroDivide` where the divisor is 0.
+/// `ZeroDivide` if the divisor is 0.
 #[inline(always)]
 pub fn remainder(x: i64, y: i64) -> Result<i64, Fault>
     ensures { result ≡ arithmetic.remainder x y }
@@ -114,7 +116,7 @@ pub fn remainder(x: i64, y: i64) -> Result<i64, Fault>
     with_sign(y, rest_size(x, y))
 }
 
-/// A number to the power of another. A negative exponent doesn't fit.
+/// Returns `x` to the power `exponent`. A negative exponent is a `BadType`.
 fn power(x: i64, exponent: i64) -> Result<i64, Fault>
     ensures { result ≡ arithmetic.power x exponent }
 {
@@ -127,7 +129,7 @@ fn power(x: i64, exponent: i64) -> Result<i64, Fault>
     }
 }
 
-/// A power whose exponent is so great that all but those of 0, 1 and -1 pass the range.
+/// Returns a power with a great exponent: it overflows unless `x` is 0, 1 or -1.
 #[tactic(auto, using(crate::proofs::Numbers::great_powers))]
 fn great_power(x: i64, exponent: u64) -> Result<i64, Fault>
     requires { 64 ≤ exponent }
@@ -141,29 +143,29 @@ fn great_power(x: i64, exponent: u64) -> Result<i64, Fault>
     }
 }
 
-/// The numbers of two operands.
+/// Returns the numbers of two operands.
 fn numbers(left: &Value, right: &Value) -> Result<(i64, i64), Fault>
     ensures ok { IfOk result (λ n. (view left.now ≡ number n.0) × (view right.now ≡ number n.1)) }
     ensures err { IfErr result (NoNumbers (view left.now) (view right.now)) }
 {
     match (left, right) {
         (Value::Int(x), Value::Int(y)) => Ok((*x, *y)),
-        _ => Err(misfit(left, right)),
+        _ => Err(operand_fault(left, right)),
     }
 }
 
-/// The number of an operand.
+/// Returns the number of an operand.
 fn number(operand: &Value) -> Result<i64, Fault>
     ensures ok { IfOk result (λ n. view operand.now ≡ tree.number n) }
     ensures err { IfErr result (NoNumber (view operand.now)) }
 {
     match operand {
         Value::Int(x) => Ok(*x),
-        _ => Err(misfit_of_one(operand)),
+        _ => Err(operand_fault_of_one(operand)),
     }
 }
 
-/// Operator `-`.
+/// Applies operator `-`.
 pub(crate) fn subtract(left: &Value, right: &Value) -> Result<i64, Fault>
     ensures { as_number result ≡ on_numbers arithmetic.difference (view left.now) (view right.now) }
 {
@@ -171,7 +173,7 @@ pub(crate) fn subtract(left: &Value, right: &Value) -> Result<i64, Fault>
     difference(x, y)
 }
 
-/// Operator `//`.
+/// Applies operator `//`.
 pub(crate) fn floor_divide(left: &Value, right: &Value) -> Result<i64, Fault>
     ensures { as_number result ≡ on_numbers arithmetic.quotient (view left.now) (view right.now) }
 {
@@ -179,7 +181,7 @@ pub(crate) fn floor_divide(left: &Value, right: &Value) -> Result<i64, Fault>
     quotient(x, y)
 }
 
-/// Operator `%`.
+/// Applies operator `%`.
 pub(crate) fn modulo(left: &Value, right: &Value) -> Result<i64, Fault>
     ensures { as_number result ≡ on_numbers arithmetic.remainder (view left.now) (view right.now) }
 {
@@ -187,7 +189,7 @@ pub(crate) fn modulo(left: &Value, right: &Value) -> Result<i64, Fault>
     remainder(x, y)
 }
 
-/// Operator `**`.
+/// Applies operator `**`.
 pub(crate) fn raise(left: &Value, right: &Value) -> Result<i64, Fault>
     ensures { as_number result ≡ on_numbers arithmetic.power (view left.now) (view right.now) }
 {
@@ -195,7 +197,7 @@ pub(crate) fn raise(left: &Value, right: &Value) -> Result<i64, Fault>
     power(x, y)
 }
 
-/// Operator `-` of one operand.
+/// Applies unary operator `-`.
 pub(crate) fn negate(operand: &Value) -> Result<i64, Fault>
     ensures { as_number result ≡ on_number arithmetic.negation (view operand.now) }
 {
@@ -203,7 +205,7 @@ pub(crate) fn negate(operand: &Value) -> Result<i64, Fault>
     x.checked_neg().ok_or(Fault::Overflow)
 }
 
-/// Operator `+` of one operand.
+/// Applies unary operator `+`.
 pub(crate) fn plus(operand: &Value) -> Result<i64, Fault>
     ensures { as_number result ≡ on_number arithmetic.same_number (view operand.now) }
 {

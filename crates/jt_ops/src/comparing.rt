@@ -1,43 +1,44 @@
-//! How two values are ordered.
+//! Comparison operators, and comparisons of a text with a value.
 ghost use Rattle.std.specs.Prelude.{◌≡◌};
 ghost use Rattle.jt_value.specs.Equality.{equal};
 ghost use Rattle.jt_value.specs.Order.{order};
 ghost use Rattle.jt_value.specs.Tree as tree;
 ghost use Rattle.jt_value.specs.View.{view};
-ghost use Rattle.jt_op_meaning.specs.Comparing.{compared, is_less, is_less_or_equal, is_greater, is_greater_or_equal};
+ghost use Rattle.jt_op_semantics.specs.Comparing.{compared, is_less, is_less_or_equal, is_greater};
+ghost use Rattle.jt_op_semantics.specs.Comparing.{is_greater_or_equal};
 
 use jt_value::{Fault, Value};
 use std::cmp::Ordering;
 
-/// Operator `<`.
+/// Applies operator `<`.
 pub(crate) fn less(left: &Value, right: &Value) -> Result<bool, Fault>
     ensures { result ≡ compared is_less (view left.now) (view right.now) }
 {
     Ok(left.compare(right)? == Ordering::Less)
 }
 
-/// Operator `<=`.
+/// Applies operator `<=`.
 pub(crate) fn less_or_equal(left: &Value, right: &Value) -> Result<bool, Fault>
     ensures { result ≡ compared is_less_or_equal (view left.now) (view right.now) }
 {
     Ok(left.compare(right)? != Ordering::Greater)
 }
 
-/// Operator `>`.
+/// Applies operator `>`.
 pub(crate) fn greater(left: &Value, right: &Value) -> Result<bool, Fault>
     ensures { result ≡ compared is_greater (view left.now) (view right.now) }
 {
     Ok(left.compare(right)? == Ordering::Greater)
 }
 
-/// Operator `>=`.
+/// Applies operator `>=`.
 pub(crate) fn greater_or_equal(left: &Value, right: &Value) -> Result<bool, Fault>
     ensures { result ≡ compared is_greater_or_equal (view left.now) (view right.now) }
 {
     Ok(left.compare(right)? != Ordering::Less)
 }
 
-/// The order of a plain text and a value.
+/// Returns the order of a plain text and a value.
 pub(crate) fn compare_text(text: &str, value: &Value) -> Result<Ordering, Fault>
     ensures { result ≡ order (tree.text text.now) (view value.now) }
 {
@@ -49,7 +50,7 @@ pub(crate) fn compare_text(text: &str, value: &Value) -> Result<Ordering, Fault>
     }
 }
 
-/// Whether a plain text equals a value.
+/// Returns whether a plain text equals a value.
 pub(crate) fn equals_text(text: &str, value: &Value) -> bool
     ensures { result ≡ equal (tree.text text.now) (view value.now) }
 {

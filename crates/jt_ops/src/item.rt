@@ -1,18 +1,20 @@
-//! Items of values: of a map by its key, of a list and a text by an index.
-ghost use Rattle.std.specs.Prelude.{◌≡◌, length, IfOk, option_map, option_copied, slice_get, encode_utf8};
+//! Items of values: of a map by a key, of a list or a text by an index.
+ghost use Rattle.std.specs.Prelude.{◌≡◌, length, IfOk, option_map, option_copied, slice_get};
+ghost use Rattle.std.specs.Prelude.{encode_utf8};
 ghost use Rattle.std.specs.Str.{chars};
 ghost use Rattle.jt_value.specs.Entries.{entry_of};
 ghost use Rattle.jt_value.specs.Tree as tree;
 ghost use Rattle.jt_value.specs.View.{view, items_view};
-ghost use Rattle.jt_op_meaning.specs.ItemOf.{item_of, item_at, indexed_item, indexed_character, or_undefined};
-ghost use Rattle.jt_op_meaning.specs.ItemOf as items;
+ghost use Rattle.jt_op_semantics.specs.ItemOf.{item_of, item_at, indexed_item, indexed_character};
+ghost use Rattle.jt_op_semantics.specs.ItemOf.{or_undefined};
+ghost use Rattle.jt_op_semantics.specs.ItemOf as items;
 ghost use Rattle.jt_ops.specs.Limited.{limited_by, Answers, AnswersWith};
 
 use crate::limits::{Limits, OpError, allow, copy_within, made, within};
 use jt_value::{Fault, NoMemory, Value, ValueMap};
 use std::alloc::Global;
 
-/// The item of a value.
+/// Returns the item of a value.
 pub(crate) fn item(
     alloc: Global,
     value: &Value,
@@ -34,9 +36,10 @@ pub(crate) fn item(
     }
 }
 
-/// A copy of what was found, undefined where that is nothing.
+/// Returns a copy of the found value, or undefined if nothing was found.
 fn found(alloc: Global, found: Option<&Value>, limits: Limits) -> Result<Value, OpError>
-    ensures { AnswersWith limits (or_undefined (option_map view (option_copied found.entry))) result }
+    ensures { AnswersWith limits (or_undefined (option_map view (option_copied found.entry)))
+        result }
 {
     match found {
         Some(value) => copy_within(alloc, value, limits),
@@ -44,14 +47,15 @@ fn found(alloc: Global, found: Option<&Value>, limits: Limits) -> Result<Value, 
     }
 }
 
-/// A copy of the first value of a key, undefined where there is none.
+/// Returns a copy of the first value of a key, or undefined if the map lacks the key.
 fn keyed(alloc: Global, map: &ValueMap, name: &str, limits: Limits) -> Result<Value, OpError>
     ensures { AnswersWith limits (or_undefined (entry_of name.now map.now)) result }
 {
     found(alloc, map.get(name), limits)
 }
 
-/// The place that an index names among some items.
+/// Returns the position that an index names among `count` items, if any. A negative index counts
+/// from the end.
 fn place(index: i64, count: usize) -> Option<usize>
     ensures { result ≡ items.place index count }
 {
@@ -69,7 +73,7 @@ fn place(index: i64, count: usize) -> Option<usize>
     }
 }
 
-/// The item that an index names.
+/// Returns the item that an index names, if any.
 #[tactic(auto, using(crate::proofs::Places::items_count_view))]
 fn indexed(items: &[Value], index: i64) -> Option<&Value>
     ensures { option_map view (option_copied result) ≡ indexed_item (items_view items.now) index }
@@ -80,14 +84,14 @@ fn indexed(items: &[Value], index: i64) -> Option<&Value>
     }
 }
 
-/// The item at a place.
+/// Returns the item at a position, if any.
 fn at(items: &[Value], place: usize) -> Option<&Value>
     ensures { option_map view (option_copied result) ≡ item_at (items_view items.now) place }
 {
     items.get(place)
 }
 
-/// The character that an index names, as a plain text.
+/// Returns the character that an index names, as a plain text, or undefined if it does not exist.
 fn character(alloc: Global, text: &str, index: i64, limits: Limits) -> Result<Value, OpError>
     ensures { AnswersWith limits (or_undefined (indexed_character text.now index)) result }
 {
@@ -97,7 +101,7 @@ fn character(alloc: Global, text: &str, index: i64, limits: Limits) -> Result<Va
     }
 }
 
-/// A character as a plain text, measured before it is built.
+/// Returns a character as a plain text. Tests its size before it builds the text.
 fn single(alloc: Global, c: char, limits: Limits) -> Result<Value, OpError>
     ensures { AnswersWith limits (tree.text (encode_utf8 c)) result }
 {
@@ -105,7 +109,7 @@ fn single(alloc: Global, c: char, limits: Limits) -> Result<Value, OpError>
     made(text_of(alloc, c))
 }
 
-/// The character that an index names.
+/// Returns the character that an index names, if any.
 fn nth_character(text: &str, index: i64) -> Option<char>
     ensures { result ≡ items.nth_character text.now index }
 {
@@ -115,21 +119,21 @@ fn nth_character(text: &str, index: i64) -> Option<char>
     }
 }
 
-/// How many characters a text has.
+/// Returns how many characters a text has.
 pub fn character_count(text: &str) -> usize
     ensures { result ≡ length (chars text.now) }
 {
     text.chars().count()
 }
 
-/// The character at a place.
+/// Returns the character at a position, if any.
 fn character_at(text: &str, place: usize) -> Option<char>
     ensures { result ≡ slice_get (chars text.now) place }
 {
     text.chars().nth(place)
 }
 
-/// The text of one character.
+/// Returns the plain text of one character.
 fn text_of(alloc: Global, c: char) -> Result<Value, NoMemory>
     ensures { IfOk result (λ v. view v ≡ tree.text (encode_utf8 c)) }
 {

@@ -3,27 +3,27 @@ ghost use Rattle.std.specs.Prelude.{◌≡◌, ◌-◌, ◌^◌, ◌++◌, min, 
 ghost use Rattle.jt_value.specs.Tree as tree;
 ghost use Rattle.jt_value.specs.Payload.{joined_items};
 ghost use Rattle.jt_value.specs.View.{view, items_view};
-ghost use Rattle.jt_op_meaning.specs.Joining.{added, both, multiplied, joined, joined_escaping};
+ghost use Rattle.jt_op_semantics.specs.Joining.{added, both, multiplied, joined, joined_escaping};
 ghost use Rattle.jt_ops.specs.Pieces.{written};
 ghost use Rattle.jt_ops.specs.Limited.{limited_by, Answers, AnswersWith};
 
 use crate::arithmetic::{product, sum};
 use crate::limits::{Limits, OpError, allow, made, number_within};
-use crate::operands::misfit;
+use crate::operands::operand_fault;
 use crate::text::{Piece, TextKind, concatenated, repeated};
 use itoa::Buffer;
 use jt_value::{NoMemory, Value, ValueList};
 use std::alloc::Global;
 use std::rc::Rc;
 
-/// The plain text of two pieces.
+/// Returns the plain text of two pieces, under limits.
 fn plain(alloc: Global, left: Piece<'_>, right: Piece<'_>, limits: Limits) -> Result<Value, OpError>
     ensures { AnswersWith limits (tree.text (written left.entry ++ written right.entry)) result }
 {
     concatenated(alloc, &left, &right, TextKind::Plain, limits)
 }
 
-/// The markup of two pieces.
+/// Returns the markup text of two pieces, under limits.
 fn markup(
     alloc: Global,
     left: Piece<'_>,
@@ -35,7 +35,7 @@ fn markup(
     concatenated(alloc, &left, &right, TextKind::Markup, limits)
 }
 
-/// Operator `+`.
+/// Applies operator `+`.
 pub(crate) fn add(
     alloc: Global,
     left: &Value,
@@ -55,11 +55,11 @@ pub(crate) fn add(
         }
         (Value::Markup(s), Value::Markup(t)) => markup(alloc, Piece::Raw(s), Piece::Raw(t), limits),
         (Value::List(list), Value::List(more)) => joined_lists(alloc, list, more, limits),
-        _ => Err(misfit(left, right).into()),
+        _ => Err(operand_fault(left, right).into()),
     }
 }
 
-/// Operator `*`.
+/// Applies operator `*`.
 pub(crate) fn multiply(
     alloc: Global,
     left: &Value,
@@ -72,11 +72,11 @@ pub(crate) fn multiply(
         (Value::Int(x), Value::Int(y)) => number_within(product(*x, *y), limits),
         (Value::Text(s), Value::Int(n)) => repeated(alloc, s, *n, TextKind::Plain, limits),
         (Value::Markup(s), Value::Int(n)) => repeated(alloc, s, *n, TextKind::Markup, limits),
-        _ => Err(misfit(left, right).into()),
+        _ => Err(operand_fault(left, right).into()),
     }
 }
 
-/// Operator `~`, plain.
+/// Applies operator `~` without escaping.
 pub(crate) fn join(
     alloc: Global,
     left: &Value,
@@ -92,7 +92,8 @@ pub(crate) fn join(
     plain(alloc, Piece::Raw(left), Piece::Raw(right), limits)
 }
 
-/// Operator `~`, escaping.
+/// Applies operator `~` with escaping: if one operand is markup, the printed text of a plain one is
+/// escaped.
 pub(crate) fn join_escaping(
     alloc: Global,
     left: &Value,
@@ -118,8 +119,8 @@ pub(crate) fn join_escaping(
     }
 }
 
-/// Operator `+`, for operands that nothing else needs. Where both are lists, the left one takes the
-/// items.
+/// Applies operator `+` to operands that it consumes. If both are lists, the left one takes the
+/// items of the right one.
 pub(crate) fn add_owned(
     alloc: Global,
     left: Value,
@@ -134,15 +135,14 @@ pub(crate) fn add_owned(
     }
 }
 
-/// Operator `+`, which drops its operands.
+/// Applies operator `+` as `add`, and drops the operands.
 fn add_lent(alloc: Global, left: Value, right: Value, limits: Limits) -> Result<Value, OpError>
     ensures { Answers result (limited_by limits (added (view left) (view right))) }
 {
     add(alloc, &left, &right, limits)
 }
 
-/// A list with the items of another behind its own. Where other values share it, they keep what
-/// they have.
+/// Appends the items of `more` to a list. Other owners of the list keep it unchanged.
 fn appended(mut list: Rc<ValueList>, more: &ValueList, limits: Limits) -> Result<Value, OpError>
     ensures { AnswersWith limits (both list.value more.now) result }
 {
@@ -150,11 +150,12 @@ fn appended(mut list: Rc<ValueList>, more: &ValueList, limits: Limits) -> Result
     Ok(Value::List(list))
 }
 
-/// Puts the items of another list behind a list's own, under the limits.
+/// Appends the items of `more` to a list, under limits.
 fn append_within(list: &mut Rc<ValueList>, more: &ValueList, limits: Limits) -> Result<(), OpError>
     ensures ok { OnOk result
         (limited_by limits (Ok (both list.old.value more.now)) ≡ Ok (tree.list list.new.value)) }
-    ensures refused { IfErr result (λ e. AnswersWith limits (both list.old.value more.now) (Err e)) }
+    ensures refused { IfErr result
+        (λ e. AnswersWith limits (both list.old.value more.now) (Err e)) }
 {
     let measure = joined_measure(list, more);
     allow(measure.0, measure.1, limits)?;
@@ -162,7 +163,7 @@ fn append_within(list: &mut Rc<ValueList>, more: &ValueList, limits: Limits) -> 
     Ok(())
 }
 
-/// Puts the items of another list behind a list's own.
+/// Appends the items of `more` to a list.
 fn append(list: &mut Rc<ValueList>, more: &ValueList) -> Result<(), NoMemory>
     ensures { OnOk result (list.new.value ≡ joined_items list.old.value more.now) }
 {
@@ -170,7 +171,7 @@ fn append(list: &mut Rc<ValueList>, more: &ValueList) -> Result<(), NoMemory>
     Ok(())
 }
 
-/// The items of two lists.
+/// Returns the list of the items of two lists, under limits.
 fn joined_lists(
     alloc: Global,
     list: &ValueList,
@@ -184,7 +185,7 @@ fn joined_lists(
     made(joined_copies(alloc, list.items(), more.items()))
 }
 
-/// The list of copies of the items of two lists.
+/// Returns the list of copies of the items of two lists.
 fn joined_copies(alloc: Global, items: &[Value], more: &[Value]) -> Result<Value, NoMemory>
     ensures { IfOk result (λ v. view v ≡ both (items_view items.now) (items_view more.now)) }
 {
@@ -194,9 +195,9 @@ fn joined_copies(alloc: Global, items: &[Value], more: &[Value]) -> Result<Value
     Value::list(alloc, joined)
 }
 
-/// The size and the nesting of the list of two lists' items, each the greatest number where it is
-/// greater.
-#[tactic(auto, using(jt_value::proofs::Lists::joined_size, jt_value::proofs::Lists::joined_nesting))]
+/// Returns the size, at most 2^64 - 1, and the nesting, at most 2^32 - 1, of the list of the items
+/// of two lists.
+#[tactic(auto, using(crate::proofs::AppendSteps::joined_measures))]
 fn joined_measure(list: &ValueList, more: &ValueList) -> (u64, u32)
     ensures size { result.0 ≡ min (tree.size (both list.now more.now)) (2 ^ 64 - 1) }
     ensures nesting { result.1 ≡ min (tree.nesting (both list.now more.now)) (2 ^ 32 - 1) }
@@ -207,7 +208,7 @@ fn joined_measure(list: &ValueList, more: &ValueList) -> (u64, u32)
     )
 }
 
-/// Puts copies of some items behind others.
+/// Appends copies of items.
 fn append_copies(into: &mut Vec<Value>, items: &[Value]) -> Result<(), NoMemory>
     ensures { OnOk result (items_view into.new.items
         ≡ joined_items (items_view into.old.items) (items_view items.now)) }

@@ -1,8 +1,16 @@
 //! Operators, tests and `range` on values, under limits of size and nesting.
 //!
-//! Numbers (arithmetic, ranges), texts and lists put together (joining, text), order and membership
-//! (comparing, membership), items (item), tests (testing), and what limits refuse (limits). What
-//! each gives is jt_op_meaning's. Read first: specs/Limited.antt, the limits on all of them.
+//! The modules:
+//!
+//! - `operators`: the entry points by operator; `operands`: faults of unsuitable operands;
+//! - `arithmetic` and `ranges`: numbers;
+//! - `joining` and `text`: sums, products and joins of texts and lists;
+//! - `comparing` and `membership`: order and `in`;
+//! - `item` and `testing`: items of values, and tests;
+//! - `limits`: what limits refuse.
+//!
+//! jt_op_semantics defines the results. Read specs/Limited.antt first: the limits that apply to all
+//! operations.
 #![tactic(auto)]
 
 mod arithmetic;

@@ -1,13 +1,13 @@
-//! Limits of an operation's result, and why an operation has none.
+//! Limits of results, and the errors of operations.
 ghost use Rattle.std.specs.Prelude.{◌≡◌, true, Result, Ok, Err, OnOk, IfOk, IfErr};
 ghost use Rattle.jt_value.specs.Payload.{has_payload};
 ghost use Rattle.jt_value.specs.Tree.{Tree};
 ghost use Rattle.jt_value.specs.View.{view};
 ghost use Rattle.jt_ops.specs.declared.limits.OpError.{OpError};
 ghost use Rattle.jt_ops.specs.declared.limits.OpError.TheVariants as error;
-ghost use Rattle.jt_op_meaning.specs.Arithmetic.{as_number};
+ghost use Rattle.jt_op_semantics.specs.Arithmetic.{as_number};
 ghost use Rattle.jt_ops.specs.Limited.{limited_by, of_value_error, Answers, OfMeasure};
-ghost use Rattle.jt_op_meaning.specs.Operation.{as_truth};
+ghost use Rattle.jt_op_semantics.specs.Operation.{as_truth};
 
 use jt_value::{Fault, NoMemory, Value, ValueError};
 use std::alloc::{AllocError, AllocFailed, Global};
@@ -20,19 +20,19 @@ pub struct Limits {
     pub nesting: u8,
 }
 
-/// Why an operation gave no result. A fault prints as it does alone.
+/// The error of an operation. A fault prints as it does alone.
 #[derive(Clone, Copy, Debug, PartialEq, Eq, Error)]
 pub enum OpError {
-    /// The operation has this fault, whatever the limits.
+    /// The fault that the operation has, whatever the limits.
     #[error("{0}")]
     Fault(Fault),
-    /// The result's size passes the limit.
+    /// A result whose size exceeds the limit.
     #[error("too large")]
     TooLarge,
-    /// The result's nesting passes the limit, and its size doesn't.
+    /// A result whose nesting exceeds the limit, but not its size.
     #[error("too deep")]
     TooDeep,
-    /// A growth was refused.
+    /// A growth that was refused.
     #[error("no memory")]
     NoMemory,
 }
@@ -80,11 +80,17 @@ impl<T: Drop> From<AllocFailed<T>> for OpError {
     }
 }
 
-/// Tests the size and nesting of a result that need not be built yet. Either stands at the greatest
-/// number of its type where the true one is greater.
+/// Tests the size and nesting of a result, which need not be built yet. Each of the two is the
+/// greatest number of its type if the true one exceeds it.
+///
+/// # Errors
+///
+/// - `TooLarge` if the size exceeds its limit.
+/// - `TooDeep` if only the nesting exceeds its limit.
 pub fn allow(size: u64, nesting: u32, limits: Limits) -> Result<(), OpError>
     ensures ok { OfMeasure size nesting (λ t. OnOk result (limited_by limits (Ok t) ≡ Ok t)) }
-    ensures refused { OfMeasure size nesting (λ t. IfErr result (λ e. limited_by limits (Ok t) ≡ Err e)) }
+    ensures refused { OfMeasure size nesting
+        (λ t. IfErr result (λ e. limited_by limits (Ok t) ≡ Err e)) }
 {
     if size > u64::from(limits.size) {
         return Err(OpError::TooLarge);
@@ -95,7 +101,11 @@ pub fn allow(size: u64, nesting: u32, limits: Limits) -> Result<(), OpError>
     Ok(())
 }
 
-/// A value that is at hand, under the limits.
+/// Returns a value that already exists, under limits.
+///
+/// # Errors
+///
+/// As `allow`.
 pub fn within(value: Value, limits: Limits) -> Result<Value, OpError>
     ensures { Answers result (limited_by limits (Ok (view value))) }
 {
@@ -103,7 +113,7 @@ pub fn within(value: Value, limits: Limits) -> Result<Value, OpError>
     Ok(value)
 }
 
-/// What was built once its measures were allowed.
+/// Converts the error of a value that was built after its size and nesting were allowed.
 pub(crate) fn made(built: Result<Value, NoMemory>) -> Result<Value, OpError>
     ensures { (wanted : Result Tree OpError) → (t : Tree)
         → wanted ≡ Ok t
@@ -114,7 +124,12 @@ pub(crate) fn made(built: Result<Value, NoMemory>) -> Result<Value, OpError>
     Ok(built?)
 }
 
-/// A copy of a value, under the limits.
+/// Returns a copy of a value, under limits.
+///
+/// # Errors
+///
+/// - As `allow`.
+/// - `NoMemory` if a growth is refused.
 pub fn copy_within(alloc: Global, value: &Value, limits: Limits) -> Result<Value, OpError>
     ensures { Answers result (limited_by limits (Ok (view value.now))) }
 {
@@ -122,14 +137,14 @@ pub fn copy_within(alloc: Global, value: &Value, limits: Limits) -> Result<Value
     Ok(value.try_clone(alloc)?)
 }
 
-/// A computed number, under the limits.
+/// Returns a computed number as a value, under limits.
 pub(crate) fn number_within(computed: Result<i64, Fault>, limits: Limits) -> Result<Value, OpError>
     ensures { Answers result (limited_by limits (as_number computed)) }
 {
     within(Value::Int(computed?), limits)
 }
 
-/// A computed truth value, under the limits.
+/// Returns a computed truth value as a value, under limits.
 pub(crate) fn truth_within(computed: Result<bool, Fault>, limits: Limits) -> Result<Value, OpError>
     ensures { Answers result (limited_by limits (as_truth computed)) }
 {

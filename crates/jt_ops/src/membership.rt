@@ -1,15 +1,15 @@
-//! Whether a value is in another.
+//! Operator `in`.
 ghost use Rattle.std.specs.Prelude.{◌≡◌};
 ghost use Rattle.jt_value.specs.Tree as tree;
 ghost use Rattle.jt_value.specs.View.{view, items_view};
-ghost use Rattle.jt_op_meaning.specs.Membership as membership;
+ghost use Rattle.jt_op_semantics.specs.Membership as membership;
 
 use crate::comparing::equals_text;
-use crate::operands::misfit;
+use crate::operands::operand_fault;
 use jt_value::{Fault, Value};
 use memchr::memmem;
 
-/// Whether a value is in another: a text in a text, an item of a list, a key of a map.
+/// Returns whether a value is in a container: a text in a text, an item in a list, a key in a map.
 pub(crate) fn is_in(value: &Value, container: &Value) -> Result<bool, Fault>
     ensures { result ≡ membership.is_in (view value.now) (view container.now) }
 {
@@ -26,11 +26,11 @@ pub(crate) fn is_in(value: &Value, container: &Value) -> Result<bool, Fault>
         (Value::Text(key), Value::Map(map)) => Ok(map.contains_key(key)),
         (Value::Markup(key), Value::Map(map)) => Ok(map.contains_key(key)),
         (_, Value::Map(_)) => Ok(false),
-        _ => Err(misfit(value, container)),
+        _ => Err(operand_fault(value, container)),
     }
 }
 
-/// Whether a plain text is in a value.
+/// Returns whether a plain text is in a container.
 pub(crate) fn text_is_in(text: &str, container: &Value) -> Result<bool, Fault>
     ensures { result ≡ membership.is_in (tree.text text.now) (view container.now) }
 {
@@ -44,22 +44,22 @@ pub(crate) fn text_is_in(text: &str, container: &Value) -> Result<bool, Fault>
     }
 }
 
-/// Whether a list has an item that equals a plain text.
+/// Returns whether an item of the list equals a plain text.
 fn has_text(text: &str, items: &[Value]) -> bool
     ensures { result ≡ membership.has_item (tree.text text.now) (items_view items.now) }
 {
     items.iter().any(|item| equals_text(text, item))
 }
 
-#[tactic(auto, using(crate::proofs::Finding::is_found))]
-/// Whether a text stands somewhere in another.
+#[tactic(auto, using(crate::proofs::SubstringSearch::is_found))]
+/// Returns whether a text occurs in another one.
 fn occurs_in(part: &str, whole: &str) -> bool
     ensures { result ≡ membership.occurs_in part.now whole.now }
 {
     memmem::find(whole.as_bytes(), part.as_bytes()).is_some()
 }
 
-/// Whether a list has an item that equals a value.
+/// Returns whether an item of the list equals a value.
 fn has_item(value: &Value, items: &[Value]) -> bool
     ensures { result ≡ membership.has_item (view value.now) (items_view items.now) }
 {

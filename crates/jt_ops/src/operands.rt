@@ -1,15 +1,15 @@
-//! Operands that fit no case of an operator.
+//! The faults of operands that no case of an operation accepts.
 ghost use Rattle.std.specs.Prelude.{◌≡◌, ℕ, List};
 ghost use Rattle.jt_value.specs.Tree as tree;
 ghost use Rattle.jt_value.specs.Order as order;
 ghost use Rattle.jt_value.specs.View.{view};
-ghost use Rattle.jt_op_meaning.specs.Operands as operands;
+ghost use Rattle.jt_op_semantics.specs.Operands as operands;
 
 use jt_value::{Fault, Value};
 
-/// The fault of two operands that fit no case.
-pub(crate) fn misfit(left: &Value, right: &Value) -> Fault
-    ensures { result ≡ order.misfit (view left.now) (view right.now) }
+/// Returns the fault of two operands that no case accepts.
+pub(crate) fn operand_fault(left: &Value, right: &Value) -> Fault
+    ensures { result ≡ order.operand_fault (view left.now) (view right.now) }
 {
     match (left, right) {
         (Value::Undefined, _) => Fault::Undefined,
@@ -18,9 +18,9 @@ pub(crate) fn misfit(left: &Value, right: &Value) -> Fault
     }
 }
 
-/// The fault of one operand that fits no case.
-pub(crate) fn misfit_of_one(operand: &Value) -> Fault
-    ensures { result ≡ operands.misfit_of_one (view operand.now) }
+/// Returns the fault of one operand that no case accepts.
+pub(crate) fn operand_fault_of_one(operand: &Value) -> Fault
+    ensures { result ≡ operands.operand_fault_of_one (view operand.now) }
 {
     match operand {
         Value::Undefined => Fault::Undefined,
@@ -28,9 +28,9 @@ pub(crate) fn misfit_of_one(operand: &Value) -> Fault
     }
 }
 
-/// The fault of a plain text and a value that fit no case.
-pub(crate) fn misfit_of_text(other: &Value) -> Fault
-    ensures { (s : List ℕ) → result ≡ order.misfit (tree.text s) (view other.now) }
+/// Returns the fault of a plain text and a value that no case accepts.
+pub(crate) fn operand_fault_of_text(other: &Value) -> Fault
+    ensures { (s : List ℕ) → result ≡ order.operand_fault (tree.text s) (view other.now) }
 {
     match other {
         Value::Undefined => Fault::Undefined,
@@ -38,10 +38,10 @@ pub(crate) fn misfit_of_text(other: &Value) -> Fault
     }
 }
 
-/// The fault of three operands that fit no case.
-pub(crate) fn misfit_of_three(first: &Value, second: &Value, third: &Value) -> Fault
+/// Returns the fault of three operands that no case accepts.
+pub(crate) fn operand_fault_of_three(first: &Value, second: &Value, third: &Value) -> Fault
     ensures { result
-        ≡ operands.misfit_of_three (view first.now) (view second.now) (view third.now) }
+        ≡ operands.operand_fault_of_three (view first.now) (view second.now) (view third.now) }
 {
     match (first, second, third) {
         (Value::Undefined, _, _) => Fault::Undefined,

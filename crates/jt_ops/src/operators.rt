@@ -2,7 +2,7 @@
 ghost use Rattle.std.specs.Prelude.{◌≡◌, ◌∷◌, []};
 ghost use Rattle.jt_value.specs.View.{view};
 ghost use Rattle.jt_ops.specs.Limited.{limited_by, Answers};
-ghost use Rattle.jt_op_meaning.specs.Operation.{operation};
+ghost use Rattle.jt_op_semantics.specs.Operation.{operation};
 ghost use Rattle.jt_ids.specs.OpTable.{op_operands};
 
 use crate::arithmetic::{floor_divide, modulo, negate, plus, raise, subtract};
@@ -16,12 +16,15 @@ use jt_ids::OpId;
 use jt_value::Value;
 use std::alloc::Global;
 
-/// An operator of two operands, under limits.
+/// Applies an operator of two operands, under limits. Both limits are tested before the result is
+/// built.
 ///
 /// # Errors
 ///
-/// The operation's fault; `TooLarge` where the result's size passes its limit, else `TooDeep` where
-/// its nesting does, before it is built; `NoMemory` where a growth was refused.
+/// - The fault of the operation.
+/// - `TooLarge` if the result's size exceeds its limit.
+/// - `TooDeep` if only its nesting exceeds its limit.
+/// - `NoMemory` if a growth is refused.
 pub fn binary(
     alloc: Global,
     op: OpId,
@@ -55,12 +58,12 @@ pub fn binary(
     }
 }
 
-/// An operator of two operands that nothing else needs, under limits: what `binary` gives. The sum
-/// of two lists is built in the left one, where no other value shares it.
+/// Applies an operator as `binary` to operands that it consumes. The sum of two lists is built in
+/// the left one, unless another value shares it.
 ///
 /// # Errors
 ///
-/// Those of `binary`. The operands are then dropped.
+/// As `binary`. The operands are dropped in every case.
 pub fn binary_owned(
     alloc: Global,
     op: OpId,
@@ -77,7 +80,7 @@ pub fn binary_owned(
     }
 }
 
-/// What `binary` gives of operands that are then dropped.
+/// Applies an operator as `binary`, and drops the operands.
 fn binary_lent(
     alloc: Global,
     op: OpId,
@@ -91,11 +94,11 @@ fn binary_lent(
     binary(alloc, op, &left, &right, limits)
 }
 
-/// An operator of one operand, under limits.
+/// Applies an operator of one operand, under limits.
 ///
 /// # Errors
 ///
-/// Those of `binary`.
+/// As `binary`.
 pub fn unary(alloc: Global, op: OpId, operand: &Value, limits: Limits) -> Result<Value, OpError>
     requires { op_operands op ≡ 1 }
     ensures { Answers result (limited_by limits (operation op (view operand.now ∷ []))) }

@@ -1,26 +1,29 @@
 //! `range`: lists of numbers.
-ghost use Rattle.std.specs.Prelude.{◌≡◌, ◌≢◌, ◌≤◌, ◌<◌, ◌∷◌, [], ℕ, map, pos, ◌+ℤ◌, ◌*ℤ◌, length, FitsSigned, Ok, IfOk};
+ghost use Rattle.std.specs.Prelude.{◌≡◌, ◌≢◌, ◌≤◌, ◌<◌, ◌∷◌, [], ℕ, map, pos, ◌+ℤ◌, ◌*ℤ◌, length};
+ghost use Rattle.std.specs.Prelude.{FitsSigned, Ok, IfOk};
 ghost use Rattle.std.specs.Int.{w64};
 ghost use Rattle.jt_value.specs.Tree as tree;
 ghost use Rattle.jt_value.specs.View.{view, items_view};
 ghost use Rattle.jt_ops.specs.Limited.{limited_by, Answers, AnswersWith};
-ghost use Rattle.jt_op_meaning.specs.Ranges.{ranged, numbers_between, range_count, stepped};
-ghost use Rattle.jt_op_meaning.specs.Ranges as ranges;
+ghost use Rattle.jt_op_semantics.specs.Ranges.{ranged, numbers_between, range_count, stepped};
+ghost use Rattle.jt_op_semantics.specs.Ranges as ranges;
 
 use crate::limits::{Limits, OpError, allow, made};
-use crate::operands::{misfit, misfit_of_one, misfit_of_three};
+use crate::operands::{operand_fault, operand_fault_of_one, operand_fault_of_three};
 use jt_value::{Fault, NoMemory, Value};
 use std::alloc::Global;
 
-/// The list of numbers from a start by a step, before a stop.
+/// Returns the list of the numbers from a start by a step, up to but not including a stop.
 ///
-/// `values` are the stop; the start and the stop; or the start, the stop and the step. The start is
-/// 0 and the step 1 where they aren't given.
+/// `values` holds the stop; the start and the stop; or the start, the stop and the step. The start
+/// defaults to 0 and the step to 1.
 ///
 /// # Errors
 ///
-/// `Undefined` or `BadType` where a value is no number, `Range` where the step is 0, `TooLarge` and
-/// `TooDeep` where the list passes the limits, which it does before it is built.
+/// - `Undefined` or `BadType` if a value is not a number.
+/// - `Range` if the step is 0.
+/// - `TooLarge` or `TooDeep` if the list exceeds the limits. It is then not built.
+/// - `NoMemory` if a growth is refused.
 pub fn range(alloc: Global, values: &[Value], limits: Limits) -> Result<Value, OpError>
     requires some { 1 ≤ length values.now }
     requires few { length values.now ≤ 3 }
@@ -34,17 +37,17 @@ pub fn range(alloc: Global, values: &[Value], limits: Limits) -> Result<Value, O
     }
 }
 
-/// The numbers from 0 before a stop.
+/// Returns the list of the numbers from 0 to before `stop`.
 pub(crate) fn range_to(alloc: Global, stop: &Value, limits: Limits) -> Result<Value, OpError>
     ensures { Answers result (limited_by limits (ranged (view stop.now ∷ []))) }
 {
     match stop {
         Value::Int(stop) => numbers(alloc, 0, *stop, 1, limits),
-        _ => Err(misfit_of_one(stop).into()),
+        _ => Err(operand_fault_of_one(stop).into()),
     }
 }
 
-/// The numbers from a start before a stop.
+/// Returns the list of the numbers from `start` to before `stop`.
 pub(crate) fn range_from(
     alloc: Global,
     start: &Value,
@@ -55,11 +58,11 @@ pub(crate) fn range_from(
 {
     match (start, stop) {
         (Value::Int(start), Value::Int(stop)) => numbers(alloc, *start, *stop, 1, limits),
-        _ => Err(misfit(start, stop).into()),
+        _ => Err(operand_fault(start, stop).into()),
     }
 }
 
-/// The numbers from a start by a step, before a stop.
+/// Returns the list of the numbers from `start` by `step` to before `stop`.
 fn range_by(
     alloc: Global,
     start: &Value,
@@ -74,12 +77,13 @@ fn range_by(
         (Value::Int(start), Value::Int(stop), Value::Int(step)) => {
             numbers(alloc, *start, *stop, *step, limits)
         }
-        _ => Err(misfit_of_three(start, stop, step).into()),
+        _ => Err(operand_fault_of_three(start, stop, step).into()),
     }
 }
 
-/// The numbers from a start by a step, before a stop.
-#[tactic(auto, using(crate::proofs::Loops::numbers_nonzero))]
+/// Returns the list of the numbers from `start` by `step` to before `stop`, or `Range` for the step
+/// 0.
+#[tactic(auto, using(crate::proofs::AppendSteps::numbers_nonzero))]
 fn numbers(
     alloc: Global,
     start: i64,
@@ -95,7 +99,8 @@ fn numbers(
     list_of(alloc, start, stop, step, limits)
 }
 
-/// The list of the numbers from a start by a step, before a stop, measured before it is built.
+/// Returns the list of the numbers from `start` by `step` to before `stop`. Tests its size and
+/// nesting before it builds the list.
 fn list_of(
     alloc: Global,
     start: i64,
@@ -104,14 +109,15 @@ fn list_of(
     limits: Limits,
 ) -> Result<Value, OpError>
     requires { pos 0 ≢ step }
-    ensures { AnswersWith limits (tree.list (stepped (range_count start stop step) start step)) result }
+    ensures { AnswersWith limits (tree.list (stepped (range_count start stop step) start step))
+        result }
 {
     let count = count(start, stop, step);
     allow(count.saturating_add(1), 1, limits)?;
     made(listed(alloc, start, step, count))
 }
 
-/// How many of the numbers from a start by a step lie before a stop.
+/// Returns how many of the numbers from `start` by `step` lie before `stop`.
 fn count(start: i64, stop: i64, step: i64) -> u64
     requires { pos 0 ≢ step }
     ensures { result ≡ range_count start stop step }
@@ -123,14 +129,14 @@ fn count(start: i64, stop: i64, step: i64) -> u64
     }
 }
 
-/// How far a number lies above another, 0 if it doesn't.
+/// Returns `high - low`, or 0 if that is negative.
 fn distance(low: i64, high: i64) -> u64
     ensures { result ≡ ranges.distance low high }
 {
     if low < high { high.abs_diff(low) } else { 0 }
 }
 
-/// The list of so many numbers from a start by a step, each of which has 64 bits.
+/// Returns the list of `count` numbers from `start` by `step`. None of them overflows.
 fn listed(alloc: Global, start: i64, step: i64, count: u64) -> Result<Value, NoMemory>
     requires { (k : ℕ) → k < count → FitsSigned w64 (start +ℤ pos k *ℤ step) }
     ensures { IfOk result (λ v. view v ≡ tree.list (stepped count start step)) }
@@ -144,7 +150,7 @@ fn listed(alloc: Global, start: i64, step: i64, count: u64) -> Result<Value, NoM
     Value::list(alloc, numbers)
 }
 
-/// The sum of two numbers. Where it has no 64 bits, which is behind the last number, any other.
+/// Returns `x + y`, or `x` if the sum overflows. That happens only after the last number of a list.
 fn sum_in_range(x: i64, y: i64) -> i64
     ensures { FitsSigned w64 (x +ℤ y) → result ≡ x +ℤ y }
 {

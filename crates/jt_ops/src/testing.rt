@@ -3,25 +3,25 @@ ghost use Rattle.std.specs.Prelude.{◌≡◌, ◌+◌, ◌∷◌, [], ℕ, List
 ghost use Rattle.jt_value.specs.Tree as tree;
 ghost use Rattle.jt_value.specs.View.{view};
 ghost use Rattle.jt_ids.specs.TestTable.{test_values};
-ghost use Rattle.jt_op_meaning.specs.Testing.{tested};
+ghost use Rattle.jt_op_semantics.specs.Testing.{tested};
 ghost use Rattle.jt_ops.specs.Limited.{as_answer};
-ghost use Rattle.jt_op_meaning.specs.Testing as testing;
+ghost use Rattle.jt_op_semantics.specs.Testing as testing;
 
 use crate::arithmetic::remainder;
 use crate::comparing::{compare_text, equals_text, greater, greater_or_equal, less, less_or_equal};
 use crate::limits::OpError;
 use crate::membership::{is_in, text_is_in};
-use crate::operands::{misfit, misfit_of_one, misfit_of_text};
+use crate::operands::{operand_fault, operand_fault_of_one, operand_fault_of_text};
 use jt_ids::TestId;
 use jt_value::{Fault, Value};
 use std::cmp::Ordering;
 
-/// Whether a test is true of values: the tested one, and the test's argument behind it where it
-/// takes one.
+/// Returns whether a test holds. `values` is the tested value, followed by the test's argument if
+/// it takes one.
 ///
 /// # Errors
 ///
-/// The test's fault, and no other error: a test has no limits and takes no memory.
+/// The fault of the test. A test has no limits and allocates nothing.
 pub fn test(test: TestId, values: &[Value]) -> Result<bool, OpError>
     requires { length values.now ≡ test_values test }
     ensures { result ≡ as_answer (tested test (map view values.now)) }
@@ -32,11 +32,11 @@ pub fn test(test: TestId, values: &[Value]) -> Result<bool, OpError>
     }
 }
 
-/// Whether a test is true of a value, with the test's argument where it takes one.
+/// Returns whether a test holds of a value. `arguments` has the test's argument if it takes one.
 ///
 /// # Errors
 ///
-/// The test's fault.
+/// The fault of the test.
 pub fn test_of(test: TestId, value: &Value, arguments: &[Value]) -> Result<bool, Fault>
     requires { length arguments.now + 1 ≡ test_values test }
     ensures { result ≡ tested test (view value.now ∷ map view arguments.now) }
@@ -48,12 +48,12 @@ pub fn test_of(test: TestId, value: &Value, arguments: &[Value]) -> Result<bool,
     }
 }
 
-/// Whether a test is true of a plain text, with the test's argument where it takes one: as of a
-/// value of that text.
+/// Returns whether a test holds of a plain text, with the same result as for a value of that text.
+/// `arguments` has the test's argument if it takes one.
 ///
 /// # Errors
 ///
-/// The test's fault.
+/// The fault of the test.
 pub fn test_of_text(test: TestId, text: &str, arguments: &[Value]) -> Result<bool, Fault>
     requires { length arguments.now + 1 ≡ test_values test }
     ensures { result ≡ tested test (tree.text text.now ∷ map view arguments.now) }
@@ -65,7 +65,7 @@ pub fn test_of_text(test: TestId, text: &str, arguments: &[Value]) -> Result<boo
     }
 }
 
-/// A test of a plain text without an argument: what the text is plays no part.
+/// Applies a test without an argument to a plain text. The result is the same for every text.
 fn test_one_of_text(test: TestId) -> Result<bool, Fault>
     requires { test_values test ≡ 1 }
     ensures { (s : List ℕ) → result ≡ tested test (tree.text s ∷ []) }
@@ -77,7 +77,7 @@ fn test_one_of_text(test: TestId) -> Result<bool, Fault>
     }
 }
 
-/// A test of a plain text with an argument.
+/// Applies a test with an argument to a plain text.
 fn test_two_of_text(test: TestId, text: &str, argument: &Value) -> Result<bool, Fault>
     requires { test_values test ≡ 2 }
     ensures { result ≡ tested test (tree.text text.now ∷ view argument.now ∷ []) }
@@ -90,11 +90,11 @@ fn test_two_of_text(test: TestId, text: &str, argument: &Value) -> Result<bool, 
         TestId::Greater => Ok(compare_text(text, argument)? == Ordering::Greater),
         TestId::LessOrEqual => Ok(compare_text(text, argument)? != Ordering::Greater),
         TestId::Less => Ok(compare_text(text, argument)? == Ordering::Less),
-        _ => Err(misfit_of_text(argument)),
+        _ => Err(operand_fault_of_text(argument)),
     }
 }
 
-/// A test without an argument.
+/// Applies a test without an argument to a value.
 fn test_one(test: TestId, value: &Value) -> Result<bool, Fault>
     requires { test_values test ≡ 1 }
     ensures { result ≡ tested test (view value.now ∷ []) }
@@ -116,7 +116,7 @@ fn test_one(test: TestId, value: &Value) -> Result<bool, Fault>
     }
 }
 
-/// A test with an argument.
+/// Applies a test with an argument to a value.
 fn test_two(test: TestId, value: &Value, argument: &Value) -> Result<bool, Fault>
     requires { test_values test ≡ 2 }
     ensures { result ≡ tested test (view value.now ∷ view argument.now ∷ []) }
@@ -134,27 +134,27 @@ fn test_two(test: TestId, value: &Value, argument: &Value) -> Result<bool, Fault
     }
 }
 
-/// Whether a number is divisible by another.
+/// Returns whether a number is divisible by another one.
 fn is_divisible(value: &Value, divisor: &Value) -> Result<bool, Fault>
     ensures { result ≡ testing.is_divisible (view value.now) (view divisor.now) }
 {
     match (value, divisor) {
         (Value::Int(x), Value::Int(y)) => is_multiple(*x, *y),
-        _ => Err(misfit(value, divisor)),
+        _ => Err(operand_fault(value, divisor)),
     }
 }
 
-/// Whether a number is even.
+/// Returns whether a number is even.
 fn is_even(value: &Value) -> Result<bool, Fault>
     ensures { result ≡ testing.is_even (view value.now) }
 {
     match value {
         Value::Int(x) => is_multiple(*x, 2),
-        _ => Err(misfit_of_one(value)),
+        _ => Err(operand_fault_of_one(value)),
     }
 }
 
-/// Whether a number is a multiple of another.
+/// Returns whether `x` is a multiple of `y`.
 fn is_multiple(x: i64, y: i64) -> Result<bool, Fault>
     ensures { result ≡ testing.is_multiple x y }
 {

@@ -1,10 +1,11 @@
-//! Texts put together from pieces, measured before they are built.
-ghost use Rattle.std.specs.Prelude.{◌≡◌, ◌-◌, ◌^◌, ◌++◌, min, length, Ok, IfOk, OnOk, string_bytes};
+//! Builds texts from pieces. Their sizes are tested before they are built.
+ghost use Rattle.std.specs.Prelude.{◌≡◌, ◌-◌, ◌/◌, ◌^◌, ◌++◌, min, length, Ok, IfOk, OnOk};
+ghost use Rattle.std.specs.Prelude.{string_bytes};
 ghost use Rattle.std.specs.List.{repeat};
 ghost use Rattle.jt_value.specs.View.{view};
 ghost use Rattle.jt_escape.specs.Escaping.{escaped, escaped_byte};
 ghost use Rattle.jt_ops.specs.Pieces.{of_kind, written};
-ghost use Rattle.jt_op_meaning.specs.Joining.{times};
+ghost use Rattle.jt_op_semantics.specs.Joining.{times};
 ghost use Rattle.jt_ops.specs.Limited.{AnswersWith};
 
 use crate::limits::{Limits, OpError, allow, made};
@@ -12,7 +13,13 @@ use jt_escape::escape_into;
 use jt_value::{NoMemory, Value};
 use std::alloc::Global;
 
-/// Whether a text is plain or markup.
+/// The number of copies up to which a text is appended copy by copy.
+const FEW: u64 = 16;
+
+/// The length in bytes up to which a repeated text is doubled.
+const BLOCK: usize = 4096;
+
+/// The kind of a text: plain or markup.
 #[derive(Clone, Copy)]
 pub enum TextKind {
     Plain,
@@ -20,7 +27,11 @@ pub enum TextKind {
 }
 
 impl TextKind {
-    /// The value of a text.
+    /// Returns the value of this kind that holds `text`.
+    ///
+    /// # Errors
+    ///
+    /// `NoMemory` if a growth is refused.
     pub fn value(self, text: String) -> Result<Value, NoMemory>
         ensures { IfOk result (λ v. view v ≡ of_kind self (string_bytes text)) }
     {
@@ -31,17 +42,17 @@ impl TextKind {
     }
 }
 
-/// A piece of a text that is put together.
+/// A piece of a text that is being built.
 #[derive(Clone, Copy)]
 pub enum Piece<'a> {
-    /// As it is.
+    /// A piece that is written unchanged.
     Raw(&'a str),
-    /// With its special characters escaped.
+    /// A piece whose special characters are escaped.
     Escaped(&'a str),
 }
 
 impl<'a> Piece<'a> {
-    /// How many bytes the piece writes, or the greatest number where they are more.
+    /// Returns how many bytes the piece writes, at most 2^64 - 1.
     pub fn len(&self) -> u64
         ensures { result ≡ min (length (written self.now)) (2 ^ 64 - 1) }
     {
@@ -51,7 +62,11 @@ impl<'a> Piece<'a> {
         }
     }
 
-    /// Writes the piece behind a text. A refusal leaves a part of it there.
+    /// Appends the piece to a text.
+    ///
+    /// # Errors
+    ///
+    /// `NoMemory` if a growth is refused. A part of the piece may then have been appended.
     pub fn write(&self, into: &mut String) -> Result<(), NoMemory>
         ensures { OnOk result (string_bytes into.new ≡ string_bytes into.old ++ written self.now) }
     {
@@ -63,8 +78,8 @@ impl<'a> Piece<'a> {
     }
 }
 
-#[tactic(auto, using(crate::proofs::Loops::escaped_length_more))]
-/// How many bytes a text has once it is escaped, or the greatest number where they are more.
+#[tactic(auto, using(crate::proofs::AppendSteps::escaped_length_more))]
+/// Returns the length in bytes of an escaped text, at most 2^64 - 1.
 fn escaped_len(text: &str) -> u64
     ensures { result ≡ min (length (escaped text.now)) (2 ^ 64 - 1) }
 {
@@ -75,7 +90,7 @@ fn escaped_len(text: &str) -> u64
     total
 }
 
-/// How many bytes stand for a byte of an escaped text.
+/// Returns how many bytes one byte takes once it is escaped.
 fn escaped_byte_len(byte: u8) -> u64
     ensures { result ≡ length (escaped_byte byte) }
 {
@@ -86,7 +101,7 @@ fn escaped_byte_len(byte: u8) -> u64
     }
 }
 
-/// The text of two pieces.
+/// Returns the text of two pieces, under limits.
 pub(crate) fn concatenated(
     alloc: Global,
     left: &Piece<'_>,
@@ -101,7 +116,7 @@ pub(crate) fn concatenated(
     made(text_of_two(alloc, left, right, kind, len as usize))
 }
 
-/// The same, in a string that has room for so many bytes at first.
+/// Returns the text of two pieces, built in a string with the initial capacity `room`.
 fn text_of_two(
     alloc: Global,
     left: &Piece<'_>,
@@ -117,8 +132,8 @@ fn text_of_two(
     kind.value(text)
 }
 
-/// A text, repeated; nothing for 0 and below.
-#[tactic(auto, using(crate::proofs::Loops::repeat_length))]
+/// Returns the text repeated `number` times, or the empty text if `number` is not positive.
+#[tactic(auto, using(crate::proofs::AppendSteps::repeat_length))]
 pub(crate) fn repeated(
     alloc: Global,
     text: &str,
@@ -134,8 +149,8 @@ pub(crate) fn repeated(
     made(repetition(alloc, text, count, kind, len as usize))
 }
 
-/// How often a text is to be written for a number of repetitions: an empty one never.
-#[tactic(auto, using(crate::proofs::Loops::repeat_empty))]
+/// Returns how often to write the text: 0 if it is empty or `number` is not positive.
+#[tactic(auto, using(crate::proofs::AppendSteps::repeat_empty))]
 fn repetitions(text: &str, number: i64) -> u64
     ensures same { repeat result text.now ≡ repeat (times number) text.now }
     ensures empty { length text.now ≡ 0 → result ≡ 0 }
@@ -147,8 +162,7 @@ fn repetitions(text: &str, number: i64) -> u64
     }
 }
 
-/// A text, so many times, in a string that has room for so many bytes at first.
-#[tactic(auto, using(crate::proofs::Loops::repeat_more))]
+/// Returns the text repeated `count` times, built in a string with the initial capacity `room`.
 fn repetition(
     alloc: Global,
     text: &str,
@@ -159,8 +173,57 @@ fn repetition(
     ensures { IfOk result (λ v. view v ≡ of_kind kind (repeat count text.now)) }
 {
     let mut repeated = String::with_capacity(alloc, room)?;
-    for _ in 0..count {
-        repeated.push_str(text)?;
-    }
+    append_repeated(alloc, &mut repeated, text, count)?;
     kind.value(repeated)
+}
+
+/// Appends a text `count` times. A short text is first doubled to a block of about `BLOCK` bytes,
+/// so the time goes into copies of whole blocks.
+fn append_repeated(alloc: Global, into: &mut String, text: &str, count: u64) -> Result<(), NoMemory>
+    ensures { OnOk result (string_bytes into.new ≡ string_bytes into.old ++ repeat count text.now) }
+{
+    if count <= FEW {
+        return append_copies(into, text, count);
+    }
+    let mut block = String::from_str(alloc, text)?;
+    let mut left = count;
+    while left > FEW && block.len() < BLOCK {
+        append_odd(into, &block, left)?;
+        double(&mut block)?;
+        left /= 2;
+    }
+    append_copies(into, &block, left)
+}
+
+/// Appends a text once if `count` is odd. The rest of `count` copies is then half as many copies of
+/// the doubled text.
+#[tactic(auto, using(crate::proofs::AppendSteps::halved_repetitions))]
+fn append_odd(into: &mut String, text: &str, count: u64) -> Result<(), NoMemory>
+    ensures { OnOk result (string_bytes into.new ++ repeat (count / 2) (text.now ++ text.now)
+        ≡ string_bytes into.old ++ repeat count text.now) }
+{
+    if count % 2 != 0 {
+        into.push_str(text)?;
+    }
+    Ok(())
+}
+
+/// Appends a text to itself.
+fn double(text: &mut String) -> Result<(), NoMemory>
+    ensures { OnOk result (string_bytes text.new ≡ string_bytes text.old ++ string_bytes text.old) }
+{
+    let copy = text.clone()?;
+    text.push_str(&copy)?;
+    Ok(())
+}
+
+/// Appends a text `count` times, one copy after another.
+#[tactic(auto, using(crate::proofs::AppendSteps::repeat_pushed))]
+fn append_copies(into: &mut String, text: &str, count: u64) -> Result<(), NoMemory>
+    ensures { OnOk result (string_bytes into.new ≡ string_bytes into.old ++ repeat count text.now) }
+{
+    for _ in 0..count {
+        into.push_str(text)?;
+    }
+    Ok(())
 }

@@ -1,14 +1,9 @@
 pub mod Bytes
-pub mod Gives
 pub mod Grammar
-pub mod HeadView
 pub mod Kept
 pub mod Names
-pub mod PositionView
 pub mod Positions
-pub mod Readers
-pub mod Reading
 pub mod Refusals
-pub mod SideView
 pub mod Tags
 pub mod View
+pub mod internal

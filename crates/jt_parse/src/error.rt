@@ -1,25 +1,25 @@
-//! Why segments are no template.
+//! The errors of the parser.
 
 use std::alloc::{AllocError, AllocFailed};
 use thiserror::Error;
 
-/// Why segments are no template. The line is that of the tag in which the fault was found, and of
-/// a statement that is never closed its first tag's. Want of memory has no line.
+/// The reason why segments are no template. The line is that of the tag with the error. For a
+/// statement that is never closed, it is the line of its first tag. `NoMemory` has no line.
 #[derive(Clone, Copy, Debug, Drop, Error, PartialEq, Eq)]
 pub enum ParseError {
-    /// No tree is spelled so.
+    /// The segments spell no tree.
     #[error("P1 Syntax")]
     Syntax { line: u32 },
-    /// Statements and expressions lie more than 100 deep.
+    /// Statements and expressions are nested more than 100 levels deep.
     #[error("P2 TooDeep")]
     TooDeep { line: u32 },
-    /// A filter has no meaning.
+    /// A filter is unknown.
     #[error("P3 UnknownFilter")]
     UnknownFilter { line: u32 },
-    /// A test has no meaning.
+    /// A test is unknown.
     #[error("P4 UnknownTest")]
     UnknownTest { line: u32 },
-    /// A growth was refused.
+    /// A growth is refused.
     #[error("P5 NoMemory")]
     NoMemory,
 }

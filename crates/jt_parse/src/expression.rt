@@ -1,24 +1,24 @@
-//! The expression of a tag, and words.
+//! Reads expressions and first tags, and converts their errors.
 
 ghost use Rattle.std.specs.Prelude.{◌≡◌, ◌∷◌, suc, map, bytes_eq, encode_utf8_all, string_bytes};
 ghost use Rattle.std.specs.Str.{chars};
 ghost use Rattle.jt_scan.specs.View.{token_view};
-ghost use Rattle.jt_trees.specs.Expressions.{levels as tree_levels};
+ghost use Rattle.jt_ast.specs.Expressions.{levels as tree_levels};
 ghost use Rattle.jt_expr.specs.Grammar.{word as word_token, whole, Spells};
-ghost use Rattle.jt_trees.specs.ExpressionView.{expr_view};
+ghost use Rattle.jt_ast.specs.ExpressionView.{expr_view};
 ghost use Rattle.jt_parse.specs.Tags.{Says, head_levels};
-ghost use Rattle.jt_parse.specs.HeadView.{head_view};
-ghost use Rattle.jt_parse.specs.Gives.{GivesOnly, refusal_at};
+ghost use Rattle.jt_parse.specs.internal.HeadView.{head_view};
+ghost use Rattle.jt_parse.specs.internal.Gives.{GivesOnly, refusal_at};
 
 use crate::error::ParseError;
-use crate::heads::Head;
+use crate::opening_tags::Head;
 use crate::tags::read_head;
+use jt_ast::Expr;
 use jt_expr::ExprError;
 use jt_scan::Token;
-use jt_trees::Expr;
 use std::alloc::Global;
 
-/// The expression of a tag of the line, of at most so many levels.
+/// Parses the expression of a tag, of at most `levels` levels. Errors have the line of the tag.
 pub(crate) fn expression(
     alloc: Global,
     tokens: &[Token<'_>],
@@ -34,7 +34,7 @@ pub(crate) fn expression(
     }
 }
 
-/// What the first tag of a statement says, whose word and line are given.
+/// Parses the first tag of a statement, given its word and the tokens after it.
 pub(crate) fn head(
     alloc: Global,
     word: &str,
@@ -51,7 +51,7 @@ pub(crate) fn head(
     }
 }
 
-/// A refusal of an expression, in a tag of the line.
+/// Converts the error of an expression to that of a tag at this line.
 pub(crate) fn refused(line: u32, refusal: ExprError) -> ParseError
     ensures { result ≡ refusal_at line refusal }
 {
@@ -62,7 +62,7 @@ pub(crate) fn refused(line: u32, refusal: ExprError) -> ParseError
     }
 }
 
-/// Whether a word is the name.
+/// Returns whether a word equals a name.
 pub(crate) fn is_name(word: &str, name: &str) -> bool
     ensures { result ≡ bytes_eq (encode_utf8_all (chars word.now)) name.now }
 {

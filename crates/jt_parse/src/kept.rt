@@ -1,18 +1,18 @@
-//! What is left of the text between tags.
+//! Trims the text between tags.
 
 ghost use Rattle.std.specs.Prelude.{◌≡◌, []};
 ghost use Rattle.std.specs.Str.{chars};
 ghost use Rattle.jt_scan.specs.Cut.{EndsWith};
 ghost use Rattle.jt_scan.specs.View.{part_view};
 ghost use Rattle.jt_parse.specs.Kept as spec;
-ghost use Rattle.jt_parse.specs.SideView.{side_view, ahead_view, test_of};
+ghost use Rattle.jt_parse.specs.internal.SideView.{side_view, ahead_view, test_of};
 
-use jt_scan::{Mark, Options, Part, Segment, TagKind, behind_space, first};
+use jt_scan::{Mark, Options, Segment, SegmentKind, TagKind, behind_space, first};
 
-/// What stands beside a text.
+/// The neighbour of a text, as far as trimming depends on it.
 #[derive(Clone, Copy)]
-pub enum Side {
-    /// The source's start, or its end.
+pub enum Neighbour {
+    /// The start or the end of the source.
     Nothing,
     /// Other text.
     Words,
@@ -22,69 +22,69 @@ pub enum Side {
     Variable(Mark),
 }
 
-/// Which characters are removed.
+/// The characters that are trimmed.
 #[derive(Clone, Copy, PartialEq, Eq)]
-pub enum Space {
+pub enum TrimmedChars {
     /// All whitespace.
     All,
     /// Spaces and tabs.
     Blank,
 }
 
-/// A tag's side.
-fn side_of(kind: TagKind, mark: Mark) -> Side
+/// Returns a tag as a neighbour, given its mark on the side of the text.
+fn side_of(kind: TagKind, mark: Mark) -> Neighbour
     ensures { side_view result ≡ spec.side_of kind mark }
 {
     match kind {
-        TagKind::Block => Side::Block(mark),
-        TagKind::Variable => Side::Variable(mark),
+        TagKind::Block => Neighbour::Block(mark),
+        TagKind::Variable => Neighbour::Variable(mark),
     }
 }
 
-/// What a segment is for the text behind it.
-pub(crate) fn side_behind(part: &Part<'_>) -> Side
+/// Returns this segment as the left neighbour of the text that follows it.
+pub(crate) fn side_behind(part: &SegmentKind<'_>) -> Neighbour
     ensures { side_view result ≡ spec.side_behind (part_view part.now) }
 {
     match part {
-        Part::Data(_) => Side::Words,
-        Part::Tag(tag) => side_of(tag.kind, tag.marks.closing),
-        Part::Comment(marks, _) => Side::Block(marks.closing),
-        Part::Raw(_, _, ends) => Side::Block(ends.closing),
+        SegmentKind::Data(_) => Neighbour::Words,
+        SegmentKind::Tag(tag) => side_of(tag.kind, tag.marks.closing),
+        SegmentKind::Comment(marks, _) => Neighbour::Block(marks.closing),
+        SegmentKind::Raw(_, _, ends) => Neighbour::Block(ends.closing),
     }
 }
 
-/// What a segment is for the text before it.
-fn side_before(part: &Part<'_>) -> Side
+/// Returns this segment as the right neighbour of the text before it.
+fn side_before(part: &SegmentKind<'_>) -> Neighbour
     ensures { side_view result ≡ spec.side_before (part_view part.now) }
 {
     match part {
-        Part::Data(_) => Side::Words,
-        Part::Tag(tag) => side_of(tag.kind, tag.marks.opening),
-        Part::Comment(marks, _) => Side::Block(marks.opening),
-        Part::Raw(marks, _, _) => Side::Block(marks.opening),
+        SegmentKind::Data(_) => Neighbour::Words,
+        SegmentKind::Tag(tag) => side_of(tag.kind, tag.marks.opening),
+        SegmentKind::Comment(marks, _) => Neighbour::Block(marks.opening),
+        SegmentKind::Raw(marks, _, _) => Neighbour::Block(marks.opening),
     }
 }
 
-/// What the first of the segments is for the text before it.
-pub(crate) fn side_ahead(segments: &[Segment<'_>]) -> Side
+/// Returns the first of the segments as the right neighbour of the text before it.
+pub(crate) fn side_ahead(segments: &[Segment<'_>]) -> Neighbour
     ensures { side_view result ≡ ahead_view segments.now }
 {
     match segments {
         [first, ..] => side_before(&first.part),
-        [] => Side::Nothing,
+        [] => Neighbour::Nothing,
     }
 }
 
-/// Whether the character is a space, a tab, LF, VT, FF or CR, or one of the first two.
-fn passes(space: Space, c: char) -> bool
+/// Returns whether a character is trimmed: a space or a tab, or with `All` also LF, VT, FF or CR.
+fn passes(space: TrimmedChars, c: char) -> bool
     ensures { result ≡ test_of space c }
 {
     let blank = c == ' ' || c == '\t';
     let other = c == '\n' || c == '\u{b}' || c == '\u{c}' || c == '\r';
-    blank || (space == Space::All && other)
+    blank || (space == TrimmedChars::All && other)
 }
 
-/// What is behind the LF in front, if one stands there.
+/// Drops an LF at the start of a text.
 fn after_lf(text: &str) -> &str
     ensures { chars result.now ≡ spec.after_lf (chars text.now) }
 {
@@ -94,14 +94,14 @@ fn after_lf(text: &str) -> &str
     }
 }
 
-/// What is behind the part that is removed at the left end.
-fn after_left(text: &str, options: Options, left: Side) -> &str
+/// Returns a text trimmed at its left end.
+fn after_left(text: &str, options: Options, left: Neighbour) -> &str
     ensures value { chars result.now ≡ spec.after_left options (side_view left) (chars text.now) }
     ensures end { EndsWith (chars text.now) (chars result.now) }
 {
     match left {
-        Side::Block(Mark::Minus) | Side::Variable(Mark::Minus) => behind_space(text),
-        Side::Block(Mark::Absent) => {
+        Neighbour::Block(Mark::Minus) | Neighbour::Variable(Mark::Minus) => behind_space(text),
+        Neighbour::Block(Mark::Absent) => {
             if options.trim_blocks {
                 after_lf(text)
             } else {
@@ -112,9 +112,9 @@ fn after_left(text: &str, options: Options, left: Side) -> &str
     }
 }
 
-/// The longest end of a text that is to be removed, and whether a line begins there; `start` tells
-/// whether one begins in front.
-fn ending(text: &str, space: Space, start: bool) -> (&str, bool)
+/// Returns the longest suffix of trimmed characters, and whether a line begins there. `start` is
+/// set if a line begins at the start of the text.
+fn ending(text: &str, space: TrimmedChars, start: bool) -> (&str, bool)
     ensures value { chars result.0.now ≡ spec.ending (test_of space) (chars text.now) }
     ensures starts { result.1 ≡ spec.ending_starts (test_of space) start (chars text.now) }
     ensures end { EndsWith (chars text.now) (chars result.0.now) }
@@ -132,30 +132,34 @@ fn ending(text: &str, space: Space, start: bool) -> (&str, bool)
     (run, starts)
 }
 
-/// The end of each text.
+/// Returns the empty suffix.
 fn no_end<'a>() -> &'a str
     ensures { chars result.now ≡ [] }
 {
     ""
 }
 
-/// Whether the source begins there.
-fn is_start(side: Side) -> bool
+/// Returns whether the left neighbour is the start of the source.
+fn is_start(side: Neighbour) -> bool
     ensures { result ≡ spec.is_start (side_view side) }
 {
-    matches!(side, Side::Nothing)
+    matches!(side, Neighbour::Nothing)
 }
 
-/// The part that is removed at the right end.
-fn removed_right(text: &str, options: Options, start: bool, right: Side) -> &str
+/// Returns the suffix that is trimmed at the right end of a text.
+fn removed_right(text: &str, options: Options, start: bool, right: Neighbour) -> &str
     ensures value { chars result.now
         ≡ spec.removed_right options start (side_view right) (chars text.now) }
     ensures end { EndsWith (chars text.now) (chars result.now) }
 {
     match right {
-        Side::Block(Mark::Minus) | Side::Variable(Mark::Minus) => ending(text, Space::All, start).0,
-        Side::Block(Mark::Absent) => {
-            let (run, starts) = ending(text, Space::Blank, start);
+        Neighbour::Block(Mark::Minus) | Neighbour::Variable(Mark::Minus) => ending(
+            text,
+            TrimmedChars::All,
+            start,
+        ).0,
+        Neighbour::Block(Mark::Absent) => {
+            let (run, starts) = ending(text, TrimmedChars::Blank, start);
             if options.lstrip_blocks && starts {
                 run
             } else {
@@ -166,8 +170,8 @@ fn removed_right(text: &str, options: Options, start: bool, right: Side) -> &str
     }
 }
 
-/// What is left of a text between two sides.
-pub(crate) fn kept(text: &str, options: Options, left: Side, right: Side) -> &str
+/// Returns a text trimmed at both ends.
+pub(crate) fn kept(text: &str, options: Options, left: Neighbour, right: Neighbour) -> &str
     ensures { chars result.now
         ≡ spec.kept options (side_view left) (side_view right) (chars text.now) }
 {

@@ -1,23 +1,30 @@
-//! The tree that the segments of a template spell.
+//! Parses the segments of a template into a syntax tree.
 //!
-//! `parse` (parser) goes through the segments with the open statements in a row (open_stmts); the
-//! tags (tags, heads), where statements may stand (positions), and which text is kept (kept). Read
-//! first: specs/Grammar.antt, one rule a form; specs/Kept.antt says what marks trim.
+//! `parser` reads the segments and keeps a stack of open statements (`open_stmts`). `tags` reads
+//! first tags into `opening_tags`, and `expression` calls jt_expr. `kept` trims text, `positions`
+//! checks where statements are allowed, and `names` finds unknown filters and tests. `expressions`
+//! passes on the parser of one expression. Read first: specs/Grammar.antt, with one rule for each
+//! form, and specs/Kept.antt, which defines what marks trim.
 #![tactic(auto)]
 
 mod error;
 mod expression;
-mod heads;
 mod kept;
 mod names;
 mod open_stmts;
+mod opening_tags;
 mod parser;
 mod positions;
 mod tags;
 
 pub use error::ParseError;
-pub use jt_trees::{
-    BinaryOperator, Branch, Expr, Filtering, Literal, Missing, NamesAround, Parameter, Polarity,
-    Stmt, Template, UnaryOperator,
+pub use jt_ast::{
+    BinaryOperator, Branch, Expr, FilterCall, IncludeContext, Literal, Missing, Parameter,
+    Polarity, Stmt, Template, UnaryOperator,
 };
 pub use parser::parse;
+
+/// The parser of the tokens of one expression, of jt_expr.
+pub mod expressions {
+    pub use jt_expr::{ExprError, Named, expression, has_unknown};
+}

@@ -1,18 +1,19 @@
-//! The names of filters and tests in a template that have no meaning.
+//! Finds unknown filters and tests in a template.
 
 ghost use Rattle.std.specs.Prelude.{◌≡◌, ◌||◌, true, false, option_map};
 ghost use Rattle.std.specs.Option.{option_or};
-ghost use Rattle.jt_trees.specs.ExpressionView.{expr_view, pairs_view};
+ghost use Rattle.jt_ast.specs.ExpressionView.{expr_view, pairs_view};
 ghost use Rattle.jt_expr.specs.Named.{has_unknown, pairs_have_unknown};
 ghost use Rattle.jt_parse.specs.Names as spec;
-ghost use Rattle.jt_trees.specs.StatementView.{stmt_view, body_view, branches_view, filtering_view, filterings_view};
-ghost use Rattle.jt_parse.specs.Gives.{GivesNames, GivesNamesIn};
+ghost use Rattle.jt_ast.specs.StatementView.{stmt_view, body_view, branches_view, filter_call_view};
+ghost use Rattle.jt_ast.specs.StatementView.{filter_calls_view};
+ghost use Rattle.jt_parse.specs.internal.Gives.{GivesNames, GivesNamesIn};
 
 use crate::error::ParseError;
+use jt_ast::{Branch, Expr, FilterCall, Stmt};
 use jt_expr::{Named, any_unknown_argument, any_unknown_pair, has_unknown, is_filter_unknown};
-use jt_trees::{Branch, Expr, Filtering, Stmt};
 
-/// Refuses a tag of the line, if a filter or a test in it has no meaning.
+/// Refuses the tag of a line if it names an unknown filter or an unknown test.
 fn check_tag(line: u32, filters: bool, tests: bool) -> Result<(), ParseError>
     ensures { GivesNames (spec.blamed line filters tests) result }
 {
@@ -25,7 +26,7 @@ fn check_tag(line: u32, filters: bool, tests: bool) -> Result<(), ParseError>
     Ok(())
 }
 
-/// The same for a tag with one expression.
+/// Refuses an expression that uses an unknown filter or test.
 fn check_expression(line: u32, expr: &Expr) -> Result<(), ParseError>
     ensures { GivesNamesIn line (λ u. has_unknown u (expr_view expr.now)) result }
 {
@@ -34,7 +35,7 @@ fn check_expression(line: u32, expr: &Expr) -> Result<(), ParseError>
     check_tag(line, filters, tests)
 }
 
-/// Whether such a name stands in a condition.
+/// Returns whether a condition contains an unknown name of this kind.
 fn condition_unknown(condition: &Option<Expr>, named: Named) -> bool
     ensures { result ≡ spec.condition_unknown named (option_map expr_view condition.now) }
 {
@@ -44,7 +45,7 @@ fn condition_unknown(condition: &Option<Expr>, named: Named) -> bool
     }
 }
 
-/// The same for the tag of a loop.
+/// Refuses the tag of a loop if it uses an unknown filter or test.
 fn check_loop(line: u32, over: &Expr, condition: &Option<Expr>) -> Result<(), ParseError>
     ensures { GivesNamesIn line (λ u. has_unknown u (expr_view over.now)
         || spec.condition_unknown u (option_map expr_view condition.now)) result }
@@ -54,7 +55,7 @@ fn check_loop(line: u32, over: &Expr, condition: &Option<Expr>) -> Result<(), Pa
     check_tag(line, filters, tests)
 }
 
-/// The same for a tag with values.
+/// Refuses the values of a tag if they use an unknown filter or test.
 fn check_values(line: u32, values: &[(String, Expr)]) -> Result<(), ParseError>
     ensures { GivesNamesIn line (λ u. pairs_have_unknown u (pairs_view values.now)) result }
 {
@@ -63,36 +64,37 @@ fn check_values(line: u32, values: &[(String, Expr)]) -> Result<(), ParseError>
     check_tag(line, filters, tests)
 }
 
-/// Whether such a name stands in a filter.
-fn filtering_unknown(filter: &Filtering, named: Named) -> bool
-    ensures { result ≡ spec.filtering_unknown named (filtering_view filter.now) }
+/// Returns whether a filter or its arguments contain an unknown name of this kind.
+fn filter_call_unknown(filter: &FilterCall, named: Named) -> bool
+    ensures { result ≡ spec.filter_call_unknown named (filter_call_view filter.now) }
 {
     is_filter_unknown(&filter.name, &filter.arguments, &filter.keywords, named)
         || any_unknown_argument(&filter.arguments, &filter.keywords, named)
 }
 
-/// Whether such a name stands in one of the filters.
-fn filterings_unknown(filters: &[Filtering], named: Named) -> bool
-    ensures { result ≡ spec.filterings_unknown named (filterings_view filters.now) }
+/// Returns whether one of the filters contains an unknown name of this kind.
+fn filter_calls_unknown(filters: &[FilterCall], named: Named) -> bool
+    ensures { result ≡ spec.filter_calls_unknown named (filter_calls_view filters.now) }
 {
     for filter in filters {
-        if filtering_unknown(filter, named) {
+        if filter_call_unknown(filter, named) {
             return true;
         }
     }
     false
 }
 
-/// The same for a filter tag.
-fn check_filters(line: u32, filters: &[Filtering]) -> Result<(), ParseError>
-    ensures { GivesNamesIn line (λ u. spec.filterings_unknown u (filterings_view filters.now)) result }
+/// Refuses a filter tag if it uses an unknown filter or test.
+fn check_filters(line: u32, filters: &[FilterCall]) -> Result<(), ParseError>
+    ensures { GivesNamesIn line
+        (λ u. spec.filter_calls_unknown u (filter_calls_view filters.now)) result }
 {
-    let unknown_filters = filterings_unknown(filters, Named::Filter);
-    let unknown_tests = filterings_unknown(filters, Named::Test);
+    let unknown_filters = filter_calls_unknown(filters, Named::Filter);
+    let unknown_tests = filter_calls_unknown(filters, Named::Test);
     check_tag(line, unknown_filters, unknown_tests)
 }
 
-/// Refuses the first tag of statements in which a name has no meaning.
+/// Refuses an unknown filter or test in statements, at the line of the first tag with one.
 #[cycle(names)]
 pub(crate) fn check_body(body: &[Stmt]) -> Result<(), ParseError>
     ensures { GivesNames (spec.body_unknown (body_view body.now)) result }
@@ -103,7 +105,7 @@ pub(crate) fn check_body(body: &[Stmt]) -> Result<(), ParseError>
     Ok(())
 }
 
-/// The same in the branches of a choice, and in what stands for none of them.
+/// Refuses an unknown filter or test in the branches of an `if` or in its `else` part.
 #[cycle(names)]
 fn check_choice(branches: &[Branch<Stmt>], other: &[Stmt]) -> Result<(), ParseError>
     ensures { GivesNames (option_or (spec.branch_unknown (branches_view branches.now))
@@ -120,7 +122,7 @@ fn check_choice(branches: &[Branch<Stmt>], other: &[Stmt]) -> Result<(), ParseEr
     check_body(other)
 }
 
-/// The same in a statement.
+/// Refuses an unknown filter or test in a statement, its nested statements included.
 #[cycle(names)]
 fn check_statement(statement: &Stmt) -> Result<(), ParseError>
     ensures { GivesNames (spec.stmt_unknown (stmt_view statement.now)) result }

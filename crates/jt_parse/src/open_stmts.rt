@@ -1,53 +1,54 @@
-//! Statements that are open.
+//! Open statements: those whose end has not been read yet.
 
 ghost use Rattle.std.specs.Prelude.{◌≡◌, ◌∷◌, [], List, bytes_eq, IfOk, MatchOption};
 ghost use Rattle.std.specs.Str.{chars};
-ghost use Rattle.jt_trees.specs.ExpressionView.{expr_view};
-ghost use Rattle.jt_trees.specs.Statements.{Body, choose, end};
+ghost use Rattle.jt_ast.specs.ExpressionView.{expr_view};
+ghost use Rattle.jt_ast.specs.Statements.{Body, choose, end};
 ghost use Rattle.jt_parse.specs.Tags as tags;
-ghost use Rattle.jt_parse.specs.Reading as reading;
-ghost use Rattle.jt_trees.specs.StatementView.{stmt_view, body_view, branches_view};
-ghost use Rattle.jt_parse.specs.HeadView.{loop_view, opening_view};
-ghost use Rattle.jt_parse.specs.Gives.{Opens, seen, open_stmt_view, open_stmt_by, open_stmts_view};
+ghost use Rattle.jt_parse.specs.internal.Reading as reading;
+ghost use Rattle.jt_ast.specs.StatementView.{stmt_view, body_view, branches_view};
+ghost use Rattle.jt_parse.specs.internal.HeadView.{loop_view, opening_view};
+ghost use Rattle.jt_parse.specs.internal.Gives.{Opens, seen, open_stmt_view, open_stmt_by};
+ghost use Rattle.jt_parse.specs.internal.Gives.{open_stmts_view};
 
 use crate::expression::is_name;
-use crate::heads::{Loop, Opening};
+use crate::opening_tags::{BlockStart, LoopHead};
+use jt_ast::{Branch, Expr, Stmt};
 use jt_scan::{Token, is_word};
-use jt_trees::{Branch, Expr, Stmt};
 use std::alloc::{AllocError, Global};
 use std::mem;
 
-/// What is open.
+/// The kind of an open statement, with what has been parsed of it.
 #[derive(Drop)]
 pub enum OpenKind {
     /// A branch of an `if`.
     Branch {
-        /// Those before it.
+        /// The branches before it.
         branches: Vec<Branch<Stmt>>,
         line: u32,
         condition: Expr,
     },
-    /// The else part of an `if` with these branches.
+    /// The `else` part of an `if` with these branches.
     Else(Vec<Branch<Stmt>>),
     /// A loop.
-    Loop(Loop),
-    /// The else part of a loop with this inside.
-    LoopElse(Loop, Vec<Stmt>),
-    /// Another statement.
-    Opening(Opening),
+    Loop(LoopHead),
+    /// The `else` part of a loop with this body.
+    LoopElse(LoopHead, Vec<Stmt>),
+    /// Another statement with a body.
+    BlockStart(BlockStart),
 }
 
-/// A statement that is open.
+/// An open statement.
 #[derive(Drop)]
 pub struct OpenStmt {
-    /// The statements before it.
+    /// The statements before it in the same body.
     pub before: Vec<Stmt>,
     /// The line of its first tag.
     pub line: u32,
     pub kind: OpenKind,
 }
 
-/// One statement behind the others.
+/// Appends a statement to a body.
 pub(crate) fn push_statement(body: &mut Vec<Stmt>, statement: Stmt) -> Result<(), AllocError>
     ensures { IfOk result (λ u. body_view body.new.items
         ≡ reading.then_one (body_view body.old.items) (stmt_view statement)) }
@@ -56,7 +57,7 @@ pub(crate) fn push_statement(body: &mut Vec<Stmt>, statement: Stmt) -> Result<()
     Ok(())
 }
 
-/// One branch behind the others.
+/// Appends a branch.
 pub(crate) fn push_branch(
     branches: &mut Vec<Branch<Stmt>>,
     line: u32,
@@ -74,7 +75,7 @@ pub(crate) fn push_branch(
     Ok(())
 }
 
-/// Takes the innermost open statement.
+/// Pops the innermost open statement.
 pub(crate) fn pop_open_stmt(open_stmts: &mut Vec<OpenStmt>) -> Option<OpenStmt>
     ensures { MatchOption result (open_stmts_view open_stmts.old.items ≡ [])
         (λ f. Opens f open_stmts.new.items open_stmts.old.items) }
@@ -82,7 +83,7 @@ pub(crate) fn pop_open_stmt(open_stmts: &mut Vec<OpenStmt>) -> Option<OpenStmt>
     open_stmts.pop()
 }
 
-/// One open statement more.
+/// Pushes an open statement, which becomes the innermost one.
 pub(crate) fn push_open_stmt(
     open_stmts: &mut Vec<OpenStmt>,
     open_stmt: OpenStmt,
@@ -93,19 +94,19 @@ pub(crate) fn push_open_stmt(
     Ok(())
 }
 
-/// The statement of branches and an else part.
+/// Builds an `if` from its branches and its `else` part.
 fn if_statement(branches: Vec<Branch<Stmt>>, other: Vec<Stmt>) -> Stmt
     ensures { stmt_view result ≡ choose (branches_view branches.items) (body_view other.items) }
 {
     Stmt::If(branches, other)
 }
 
-/// A loop with an else part.
-fn for_statement(line: u32, head: Loop, body: Vec<Stmt>, other: Vec<Stmt>) -> Stmt
+/// Builds a loop from its first tag, its body and its `else` part.
+fn for_statement(line: u32, head: LoopHead, body: Vec<Stmt>, other: Vec<Stmt>) -> Stmt
     ensures { stmt_view result
         ≡ tags.looped line (loop_view head) (body_view body.items) (body_view other.items) }
 {
-    let Loop {
+    let LoopHead {
         targets,
         over,
         condition,
@@ -120,30 +121,30 @@ fn for_statement(line: u32, head: Loop, body: Vec<Stmt>, other: Vec<Stmt>) -> St
     }
 }
 
-/// Another statement with this inside.
-fn enclosing(line: u32, opening: Opening, body: Vec<Stmt>) -> Stmt
+/// Builds a statement from its first tag and its body.
+fn enclosing(line: u32, opening: BlockStart, body: Vec<Stmt>) -> Stmt
     ensures { stmt_view result ≡ tags.made line (opening_view opening) (body_view body.items) }
 {
     match opening {
-        Opening::Text(name) => Stmt::SetBlock { line, name, body },
-        Opening::Values(values) => Stmt::With { line, values, body },
-        Opening::Filters(filters) => Stmt::FilterBlock {
+        BlockStart::Text(name) => Stmt::SetBlock { line, name, body },
+        BlockStart::Values(values) => Stmt::With { line, values, body },
+        BlockStart::Filters(filters) => Stmt::FilterBlock {
             line,
             filters,
             body,
         },
-        Opening::Escaping(escaping) => Stmt::Autoescape {
+        BlockStart::Escaping(escaping) => Stmt::Autoescape {
             line,
             escaping,
             body,
         },
-        Opening::Macro(name, parameters) => Stmt::Macro {
+        BlockStart::Macro(name, parameters) => Stmt::Macro {
             line,
             name,
             parameters,
             body,
         },
-        Opening::Block {
+        BlockStart::Block {
             name,
             scoped,
             required,
@@ -157,7 +158,7 @@ fn enclosing(line: u32, opening: Opening, body: Vec<Stmt>) -> Stmt
     }
 }
 
-/// The statement of branches whose last one ends, with no else part.
+/// Builds an `if` without an `else` part. Its last branch is given by line, condition and body.
 fn ended_branch(
     alloc: Global,
     branches: Vec<Branch<Stmt>>,
@@ -173,7 +174,7 @@ fn ended_branch(
     Ok(if_statement(branches, Vec::new(alloc)))
 }
 
-/// The statement that ends.
+/// Builds the statement that an open statement and its last body make.
 fn finished(alloc: Global, line: u32, kind: OpenKind, body: Vec<Stmt>) -> Result<Stmt, AllocError>
     ensures { (before : Body) → IfOk result (λ s. stmt_view s
         ≡ reading.finished (body_view body.items) (open_stmt_by before line kind)) }
@@ -187,12 +188,12 @@ fn finished(alloc: Global, line: u32, kind: OpenKind, body: Vec<Stmt>) -> Result
         OpenKind::Else(branches) => Ok(if_statement(branches, body)),
         OpenKind::Loop(head) => Ok(for_statement(line, head, body, Vec::new(alloc))),
         OpenKind::LoopElse(head, inside) => Ok(for_statement(line, head, inside, body)),
-        OpenKind::Opening(opening) => Ok(enclosing(line, opening, body)),
+        OpenKind::BlockStart(opening) => Ok(enclosing(line, opening, body)),
     }
 }
 
-/// Ends an open statement, whose statements are given: they become those before it, with the one
-/// that ends behind them.
+/// Ends an open statement with the given body. `body` becomes the statements before it, followed by
+/// the statement that ends.
 pub(crate) fn close_open_stmt(
     alloc: Global,
     open_stmt: OpenStmt,
@@ -208,7 +209,7 @@ pub(crate) fn close_open_stmt(
     push_statement(body, statement)
 }
 
-/// The line of the innermost open statement, if one is open.
+/// Returns the line of the innermost open statement, if there is one.
 pub(crate) fn unclosed(open_stmts: Vec<OpenStmt>) -> Option<u32>
     ensures { MatchOption result (open_stmts_view open_stmts.items ≡ [])
         (λ l. (f : reading.OpenStmt) × (fs : List reading.OpenStmt)
@@ -225,32 +226,32 @@ pub(crate) fn unclosed(open_stmts: Vec<OpenStmt>) -> Option<u32>
     }
 }
 
-/// Whether the tokens behind the word end a statement: there are none, or a block's name.
-fn names_end(opening: &Opening, tokens: &[Token<'_>]) -> bool
+/// Returns whether an end tag may have these tokens after its word: none, or the name of its block.
+fn names_end(opening: &BlockStart, tokens: &[Token<'_>]) -> bool
     ensures { result ≡ reading.names_end (opening_view opening.now) (seen tokens.now) }
 {
     match (opening, tokens) {
         (_, []) => true,
-        (Opening::Block { name, .. }, [Token::Name(found)]) => is_name(found, name),
+        (BlockStart::Block { name, .. }, [Token::Name(found)]) => is_name(found, name),
         _ => false,
     }
 }
 
-/// Whether the word ends a statement.
-fn is_end_of(opening: &Opening, word: &str) -> bool
+/// Returns whether a word ends a statement with this first tag.
+fn is_end_of(opening: &BlockStart, word: &str) -> bool
     ensures { result ≡ bytes_eq (chars word.now) (tags.end_word (opening_view opening.now)) }
 {
     match opening {
-        Opening::Text(_) => is_word(word, "endset"),
-        Opening::Values(_) => is_word(word, "endwith"),
-        Opening::Filters(_) => is_word(word, "endfilter"),
-        Opening::Escaping(_) => is_word(word, "endautoescape"),
-        Opening::Macro(_, _) => is_word(word, "endmacro"),
-        Opening::Block { .. } => is_word(word, "endblock"),
+        BlockStart::Text(_) => is_word(word, "endset"),
+        BlockStart::Values(_) => is_word(word, "endwith"),
+        BlockStart::Filters(_) => is_word(word, "endfilter"),
+        BlockStart::Escaping(_) => is_word(word, "endautoescape"),
+        BlockStart::Macro(_, _) => is_word(word, "endmacro"),
+        BlockStart::Block { .. } => is_word(word, "endblock"),
     }
 }
 
-/// Whether the tag with this word ends the open statement.
+/// Returns whether the tag with this word and these tokens ends an open statement.
 pub(crate) fn ends_open_stmt(open_stmt: &OpenStmt, word: &str, tokens: &[Token<'_>]) -> bool
     ensures { result ≡ reading.ends_open_stmt (chars word.now) (seen tokens.now)
         (open_stmt_view open_stmt.now) }
@@ -259,11 +260,11 @@ pub(crate) fn ends_open_stmt(open_stmt: &OpenStmt, word: &str, tokens: &[Token<'
         OpenKind::Branch { .. } | OpenKind::Else(_) => is_word(word, "endif") && tokens.is_empty(),
         OpenKind::Loop(_) | OpenKind::LoopElse(_, _) => is_word(word, "endfor")
             && tokens.is_empty(),
-        OpenKind::Opening(opening) => is_end_of(opening, word) && names_end(opening, tokens),
+        OpenKind::BlockStart(opening) => is_end_of(opening, word) && names_end(opening, tokens),
     }
 }
 
-/// Whether the word ends some statement.
+/// Returns whether a word ends some kind of statement.
 pub(crate) fn is_end_word(word: &str) -> bool
     ensures { result ≡ reading.is_end_word (chars word.now) }
 {

@@ -1,59 +1,64 @@
-//! The tree that the segments of a template spell.
+//! Parses segments into a syntax tree.
 //!
-//! The segments are read one after the other, and each statement that is open is kept in a row of
-//! open statements, so that no source, however deep, reaches the end of the stack.
+//! The parser reads the segments in order and keeps a stack of open statements. It does not recurse
+//! into statements, so that a deeply nested source does not exhaust the call stack.
 
-ghost use Rattle.std.specs.Prelude.{◌≡◌, ◌≤◌, ◌-◌, suc, length, nat_lt, None, true, false, [], ◌∷◌, IfOk, IfErr, MatchResult};
+ghost use Rattle.std.specs.Prelude.{◌≡◌, ◌≤◌, ◌-◌, suc, length, nat_lt, None, true, false, [], ◌∷◌};
+ghost use Rattle.std.specs.Prelude.{IfOk, IfErr, MatchResult};
 ghost use Rattle.std.specs.Str.{chars};
 ghost use Rattle.jt_scan.specs.Cut.{weight_of};
 ghost use Rattle.jt_scan.specs.View.{segment_view, cut_of};
 ghost use Rattle.jt_parse.specs.Names.{body_unknown};
-ghost use Rattle.jt_trees.specs.Statements as trees;
-ghost use Rattle.jt_trees.specs.Statements.{Body, body_levels, body_weight};
-ghost use Rattle.jt_trees.specs.Sizes.{body_bytes};
+ghost use Rattle.jt_ast.specs.Statements as trees;
+ghost use Rattle.jt_ast.specs.Statements.{Body, body_levels, body_weight};
+ghost use Rattle.jt_ast.specs.Sizes.{body_bytes};
 ghost use Rattle.jt_parse.specs.Bytes.{bytes_of};
 ghost use Rattle.jt_parse.specs.Grammar.{Spelled};
 ghost use Rattle.jt_parse.specs.Kept as kept;
-ghost use Rattle.jt_parse.specs.Reading as reading;
-ghost use Rattle.jt_parse.specs.Reading.{HeadTag, PrintTag};
-ghost use Rattle.jt_trees.specs.StatementView.{body_of};
+ghost use Rattle.jt_parse.specs.internal.Reading as reading;
+ghost use Rattle.jt_parse.specs.internal.Reading.{HeadTag, PrintTag};
+ghost use Rattle.jt_ast.specs.StatementView.{body_of};
 ghost use Rattle.jt_parse.specs.View.{pieces_of};
-ghost use Rattle.jt_parse.specs.HeadView.{head_view};
-ghost use Rattle.jt_parse.specs.SideView.{side_view};
-ghost use Rattle.jt_parse.specs.Gives.{GivesState, GivesBody, GivesKnown, Moves, RunsOver, body_in, open_in, seen, open_stmt_by, open_stmt_view, open_stmts_view, state_view};
+ghost use Rattle.jt_parse.specs.internal.HeadView.{head_view};
+ghost use Rattle.jt_parse.specs.internal.SideView.{side_view};
+ghost use Rattle.jt_parse.specs.internal.Gives.{GivesState, GivesBody, GivesKnown, Moves, RunsOver};
+ghost use Rattle.jt_parse.specs.internal.Gives.{body_in};
+ghost use Rattle.jt_parse.specs.internal.Gives.{open_in, seen, open_stmt_by, open_stmt_view};
+ghost use Rattle.jt_parse.specs.internal.Gives.{open_stmts_view, state_view};
 ghost use Rattle.jt_parse.specs.Refusals.{IsRefusal, max_levels};
 ghost use Rattle.jt_parse.specs.declared.error.ParseError.TheVariants as error;
 
 use crate::error::ParseError;
 use crate::expression::{expression, head};
-use crate::heads::Head;
-use crate::kept::{Side, kept, side_ahead, side_behind};
+use crate::kept::{Neighbour, kept, side_ahead, side_behind};
 use crate::names::check_body;
 use crate::open_stmts::{
     OpenKind, OpenStmt, close_open_stmt, ends_open_stmt, is_end_word, pop_open_stmt, push_branch,
     push_open_stmt, push_statement, unclosed,
 };
+use crate::opening_tags::Head;
 use crate::positions::check_positions;
+use jt_ast::{Stmt, Template};
 use jt_expr::{copy_of, expression_laws};
-use jt_scan::{Part, Segment, TagKind, Token, is_word};
-use jt_trees::{Stmt, Template};
+use jt_scan::{Segment, SegmentKind, TagKind, Token, is_word};
 use std::alloc::{AllocError, Global};
 use std::mem;
 
-/// How many levels of statements and expressions a template may have.
+/// The greatest number of levels of statements and expressions in a template.
 const MAX_LEVELS: usize = 100;
 
-/// What is read so far.
+/// The state of the parser: the finished statements and the stack of open ones.
 #[derive(Drop)]
 struct Parser {
     alloc: Global,
-    /// The statements of the innermost part that is open.
+    /// The statements of the innermost open body.
     body: Vec<Stmt>,
-    /// The open statements, the innermost last.
+    /// The open statements; the innermost one is last.
     open_stmts: Vec<OpenStmt>,
 }
 
-/// How many levels an expression may have in a statement with so many others around it.
+/// Returns how many levels an expression may have inside a statement that `outer` statements
+/// enclose.
 fn levels_left(outer: usize, line: u32) -> Result<u8, ParseError>
     ensures left { IfOk result
         (λ n. (n ≡ max_levels - suc outer) × (nat_lt outer max_levels ≡ true)) }
@@ -68,14 +73,14 @@ fn levels_left(outer: usize, line: u32) -> Result<u8, ParseError>
 }
 
 impl Parser {
-    /// The number of open statements.
+    /// Returns the number of open statements.
     fn depth(&self) -> usize
         ensures { result ≡ length (open_in self.now) }
     {
         self.open_stmts.len()
     }
 
-    /// `{{ e }}`
+    /// Reads `{{ e }}`.
     fn print_tag(&mut self, line: u32, tokens: &[Token<'_>]) -> Result<(), ParseError>
         ensures { Moves (PrintTag max_levels line (seen tokens.now)) self.old result self.new }
     {
@@ -85,7 +90,7 @@ impl Parser {
         Ok(())
     }
 
-    /// One open statement more.
+    /// Opens a statement.
     fn open(&mut self, line: u32, kind: OpenKind) -> Result<(), AllocError>
         ensures { IfOk result (λ u. state_view self.new ≡ reading.state trees.end
             (open_stmt_by (body_in self.old) line kind ∷ open_in self.old)) }
@@ -94,7 +99,7 @@ impl Parser {
         push_open_stmt(&mut self.open_stmts, OpenStmt { before, line, kind })
     }
 
-    /// What follows the first tag of a statement.
+    /// Adds the statement that a first tag makes, or opens it if it has a body.
     fn headed(&mut self, line: u32, head: Head) -> Result<(), AllocError>
         ensures { IfOk result (λ u.
             state_view self.new ≡ reading.headed line (head_view head) (state_view self.old)) }
@@ -111,11 +116,11 @@ impl Parser {
                 self.open(line, kind)
             }
             Head::Loop(head) => self.open(line, OpenKind::Loop(head)),
-            Head::Opening(opening) => self.open(line, OpenKind::Opening(opening)),
+            Head::BlockStart(opening) => self.open(line, OpenKind::BlockStart(opening)),
         }
     }
 
-    /// The first tag of a statement.
+    /// Reads the first tag of a statement.
     fn head_tag(&mut self, line: u32, word: &str, tokens: &[Token<'_>]) -> Result<(), ParseError>
         ensures { Moves (HeadTag max_levels line (chars word.now) (seen tokens.now)) self.old
             result self.new }
@@ -126,7 +131,7 @@ impl Parser {
         Ok(())
     }
 
-    /// `{% elif c %}`
+    /// Reads `{% elif c %}`.
     fn elif_tag(&mut self, line: u32, tokens: &[Token<'_>]) -> Result<(), ParseError>
         ensures { GivesState (reading.ElifTag max_levels line (seen tokens.now)
             (body_in self.old) (open_in self.old)) result self.new }
@@ -164,7 +169,7 @@ impl Parser {
         Ok(())
     }
 
-    /// What the else part of an open statement is read in.
+    /// Begins the `else` part of the innermost open statement.
     fn else_by(&mut self, line: u32) -> Result<(), ParseError>
         ensures { GivesState (λ o. o ≡ reading.else_by (body_in self.old) (open_in self.old)) result
             self.new }
@@ -202,8 +207,8 @@ impl Parser {
         Ok(())
     }
 
-    /// `{% else %}`
-    #[tactic(auto, unfolding(crate::specs::Reading::else_tag))]
+    /// Reads `{% else %}`.
+    #[tactic(auto, unfolding(crate::specs::internal::Reading::else_tag))]
     fn else_tag(&mut self, line: u32, tokens: &[Token<'_>]) -> Result<(), ParseError>
         ensures { GivesState (λ o. o ≡ reading.else_tag (seen tokens.now)
             (body_in self.old) (open_in self.old)) result self.new }
@@ -214,8 +219,8 @@ impl Parser {
         self.else_by(line)
     }
 
-    /// A tag that may end the statement that was open innermost.
-    #[tactic(auto, unfolding(crate::specs::Reading::end_tag))]
+    /// Ends the given open statement, and refuses a tag that does not end it.
+    #[tactic(auto, unfolding(crate::specs::internal::Reading::end_tag))]
     fn close(
         &mut self,
         open_stmt: OpenStmt,
@@ -233,8 +238,8 @@ impl Parser {
         Ok(close_open_stmt(self.alloc, open_stmt, &mut self.body)?)
     }
 
-    /// A tag that ends a statement.
-    #[tactic(auto, unfolding(crate::specs::Reading::end_tag))]
+    /// Reads an end tag, which must end the innermost open statement.
+    #[tactic(auto, unfolding(crate::specs::internal::Reading::end_tag))]
     fn end_tag(&mut self, line: u32, word: &str, tokens: &[Token<'_>]) -> Result<(), ParseError>
         ensures { GivesState (λ o. o ≡ reading.end_tag (chars word.now) (seen tokens.now)
             (body_in self.old) (open_in self.old)) result self.new }
@@ -245,8 +250,8 @@ impl Parser {
         }
     }
 
-    /// A block tag, by its first word.
-    #[tactic(auto, unfolding(crate::specs::Reading::role))]
+    /// Reads a block tag, given its first word.
+    #[tactic(auto, unfolding(crate::specs::internal::Reading::role))]
     fn block_tag(&mut self, line: u32, word: &str, tokens: &[Token<'_>]) -> Result<(), ParseError>
         ensures { Moves (reading.BlockTag (reading.role (chars word.now)) max_levels line
             (chars word.now) (seen tokens.now)) self.old result self.new }
@@ -262,7 +267,7 @@ impl Parser {
         }
     }
 
-    /// A tag.
+    /// Reads a variable or block tag.
     fn tag(&mut self, kind: TagKind, line: u32, tokens: &[Token<'_>]) -> Result<(), ParseError>
         ensures { GivesState (reading.Steps max_levels (state_view self.old)
             (kept.tag kind line (seen tokens.now))) result self.new }
@@ -276,7 +281,7 @@ impl Parser {
         }
     }
 
-    /// What is left of a text.
+    /// Adds a trimmed text, unless it is empty.
     fn text(&mut self, text: &str) -> Result<(), ParseError>
         ensures { RunsOver (kept.with_text (chars text.now) []) self.old result self.new }
     {
@@ -288,26 +293,31 @@ impl Parser {
         Ok(())
     }
 
-    /// One segment, between two sides.
-    fn step(&mut self, segment: &Segment<'_>, left: Side, right: Side) -> Result<(), ParseError>
+    /// Reads one segment between two neighbours.
+    fn step(
+        &mut self,
+        segment: &Segment<'_>,
+        left: Neighbour,
+        right: Neighbour,
+    ) -> Result<(), ParseError>
         ensures { RunsOver (kept.with_segment segment.now.options (side_view left) (side_view right)
             (segment_view segment.now) []) self.old result self.new }
     {
         let options = segment.options;
         match &segment.part {
-            Part::Data(text) => self.text(kept(text, options, left, right)),
-            Part::Tag(tag) => self.tag(tag.kind, tag.line, &tag.tokens),
-            Part::Comment(_, _) => Ok(()),
-            Part::Raw(marks, text, ends) => {
-                let left = Side::Block(marks.closing);
-                let right = Side::Block(ends.opening);
+            SegmentKind::Data(text) => self.text(kept(text, options, left, right)),
+            SegmentKind::Tag(tag) => self.tag(tag.kind, tag.line, &tag.tokens),
+            SegmentKind::Comment(_, _) => Ok(()),
+            SegmentKind::Raw(marks, text, ends) => {
+                let left = Neighbour::Block(marks.closing);
+                let right = Neighbour::Block(ends.opening);
                 self.text(kept(text, options, left, right))
             }
         }
     }
 }
 
-/// The tree that all the segments spell, as the reader has it.
+/// Parses all segments into statements.
 fn read(alloc: Global, segments: &[Segment<'_>]) -> Result<Vec<Stmt>, ParseError>
     ensures { GivesBody (reading.Parsed max_levels (pieces_of segments.now)) result }
 {
@@ -316,7 +326,7 @@ fn read(alloc: Global, segments: &[Segment<'_>]) -> Result<Vec<Stmt>, ParseError
         body: Vec::new(alloc),
         open_stmts: Vec::new(alloc),
     };
-    let mut left = Side::Nothing;
+    let mut left = Neighbour::Nothing;
     let mut rest = segments;
     'segments: while let [segment, behind @ ..] = rest {
         parser.step(segment, left, side_ahead(behind))?;
@@ -329,7 +339,7 @@ fn read(alloc: Global, segments: &[Segment<'_>]) -> Result<Vec<Stmt>, ParseError
     }
 }
 
-/// The same, if each statement stands where it may, and each filter and each test has a meaning.
+/// As `read`, but also checks the positions of statements and the names of filters and tests.
 fn read_known(alloc: Global, segments: &[Segment<'_>]) -> Result<Template, ParseError>
     ensures { GivesKnown (reading.Parsed max_levels (pieces_of segments.now)) result }
 {
@@ -339,22 +349,35 @@ fn read_known(alloc: Global, segments: &[Segment<'_>]) -> Result<Template, Parse
     Ok(Template::new(body))
 }
 
-/// The tree that the segments spell, with what the whitespace rules leave of the text between tags,
-/// in which each filter and each test has a meaning. P1 Syntax, where no tree is spelled so, P2
-/// TooDeep, where each has more than 100 levels, P3 UnknownFilter or P4 UnknownTest,
-/// where the tree has a name without a meaning, or P5 NoMemory, where a growth was refused. The
-/// line is that of the tag in which the fault was found, and of a statement that is never closed
-/// its first tag's.
+/// Parses the segments of a template. The text between tags is trimmed, and each filter and each
+/// test is known.
+///
+/// # Errors
+///
+/// Each error but `NoMemory` has the line of the tag with the error. For a statement that is never
+/// closed, it is the line of its first tag.
+///
+/// - `Syntax` if the segments spell no tree.
+/// - `TooDeep` if each tree that they spell has more than 100 levels.
+/// - `UnknownFilter` if the first tag with an unknown name has an unknown filter.
+/// - `UnknownTest` if the first tag with an unknown name has an unknown test, but no unknown
+///   filter.
+/// - `NoMemory` if a growth is refused.
 pub fn parse(alloc: Global, segments: &[Segment<'_>]) -> Result<Template, ParseError>
-    ensures spelled { IfOk result (λ t.
-        Spelled (body_of t) (pieces_of segments.now) × (body_levels (body_of t) ≤ max_levels)) }
-    ensures known { IfOk result (λ t. body_unknown (body_of t) ≡ None) }
-    ensures only { (b : Body) → Spelled b (pieces_of segments.now) → body_levels b ≤ max_levels
-        → body_unknown b ≡ None
-        → MatchResult result (λ t. body_of t ≡ b) (λ e. e ≡ error.NoMemory) }
+    ensures spelled { IfOk result (λ template.
+        Spelled (body_of template) (pieces_of segments.now)
+        × (body_levels (body_of template) ≤ max_levels)) }
+    ensures known { IfOk result (λ template. body_unknown (body_of template) ≡ None) }
+    ensures only { (body : Body)
+        → Spelled body (pieces_of segments.now)
+        → body_levels body ≤ max_levels
+        → body_unknown body ≡ None
+        → MatchResult result (λ template. body_of template ≡ body) (λ e. e ≡ error.NoMemory) }
     ensures refused { IfErr result (λ e. IsRefusal e (pieces_of segments.now)) }
-    ensures weighs { IfOk result (λ t. body_weight (body_of t) ≤ weight_of (cut_of segments.now)) }
-    ensures short { IfOk result (λ t. body_bytes (body_of t) ≤ bytes_of (cut_of segments.now)) }
+    ensures weighs { IfOk result
+        (λ template. body_weight (body_of template) ≤ weight_of (cut_of segments.now)) }
+    ensures short { IfOk result
+        (λ template. body_bytes (body_of template) ≤ bytes_of (cut_of segments.now)) }
 {
     expression_laws();
     read_known(alloc, segments)

@@ -1,30 +1,30 @@
-//! Where statements may stand.
+//! Checks the positions of statements.
 
 ghost use Rattle.std.specs.Prelude.{◌≡◌, ◌&&◌, not, true, false};
 ghost use Rattle.std.specs.Result.{is_ok};
 ghost use Rattle.jt_scan.specs.Cut as cut;
 ghost use Rattle.jt_parse.specs.Positions as spec;
-ghost use Rattle.jt_parse.specs.Gives.{GivesPositions};
-ghost use Rattle.jt_trees.specs.StatementView.{stmt_view, body_view, branches_view};
-ghost use Rattle.jt_parse.specs.PositionView.{position_view};
+ghost use Rattle.jt_parse.specs.internal.Gives.{GivesPositions};
+ghost use Rattle.jt_ast.specs.StatementView.{stmt_view, body_view, branches_view};
+ghost use Rattle.jt_parse.specs.internal.PositionView.{position_view};
 
 use crate::error::ParseError;
-use jt_trees::{Branch, Stmt};
+use jt_ast::{Branch, Stmt};
 
-/// Where a statement stands.
+/// The position of a statement, as far as it restricts which statements are allowed.
 #[derive(Clone, Copy, PartialEq, Eq)]
 pub enum Position {
-    /// At the top of a template that extends another.
+    /// The top level of a template that extends another one.
     ChildTop,
-    /// At the top of one that does not.
+    /// The top level of a template that extends none.
     RootTop,
-    /// Inside a macro.
+    /// The inside of a macro.
     InMacro,
-    /// Anywhere else.
+    /// Any other position.
     Inside,
 }
 
-/// Inside a statement that stands there.
+/// Returns the position of the statements inside a statement at this position.
 fn within(position: Position) -> Position
     ensures { position_view result ≡ spec.within (position_view position) }
 {
@@ -34,35 +34,35 @@ fn within(position: Position) -> Position
     }
 }
 
-/// Whether a statement of a child stands outside its blocks.
+/// Returns whether the position is at the top level of a child template, outside its blocks.
 fn is_child(position: Position) -> bool
     ensures { result ≡ spec.is_child (position_view position) }
 {
     position == Position::ChildTop
 }
 
-/// Whether a macro or an import may stand there.
+/// Returns whether a macro or an import is allowed at this position.
 fn is_top(position: Position) -> bool
     ensures { result ≡ spec.is_top (position_view position) }
 {
     matches!(position, Position::ChildTop | Position::RootTop)
 }
 
-/// Whether it is inside a macro.
+/// Returns whether the position is inside a macro.
 fn is_macro(position: Position) -> bool
     ensures { result ≡ spec.is_macro (position_view position) }
 {
     position == Position::InMacro
 }
 
-/// Whether a byte is whitespace.
+/// Returns whether a byte is whitespace.
 fn is_space(b: u8) -> bool
     ensures { result ≡ cut.is_space b }
 {
     b == b' ' || b == b'\t' || b == b'\n' || b == 0x0b || b == 0x0c || b == b'\r'
 }
 
-/// Whether there is only whitespace in a text.
+/// Returns whether a text consists of whitespace.
 fn is_blank_text(text: &str) -> bool
     ensures { result ≡ spec.is_blank_text text.now }
 {
@@ -74,7 +74,7 @@ fn is_blank_text(text: &str) -> bool
     true
 }
 
-/// Whether a statement is whitespace.
+/// Returns whether a statement is text that consists of whitespace.
 fn is_blank(statement: &Stmt) -> bool
     ensures { result ≡ spec.is_blank_stmt (stmt_view statement.now) }
 {
@@ -84,7 +84,7 @@ fn is_blank(statement: &Stmt) -> bool
     }
 }
 
-/// Whether there is only whitespace in statements.
+/// Returns whether statements consist of whitespace.
 fn is_blank_body(body: &[Stmt]) -> bool
     ensures { result ≡ spec.is_blank_body (body_view body.now) }
 {
@@ -96,19 +96,19 @@ fn is_blank_body(body: &[Stmt]) -> bool
     true
 }
 
-/// The line of the tag, where it may not stand.
+/// Refuses the tag of a line unless it is allowed.
 fn allow(allowed: bool, line: u32) -> Result<(), u32>
     ensures { is_ok result ≡ allowed }
 {
     if allowed { Ok(()) } else { Err(line) }
 }
 
-/// The line of the first of some branches.
+/// Returns the line of the first branch, or 1 if there is no branch.
 fn first_line(branches: &[Branch<Stmt>]) -> u32 {
     branches.first().map_or(1, |branch| branch.line)
 }
 
-/// The line of the first statement that stands where it may not, if there is one.
+/// Checks the positions of statements. The error is the line of the first one that is not allowed.
 #[cycle(positions)]
 fn body_placed(body: &[Stmt], position: Position) -> Result<(), u32>
     ensures { is_ok result ≡ spec.body_placed (position_view position) (body_view body.now) }
@@ -119,7 +119,7 @@ fn body_placed(body: &[Stmt], position: Position) -> Result<(), u32>
     Ok(())
 }
 
-/// The same of the branches of a choice, and of what stands for none of them.
+/// Checks the positions of the statements in the branches of an `if` and in its `else` part.
 #[cycle(positions)]
 fn choice_placed(branches: &[Branch<Stmt>], other: &[Stmt], position: Position) -> Result<(), u32>
     ensures { is_ok result
@@ -132,7 +132,8 @@ fn choice_placed(branches: &[Branch<Stmt>], other: &[Stmt], position: Position) 
     body_placed(other, position)
 }
 
-/// The same of a tag that no child has outside its blocks, and of what stands inside it.
+/// Checks a tag that a child template may not have outside its blocks, and the statements in its
+/// body.
 #[cycle(positions)]
 fn inside_placed(line: u32, body: &[Stmt], position: Position) -> Result<(), u32>
     ensures { is_ok result
@@ -143,7 +144,7 @@ fn inside_placed(line: u32, body: &[Stmt], position: Position) -> Result<(), u32
     body_placed(body, within(position))
 }
 
-/// The same of a statement and those inside.
+/// Checks the positions of a statement and of the statements nested in it.
 #[cycle(positions)]
 fn statement_placed(statement: &Stmt, position: Position) -> Result<(), u32>
     ensures { is_ok result ≡ spec.stmt_placed (position_view position) (stmt_view statement.now) }
@@ -187,7 +188,7 @@ fn statement_placed(statement: &Stmt, position: Position) -> Result<(), u32>
     }
 }
 
-/// The same of the statements of a template.
+/// Checks the positions of the statements of a template.
 fn template_placed(body: &[Stmt]) -> Result<(), u32>
     ensures { is_ok result ≡ spec.is_placed (body_view body.now) }
 {
@@ -210,7 +211,7 @@ fn template_placed(body: &[Stmt]) -> Result<(), u32>
     Ok(())
 }
 
-/// Refuses a template whose statements do not all stand where they may.
+/// Refuses a template with a statement at a position where it is not allowed.
 pub(crate) fn check_positions(body: &[Stmt]) -> Result<(), ParseError>
     ensures { GivesPositions (spec.is_placed (body_view body.now)) result }
 {

@@ -1,30 +1,41 @@
-//! The tags of statements, read token by token.
+//! Reads the first tags of statements, token by token.
 
 ghost use Rattle.std.specs.Prelude.{◌≡◌, ℕ, [], map, option_map, string_bytes, codes};
 ghost use Rattle.std.specs.Str.{chars};
 ghost use Rattle.jt_scan.specs.View.{token_view};
 ghost use Rattle.jt_scan.specs.declared.segment.Sign.TheVariants as sign;
-ghost use Rattle.jt_trees.specs.Expressions.{levels as tree_levels};
+ghost use Rattle.jt_ast.specs.Expressions.{levels as tree_levels};
 ghost use Rattle.jt_expr.specs.Grammar.{whole, Spells};
 ghost use Rattle.jt_expr.specs.Promises.{EndsAt, OpensNone, level_of_form};
-ghost use Rattle.jt_trees.specs.ExpressionView.{expr_view, literal_view};
+ghost use Rattle.jt_ast.specs.ExpressionView.{expr_view, literal_view};
 ghost use Rattle.jt_expr.specs.Cursor.{ahead};
 ghost use Rattle.jt_scan.specs.Words.{letters_of};
-ghost use Rattle.jt_trees.specs.Statements.{condition_levels};
-ghost use Rattle.jt_parse.specs.Tags.{Separated, IsName, IsValue, IsFiltering, IsParameter, IsImported};
+ghost use Rattle.jt_ast.specs.Statements.{condition_levels};
+ghost use Rattle.jt_parse.specs.Tags.{Separated, IsName, IsValue, IsFilterCall, IsParameter};
+ghost use Rattle.jt_parse.specs.Tags.{IsImported};
 ghost use Rattle.jt_parse.specs.Tags.{Parameters, Condition, Context, missing_words, defaults_last};
-ghost use Rattle.jt_parse.specs.Readers.{TakesForm, TakesFlat, TakesHead};
-ghost use Rattle.jt_parse.specs.Readers.{Anything, GivesPair, GivesText, IsDefault, IsGiven, IsLiteral, IsText, IsWithout, NoImported, NoParameter, NoSign, NoToken, NoWord, ReadsHead, TakesWord, most, one_filtering_levels, value_levels};
-ghost use Rattle.jt_trees.specs.StatementView.{is_ignored, are_seen, names_view, given_view, filtering_view, filterings_view, parameter_view, parameters_view};
-ghost use Rattle.jt_parse.specs.HeadView.{value_view, values_view, imported_view};
+ghost use Rattle.jt_parse.specs.internal.Readers.{TakesForm, TakesFlat, TakesHead};
+ghost use Rattle.jt_parse.specs.internal.Readers.{Anything, GivesPair, GivesText, IsDefault};
+ghost use Rattle.jt_parse.specs.internal.Readers.{IsGiven};
+ghost use Rattle.jt_parse.specs.internal.Readers.{IsLiteral, IsText, IsWithout, NoImported};
+ghost use Rattle.jt_parse.specs.internal.Readers.{NoParameter};
+ghost use Rattle.jt_parse.specs.internal.Readers.{NoSign, NoToken, NoWord, ReadsHead, TakesWord};
+ghost use Rattle.jt_parse.specs.internal.Readers.{most};
+ghost use Rattle.jt_parse.specs.internal.Readers.{one_filter_call_levels, value_levels};
+ghost use Rattle.jt_ast.specs.StatementView.{is_ignored, passes_context, names_view, given_view};
+ghost use Rattle.jt_ast.specs.StatementView.{filter_call_view, filter_calls_view, parameter_view};
+ghost use Rattle.jt_ast.specs.StatementView.{parameters_view};
+ghost use Rattle.jt_parse.specs.internal.HeadView.{value_view, values_view, imported_view};
 
-use crate::heads::{Head, Loop, Opening};
-use jt_expr::{Cursor, ExprError, Form, Part, Parts, arguments, copy_of, literal_of, read};
+use crate::opening_tags::{BlockStart, Head, LoopHead};
+use jt_ast::{Expr, FilterCall, IncludeContext, Literal, Missing, Parameter, Stmt};
+use jt_expr::{
+    Cursor, ExprError, LeveledExpr, LeveledList, NestedForm, arguments, copy_of, literal_of, read,
+};
 use jt_scan::{Sign, Token, is_word, text_value};
-use jt_trees::{Expr, Filtering, Literal, Missing, NamesAround, Parameter, Stmt};
 use std::alloc::Global;
 
-/// Takes the word, which must stand in front.
+/// Takes the word, or refuses if it is not the next token.
 fn expect_word(cursor: &mut Cursor<'_>, word: &str) -> Result<(), ExprError>
     ensures { TakesWord (letters_of word.now) (ahead cursor.old) result (ahead cursor.new) }
 {
@@ -35,7 +46,7 @@ fn expect_word(cursor: &mut Cursor<'_>, word: &str) -> Result<(), ExprError>
     }
 }
 
-/// A name.
+/// Reads a name.
 fn target(alloc: Global, cursor: &mut Cursor<'_>) -> Result<String, ExprError>
     ensures { TakesFlat string_bytes IsName Anything cursor.old result cursor.new }
 {
@@ -43,7 +54,7 @@ fn target(alloc: Global, cursor: &mut Cursor<'_>) -> Result<String, ExprError>
     Ok(copy_of(alloc, name)?)
 }
 
-/// `a, b`
+/// Reads the targets `a, b`.
 fn targets(alloc: Global, cursor: &mut Cursor<'_>) -> Result<Vec<String>, ExprError>
     ensures { TakesFlat (λ v. names_view v.items) (Separated IsName sign.Comma)
         (NoSign sign.Comma) cursor.old result cursor.new }
@@ -59,32 +70,32 @@ fn targets(alloc: Global, cursor: &mut Cursor<'_>) -> Result<Vec<String>, ExprEr
     Err(ExprError::Syntax)
 }
 
-/// An expression of at most so many levels.
+/// Reads an expression of at most `levels` levels.
 fn expression(
     alloc: Global,
     cursor: &mut Cursor<'_>,
     levels: u8,
-    form: Form,
+    form: NestedForm,
 ) -> Result<Expr, ExprError>
     ensures { TakesForm expr_view (Spells (level_of_form form)) (EndsAt (level_of_form form))
         tree_levels levels cursor.old result cursor.new }
 {
-    let Part { expr, .. } = read(alloc, cursor, levels, form)?;
+    let LeveledExpr { expr, .. } = read(alloc, cursor, levels, form)?;
     Ok(Box::into_inner(expr))
 }
 
-/// `a = e`
+/// Reads `a = e`.
 fn value(alloc: Global, cursor: &mut Cursor<'_>, levels: u8) -> Result<(String, Expr), ExprError>
     ensures { TakesForm value_view IsValue (EndsAt whole) value_levels levels cursor.old
         result cursor.new }
 {
     let name = target(alloc, cursor)?;
     cursor.expect(Sign::Assign)?;
-    let value = expression(alloc, cursor, levels, Form::Whole)?;
+    let value = expression(alloc, cursor, levels, NestedForm::Whole)?;
     Ok((name, value))
 }
 
-/// `a = e, b = f`
+/// Reads `a = e, b = f`.
 fn values(
     alloc: Global,
     cursor: &mut Cursor<'_>,
@@ -104,32 +115,32 @@ fn values(
     Err(ExprError::Syntax)
 }
 
-/// `f(a)`
-fn filtering(alloc: Global, cursor: &mut Cursor<'_>, levels: u8) -> Result<Filtering, ExprError>
-    ensures { TakesForm filtering_view IsFiltering OpensNone one_filtering_levels levels
+/// Reads `f(a)`.
+fn filter_call(alloc: Global, cursor: &mut Cursor<'_>, levels: u8) -> Result<FilterCall, ExprError>
+    ensures { TakesForm filter_call_view IsFilterCall OpensNone one_filter_call_levels levels
         cursor.old result cursor.new }
 {
     let name = target(alloc, cursor)?;
-    let Parts { items, pairs, .. } = arguments(alloc, cursor, levels)?;
-    Ok(Filtering {
+    let LeveledList { items, pairs, .. } = arguments(alloc, cursor, levels)?;
+    Ok(FilterCall {
         name,
         arguments: items,
         keywords: pairs,
     })
 }
 
-/// `f(a)|g`
-fn filterings(
+/// Reads `f(a)|g`.
+fn filter_calls(
     alloc: Global,
     cursor: &mut Cursor<'_>,
     levels: u8,
-) -> Result<Vec<Filtering>, ExprError>
-    ensures { TakesForm (λ v. filterings_view v.items) (Separated IsFiltering sign.Pipe) NoToken
-        (most one_filtering_levels) levels cursor.old result cursor.new }
+) -> Result<Vec<FilterCall>, ExprError>
+    ensures { TakesForm (λ v. filter_calls_view v.items) (Separated IsFilterCall sign.Pipe) NoToken
+        (most one_filter_call_levels) levels cursor.old result cursor.new }
 {
     let mut found = Vec::new(alloc);
     for _turn in 0..cursor.left() {
-        let one = filtering(alloc, cursor, levels)?;
+        let one = filter_call(alloc, cursor, levels)?;
         found.push(one)?;
         if !cursor.eat(Sign::Pipe) {
             return Ok(found);
@@ -138,7 +149,7 @@ fn filterings(
     Err(ExprError::Syntax)
 }
 
-/// A number, a text or a constant.
+/// Reads a number, a text or a constant.
 fn literal(alloc: Global, cursor: &mut Cursor<'_>) -> Result<Literal, ExprError>
     ensures { TakesFlat literal_view IsLiteral Anything cursor.old result cursor.new }
 {
@@ -153,7 +164,7 @@ fn literal(alloc: Global, cursor: &mut Cursor<'_>) -> Result<Literal, ExprError>
     }
 }
 
-/// A parameter's default, if it has one.
+/// Reads the default of a parameter, if it has one.
 fn default_of(alloc: Global, cursor: &mut Cursor<'_>) -> Result<Option<Literal>, ExprError>
     ensures { TakesFlat (option_map literal_view) IsDefault (NoSign sign.Assign)
         cursor.old result cursor.new }
@@ -165,7 +176,7 @@ fn default_of(alloc: Global, cursor: &mut Cursor<'_>) -> Result<Option<Literal>,
     Ok(Some(default))
 }
 
-/// `a`, or `a = 1`
+/// Reads `a` or `a = 1`.
 fn parameter(alloc: Global, cursor: &mut Cursor<'_>) -> Result<Parameter, ExprError>
     ensures { TakesFlat parameter_view IsParameter (NoSign sign.Assign) cursor.old result
         cursor.new }
@@ -175,7 +186,7 @@ fn parameter(alloc: Global, cursor: &mut Cursor<'_>) -> Result<Parameter, ExprEr
     Ok(Parameter { name, default })
 }
 
-/// `a, b = 1`
+/// Reads `a, b = 1`.
 fn parameter_row(alloc: Global, cursor: &mut Cursor<'_>) -> Result<Vec<Parameter>, ExprError>
     ensures { TakesFlat (λ v. parameters_view v.items) (Separated IsParameter sign.Comma)
         NoParameter cursor.old result cursor.new }
@@ -191,7 +202,7 @@ fn parameter_row(alloc: Global, cursor: &mut Cursor<'_>) -> Result<Vec<Parameter
     Err(ExprError::Syntax)
 }
 
-/// Whether no parameter without a default stands behind one that has a default.
+/// Returns whether no parameter without a default follows one with a default.
 fn defaults_are_last(parameters: &[Parameter]) -> bool
     ensures { result ≡ defaults_last (parameters_view parameters.now) }
 {
@@ -206,7 +217,7 @@ fn defaults_are_last(parameters: &[Parameter]) -> bool
     true
 }
 
-/// The parameters of a macro, up to the closing parenthesis.
+/// Reads the parameters of a macro and the closing parenthesis.
 fn parameters(alloc: Global, cursor: &mut Cursor<'_>) -> Result<Vec<Parameter>, ExprError>
     ensures { TakesFlat (λ v. parameters_view v.items) Parameters Anything cursor.old result
         cursor.new }
@@ -222,7 +233,7 @@ fn parameters(alloc: Global, cursor: &mut Cursor<'_>) -> Result<Vec<Parameter>, 
     Ok(found)
 }
 
-/// The condition of a loop, if it has one.
+/// Reads the condition of a loop, if it has one.
 fn condition(alloc: Global, cursor: &mut Cursor<'_>, levels: u8) -> Result<Option<Expr>, ExprError>
     ensures { TakesForm (option_map expr_view) Condition NoToken condition_levels levels
         cursor.old result cursor.new }
@@ -230,11 +241,11 @@ fn condition(alloc: Global, cursor: &mut Cursor<'_>, levels: u8) -> Result<Optio
     if !cursor.eat_word("if") {
         return Ok(None);
     }
-    let found = expression(alloc, cursor, levels, Form::Whole)?;
+    let found = expression(alloc, cursor, levels, NestedForm::Whole)?;
     Ok(Some(found))
 }
 
-/// A text literal.
+/// Reads a text literal.
 fn text(alloc: Global, cursor: &mut Cursor<'_>) -> Result<String, ExprError>
     ensures { TakesFlat string_bytes IsText Anything cursor.old result cursor.new }
 {
@@ -244,7 +255,7 @@ fn text(alloc: Global, cursor: &mut Cursor<'_>) -> Result<String, ExprError>
     }
 }
 
-/// `ignore missing`, or nothing.
+/// Reads `ignore missing`, or nothing.
 fn missing(cursor: &mut Cursor<'_>) -> Result<Missing, ExprError>
     ensures { TakesFlat is_ignored (λ b x. x ≡ missing_words b) (NoWord (codes "ignore"))
         cursor.old result cursor.new }
@@ -256,45 +267,45 @@ fn missing(cursor: &mut Cursor<'_>) -> Result<Missing, ExprError>
     Ok(Missing::Ignored)
 }
 
-/// `with context`, `without context`, or nothing.
-fn context(cursor: &mut Cursor<'_>) -> Result<NamesAround, ExprError>
-    ensures { TakesFlat are_seen Context NoToken cursor.old result cursor.new }
+/// Reads `with context`, `without context`, or nothing.
+fn context(cursor: &mut Cursor<'_>) -> Result<IncludeContext, ExprError>
+    ensures { TakesFlat passes_context Context NoToken cursor.old result cursor.new }
 {
     if cursor.eat_word("with") {
         expect_word(cursor, "context")?;
-        return Ok(NamesAround::Seen);
+        return Ok(IncludeContext::Seen);
     }
     if cursor.eat_word("without") {
         expect_word(cursor, "context")?;
-        return Ok(NamesAround::Hidden);
+        return Ok(IncludeContext::Hidden);
     }
-    Ok(NamesAround::Seen)
+    Ok(IncludeContext::Seen)
 }
 
-/// `if c`
+/// Reads `if c`, after its first word.
 fn if_head(alloc: Global, cursor: &mut Cursor<'_>, levels: u8) -> Result<Head, ExprError>
     ensures { (line : ℕ) → TakesHead line levels (codes "if") cursor.old result cursor.new }
 {
-    let condition = expression(alloc, cursor, levels, Form::Whole)?;
+    let condition = expression(alloc, cursor, levels, NestedForm::Whole)?;
     Ok(Head::If(condition))
 }
 
-/// `for a, b in e if c`
+/// Reads `for a, b in e if c`, after its first word.
 fn for_head(alloc: Global, cursor: &mut Cursor<'_>, levels: u8) -> Result<Head, ExprError>
     ensures { (line : ℕ) → TakesHead line levels (codes "for") cursor.old result cursor.new }
 {
     let targets = targets(alloc, cursor)?;
     expect_word(cursor, "in")?;
-    let over = expression(alloc, cursor, levels, Form::Disjunction)?;
+    let over = expression(alloc, cursor, levels, NestedForm::Disjunction)?;
     let condition = condition(alloc, cursor, levels)?;
-    Ok(Head::Loop(Loop {
+    Ok(Head::Loop(LoopHead {
         targets,
         over,
         condition,
     }))
 }
 
-/// The one name of a text that is captured.
+/// Returns the only target of a `set` that captures its body, and refuses several targets.
 fn only_name(names: Vec<String>) -> Result<Head, ExprError>
     ensures { GivesText (names_view names.items) result }
 {
@@ -303,13 +314,13 @@ fn only_name(names: Vec<String>) -> Result<Head, ExprError>
         return Err(ExprError::Syntax);
     };
     if names.is_empty() {
-        Ok(Head::Opening(Opening::Text(name)))
+        Ok(Head::BlockStart(BlockStart::Text(name)))
     } else {
         Err(ExprError::Syntax)
     }
 }
 
-/// `set a, b = e`, or `set a`
+/// Reads `set a, b = e` or `set a`, after its first word.
 fn set_head(
     alloc: Global,
     cursor: &mut Cursor<'_>,
@@ -322,7 +333,7 @@ fn set_head(
     if !cursor.eat(Sign::Assign) {
         return only_name(targets);
     }
-    let value = expression(alloc, cursor, levels, Form::Whole)?;
+    let value = expression(alloc, cursor, levels, NestedForm::Whole)?;
     Ok(Head::Statement(Stmt::Set {
         line,
         targets,
@@ -330,50 +341,50 @@ fn set_head(
     }))
 }
 
-/// `with a = e, b = f`
+/// Reads `with a = e, b = f`, after its first word.
 fn with_head(alloc: Global, cursor: &mut Cursor<'_>, levels: u8) -> Result<Head, ExprError>
     ensures { (line : ℕ) → TakesHead line levels (codes "with") cursor.old result cursor.new }
 {
     if cursor.left() == 0 {
-        return Ok(Head::Opening(Opening::Values(Vec::new(alloc))));
+        return Ok(Head::BlockStart(BlockStart::Values(Vec::new(alloc))));
     }
     let found = values(alloc, cursor, levels)?;
-    Ok(Head::Opening(Opening::Values(found)))
+    Ok(Head::BlockStart(BlockStart::Values(found)))
 }
 
-/// `filter f(a)|g`
+/// Reads `filter f(a)|g`, after its first word.
 fn filter_head(alloc: Global, cursor: &mut Cursor<'_>, levels: u8) -> Result<Head, ExprError>
     ensures { (line : ℕ) → TakesHead line levels (codes "filter") cursor.old result cursor.new }
 {
-    let found = filterings(alloc, cursor, levels)?;
-    Ok(Head::Opening(Opening::Filters(found)))
+    let found = filter_calls(alloc, cursor, levels)?;
+    Ok(Head::BlockStart(BlockStart::Filters(found)))
 }
 
-/// `autoescape true`, or `false`
+/// Reads `autoescape true` or `autoescape false`, after its first word.
 fn autoescape_head(cursor: &mut Cursor<'_>) -> Result<Head, ExprError>
     ensures { (line limit : ℕ) → TakesHead line limit (codes "autoescape") cursor.old result
         cursor.new }
 {
     if cursor.eat_word("true") {
-        return Ok(Head::Opening(Opening::Escaping(true)));
+        return Ok(Head::BlockStart(BlockStart::Escaping(true)));
     }
     if cursor.eat_word("false") {
-        return Ok(Head::Opening(Opening::Escaping(false)));
+        return Ok(Head::BlockStart(BlockStart::Escaping(false)));
     }
     Err(ExprError::Syntax)
 }
 
-/// `macro f(a, b=1)`
+/// Reads `macro f(a, b=1)`, after its first word.
 fn macro_head(alloc: Global, cursor: &mut Cursor<'_>) -> Result<Head, ExprError>
     ensures { (line limit : ℕ) → TakesHead line limit (codes "macro") cursor.old result cursor.new }
 {
     let name = target(alloc, cursor)?;
     cursor.expect(Sign::LeftParen)?;
     let found = parameters(alloc, cursor)?;
-    Ok(Head::Opening(Opening::Macro(name, found)))
+    Ok(Head::BlockStart(BlockStart::Macro(name, found)))
 }
 
-/// `include "x" ignore missing without context`
+/// Reads `include "x" ignore missing without context`, after its first word.
 fn include_head(alloc: Global, cursor: &mut Cursor<'_>, line: u32) -> Result<Head, ExprError>
     ensures { (limit : ℕ) → TakesHead line limit (codes "include") cursor.old result cursor.new }
 {
@@ -388,7 +399,7 @@ fn include_head(alloc: Global, cursor: &mut Cursor<'_>, line: u32) -> Result<Hea
     }))
 }
 
-/// The name behind `as`, if one is given.
+/// Reads the name after `as`, if there is one.
 fn given(alloc: Global, cursor: &mut Cursor<'_>) -> Result<Option<String>, ExprError>
     ensures { TakesFlat (option_map string_bytes) IsGiven (NoWord (codes "as"))
         cursor.old result cursor.new }
@@ -400,7 +411,7 @@ fn given(alloc: Global, cursor: &mut Cursor<'_>) -> Result<Option<String>, ExprE
     Ok(Some(name))
 }
 
-/// The given name, or else the macro's own.
+/// Returns a macro's name with the name that it is bound to, which defaults to its own name.
 fn given_or(
     alloc: Global,
     name: String,
@@ -417,7 +428,7 @@ fn given_or(
     }
 }
 
-/// `a`, or `a as b`
+/// Reads `a` or `a as b`.
 fn imported(alloc: Global, cursor: &mut Cursor<'_>) -> Result<(String, String), ExprError>
     ensures { TakesFlat imported_view IsImported (NoWord (codes "as")) cursor.old result
         cursor.new }
@@ -427,7 +438,7 @@ fn imported(alloc: Global, cursor: &mut Cursor<'_>) -> Result<(String, String), 
     given_or(alloc, name, given)
 }
 
-/// `a, b as c`
+/// Reads `a, b as c`.
 fn imported_row(alloc: Global, cursor: &mut Cursor<'_>) -> Result<Vec<(String, String)>, ExprError>
     ensures { TakesFlat (λ v. given_view v.items) (Separated IsImported sign.Comma)
         NoImported cursor.old result cursor.new }
@@ -443,7 +454,7 @@ fn imported_row(alloc: Global, cursor: &mut Cursor<'_>) -> Result<Vec<(String, S
     Err(ExprError::Syntax)
 }
 
-/// Whether `without context` is said.
+/// Reads `without context`, and returns whether it was there.
 fn without(cursor: &mut Cursor<'_>) -> Result<bool, ExprError>
     ensures { TakesFlat (λ b. b) IsWithout (NoWord (codes "without")) cursor.old result cursor.new }
 {
@@ -454,7 +465,7 @@ fn without(cursor: &mut Cursor<'_>) -> Result<bool, ExprError>
     Ok(true)
 }
 
-/// `import "x" as f without context`
+/// Reads `import "x" as f without context`, after its first word.
 fn import_head(alloc: Global, cursor: &mut Cursor<'_>, line: u32) -> Result<Head, ExprError>
     ensures { (limit : ℕ) → TakesHead line limit (codes "import") cursor.old result cursor.new }
 {
@@ -469,7 +480,7 @@ fn import_head(alloc: Global, cursor: &mut Cursor<'_>, line: u32) -> Result<Head
     }))
 }
 
-/// `from "x" import a, b as c without context`
+/// Reads `from "x" import a, b as c without context`, after its first word.
 fn from_head(alloc: Global, cursor: &mut Cursor<'_>, line: u32) -> Result<Head, ExprError>
     ensures { (limit : ℕ) → TakesHead line limit (codes "from") cursor.old result cursor.new }
 {
@@ -484,7 +495,7 @@ fn from_head(alloc: Global, cursor: &mut Cursor<'_>, line: u32) -> Result<Head, 
     }))
 }
 
-/// `extends "x"`
+/// Reads `extends "x"`, after its first word.
 fn extends_head(alloc: Global, cursor: &mut Cursor<'_>, line: u32) -> Result<Head, ExprError>
     ensures { (limit : ℕ) → TakesHead line limit (codes "extends") cursor.old result cursor.new }
 {
@@ -492,21 +503,21 @@ fn extends_head(alloc: Global, cursor: &mut Cursor<'_>, line: u32) -> Result<Hea
     Ok(Head::Statement(Stmt::Extends(line, name)))
 }
 
-/// `block b scoped required`
+/// Reads `block b scoped required`, after its first word.
 fn block_head(alloc: Global, cursor: &mut Cursor<'_>) -> Result<Head, ExprError>
     ensures { (line limit : ℕ) → TakesHead line limit (codes "block") cursor.old result cursor.new }
 {
     let name = target(alloc, cursor)?;
     let scoped = cursor.eat_word("scoped");
     let required = cursor.eat_word("required");
-    Ok(Head::Opening(Opening::Block {
+    Ok(Head::BlockStart(BlockStart::Block {
         name,
         scoped,
         required,
     }))
 }
 
-/// A statement's first tag, by its first word.
+/// Reads the first tag of a statement, after its first word.
 fn head(
     alloc: Global,
     cursor: &mut Cursor<'_>,
@@ -545,7 +556,7 @@ fn head(
     }
 }
 
-/// What the first tag of a statement says, whose first word is given with all tokens behind it.
+/// Reads the first tag of a statement, given its first word and all tokens after it.
 pub(crate) fn read_head(
     alloc: Global,
     word: &str,

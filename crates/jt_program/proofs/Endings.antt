@@ -1,10 +1,11 @@
--- How lines and commands end, by the parts that they end in.
-use Rattle.std.proofs.Common.{◌≡◌, ◌≢◌, ◌⊎◌, Contains, inl, inr, ⊎_elim, ℕ, List, Option, None, Some, String, Global, Err, ap, codes, option_map, refl, string_bytes, subst}
+-- The ends of lines and commands, from the ends of their parts.
+use Rattle.std.proofs.Common.{◌≡◌, ◌≢◌, ◌⊎◌, Contains, inl, inr, ⊎_elim, ℕ, List, Option, None, Some, String, Global}
+use Rattle.std.proofs.Common.{Err, ap, codes, option_map, refl, string_bytes, subst}
 use Rattle.std.specs.Io.KnownBytes.{Keeps}
 use Rattle.clap.specs.Words.{Row, Text as Word}
 use Rattle.jt_scan.specs.declared.Options.{Options}
-use Rattle.jt_inherit.specs.Chains.{Given}
-use Rattle.jt_trees.specs.Expressions.{Text}
+use Rattle.jt_inherit.specs.Chains.{SourceTexts}
+use Rattle.jt_ast.specs.Expressions.{Text}
 use Rattle.jt_args.specs.Line.{IsAsked, IsCommand, word_of}
 use Rattle.jt_args.specs.declared.Command.{Command}
 use Rattle.jt_args.specs.declared.Command.TheVariants as command
@@ -12,38 +13,47 @@ use Rattle.jt_args.specs.declared.Job.{Job}
 use Rattle.jt_args.specs.declared.JobError.{JobError}
 use Rattle.jt_args.specs.declared.JobError.TheVariants as job_error
 use Rattle.jt_budget.specs.declared.Budget.{Budget}
+use Rattle.jt_host.specs.declared.CallError.TheVariants as call_error
 use Rattle.jt_program.specs.declared.messages.Failure.{Failure}
 use Rattle.jt_program.specs.declared.messages.Failure.TheVariants as failure
-use Rattle.jt_program.specs.Commands.{Answers, ChangesOnly, CommandEnds, Compiles, Ending, IsOfContext, IsPath, IsUnread, IsWriting, JobEnds, LineEnds, LineWrites, Upgrades, WritesImage, out_of}
+use Rattle.jt_program.specs.Commands.{Answers, ChangesOnly, CommandEnds, Compiles, Ending, IsOfContext, IsPath}
+use Rattle.jt_program.specs.Commands.{IsUnread, IsWriting, JobEnds, LineEnds, LineWrites, Upgrades, WritesImage, out_of}
 use Rattle.jt_program.specs.Ending.{code_of, of_line, status_of}
 use Rattle.jt_program.specs.Files.{IsLibrary, IsOfDirectory, Known, path_in}
 
 module _ (files : Known) where
-  -- a file fails that is asked for, or memory runs out, whatever else is asked for
-  pub unread_more : (asks more : Text → Type 0) (context : Option (String Global)) (e : Failure) → ((path : Text) → asks path → more path ⊎ IsOfContext context path)
+  -- An input that is missing among some files is also missing among more files.
+  pub unread_more : (asks more : Text → Type 0) (context : Option (String Global)) (e : Failure)
+      → ((path : Text) → asks path → more path ⊎ IsOfContext context path)
       → IsUnread files asks None (Err e) → IsUnread files more context (Err e)
-  unread_more asks more context (failure.File path) among h = (h.0, ⊎_elim (λ asked. among (string_bytes path) asked) (λ none. absurd none) h.1)
-  unread_more asks more context failure.NoMemory among h = tt
-  unread_more asks more context (failure.Context e) among h = absurd h
+  unread_more asks more context (failure.File path) among h =
+      (h.0, ⊎_elim (λ asked. among (string_bytes path) asked) (λ none. absurd none) h.1)
+  unread_more asks more context (failure.Call call_error.NoMemory) among h = tt
+  unread_more asks more context (failure.Call (call_error.Context e)) among h = absurd h
   unread_more asks more context e among h = absurd h
 
-  -- a file fails that is listed in a directory, or memory runs out
-  pub unread_listed : (dir : Text) (names : List Text) (name : Text) (e : Failure) → files.lists dir names → Contains names name
+  -- A listed file that fails, or lack of memory, is a missing input of its directory.
+  pub unread_listed : (dir : Text) (names : List Text) (name : Text) (e : Failure) → files.lists dir names
+      → Contains names name
       → IsUnread files (IsPath (path_in dir name)) None (Err e) → IsUnread files (IsOfDirectory files dir) None (Err e)
   unread_listed dir names name e listed there h =
-      unread_more (IsPath (path_in dir name)) (IsOfDirectory files dir) None e (λ path asked. inl (inr (names, name, listed, there, asked))) h
+      unread_more (IsPath (path_in dir name)) (IsOfDirectory files dir) None e
+      (λ path asked. inl (inr (names, name, listed, there, asked))) h
 
-  -- there is no context, whatever else is asked for
-  pub unread_context : (asks : Text → Type 0) (context : Option (String Global)) (e : Failure) → IsUnread files (IsOfContext context) context (Err e)
+  -- A missing context is a missing input, whatever other files are read.
+  pub unread_context : (asks : Text → Type 0) (context : Option (String Global)) (e : Failure)
+      → IsUnread files (IsOfContext context) context (Err e)
       → IsUnread files asks context (Err e)
   unread_context asks context (failure.File path) h = (h.0, inr (⊎_elim (λ asked. asked) (λ asked. asked) h.1))
-  unread_context asks context failure.NoMemory h = tt
-  unread_context asks context (failure.Context e) h = h
+  unread_context asks context (failure.Call call_error.NoMemory) h = tt
+  unread_context asks context (failure.Call (call_error.Context e)) h = h
   unread_context asks context e h = absurd h
 
-  -- the file for an image fails, or memory runs out
-  pub unwritten : (after : Known) (dir name out : Text) (options : Options) (sources : Given) (e : Failure) → IsLibrary files dir sources
-      → IsUnread files (IsPath out) None (Err e) → IsUnread files (IsOfDirectory files dir) None (Err e) ⊎ Compiles files after dir name out options (Err e)
+  -- If the file for an image fails, or memory runs out, `compile` ends so.
+  pub unwritten : (after : Known) (dir name out : Text) (options : Options) (sources : SourceTexts) (e : Failure)
+      → IsLibrary files dir sources
+      → IsUnread files (IsPath out) None (Err e)
+      → IsUnread files (IsOfDirectory files dir) None (Err e) ⊎ Compiles files after dir name out options (Err e)
   unwritten after dir name out options sources (failure.File path) library h =
       let at : string_bytes path ≡ out = ⊎_elim (λ asked. asked) (λ none. absurd none) h.1 in
       let compiles : Compiles files after dir name out options (Err (failure.File path)) = record {
@@ -52,74 +62,85 @@ module _ (files : Known) where
         written = (at, subst files.fails at h.0);
       } in
       inr compiles
-  unwritten after dir name out options sources failure.NoMemory library h = inl tt
-  unwritten after dir name out options sources (failure.Context e) library h = absurd h
+  unwritten after dir name out options sources (failure.Call call_error.NoMemory) library h = inl tt
+  unwritten after dir name out options sources (failure.Call (call_error.Context e)) library h = absurd h
   unwritten after dir name out options sources e library h = absurd h
 
-  -- the same of an upgrade
-  pub not_rewritten : (after : Known) (image out : Text) (bytes : List ℕ) (e : Failure) → files.holds image bytes → IsUnread files (IsPath out) None (Err e)
+  -- If the file for an image in version 2 fails, or memory runs out, `upgrade` ends so.
+  pub not_rewritten : (after : Known) (image out : Text) (bytes : List ℕ) (e : Failure) → files.holds image bytes
+      → IsUnread files (IsPath out) None (Err e)
       → IsUnread files (IsPath image) None (Err e) ⊎ Upgrades files after image out (Err e)
   not_rewritten after image out bytes (failure.File path) held h =
       let at : string_bytes path ≡ out = ⊎_elim (λ asked. asked) (λ none. absurd none) h.1 in
-      let upgrades : Upgrades files after image out (Err (failure.File path)) = record { bytes = bytes; held = held; written = (at, subst files.fails at h.0) } in
+      let upgrades : Upgrades files after image out (Err (failure.File path)) =
+      record { bytes = bytes; held = held; written = (at, subst files.fails at h.0) } in
       inr upgrades
-  not_rewritten after image out bytes failure.NoMemory held h = inl tt
-  not_rewritten after image out bytes (failure.Context e) held h = absurd h
+  not_rewritten after image out bytes (failure.Call call_error.NoMemory) held h = inl tt
+  not_rewritten after image out bytes (failure.Call (call_error.Context e)) held h = absurd h
   not_rewritten after image out bytes e held h = absurd h
 
 module _ (files after : Known) (found : Option (Word × List Row)) where
-  -- a job that ends is the end of its line
+  -- The end of a job is the end of its line.
   pub line_ends : (e : Ending) → Answers files after found e → LineEnds files after found e
   line_ends (Err (failure.Usage text)) a = tt
-  line_ends (Err failure.NoMemory) a = tt
+  line_ends (Err (failure.Call call_error.NoMemory)) a = tt
   line_ends e a = a
 
-  -- a line of which there is no job ends so
+  -- A line without a job ends with the error of the line.
   pub no_job : (e : JobError) → LineEnds files after found (Err (of_line e))
   no_job (job_error.Usage text) = tt
   no_job job_error.NoMemory = tt
 
-  -- the end of a line is that of its job, where it is neither the usage nor for want of memory
-  pub job_ends : (e : Failure) → code_of (status_of e) ≢ 2 → code_of (status_of e) ≢ 6 → LineEnds files after found (Err e) → Answers files after found (Err e)
+  -- The end of a line is that of its job, unless it is the usage or lack of memory.
+  pub job_ends : (e : Failure) → code_of (status_of e) ≢ 2 → code_of (status_of e) ≢ 6
+      → LineEnds files after found (Err e) → Answers files after found (Err e)
   job_ends (failure.Usage text) u m h = absurd (u refl)
-  job_ends failure.NoMemory u m h = absurd (m refl)
+  job_ends (failure.Call call_error.NoMemory) u m h = absurd (m refl)
   job_ends e u m h = h
 
--- a command that writes an image has its name
-named : (name : Word) (rows : List Row) (k : Command) (o : Options) (b : Budget) (n : ℕ) → IsCommand name rows k o b n → IsWriting k → (name ≡ codes "compile") ⊎ (name ≡ codes "upgrade")
+-- A command that writes an image has the name of one that does.
+named : (name : Word) (rows : List Row) (k : Command) (o : Options) (b : Budget) (n : ℕ) → IsCommand name rows k o b n
+    → IsWriting k → (name ≡ codes "compile") ⊎ (name ≡ codes "upgrade")
 named name rows (command.Compile dir template out) o b n h is = inl h.0
 named name rows (command.Upgrade image out) o b n h is = inr h.0
 named name rows k o b n h is = absurd is
 
-pub writing_asked : (found : Option (Word × List Row)) (j : Job) → IsAsked found j → (option_map (λ c. c.0) found ≡ Some (codes "compile") → ⊥)
+pub writing_asked : (found : Option (Word × List Row)) (j : Job) → IsAsked found j
+    → (option_map (λ c. c.0) found ≡ Some (codes "compile") → ⊥)
     → (option_map (λ c. c.0) found ≡ Some (codes "upgrade") → ⊥) → IsWriting j.command → ⊥
 writing_asked None j h a b is = h
-writing_asked (Some c) j h a b is = ⊎_elim (λ e. a (ap Some e)) (λ e. b (ap Some e)) (named c.0 c.1 j.command j.options j.budget j.slice h is)
+writing_asked (Some c) j h a b is =
+    ⊎_elim (λ e. a (ap Some e)) (λ e. b (ap Some e)) (named c.0 c.1 j.command j.options j.budget j.slice h is)
 
 module _ (files after : Known) where
-  -- a command changes no file but that of OUT, where one that writes no image changes none
-  only_of : (name : Word) (rows : List Row) (k : Command) (o : Options) (b : Budget) (n : ℕ) (e : Ending) → IsCommand name rows k o b n → CommandEnds files after k o b e
-      → ((IsWriting k → ⊥) → ChangesOnly files after (word_of (codes "OUT") rows)) → ChangesOnly files after (word_of (codes "OUT") rows)
-  only_of name rows (command.Compile dir template out) o b n e is ends kept = subst (ChangesOnly files after) is.3 ends.0
+  -- A command changes no file except OUT, if a command that writes no image changes none.
+  only_of : (name : Word) (rows : List Row) (k : Command) (o : Options) (b : Budget) (n : ℕ) (e : Ending)
+      → IsCommand name rows k o b n → CommandEnds files after k o b e
+      → ((IsWriting k → ⊥) → ChangesOnly files after (word_of (codes "OUT") rows))
+      → ChangesOnly files after (word_of (codes "OUT") rows)
+  only_of name rows (command.Compile dir template out) o b n e is ends kept =
+      subst (ChangesOnly files after) is.3 ends.0
   only_of name rows (command.Upgrade image out) o b n e is ends kept = subst (ChangesOnly files after) is.2 ends.0
   only_of name rows k o b n e is ends kept = kept (λ writes. writes)
 
-  -- so it is with the line of a job
-  pub only_out : (found : Option (Word × List Row)) (j : Job) (e : Ending) → IsAsked found j → JobEnds files after j e → ((IsWriting j.command → ⊥) → ChangesOnly files after (out_of found))
+  -- A line changes no file except OUT, if a job that writes no image changes none.
+  pub only_out : (found : Option (Word × List Row)) (j : Job) (e : Ending) → IsAsked found j → JobEnds files after j e
+      → ((IsWriting j.command → ⊥) → ChangesOnly files after (out_of found))
       → ChangesOnly files after (out_of found)
   only_out None j e asked ends kept = absurd asked
   only_out (Some c) j e asked ends kept = only_of c.0 c.1 j.command j.options j.budget j.slice e asked ends kept
 
--- a job that has an image to write is that of a line that has one
-pub line_writes : {A : Type 0} (files : Known) (found : Option (Word × List Row)) (j : Job) → IsAsked found j → A ⊎ WritesImage files j.command j.options → A ⊎ LineWrites files found
+-- If a job has an image to write, its line has one.
+pub line_writes : {A : Type 0} (files : Known) (found : Option (Word × List Row)) (j : Job) → IsAsked found j
+    → A ⊎ WritesImage files j.command j.options → A ⊎ LineWrites files found
 line_writes files found j asked (inl same) = inl same
 line_writes files found j asked (inr writes) = inr (record { job = j; asked = asked; writes = writes })
 
--- the same files differ nowhere
+-- Files that are the same differ at no path.
 pub same_files : (files : Known) (path : Text) → ChangesOnly files files path
 same_files files path other bytes differs = (λ h. h, λ h. h)
 
--- what is known to be the same is kept
+-- What is known is kept if nothing changes.
 pub keeps_itself : (known : Option (List ℕ)) → Keeps known known
 keeps_itself None = tt
 keeps_itself (Some bytes) = refl

@@ -1,6 +1,4 @@
 mod Endings
-mod Gathering
-mod Saying
-mod Starting
-pub mod Taking
-mod Refusing
+mod SourceCollection
+mod SinkLines
+mod PairStarts

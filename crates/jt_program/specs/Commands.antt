@@ -1,12 +1,13 @@
--- What each command comes to: what it reads from the files, how it ends and what it leaves.
-use Rattle.std.specs.Prelude.{◌≡◌, ◌≢◌, ◌↔◌, ◌⊎◌, ◌≤◌, ℕ, List, [], ◌∷◌, ◌++◌, length, Option, Some, None, Result, Ok, Err, String, codes, string_bytes}
+-- The commands: what each reads from the files, how it ends, and what it leaves.
+use Rattle.std.specs.Prelude.{◌≡◌, ◌≢◌, ◌↔◌, ◌⊎◌, ◌≤◌, ℕ, List, [], ◌∷◌, ◌++◌, length, Option, Some, None, Result, Ok}
+use Rattle.std.specs.Prelude.{Err, String, codes, string_bytes}
 use Rattle.std.specs.Fmt.{decimal}
 use Rattle.std.specs.declared.alloc.Global.{Global}
 use Rattle.clap.specs.Words.{Row, Text as Word}
 use Rattle.jt_scan.specs.declared.Options.{Options}
 use Rattle.jt_value.specs.Pairs.{Pairs}
-use Rattle.jt_inherit.specs.Chains.{Given}
-use Rattle.jt_trees.specs.Expressions.{Text}
+use Rattle.jt_inherit.specs.Chains.{SourceTexts}
+use Rattle.jt_ast.specs.Expressions.{Text}
 use Rattle.jt_value.specs.ContextView.{pairs_of}
 use Rattle.jt_budget.specs.declared.Budget.{Budget}
 use Rattle.jt_image.specs.Config.{Outcome}
@@ -21,113 +22,130 @@ use Rattle.jt_args.specs.declared.Command.TheVariants as command
 use Rattle.jt_args.specs.declared.Job.{Job}
 use Rattle.jt_args.specs.declared.Pair.{Pair}
 use Rattle.jt_turns.specs.Lines.{session_lines}
+use Rattle.jt_turns.specs.Openings.{all_under}
 use Rattle.jt_turns.specs.Outcomes.{AreOutcomes}
-use Rattle.jt_turns.specs.Standing.{Stands}
+use Rattle.jt_turns.specs.SessionStates.{Stands}
 use Rattle.jt_turns.specs.declared.Start.{Start}
+use Rattle.jt_host.specs.Calls.{ComesTo, IsCounted, IsImage, IsImageOf, IsNoContext, IsNoImage, IsNoUpgrade, IsUpgraded}
+use Rattle.jt_host.specs.Calls.{RendersTo}
+use Rattle.jt_host.specs.declared.CallError.{CallError}
+use Rattle.jt_host.specs.declared.CallError.TheVariants as call_error
 use Rattle.jt_program.specs.declared.messages.Failure.{Failure}
 use Rattle.jt_program.specs.declared.messages.Failure.TheVariants as failure
 use Rattle.jt_program.specs.Files.{Known, IsLibrary, IsOfDirectory}
-use Rattle.jt_program.specs.Program.{ComesTo, IsCounted, IsImage, IsImageOf, IsNoContext, IsNoImage, IsNoUpgrade, IsUpgraded, RendersTo}
 
--- how a command ends: with the text that it prints, or with a failure
+-- The end of a command: the text that it prints, or a failure.
 abbrev pub Ending : Type 0
 Ending = Result (String Global) Failure
 
+-- The failure is an error of a call, and the error is of this kind.
+abbrev pub FailsAs : (CallError → Type 0) → Failure → Type 0
+FailsAs IsSo (failure.Call e) = IsSo e
+FailsAs IsSo e = ⊥
+
+-- The end of a command is that of a call, and the call ends so.
+abbrev pub EndsAs : (Result (String Global) CallError → Type 0) → Ending → Type 0
+EndsAs IsSo (Ok text) = IsSo (Ok text)
+EndsAs IsSo (Err e) = FailsAs (λ error. IsSo (Err error)) e
+
 -- ---- what is read
 
--- the path is this one
+-- The path is `asked`.
 abbrev pub IsPath : Text → Text → Type 0
 IsPath asked path = path ≡ asked
 
--- the path is that of the context's file, where there is one
+-- The path is that of the context's file, if one is named.
 abbrev pub IsOfContext : Option (String Global) → Text → Type 0
 IsOfContext None path = ⊥
 IsOfContext (Some asked) path = path ≡ string_bytes asked
 
 module _ (files : Known) where
-  -- the context that a file spells, or the empty one where there is no file
+  -- The context that a file spells, or the empty context if no file is named.
   abbrev pub IsContextAt : Option (String Global) → Pairs → Type 0
   IsContextAt None x = x ≡ []
   IsContextAt (Some path) x =
       (bytes : List ℕ) × files.holds (string_bytes path) bytes × IsContext bytes x
 
-  -- the file of a context spells none, and the refusal says what is so
-  abbrev pub HasNoContext : Option (String Global) → Failure → Type 0
+  -- The file of a context spells none, and the error states why.
+  abbrev pub HasNoContext : Option (String Global) → CallError → Type 0
   HasNoContext None e = ⊥
   HasNoContext (Some path) e =
       (bytes : List ℕ) × files.holds (string_bytes path) bytes × IsNoContext bytes e
 
-  -- What a command needs isn't there: a file fails that it asks for, or that of the context, the
-  -- file of the context spells none, or memory ran out.
+  -- The input of a command is missing: a file that it reads fails, or the file of the context fails
+  -- or spells no context, or memory ran out.
   abbrev pub IsUnread : (Text → Type 0) → Option (String Global) → Ending → Type 0
   IsUnread asks context (Ok text) = ⊥
   IsUnread asks context (Err (failure.File path)) =
       files.fails (string_bytes path)
       × (asks (string_bytes path) ⊎ IsOfContext context (string_bytes path))
-  IsUnread asks context (Err (failure.Context e)) = HasNoContext context (failure.Context e)
-  IsUnread asks context (Err failure.NoMemory) = Unit {0}
+  IsUnread asks context (Err (failure.Call (call_error.Context e))) =
+      HasNoContext context (call_error.Context e)
+  IsUnread asks context (Err (failure.Call call_error.NoMemory)) = Unit {0}
   IsUnread asks context (Err e) = ⊥
 
 -- ---- the commands
 
--- the line of `check`
+-- The line of `check`.
 abbrev pub counts_line : ℕ × ℕ → Text
 counts_line n =
     codes "ok units=" ++ (decimal n.0 ++ (codes " instructions=" ++ (decimal n.1 ++ codes "\n")))
 
--- the line, where the bytes are an image of so many units and instructions, or why they are none
+-- The line of an image with these numbers of units and instructions, or a failure that states why
+-- the bytes are not an accepted image.
 abbrev pub IsChecked : List ℕ → Ending → Type 0
 IsChecked bytes (Ok text) = (n : ℕ × ℕ) × IsCounted bytes n × (string_bytes text ≡ counts_line n)
-IsChecked bytes (Err e) = IsNoImage bytes e
+IsChecked bytes (Err e) = FailsAs (IsNoImage bytes) e
 
--- the file at a path holds an image of the entry's template, and nothing is printed; or why not:
--- that file fails, or there is no image
-abbrev pub IsWritten : Known → Known → Text → Given → Text → Options → Ending → Type 0
+-- The file at `out` holds an image of the entry's template, and nothing is printed. Or the failure
+-- states why not: that file fails, or there is no image.
+abbrev pub IsWritten : Known → Known → Text → SourceTexts → Text → Options → Ending → Type 0
 IsWritten files after out sources entry options (Ok text) =
     (string_bytes text ≡ [])
     × ((bytes : List ℕ) × after.holds out bytes × IsImage sources entry options bytes)
 IsWritten files after out sources entry options (Err (failure.File path)) =
     IsPath out (string_bytes path) × files.fails out
-IsWritten files after out sources entry options (Err (failure.Template e)) =
+IsWritten files after out sources entry options (Err (failure.Call (call_error.Template e))) =
     IsUncompiled sources entry options e
 IsWritten files after out sources entry options (Err e) = ⊥
 
--- the file at a path holds the image in version 2, and nothing is printed; or why not: that file
--- fails, or there is no such image
+-- The file at `out` holds the image in version 2, and nothing is printed. Or the failure states why
+-- not: that file fails, or there is no such image.
 abbrev pub IsRewritten : Known → Known → Text → List ℕ → Ending → Type 0
 IsRewritten files after out bytes (Ok text) =
     (string_bytes text ≡ []) × ((new : List ℕ) × after.holds out new × IsUpgraded bytes new)
 IsRewritten files after out bytes (Err (failure.File path)) =
     IsPath out (string_bytes path) × files.fails out
-IsRewritten files after out bytes (Err (failure.Image e)) = IsNoUpgrade bytes e
+IsRewritten files after out bytes (Err (failure.Call (call_error.Image e))) = IsNoUpgrade bytes e
 IsRewritten files after out bytes (Err e) = ⊥
 
 module _ (files : Known) where
-  -- the image at a path is verified
+  -- The image at a path is verified.
   pub record Checks (image : Text) (e : Ending) : Type 0 where
     pub bytes : List ℕ
     pub held : files.holds image bytes
     pub checked : IsChecked bytes e
 
-  -- the image at a path is run for a context
+  -- The image at a path is run for a context.
   pub record Runs (image : Text) (context : Option (String Global)) (b : Budget) (e : Ending) :
       Type 0 where
     pub bytes : List ℕ
     pub held : files.holds image bytes
     pub pairs : Pairs
     pub given : IsContextAt files context pairs
-    pub comes : ComesTo bytes pairs b e
+    pub comes : EndsAs (ComesTo bytes pairs b) e
 
-  -- the template of a name, from the files of a directory, is rendered for a context
-  pub record Renders (dir name : Text) (options : Options) (context : Option (String Global)) (b : Budget) (e : Ending) : Type 0 where
-    pub sources : Given
+  -- The template of a name, from the files of a directory, is rendered for a context.
+  pub record Renders (dir name : Text) (options : Options) (context : Option (String Global))
+      (b : Budget) (e : Ending) : Type 0 where
+    pub sources : SourceTexts
     pub library : IsLibrary files dir sources
     pub pairs : Pairs
     pub given : IsContextAt files context pairs
-    pub comes : RendersTo sources name options pairs b e
+    pub comes : EndsAs (RendersTo sources name options pairs b) e
 
 module _ (files : Known) where
-  -- the code of the image of a pair, and the context of the other file
+  -- The code of the image of a pair, and the context of its other file.
   pub record IsStart (p : Pair) (s : Start) : Type 0 where
     pub bytes : List ℕ
     pub held : files.holds (string_bytes p.image) bytes
@@ -140,25 +158,26 @@ module _ (files : Known) where
   AreStarts (p ∷ ps) [] = ⊥
   AreStarts (p ∷ ps) (s ∷ ss) = IsStart p s × AreStarts ps ss
 
-  -- a pair gives no session: one of its files fails, that of the context spells none, or that of
-  -- the image is none that is accepted
+  -- A pair gives no session: one of its files fails, its context file spells no context, or its
+  -- image file holds no accepted image.
   abbrev pub IsNoStart : Pair → Failure → Type 0
   IsNoStart p e = IsUnread files (IsPath (string_bytes p.image)) (Some p.context) (Err e)
-      ⊎ ((bytes : List ℕ) × files.holds (string_bytes p.image) bytes × IsNoImage bytes e)
+      ⊎ ((bytes : List ℕ) × files.holds (string_bytes p.image) bytes × FailsAs (IsNoImage bytes) e)
 
-  -- a pair behind others is not opened: as many are open as a host has place for, though the pair
-  -- is good, or it gives no session
+  -- The pair after `before` is not opened: the host is full although the pair is good, or the pair
+  -- gives no session.
   abbrev pub IsNotOpened : List Pair → Pair → Failure → Type 0
-  IsNotOpened before p failure.NoMemory = Unit {0}
+  IsNotOpened before p (failure.Call call_error.NoMemory) = Unit {0}
   IsNotOpened before p (failure.Host e) =
       (e ≡ host_error.Full) × (length before ≡ max_sessions) × ((s : Start) × IsStart p s)
   IsNotOpened before p e = IsNoStart p e
 
-  -- the sessions of the pairs are open, and the host has place for them
+  -- The sessions of the pairs are open, and the host has space for them.
   abbrev pub AreOpen : Budget → List Pair → World → Type 0
-  AreOpen b ps w = (ss : List Start) × AreStarts ps ss × Stands (budget_view b) ss w
+  AreOpen b ps w = (ss : List Start) × AreStarts ps ss × Stands (all_under (budget_view b) ss) w
 
-  -- The first pair that is not opened: those before it are, whatever stands behind it.
+  -- The first pair that is not opened. The pairs before it are opened, and those after it do not
+  -- matter.
   pub record StopsAt (ps : List Pair) (e : Failure) : Type 0 where
     pub before : List Pair
     pub pair : Pair
@@ -169,37 +188,38 @@ module _ (files : Known) where
     pub few : length before ≤ max_sessions
     pub why : IsNotOpened before pair e
 
-  -- The images of pairs run for their contexts in turns, each as if alone: the line of each,
-  -- whatever the turns are, of at most 64; or the first pair is named that is not opened.
+  -- The images of at most 64 pairs run for their contexts in turns, each as if alone, and the text
+  -- has the line of each, whatever the turns are. Or the failure is that of the first pair that is
+  -- not opened.
   abbrev pub TakesTurns : List Pair → Budget → Ending → Type 0
   TakesTurns ps b (Ok text) = (length ps ≤ max_sessions)
       × ((ss : List Start)
       × AreStarts ps ss
       × ((os : List Outcome)
-      × AreOutcomes (budget_view b) ss os
+      × AreOutcomes (all_under (budget_view b) ss) os
       × (string_bytes text ≡ session_lines 1 os)))
-  TakesTurns ps b (Err failure.NoMemory) = Unit {0}
+  TakesTurns ps b (Err (failure.Call call_error.NoMemory)) = Unit {0}
   TakesTurns ps b (Err e) = StopsAt ps e
 
 module _ (files after : Known) where
-  -- the template of a name, from the files of a directory, is compiled to an image at a path
+  -- The template of a name, from the files of a directory, is compiled to an image at a path.
   pub record Compiles (dir name out : Text) (options : Options) (e : Ending) : Type 0 where
-    pub sources : Given
+    pub sources : SourceTexts
     pub library : IsLibrary files dir sources
     pub written : IsWritten files after out sources name options e
 
-  -- the image at a path is written in version 2 to another
+  -- The image at a path is written in version 2 to another path.
   pub record Upgrades (image out : Text) (e : Ending) : Type 0 where
     pub bytes : List ℕ
     pub held : files.holds image bytes
     pub written : IsRewritten files after out bytes e
 
-  -- at every path but this one there are the bytes that were there, and none where there were none
+  -- Every path but this one keeps its bytes, or has none as before.
   abbrev pub ChangesOnly : Text → Type 0
   ChangesOnly path =
       (other bytes : List ℕ) → other ≢ path → (after.holds other bytes) ↔ (files.holds other bytes)
 
-  -- What a command comes to, by what is known of the files before it and after it.
+  -- How a command ends, by what is known of the files before it and after it.
   abbrev pub CommandEnds : Command → Options → Budget → Ending → Type 0
   CommandEnds (command.Compile dir name out) o b e = ChangesOnly (string_bytes out)
       × (IsUnread files (IsOfDirectory files (string_bytes dir)) None e
@@ -220,51 +240,51 @@ module _ (files after : Known) where
   abbrev pub JobEnds : Job → Ending → Type 0
   JobEnds j = CommandEnds j.command j.options j.budget
 
-  -- the line of a command asks for a job, which ends so
+  -- The line of a command requests a job, which has this ending.
   pub record Answers (found : Option (Word × List Row)) (e : Ending) : Type 0 where
     pub job : Job
     pub asked : IsAsked found job
     pub ends : JobEnds job e
 
-  -- that, unless the line is none that the program takes, or memory ran out
+  -- The line ends as `Answers` states, unless the program does not take it or memory ran out.
   abbrev pub LineEnds : Option (Word × List Row) → Ending → Type 0
   LineEnds found (Err (failure.Usage text)) = Unit {0}
-  LineEnds found (Err failure.NoMemory) = Unit {0}
+  LineEnds found (Err (failure.Call call_error.NoMemory)) = Unit {0}
   LineEnds found e = Answers found e
 
 module _ (files : Known) where
-  -- the template of a name, from the files of a directory, compiles to an image
+  -- The template of a name, from the files of a directory, compiles to an image.
   pub record HasImage (dir name : Text) (options : Options) : Type 0 where
-    pub sources : Given
+    pub sources : SourceTexts
     pub library : IsLibrary files dir sources
     pub bytes : List ℕ
     pub image : IsImage sources name options bytes
 
-  -- the image at a path has one in version 2
+  -- The image at a path has a version 2.
   pub record HasUpgrade (image : Text) : Type 0 where
     pub bytes : List ℕ
     pub held : files.holds image bytes
     pub new : List ℕ
     pub upgraded : IsUpgraded bytes new
 
-  -- the command has an image to write
+  -- The command has an image to write.
   abbrev pub WritesImage : Command → Options → Type 0
   WritesImage (command.Compile dir name out) o = HasImage (string_bytes dir) (string_bytes name) o
   WritesImage (command.Upgrade image out) o = HasUpgrade (string_bytes image)
   WritesImage c o = ⊥
 
-  -- the line asks for such a command
+  -- The line requests a command that has an image to write.
   pub record LineWrites (found : Option (Word × List Row)) : Type 0 where
     pub job : Job
     pub asked : IsAsked found job
     pub writes : WritesImage job.command job.options
 
--- OUT of a line of `compile` or `upgrade`: no other line has one
+-- OUT of a line of `compile` or `upgrade`. No other line has one.
 abbrev pub out_of : Option (Word × List Row) → Text
 out_of None = []
 out_of (Some c) = word_of (codes "OUT") c.1
 
--- the command is one that writes an image
+-- The command is one that writes an image.
 abbrev pub IsWriting : Command → Type 0
 IsWriting (command.Compile dir name out) = Unit {0}
 IsWriting (command.Upgrade image out) = Unit {0}

@@ -1,4 +1,4 @@
-//! What the program asks of a file system.
+//! The interface of the program to a file system.
 
 ghost use Rattle.std.specs.Prelude.{◌≢◌, ◌↔◌, ℕ, List, map, IfOk, IsErrOf, OnOk, string_bytes};
 ghost use Rattle.jt_program.specs.Files.{Known, anything};
@@ -14,23 +14,23 @@ pub enum FileError {
 
 /// Files by their paths.
 pub trait Files {
-    /// What is known of the files. Where nothing is said, as of a machine's own, every answer is
-    /// possible.
+    /// What is known of the files. By default every result is possible, as for a machine's own
+    /// files.
     ghost known: { Self → Known } = { λ _. anything };
 
-    /// The names of the regular files directly in `dir`, in no order.
+    /// Returns the names of the regular files directly in `dir`, in no order.
     fn list(&self, dir: &str) -> Result<Vec<String>, FileError>
         ensures names { IfOk result
             (λ names. (known self.now).lists dir.now (map string_bytes names.items)) }
         ensures failed { IsErrOf result FileError.Failed → (known self.now).fails dir.now };
 
-    /// The bytes of the file at `path`.
+    /// Returns the bytes of the file at `path`.
     fn read(&self, path: &str) -> Result<Vec<u8>, FileError>
         ensures bytes { IfOk result (λ bytes. (known self.now).holds path.now bytes.items) }
         ensures failed { IsErrOf result FileError.Failed → (known self.now).fails path.now };
 
-    /// Makes `bytes` the contents of the file at `path`. Where that fails the file may hold
-    /// anything. At every other path there are the same bytes as before, or none as before.
+    /// Sets the contents of the file at `path` to `bytes`. If that fails, the file may hold
+    /// anything. Every other path keeps its bytes, or has no file as before.
     fn write(&mut self, path: &str, bytes: &[u8]) -> Result<(), FileError>
         ensures written { OnOk result ((known self.new).holds path.now bytes.now) }
         ensures others { (other bytes : List ℕ)

@@ -1,38 +1,41 @@
-//! A whole run of the program.
-ghost use Rattle.std.specs.Prelude.{◌≡◌, ◌≢◌, ◌≤◌, ◌⊎◌, ◌++◌, ℕ, true, List, [], ◌∷◌, Ok, Err, map, codes, string_bytes, None, IfOk, IfErr, IsErrOf, OnOk};
+//! Performs a line of the program.
+ghost use Rattle.std.specs.Prelude.{◌≡◌, ◌≢◌, ◌≤◌, ◌⊎◌, ◌++◌, ℕ, true, List, [], ◌∷◌, Ok, Err, map};
+ghost use Rattle.std.specs.Prelude.{codes, string_bytes, None, IfOk, IfErr, IsErrOf, OnOk};
 ghost use Rattle.std.specs.List.Sorted.{IsPermutation, IsSorted};
 ghost use Rattle.std.specs.String.{string_cmp};
 ghost use Rattle.clap.specs.Walk.{texts};
 ghost use Rattle.clap.specs.Words.{subcommand_of};
 ghost use Rattle.jt_value.specs.ContextView.{pairs_of};
 ghost use Rattle.jt_args.specs.Line.{Takes, Asks, program_app};
-ghost use Rattle.jt_program.specs.Commands.{Answers, ChangesOnly, Checks, Compiles, Ending, HasImage, HasUpgrade, IsContextAt, IsOfContext, IsPath, IsUnread, IsWriting, JobEnds, LineEnds, LineWrites, Renders, Runs, Upgrades, WritesImage, out_of};
+ghost use Rattle.jt_program.specs.Commands.{Answers, ChangesOnly, Checks, Compiles, Ending};
+ghost use Rattle.jt_program.specs.Commands.{HasImage, HasUpgrade, IsContextAt, IsOfContext, IsPath};
+ghost use Rattle.jt_program.specs.Commands.{IsUnread, IsWriting, JobEnds, LineEnds, LineWrites};
+ghost use Rattle.jt_program.specs.Commands.{Renders, Runs, Upgrades, WritesImage, out_of};
 ghost use Rattle.jt_program.specs.Ending.{IfUntaken, status_of};
 ghost use Rattle.jt_program.specs.Files.{AreSources, IsLibrary, IsOfDirectory, path_in};
-ghost use Rattle.jt_program.specs.Telling.{Explains, Tells, TookUnlessFailed, memory_line};
-ghost use Rattle.jt_program.specs.Templates.{source_of};
+ghost use Rattle.jt_program.specs.Reports.{Explains, Prints, TookUnlessFailed, memory_line};
+ghost use Rattle.jt_host.specs.Templates.{source_of};
 
-use crate::commands::{
-    EntryTemplate, context_of, counts_of, image_of, render_text, run_image, upgraded,
-};
 use crate::files::{FileError, Files};
 use crate::messages::{Failure, Status, no_file};
 use crate::reports::report;
-use crate::templates::Templates;
 use crate::turns::run_turns;
 use jt_args::{Command, Job, job};
 use jt_budget::Budget;
+use jt_host::{
+    EntryTemplate, Templates, context_of, counts_of, image_of, render_text, run_image, upgraded,
+};
 use jt_machine::{Sink, put_all};
 use jt_scan::Options;
 use jt_value::Context;
 use std::alloc::Global;
 
-/// Does what `words`, the line without the program's name, ask for, and answers the status:
-/// 0 done, 1 fault, 2 usage, 3 refused, 4 spent, 5 file, 6 no memory.
+/// Performs `words`, the line without the program's name, and returns the status: 0 done, 1 fault,
+/// 2 usage, 3 refused, 4 spent, 5 file, 6 no memory.
 ///
-/// The text goes to `out`, with nothing added. Where the status is not 0 nothing stands there,
-/// or a beginning of the text where `out` failed, and `errors` says why: by the usage, or by one
-/// line, or by a beginning of that where it failed.
+/// The text goes to `out`, with nothing added. If the status is not 0, `out` receives nothing, or a
+/// beginning of the text if `out` failed. `errors` then receives the reason: the usage or one line,
+/// or a beginning of it if `errors` failed.
 pub fn perform<F: Files, W: Sink, E: Sink>(
     alloc: Global,
     words: &[&str],
@@ -42,34 +45,34 @@ pub fn perform<F: Files, W: Sink, E: Sink>(
 ) -> u8
     // it is one of the statuses
     ensures status { result ≤ 6 }
-    // it is 2 where the program does not take the line, unless memory ran out, and only there
+    // it is 2 only if the program does not take the line; for such a line it is 2, or 6 if memory
+    // ran out
     ensures usage { ¬ Takes (texts words.now) → (result ≡ 2) ⊎ (result ≡ 6) }
     ensures taken { Takes (texts words.now) → result ≢ 2 }
-    // it tells how the command of the line ended, over the files as they were; and a fault, a spent
-    // number and a file by their lines
+    // unless it is 2 or 6, it and both outputs report how the command of the line ended over the
+    // files as they were; a fault, a spent number and a file are reported by their lines
     ensures ends { result ≢ 2
         → result ≢ 6
         → (e : Ending)
         × Answers (F.known files.old) (F.known files.new)
         (subcommand_of program_app (texts words.now)) e
-        × Tells (W.taken out.old) (W.taken out.new) (W.failed out.new) e result
+        × Prints (W.taken out.old) (W.taken out.new) (W.failed out.new) e result
         × Explains (E.taken errors.old) (E.taken errors.new) (E.failed errors.new) e result }
-    // where it is 6 want of memory is said by its line
+    // if it is 6, lack of memory is reported by its line
     ensures memory { result ≡ 6
         → TookUnlessFailed memory_line (E.taken errors.old) (E.taken errors.new)
         (E.failed errors.new) }
-    // where it is 0 nothing was added to standard error
+    // if it is 0, nothing was added to standard error
     ensures silent { result ≡ 0 → errors.new ≡ errors.old }
-    // where it is neither 0 nor 5 standard output is as it was
+    // if it is neither 0 nor 5, standard output is as it was
     ensures untouched { result ≢ 0 → result ≢ 5 → out.new ≡ out.old }
-    // so it is where it had failed before
+    // standard output is also as it was if it had failed before
     ensures failed_before { W.failed out.old ≡ true → out.new ≡ out.old }
-    // whatever the status is, there is no change to the files but at OUT of a line of `compile` or
-    // `upgrade`
+    // whatever the status, the files change at most at OUT of a line of `compile` or `upgrade`
     ensures only { ChangesOnly (F.known files.old) (F.known files.new)
         (out_of (subcommand_of program_app (texts words.now))) }
-    // they are as they were, but where a template was to be compiled or an image upgraded, nothing
-    // refused it, and there is such an image
+    // the files are as they were, unless the line has an image to write: a template that compiles,
+    // or an image that has a version 2
     ensures touched { files.new ≡ files.old
         ⊎ LineWrites (F.known files.old) (subcommand_of program_app (texts words.now)) }
     ensures untaken { ¬ Takes (texts words.now) → files.new ≡ files.old }
@@ -78,15 +81,16 @@ pub fn perform<F: Files, W: Sink, E: Sink>(
         → files.new ≡ files.old }
     ensures unwritten { result ≢ 0 → result ≢ 5 → result ≢ 6 → files.new ≡ files.old }
 {
-    match done(alloc, words, files) {
+    match perform_line(alloc, words, files) {
         Ok(text) => print(text, out, errors),
         Err(failure) => report(errors, &failure),
     }
 }
 
-/// Prints the text of a command that is done, and answers the status.
+/// Prints the text of a command that succeeded, and returns the status.
 fn print<W: Sink, E: Sink>(text: String, out: &mut W, errors: &mut E) -> u8
-    ensures told { Tells (W.taken out.old) (W.taken out.new) (W.failed out.new) (Ok text) result }
+    ensures printed { Prints (W.taken out.old) (W.taken out.new) (W.failed out.new) (Ok text)
+        result }
     ensures failed_before { W.failed out.old ≡ true → out.new ≡ out.old }
     ensures silent { result ≡ 0 → errors.new ≡ errors.old }
     ensures explained { Explains (E.taken errors.old) (E.taken errors.new) (E.failed errors.new)
@@ -98,8 +102,8 @@ fn print<W: Sink, E: Sink>(text: String, out: &mut W, errors: &mut E) -> u8
     }
 }
 
-/// Does what the line asks for, but for printing. The text is what it prints.
-fn done<F: Files>(alloc: Global, words: &[&str], files: &mut F) -> Result<String, Failure>
+/// Performs the line except for printing, and returns the text to print.
+fn perform_line<F: Files>(alloc: Global, words: &[&str], files: &mut F) -> Result<String, Failure>
     ensures usage { ¬ Takes (texts words.now) → IfUntaken result }
     ensures taken { Takes (texts words.now)
         → IfErr result (λ e. (status_of e ≢ Status.Usage) × (e ≢ Failure.Output)) }
@@ -117,11 +121,11 @@ fn done<F: Files>(alloc: Global, words: &[&str], files: &mut F) -> Result<String
         (subcommand_of program_app (texts words.now)) result }
 {
     let job = job(alloc, words)?;
-    carried_out(alloc, job, files)
+    perform_job(alloc, job, files)
 }
 
-/// Does what a job asks for, but for printing. The text is what it prints.
-fn carried_out<F: Files>(alloc: Global, job: Job, files: &mut F) -> Result<String, Failure>
+/// Performs a job except for printing, and returns the text to print.
+fn perform_job<F: Files>(alloc: Global, job: Job, files: &mut F) -> Result<String, Failure>
     ensures ends { JobEnds (F.known files.old) (F.known files.new) job result }
     ensures kept { ¬ IsWriting job.command → files.new ≡ files.old }
     ensures unwritten { IfErr result
@@ -152,7 +156,7 @@ fn carried_out<F: Files>(alloc: Global, job: Job, files: &mut F) -> Result<Strin
     }
 }
 
-/// The entry among the files directly in a directory, and the options under which these are read.
+/// The entry among the files directly in a directory, and the options under which they are read.
 #[derive(Drop)]
 struct EntryFile {
     dir: String,
@@ -160,7 +164,7 @@ struct EntryFile {
     options: Options,
 }
 
-/// Writes the image of the entry to the file at `out`, and prints nothing.
+/// Compiles the entry and writes its image to the file at `out`. Returns an empty text.
 fn compile_to<F: Files>(
     alloc: Global,
     files: &mut F,
@@ -174,7 +178,7 @@ fn compile_to<F: Files>(
         (string_bytes entry.name) (string_bytes out) entry.options result }
     ensures unwritten { IfErr result
         (λ e. status_of e ≢ Status.File → status_of e ≢ Status.Memory → files.new ≡ files.old) }
-    // where there is no image nothing is written
+    // if there is no image, nothing is written
     ensures touched { files.new ≡ files.old
         ⊎ HasImage (F.known files.old) (string_bytes entry.dir) (string_bytes entry.name)
         entry.options }
@@ -187,11 +191,11 @@ fn compile_to<F: Files>(
         options,
     };
     let bytes = image_of(alloc, &entry)?;
-    put_at(files, out, &bytes)?;
+    write_at(files, out, &bytes)?;
     Ok(String::new(alloc))
 }
 
-/// Writes the image at a path in version 2 to the file at `out`, and prints nothing.
+/// Writes the image at a path in version 2 to the file at `out`. Returns an empty text.
 fn upgrade_to<F: Files>(
     alloc: Global,
     files: &mut F,
@@ -204,16 +208,16 @@ fn upgrade_to<F: Files>(
         result }
     ensures unwritten { IfErr result
         (λ e. status_of e ≢ Status.File → status_of e ≢ Status.Memory → files.new ≡ files.old) }
-    // where there is no such image nothing is written
+    // if there is no image in version 2, nothing is written
     ensures touched { files.new ≡ files.old ⊎ HasUpgrade (F.known files.old) (string_bytes image) }
 {
     let bytes = bytes_at(files, image)?;
     let later = upgraded(alloc, &bytes)?;
-    put_at(files, out, &later)?;
+    write_at(files, out, &later)?;
     Ok(String::new(alloc))
 }
 
-/// The line that says how large the image at a path is.
+/// Verifies the image at a path, and returns the line with its size.
 fn check_at<F: Files>(alloc: Global, files: &F, image: String) -> Result<String, Failure>
     ensures { IsUnread (F.known files.now) (IsPath (string_bytes image)) None result
         ⊎ Checks (F.known files.now) (string_bytes image) result }
@@ -223,7 +227,7 @@ fn check_at<F: Files>(alloc: Global, files: &F, image: String) -> Result<String,
     Ok(format!(in alloc; "ok units={units} instructions={instructions}\n")?)
 }
 
-/// The text of the image at a path, run for the context of a file.
+/// Runs the image at a path for the context of a file, and returns its text.
 fn run_at<F: Files>(
     alloc: Global,
     files: &F,
@@ -237,12 +241,12 @@ fn run_at<F: Files>(
     let bytes = bytes_at(files, image)?;
     let context = context_at(alloc, files, context)?;
     let text = run_image(alloc, &bytes, &context, budget);
-    // the process ends soon, and gives back all memory at once
+    // not dropped: the process ends soon and frees all its memory
     std::mem::forget(context);
-    text
+    Ok(text?)
 }
 
-/// The text of the entry for the context of a file.
+/// Renders the entry for the context of a file, and returns its text.
 fn render_in<F: Files>(
     alloc: Global,
     files: &F,
@@ -264,12 +268,12 @@ fn render_in<F: Files>(
         options,
     };
     let text = render_text(alloc, &entry, &context, budget);
-    // as in `run_at`
+    // not dropped, as in `run_at`
     std::mem::forget(context);
-    text
+    Ok(text?)
 }
 
-/// The context in a file, or the empty one where there is no file.
+/// Reads the context in a file, or returns the empty context if no file is named.
 pub(crate) fn context_at<F: Files>(
     alloc: Global,
     files: &F,
@@ -277,20 +281,20 @@ pub(crate) fn context_at<F: Files>(
 ) -> Result<Context, Failure>
     ensures given { IfOk result
         (λ context. IsContextAt (F.known files.now) path (pairs_of context)) }
-    // no file is asked for but that of the context
+    // no file is read except that of the context
     ensures err { IfErr result
         (λ e. IsUnread (F.known files.now) (IsOfContext path) path (Err e)) }
 {
     match path {
         Some(path) => {
             let bytes = bytes_at(files, path)?;
-            context_of(alloc, &bytes)
+            Ok(context_of(alloc, &bytes)?)
         }
         None => Ok(Context::new(alloc)),
     }
 }
 
-/// The bytes of the file at `path`.
+/// Returns the bytes of the file at `path`.
 pub(crate) fn bytes_at<F: Files>(files: &F, path: String) -> Result<Vec<u8>, Failure>
     ensures held { IfOk result
         (λ bytes. (F.known files.now).holds (string_bytes path) bytes.items) }
@@ -302,8 +306,8 @@ pub(crate) fn bytes_at<F: Files>(files: &F, path: String) -> Result<Vec<u8>, Fai
         .map_err(|error| no_file(error, path))
 }
 
-/// Makes `bytes` the contents of the file at `path`.
-fn put_at<F: Files>(files: &mut F, path: String, bytes: &[u8]) -> Result<(), Failure>
+/// Sets the contents of the file at `path` to `bytes`.
+fn write_at<F: Files>(files: &mut F, path: String, bytes: &[u8]) -> Result<(), Failure>
     ensures written { OnOk result ((F.known files.new).holds (string_bytes path) bytes.now) }
     ensures only { ChangesOnly (F.known files.old) (F.known files.new) (string_bytes path) }
     ensures err { IfErr result
@@ -314,7 +318,7 @@ fn put_at<F: Files>(files: &mut F, path: String, bytes: &[u8]) -> Result<(), Fai
         .map_err(|error| no_file(error, path))
 }
 
-/// The names of the files directly in `dir`, in the order of their bytes.
+/// Returns the names of the files directly in `dir`, in byte order.
 fn names_in<F: Files>(files: &F, dir: &str) -> Result<Vec<String>, FileError>
     ensures listed { IfOk result (λ names. (given : List (List ℕ))
         × (F.known files.now).lists dir.now given
@@ -327,7 +331,8 @@ fn names_in<F: Files>(files: &F, dir: &str) -> Result<Vec<String>, FileError>
     Ok(names)
 }
 
-/// The templates of the files directly in `dir`, by their names. A file that is no text is none.
+/// Reads the templates directly in `dir`, by their file names. A file that is not a text is
+/// skipped.
 fn templates_in<F: Files>(alloc: Global, files: &F, dir: String) -> Result<Templates, Failure>
     ensures library { IfOk result
         (λ templates. IsLibrary (F.known files.now) (string_bytes dir) (source_of templates)) }
@@ -345,7 +350,7 @@ fn templates_in<F: Files>(alloc: Global, files: &F, dir: String) -> Result<Templ
     Ok(templates)
 }
 
-/// Takes the file of a name in `dir` among the templates, where it is a text.
+/// Adds the file `name` of `dir` to the templates, if it is a text.
 fn read_into<F: Files>(
     alloc: Global,
     files: &F,

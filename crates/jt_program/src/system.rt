@@ -1,4 +1,4 @@
-//! The files of the system that the program runs on.
+//! The file system of the machine on which the program runs.
 
 use crate::files::{FileError, Files};
 use std::alloc::{AllocError, AllocFailed};
@@ -16,7 +16,7 @@ pub struct SystemFiles<'a, R> {
 impl<'a, R> SystemFiles<'a, R> {
     ghost use Rattle.std.specs.Prelude.{◌≡◌};
 
-    /// The file system of this runtime.
+    /// Returns the file system of a runtime.
     pub fn new(rt: &'a R) -> SystemFiles<'a, R>
         ensures { result.rt.now ≡ rt.now }
     {
@@ -30,7 +30,7 @@ impl From<io::Error> for FileError {
     ghost use Rattle.std.specs.declared.io.ErrorKind.TheVariants.{OutOfMemory};
     ghost use Rattle.jt_program.specs.declared.files.FileError.TheVariants.{Failed, NoMemory};
 
-    // want of memory is told apart from every other error
+    // lack of memory is kept apart from every other error
     ghost from_gives = { λ error e. (error_kind error ≡ OutOfMemory → e ≡ NoMemory)
         × (error_kind error ≢ OutOfMemory → e ≡ Failed) };
 
@@ -65,8 +65,8 @@ impl<T: Drop> From<AllocFailed<T>> for FileError {
     }
 }
 
-/// Room for the bytes that the system says a file has, and for one more: the end is then met
-/// without growing. None where it says nothing.
+/// Returns the size that the system reports for a file, and 1 more, so that its end is reached
+/// without a growth. Returns 0 if the system reports no size.
 fn room_for<F: OpenFile>(file: &F) -> usize {
     match file.metadata() {
         Ok(known) => usize::try_from(known.len()).unwrap_or(0).saturating_add(1),
@@ -74,8 +74,8 @@ fn room_for<F: OpenFile>(file: &F) -> usize {
     }
 }
 
-/// Whether a new file may take the place of what stands at `path`: nothing, or a regular file that
-/// may be written. A link, a device and a pipe are written where they are.
+/// Returns whether a new file may replace `path`: it names nothing, or a regular file that may be
+/// written. A link, a device and a pipe are written in place.
 fn may_replace<R: Runtime>(rt: &R, path: &str) -> bool {
     match fs::symlink_metadata(rt, path) {
         Ok(known) => known.is_file() && OpenOptions::new().write(true).open(rt, path).is_ok(),
@@ -83,8 +83,8 @@ fn may_replace<R: Runtime>(rt: &R, path: &str) -> bool {
     }
 }
 
-/// Fills a new file with `bytes`, lets those use it who may use the one at `path`, and gives it
-/// that name.
+/// Writes `bytes` to a new file, gives it the permissions of the file at `path`, and renames it to
+/// `path`.
 fn fill<R: Runtime, F: Write + OpenFile>(
     rt: &R,
     file: &mut F,
@@ -118,8 +118,8 @@ impl<R: Runtime + AllocGlobal> Files for SystemFiles<'_, R> {
         Ok(bytes)
     }
 
-    // What was there is kept until the new bytes are whole: they are written beside it, into `path`
-    // with `.part` behind it. Where no such file can be made they are written in place.
+    // The old contents stay until the new bytes are complete. These are written to a new file, at
+    // `path` with `.part` after it. If no such file can be made, they are written in place.
     fn write(&mut self, path: &str, bytes: &[u8]) -> Result<(), FileError> {
         let part = format!(in self.rt.alloc(); "{path}.part")?;
         let made = if may_replace(self.rt, path) {

@@ -1,21 +1,21 @@
-//! Images that run in turns.
+//! Runs images in turns.
 ghost use Rattle.std.specs.Prelude.{◌++◌, ◌∷◌, [], List, IfOk, IfErr, OnOk};
 ghost use Rattle.jt_args.specs.declared.Pair.{Pair as LinePair};
 ghost use Rattle.jt_turns.specs.Worlds.{world_of};
 ghost use Rattle.jt_program.specs.Commands.{AreOpen, IsNoStart, IsNotOpened, IsStart, TakesTurns};
 
-use crate::commands::verified_image;
 use crate::files::Files;
 use crate::messages::Failure;
 use crate::program::{bytes_at, context_at};
 use jt_args::Pair;
 use jt_budget::Budget;
+use jt_host::{CallError, verified_image};
 use jt_turns::{Sessions, Start};
 use std::alloc::Global;
 
-/// The lines of the images at paths, which run for the contexts of files in turns of so many
-/// instructions. Pair by pair the files are read and the session is opened, so what the first pair
-/// lacks that gives no session is answered.
+/// Runs the images of `pairs` for their contexts in turns of `slice` instructions, and returns the
+/// line of each. It reads the files and opens the session of each pair in order. So a failure is
+/// that of the first pair that gives no session.
 pub(crate) fn run_turns<F: Files>(
     alloc: Global,
     files: &F,
@@ -31,7 +31,7 @@ pub(crate) fn run_turns<F: Files>(
     }
     match sessions.run(alloc, slice) {
         Ok(lines) => Ok(lines),
-        Err(_) => Err(Failure::NoMemory),
+        Err(_) => Err(Failure::Call(CallError::NoMemory)),
     }
 }
 
@@ -54,7 +54,7 @@ fn open_pair<F: Files>(
     Ok(sessions.open(start, budget)?)
 }
 
-/// The image of a pair, verified, with the context of the pair.
+/// Reads and verifies the image of a pair, and reads its context.
 fn start_at<F: Files>(alloc: Global, files: &F, pair: Pair) -> Result<Start, Failure>
     ensures start { IfOk result (IsStart (F.known files.now) pair) }
     ensures err { IfErr result (IsNoStart (F.known files.now) pair) }

@@ -1,5 +1,5 @@
-//! A test of the program's public calls over files in memory. What its commands print and answer
-//! stands in the rows that are run over the program itself.
+//! Tests the program's public calls over files in memory. The rows over the program itself test
+//! what its commands print and return.
 #![tactic(auto)]
 
 #[cfg(test)]

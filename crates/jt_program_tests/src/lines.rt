@@ -1,4 +1,4 @@
-//! Lines over a disk: their statuses, what a sink took of what they print, and what they say.
+//! Tests lines over a disk: their statuses, what they print, and what they report.
 
 use jt_disk::{Disk, performed};
 use jt_machine::IoSink;
@@ -6,7 +6,7 @@ use std::alloc::Global;
 use std::io;
 use std::test::Fail;
 
-/// A writer that takes one byte a call, and fails once, when it took `left` of them.
+/// A writer that takes one byte per call, and fails once, after `left` bytes.
 #[derive(Drop)]
 struct Flaky {
     taken: String,
@@ -31,7 +31,7 @@ impl io::Write for Flaky {
     }
 }
 
-/// Does over a disk what a line asks for, and answers the status.
+/// Performs a line over a disk, and returns its status.
 fn status(
     alloc: Global,
     line: &str,
@@ -46,8 +46,8 @@ fn status(
     Ok(performed(alloc, &words, disk, out, errors))
 }
 
-/// The statuses of two lines over a disk of three templates and a context, what a sink took of both
-/// that fails behind `left` bytes, and what was said.
+/// Performs two lines over a disk of three templates and a context. Returns the statuses, what a
+/// sink took that fails after `left` bytes, and what was reported.
 fn ended(alloc: Global, left: usize, lines: &str) -> Result<String, Fail> {
     let mut disk = Disk::new(alloc);
     disk.put("d/a", b"x{{ 1 }}")?;
@@ -68,7 +68,7 @@ fn ended(alloc: Global, left: usize, lines: &str) -> Result<String, Fail> {
     Ok(format!(in alloc; "{first} {second} [{printed}][{said}]")?)
 }
 
-/// Rows `bytes taken: line ; line => statuses [printed][said]`.
+/// Rows of the form `bytes taken: line ; line => statuses [printed][said]`.
 const ROWS: &str = "9: compile d a out ; run out => 0 0 [x1][]
     9: compile d/e b out ; run out => 0 0 [y][]
     9: compile d b out ; run out => 3 5 [][jt: refused C1 Missing/jt: file out/]

@@ -1,18 +1,18 @@
--- The end of a run that a refused call on values, or an operation, comes to.
+-- The ends of runs that follow from refused calls on values and from operations.
 use Rattle.jt_value.specs.declared.fault.ValueError.{ValueError}
 use Rattle.jt_value.specs.declared.fault.ValueError.TheVariants as value_error
 use Rattle.jt_ops.specs.declared.limits.OpError.{OpError}
 use Rattle.jt_ops.specs.declared.limits.OpError.TheVariants as op_error
 use Rattle.jt_budget.specs.declared.spent.Spent.TheVariants as spent
-use Rattle.jt_reference.specs.declared.ended.End.{End}
-use Rattle.jt_reference.specs.declared.ended.End.TheVariants as end
+use Rattle.jt_reference.specs.declared.end.End.{End}
+use Rattle.jt_reference.specs.declared.end.End.TheVariants as end
 
--- a fault ends the run; a refused growth does, too
+-- A fault or a refused growth ends the run.
 abbrev pub end_of_value : ValueError → End
 end_of_value (value_error.Fault fault) = end.Fault fault
 end_of_value value_error.NoMemory = end.Refused
 
--- likewise, and a limit of size or nesting that is passed is spent
+-- A fault or a refused growth ends the run; an exceeded limit of size or nesting is spent.
 abbrev pub end_of_operation : OpError → End
 end_of_operation (op_error.Fault fault) = end.Fault fault
 end_of_operation op_error.TooLarge = end.Spent spent.Size

@@ -1,12 +1,12 @@
-//! The plain machine's output: buffers, the open one last.
+//! Holds the reference machine's output: buffers, the open one last.
 ghost use Rattle.std.specs.Prelude.{◌≡◌, ◌≤◌, OnOk};
-ghost use Rattle.jt_reference.specs.Output.{most};
+ghost use Rattle.jt_reference.specs.internal.Output.{most};
 
-use crate::ended::End;
+use crate::end::End;
 use jt_budget::Spent;
 use std::alloc::Global;
 
-/// The text of the run, the captures that are open, and how many bytes may still be put.
+/// The text of the run, the open captures, and the number of bytes that may still be emitted.
 #[derive(Drop)]
 pub(crate) struct Buffers {
     pub(crate) text: String,
@@ -25,7 +25,7 @@ impl Buffers {
         }
     }
 
-    /// Puts a text into the open buffer.
+    /// Emits a text to the open buffer.
     pub(crate) fn put(&mut self, text: &str) -> Result<(), End>
         ensures { OnOk result (most self.new ≤ most self.old) }
     {
@@ -49,7 +49,7 @@ impl Buffers {
         Ok(())
     }
 
-    /// Closes the capture that was opened last, and hands out its text.
+    /// Closes the innermost capture and returns its text.
     pub(crate) fn close(&mut self) -> Result<String, End>
         ensures { OnOk result (most self.new ≤ most self.old) }
     {

@@ -1,16 +1,20 @@
-//! A plain machine for tests, beside which the machine is run. What it comes to is for the tests,
-//! and no contract says it: only that a text is within the output that the budget allows.
+//! Interprets images for tests. The machine is compared with this interpreter; no contract states
+//! its results, except that a text fits the output budget.
 //!
-//! A list of activations (machine), their buffers and loops (buffers, loops), values made of
-//! several (making), why a run stops (ended). Read first:
-//! machine.rt.
+//! - machine: the activations, and most instructions.
+//! - buffers: the output.
+//! - loops: the instructions of loops.
+//! - making: values that are made from several others.
+//! - end: why a run stops.
+//!
+//! Read first: machine.rt.
 #![tactic(auto)]
 
 mod buffers;
-mod ended;
+mod end;
 mod loops;
 mod machine;
 mod making;
 
-pub use ended::End;
-pub use machine::plain_end;
+pub use end::End;
+pub use machine::reference_end;

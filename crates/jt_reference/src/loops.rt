@@ -1,13 +1,13 @@
-//! The plain machine's loops.
+//! Executes the reference machine's loops.
 
-use crate::ended::End;
-use crate::machine::{Entry, Plain, UNDEFINED};
+use crate::end::End;
+use crate::machine::{ReferenceMachine, StackEntry, UNDEFINED};
 use jt_image::LoopField;
 use jt_value::{Fault, Value};
 use std::alloc::Global;
 use std::mem::replace;
 
-/// A loop: the places of its items, how many were taken, and those kept.
+/// A loop: the indices of its items, how many were taken, and the indices of the kept items.
 #[derive(Drop)]
 pub(crate) struct Loop {
     items: Vec<usize>,
@@ -15,15 +15,15 @@ pub(crate) struct Loop {
     kept: Vec<usize>,
 }
 
-/// What a loop tells: the value at a place, a number or a truth value.
+/// The value of a loop field: the index of a value, a number or a truth value.
 #[derive(Clone, Copy)]
-enum Told {
+enum LoopFieldValue {
     Place(usize),
     Number(i128),
     Truth(bool),
 }
 
-// Puts the items of a value behind others.
+// Appends the items of a value to `into`.
 fn put_items(alloc: Global, value: &Value, into: &mut Vec<Value>) -> Result<(), End> {
     if let Some(text) = value.as_text() {
         return put_characters(alloc, text, into);
@@ -62,7 +62,7 @@ fn put_copies(alloc: Global, list: &[Value], into: &mut Vec<Value>) -> Result<()
 }
 
 impl Loop {
-    // The place of the item of a number, counted from 1.
+    // Returns the index of the item with this number, counted from 1.
     fn item(&self, number: usize) -> usize {
         match number.checked_sub(1) {
             Some(index) => *self.items.get(index).unwrap_or(&UNDEFINED),
@@ -70,25 +70,27 @@ impl Loop {
         }
     }
 
-    // What the loop tells of its turn.
-    fn told(&self, field: LoopField) -> Told {
+    // Returns a field of the current loop turn.
+    fn loop_field_value(&self, field: LoopField) -> LoopFieldValue {
         let p = self.position as i128;
         let n = self.items.len() as i128;
         match field {
-            LoopField::Item => Told::Place(self.item(self.position)),
-            LoopField::Index => Told::Number(p),
-            LoopField::Index0 => Told::Number(p - 1),
-            LoopField::RevIndex => Told::Number(n - p + 1),
-            LoopField::RevIndex0 => Told::Number(n - p),
-            LoopField::First => Told::Truth(p == 1),
-            LoopField::Last => Told::Truth(p == n),
-            LoopField::Length => Told::Number(n),
-            LoopField::Previous => Told::Place(self.item(self.position.saturating_sub(1))),
-            LoopField::Next => Told::Place(self.item(self.position.saturating_add(1))),
+            LoopField::Item => LoopFieldValue::Place(self.item(self.position)),
+            LoopField::Index => LoopFieldValue::Number(p),
+            LoopField::Index0 => LoopFieldValue::Number(p - 1),
+            LoopField::RevIndex => LoopFieldValue::Number(n - p + 1),
+            LoopField::RevIndex0 => LoopFieldValue::Number(n - p),
+            LoopField::First => LoopFieldValue::Truth(p == 1),
+            LoopField::Last => LoopFieldValue::Truth(p == n),
+            LoopField::Length => LoopFieldValue::Number(n),
+            LoopField::Previous => LoopFieldValue::Place(self.item(
+                self.position.saturating_sub(1),
+            )),
+            LoopField::Next => LoopFieldValue::Place(self.item(self.position.saturating_add(1))),
         }
     }
 
-    // Keeps the current item, if there is one.
+    // Keeps the current item, if one was taken.
     fn keep(&mut self) -> Result<(), End> {
         if self.position > 0 {
             let current = self.item(self.position);
@@ -98,8 +100,8 @@ impl Loop {
     }
 }
 
-impl Plain<'_> {
-    /// The places of a value's items, which are new values.
+impl ReferenceMachine<'_> {
+    /// Stores the items of a value as new values, and returns their indices.
     pub(crate) fn items_at(&mut self, place: usize) -> Result<Vec<usize>, End> {
         let alloc = self.alloc;
         let before = self.values.len();
@@ -124,7 +126,7 @@ impl Plain<'_> {
         };
         let place = self.loops.len();
         self.loops.push(started)?;
-        self.push_entry(Entry::Loop(place))
+        self.push_entry(StackEntry::Loop(place))
     }
 
     pub(crate) fn next_turn(&mut self, target: u32) -> Result<(), End> {
@@ -139,10 +141,10 @@ impl Plain<'_> {
     pub(crate) fn loop_field(&mut self, field: u8, above: usize) -> Result<(), End> {
         let field = LoopField::by_id(field).ok_or(End::Wrong)?;
         self.pay(1)?;
-        match self.loop_at(above)?.told(field) {
-            Told::Place(place) => self.push_at(place),
-            Told::Truth(truth) => self.push(Value::Bool(truth)),
-            Told::Number(n) => match i64::try_from(n) {
+        match self.loop_at(above)?.loop_field_value(field) {
+            LoopFieldValue::Place(place) => self.push_at(place),
+            LoopFieldValue::Truth(truth) => self.push(Value::Bool(truth)),
+            LoopFieldValue::Number(n) => match i64::try_from(n) {
                 Ok(number) => self.push(Value::Int(number)),
                 Err(_) => Err(End::Fault(Fault::Overflow)),
             },

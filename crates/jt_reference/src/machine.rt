@@ -1,16 +1,16 @@
-//! A plain machine: a list of activations, the running one last, each with its own point, locals
-//! and entries. It follows the table of instructions word by word and shares with the machine only
-//! values, and what operators, filters and tests give.
+//! Runs an image with a list of activations, the running one last, each with its own point, locals
+//! and entries. It follows the table of instructions literally. It shares with the machine only
+//! values, and the results of operators, filters and tests.
 //!
-//! It keeps every value that was made, and is told of one by its place among them: what holds no
-//! value is let go for nothing, so the prover has little to do.
+//! It keeps every value that was made, and refers to a value by its index. Entries own no values,
+//! so dropping them needs no work, and the prover has little to do.
 
 ghost use Rattle.std.specs.Prelude.{◌≤◌, IfOk, OnOk};
 ghost use Rattle.std.specs.String.{string_len};
-ghost use Rattle.jt_reference.specs.Output.{most};
+ghost use Rattle.jt_reference.specs.internal.Output.{most};
 
 use crate::buffers::Buffers;
-use crate::ended::End;
+use crate::end::End;
 use crate::loops::Loop;
 use jt_budget::{Budget, Spent};
 use jt_escape::escape_into;
@@ -18,28 +18,28 @@ use jt_image::{Code, ConstantRef, Image, Instruction};
 use jt_value::{Context, Value};
 use std::alloc::Global;
 
-/// The place of the value undefined, the first one.
+/// The index of the value undefined, which is the first one.
 pub(crate) const UNDEFINED: usize = 0;
 
-/// An entry of an activation: the place of a value or of a loop, or a capture.
+/// An entry of an activation: the index of a value or of a loop, or a capture.
 #[derive(Clone, Copy)]
-pub(crate) enum Entry {
+pub(crate) enum StackEntry {
     Value(usize),
     Loop(usize),
     Capture,
 }
 
-/// A unit that runs or waits, and where it goes on.
+/// A unit that runs or waits, and the point at which it goes on.
 #[derive(Drop)]
 pub(crate) struct Activation {
     unit: usize,
     pub(crate) point: usize,
     locals: Vec<usize>,
-    entries: Vec<Entry>,
+    entries: Vec<StackEntry>,
 }
 
-/// What an instruction leaves to do, beyond what it did to the values: nothing, a text to put, a
-/// capture to open or to close, or nothing more in the whole run.
+/// The rest of an instruction after it changed the values: a text to emit, a capture to open or
+/// close, the end of the run, or none.
 #[derive(Drop)]
 enum Next {
     GoOn,
@@ -49,9 +49,9 @@ enum Next {
     Done,
 }
 
-/// A run between two instructions, but for its output.
+/// The state of a run between two instructions, without its output.
 #[derive(Drop)]
-pub(crate) struct Plain<'a> {
+pub(crate) struct ReferenceMachine<'a> {
     pub(crate) alloc: Global,
     image: &'a Image,
     activations: Vec<Activation>,
@@ -61,9 +61,13 @@ pub(crate) struct Plain<'a> {
     pub(crate) left: Budget,
 }
 
-/// The text of a run of an image, or how it ends without one. The text has at most as many bytes as
-/// the budget allows to put; that it is the machine's is for the tests to show.
-pub fn plain_end(
+/// Runs an image and returns its text, which fits the output budget. Tests compare it with the text
+/// of the machine.
+///
+/// # Errors
+///
+/// The `End` of a run that ends without a text.
+pub fn reference_end(
     alloc: Global,
     image: &Image,
     context: &Context,
@@ -76,8 +80,8 @@ pub fn plain_end(
     carried_on(plain, Buffers::new(alloc, budget.output), budget.fuel)
 }
 
-// A run at its first instruction, where no name has a value.
-fn begun(alloc: Global, image: &Image, budget: Budget) -> Result<Plain<'_>, End> {
+// Returns a run before its first instruction, in which no name has a value.
+fn begun(alloc: Global, image: &Image, budget: Budget) -> Result<ReferenceMachine<'_>, End> {
     let header = image.unit(0).ok_or(End::Wrong)?;
     let first = Activation {
         unit: 0,
@@ -85,7 +89,7 @@ fn begun(alloc: Global, image: &Image, budget: Budget) -> Result<Plain<'_>, End>
         locals: vec![in alloc; UNDEFINED; usize::from(header.locals)]?,
         entries: Vec::new(alloc),
     };
-    Ok(Plain {
+    Ok(ReferenceMachine {
         alloc,
         image,
         activations: vec![in alloc; first]?,
@@ -96,9 +100,8 @@ fn begun(alloc: Global, image: &Image, budget: Budget) -> Result<Plain<'_>, End>
     })
 }
 
-// The end of a run: an instruction costs at least 1, so there is one after as many steps as there
-// is fuel and one more.
-fn carried_on(plain: Plain<'_>, buffers: Buffers, fuel: u64) -> Result<String, End>
+// Executes instructions until the run ends. Each costs at least 1, so `fuel` + 1 steps suffice.
+fn carried_on(plain: ReferenceMachine<'_>, buffers: Buffers, fuel: u64) -> Result<String, End>
     ensures { IfOk result (λ text. string_len text ≤ most buffers) }
 {
     let mut plain = plain;
@@ -111,8 +114,8 @@ fn carried_on(plain: Plain<'_>, buffers: Buffers, fuel: u64) -> Result<String, E
     Err(End::Wrong)
 }
 
-// One instruction with what it puts, and whether it was the last one.
-fn turn(plain: &mut Plain<'_>, buffers: &mut Buffers) -> Result<bool, End>
+// Executes one instruction with its output, and returns whether it was the last one.
+fn turn(plain: &mut ReferenceMachine<'_>, buffers: &mut Buffers) -> Result<bool, End>
     ensures { OnOk result (most buffers.new ≤ most buffers.old) }
 {
     match plain.step()? {
@@ -125,7 +128,7 @@ fn turn(plain: &mut Plain<'_>, buffers: &mut Buffers) -> Result<bool, End>
     Ok(false)
 }
 
-/// Tests a value against the limits, its size first.
+/// Checks a value against the limits, its size first.
 pub(crate) fn fit(value: &Value, left: &Budget) -> Result<(), End> {
     if value.size() > u64::from(left.size) {
         return Err(End::Spent(Spent::Size));
@@ -136,8 +139,8 @@ pub(crate) fn fit(value: &Value, left: &Budget) -> Result<(), End> {
     Ok(())
 }
 
-impl Plain<'_> {
-    // Gives the globals that have a name the values of a context.
+impl ReferenceMachine<'_> {
+    // Sets the globals that have a name to the values of a context.
     fn bind(&mut self, context: &Context) -> Result<(), End> {
         for i in 0..self.image.names() {
             let (slot, name) = self.image.name(i).ok_or(End::Wrong)?;
@@ -161,7 +164,7 @@ impl Plain<'_> {
             Instruction::Data { constant } => self.data(constant as usize),
             Instruction::CaptureBegin => self.begin_capture(),
             Instruction::CaptureEnd { flag } => self.end_capture(flag == 1),
-            Instruction::Return => self.come_back(),
+            Instruction::Return => self.return_to_caller(),
             _ => {
                 self.act(instruction)?;
                 Ok(Next::GoOn)
@@ -169,7 +172,7 @@ impl Plain<'_> {
         }
     }
 
-    // An instruction that puts nothing, and that does not end the run.
+    // Executes an instruction that changes no buffer and does not end the run.
     fn act(&mut self, instruction: Instruction) -> Result<(), End> {
         match instruction {
             Instruction::Jump { target } => self.jump(target),
@@ -182,13 +185,13 @@ impl Plain<'_> {
             Instruction::Store { local } => self.store(local as usize),
             Instruction::GLoad { global } => self.load_global(global as usize),
             Instruction::GStore { global } => self.store_global(global as usize),
-            Instruction::Drop => self.let_go(),
+            Instruction::Drop => self.release(),
             Instruction::Dup => self.double(),
             _ => self.make(instruction),
         }
     }
 
-    // An instruction that makes a value of several, or is of a loop.
+    // Executes an instruction that makes a value from several, or that belongs to a loop.
     fn make(&mut self, instruction: Instruction) -> Result<(), End> {
         match instruction {
             Instruction::Op { operator } => self.operate(operator),
@@ -222,48 +225,48 @@ impl Plain<'_> {
         Ok(())
     }
 
-    /// The value at a place.
+    /// Returns the value at an index.
     pub(crate) fn value(&self, place: usize) -> Result<&Value, End> {
         self.values.get(place).ok_or(End::Wrong)
     }
 
-    // Keeps a value, and tells its place.
+    // Stores a value and returns its index.
     fn kept(&mut self, value: Value) -> Result<usize, End> {
         let place = self.values.len();
         self.values.push(value)?;
         Ok(place)
     }
 
-    pub(crate) fn push_entry(&mut self, entry: Entry) -> Result<(), End> {
+    pub(crate) fn push_entry(&mut self, entry: StackEntry) -> Result<(), End> {
         self.running()?.entries.push(entry)?;
         Ok(())
     }
 
-    /// Puts the value at a place on top, where it fits.
+    /// Pushes the value at an index, if it is within the limits.
     pub(crate) fn push_at(&mut self, place: usize) -> Result<(), End> {
         let left = self.left;
         fit(self.value(place)?, &left)?;
-        self.push_entry(Entry::Value(place))
+        self.push_entry(StackEntry::Value(place))
     }
 
-    /// Puts a new value on top, where it fits.
+    /// Pushes a new value, if it is within the limits.
     pub(crate) fn push(&mut self, value: Value) -> Result<(), End> {
         let place = self.kept(value)?;
         self.push_at(place)
     }
 
-    pub(crate) fn pop_entry(&mut self) -> Result<Entry, End> {
+    pub(crate) fn pop_entry(&mut self) -> Result<StackEntry, End> {
         self.running()?.entries.pop().ok_or(End::Wrong)
     }
 
     pub(crate) fn pop(&mut self) -> Result<usize, End> {
         match self.pop_entry()? {
-            Entry::Value(place) => Ok(place),
+            StackEntry::Value(place) => Ok(place),
             _ => Err(End::Wrong),
         }
     }
 
-    // The places of that many values from the top, the deepest first.
+    // Pops `count` values and returns their indices, the deepest first.
     pub(crate) fn pop_many(&mut self, count: usize) -> Result<Vec<usize>, End> {
         let mut places = Vec::new(self.alloc);
         for _ in 0..count {
@@ -273,13 +276,13 @@ impl Plain<'_> {
         Ok(places)
     }
 
-    // The loop that has so many entries above it.
+    // Returns the loop that lies below `above` entries.
     pub(crate) fn loop_at(&mut self, above: usize) -> Result<&mut Loop, End> {
         let entries = &self.running()?.entries;
         let depth = above.saturating_add(1);
         let place = entries.len().checked_sub(depth).ok_or(End::Wrong)?;
         match entries.get(place) {
-            Some(Entry::Loop(place)) => {
+            Some(StackEntry::Loop(place)) => {
                 let place = *place;
                 self.loops.get_mut(place).ok_or(End::Wrong)
             }
@@ -345,7 +348,7 @@ impl Plain<'_> {
         Ok(())
     }
 
-    fn let_go(&mut self) -> Result<(), End> {
+    fn release(&mut self) -> Result<(), End> {
         self.pop()?;
         self.pay(1)
     }
@@ -353,7 +356,7 @@ impl Plain<'_> {
     fn double(&mut self) -> Result<(), End> {
         let place = self.pop()?;
         self.pay(1)?;
-        self.push_entry(Entry::Value(place))?;
+        self.push_entry(StackEntry::Value(place))?;
         self.push_at(place)
     }
 
@@ -364,7 +367,7 @@ impl Plain<'_> {
         Ok(Next::Put(self.printed(place, escaping)?))
     }
 
-    // What a value prints as.
+    // Returns the printed text of a value, escaped if `escaping` is true and it is not markup.
     fn printed(&self, place: usize, escaping: bool) -> Result<String, End> {
         let value = self.value(place)?;
         let text = value.printed(self.alloc)?;
@@ -386,19 +389,19 @@ impl Plain<'_> {
 
     fn begin_capture(&mut self) -> Result<Next, End> {
         self.pay(1)?;
-        self.push_entry(Entry::Capture)?;
+        self.push_entry(StackEntry::Capture)?;
         Ok(Next::Open)
     }
 
     fn end_capture(&mut self, is_markup: bool) -> Result<Next, End> {
-        let Entry::Capture = self.pop_entry()? else {
+        let StackEntry::Capture = self.pop_entry()? else {
             return Err(End::Wrong);
         };
         self.pay(1)?;
         Ok(Next::Close { is_markup })
     }
 
-    // Puts a captured text on top, where it fits.
+    // Pushes a captured text, if it is within the limits.
     fn push_captured(&mut self, text: String, is_markup: bool) -> Result<(), End> {
         let value = if is_markup {
             Value::from_markup(text)?
@@ -424,8 +427,8 @@ impl Plain<'_> {
         Ok(())
     }
 
-    // Back to the caller with what the unit gives, or the end of the run.
-    fn come_back(&mut self) -> Result<Next, End> {
+    // Returns to the caller with the result of the unit, or ends the run.
+    fn return_to_caller(&mut self) -> Result<Next, End> {
         self.pay(1)?;
         let given = self.running()?.entries.pop();
         self.activations.pop();
@@ -435,7 +438,7 @@ impl Plain<'_> {
         self.left.depth = self.left.depth.saturating_add(1);
         match given {
             None => {}
-            Some(Entry::Value(place)) => self.push_at(place)?,
+            Some(StackEntry::Value(place)) => self.push_at(place)?,
             Some(_) => return Err(End::Wrong),
         }
         Ok(Next::GoOn)

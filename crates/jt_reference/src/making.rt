@@ -1,13 +1,13 @@
-//! What the plain machine makes of several values.
+//! Makes values from several others for the reference machine.
 
-use crate::ended::End;
-use crate::machine::Plain;
+use crate::end::End;
+use crate::machine::ReferenceMachine;
 use jt_budget::Spent;
 use jt_filters::{FilterId, Limits, OpError, OpId, TestId, apply, binary, range, test, unary};
 use jt_value::{Fault, Value};
 use std::alloc::Global;
 
-// What an operator gives on its operands, the left one first.
+// Returns the result of an operator on its operands, the left one first.
 fn operated(
     alloc: Global,
     operator: OpId,
@@ -26,7 +26,7 @@ fn operated(
     Ok(made?)
 }
 
-// How many operands an operator takes.
+// Returns the number of operands of an operator.
 fn operands_of(operator: OpId) -> usize {
     if operator.takes(3) {
         return 3;
@@ -34,7 +34,7 @@ fn operands_of(operator: OpId) -> usize {
     if operator.takes(2) { 2 } else { 1 }
 }
 
-// The map of keys and values in turn.
+// Returns the map of alternating keys and values.
 fn map_of(alloc: Global, values: &[Value]) -> Result<Value, End> {
     check_keys(values)?;
     let mut entries = Vec::new(alloc);
@@ -47,7 +47,7 @@ fn map_of(alloc: Global, values: &[Value]) -> Result<Value, End> {
     Ok(Value::from_entries(alloc, entries)?)
 }
 
-// Puts an entry behind the others. A key that is there keeps its place and takes the value.
+// Appends an entry. A key that exists keeps its place and takes the new value.
 fn put_entry(
     alloc: Global,
     entries: &mut Vec<(String, Value)>,
@@ -64,7 +64,7 @@ fn put_entry(
     Ok(())
 }
 
-// The fault of keys that are no texts: of an undefined one, if there is one.
+// Checks that all keys are texts. The fault of an undefined key comes first.
 fn check_keys(values: &[Value]) -> Result<(), End> {
     let mut fault = None;
     for (i, value) in values.iter().enumerate() {
@@ -82,7 +82,7 @@ fn check_keys(values: &[Value]) -> Result<(), End> {
     }
 }
 
-impl Plain<'_> {
+impl ReferenceMachine<'_> {
     fn limits(&self) -> Limits {
         Limits {
             size: self.left.size,
@@ -90,7 +90,7 @@ impl Plain<'_> {
         }
     }
 
-    // What it costs to take the values at some places.
+    // Returns the cost of reading the values at these indices.
     fn cost(&self, places: &[usize]) -> Result<u64, End> {
         let mut sizes = 0u64;
         for place in places {
@@ -99,7 +99,7 @@ impl Plain<'_> {
         Ok(1 + sizes / 64)
     }
 
-    // The values at some places.
+    // Returns copies of the values at these indices.
     fn values_at(&self, places: &[usize]) -> Result<Vec<Value>, End> {
         let mut values = Vec::new(self.alloc);
         for place in places {
@@ -108,7 +108,7 @@ impl Plain<'_> {
         Ok(values)
     }
 
-    // That many values from the top, the deepest first, paid for by their sizes.
+    // Pops `count` values, charges for their sizes, and returns copies of them, the deepest first.
     fn take(&mut self, count: usize) -> Result<Vec<Value>, End> {
         let places = self.pop_many(count)?;
         let cost = self.cost(&places)?;
@@ -155,7 +155,7 @@ impl Plain<'_> {
         self.push(map)
     }
 
-    // The items of a value, the last one on top: the sizes of all are tested first.
+    // Pushes the items of a value, the last one on top. The sizes of all items are checked first.
     pub(crate) fn unpack(&mut self, count: usize) -> Result<(), End> {
         let place = self.pop()?;
         let cost = 1 + self.value(place)?.size() / 64;

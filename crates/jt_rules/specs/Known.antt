@@ -1,12 +1,15 @@
--- Each test and filter of a template is known. The parser sees to that.
+-- The property of templates that each test and filter is known. The parser ensures it.
 use Rattle.std.specs.Prelude.{Option, Some, None, List, [], ◌∷◌}
-use Rattle.jt_trees.specs.Expressions as trees
-use Rattle.jt_trees.specs.Expressions.{Expr, constant, name, group, list_of, map_of, attribute, item, call, filter, test, unary, binary, when, choice, Exprs, no_exprs, expr, no_pairs, pair}
-use Rattle.jt_evaluation.specs.Tests.{test_named}
-use Rattle.jt_trees.specs.Statements.{Filtering, Stmt, data_of, print, choose, for_each, set, set_block, with_values, filter_block, autoescape, macro, include, import_as, import_from, extends, block, Body, end, stmt, Branches, no_branches, branch}
-use Rattle.jt_chains.specs.Chain.{Home, Template, templates}
-use Rattle.jt_evaluation.specs.Filters.{Filters}
-use Rattle.jt_rules.specs.World.{World}
+use Rattle.jt_ast.specs.Expressions as trees
+use Rattle.jt_ast.specs.Expressions.{Expr, constant, name, group, list_of, map_of, attribute, item, call, filter, test}
+use Rattle.jt_ast.specs.Expressions.{unary, binary, when, choice, Exprs, no_exprs, expr, no_pairs, pair}
+use Rattle.jt_eval.specs.Tests.{test_named}
+use Rattle.jt_ast.specs.Statements.{FilterCall, Stmt, data_of, print, choose, for_each, set, set_block, with_values}
+use Rattle.jt_ast.specs.Statements.{filter_block, autoescape, macro, include, import_as, import_from, extends, block}
+use Rattle.jt_ast.specs.Statements.{Body, end, stmt, Branches, no_branches, branch}
+use Rattle.jt_chains.specs.Chain.{Namespace, Template, templates}
+use Rattle.jt_eval.specs.Filters.{Filters}
+use Rattle.jt_rules.specs.CompileEnv.{CompileEnv}
 
 abbrev pub IsThere : {A : Type 0} → Option A → Type 0
 IsThere None = ⊥
@@ -18,15 +21,15 @@ module _ (fs : Filters) where
     ExprKnown (constant l) = Unit {0}
     ExprKnown (name x) = Unit {0}
     ExprKnown (group a) = ExprKnown a
-    ExprKnown (list_of ts) = RowKnown ts
-    ExprKnown (map_of ps) = PairsKnown ps
+    ExprKnown (list_of items) = RowKnown items
+    ExprKnown (map_of pairs) = PairsKnown pairs
     ExprKnown (attribute a k) = ExprKnown a
     ExprKnown (item a b) = ExprKnown a × ExprKnown b
-    ExprKnown (call a ts ps) = RowKnown ts × PairsKnown ps
-    ExprKnown (filter a x ts ps) =
-        IsThere (fs.named x ts ps) × ExprKnown a × RowKnown ts × PairsKnown ps
-    ExprKnown (test a n x ts ps) =
-        IsThere (test_named x) × ExprKnown a × RowKnown ts × PairsKnown ps
+    ExprKnown (call a arguments pairs) = RowKnown arguments × PairsKnown pairs
+    ExprKnown (filter a x arguments pairs) =
+        IsThere (fs.named x arguments pairs) × ExprKnown a × RowKnown arguments × PairsKnown pairs
+    ExprKnown (test a n x arguments pairs) =
+        IsThere (test_named x) × ExprKnown a × RowKnown arguments × PairsKnown pairs
     ExprKnown (unary o a) = ExprKnown a
     ExprKnown (binary o a b) = ExprKnown a × ExprKnown b
     ExprKnown (when c a) = ExprKnown c × ExprKnown a
@@ -34,23 +37,23 @@ module _ (fs : Filters) where
 
     pub RowKnown : Exprs → Type 0
     RowKnown no_exprs = Unit {0}
-    RowKnown (expr a ts) = ExprKnown a × RowKnown ts
+    RowKnown (expr a rest) = ExprKnown a × RowKnown rest
 
     pub PairsKnown : trees.Pairs → Type 0
     PairsKnown no_pairs = Unit {0}
-    PairsKnown (pair k a ps) = ExprKnown a × PairsKnown ps
+    PairsKnown (pair k a pairs) = ExprKnown a × PairsKnown pairs
 
   abbrev pub ConditionKnown : Option Expr → Type 0
   ConditionKnown None = Unit {0}
   ConditionKnown (Some c) = ExprKnown c
 
-  abbrev pub FilteringKnown : List Filtering → Type 0
-  FilteringKnown [] = Unit {0}
-  FilteringKnown (f ∷ fs') =
+  abbrev pub FilterCallKnown : List FilterCall → Type 0
+  FilterCallKnown [] = Unit {0}
+  FilterCallKnown (f ∷ fs') =
       IsThere (fs.named f.name f.arguments f.keywords)
       × RowKnown f.arguments
       × PairsKnown f.keywords
-      × FilteringKnown fs'
+      × FilterCallKnown fs'
 
   abbrev mutual
     pub StmtKnown : Stmt → Type 0
@@ -61,10 +64,10 @@ module _ (fs : Filters) where
         ExprKnown e × ConditionKnown c × BodyKnown body × BodyKnown other
     StmtKnown (set line xs e) = ExprKnown e
     StmtKnown (set_block line x body) = BodyKnown body
-    StmtKnown (with_values line ps body) = PairsKnown ps × BodyKnown body
-    StmtKnown (filter_block line fs' body) = FilteringKnown fs' × BodyKnown body
+    StmtKnown (with_values line pairs body) = PairsKnown pairs × BodyKnown body
+    StmtKnown (filter_block line fs' body) = FilterCallKnown fs' × BodyKnown body
     StmtKnown (autoescape line on body) = BodyKnown body
-    StmtKnown (macro line x ps body) = BodyKnown body
+    StmtKnown (macro line x parameters body) = BodyKnown body
     StmtKnown (include line n ignore_missing with_context) = Unit {0}
     StmtKnown (import_as line n x) = Unit {0}
     StmtKnown (import_from line n xs) = Unit {0}
@@ -79,12 +82,12 @@ module _ (fs : Filters) where
     BranchesKnown no_branches = Unit {0}
     BranchesKnown (branch line c body rest) = ExprKnown c × BodyKnown body × BranchesKnown rest
 
--- each template of each chain
+-- Holds if each filter and test of the templates is known.
 abbrev pub TemplatesKnown : Filters → List Template → Type 0
 TemplatesKnown fs [] = Unit {0}
 TemplatesKnown fs (t ∷ ts) = BodyKnown fs t.body × TemplatesKnown fs ts
 
-abbrev pub ChainsKnown : World → List Home → Type 0
-ChainsKnown world [] = Unit {0}
-ChainsKnown world (h ∷ hs) =
-    TemplatesKnown world.filters (templates world.sources h) × ChainsKnown world hs
+abbrev pub ChainsKnown : CompileEnv → List Namespace → Type 0
+ChainsKnown cenv [] = Unit {0}
+ChainsKnown cenv (h ∷ hs) =
+    TemplatesKnown cenv.filters (templates cenv.sources h) × ChainsKnown cenv hs

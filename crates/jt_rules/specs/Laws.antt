@@ -1,11 +1,11 @@
--- What holds of every chain that keeps the rules.
+-- The laws of chains that keep the rules.
 use Rattle.std.specs.Prelude.{◌≡◌, List, None}
-use Rattle.jt_chains.specs.Chain.{Home}
+use Rattle.jt_chains.specs.Chain.{Namespace}
 use Rattle.jt_rules.specs.Rules.{KeepsRules}
 use Rattle.jt_rules.specs.Walk.{chains_broken}
-use Rattle.jt_rules.specs.World.{World}
+use Rattle.jt_rules.specs.CompileEnv.{CompileEnv}
 
 pub record RulesLaws : Type 0 where
-  -- the walk through the chains finds no broken rule
-  pub walked : (world : World) (order : List Home) → KeepsRules world order
-      → chains_broken world order ≡ None
+  -- The walk through the chains finds no broken rule.
+  pub walked : (cenv : CompileEnv) (order : List Namespace) → KeepsRules cenv order
+      → chains_broken cenv order ≡ None

@@ -1,5 +1,5 @@
-pub mod World
-pub mod Spots
+pub mod CompileEnv
+pub mod UseSites
 pub mod Arguments
 pub mod Rules
 pub mod Walk

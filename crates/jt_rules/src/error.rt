@@ -1,28 +1,31 @@
-//! Why a template is not resolved.
+//! Defines the errors of the static rules.
 
 use jt_value::NoMemory;
 use std::alloc::{AllocError, AllocFailed};
 use thiserror::Error;
 
-/// Why a template is not resolved.
+/// The reason for which a template is not resolved: a broken rule, or lack of memory.
 #[derive(Clone, Copy, Debug, Drop, Error, PartialEq, Eq)]
 pub enum ScopeError {
-    /// `loop` is read where no loop is.
+    /// A misuse of `loop`: a read by itself, a binding, a wrong call, or a field that does not
+    /// exist or is read outside a loop.
     #[error("V1 LoopOutside")]
     LoopOutside,
-    /// A macro is read as a value.
+    /// A macro or a library that is read as a value, or whose name is bound.
     #[error("V2 MacroAsValue")]
     MacroAsValue,
-    /// `self`, `super` or `range` is read outside its named forms.
+    /// A read by itself or a binding of `self`, `super` or `range`, or a call without a valid
+    /// callee.
     #[error("V3 NotCallable")]
     NotCallable,
-    /// A call with arguments that it does not take.
+    /// Arguments that a call, a filter or a test does not take, or a parameter that a macro has
+    /// twice.
     #[error("V4 BadArguments")]
     BadArguments,
-    /// More names than there are slots.
+    /// Too many parameters of a macro, names that a template binds, or names of the chains.
     #[error("V5 TooManySlots")]
     TooManySlots,
-    /// A growth was refused.
+    /// A growth that was refused.
     #[error("V6 NoMemory")]
     NoMemory,
 }

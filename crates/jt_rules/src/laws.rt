@@ -1,8 +1,9 @@
-//! What callers' proofs rest on.
+//! States the laws of the rules, which proofs of callers use.
 
 ghost use Rattle.jt_rules.specs.Laws.{RulesLaws};
 
-/// The laws of the rules. It does nothing: a caller learns them from its contract.
+/// States the laws of the rules in its contract, and does nothing. A caller learns the laws from
+/// the contract.
 pub fn rules_laws()
     ensures { RulesLaws }
 {}

@@ -1,7 +1,7 @@
-//! The static rules of names and calls, as definitions and their laws.
+//! Defines the static rules of names and calls, with their laws.
 //!
-//! Read first: specs/Rules.antt, one predicate a rule, V1 to V5, over what is done at each place of
-//! a chain (specs/Spots.antt). jt_checks looks whether they are kept.
+//! Read first: specs/Rules.antt, with one predicate for each of the rules V1 to V5, over the use
+//! sites of a chain (specs/UseSites.antt). jt_checks checks the rules.
 #![tactic(auto)]
 
 mod error;

@@ -1,5 +1,5 @@
-//! Calls of images, the verifier, runs and hosts that the program does not make, and the texts of errors
-//! that it does not show. All that it shows stands in `rows/`.
+//! Tests calls on images, the verifier, runs and hosts that the program does not make, and texts of
+//! errors that it does not print. The rows in `tests/rows/` test all that it prints.
 #![tactic(auto)]
 
 #[cfg(test)]

@@ -1,4 +1,4 @@
-//! Parts that are put together, and what an image and a view tell of theirs.
+//! Tests the assembly of parts, and the readers of an image and of a view.
 
 use crate::rows::{numbers, rows_hold};
 use jt_image::*;
@@ -6,13 +6,13 @@ use std::alloc::Global;
 use std::process::Abort;
 use std::test::Fail;
 
-// The image that puts the text x.
+// The image that emits the text `x`.
 const X: [u8; 44] = [
     0x4a, 0x54, 0x42, 0x43, 1, 0, 0, 0, 0, 0, 1, 0, 5, 1, 0, 0, 0, 0x78, 1, 0, 0, 0, 0, 0, 2, 0, 0,
     0, 9, 0, 0, 0, 0, 0, 0, 0, 0x1c, 0, 0, 0, 0, 0, 0, 0,
 ];
 
-// Checks that the readers of a code tell of X.
+// Checks that the readers of a code report X.
 fn is_x<C: Code>(rt: &impl Abort, code: &C) {
     let header = UnitHeader {
         parameters: 0,
@@ -39,7 +39,7 @@ fn is_x<C: Code>(rt: &impl Abort, code: &C) {
 }
 
 #[test]
-fn an_image_and_a_view_of_x(rt: HostRuntime) -> Result<(), Fail> {
+fn readers_of_an_image_and_a_view_agree(rt: HostRuntime) -> Result<(), Fail> {
     let image = decode(rt.alloc(), &X)?;
     is_x(&rt, &image);
     assert!(rt; image.name(0).is_none());
@@ -48,15 +48,15 @@ fn an_image_and_a_view_of_x(rt: HostRuntime) -> Result<(), Fail> {
     Ok(())
 }
 
-// An entry of the table of names, as `1a`: the slot and the name.
+// Parses an entry of the table of names, as `1a`: the slot and the name.
 fn entry(alloc: Global, spelling: &str) -> Result<(u16, String), Fail> {
     let slot = spelling.get(..1).ok_or("a row has no slot")?;
     let name = spelling.get(1..).unwrap_or("");
     Ok((slot.parse::<u16>()?, String::from_str(alloc, name)?))
 }
 
-// A unit of these parameters, this kind and these locals, and of one instruction with this opcode
-// and this field c.
+// Returns a unit of one instruction. `asked` has its parameters, its kind and its locals, and the
+// opcode and the field `c` of the instruction.
 fn unit_of(alloc: Global, asked: &str) -> Result<Unit, Fail> {
     let [parameters, kind, locals, op, c] = numbers::<5>(asked)?;
     let instruction = Instr {
@@ -73,7 +73,7 @@ fn unit_of(alloc: Global, asked: &str) -> Result<Unit, Fail> {
     })
 }
 
-// The parts of a row: two names and a unit.
+// Returns the parts of a row: two names and a unit.
 fn parts_of(alloc: Global, asked: &str) -> Result<Parts, Fail> {
     let (first, rest) = asked.split_once(" ").ok_or("a row has no name")?;
     let (second, unit) = rest.split_once(" ").ok_or("a row has one name")?;
@@ -84,11 +84,11 @@ fn parts_of(alloc: Global, asked: &str) -> Result<Parts, Fail> {
         constants: Vec::new(alloc),
         units: vec![in alloc; unit_of(alloc, unit)?]?,
         templates: Vec::new(alloc),
-        spots: Vec::new(alloc),
+        places: Vec::new(alloc),
     })
 }
 
-// What is assembled of a row's parts: how many names the image has, or why there is none.
+// Assembles the parts of a row, and returns the number of names of the image or the error.
 fn assembled(alloc: Global, asked: &str) -> Result<String, Fail> {
     match assemble(alloc, parts_of(alloc, asked)?) {
         Ok(image) => Ok(format!(in alloc; "{} names", image.names())?),
@@ -100,7 +100,7 @@ fn assembled(alloc: Global, asked: &str) -> Result<String, Fail> {
 }
 
 #[test]
-fn parts_are_a_code_or_handed_back(rt: HostRuntime) -> Result<(), Fail> {
+fn parts_are_assembled_or_returned(rt: HostRuntime) -> Result<(), Fail> {
     rows_hold(
         &rt,
         assembled,

@@ -1,4 +1,4 @@
-//! Runs whose text is written in pieces.
+//! Tests runs whose text is written in pieces.
 
 use crate::rows::rows_hold;
 use crate::source::verified_of;
@@ -12,7 +12,7 @@ use std::alloc::Global;
 use std::io;
 use std::test::Fail;
 
-/// A writer that takes one byte a call, and fails once it took `left` of them.
+/// A writer that takes one byte per call, and fails after `left` bytes.
 #[derive(Drop)]
 struct Slow {
     taken: String,
@@ -36,14 +36,14 @@ impl io::Write for Slow {
     }
 }
 
-// The beginning of an image: the constants `a`, `zz`, `Hello` and 7, and one unit, up to how many
-// instructions it has.
+// The beginning of an image: the constants `a`, `zz`, `Hello` and 7, and one unit, up to its number
+// of instructions.
 const HEAD: [u8; 50] = [
     0x4a, 0x54, 0x42, 0x43, 1, 0, 0, 0, 0, 0, 4, 0, 5, 1, 0, 0, 0, 0x61, 5, 2, 0, 0, 0, 0x7a, 0x7a,
     5, 5, 0, 0, 0, 0x48, 0x65, 0x6c, 0x6c, 0x6f, 4, 7, 0, 0, 0, 0, 0, 0, 0, 1, 0, 0, 0, 0, 0,
 ];
 
-// The image of some instructions, which are opcodes and fields c with blanks between.
+// Returns the image of some instructions, which are opcodes and fields `c` with blanks between.
 fn image_of(alloc: Global, words: &str) -> Result<Verified, Fail> {
     let count = u8::try_from(words.split(' ').count() / 2)?;
     let mut bytes = Vec::new(alloc);
@@ -55,8 +55,8 @@ fn image_of(alloc: Global, words: &str) -> Result<Verified, Fail> {
     verify(alloc, decode(alloc, &bytes)?).map_err(|_| Fail::from("verify"))
 }
 
-// How a run is answered, whether the sink has failed, and what is written, where the writer takes so
-// many bytes.
+// Returns the result of a run, whether the sink has failed, and what is written, if the writer
+// takes `left` bytes.
 fn answer(alloc: Global, verified: &Verified, budget: Budget, left: usize) -> Result<String, Fail> {
     let mut sink = IoSink::new(Slow {
         taken: String::new(alloc),
@@ -68,8 +68,8 @@ fn answer(alloc: Global, verified: &Verified, budget: Budget, left: usize) -> Re
     Ok(format!(in alloc; "{answer:?} {has_failed} [{written}]")?)
 }
 
-// What a run of instructions comes to. A row is the number of bytes that the writer takes, the fuel,
-// and the instructions.
+// Runs instructions. A row is the number of bytes that the writer takes, the fuel, and the
+// instructions.
 fn written(alloc: Global, asked: &str) -> Result<String, Fail> {
     let (left, rest) = asked.split_once(" ").ok_or("a row has no fuel")?;
     let (fuel, words) = rest.split_once(" ").ok_or("a row has no instructions")?;
@@ -84,10 +84,10 @@ fn written(alloc: Global, asked: &str) -> Result<String, Fail> {
     answer(alloc, &image_of(alloc, words)?, budget, left)
 }
 
-// 9 puts a text, 1 and 6 put and drop a value, 24 and 25 are a capture, 18 begins a loop and 28
-// returns.
+// Checks runs of instructions. Opcode 9 emits a text, 1 and 6 push and drop a value, and 24 and 25
+// are a capture. Opcode 18 begins a loop, and 28 returns.
 #[test]
-fn what_is_emitted_is_written(rt: HostRuntime) -> Result<(), Fail> {
+fn emitted_text_is_written(rt: HostRuntime) -> Result<(), Fail> {
     rows_hold(
         &rt,
         written,
@@ -102,8 +102,7 @@ fn what_is_emitted_is_written(rt: HostRuntime) -> Result<(), Fail> {
     )
 }
 
-// What the run of a source comes to. A row is the number of bytes that the writer takes, and the
-// source.
+// Runs a source. A row is the number of bytes that the writer takes, and the source.
 fn written_of_source(alloc: Global, asked: &str) -> Result<String, Fail> {
     let (left, source) = asked.split_once(" ").ok_or("a row has no source")?;
     answer(

@@ -1,10 +1,11 @@
-//! Rows as the lines of a text: the prover reads one text, so a row costs it nothing.
+//! Runs rows, which are the lines of one text. The prover reads one text, and a row costs it
+//! nothing.
 
 use std::alloc::Global;
 use std::test::Fail;
 
-/// Checks rows `asked => wanted`, one a line, against what `answer` gives of each: fails with the
-/// first row that has another answer, and with that answer.
+/// Checks rows `asked => wanted`, one per line, against the results of `answer`. Fails with the
+/// first row that has another result, and with that result.
 pub(crate) fn rows_hold<F: Fn(Global, &str) -> Result<String, Fail>>(
     rt: &impl AllocGlobal,
     answer: F,
@@ -22,7 +23,7 @@ pub(crate) fn rows_hold<F: Fn(Global, &str) -> Result<String, Fail>>(
     Ok(())
 }
 
-/// The numbers of a row, with blanks between.
+/// Returns the numbers of a row, with blanks between.
 pub(crate) fn numbers<const N: usize>(asked: &str) -> Result<[u32; N], Fail> {
     let mut found = [0; N];
     let mut words = asked.split(' ');

@@ -1,4 +1,4 @@
-//! Hosts, call by call.
+//! Tests hosts, call by call.
 
 use crate::rows::rows_hold;
 use crate::source::verified_of;
@@ -8,7 +8,7 @@ use jt_value::Context;
 use std::alloc::Global;
 use std::test::Fail;
 
-// The answers to so many calls: opens sessions of a source.
+// Opens `count` sessions of a source, and returns the results.
 fn opened(alloc: Global, host: &mut Host, count: u32, source: &str) -> Result<String, Fail> {
     let mut answers = String::new(alloc);
     for number in 0..count {
@@ -25,7 +25,7 @@ fn opened(alloc: Global, host: &mut Host, count: u32, source: &str) -> Result<St
     Ok(answers)
 }
 
-// The answer to the last of so many turns of one instruction.
+// Runs `count` turns of one instruction of a session, and returns the result of the last turn.
 fn turned(alloc: Global, host: &mut Host, count: u32, id: u64) -> Result<String, Fail> {
     let mut answer = host.turn(id, 0);
     for _ in 0..count {
@@ -34,9 +34,9 @@ fn turned(alloc: Global, host: &mut Host, count: u32, id: u64) -> Result<String,
     Ok(format!(in alloc; "{answer:?}")?)
 }
 
-// What a host answers: `open 3 x` opens three sessions of the source `x`, `turn 3 1` gives the
-// session 1 three turns of an instruction, `slice 3 1` one turn of three; and `outcome 1` and
-// `close 1` are of the session 1.
+// Makes one call of a host, and returns its result. `open 3 x` opens three sessions of the source
+// `x`. `turn 3 1` runs three turns of one instruction of session 1, and `slice 3 1` one turn of
+// three. `outcome 1` and `close 1` are calls on session 1.
 fn answered(alloc: Global, host: &mut Host, call: &str) -> Result<String, Fail> {
     let (name, of) = call.split_once(" ").ok_or("a call has no session")?;
     let (count, behind) = of.split_once(" ").unwrap_or(("1", of));
@@ -52,7 +52,7 @@ fn answered(alloc: Global, host: &mut Host, call: &str) -> Result<String, Fail> 
     }
 }
 
-// What a new host answers to the calls of a row, in their order.
+// Makes the calls of a row on a new host, in order, and returns their results.
 fn all_answered(alloc: Global, calls: &str) -> Result<String, Fail> {
     let mut host = Host::new(alloc);
     let mut answers = String::new(alloc);
@@ -64,7 +64,7 @@ fn all_answered(alloc: Global, calls: &str) -> Result<String, Fail> {
 }
 
 #[test]
-fn hosts_answer(rt: HostRuntime) -> Result<(), Fail> {
+fn hosts_run_sessions(rt: HostRuntime) -> Result<(), Fail> {
     rows_hold(
         &rt,
         all_answered,

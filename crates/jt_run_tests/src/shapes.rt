@@ -1,10 +1,10 @@
-//! Shapes joined.
+//! Tests the join of shapes.
 
 use jt_image::Kind;
 use jt_verify::{Shape, join};
 use std::alloc::Global;
 
-/// The shape of one entry.
+/// Returns the shape of one entry.
 fn shape_of(alloc: Global, kind: Kind) -> Option<Shape> {
     let mut shape = Shape::new();
     match shape.push(alloc, kind) {
@@ -13,7 +13,7 @@ fn shape_of(alloc: Global, kind: Kind) -> Option<Shape> {
     }
 }
 
-/// How shapes of no entry, of a value and of a loop meet.
+/// Checks how the shapes of no entry, of a value and of a loop join.
 #[test]
 fn equal_shapes_alone_are_joined(rt: HostRuntime) {
     let none = Shape::new();

@@ -1,4 +1,4 @@
-//! Runs that stop and go on.
+//! Tests runs that stop and resume.
 
 use crate::rows::{numbers, rows_hold};
 use crate::source::verified_of;
@@ -11,7 +11,7 @@ use jt_verify::verify;
 use std::alloc::Global;
 use std::test::Fail;
 
-// Prints the global `n` if it is true, in five instructions.
+// The image that prints the global `n` if it is true, in five instructions.
 const N: [u8; 67] = [
     0x4a, 0x54, 0x42, 0x43, 0x01, 0x00, 0x01, 0x00, 0x01, 0x00, 0x00, 0x00, 0x01, 0x00, 0x6e, 0x00,
     0x00, 0x01, 0x00, 0x00, 0x00, 0x00, 0x00, 0x05, 0x00, 0x00, 0x00, 0x04, 0x00, 0x00, 0x00, 0x00,
@@ -20,7 +20,7 @@ const N: [u8; 67] = [
     0x00, 0x00, 0x00,
 ];
 
-// The context in which `n` is the text ab.
+// Returns the context in which `n` is the text ab.
 fn context(alloc: Global) -> Result<Context, Fail> {
     let name = String::from_str(alloc, "n")?;
     let value = Value::text(alloc, "ab")?;
@@ -31,7 +31,7 @@ fn context(alloc: Global) -> Result<Context, Fail> {
     }
 }
 
-// A machine of N under a budget.
+// Returns a machine of N under a budget.
 fn machine(alloc: Global, budget: Budget) -> Result<Machine, Fail> {
     let context = context(alloc)?;
     let Ok(verified) = verify(alloc, decode(alloc, &N)?) else {
@@ -40,8 +40,7 @@ fn machine(alloc: Global, budget: Budget) -> Result<Machine, Fail> {
     Machine::start(alloc, verified, &context, budget).map_err(|_| Fail::from("start"))
 }
 
-// What two advances of so many instructions answer, whether an outcome is lent then, and the
-// outcome.
+// Advances a machine twice. Returns both results, whether an outcome is lent then, and the outcome.
 fn gone_on(alloc: Global, mut machine: Machine, first: u32, second: u32) -> Result<String, Fail> {
     let (first, second) = (machine.advance(first), machine.advance(second));
     let is_lent = machine.outcome().is_some() && !machine.is_lost();
@@ -49,7 +48,7 @@ fn gone_on(alloc: Global, mut machine: Machine, first: u32, second: u32) -> Resu
     Ok(format!(in alloc; "{first:?} {second:?} {is_lent} {outcome:?}")?)
 }
 
-// What a run of N comes to. A row is the fuel, the limit of size, and the instructions of the two.
+// Runs N. A row is the fuel, the limit of size, and the instructions of the two advances.
 fn advanced(alloc: Global, asked: &str) -> Result<String, Fail> {
     let [fuel, size, first, second] = numbers::<4>(asked)?;
     let budget = Budget {
@@ -62,9 +61,9 @@ fn advanced(alloc: Global, asked: &str) -> Result<String, Fail> {
     gone_on(alloc, machine(alloc, budget)?, first, second)
 }
 
-// (the context is tested before the first step)
+// Checks that the context is tested before the first step.
 #[test]
-fn a_run_stops_and_goes_on(rt: HostRuntime) -> Result<(), Fail> {
+fn a_run_is_sliced(rt: HostRuntime) -> Result<(), Fail> {
     rows_hold(
         &rt,
         advanced,
@@ -78,8 +77,8 @@ fn a_run_stops_and_goes_on(rt: HostRuntime) -> Result<(), Fail> {
     )
 }
 
-// What a run of the source `x`, whose image has two instructions, comes to. A row is the fuel, and the
-// instructions of the two advances.
+// Runs the source `x`, whose image has two instructions. A row is the fuel, and the instructions of
+// the two advances.
 fn advanced_of_source(alloc: Global, asked: &str) -> Result<String, Fail> {
     let [fuel, first, second] = numbers::<3>(asked)?;
     let budget = Budget {
@@ -98,7 +97,7 @@ fn advanced_of_source(alloc: Global, asked: &str) -> Result<String, Fail> {
 }
 
 #[test]
-fn a_run_of_two_instructions_stops_and_goes_on(rt: HostRuntime) -> Result<(), Fail> {
+fn a_run_of_two_instructions_is_sliced(rt: HostRuntime) -> Result<(), Fail> {
     rows_hold(
         &rt,
         advanced_of_source,

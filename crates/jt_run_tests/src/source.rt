@@ -1,4 +1,4 @@
-//! What a source is compiled to.
+//! Compiles a source for the tests.
 
 ghost use Rattle.std.specs.Prelude.{Some};
 
@@ -9,7 +9,7 @@ use jt_verify::{Verified, verify};
 use std::alloc::Global;
 use std::test::Fail;
 
-/// The only source, under every name.
+/// A library with one source under every name.
 #[derive(Drop)]
 struct Only<'a> {
     source: &'a str,
@@ -23,7 +23,7 @@ impl Library for Only<'_> {
     }
 }
 
-/// The image of a source, which is accepted.
+/// Returns the verified image of a source.
 pub(crate) fn verified_of(alloc: Global, source: &str) -> Result<Verified, Fail> {
     let Ok(image) = compile(alloc, "t", &Only { source }, Options::new()) else {
         return Err(Fail::from("compile"));

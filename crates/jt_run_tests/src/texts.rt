@@ -1,4 +1,4 @@
-//! Errors as texts, of those that no line of the program shows.
+//! Tests the texts of errors that no line of the program shows.
 
 use jt_args::JobError;
 use jt_codegen::CompileError;

@@ -1,16 +1,16 @@
-//! Images of both versions, and what becomes of one in the other.
+//! Tests images of both versions, and the upgrade from one to the other.
 
 use jt_image::*;
 use std::process::Abort;
 use std::test::Fail;
 
-// The image that puts the text x.
+// The image that emits the text `x`.
 const X: [u8; 44] = [
     0x4a, 0x54, 0x42, 0x43, 1, 0, 0, 0, 0, 0, 1, 0, 5, 1, 0, 0, 0, 0x78, 1, 0, 0, 0, 0, 0, 2, 0, 0,
     0, 9, 0, 0, 0, 0, 0, 0, 0, 0x1c, 0, 0, 0, 0, 0, 0, 0,
 ];
 
-// The same, each instruction at line 1 of the template x.
+// The image X in version 2, with each instruction at line 1 of the template `x`.
 const X_TWO: [u8; 61] = [
     0x4a, 0x54, 0x42, 0x43, 2, 0, 0, 0, 0, 0, 1, 0, 5, 1, 0, 0, 0, 0x78, 1, 0, 0, 0, 0, 0, 2, 0, 0,
     0, 9, 0, 0, 0, 0, 0, 0, 0, 0x1c, 0, 0, 0, 0, 0, 0, 0, 1, 0, 1, 0, 0x78, 1, 0, 1, 0, 0, 0, 1, 0,
@@ -78,7 +78,7 @@ fn x_is_upgraded(rt: HostRuntime) -> Result<(), Fail> {
     Ok(())
 }
 
-// The first fault of X in version 2 with a byte changed.
+// Returns the first fault of X in version 2 with one byte changed.
 fn fault(rt: &HostRuntime, at: usize, byte: u8) -> Option<ImageError> {
     let mut bytes = X_TWO;
     if at < 61 {
@@ -88,18 +88,18 @@ fn fault(rt: &HostRuntime, at: usize, byte: u8) -> Option<ImageError> {
 }
 
 #[test]
-fn faults_of_places(rt: HostRuntime) -> Result<(), Fail> {
+fn faults_in_bytes_are_refused(rt: HostRuntime) -> Result<(), Fail> {
     assert_eq!(rt; fault(&rt, 4, 3), Some(ImageError::BadVersion));
     assert_eq!(rt; fault(&rt, 4, 1), Some(ImageError::Trailing));
-    // two templates, of which the second is not there
+    // Two templates, the second of which is missing.
     assert_eq!(rt; fault(&rt, 44, 2), Some(ImageError::BadTable));
-    // an empty template
+    // An empty template.
     assert_eq!(rt; fault(&rt, 46, 0), Some(ImageError::BadTable));
     assert_eq!(rt; fault(&rt, 48, 0xff), Some(ImageError::BadText));
-    // a number above the templates, and none with a line
+    // A number above the templates, and number 0 with a line.
     assert_eq!(rt; fault(&rt, 49, 2), Some(ImageError::BadTable));
     assert_eq!(rt; fault(&rt, 49, 0), Some(ImageError::BadTable));
-    // line 0, line 1,048,577, and one above it
+    // Line 0, line 1,048,577, and one above it.
     assert_eq!(rt; fault(&rt, 57, 0), Some(ImageError::BadTable));
     assert_eq!(rt; fault(&rt, 59, 16), None);
     let mut bytes = X_TWO;
@@ -125,20 +125,20 @@ const NUMBER: [u8; 39] = [
 ];
 
 #[test]
-fn code_is_read_in_stretches(rt: HostRuntime) -> Result<(), Fail> {
+fn unit_code_is_read_in_place(rt: HostRuntime) -> Result<(), Fail> {
     let image = decode(rt.alloc(), &X)?;
-    let Some(stretch) = Code::stretch(&image, 0) else {
-        return Err(Fail::from("no stretch"));
+    let Some(unit_code) = Code::unit_code(&image, 0) else {
+        return Err(Fail::from("no unit code"));
     };
     assert_eq!(rt;
-        (stretch.get(0), stretch.get(1), stretch.get(2)),
+        (unit_code.get(0), unit_code.get(1), unit_code.get(2)),
         (
             Some(Instruction::Data { constant: 0 }),
             Some(Instruction::Return),
             None
         )
     );
-    assert!(rt; Code::stretch(&image, 1).is_none());
+    assert!(rt; Code::unit_code(&image, 1).is_none());
     assert_eq!(rt; Code::integer(&image, 0), None);
     let seen = view(rt.alloc(), &NUMBER)?;
     assert_eq!(rt;

@@ -1,20 +1,21 @@
--- A sign in front is found, the longest one, and nothing else is.
-use Rattle.std.proofs.Common.{◌≡◌, ℕ, ◌<◌, nat_lt, ◌&&◌, ◌||◌, ◌==◌, Bool, true, false, [], ◌∷◌, ◌++◌, length, Option, Some, None, refl, sym, ap, ap₂, subst, ◌∙◌, arith, cond, rules}
+-- The scanner finds the longest sign at the start of a text, and nothing else.
+use Rattle.std.proofs.Common.{◌≡◌, ℕ, ◌<◌, nat_lt, ◌&&◌, ◌||◌, ◌==◌, Bool, true, false, [], ◌∷◌, ◌++◌, length, Option}
+use Rattle.std.proofs.Common.{Some, None, refl, sym, ap, ap₂, subst, ◌∙◌, arith, cond, rules}
 use Rattle.std.proofs.lemmas.Bool.Decides.{nat_tests}
 use Rattle.std.specs.Char.{is_ascii_alphabetic}
 use Rattle.jt_scan.specs.declared.segment.Sign.{Sign}
 use Rattle.jt_scan.specs.declared.segment.Sign.TheVariants as s
 use Rattle.jt_scan.specs.Cut.{Text, sign_text, goes_on, SignEnds, NoSign, starts_name, is_space}
 use Rattle.jt_scan.specs.Literals.{digit_value, is_digit, is_quote}
-use Rattle.jt_scan.specs.Scanning.{one_sign, two_sign, alone, longest, sign_at}
-use Rattle.jt_scan.proofs.Steps.{by_test, both}
+use Rattle.jt_scan.specs.internal.Scanning.{one_sign, two_sign, alone, longest, sign_at}
+use Rattle.jt_scan.proofs.ParseResultSteps.{by_test, both}
 use Rattle.jt_scan.proofs.Tables.{no_start}
 
 pub sign_found : (t : Sign) (rest : Text) → SignEnds t rest → sign_at (sign_text t ++ rest) ≡ Some (t, rest)
 unfolding sign_at
 sign_found t rest h = search (arith, rules)
 
--- some sign is found where a sign's spelling stands
+-- If a text begins with the spelling of a sign, then some sign is found.
 alone_there : (t : Sign) (o : Option Sign) (x : Text) → o ≡ Some t → alone o x ≡ None → ⊥
 alone_there t None x w h = cc
 alone_there t (Some s) x w h = cc
@@ -28,7 +29,8 @@ unfolding sign_at
 one_there c t [] w h = alone_there t (one_sign c) [] w h
 one_there c t (d ∷ more) w h = longest_there t (two_sign c d) (one_sign c) more (d ∷ more) w h
 
-two_there : (c d : ℕ) (t : Sign) (o : Option Sign) (more : Text) → two_sign c d ≡ o → o ≡ Some t → longest o (one_sign c) more (d ∷ more) ≡ None → ⊥
+two_there : (c d : ℕ) (t : Sign) (o : Option Sign) (more : Text) → two_sign c d ≡ o → o ≡ Some t
+    → longest o (one_sign c) more (d ∷ more) ≡ None → ⊥
 two_there c d t None more e w h = cc
 two_there c d t (Some s) more e w h = cc
 
@@ -42,8 +44,11 @@ no_sign x h = λ t rest e. sign_there t rest (ap sign_at (sym e) ∙ h)
 nothing : {G : Type 0} (u : Sign) → ◌≡◌ {A = Option Sign} None (Some u) → G
 nothing u e = cc
 
-hit : (c n : ℕ) (t u : Sign) → (c == n) ≡ true → sign_text t ≡ n ∷ [] → ◌≡◌ {A = Option Sign} (Some t) (Some u) → sign_text u ≡ c ∷ []
-hit c n t u h w e = let same : t ≡ u = cc in let is : c ≡ n = grind (arith, nat_tests) in sym (ap sign_text same) ∙ w ∙ ap (λ k. k ∷ []) (sym is)
+hit : (c n : ℕ) (t u : Sign) → (c == n) ≡ true → sign_text t ≡ n ∷ [] → ◌≡◌ {A = Option Sign} (Some t) (Some u)
+    → sign_text u ≡ c ∷ []
+hit c n t u h w e =
+    let same : t ≡ u = cc in
+    let is : c ≡ n = grind (arith, nat_tests) in sym (ap sign_text same) ∙ w ∙ ap (λ k. k ∷ []) (sym is)
 
 one_says : (c : ℕ) (u : Sign) → one_sign c ≡ Some u → sign_text u ≡ c ∷ []
 one_says c u e =
@@ -67,11 +72,15 @@ one_says c u e =
     by_test (c == 125) _ _ _ q (λ h q. hit c 125 s.RightBrace u h refl q) (λ h q.
     nothing u q))))))))))))))))))
 
-hit_two : (c d m n : ℕ) (t u : Sign) → (c == m && d == n) ≡ true → sign_text t ≡ m ∷ n ∷ [] → ((x : Text) → SignEnds t x) → ◌≡◌ {A = Option Sign} (Some t) (Some u) → (sign_text u ≡ c ∷ d ∷ []) × ((x : Text) → SignEnds u x)
+hit_two : (c d m n : ℕ) (t u : Sign) → (c == m && d == n) ≡ true → sign_text t ≡ m ∷ n ∷ []
+    → ((x : Text) → SignEnds t x) → ◌≡◌ {A = Option Sign} (Some t) (Some u)
+    → (sign_text u ≡ c ∷ d ∷ []) × ((x : Text) → SignEnds u x)
 hit_two c d m n t u h w a e =
     let same : t ≡ u = cc in let p = both (c == m) (d == n) h in
-    let is : c ≡ m = grind (arith, nat_tests) in let at : d ≡ n = grind (arith, nat_tests) in
-    (sym (ap sign_text same) ∙ w ∙ ap₂ (λ j k. j ∷ k ∷ []) (sym is) (sym at), subst (λ v. (x : Text) → SignEnds v x) same a)
+    let is : c ≡ m = grind (arith, nat_tests) in let at : d ≡ n = grind (arith, nat_tests) in (
+      sym (ap sign_text same) ∙ w ∙ ap₂ (λ j k. j ∷ k ∷ []) (sym is) (sym at),
+      subst (λ v. (x : Text) → SignEnds v x) same a,
+    )
 
 ends_Power : (x : Text) → SignEnds s.Power x
 ends_Power [] = tt
@@ -107,7 +116,7 @@ two_says c d u e =
     by_test (c == 62 && d == 61) _ _ _ q (λ h q. hit_two c d 62 61 s.GreaterEqual u h refl ends_GreaterEqual q) (λ h q.
     nothing u q))))))
 
--- where no sign of two characters stands, one of one character is the longest
+-- If no sign of two characters is found, the one of a single character is the longest.
 stuck : (b : Bool) (t : Sign) (o : Option Sign) → cond b (Some t) o ≡ None → b ≡ false
 stuck true t o h = cc
 stuck false t o h = refl
@@ -118,24 +127,30 @@ head_is c n h = cc
 shut : (c d : ℕ) (u : Sign) → sign_text u ≡ c ∷ [] → two_sign c d ≡ None → goes_on u d ≡ false
 shut c d u e h = search (arith, rules, stuck, head_is)
 
--- what is found is spelled in front
+-- The spelling of the sign that is found is at the start of the text.
 abbrev pub FoundSign : Sign → Text → Text → Type 0
 FoundSign u x rest = (x ≡ sign_text u ++ rest) × SignEnds u rest × (length rest < length x)
 
-alone_says : (c : ℕ) (rest : Text) (u : Sign) (z : Text) (o : Option Sign) → one_sign c ≡ o → alone o rest ≡ Some (u, z) → (one_sign c ≡ Some u) × (rest ≡ z)
+alone_says : (c : ℕ) (rest : Text) (u : Sign) (z : Text) (o : Option Sign) → one_sign c ≡ o → alone o rest ≡ Some (u, z)
+    → (one_sign c ≡ Some u) × (rest ≡ z)
 alone_says c rest u z None w e = cc
 alone_says c rest u z (Some t) w e =
     let p : (t, rest) ≡ (u, z) = cc in (w ∙ ap (λ (q : Sign × Text). Some q.0) p, ap (λ (q : Sign × Text). q.1) p)
 
-short : (c : ℕ) (rest : Text) (u : Sign) (z : Text) → SignEnds u rest → one_sign c ≡ Some u → rest ≡ z → FoundSign u (c ∷ rest) z
-short c rest u z a o r = (ap (λ y. c ∷ y) r ∙ sym (ap (λ y. y ++ z) (one_says c u o)), subst (SignEnds u) r a, omega (arith, ap length r))
+short : (c : ℕ) (rest : Text) (u : Sign) (z : Text) → SignEnds u rest → one_sign c ≡ Some u → rest ≡ z
+    → FoundSign u (c ∷ rest) z
+short c rest u z a o r =
+    (ap (λ y. c ∷ y) r ∙ sym (ap (λ y. y ++ z) (one_says c u o)), subst (SignEnds u) r a, omega (arith, ap length r))
 
 behind_two : (c d : ℕ) (more z : Text) → more ≡ z → length z < length (c ∷ d ∷ more)
 behind_two c d more z r = omega (arith, ap length r)
 
-long : (c d : ℕ) (more : Text) (u : Sign) (z : Text) (o : Option Sign) → two_sign c d ≡ o → longest o (one_sign c) more (d ∷ more) ≡ Some (u, z) → FoundSign u (c ∷ d ∷ more) z
+long : (c d : ℕ) (more : Text) (u : Sign) (z : Text) (o : Option Sign) → two_sign c d ≡ o
+    → longest o (one_sign c) more (d ∷ more) ≡ Some (u, z) → FoundSign u (c ∷ d ∷ more) z
 long c d more u z (Some t) w e =
-    let p : (t, more) ≡ (u, z) = cc in let y = two_says c d u (w ∙ ap (λ (q : Sign × Text). Some q.0) p) in let r : more ≡ z = ap (λ (q : Sign × Text). q.1) p in
+    let p : (t, more) ≡ (u, z) = cc in
+    let y = two_says c d u (w ∙ ap (λ (q : Sign × Text). Some q.0) p) in
+    let r : more ≡ z = ap (λ (q : Sign × Text). q.1) p in
     (ap (λ k. c ∷ d ∷ k) r ∙ sym (ap (λ k. k ++ z) y.0), y.1 z, behind_two c d more z r)
 long c d more u z None w e =
     let a = alone_says c (d ∷ more) u z (one_sign c) refl e in
@@ -150,8 +165,9 @@ sign_says (c ∷ d ∷ more) u rest e = long c d more u rest (two_sign c d) refl
 no_name : (c : ℕ) → nat_lt c 128 ≡ true → (is_ascii_alphabetic c || (c == 95)) ≡ false → starts_name c ≡ false
 no_name c h = no_start c (grind (arith, nat_tests))
 
--- a sign begins with no whitespace, and no other token begins with it
-pub sign_head : (t : Sign) → (c : ℕ) × (cs : Text) × (sign_text t ≡ c ∷ cs) × (starts_name c ≡ false) × (is_space c ≡ false) × (is_digit 10 c ≡ false) × (is_quote c ≡ false)
+-- A sign begins with no whitespace, and no other token begins with its first character.
+pub sign_head : (t : Sign) → (c : ℕ) × (cs : Text) × (sign_text t ≡ c ∷ cs) × (starts_name c ≡ false)
+    × (is_space c ≡ false) × (is_digit 10 c ≡ false) × (is_quote c ≡ false)
 unfolding digit_value
 sign_head s.Plus = (43, [], refl, no_name 43 refl refl, refl, refl, refl)
 sign_head s.Minus = (45, [], refl, no_name 45 refl refl, refl, refl, refl)

@@ -1,7 +1,8 @@
--- How the text of a source is cut into segments, and a tag's inside into tokens.
--- A text is a list of characters, each by its code point.
+-- The relation between a source and its segments, and between a tag's inside and its tokens.
+-- A text is a list of characters, each given by its code point.
 pub use Rattle.jt_scan.specs.Literals.{Text}
-use Rattle.std.specs.Prelude.{◌≡◌, ℕ, ℤ, pos, ◌+◌, ◌-◌, ◌≤◌, Bool, true, false, ◌==◌, ◌&&◌, ◌||◌, List, [], ◌∷◌, ◌++◌, count_by, drop, codes, bytes_eq, if◌then◌else◌, Option, Some, None}
+use Rattle.std.specs.Prelude.{◌≡◌, ℕ, ℤ, pos, ◌+◌, ◌-◌, ◌≤◌, Bool, true, false, ◌==◌, ◌&&◌, ◌||◌, List, [], ◌∷◌, ◌++◌}
+use Rattle.std.specs.Prelude.{count_by, drop, codes, bytes_eq, if◌then◌else◌, Option, Some, None}
 use Rattle.jt_scan.specs.declared.segment.TagKind.{TagKind}
 use Rattle.jt_scan.specs.declared.segment.TagKind.TheVariants as kind
 use Rattle.jt_scan.specs.declared.segment.Mark.{Mark}
@@ -15,32 +16,32 @@ use Rattle.jt_scan.specs.Literals.{Numeral, is_quote, Enclosed, Means}
 -- ---- tokens
 
 pub data Token : Type 0 where
-  -- a name, or a reserved word
+  -- A name or a reserved word.
   name : Text → Token
   number : ℤ → Token
-  -- a text, by what it means
+  -- A text literal, given by its value.
   text : Text → Token
   sign : Sign → Token
 
--- space, tab, LF, VT, FF and CR
+-- The characters space, tab, LF, VT, FF and CR.
 abbrev pub is_space : ℕ → Bool
 is_space c = c == 32 || c == 9 || c == 10 || c == 11 || c == 12 || c == 13
 
--- a name may start with the character
+-- A name may begin with the character.
 abbrev pub starts_name : ℕ → Bool
 starts_name c = is_xid_start c || c == 95
 
--- the characters may stand behind a name's first
+-- Each character may continue a name.
 abbrev pub AllContinue : Text → Type 0
 AllContinue [] = Unit {0}
 AllContinue (c ∷ cs) = (is_xid_continue c ≡ true) × AllContinue cs
 
--- no name goes on here
+-- No character that may continue a name follows.
 abbrev pub NameEnds : Text → Type 0
 NameEnds [] = Unit {0}
 NameEnds (c ∷ rest) = is_xid_continue c ≡ false
 
--- how a sign is spelled
+-- The spelling of a sign.
 abbrev pub sign_text : Sign → Text
 sign_text s.Plus = 43 ∷ []
 sign_text s.Minus = 45 ∷ []
@@ -67,7 +68,7 @@ sign_text s.NotEqual = 33 ∷ 61 ∷ []
 sign_text s.LessEqual = 60 ∷ 61 ∷ []
 sign_text s.GreaterEqual = 62 ∷ 61 ∷ []
 
--- the sign and the character are together the beginning of a longer sign
+-- The sign followed by the character is a prefix of a longer sign.
 abbrev pub goes_on : Sign → ℕ → Bool
 goes_on s.Plus c = false
 goes_on s.Minus c = false
@@ -94,20 +95,20 @@ goes_on s.NotEqual c = false
 goes_on s.LessEqual c = false
 goes_on s.GreaterEqual c = false
 
--- no longer sign stands here
+-- The sign and the text after it do not begin with a longer sign.
 abbrev pub SignEnds : Sign → Text → Type 0
 SignEnds s [] = Unit {0}
 SignEnds s (c ∷ rest) = goes_on s c ≡ false
 
--- no sign is in front
+-- The text begins with no sign.
 abbrev pub NoSign : Text → Type 0
 NoSign x = (s : Sign) (rest : Text) → x ≡ sign_text s ++ rest → ⊥
 
--- the greatest number
+-- The greatest number.
 abbrev pub max_number : ℕ
 max_number = 9223372036854775807
 
--- `Spelled t s rest`: the token's spelling, the longest that stands in front of the rest
+-- `Spelled t s rest`: s is the spelling of the token t, the longest one before the rest.
 pub data Spelled : Token → Text → Text → Type 0 where
   a_name : {c : ℕ} {x rest : Text} → starts_name c ≡ true → AllContinue x → NameEnds rest
       → Spelled (name (c ∷ x)) (c ∷ x) rest
@@ -119,7 +120,7 @@ pub data Spelled : Token → Text → Text → Type 0 where
 
 -- ---- marks
 
--- the mark that a character is
+-- The mark that a character spells.
 abbrev pub mark_of : ℕ → Mark
 mark_of c = if c == 45 then m.Minus else if c == 43 then m.Plus else m.Absent
 
@@ -128,12 +129,12 @@ mark_text m.Absent = []
 mark_text m.Minus = 45 ∷ []
 mark_text m.Plus = 43 ∷ []
 
--- `-` and `+`
+-- The characters `-` and `+`.
 abbrev pub is_mark : ℕ → Bool
 is_mark c = c == 45 || c == 43
 
--- the mark directly behind an opener, and what is behind it: `-` or `+` there is always the opening
--- mark
+-- The mark directly after an opener, and the text after it. A `-` or `+` there is always the
+-- opening mark.
 abbrev pub first_mark : Text → Mark
 first_mark [] = m.Absent
 first_mark (c ∷ x) = mark_of c
@@ -142,7 +143,7 @@ abbrev pub behind_mark : Text → Text
 behind_mark [] = []
 behind_mark (c ∷ x) = if is_mark c then x else c ∷ x
 
--- the mark that ends a text; the first one is what stands before the text
+-- The mark that the last character of a text spells. For an empty text it is the first argument.
 unfoldable pub last_from : Mark → Text → Mark
 last_from mark [] = mark
 last_from mark (c ∷ x) = last_from (mark_of c) x
@@ -153,40 +154,40 @@ last_mark = last_from m.Absent
 abbrev pub marks : Mark → Mark → Marks
 marks opening closing = record { opening = opening; closing = closing }
 
--- the marks of a comment, between whose delimiters x stands; one character is never both
+-- The marks of a comment with the text x between its delimiters. One character is never both marks.
 abbrev pub comment_marks : Text → Marks
 comment_marks x = marks (first_mark x) (last_mark (behind_mark x))
 
 -- ---- a tag's inside
 
--- `}}` closes a variable tag, and `%}` a block tag: the first character of the two
+-- The first character of a closer: `}}` closes a variable tag, and `%}` a block tag.
 abbrev pub closer : TagKind → ℕ
 closer kind.Variable = 125
 closer kind.Block = 37
 
--- before `}}` a `+` is an operator
+-- The mark may precede the tag's closer. A `+` before `}}` is an operator.
 abbrev pub may_close : TagKind → Mark → Bool
 may_close kind.Variable m.Plus = false
 may_close k mark = true
 
--- a tag's closer with its mark
+-- The spelling of a tag's closer with its mark.
 abbrev pub closing_text : TagKind → Mark → Text → Text
 closing_text k mark rest = mark_text mark ++ (closer k ∷ 125 ∷ rest)
 
--- the two characters stand in front
+-- The text begins with the two characters.
 abbrev pub begins : ℕ → ℕ → Text → Bool
 begins a b [] = false
 begins a b (c ∷ []) = false
 begins a b (c ∷ d ∷ rest) = c == a && d == b
 
--- behind a mark
+-- The mark, and the rest after the closer, if the text after the mark begins with the closer.
 abbrev pub marked_closer : TagKind → Mark → Text → Option (Mark × Text)
 marked_closer k m.Absent x = None
 marked_closer k m.Minus x = if begins (closer k) 125 x then Some (m.Minus, drop 2 x) else None
 marked_closer k m.Plus x =
     if may_close k m.Plus && begins (closer k) 125 x then Some (m.Plus, drop 2 x) else None
 
--- the mark of the closer in front, and what is behind it
+-- The mark of the closer at the start of a text, and the rest.
 abbrev pub closer_at : TagKind → Text → Option (Mark × Text)
 closer_at k x =
     if begins (closer k) 125 x
@@ -197,19 +198,20 @@ abbrev pub is_found : {A : Type 0} → Option A → Bool
 is_found None = false
 is_found (Some a) = true
 
--- the tag's closer stands in front, where so many braces are open; it closes where none is
+-- The text begins with the closer of a tag in which `depth` braces are open. It closes only if no
+-- brace is open.
 abbrev pub closes : TagKind → ℕ → Text → Bool
 closes k depth x = depth == 0 && is_found (closer_at k x)
 
--- how many braces are open behind a token
+-- The number of open braces after a token.
 abbrev pub braces : ℕ → Token → ℕ
 braces depth (sign s.LeftBrace) = depth + 1
 braces depth (sign s.RightBrace) = depth - 1
 braces depth t = depth
 
--- `Inside k depth ts mark x rest`: so many braces are open; x begins with the tokens ts, with any
--- whitespace between or none, and the tag's first closer where no brace is open, with its mark, and
--- the rest stands behind it
+-- `Inside k depth ts mark x rest`: `depth` braces are open; x consists of the tokens ts with any
+-- whitespace between them, the tag's closer with the mark, and the rest. The closer is the first
+-- one at which no brace is open.
 pub data Inside (k : TagKind) : ℕ → List Token → Mark → Text → Text → Type 0 where
   closed : {mark : Mark} {rest : Text} → may_close k mark ≡ true
       → Inside k 0 [] mark (closing_text k mark rest) rest
@@ -223,32 +225,32 @@ pub data Inside (k : TagKind) : ℕ → List Token → Mark → Text → Text �
 
 pub data Segment : Type 0 where
   data_of : Text → Segment
-  -- with its marks and its line
+  -- A tag with its marks and its line.
   tag : TagKind → Marks → ℕ → List Token → Segment
-  -- with its marks, and all that stands between the delimiters
+  -- A comment with its marks and the text between its delimiters.
   comment : Marks → Text → Segment
-  -- a `raw` tag with its marks, the text behind it, and the `endraw` tag with its marks
+  -- Raw text between a `raw` tag and an `endraw` tag, each with its marks.
   raw : Marks → Text → Marks → Segment
 
--- `{{`, `{%` or `{#` stands in front
+-- The text begins with `{{`, `{%` or `{#`.
 abbrev pub opens : Text → Bool
 opens x = begins 123 123 x || begins 123 37 x || begins 123 35 x
 
--- `#}` stands in front
+-- The text begins with `#}`.
 abbrev pub ends_comment : Text → Bool
 ends_comment = begins 35 125
 
--- the test holds at no place of d, read together with the text x behind it
+-- The test holds at no position of the text d, which x follows.
 abbrev pub NoneBegins : (Text → Bool) → Text → Text → Type 0
 NoneBegins test [] x = Unit {0}
 NoneBegins test (c ∷ d) x = (test (c ∷ (d ++ x)) ≡ false) × NoneBegins test d x
 
--- data goes up to an opener, or to the end
+-- Data ends at an opener or at the end of the source.
 abbrev pub EndsData : Text → Type 0
 EndsData [] = Unit {0}
 EndsData (c ∷ cs) = opens (c ∷ cs) ≡ true
 
--- a tag whose only token is `raw`, if it is a block tag
+-- The tag is a block tag, and `raw` is its only token.
 abbrev pub is_raw : TagKind → List Token → Bool
 is_raw kind.Variable ts = false
 is_raw kind.Block [] = false
@@ -258,12 +260,12 @@ is_raw kind.Block (number n ∷ ts) = false
 is_raw kind.Block (text v ∷ ts) = false
 is_raw kind.Block (sign s ∷ ts) = false
 
--- what is behind whitespace
+-- The text without its leading whitespace.
 unfoldable pub after_space : Text → Text
 after_space [] = []
 after_space (c ∷ cs) = if is_space c then after_space cs else c ∷ cs
 
--- what is behind a word, where it stands in front
+-- The rest of a text after a word that it begins with.
 abbrev pub after_word : Text → Text → Option Text
 after_word [] x = Some x
 after_word (w ∷ ws) [] = None
@@ -277,35 +279,35 @@ abbrev pub endraw_named : Mark → Option Text → Option (Marks × Text)
 endraw_named opening None = None
 endraw_named opening (Some x) = endraw_closed opening (closer_at kind.Block (after_space x))
 
--- the `endraw` tag in front: its marks, and what is behind it. Its one word may have whitespace on
--- both sides.
+-- The marks of the `endraw` tag at the start of a text, and the rest. Whitespace may surround the
+-- word `endraw`.
 unfoldable pub endraw_at : Text → Option (Marks × Text)
 endraw_at x =
     if begins 123 37 x then endraw_named (first_mark (drop 2 x))
     (after_word (codes "endraw") (after_space (behind_mark (drop 2 x))))
     else None
 
--- an `endraw` tag stands in front
+-- The text begins with an `endraw` tag.
 abbrev pub ends_raw : Text → Bool
 ends_raw x = is_found (endraw_at x)
 
--- the second character of a tag's opener
+-- The second character of a tag's opener.
 abbrev pub second : TagKind → ℕ
 second kind.Variable = 123
 second kind.Block = 37
 
--- the number of line ends
+-- The number of line ends.
 abbrev pub lines : Text → ℕ
 lines = count_by (λ c. c == 10)
 
--- the line of the place of a source that x stands behind, counted from 1
+-- The line of the position of the source at which its suffix x begins, counted from 1.
 abbrev pub line_at : Text → Text → ℕ
 line_at source x = 1 + lines source - lines x
 
--- `IsSegment n s x rest`: x begins with the segment s, which a tag of line n may be, and the rest
--- stands behind it. Data is never empty, and no opener begins in it, not even one that ends
--- behind it. A comment ends at the first `#}` behind its opener. Behind a `raw` tag all up to the
--- first `endraw` tag is text.
+-- `IsSegment n s x rest`: x is a spelling of the segment s followed by the rest; a tag has the line
+-- n. Data is never empty, and no opener begins in it, not even one that ends after it. A comment
+-- ends at the first `#}` after its opener. The text after a `raw` tag extends to the first `endraw`
+-- tag.
 pub data IsSegment (n : ℕ) : Segment → Text → Text → Type 0 where
   some_data : {c : ℕ} {d rest : Text} → NoneBegins opens (c ∷ d) rest → EndsData rest
       → IsSegment n (data_of (c ∷ d)) (c ∷ (d ++ rest)) rest
@@ -320,24 +322,24 @@ pub data IsSegment (n : ℕ) : Segment → Text → Text → Type 0 where
       → endraw_at y ≡ Some (ends, rest)
       → IsSegment n (raw (marks (first_mark x) closing) d ends) (123 ∷ 37 ∷ x) rest
 
--- `Cuts source Ends ss x`: what is left of the source, x, is cut into the segments ss,
--- up to a place where the fact `Ends` holds of the text behind it
+-- `Cuts source Ends ss x`: the suffix x of the source is split into the segments ss, up to a
+-- position where `Ends` holds of the remaining text.
 pub data Cuts (source : Text) (Ends : Text → Type 0) : List Segment → Text → Type 0 where
   no_more : {x : Text} → Ends x → Cuts source Ends [] x
   more : {s : Segment} {ss : List Segment} {x rest : Text} → IsSegment (line_at source x) s x rest
       → Cuts source Ends ss rest → Cuts source Ends (s ∷ ss) x
 
--- the whole source is cut into the segments
+-- The whole source is split into the segments.
 abbrev pub IsCut : List Segment → Text → Type 0
 IsCut ss source = Cuts source (λ x. x ≡ []) ss source
 
--- the text ends with the other one
+-- The text has the suffix rest.
 abbrev pub EndsWith : Text → Text → Type 0
-EndsWith x rest = (y : Text) × (x ≡ y ++ rest)
+EndsWith x rest = (before : Text) × (x ≡ before ++ rest)
 
--- ---- how much stands in segments
+-- ---- the weight of segments
 
--- a text counts 2, and every other token 1
+-- The weight of a text literal is 2, that of every other token 1.
 abbrev pub token_weight : Token → ℕ
 token_weight (text v) = 2
 token_weight t = 1
@@ -346,8 +348,8 @@ abbrev pub tokens_weight : List Token → ℕ
 tokens_weight [] = 0
 tokens_weight (t ∷ ts) = token_weight t + tokens_weight ts
 
--- a tag counts 4 for its delimiters and what its tokens do, data and raw text 1, and a comment
--- nothing
+-- The weight of a tag is 4 for its delimiters plus that of its tokens; data and raw text weigh 1,
+-- and a comment 0.
 abbrev pub weight : Segment → ℕ
 weight (data_of d) = 1
 weight (tag k ms n ts) = 4 + tokens_weight ts

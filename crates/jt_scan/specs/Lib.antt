@@ -2,8 +2,7 @@ pub mod Words
 pub mod Literals
 pub mod Cut
 pub mod LineEnds
-pub mod Scanning
 pub mod SourceView
 pub mod Refused
 pub mod View
-pub mod PartView
+pub mod internal

@@ -1,15 +1,15 @@
-//! The end of raw text.
+//! Finds the end of raw text.
 
 ghost use Rattle.std.specs.Prelude.{◌≡◌, codes};
 ghost use Rattle.std.specs.Str.{chars};
-ghost use Rattle.jt_scan.specs.PartView.{IsFound, IsRest, IsSplit};
+ghost use Rattle.jt_scan.specs.internal.PartView.{IsFound, IsRest, IsSplit};
 ghost use Rattle.jt_scan.specs.Cut as cut;
 
 use crate::marks::{read_closer, read_mark};
 use crate::segment::{Marks, TagKind};
 use crate::text::{before, behind_pair, behind_space, first};
 
-/// What is behind the word `endraw`, where it is in front.
+/// Returns the rest of a text after the word `endraw`, if the text begins with it.
 fn behind_endraw(text: &str) -> Option<&str>
     ensures { IsRest (cut.after_word (codes "endraw") (chars text.now)) result }
 {
@@ -20,7 +20,7 @@ fn behind_endraw(text: &str) -> Option<&str>
     )
 }
 
-/// The marks of the `endraw` tag in front, and what is behind the tag.
+/// Reads an `endraw` tag. Returns its marks and the rest of the text.
 #[tactic(auto, unfolding(crate::specs::Cut::endraw_at))]
 pub(crate) fn read_endraw(text: &str) -> Option<(Marks, &str)>
     ensures { IsFound (λ a. a) (cut.endraw_at (chars text.now)) result }
@@ -32,14 +32,14 @@ pub(crate) fn read_endraw(text: &str) -> Option<(Marks, &str)>
     Some((Marks { opening, closing }, rest))
 }
 
-/// Whether an `endraw` tag is in front.
+/// Returns whether a text begins with an `endraw` tag.
 fn ends_raw(text: &str) -> bool
     ensures { result ≡ cut.ends_raw (chars text.now) }
 {
     read_endraw(text).is_some()
 }
 
-/// What is in front of the first `endraw` tag, and what is from there on.
+/// Splits a text before its first `endraw` tag, or at its end if it has none.
 pub(crate) fn split_raw(text: &str) -> (&str, &str)
     ensures { IsSplit cut.ends_raw text.now result }
 {

@@ -1,10 +1,10 @@
-//! Why a source is refused.
+//! The errors of the scanner.
 
 use std::alloc::{AllocError, AllocFailed};
 use thiserror::Error;
 
-/// Why a source is refused. The line is that of the first `{` of the tag in which the fault was
-/// found, counted from 1 after CR LF and CR have become LF, or 1 where there is no tag.
+/// The reason why a source is refused. The line is that of the first `{` of the tag with the error,
+/// counted from 1 after CR LF and CR have become LF. It is 1 if there is no tag.
 #[derive(Clone, Copy, Debug, Drop, Error, PartialEq, Eq)]
 pub enum ScanError {
     /// The source ends inside a tag or a comment.
@@ -22,13 +22,13 @@ pub enum ScanError {
     /// A number is above 9223372036854775807.
     #[error("S5 NumberTooLarge")]
     NumberTooLarge { line: u32 },
-    /// A `raw` tag has no `endraw` tag behind it.
+    /// No `endraw` tag follows a `raw` tag.
     #[error("S6 UnclosedRaw")]
     UnclosedRaw { line: u32 },
     /// The text has more than 1048576 bytes. The line is 1.
     #[error("S7 SourceTooLong")]
     SourceTooLong { line: u32 },
-    /// A growth was refused.
+    /// A growth is refused.
     #[error("S8 NoMemory")]
     NoMemory,
 }

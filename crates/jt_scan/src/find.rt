@@ -1,14 +1,15 @@
-//! Where data and comments end, found by their bytes.
+//! Finds the ends of data and of comments by their bytes.
 
 ghost use Rattle.std.specs.Prelude.{◌≡◌, ◌≤◌, length, slice_index, codes};
 ghost use Rattle.memchr.specs.Find.{FindsNeedle, IsFirst};
 ghost use Rattle.jt_scan.specs.Cut as cut;
-ghost use Rattle.jt_scan.specs.PartView.{IsSplit};
-ghost use Rattle.jt_scan.specs.Scanning as spec;
+ghost use Rattle.jt_scan.specs.internal.PartView.{IsSplit};
+ghost use Rattle.jt_scan.specs.internal.Scanning as spec;
 
 use memchr::{memchr, memmem};
 
-/// Whether the byte at the place makes an opener of a `{` before it. There is none past the end.
+/// Returns whether the byte at a position can follow `{` in an opener. Returns `false` past the
+/// end.
 fn is_second(text: &[u8], at: usize) -> bool
     ensures { result ≡ spec.is_second (slice_index text.now at) }
 {
@@ -19,7 +20,7 @@ fn is_second(text: &[u8], at: usize) -> bool
     }
 }
 
-/// The next `{` from `start` on.
+/// Returns the position of the first `{` at or after `start`.
 fn next_brace(text: &[u8], start: usize) -> Option<usize>
     requires { start ≤ length text.now }
     ensures { IsFirst (λ k. slice_index text.now k ≡ 123) start (length text.now) result }
@@ -30,7 +31,7 @@ fn next_brace(text: &[u8], start: usize) -> Option<usize>
     }
 }
 
-/// The first place where `{{`, `{%` or `{#` begins.
+/// Returns the first position of `{{`, `{%` or `{#`.
 fn find_opener(text: &[u8]) -> Option<usize>
     ensures { IsFirst (spec.OpensAt text.now) 0 (length text.now) result }
 {
@@ -44,7 +45,7 @@ fn find_opener(text: &[u8]) -> Option<usize>
     None
 }
 
-/// The data in front of the first opener, and what is from there on.
+/// Splits a text before its first opener, or at its end if it has none.
 pub(crate) fn split_data(text: &str) -> (&str, &str)
     ensures { IsSplit cut.opens text.now result }
 {
@@ -52,14 +53,14 @@ pub(crate) fn split_data(text: &str) -> (&str, &str)
     (&text[..end], &text[end..])
 }
 
-/// The first place where `#}` stands.
+/// Returns the first position of `#}`.
 fn find_end(text: &[u8]) -> Option<usize>
     ensures { FindsNeedle text.now (codes "#}") 0 result }
 {
     memmem::find(text, b"#}")
 }
 
-/// What is in front of the first `#}`, and what is from there on.
+/// Splits a text before its first `#}`, or at its end if it has none.
 pub(crate) fn split_comment(text: &str) -> (&str, &str)
     ensures { IsSplit cut.ends_comment text.now result }
 {

@@ -1,8 +1,9 @@
-//! Sources of templates, cut into segments and tokens.
+//! Scans the source of a template into segments and tokens.
 //!
-//! The text with one kind of line end (source), its cut (scanner, endraw, find, marks), the tokens
-//! of a tag (tokens, signs, numbers, quotes), and how templates are read (options). Read first:
-//! specs/Cut.antt, the relation between a source and its segments.
+//! `source` normalizes line ends. `scanner` splits the text into segments, with `endraw`, `find`
+//! and `marks`. `tokens` reads the tokens of a tag, with `signs`, `numbers` and `quotes`. `options`
+//! holds the options of a source. Read first: specs/Cut.antt, the relation between a source and its
+//! segments.
 #![tactic(auto)]
 
 mod endraw;
@@ -23,6 +24,6 @@ pub use error::ScanError;
 pub use options::Options;
 pub use quotes::text_value;
 pub use scanner::scan;
-pub use segment::{Mark, Marks, Part, Segment, Sign, Tag, TagKind, Token};
+pub use segment::{Mark, Marks, Segment, SegmentKind, Sign, Tag, TagKind, Token};
 pub use source::Source;
 pub use text::{behind_space, first, is_word};

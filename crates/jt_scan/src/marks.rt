@@ -1,14 +1,14 @@
-//! Marks of tags, and the closers that have them.
+//! Reads marks, and the closers that may have them.
 
 ghost use Rattle.std.specs.Prelude.{◌≡◌, Some, None};
 ghost use Rattle.std.specs.Str.{chars};
-ghost use Rattle.jt_scan.specs.PartView.{IsFound};
+ghost use Rattle.jt_scan.specs.internal.PartView.{IsFound};
 ghost use Rattle.jt_scan.specs.Cut as cut;
 
 use crate::segment::{Mark, Marks, TagKind};
 use crate::text::{behind_pair, first};
 
-/// The mark that a character is.
+/// Returns the mark that a character spells.
 fn mark_of(c: char) -> Mark
     ensures { result ≡ cut.mark_of c }
 {
@@ -19,7 +19,7 @@ fn mark_of(c: char) -> Mark
     }
 }
 
-/// The mark in front, and what is behind it.
+/// Reads the mark at the start of a text, if it has one, and returns the rest.
 pub(crate) fn read_mark(text: &str) -> (Mark, &str)
     ensures mark { result.0 ≡ cut.first_mark (chars text.now) }
     ensures rest { chars result.1.now ≡ cut.behind_mark (chars text.now) }
@@ -34,7 +34,7 @@ pub(crate) fn read_mark(text: &str) -> (Mark, &str)
 }
 
 #[tactic(auto, unfolding(crate::specs::Cut::last_from))]
-/// The mark that ends a text.
+/// Returns the mark at the end of a text.
 fn last_mark(text: &str) -> Mark
     ensures { result ≡ cut.last_mark (chars text.now) }
 {
@@ -47,7 +47,7 @@ fn last_mark(text: &str) -> Mark
     mark
 }
 
-/// The marks of a comment between whose delimiters the text stands.
+/// Returns the marks of a comment, given the text between its delimiters.
 pub(crate) fn comment_marks(text: &str) -> Marks
     ensures { result ≡ cut.comment_marks (chars text.now) }
 {
@@ -58,7 +58,7 @@ pub(crate) fn comment_marks(text: &str) -> Marks
     }
 }
 
-/// The first character of the tag's closer, which ends with `}`.
+/// Returns the first character of a tag's closer; the second one is `}`.
 fn closer(kind: TagKind) -> char
     ensures { result ≡ cut.closer kind }
 {
@@ -68,14 +68,14 @@ fn closer(kind: TagKind) -> char
     }
 }
 
-/// Whether the mark may stand before the tag's closer.
+/// Returns whether a mark may precede a tag's closer.
 fn may_close(kind: TagKind, mark: Mark) -> bool
     ensures { result ≡ cut.may_close kind mark }
 {
     !(kind == TagKind::Variable && mark == Mark::Plus)
 }
 
-/// The mark of the closer in front, and what is behind it.
+/// Reads a tag's closer. Returns its mark and the rest of the text.
 pub(crate) fn read_closer(text: &str, kind: TagKind) -> Option<(Mark, &str)>
     ensures { IsFound (λ a. a) (cut.closer_at kind (chars text.now)) result }
 {

@@ -1,15 +1,16 @@
-//! Numbers of a tag.
+//! Reads the numbers of a tag.
 
 ghost use Rattle.std.specs.Prelude.{◌≡◌, ◌+◌, ◌*◌};
 ghost use Rattle.std.specs.Str.{chars};
-ghost use Rattle.jt_scan.specs.PartView.{IsFound, NamesBase, capped};
+ghost use Rattle.jt_scan.specs.internal.PartView.{IsFound, NamesBase, capped};
 ghost use Rattle.jt_scan.specs.Literals as literal;
-ghost use Rattle.jt_scan.specs.Scanning as spec;
+ghost use Rattle.jt_scan.specs.internal.Scanning as spec;
 
 use crate::text::first;
 
 #[tactic(auto, unfolding(crate::specs::Literals::digit_value))]
-/// The value of a digit, of a letter in either case. A character that is none has 16.
+/// Returns the value of a digit. The letters `a` to `f` of either case have the values 10 to 15,
+/// and a character that is no digit has the value 16.
 pub(crate) fn digit_value(c: char) -> u32
     ensures { result ≡ literal.digit_value c }
 {
@@ -21,7 +22,7 @@ pub(crate) fn digit_value(c: char) -> u32
     }
 }
 
-/// The digit of the base in front, and what is behind it.
+/// Reads a digit of the base and returns the rest of the text.
 pub(crate) fn plain_digit(text: &str, base: u32) -> Option<(u32, &str)>
     ensures { IsFound (λ a. a) (spec.plain_digit base (chars text.now)) result }
 {
@@ -34,8 +35,8 @@ pub(crate) fn plain_digit(text: &str, base: u32) -> Option<(u32, &str)>
     }
 }
 
-#[tactic(auto, unfolding(crate::specs::Scanning::next_digit))]
-/// The digit of the base in front, with one underscore before it or none, and what is behind it.
+#[tactic(auto, unfolding(crate::specs::internal::Scanning::next_digit))]
+/// Reads a digit of the base, with at most one underscore before it, and returns the rest.
 fn next_digit(text: &str, base: u32) -> Option<(u32, &str)>
     ensures { IsFound (λ a. a) (spec.next_digit base (chars text.now)) result }
 {
@@ -50,7 +51,7 @@ fn next_digit(text: &str, base: u32) -> Option<(u32, &str)>
     }
 }
 
-/// The number with one digit more, or the greatest of its type where it is greater.
+/// Appends a digit to a number. Saturates at the greatest `u64`.
 pub(crate) fn grown(number: u64, base: u32, digit: u32) -> u64
     ensures { result ≡ capped (capped (number * base) + digit) }
 {
@@ -59,8 +60,8 @@ pub(crate) fn grown(number: u64, base: u32, digit: u32) -> u64
         .saturating_add(u64::from(digit))
 }
 
-/// The number that the digits in front make behind those of another, or the greatest of its type
-/// where it is greater, and what is behind them.
+/// Appends the leading digits of a text to the number `start`, and returns the rest of the text.
+/// Saturates at the greatest `u64`.
 fn read_digits(text: &str, base: u32, start: u64) -> (u64, &str)
     ensures value { result.0 ≡ capped (spec.digits_at base start (chars text.now)).0 }
     ensures rest { chars result.1.now ≡ (spec.digits_at base start (chars text.now)).1 }
@@ -75,7 +76,7 @@ fn read_digits(text: &str, base: u32, start: u64) -> (u64, &str)
 }
 
 #[tactic(auto, unfolding(crate::specs::Literals::base_of))]
-/// The base that a letter behind a first `0` names, or 0.
+/// Returns the base that a letter after a leading `0` names, or 0 if it names none.
 fn base_of(letter: char) -> u32
     ensures { result ≡ literal.base_of letter }
 {
@@ -87,7 +88,8 @@ fn base_of(letter: char) -> u32
     }
 }
 
-/// The base whose letter is in front, where a digit of it is next, and what is behind the letter.
+/// Reads the letter of a base if a digit of that base follows. Returns the base and the text after
+/// the letter.
 fn named_base(text: &str) -> Option<(u32, &str)>
     ensures { NamesBase (chars text.now) result }
 {
@@ -97,8 +99,8 @@ fn named_base(text: &str) -> Option<(u32, &str)>
     Some((base, more))
 }
 
-/// The number whose first digit is given, or the greatest of its type where it is greater, and
-/// what is behind it.
+/// Reads the number whose first digit is `c`, and returns the rest of the text. Saturates at the
+/// greatest `u64`.
 pub(crate) fn read_number(c: char, more: &str) -> (u64, &str)
     ensures value { result.0 ≡ capped (spec.number_at c (chars more.now)).0 }
     ensures rest { chars result.1.now ≡ (spec.number_at c (chars more.now)).1 }

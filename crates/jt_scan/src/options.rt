@@ -1,23 +1,24 @@
-//! How templates are read.
+//! The options of a template's source.
 
 ghost use Rattle.std.specs.Prelude.{◌≡◌};
 ghost use Rattle.jt_scan.specs.SourceView.{usual_options};
 
-/// How templates are read.
+/// The options that the source of a template is read with.
 #[derive(Clone, Copy, Debug, PartialEq, Eq)]
 pub struct Options {
-    /// Drops one LF directly behind a block tag without a mark at its end.
+    /// Whether one LF directly after a block tag or comment is dropped if its closer has no mark.
     pub trim_blocks: bool,
-    /// Drops the spaces and tabs of a line before a block tag without a mark at its beginning.
+    /// Whether the spaces and tabs of a line before a block tag or comment are dropped if its
+    /// opener has no mark.
     pub lstrip_blocks: bool,
-    /// Keeps one LF at the end of a source, which is dropped otherwise.
+    /// Whether one LF at the end of a source is kept. It is dropped otherwise.
     pub keep_trailing_newline: bool,
-    /// Whether what is printed is escaped at first.
+    /// Whether escaping is on at the start of the template.
     pub autoescape: bool,
 }
 
 impl Options {
-    /// The usual options: what is printed is escaped, and an LF at the end is dropped.
+    /// Returns the default options: escaping is on, and an LF at the end is dropped.
     pub fn new() -> Options
         ensures { result ≡ usual_options }
     {

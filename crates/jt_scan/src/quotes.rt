@@ -1,58 +1,60 @@
-//! Texts between quotes, and what they mean.
+//! Reads text literals and computes their values.
 
-ghost use Rattle.std.specs.Prelude.{◌≡◌, ◌+◌, ◌++◌, ◌&&◌, ◌==◌, not, length, true, false, MatchOption, IfOk};
+ghost use Rattle.std.specs.Prelude.{◌≡◌, ◌+◌, ◌++◌, ◌&&◌, ◌==◌, not, length, true, false};
+ghost use Rattle.std.specs.Prelude.{MatchOption, IfOk};
 ghost use Rattle.std.specs.Str.{chars, encode_utf8_all};
 ghost use Rattle.std.specs.String.{string_bytes};
 ghost use lib.Utf8.{scalar};
 ghost use Rattle.jt_scan.specs.Literals as literal;
 ghost use Rattle.jt_scan.specs.Literals.{coded, some_digits};
-ghost use Rattle.jt_scan.specs.Scanning as spec;
-ghost use Rattle.jt_scan.specs.PartView.{escape_view, piece_text, bytes_of, capped, IsFound};
+ghost use Rattle.jt_scan.specs.internal.Scanning as spec;
+ghost use Rattle.jt_scan.specs.internal.PartView.{escape_view, piece_text, bytes_of, capped};
+ghost use Rattle.jt_scan.specs.internal.PartView.{IsFound};
 
 use crate::numbers::{digit_value, grown, plain_digit};
 use crate::text::{before, first};
 use std::alloc::{AllocError, Global};
 
-/// What a character means behind a backslash.
+/// The meaning of a character after a backslash.
 #[derive(Clone, Copy)]
 enum Escape {
-    /// It is dropped, and the backslash too.
+    /// A character that is dropped with its backslash.
     Drops,
     Gives(char),
-    /// It is the first of one to three octal digits.
+    /// The first of one to three octal digits.
     Octal,
-    /// So many hexadecimal digits follow.
+    /// A letter before this number of hexadecimal digits.
     Hexadecimal(usize),
     Refused,
-    /// It stays, and the backslash too.
+    /// A character that stays with its backslash.
     Stays,
 }
 
-/// What a character or an escape stands for.
+/// The value of a character or of an escape.
 #[derive(Clone, Copy)]
-pub enum Piece {
+pub enum EscapeValue {
     Nothing,
     Character(char),
     /// A backslash and a character.
     Pair(char),
 }
 
-/// Whether the character is a quote.
+/// Returns whether a character is a quote.
 pub(crate) fn is_quote(c: char) -> bool
     ensures { result ≡ literal.is_quote c }
 {
     c == '"' || c == '\''
 }
 
-/// Whether the character is the one that is looked for, with no backslash before it.
+/// Returns whether a character is the wanted one and is not escaped by a backslash.
 fn is_bare(c: char, wanted: char, escaped: bool) -> bool
     ensures { result ≡ (c == wanted && not escaped) }
 {
     c == wanted && !escaped
 }
 
-/// What is in front of the second quote, and what is behind it. The character behind a backslash
-/// is none.
+/// Returns the text before the closing quote and the rest after it. A quote after a backslash does
+/// not close.
 pub(crate) fn split_quoted(text: &str, quote: char) -> Option<(&str, &str)>
     ensures { IsFound (λ a. chars a.now) (spec.enclosed_at quote false (chars text.now)) result }
 {
@@ -69,7 +71,7 @@ pub(crate) fn split_quoted(text: &str, quote: char) -> Option<(&str, &str)>
 }
 
 #[tactic(auto, unfolding(crate::specs::Literals::escape))]
-/// What the character means behind a backslash.
+/// Returns the meaning of a character after a backslash.
 fn escape_of(c: char) -> Escape
     ensures { escape_view result ≡ literal.escape c }
 {
@@ -94,8 +96,8 @@ fn escape_of(c: char) -> Escape
     }
 }
 
-/// How many of so many digits are missing, the number that those in front make behind another's,
-/// or the greatest of its type where it is greater, and what is behind them.
+/// Reads at most `most` digits and appends them to the number `start`. Returns how many digits are
+/// missing, the number, which saturates at the greatest `u64`, and the rest of the text.
 fn some_digits(text: &str, base: u32, most: usize, start: u64) -> (usize, u64, &str)
     ensures missing { length (some_digits base most (chars text.now)).0 + result.0 ≡ most }
     ensures number { result.1
@@ -116,59 +118,59 @@ fn some_digits(text: &str, base: u32, most: usize, start: u64) -> (usize, u64, &
     (missing, number, rest)
 }
 
-/// The character of a code.
+/// Returns the character with this code, if there is one.
 fn character(code: u64) -> Option<char>
     ensures { MatchOption result (scalar code ≡ false) (λ c. (c ≡ code) × (scalar code ≡ true)) }
 {
     char::from_u32(u32::try_from(code).ok()?)
 }
 
-/// The character of an octal escape, whose first digit is given, and what is behind it.
-fn read_octal(c: char, more: &str) -> Option<(Piece, &str)>
+/// Reads an octal escape whose first digit is `c`, and returns the rest of the text.
+fn read_octal(c: char, more: &str) -> Option<(EscapeValue, &str)>
     ensures { IsFound piece_text (literal.escape_by literal.octal c (chars more.now)) result }
 {
     let (_missing, code, rest) = some_digits(more, 8, 2, u64::from(digit_value(c)));
-    Some((Piece::Character(character(code)?), rest))
+    Some((EscapeValue::Character(character(code)?), rest))
 }
 
-/// The character of so many hexadecimal digits in front, and what is behind them.
-fn read_hexadecimal(text: &str, digits: usize) -> Option<(Piece, &str)>
+/// Reads the character that `digits` hexadecimal digits encode, and returns the rest of the text.
+fn read_hexadecimal(text: &str, digits: usize) -> Option<(EscapeValue, &str)>
     ensures { IsFound piece_text (coded digits (some_digits 16 digits (chars text.now))) result }
 {
     let (missing, code, rest) = some_digits(text, 16, digits, 0);
     if missing > 0 {
         return None;
     }
-    Some((Piece::Character(character(code)?), rest))
+    Some((EscapeValue::Character(character(code)?), rest))
 }
 
-/// What an escape stands for, and what is behind it. Its backslash is in front of the text.
-fn read_escape(text: &str) -> Option<(Piece, &str)>
+/// Reads an escape and returns the rest of the text. The text begins after the backslash.
+fn read_escape(text: &str) -> Option<(EscapeValue, &str)>
     ensures { IsFound piece_text (literal.escape_at (chars text.now)) result }
 {
     let (c, more) = first(text)?;
     match escape_of(c) {
-        Escape::Drops => Some((Piece::Nothing, more)),
-        Escape::Gives(given) => Some((Piece::Character(given), more)),
+        Escape::Drops => Some((EscapeValue::Nothing, more)),
+        Escape::Gives(given) => Some((EscapeValue::Character(given), more)),
         Escape::Octal => read_octal(c, more),
         Escape::Hexadecimal(digits) => read_hexadecimal(more, digits),
         Escape::Refused => None,
-        Escape::Stays => Some((Piece::Pair(c), more)),
+        Escape::Stays => Some((EscapeValue::Pair(c), more)),
     }
 }
 
-/// What the piece stands for whose first character is given, and what is behind it.
-fn read_piece(c: char, more: &str) -> Option<(Piece, &str)>
+/// Reads the character or escape that begins with `c`, and returns the rest of the text.
+fn read_piece(c: char, more: &str) -> Option<(EscapeValue, &str)>
     ensures { IsFound piece_text (literal.piece_at c (chars more.now)) result }
 {
     if c == '\\' {
         read_escape(more)
     } else {
-        Some((Piece::Character(c), more))
+        Some((EscapeValue::Character(c), more))
     }
 }
 
-/// Whether every escape has a meaning.
+/// Returns whether every escape of a text literal has a meaning.
 pub(crate) fn has_meaning(raw: &str) -> bool
     ensures { result ≡ (literal.pieces 0 (chars raw.now)).1 }
 {
@@ -182,23 +184,27 @@ pub(crate) fn has_meaning(raw: &str) -> bool
     true
 }
 
-/// Appends what a piece stands for.
-fn push_piece(held: &mut String, piece: Piece) -> Result<(), AllocError>
+/// Appends the value of a character or of an escape.
+fn push_piece(held: &mut String, piece: EscapeValue) -> Result<(), AllocError>
     ensures { IfOk result (λ _. string_bytes held.new ≡ string_bytes held.old ++ bytes_of piece) }
 {
     match piece {
-        Piece::Nothing => Ok(()),
-        Piece::Character(c) => held.push(c),
-        Piece::Pair(c) => {
+        EscapeValue::Nothing => Ok(()),
+        EscapeValue::Character(c) => held.push(c),
+        EscapeValue::Pair(c) => {
             held.push('\\')?;
             held.push(c)
         }
     }
 }
 
-/// What a text literal means: the characters between its quotes, with those in place of escapes
-/// that these stand for. A text with an escape that has no meaning, which no token holds, is read
-/// up to that.
+/// Returns the value of a text literal, given the characters between its quotes: each escape is
+/// replaced by the characters that it encodes. Reading stops at an escape without a meaning, which
+/// no token contains.
+///
+/// # Errors
+///
+/// `AllocError` if a growth is refused.
 pub fn text_value(alloc: Global, raw: &str) -> Result<String, AllocError>
     ensures { IfOk result
         (λ value. string_bytes value ≡ encode_utf8_all (literal.unescaped (chars raw.now))) }

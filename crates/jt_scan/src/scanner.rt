@@ -1,11 +1,12 @@
-//! The cut of a source into segments.
+//! Splits a source into segments.
 
-ghost use Rattle.std.specs.Prelude.{◌≡◌, ◌≤◌, ◌++◌, ◌∷◌, [], List, length, map, MatchResult, IfOk, IfErr};
+ghost use Rattle.std.specs.Prelude.{◌≡◌, ◌≤◌, ◌++◌, ◌∷◌, [], List, length, map, MatchResult, IfOk};
+ghost use Rattle.std.specs.Prelude.{IfErr};
 ghost use Rattle.std.specs.Str.{chars};
-ghost use Rattle.jt_scan.specs.PartView.{IsOutcome, IsRead};
+ghost use Rattle.jt_scan.specs.internal.PartView.{IsParseResult, IsRead};
 ghost use Rattle.jt_scan.specs.Cut as cut;
 ghost use Rattle.jt_scan.specs.Refused.{IsRefusal};
-ghost use Rattle.jt_scan.specs.Scanning as spec;
+ghost use Rattle.jt_scan.specs.internal.Scanning as spec;
 ghost use Rattle.jt_scan.specs.SourceView.{max_source_len};
 ghost use Rattle.jt_scan.specs.View.{token_view, part_view, cut_of, HaveOptions};
 ghost use Rattle.jt_scan.specs.declared.error.ScanError.TheVariants as error;
@@ -15,13 +16,13 @@ use crate::error::ScanError;
 use crate::find::{split_comment, split_data};
 use crate::marks::{comment_marks, read_mark};
 use crate::options::Options;
-use crate::segment::{Marks, Part, Segment, Tag, TagKind, Token};
+use crate::segment::{Marks, Segment, SegmentKind, Tag, TagKind, Token};
 use crate::source::Source;
 use crate::text::{before, behind_pair, is_word, lines};
 use crate::tokens::read_tokens;
 use std::alloc::{AllocError, Global};
 
-/// Whether the only token is the word `raw`.
+/// Returns whether a tag is a block tag whose only token is the word `raw`.
 fn is_raw(kind: TagKind, tokens: &[Token<'_>]) -> bool
     ensures { result ≡ cut.is_raw kind (map token_view tokens.now) }
 {
@@ -31,24 +32,24 @@ fn is_raw(kind: TagKind, tokens: &[Token<'_>]) -> bool
     }
 }
 
-/// The text behind a `raw` tag with its `endraw` tag, and what is behind that.
-fn read_raw(text: &str, marks: Marks, line: u32) -> Result<(Part<'_>, &str), ScanError>
+/// Reads raw text and its `endraw` tag, and returns the rest. The text begins after the `raw` tag.
+fn read_raw(text: &str, marks: Marks, line: u32) -> Result<(SegmentKind<'_>, &str), ScanError>
     ensures { IsRead part_view (spec.raw_at line marks (chars text.now)) result }
 {
     let (raw, end) = split_raw(text);
     match read_endraw(end) {
-        Some((ends, rest)) => Ok((Part::Raw(marks, raw, ends), rest)),
+        Some((ends, rest)) => Ok((SegmentKind::Raw(marks, raw, ends), rest)),
         None => Err(ScanError::UnclosedRaw { line }),
     }
 }
 
-/// The tag whose opener is in front of the text, and what is behind it.
+/// Reads a tag and returns the rest. The text begins after the tag's opener.
 fn read_tag<'a>(
     alloc: Global,
     text: &'a str,
     kind: TagKind,
     line: u32,
-) -> Result<(Part<'a>, &'a str), ScanError>
+) -> Result<(SegmentKind<'a>, &'a str), ScanError>
     ensures { IsRead part_view (spec.tag_at kind line (chars text.now)) result }
 {
     let (opening, inside) = read_mark(text);
@@ -58,7 +59,7 @@ fn read_tag<'a>(
         return read_raw(rest, marks, line);
     }
     Ok((
-        Part::Tag(Tag {
+        SegmentKind::Tag(Tag {
             kind,
             marks,
             line,
@@ -68,19 +69,23 @@ fn read_tag<'a>(
     ))
 }
 
-/// The comment whose opener is in front of the text, and what is behind it.
-fn read_comment<'a>(text: &'a str, line: u32) -> Result<(Part<'a>, &'a str), ScanError>
+/// Reads a comment and returns the rest. The text begins after the comment's opener.
+fn read_comment<'a>(text: &'a str, line: u32) -> Result<(SegmentKind<'a>, &'a str), ScanError>
     ensures { IsRead part_view (spec.comment_at line (chars text.now)) result }
 {
     let (comment, end) = split_comment(text);
     match behind_pair(end, '#', '}') {
-        Some(rest) => Ok((Part::Comment(comment_marks(comment), comment), rest)),
+        Some(rest) => Ok((SegmentKind::Comment(comment_marks(comment), comment), rest)),
         None => Err(ScanError::UnclosedTag { line }),
     }
 }
 
-/// The segment in front, and what is behind it.
-fn read_part<'a>(alloc: Global, text: &'a str, line: u32) -> Result<(Part<'a>, &'a str), ScanError>
+/// Reads the first segment and returns the rest of the text.
+fn read_part<'a>(
+    alloc: Global,
+    text: &'a str,
+    line: u32,
+) -> Result<(SegmentKind<'a>, &'a str), ScanError>
     ensures { IsRead part_view (spec.segment_at line (chars text.now)) result }
 {
     if let Some(inside) = behind_pair(text, '{', '{') {
@@ -93,14 +98,14 @@ fn read_part<'a>(alloc: Global, text: &'a str, line: u32) -> Result<(Part<'a>, &
         return read_comment(inside, line);
     }
     let (data, rest) = split_data(text);
-    Ok((Part::Data(data), rest))
+    Ok((SegmentKind::Data(data), rest))
 }
 
-/// One segment behind the others.
+/// Appends a segment with these options.
 fn push_segment<'a>(
     segments: &mut Vec<Segment<'a>>,
     options: Options,
-    part: Part<'a>,
+    part: SegmentKind<'a>,
 ) -> Result<(), AllocError>
     requires { HaveOptions options segments.old.items }
     ensures cut { IfOk result (λ u.
@@ -111,14 +116,14 @@ fn push_segment<'a>(
     Ok(())
 }
 
-/// The segments of a text that is read so.
+/// Splits a text into segments that have these options.
 fn read_segments<'a>(
     alloc: Global,
     text: &'a str,
     options: Options,
 ) -> Result<Vec<Segment<'a>>, ScanError>
     requires { length text.now ≤ max_source_len }
-    ensures cut { IsOutcome (λ v. cut_of v.items) (spec.cut_whole (chars text.now)) result }
+    ensures cut { IsParseResult (λ v. cut_of v.items) (spec.cut_whole (chars text.now)) result }
     ensures options { IfOk result (λ v. HaveOptions options v.items) }
 {
     let mut segments = Vec::new(alloc);
@@ -133,19 +138,29 @@ fn read_segments<'a>(
     Ok(segments)
 }
 
-/// The segments of a source: data, tags with their tokens, comments and raw text, all of them
-/// slices of the source, in its order, each with the source's options. A refusal has the line of
-/// the tag: the source ends inside it or inside a text of it, a character begins no token, an
-/// escape has no meaning, a number is above the greatest, or a `raw` tag has no `endraw` tag behind
-/// it. `NoMemory` has none.
+/// Splits a source into segments. They are slices of the source, in its order, and each has the
+/// options of the source.
+///
+/// # Errors
+///
+/// Each error but `NoMemory` has the line of its tag.
+///
+/// - `UnclosedTag` if the source ends inside a tag or a comment.
+/// - `UnclosedText` if the source ends inside a text literal.
+/// - `BadCharacter` if a character of a tag begins no token.
+/// - `BadEscape` if an escape has no meaning.
+/// - `NumberTooLarge` if a number is above the greatest.
+/// - `UnclosedRaw` if no `endraw` tag follows a `raw` tag.
+/// - `NoMemory` if a growth is refused.
 pub fn scan(alloc: Global, source: &Source) -> Result<Vec<Segment<'_>>, ScanError>
-    ensures cut { IfOk result (λ v. cut.IsCut (cut_of v.items) (chars source.now.text)) }
-    ensures only { (ss : List cut.Segment) → cut.IsCut ss (chars source.now.text) →
-        MatchResult result (λ v. cut_of v.items ≡ ss) (λ e. e ≡ error.NoMemory) }
+    ensures cut { IfOk result
+        (λ segments. cut.IsCut (cut_of segments.items) (chars source.now.text)) }
+    ensures only { (others : List cut.Segment) → cut.IsCut others (chars source.now.text) →
+        MatchResult result (λ segments. cut_of segments.items ≡ others) (λ e. e ≡ error.NoMemory) }
     ensures refused { IfErr result (λ e. IsRefusal e (chars source.now.text)) }
-    ensures options { IfOk result (λ v. HaveOptions source.now.options v.items) }
+    ensures options { IfOk result (λ segments. HaveOptions source.now.options segments.items) }
     ensures weighs { IfOk result
-        (λ v. cut.weight_of (cut_of v.items) ≤ length (chars source.now.text)) }
+        (λ segments. cut.weight_of (cut_of segments.items) ≤ length (chars source.now.text)) }
 {
     read_segments(alloc, source.text(), source.options())
 }

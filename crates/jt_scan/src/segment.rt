@@ -58,12 +58,12 @@ pub enum Sign {
 /// A token of a tag.
 #[derive(Clone, Copy, Debug, PartialEq, Eq)]
 pub enum Token<'a> {
-    /// A name, or a reserved word.
+    /// A name or a reserved word.
     Name(&'a str),
-    /// A number, by its value.
+    /// The value of a number.
     Number(i64),
-    /// What stands between the quotes of a text, as it is in the source:
-    /// [`text_value`](crate::text_value) has what it means.
+    /// The source characters between the quotes of a text literal;
+    /// [`text_value`](crate::text_value) returns their value.
     Text(&'a str),
     Sign(Sign),
 }
@@ -77,10 +77,10 @@ pub enum TagKind {
     Block,
 }
 
-/// A mark directly inside a delimiter of a tag.
+/// A mark directly inside a delimiter.
 #[derive(Clone, Copy, Debug, PartialEq, Eq)]
 pub enum Mark {
-    /// None stands there.
+    /// No mark.
     Absent,
     /// `-`
     Minus,
@@ -91,16 +91,16 @@ pub enum Mark {
 /// The marks of a tag.
 #[derive(Clone, Copy, Debug, PartialEq, Eq)]
 pub struct Marks {
-    /// Directly behind the opener.
+    /// The mark directly after the opener.
     pub opening: Mark,
-    /// Directly before the closer.
+    /// The mark directly before the closer.
     pub closing: Mark,
 }
 
 /// A variable or a block tag.
 #[derive(Debug, Drop)]
 pub struct Tag<'a> {
-    /// Which of the two it is.
+    /// The kind of the tag.
     pub kind: TagKind,
     /// The marks inside its delimiters.
     pub marks: Marks,
@@ -110,24 +110,24 @@ pub struct Tag<'a> {
     pub tokens: Vec<Token<'a>>,
 }
 
-/// What a segment is.
+/// The content of a segment.
 #[derive(Debug, Drop)]
-pub enum Part<'a> {
+pub enum SegmentKind<'a> {
     /// Text outside tags, never empty.
     Data(&'a str),
-    /// A variable or a block tag, but for `raw` and `endraw`.
+    /// A variable or block tag other than `raw` and `endraw`.
     Tag(Tag<'a>),
-    /// `{# .. #}`, with its marks and all that stands between the delimiters.
+    /// `{# .. #}`: its marks, and the text between the delimiters.
     Comment(Marks, &'a str),
-    /// `{% raw %} .. {% endraw %}`: the marks of the first tag, the text, and the marks of the
-    /// last.
+    /// `{% raw %} .. {% endraw %}`: the marks of the `raw` tag, the text, and the marks of the
+    /// `endraw` tag.
     Raw(Marks, &'a str, Marks),
 }
 
 /// A part of a source.
 #[derive(Debug, Drop)]
 pub struct Segment<'a> {
-    /// How the source is read.
+    /// The options that the source is read with.
     pub options: Options,
-    pub part: Part<'a>,
+    pub part: SegmentKind<'a>,
 }

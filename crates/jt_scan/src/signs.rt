@@ -1,14 +1,14 @@
-//! Signs of a tag.
+//! Reads the signs of a tag.
 
 ghost use Rattle.std.specs.Prelude.{◌≡◌, Some, None};
 ghost use Rattle.std.specs.Str.{chars};
-ghost use Rattle.jt_scan.specs.PartView.{IsFound};
-ghost use Rattle.jt_scan.specs.Scanning as spec;
+ghost use Rattle.jt_scan.specs.internal.PartView.{IsFound};
+ghost use Rattle.jt_scan.specs.internal.Scanning as spec;
 
 use crate::segment::Sign;
 use crate::text::first;
 
-/// The sign of one character.
+/// Returns the sign that a single character spells.
 fn one_sign(c: char) -> Option<Sign>
     ensures { result ≡ spec.one_sign c }
 {
@@ -35,7 +35,7 @@ fn one_sign(c: char) -> Option<Sign>
     }
 }
 
-/// The sign of two characters.
+/// Returns the sign that two characters spell.
 fn two_sign(c: char, d: char) -> Option<Sign>
     ensures { result ≡ spec.two_sign c d }
 {
@@ -60,8 +60,8 @@ fn two_sign(c: char, d: char) -> Option<Sign>
     None
 }
 
-#[tactic(auto, unfolding(crate::specs::Scanning::sign_at))]
-/// The longest sign in front, and what is behind it.
+#[tactic(auto, unfolding(crate::specs::internal::Scanning::sign_at))]
+/// Reads the longest sign at the start of a text, and returns the rest.
 pub(crate) fn read_sign(text: &str) -> Option<(Sign, &str)>
     ensures { IsFound (λ a. a) (spec.sign_at (chars text.now)) result }
 {

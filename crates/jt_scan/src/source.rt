@@ -1,8 +1,9 @@
-//! The text of a template, ready to be scanned.
+//! The source of a template: its text with normalized line ends, and its options.
 
 ghost use Rattle.std.specs.Prelude.{◌≡◌, ◌+◌, ◌<◌, ◌≤◌, length, MatchResult, Err, IfOk, false};
 ghost use Rattle.std.specs.String.{string_bytes};
-ghost use Rattle.jt_scan.specs.LineEnds.{normalized, lf_ends, without_first_lf, ends_with_lf, without_last_lf};
+ghost use Rattle.jt_scan.specs.LineEnds.{normalized, lf_ends, without_first_lf, ends_with_lf};
+ghost use Rattle.jt_scan.specs.LineEnds.{without_last_lf};
 ghost use Rattle.jt_scan.specs.SourceView.{max_source_len, held_of};
 ghost use Rattle.jt_scan.specs.declared.error.ScanError.TheVariants as error;
 
@@ -12,10 +13,10 @@ use memchr::memchr;
 use std::alloc::{AllocError, Global};
 use std::marker::Model;
 
-/// The greatest length of a source, in bytes as it is given.
+/// The greatest length of a source, in bytes before normalization.
 const MAX_SOURCE_LEN: usize = 1_048_576;
 
-/// The text of a template with LF as its only line end, and how it is read.
+/// The text of a template with LF as its only line end, and the options that it is read with.
 #[derive(Debug, Drop)]
 pub struct Source {
     text: String,
@@ -35,12 +36,18 @@ impl Model for Source {
 }
 
 impl Source {
-    /// The source of a template. A text of more than 1048576 bytes is refused. CR LF
-    /// and CR become LF, and then one LF at the end is dropped, unless the options keep it.
+    /// Creates the source of a template. CR LF and CR become LF. One LF at the end is then dropped,
+    /// unless `keep_trailing_newline` is set.
+    ///
+    /// # Errors
+    ///
+    /// - `SourceTooLong` if the text has more than 1048576 bytes.
+    /// - `NoMemory` if a growth is refused.
     pub fn new(alloc: Global, text: &str, options: Options) -> Result<Source, ScanError>
         ensures long { max_source_len < length text.now → result ≡ Err (error.SourceTooLong 1) }
         ensures short { length text.now ≤ max_source_len
-            → MatchResult result (λ s. s ≡ held_of options text.now) (λ e. e ≡ error.NoMemory) }
+            → MatchResult result (λ held. held ≡ held_of options text.now)
+            (λ e. e ≡ error.NoMemory) }
     {
         if text.len() > MAX_SOURCE_LEN {
             return Err(ScanError::SourceTooLong { line: 1 });
@@ -49,7 +56,7 @@ impl Source {
         Ok(Source { text, options })
     }
 
-    /// The text that is scanned.
+    /// Returns the normalized text.
     pub fn text(&self) -> &str
         ensures value { result.now ≡ self.now.text }
         ensures short { length result.now ≤ max_source_len }
@@ -57,7 +64,7 @@ impl Source {
         self.text.as_str()
     }
 
-    /// How the template is read.
+    /// Returns the options that the template is read with.
     pub fn options(&self) -> Options
         ensures { result ≡ self.now.options }
     {
@@ -65,7 +72,7 @@ impl Source {
     }
 }
 
-/// The text with one kind of line end, and without an LF at its end unless that is kept.
+/// Returns the text with normalized line ends, without an LF at its end unless `keep_last` is set.
 fn normalize(alloc: Global, text: &str, keep_last: bool) -> Result<String, AllocError>
     ensures { IfOk result (λ held. string_bytes held ≡ normalized keep_last text.now) }
 {
@@ -77,7 +84,7 @@ fn normalize(alloc: Global, text: &str, keep_last: bool) -> Result<String, Alloc
     Ok(held)
 }
 
-/// The text with LF in place of each CR LF and each lone CR.
+/// Returns the text with LF in place of each CR LF and each lone CR.
 fn with_lf_ends(alloc: Global, text: &str) -> Result<String, AllocError>
     ensures { IfOk result (λ held. string_bytes held ≡ lf_ends false text.now) }
 {
@@ -92,7 +99,7 @@ fn with_lf_ends(alloc: Global, text: &str) -> Result<String, AllocError>
     Ok(held)
 }
 
-/// What is behind the LF in front, if one stands there.
+/// Drops an LF at the start of a text.
 fn behind_lf(text: &str) -> &str
     ensures { result.now ≡ without_first_lf text.now }
 {
@@ -104,7 +111,7 @@ fn behind_lf(text: &str) -> &str
     }
 }
 
-/// Whether the last byte is LF.
+/// Returns whether the last byte is LF.
 fn ends_with_lf(text: &str) -> bool
     ensures { result ≡ ends_with_lf text.now }
 {
@@ -112,7 +119,7 @@ fn ends_with_lf(text: &str) -> bool
     len > 0 && text.as_bytes()[len - 1] == b'\n'
 }
 
-/// Drops one LF at the end.
+/// Drops one LF at the end of a text.
 fn drop_last_lf(text: &mut String)
     ensures { string_bytes text.new ≡ without_last_lf (string_bytes text.old) }
 {

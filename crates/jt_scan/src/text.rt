@@ -1,14 +1,14 @@
-//! Steps over a text, character by character.
+//! Reads a text character by character.
 
 ghost use Rattle.std.specs.Prelude.{◌≡◌, ◌++◌, ◌∷◌, [], false, MatchOption, bytes_eq};
 ghost use Rattle.std.specs.Str.{chars};
 ghost use Rattle.jt_scan.specs.Cut as cut;
-ghost use Rattle.jt_scan.specs.Scanning as spec;
+ghost use Rattle.jt_scan.specs.internal.Scanning as spec;
 ghost use Rattle.jt_scan.specs.Words.{letters_of};
 
 use unicode_ident::{is_xid_continue, is_xid_start};
 
-/// The first character, and what is behind it.
+/// Returns the first character and the rest of the text.
 pub fn first(text: &str) -> Option<(char, &str)>
     ensures { MatchOption result (chars text.now ≡ []) (λ p. chars text.now ≡ p.0 ∷ chars p.1.now) }
 {
@@ -17,7 +17,7 @@ pub fn first(text: &str) -> Option<(char, &str)>
     Some((c, rest.as_str()))
 }
 
-/// What is behind the two characters, where they stand in front.
+/// Returns the rest of a text after the characters `one` and `two`, if the text begins with them.
 pub(crate) fn behind_pair(text: &str, one: char, two: char) -> Option<&str>
     ensures { MatchOption result (cut.begins one two (chars text.now) ≡ false)
         (λ rest. chars text.now ≡ one ∷ two ∷ chars rest.now) }
@@ -31,14 +31,14 @@ pub(crate) fn behind_pair(text: &str, one: char, two: char) -> Option<&str>
     }
 }
 
-/// Whether the character is a space, a tab, LF, VT, FF or CR.
+/// Returns whether a character is a space, a tab, LF, VT, FF or CR.
 fn is_space(c: char) -> bool
     ensures { result ≡ cut.is_space c }
 {
     c == ' ' || c == '\t' || c == '\n' || c == '\u{b}' || c == '\u{c}' || c == '\r'
 }
 
-/// Whether a name may start with the character.
+/// Returns whether a name may begin with a character.
 pub(crate) fn starts_name(c: char) -> bool
     ensures { result ≡ cut.starts_name c }
 {
@@ -46,7 +46,7 @@ pub(crate) fn starts_name(c: char) -> bool
 }
 
 #[tactic(auto, unfolding(crate::specs::Cut::after_space))]
-/// What is behind the whitespace in front.
+/// Returns the rest of a text after its leading whitespace.
 pub fn behind_space(text: &str) -> &str
     ensures { chars result.now ≡ cut.after_space (chars text.now) }
 {
@@ -60,8 +60,8 @@ pub fn behind_space(text: &str) -> &str
     rest
 }
 
-#[tactic(auto, unfolding(crate::specs::Scanning::run))]
-/// What is behind the characters in front that go on with a name.
+#[tactic(auto, unfolding(crate::specs::internal::Scanning::run))]
+/// Returns the rest of a text after its leading characters that may continue a name.
 pub(crate) fn behind_name(text: &str) -> &str
     ensures { chars result.now ≡ (spec.run (chars text.now)).1 }
 {
@@ -75,7 +75,7 @@ pub(crate) fn behind_name(text: &str) -> &str
     rest
 }
 
-/// The part of a text before its end.
+/// Returns a text without the suffix `end`.
 pub(crate) fn before<'a>(text: &'a str, end: &str) -> &'a str
     requires { cut.EndsWith (chars text.now) (chars end.now) }
     ensures { chars text.now ≡ chars result.now ++ chars end.now }
@@ -83,7 +83,7 @@ pub(crate) fn before<'a>(text: &'a str, end: &str) -> &'a str
     &text[..text.len() - end.len()]
 }
 
-/// The number of line ends.
+/// Returns the number of line ends.
 pub(crate) fn lines(text: &str) -> usize
     ensures { result ≡ cut.lines (chars text.now) }
 {
@@ -96,7 +96,7 @@ pub(crate) fn lines(text: &str) -> usize
     count
 }
 
-/// Whether a word is the known one.
+/// Returns whether a word equals a known one.
 pub fn is_word(word: &str, known: &str) -> bool
     ensures { result ≡ bytes_eq (chars word.now) (letters_of known.now) }
 {

@@ -1,12 +1,12 @@
-//! The tokens of a tag.
+//! Reads the tokens of a tag.
 
 ghost use Rattle.std.specs.Prelude.{◌≡◌, ◌<◌, ◌+◌, ◌-◌, ◌^◌, false, length, map};
 ghost use Rattle.std.specs.Str.{chars};
 ghost use Rattle.jt_scan.specs.Cut as cut;
-ghost use Rattle.jt_scan.specs.Scanning as spec;
-ghost use Rattle.jt_scan.specs.Scanning.{quoted, enclosed_at};
+ghost use Rattle.jt_scan.specs.internal.Scanning as spec;
+ghost use Rattle.jt_scan.specs.internal.Scanning.{quoted, enclosed_at};
 ghost use Rattle.jt_scan.specs.View.{token_view};
-ghost use Rattle.jt_scan.specs.PartView.{front_view, IsFound, IsOutcome, IsRead};
+ghost use Rattle.jt_scan.specs.internal.PartView.{front_view, IsFound, IsParseResult, IsRead};
 
 use crate::error::ScanError;
 use crate::marks::read_closer;
@@ -17,15 +17,15 @@ use crate::signs::read_sign;
 use crate::text::{before, behind_name, behind_space, first, starts_name};
 use std::alloc::Global;
 
-/// What stands in front in a tag, where no whitespace does.
+/// The next item of a tag after whitespace.
 #[derive(Clone, Copy)]
-pub enum Front<'a> {
-    /// The closer, with its mark.
+pub enum NextItem<'a> {
+    /// The closer with its mark.
     Closer(Mark),
     Token(Token<'a>),
 }
 
-/// The number whose first digit is given, and what is behind it.
+/// Reads the number whose first digit is `c`, and returns the rest of the text.
 fn number_token(c: char, more: &str, line: u32) -> Result<(Token<'_>, &str), ScanError>
     ensures { IsRead token_view (spec.numbered line (spec.number_at c (chars more.now))) result }
 {
@@ -36,7 +36,7 @@ fn number_token(c: char, more: &str, line: u32) -> Result<(Token<'_>, &str), Sca
     Ok((Token::Number(number), rest))
 }
 
-/// The text whose first quote is given, and what is behind it.
+/// Reads the text literal that the given quote opens, and returns the rest of the text.
 fn text_token(quote: char, more: &str, line: u32) -> Result<(Token<'_>, &str), ScanError>
     ensures { IsRead token_view (quoted line (enclosed_at quote false (chars more.now))) result }
 {
@@ -49,7 +49,7 @@ fn text_token(quote: char, more: &str, line: u32) -> Result<(Token<'_>, &str), S
     Ok((Token::Text(raw), rest))
 }
 
-/// The token in front, and what is behind it.
+/// Reads a token and returns the rest of the text.
 fn read_token(text: &str, line: u32) -> Result<(Token<'_>, &str), ScanError>
     ensures { IsRead token_view (spec.token_at line (chars text.now)) result }
 {
@@ -72,7 +72,7 @@ fn read_token(text: &str, line: u32) -> Result<(Token<'_>, &str), ScanError>
     }
 }
 
-/// The mark of the tag's closer, where it is in front and no brace is open, and what is behind it.
+/// Reads the closer of a tag if no brace is open. Returns its mark and the rest of the text.
 fn counted_closer(text: &str, kind: TagKind, depth: usize) -> Option<(Mark, &str)>
     ensures { IsFound (λ a. a) (spec.counted kind depth (chars text.now)) result }
 {
@@ -83,23 +83,23 @@ fn counted_closer(text: &str, kind: TagKind, depth: usize) -> Option<(Mark, &str
     }
 }
 
-/// What stands in front in a tag where so many braces are open, and what is behind it.
+/// Reads the next item of a tag in which `depth` braces are open, and returns the rest of the text.
 fn read_front(
     text: &str,
     kind: TagKind,
     depth: usize,
     line: u32,
-) -> Result<(Front<'_>, &str), ScanError>
+) -> Result<(NextItem<'_>, &str), ScanError>
     ensures { IsRead front_view (spec.front_at kind line depth (chars text.now)) result }
 {
     if let Some((mark, rest)) = counted_closer(text, kind, depth) {
-        return Ok((Front::Closer(mark), rest));
+        return Ok((NextItem::Closer(mark), rest));
     }
     let (token, rest) = read_token(text, line)?;
-    Ok((Front::Token(token), rest))
+    Ok((NextItem::Token(token), rest))
 }
 
-/// How many braces are open behind a token, where so many were before it.
+/// Returns the number of open braces after a token; `depth` are open before it.
 fn braces(depth: usize, token: Token<'_>) -> usize
     requires { depth < 2 ^ 64 - 1 }
     ensures { result ≡ cut.braces depth (token_view token.entry) }
@@ -111,14 +111,15 @@ fn braces(depth: usize, token: Token<'_>) -> usize
     }
 }
 
-/// The tokens of a tag's inside up to its closer with the closer's mark, and what is behind it.
+/// Reads the tokens of a tag up to its closer. Returns them with the closer's mark and the rest of
+/// the text.
 pub(crate) fn read_tokens<'a>(
     alloc: Global,
     text: &'a str,
     kind: TagKind,
     line: u32,
 ) -> Result<(Vec<Token<'a>>, Mark, &'a str), ScanError>
-    ensures { IsOutcome (λ p. ((map token_view p.0.items, p.1), chars p.2.now))
+    ensures { IsParseResult (λ p. ((map token_view p.0.items, p.1), chars p.2.now))
         (spec.inside kind line (length (chars text.now) + 1) 0 (chars text.now)) result }
 {
     let mut tokens = Vec::new(alloc);
@@ -127,8 +128,8 @@ pub(crate) fn read_tokens<'a>(
     'tokens: loop {
         let (found, behind) = read_front(behind_space(rest), kind, depth, line)?;
         let token = match found {
-            Front::Closer(mark) => return Ok((tokens, mark, behind)),
-            Front::Token(token) => token,
+            NextItem::Closer(mark) => return Ok((tokens, mark, behind)),
+            NextItem::Token(token) => token,
         };
         tokens.push(token)?;
         depth = braces(depth, token);

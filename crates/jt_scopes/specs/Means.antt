@@ -1,18 +1,18 @@
--- What it is for a program to mean what a chain means.
+-- A program means what a chain means.
 use Rattle.std.specs.Prelude.{◌≡◌, ℕ, List, ◌∷◌}
 use Rattle.jt_value.specs.Pairs.{Pairs}
-use Rattle.jt_trees.specs.Expressions.{Text}
-use Rattle.jt_chains.specs.Chain.{Home, a_chain}
+use Rattle.jt_ast.specs.Expressions.{Text}
+use Rattle.jt_chains.specs.Chain.{Namespace, a_chain}
 use Rattle.jt_chains.specs.Includes.{InOrder}
 use Rattle.jt_chains.specs.View.{Seen}
-use Rattle.jt_rules.specs.World.{world_of}
-use Rattle.jt_meaning.specs.Meaning.{mean}
-use Rattle.jt_resolved.specs.Slots.{Program, smean}
+use Rattle.jt_rules.specs.CompileEnv.{cenv_of}
+use Rattle.jt_semantics.specs.Meaning.{mean}
+use Rattle.jt_ir.specs.Slots.{Program, smean}
 
--- Where the chains and libraries stand in order, the entry's chain first, the program gives over
--- slots, for every context and every depth of calls, what the chain means by names.
+-- Let the chains and libraries be in order, the entry's chain first. For every context and depth of
+-- calls, the program means over slots what the chain means by names.
 abbrev pub Means : Seen → Program → Type 0
-Means c p =
-    (entry : Text) (rest : List Home) → c.order ≡ a_chain entry ∷ rest
-    → InOrder (world_of c).sources c.order → (context : Pairs) (n : ℕ)
-    → smean (world_of c).filters p context n ≡ mean (world_of c) entry context n
+Means chain program =
+    (entry : Text) (rest : List Namespace) → chain.order ≡ a_chain entry ∷ rest
+    → InOrder (cenv_of chain).sources chain.order → (context : Pairs) (depth : ℕ)
+    → smean (cenv_of chain).filters program context depth ≡ mean (cenv_of chain) entry context depth

@@ -1,11 +1,12 @@
-//! A chain that keeps the rules becomes a program, which means what the chain means.
+//! Compiles a chain that keeps the rules to a program, and states that the program means what the
+//! chain means.
 //!
-//! `resolve` (resolving) checks the rules (jt_checks) and resolves (jt_bind). Read first:
-//! specs/Means.antt.
+//! `resolve` (in `resolving`) checks the rules with jt_checks and resolves the chain with jt_bind.
+//! Read first: specs/Means.antt.
 #![tactic(auto)]
 
 mod resolving;
 
-pub use jt_resolved::Program as Resolved;
+pub use jt_ir::Program as Resolved;
 pub use jt_rules::ScopeError;
 pub use resolving::resolve;

@@ -1,38 +1,39 @@
-//! Checks the rules of a chain, and resolves it.
+//! Checks the rules of a chain and resolves it.
 
 ghost use Rattle.std.specs.Prelude.{◌≡◌, IfOk, OnOk, IfErr};
-ghost use Rattle.jt_chains.specs.Places.{home_at};
+ghost use Rattle.jt_chains.specs.Places.{namespace_at};
 ghost use Rattle.jt_chains.specs.View.{chain_view};
 ghost use Rattle.jt_rules.specs.Rules.{KeepsRules, Breaks};
-ghost use Rattle.jt_rules.specs.World.{world_of};
-ghost use Rattle.jt_meaning.specs.Programs.{program};
-ghost use Rattle.jt_resolved.specs.View.{program_of};
+ghost use Rattle.jt_rules.specs.CompileEnv.{cenv_of};
+ghost use Rattle.jt_semantics.specs.Programs.{program};
+ghost use Rattle.jt_ir.specs.View.{program_of};
 ghost use Rattle.jt_scopes.specs.Means.{Means};
 
 use jt_bind::resolved;
 use jt_chains::Chain;
 use jt_checks::check_rules;
-use jt_meaning::program_laws;
-use jt_resolved::Program;
+use jt_ir::Program;
 use jt_rules::ScopeError;
+use jt_semantics::program_laws;
 use std::alloc::Global;
 
-/// Resolves a chain.
+/// Returns the program of a chain that keeps the rules.
 ///
 /// # Errors
 ///
-/// The rule that the chains break; `NoMemory` where a growth was refused.
+/// - The rule that the chain breaks.
+/// - `NoMemory` if a growth is refused or a number overflows.
 pub fn resolve(alloc: Global, chain: &Chain) -> Result<Program, ScopeError>
-    ensures resolved { IfOk result (λ p. program_of p
-        ≡ program (world_of (chain_view chain.now)) (chain_view chain.now).order
-        (home_at (chain_view chain.now).order 0)) }
-    // what the chain means by names, the program means over slots
+    ensures resolved { IfOk result (λ made. program_of made
+        ≡ program (cenv_of (chain_view chain.now)) (chain_view chain.now).order
+        (namespace_at (chain_view chain.now).order 0)) }
+    // The program means over slots what the chain means by names.
     ensures means { IfOk result
-        (λ p. Means (chain_view chain.now) (program_of p)) }
+        (λ made. Means (chain_view chain.now) (program_of made)) }
     ensures kept { OnOk result
-        (KeepsRules (world_of (chain_view chain.now)) (chain_view chain.now).order) }
+        (KeepsRules (cenv_of (chain_view chain.now)) (chain_view chain.now).order) }
     ensures refused { IfErr result
-        (λ e. Breaks e (world_of (chain_view chain.now)) (chain_view chain.now).order) }
+        (λ e. Breaks e (cenv_of (chain_view chain.now)) (chain_view chain.now).order) }
 {
     program_laws();
     check_rules(alloc, chain)?;

@@ -1,2 +1,2 @@
-pub mod Alone
-pub mod Standing
+pub mod SessionIsolation
+pub mod SessionLookup

@@ -1,3 +1,3 @@
 pub mod Turns
 pub mod WorldCode
-pub mod Places
+pub mod internal

@@ -1,4 +1,4 @@
--- Worlds as data made of numbers, lists and pairs.
+-- Worlds encoded as numbers, lists and pairs.
 use Rattle.std.specs.Prelude.{ℕ, List}
 use mathlib.Core.Path.{refl}
 use Rattle.std.specs.Coded.{Coded, code_by, coded_ℕ, coded_list, coded×}

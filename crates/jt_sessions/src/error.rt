@@ -1,20 +1,20 @@
-//! Why a host refuses.
+//! Defines the refusals of a host.
 
 use thiserror::Error;
 
-/// Why a host refuses. It prints as its code and its name.
+/// The reason why a host refuses. It prints as its code and its name.
 #[derive(Clone, Copy, Debug, PartialEq, Eq, Error)]
 pub enum HostError {
-    /// No session that is open has the id.
+    /// An id that no open session has.
     #[error("H1 NoSession")]
     NoSession,
-    /// 64 sessions are open.
+    /// A host with 64 open sessions.
     #[error("H2 Full")]
     Full,
-    /// A growth was refused, now or in an earlier turn of the session.
+    /// A growth that was refused, now or in an earlier turn of the session.
     #[error("H3 NoMemory")]
     NoMemory,
-    /// Each id was given.
+    /// A host that has given every id.
     #[error("H4 NoId")]
     NoId,
 }

@@ -1,7 +1,7 @@
-//! Sessions: runs of verified images that take turns.
+//! Runs verified images in sessions that take turns.
 //!
-//! A `Host` of up to 64 (sessions), and why it refuses (error). Read first: sessions.rt, one fact a
-//! clause, over specs/Turns.antt.
+//! A `Host` of up to 64 sessions (sessions), and why it refuses (error). Read first: sessions.rt,
+//! with one fact per clause, over specs/Turns.antt.
 #![tactic(auto)]
 
 mod error;

@@ -1,7 +1,7 @@
-//! Sessions that take turns.
+//! Runs sessions in turns.
 ghost use Rattle.std.specs.Prelude.{◌≡◌, IfSome, IfNone, None};
 ghost use Rattle.jt_sessions.specs.Turns.{find};
-ghost use Rattle.jt_sessions.specs.Places.{IsAt};
+ghost use Rattle.jt_sessions.specs.internal.Positions.{IsAt};
 
 use crate::error::HostError;
 use jt_budget::Budget;
@@ -11,11 +11,11 @@ use jt_verify::Verified;
 use std::alloc::Global;
 use std::marker::Model;
 
-// Sessions that may be open at a time.
+// The number of sessions that may be open at one time.
 const MAX_SESSIONS: usize = 64;
 
-/// Runs of verified images that take turns, each under its own budget. Ids are 1, 2, 3 and so on,
-/// and none is given twice.
+/// Runs of verified images that take turns, each under its own budget. Ids are 1, 2, 3 and so on.
+/// No id is given twice.
 #[derive(Drop)]
 pub struct Host {
     alloc: Global,
@@ -35,17 +35,20 @@ impl Model for Host {
 }
 
 impl Host {
-    ghost use Rattle.std.specs.Prelude.{◌≡◌, false, IfOk, IfErr, OnOk, OnErr, Some, option_map, option_copied};
+    ghost use Rattle.std.specs.Prelude.{◌≡◌, false, IfOk, IfErr, OnOk, OnErr, Some, option_map};
+    ghost use Rattle.std.specs.Prelude.{option_copied};
     ghost use Rattle.jt_value.specs.ContextView.{pairs_of};
     ghost use Rattle.jt_machine.specs.View.{budget_view, outcome_view};
     ghost use Rattle.jt_machine.specs.Session.{outcome_of, is_lost};
-    ghost use Rattle.jt_sessions.specs.Turns.{empty, opens, turns, closes, after, reply, opened, turned, closed, refused, SessionsRunAlone, OpenRefused, TurnRefused, OutcomeRefused};
+    ghost use Rattle.jt_sessions.specs.Turns.{empty, opens, turns, closes, after, reply, opened};
+    ghost use Rattle.jt_sessions.specs.Turns.{turned, closed, refused, SessionsRunAlone};
+    ghost use Rattle.jt_sessions.specs.Turns.{OpenRefused, TurnRefused, OutcomeRefused};
 
-    /// A host with no sessions.
+    /// Returns a host with no sessions.
     pub fn new(alloc: Global) -> Host
         ensures empty { result ≡ empty }
-        // Whatever sessions are opened, take turns and are closed, in whatever order, each is what
-        // it would be alone.
+        // Whatever sessions are opened, take turns and are closed, in whatever order, each runs as
+        // it would alone.
         ensures alone { SessionsRunAlone }
     {
         Host {
@@ -55,13 +58,15 @@ impl Host {
         }
     }
 
-    /// Opens a session of an image for a context under a budget, and answers its id.
+    /// Opens a session of an image for a context under a budget, and returns its id.
     ///
     /// # Errors
     ///
-    /// `Full` where 64 sessions are open, and only then; `NoId` where each id was given, and fewer
-    /// are open; `NoMemory` where a growth was refused. The image is handed back, and the host is
-    /// unchanged.
+    /// Each error returns the image, and leaves the host unchanged.
+    ///
+    /// - `Full` if 64 sessions are open, and only then.
+    /// - `NoId` if every id was given, and fewer than 64 sessions are open.
+    /// - `NoMemory` if a growth is refused.
     pub fn open(
         &mut self,
         verified: Verified,
@@ -97,14 +102,14 @@ impl Host {
         }
     }
 
-    /// Carries out so many instructions of a session, or fewer where its run ends, and says whether
-    /// it goes on still.
+    /// Executes `k` instructions of a session, or fewer if its run ends, and returns whether it is
+    /// still going.
     ///
     /// # Errors
     ///
-    /// `NoSession` where no session has the id, and then nothing is changed; `NoMemory` where a
-    /// growth was refused: this session alone is lost then, and answers the same until it is
-    /// closed.
+    /// - `NoSession` if no session has the id. Nothing changes then.
+    /// - `NoMemory` if a growth is refused, which only these instructions may request. This session
+    ///   alone is then lost, and returns `NoMemory` until it is closed.
     pub fn turn(&mut self, id: u64, k: u32) -> Result<Progress, HostError>
         ensures turns { OnOk result (self.new ≡ after (turns id k) self.old) }
         ensures reply { IfOk result (λ p. reply (turns id k) self.old ≡ turned p) }
@@ -121,16 +126,17 @@ impl Host {
         Ok(progress)
     }
 
-    /// The outcome of a session, once its run has ended.
+    /// Returns the outcome of a session, or `None` if its run has not ended.
     ///
     /// # Errors
     ///
-    /// `NoSession` where no session has the id; `NoMemory` where it is lost.
+    /// - `NoSession` if no session has the id.
+    /// - `NoMemory` if the session is lost.
     pub fn outcome(&self, id: u64) -> Result<Option<&Outcome>, HostError>
         ensures outcome { IfOk result (λ o. Some (option_map outcome_view (option_copied o))
             ≡ option_map outcome_of (find id self.now.sessions)) }
         ensures going { OnOk result
-            (option_map (λ s. is_lost s.status) (find id self.now.sessions) ≡ Some false) }
+            (option_map (λ s. is_lost s.stage) (find id self.now.sessions) ≡ Some false) }
         ensures refused { IfErr result (OutcomeRefused (find id self.now.sessions)) }
     {
         let Some(place) = place_of(&self.sessions, id) else {
@@ -143,11 +149,11 @@ impl Host {
         Ok(machine.outcome())
     }
 
-    /// Closes a session and answers its outcome, or `None` where it was still going or lost.
+    /// Closes a session and returns its outcome, or `None` if it was still going or lost.
     ///
     /// # Errors
     ///
-    /// `NoSession` where no session has the id, and then nothing is changed.
+    /// `NoSession` if no session has the id. Nothing changes then.
     pub fn close(&mut self, id: u64) -> Result<Option<Outcome>, HostError>
         ensures closes { self.new ≡ after (closes id) self.old }
         ensures reply { IfOk result
@@ -164,7 +170,7 @@ impl Host {
     }
 }
 
-// The place of the session of an id.
+// Returns the position of the session with this id.
 fn place_of(sessions: &[(u64, Machine)], id: u64) -> Option<usize>
     ensures some { IfSome result (λ p. IsAt id p sessions.now) }
     ensures none { IfNone result (find id sessions.now ≡ None) }
@@ -177,7 +183,7 @@ fn place_of(sessions: &[(u64, Machine)], id: u64) -> Option<usize>
     None
 }
 
-// The image of a session that was not opened.
+// Returns the image of a session that was not opened.
 fn image_of(session: (u64, Machine)) -> Verified
     ensures { result ≡ session.1.code }
 {

@@ -1,7 +1,7 @@
-//! The calls on one row: a template with its library and its context.
+//! Makes the calls on one row: a template with its library and its context.
 
+use crate::memory_library::{MemoryLibrary, context_of, templates_of};
 use crate::runs::{in_pieces, in_place, in_slices, whole};
-use crate::shelf::{Shelf, context_of, templates_of};
 use crate::stop::Stop;
 use jt_args::DEFAULT;
 use jt_codegen::{CompileError, compile};
@@ -11,17 +11,17 @@ use jt_scan::Options;
 use jt_value::Context;
 use jt_verify::{Refusal, Verified, verify};
 
-/// The answers of all calls on a row. What they made is handed on, for a session; there is none
-/// where the row's context or templates are refused.
+/// Makes all calls on a row, and prints their results. Returns the image and the context for a
+/// session, or `None` if the row's context or templates are refused.
 pub(crate) fn row_answers(
     rt: &HostRuntime,
     row: &str,
 ) -> Result<Option<(Verified, Context)>, Stop> {
-    let shelf = templates_of(rt.alloc(), row)?;
+    let memory_library = templates_of(rt.alloc(), row)?;
     let Some(context) = context(rt, context_of(row))? else {
         return Ok(None);
     };
-    let Some(image) = compiled(rt, &shelf)? else {
+    let Some(image) = compiled(rt, &memory_library)? else {
         return Ok(None);
     };
     let bytes = bytes_of(rt, &image)?;
@@ -30,11 +30,11 @@ pub(crate) fn row_answers(
     whole(rt, &verified, &context)?;
     in_pieces(rt, &verified, &context)?;
     let verified = in_slices(rt, verified, &context)?;
-    rendered(rt, &shelf, &context)?;
+    rendered(rt, &memory_library, &context)?;
     Ok(Some((verified, context)))
 }
 
-/// Says that a call was answered by want of memory and is made again.
+/// Prints that a call failed for lack of memory and is repeated.
 pub(crate) fn again(rt: &HostRuntime) -> Result<(), Stop> {
     print!(rt; "NoMemory, then ")?;
     Ok(())
@@ -63,13 +63,13 @@ fn context(rt: &HostRuntime, text: &str) -> Result<Option<Context>, Stop> {
     }
 }
 
-fn compiled(rt: &HostRuntime, shelf: &Shelf<'_>) -> Result<Option<Image>, Stop> {
-    let answer = compile(rt.alloc(), "t", shelf, Options::new());
+fn compiled(rt: &HostRuntime, memory_library: &MemoryLibrary<'_>) -> Result<Option<Image>, Stop> {
+    let answer = compile(rt.alloc(), "t", memory_library, Options::new());
     print!(rt; "compile: ")?;
     let answer = match answer {
         Err(CompileError::NoMemory) => {
             again(rt)?;
-            compile(rt.alloc(), "t", shelf, Options::new())
+            compile(rt.alloc(), "t", memory_library, Options::new())
         }
         answer => answer,
     };
@@ -129,7 +129,7 @@ fn decoded(rt: &HostRuntime, bytes: &[u8]) -> Result<Image, Stop> {
 fn verified(rt: &HostRuntime, image: Image) -> Result<Verified, Stop> {
     let answer = verify(rt.alloc(), image);
     print!(rt; "verify: ")?;
-    // the image that is handed back is verified again
+    // The returned image is verified again.
     let answer = match answer {
         Err((image, Refusal::NoMemory)) => {
             again(rt)?;
@@ -149,13 +149,31 @@ fn verified(rt: &HostRuntime, image: Image) -> Result<Verified, Stop> {
     }
 }
 
-fn rendered(rt: &HostRuntime, shelf: &Shelf<'_>, context: &Context) -> Result<(), Stop> {
-    let answer = render(rt.alloc(), "t", shelf, Options::new(), context, DEFAULT);
+fn rendered(
+    rt: &HostRuntime,
+    memory_library: &MemoryLibrary<'_>,
+    context: &Context,
+) -> Result<(), Stop> {
+    let answer = render(
+        rt.alloc(),
+        "t",
+        memory_library,
+        Options::new(),
+        context,
+        DEFAULT,
+    );
     print!(rt; "render: ")?;
     let answer = match answer {
         Err(RenderError::NoMemory) => {
             again(rt)?;
-            render(rt.alloc(), "t", shelf, Options::new(), context, DEFAULT)
+            render(
+                rt.alloc(),
+                "t",
+                memory_library,
+                Options::new(),
+                context,
+                DEFAULT,
+            )
         }
         answer => answer,
     };

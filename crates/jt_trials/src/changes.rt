@@ -1,21 +1,21 @@
-//! Bytes that strangers change: each beginning of them and each change of one byte gives a letter.
+//! Changes bytes as strangers may: each beginning and each change of one byte has a letter.
 
-use crate::places::Places;
+use crate::positions::Positions;
 use crate::stop::Stop;
 use std::alloc::Global;
 
-/// What gives bytes their letter.
+/// An assignment of letters to bytes.
 pub(crate) trait Lettered {
     fn letter(&self, alloc: Global, bytes: &[u8]) -> Result<char, Stop>;
 }
 
-/// Prints the letters of bytes at some places, each behind a label: that of the beginning in front
-/// of the place, and those of the byte's other values in ascending order.
+/// Prints the letters of bytes at some positions, each after a label. The letter of the beginning
+/// before the position comes first, then the letters of the byte's other values in ascending order.
 pub(crate) fn print_letters<L: Lettered>(
     rt: &HostRuntime,
     label: &str,
     lettered: &L,
-    places: Places,
+    places: Positions,
     bytes: &[u8],
 ) -> Result<(), Stop> {
     for (place, byte) in bytes.iter().enumerate() {
@@ -28,7 +28,7 @@ pub(crate) fn print_letters<L: Lettered>(
     Ok(())
 }
 
-/// The letters of bytes with each other value at a place.
+/// Returns the letters of the bytes with each other value at a position.
 fn changes<L: Lettered>(
     alloc: Global,
     lettered: &L,

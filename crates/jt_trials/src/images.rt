@@ -1,30 +1,30 @@
-//! Images that strangers change. Each beginning and each change of one byte gives a letter:
+//! Tests images that strangers change. Each beginning and each change of one byte has a letter:
 //!
-//!     1 to 9     bytes that are no image, by the refusal's number
+//!     1 to 9     bytes that are not an image, by the refusal's number
 //!     A to J     an image that is refused, by the refusal's number
-//!     t f s      an accepted one, whose run ends with a text, a fault or a spent number
-//!     ~ = ^      what must not be: `view` says otherwise than `decode`, `encode` gives other
-//!                bytes, `verify_view` says otherwise
-//!     | < >      the same of runs: in place they end otherwise, more fuel changes an end, a plain
-//!                machine ends otherwise
+//!     t f s      an accepted image, whose run ends with a text, a fault or a spent number
+//!     ~ = ^      an error of a reader: `view` differs from `decode`, `encode` returns other
+//!                bytes, `verify_view` differs from `verify`
+//!     | < >      an error of a run: a run in place ends otherwise, more fuel changes an end,
+//!                a reference machine ends otherwise
 
 use crate::changes::{Lettered, print_letters};
-use crate::places::{Places, bytes_of};
+use crate::positions::{Positions, bytes_of};
 use crate::stop::Stop;
 use jt_args::DEFAULT;
 use jt_budget::{Budget, Spent};
 use jt_host::context_from_json;
 use jt_image::{Flaw, Image, ImageError, View, decode, encode, view};
 use jt_machine::{Outcome, run, run_view};
-use jt_reference::{End, plain_end};
+use jt_reference::{End, reference_end};
 use jt_value::Context;
 use jt_verify::{Refusal, Verified, VerifiedView, verify, verify_view};
 use std::alloc::Global;
 
-/// The fuel up to which accepted images are run.
+/// The greatest fuel with which accepted images run.
 const MOST_FUEL: u64 = 20;
 
-/// What images are run for.
+/// The context for which images run.
 #[derive(Drop)]
 struct ImageTrial<'a> {
     context: &'a Context,
@@ -39,9 +39,9 @@ impl Lettered for ImageTrial<'_> {
     }
 }
 
-/// Prints the letters of an image at some places.
+/// Prints the letters of an image at some positions.
 pub(crate) fn image_answers(rt: &HostRuntime, of: &str) -> Result<(), Stop> {
-    let (places, of) = Places::read(of)?;
+    let (places, of) = Positions::read(of)?;
     let (json, digits) = of.split_once('¦').ok_or(Stop::Other)?;
     let Ok(context) = context_from_json(rt.alloc(), json) else {
         return Err(Stop::Other);
@@ -51,8 +51,8 @@ pub(crate) fn image_answers(rt: &HostRuntime, of: &str) -> Result<(), Stop> {
     print_letters(rt, "", &trial, places, &bytes)
 }
 
-/// The letter of bytes that `decode` reads: `view` has to read them too, and `encode` to give them
-/// back.
+/// Returns the letter of bytes that `decode` reads. `view` must read them, and `encode` must return
+/// the same bytes.
 fn letter_of_image(
     alloc: Global,
     image: Image,
@@ -71,7 +71,7 @@ fn letter_of_image(
     }
 }
 
-/// The letter of bytes that `decode` refuses: `view` has to refuse them alike.
+/// Returns the letter of bytes that `decode` refuses. `view` must refuse them alike.
 fn letter_of_none(alloc: Global, error: ImageError, bytes: &[u8]) -> char {
     match view(alloc, bytes) {
         Ok(_) => '~',
@@ -100,7 +100,7 @@ fn judged(alloc: Global, image: Image, seen: View<'_>, context: &Context) -> Res
     }
 }
 
-/// The letter of an image that is accepted: it has to be accepted in place too.
+/// Returns the letter of an accepted image. The image in place must be accepted.
 fn accepted(
     alloc: Global,
     verified: &Verified,
@@ -113,7 +113,7 @@ fn accepted(
     }
 }
 
-/// The letter of an image that is refused: it has to be refused alike in place.
+/// Returns the letter of a refused image. The image in place must have the same refusal.
 fn refused(alloc: Global, refusal: &Refusal, seen: View<'_>) -> char {
     match verify_view(alloc, seen) {
         Ok(_) => '^',
@@ -144,7 +144,7 @@ fn letter_of(refusal: &Refusal) -> char {
     }
 }
 
-/// How an accepted image ends, with each fuel from 0 on.
+/// Runs an accepted image with each fuel from 0 on, and returns the letter of its end.
 fn ended(
     alloc: Global,
     verified: &Verified,
@@ -167,7 +167,10 @@ fn ended(
         fuel: MOST_FUEL,
         ..DEFAULT
     };
-    if !ends_so(&last, &plain_end(alloc, verified.image(), context, budget)) {
+    if !ends_so(
+        &last,
+        &reference_end(alloc, verified.image(), context, budget),
+    ) {
         return Ok('>');
     }
     Ok(letter_of_end(&last))

@@ -1,28 +1,29 @@
-//! Trials of the libraries' calls: with growths refused, over writers that fail, and on bytes and
-//! sources that strangers change. Each line of standard input names a trial and what it is of:
+//! Tests the calls of the libraries: with growths refused, over writers that fail, and on bytes and
+//! sources that strangers change. Each line of standard input names a trial and its subject:
 //!
-//!     calls ROW                  the calls on a row; with a growth refused, one of them is want of
-//!                                memory, what it left is tried, and the others answer as ever. The
-//!                                image that a row gives is kept for `turns`
+//!     calls ROW                  the calls on a row; if a growth is refused, one of them fails for
+//!                                lack of memory and is repeated with what it returned, and the
+//!                                other calls return as ever. The row's image is kept for `turns`
 //!     values                     calls on values, on texts and on the parts of an image
 //!     turns                      the events of a host with a session of each image so far
 //!     writes ROW                 runs into writers that fail once, at each of their calls
 //!     image AT STEP JSON¦HEX     each beginning and each change of an image at the places AT,
 //!                                AT + STEP and so on
-//!     sources AT STEP ROW        the same of the sources of a row
-//!     plain JSON¦HEX             an image beside a plain machine
+//!     sources AT STEP ROW        each beginning and each change of the sources of a row at
+//!                                such places
+//!     plain JSON¦HEX             an image beside a reference machine
 //!
-//! A row is templates, a context and options with `¦` between, as rows/run.py has them. Status 6
-//! tells that a growth was refused outside of the calls.
+//! A row is templates, a context and options with `¦` between, as in tests/run.py. Status 6 reports
+//! that a growth outside of the calls was refused.
 #![tactic(auto)]
 
 mod calls;
 mod changes;
 mod images;
-mod places;
+mod memory_library;
 mod plain;
+mod positions;
 mod runs;
-mod shelf;
 mod sources;
 mod stop;
 mod turns;
@@ -33,7 +34,7 @@ use calls::row_answers;
 use images::image_answers;
 use jt_value::Context;
 use jt_verify::Verified;
-use plain::plain_answers;
+use plain::reference_answers;
 use sources::source_answers;
 use std::io;
 use std::process::ExitCode;
@@ -50,7 +51,7 @@ fn main(rt: HostRuntime) -> ExitCode {
     }
 }
 
-/// Answers each line of standard input.
+/// Runs the trial of each line of standard input.
 fn answers(rt: &HostRuntime) -> Result<(), Stop> {
     let lines = io::read_to_string(rt.alloc(), rt.stdin())?;
     let mut starts = Vec::new(rt.alloc());
@@ -60,7 +61,7 @@ fn answers(rt: &HostRuntime) -> Result<(), Stop> {
     Ok(())
 }
 
-/// Answers a line; what it gives for `turns` stands behind what the lines before it gave.
+/// Runs the trial of a line. Returns `starts` with the row's image and context, if any, at the end.
 fn answered(
     rt: &HostRuntime,
     line: &str,
@@ -82,7 +83,7 @@ fn answered(
         "writes" => write_answers(rt, of)?,
         "image" => image_answers(rt, of)?,
         "sources" => source_answers(rt, of)?,
-        "plain" => plain_answers(rt, of)?,
+        "plain" => reference_answers(rt, of)?,
         _ => return Err(Stop::Other),
     }
     Ok(starts)

@@ -1,18 +1,18 @@
-//! Images that are run beside a plain machine, with every fuel from 0 on and within several limits.
+//! Runs images beside a reference machine, with every fuel from 0 on and within several limits.
 
 use crate::images::{ends_so, is_same, letter_of_end};
-use crate::places::bytes_of;
+use crate::positions::bytes_of;
 use crate::stop::Stop;
 use jt_budget::{Budget, Spent};
 use jt_host::context_from_json;
 use jt_image::{Image, View, decode, view};
 use jt_machine::{Outcome, run, run_view};
-use jt_reference::plain_end;
+use jt_reference::reference_end;
 use jt_value::Context;
 use jt_verify::{Verified, VerifiedView, verify, verify_view};
 use std::alloc::Global;
 
-/// The fuel up to which the ends are compared.
+/// The greatest fuel with which the ends are compared.
 const MOST_FUEL: u64 = 200;
 
 /// Limits that hardly any row reaches.
@@ -24,7 +24,7 @@ const AMPLE: Budget = Budget {
     nesting: 32,
 };
 
-/// Limits that one value of 80 bytes passes.
+/// Limits around a text of 80 bytes: its size is just allowed, its output is not.
 const NARROW: Budget = Budget {
     fuel: MOST_FUEL,
     depth: 10,
@@ -42,10 +42,10 @@ const TINY: Budget = Budget {
     nesting: 0,
 };
 
-/// Prints three letters of an image, one for each of the limits: `t`, `f` or `s` as it ends with
-/// the most fuel, or `>` where a run, whole or in place, ends otherwise than the plain machine. One
-/// `-` stands for them where there is no context, no image, or one that is refused.
-pub(crate) fn plain_answers(rt: &HostRuntime, of: &str) -> Result<(), Stop> {
+/// Prints three letters of an image, one for each of the limits. A letter is `t`, `f` or `s` by the
+/// end with the most fuel. It is `>` if a run, whole or in place, ends otherwise than the reference
+/// machine. Prints one `-` instead if the context or an accepted image is missing.
+pub(crate) fn reference_answers(rt: &HostRuntime, of: &str) -> Result<(), Stop> {
     let (json, digits) = of.split_once('¦').ok_or(Stop::Other)?;
     let bytes = bytes_of(rt.alloc(), digits)?;
     match case_of(rt.alloc(), json, &bytes) {
@@ -60,7 +60,7 @@ pub(crate) fn plain_answers(rt: &HostRuntime, of: &str) -> Result<(), Stop> {
     Ok(())
 }
 
-/// An accepted image, the same one in place, and the context that it is run for.
+/// An accepted image, the image in place, and the context for which it runs.
 #[derive(Drop)]
 struct Case<'a> {
     verified: Verified,
@@ -93,14 +93,14 @@ fn accepted_in_place(alloc: Global, seen: View<'_>) -> Option<VerifiedView<'_>> 
     }
 }
 
-/// The letter of an image within limits.
+/// Returns the letter of an image within limits.
 fn letter(alloc: Global, case: &Case<'_>, limits: Budget) -> Result<char, Stop> {
     let mut last = Outcome::Spent(Spent::Fuel);
     for fuel in 0..=MOST_FUEL {
         let budget = Budget { fuel, ..limits };
         last = run(alloc, &case.verified, &case.context, budget)?;
         let in_place = run_view(alloc, &case.in_place, &case.context, budget)?;
-        let plain = plain_end(alloc, case.verified.image(), &case.context, budget);
+        let plain = reference_end(alloc, case.verified.image(), &case.context, budget);
         if !ends_so(&last, &plain) || !is_same(&last, &in_place) {
             return Ok('>');
         }

@@ -1,4 +1,4 @@
-//! Calls that run an image.
+//! Makes the calls that run an image.
 
 use crate::calls::again;
 use crate::stop::Stop;
@@ -9,7 +9,7 @@ use jt_machine::{IoSink, Machine, Progress, RunToError, run, run_to, run_view};
 use jt_value::{Context, NoMemory};
 use jt_verify::{Refusal, Verified, VerifiedView, verify_view};
 
-/// How many instructions an advance is of, and how many advances a run gets at most.
+/// The number of instructions of an advance, and the greatest number of advances of a run.
 const SLICE: u32 = 7;
 
 const ADVANCES: u32 = 1_000;
@@ -39,7 +39,7 @@ fn viewed<'a>(rt: &HostRuntime, bytes: &'a [u8]) -> Result<View<'a>, Stop> {
 fn verified_view<'a>(rt: &HostRuntime, view: View<'a>) -> Result<VerifiedView<'a>, Stop> {
     let answer = verify_view(rt.alloc(), view);
     print!(rt; "verify_view: ")?;
-    // the view that is handed back is verified again
+    // The returned view is verified again.
     let answer = match answer {
         Err((view, Refusal::NoMemory)) => {
             again(rt)?;
@@ -59,7 +59,7 @@ fn verified_view<'a>(rt: &HostRuntime, view: View<'a>) -> Result<VerifiedView<'a
     }
 }
 
-/// An image in place: it is read, verified and run.
+/// Reads, verifies and runs an image in place.
 pub(crate) fn in_place(rt: &HostRuntime, bytes: &[u8], context: &Context) -> Result<(), Stop> {
     let verified = verified_view(rt, viewed(rt, bytes)?)?;
     let answer = run_view(rt.alloc(), &verified, context, DEFAULT);
@@ -75,7 +75,7 @@ pub(crate) fn in_place(rt: &HostRuntime, bytes: &[u8], context: &Context) -> Res
     Ok(())
 }
 
-/// A run to its end.
+/// Runs an image to its end.
 pub(crate) fn whole(rt: &HostRuntime, verified: &Verified, context: &Context) -> Result<(), Stop> {
     let answer = run(rt.alloc(), verified, context, DEFAULT);
     print!(rt; "run: ")?;
@@ -90,8 +90,8 @@ pub(crate) fn whole(rt: &HostRuntime, verified: &Verified, context: &Context) ->
     Ok(())
 }
 
-/// A run whose text is written, a byte a call. Where a growth is refused a beginning of the text
-/// was written.
+/// Runs an image into a writer that takes one byte per call. If a growth is refused, a beginning of
+/// the text was written.
 pub(crate) fn in_pieces(
     rt: &HostRuntime,
     verified: &Verified,
@@ -114,7 +114,7 @@ pub(crate) fn in_pieces(
     Ok(())
 }
 
-/// A run in slices. A run that was lost stays lost, and the image that it gives back is run anew.
+/// Runs an image in slices. A lost run stays lost, and the image that it returns is run anew.
 pub(crate) fn in_slices(
     rt: &HostRuntime,
     verified: Verified,
@@ -135,7 +135,7 @@ pub(crate) fn in_slices(
 fn started(rt: &HostRuntime, verified: Verified, context: &Context) -> Result<Machine, Stop> {
     let answer = Machine::start(rt.alloc(), verified, context, DEFAULT);
     print!(rt; "start: ")?;
-    // the image that is handed back is started again
+    // The returned image is started again.
     let answer = match answer {
         Err((verified, NoMemory)) => {
             again(rt)?;
@@ -162,7 +162,7 @@ fn advanced(machine: &mut Machine) -> Result<Progress, NoMemory> {
     Ok(Progress::Going)
 }
 
-/// What a run that was lost answers, and its image started anew.
+/// Prints what a lost run returns, and starts its image anew.
 fn restarted(rt: &HostRuntime, mut machine: Machine, context: &Context) -> Result<Machine, Stop> {
     let (none, more) = (machine.advance(0), machine.advance(SLICE));
     let is_lost = machine.is_lost() && machine.outcome().is_none();

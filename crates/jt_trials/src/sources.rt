@@ -1,15 +1,15 @@
-//! Sources that strangers change. Each beginning and each change of one byte of a template gives a
-//! letter:
+//! Tests sources that strangers change. Each beginning and each change of one byte of a template
+//! has a letter:
 //!
 //!     S P C V G  the compiler refuses it
 //!     t f s      it is compiled, accepted, and its run ends with a text, a fault or a spent number
-//!     -          it is no text
-//!     9 !        what must not be: want of memory, an image that is not accepted
+//!     -          it is not a text
+//!     9 !        an error: lack of memory, an image that is not accepted
 
 use crate::changes::{Lettered, print_letters};
 use crate::images::letter_of_end;
-use crate::places::Places;
-use crate::shelf::{Shelf, context_of, options_of, templates_of, unfolded};
+use crate::memory_library::{MemoryLibrary, context_of, options_of, templates_of, unfolded};
+use crate::positions::Positions;
 use crate::stop::Stop;
 use jt_budget::Budget;
 use jt_codegen::{CompileError, compile};
@@ -30,10 +30,10 @@ const SMALL: Budget = Budget {
     nesting: 8,
 };
 
-/// Which template is changed, and what the templates are run for.
+/// The template to change, with its library, its options and the context of the runs.
 #[derive(Drop)]
 struct SourceTrial<'a, 'b> {
-    shelf: &'a Shelf<'b>,
+    memory_library: &'a MemoryLibrary<'b>,
     index: usize,
     options: Options,
     context: &'a Context,
@@ -44,8 +44,8 @@ impl Lettered for SourceTrial<'_, '_> {
         let Ok(source) = std::str::from_utf8(bytes) else {
             return Ok('-');
         };
-        let shelf = replaced(alloc, self.shelf, self.index, source)?;
-        match compile(alloc, "t", &shelf, self.options) {
+        let memory_library = replaced(alloc, self.memory_library, self.index, source)?;
+        match compile(alloc, "t", &memory_library, self.options) {
             Ok(image) => ended(alloc, image, self.context),
             Err(CompileError::NoMemory) => Ok('9'),
             Err(refusal) => {
@@ -56,35 +56,35 @@ impl Lettered for SourceTrial<'_, '_> {
     }
 }
 
-/// Prints the letters of each template of a row at some places.
+/// Prints the letters of each template of a row at some positions.
 pub(crate) fn source_answers(rt: &HostRuntime, of: &str) -> Result<(), Stop> {
-    let (places, row) = Places::read(of)?;
+    let (places, row) = Positions::read(of)?;
     let text = unfolded(rt.alloc(), row)?;
     row_answers(rt, text.as_str(), places)
 }
 
 /// Prints the letters of the templates of a row.
-fn row_answers(rt: &HostRuntime, row: &str, places: Places) -> Result<(), Stop> {
+fn row_answers(rt: &HostRuntime, row: &str, places: Positions) -> Result<(), Stop> {
     let context = context_in(rt.alloc(), context_of(row))?;
-    let shelf = templates_of(rt.alloc(), row)?;
-    all_answers(rt, &shelf, options_of(row), &context, places)
+    let memory_library = templates_of(rt.alloc(), row)?;
+    all_answers(rt, &memory_library, options_of(row), &context, places)
 }
 
 fn context_in(alloc: Global, json: &str) -> Result<Context, Stop> {
     context_from_json(alloc, json).map_err(|_| Stop::Other)
 }
 
-/// Prints the letters of each template of a shelf.
+/// Prints the letters of each template of a library.
 fn all_answers<'x>(
     rt: &HostRuntime,
-    shelf: &'x Shelf<'_>,
+    memory_library: &'x MemoryLibrary<'_>,
     options: Options,
     context: &'x Context,
-    places: Places,
+    places: Positions,
 ) -> Result<(), Stop> {
-    for (index, (name, source)) in shelf.templates.iter().enumerate() {
+    for (index, (name, source)) in memory_library.templates.iter().enumerate() {
         let trial = SourceTrial {
-            shelf,
+            memory_library,
             index,
             options,
             context,
@@ -95,18 +95,18 @@ fn all_answers<'x>(
     Ok(())
 }
 
-/// The templates with another source in place of one.
+/// Returns the library with another source in place of one.
 fn replaced<'a>(
     alloc: Global,
-    shelf: &Shelf<'a>,
+    memory_library: &MemoryLibrary<'a>,
     index: usize,
     source: &'a str,
-) -> Result<Shelf<'a>, AllocError> {
+) -> Result<MemoryLibrary<'a>, AllocError> {
     let mut templates = Vec::new(alloc);
-    for (at, (name, before)) in shelf.templates.iter().enumerate() {
+    for (at, (name, before)) in memory_library.templates.iter().enumerate() {
         templates.push((*name, if at == index { source } else { *before }))?;
     }
-    Ok(Shelf { templates })
+    Ok(MemoryLibrary { templates })
 }
 
 fn ended(alloc: Global, image: Image, context: &Context) -> Result<char, Stop> {

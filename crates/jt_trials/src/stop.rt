@@ -1,11 +1,12 @@
-//! Why the answers end early.
+//! Defines the reasons to stop early.
 
 use jt_value::NoMemory;
 use std::alloc::{AllocError, AllocFailed};
 use std::io;
 use std::num::ParseIntError;
 
-/// Why the answers end early: a growth was refused that no call asked for, or all else.
+/// The reason why the trials stop early: a growth outside of the calls was refused, or any other
+/// error.
 #[derive(Debug, Drop)]
 pub(crate) enum Stop {
     NoMemory,

@@ -1,4 +1,4 @@
-//! The events of a host with a session of each row.
+//! Makes the events of a host with a session of each row.
 
 use crate::stop::Stop;
 use jt_args::DEFAULT;
@@ -7,13 +7,13 @@ use jt_host::{Host, HostError};
 use jt_value::Context;
 use jt_verify::Verified;
 
-/// How many turns a session gets, and of how many instructions.
+/// The number of turns of a session, and the number of instructions of a turn.
 const TURNS: u64 = 12;
 
 const SLICE: u32 = 7;
 
-/// Opens a session of each start, gives each its turns, one after the other, and asks for each
-/// outcome; then closes all. An image that is handed back is opened again.
+/// Opens a session of each start, runs the turns of each in order, reads each outcome, and closes
+/// all sessions. A returned image is opened again.
 pub(crate) fn turn_answers(rt: &HostRuntime, starts: Vec<(Verified, Context)>) -> Result<(), Stop> {
     let mut host = Host::new(rt.alloc());
     let mut last = 0u64;

@@ -1,4 +1,4 @@
-//! Calls on values, on texts and on the parts of an image.
+//! Makes calls on values, on texts and on the parts of an image.
 
 use crate::calls::again;
 use crate::stop::Stop;
@@ -9,10 +9,10 @@ use jt_image::{
 use jt_value::{Context, Value};
 use std::alloc::Global;
 
-/// Names that are put into a context one after the other.
+/// Names that are inserted into a context in order.
 const NAMES: [&str; 10] = ["a", "b", "c", "d", "e", "f", "g", "h", "i", "j"];
 
-/// Texts that are escaped one behind the other.
+/// Texts that are escaped in order.
 const TEXTS: [&str; 4] = [
     "<",
     "a & b",
@@ -20,7 +20,7 @@ const TEXTS: [&str; 4] = [
     "plain text without any of them",
 ];
 
-/// The answers of calls on values.
+/// Makes the calls on values, and prints their results.
 pub(crate) fn value_answers(rt: &HostRuntime) -> Result<(), Stop> {
     let mut context = Context::new(rt.alloc());
     for name in NAMES.iter() {
@@ -30,7 +30,7 @@ pub(crate) fn value_answers(rt: &HostRuntime) -> Result<(), Stop> {
     assembled(rt)
 }
 
-/// How many of the names have the value that they were put in with.
+/// Returns the number of the names that have the value with which they were inserted.
 fn known(context: &Context) -> usize {
     NAMES
         .iter()
@@ -42,7 +42,7 @@ fn inserted(rt: &HostRuntime, context: &mut Context, name: &str) -> Result<(), S
     let owned = String::from_str(rt.alloc(), name)?;
     let answer = context.insert(owned, Value::Bool(true));
     print!(rt; "insert: ")?;
-    // the pair that is handed back is put in again
+    // The returned pair is inserted again.
     let answer = match answer {
         Err((name, value)) => {
             print!(rt; "NoMemory behind {} names, then ", known(context))?;
@@ -73,7 +73,7 @@ fn escaped(rt: &HostRuntime) -> Result<(), Stop> {
     Ok(())
 }
 
-/// The parts of an image that puts a text and then the global `name`.
+/// Returns the parts of an image that emits a text and then the global `name`.
 fn parts(alloc: Global) -> Result<Parts, Stop> {
     let code = vec![in alloc;
         Instruction::Data { constant: 0 }.wire(),
@@ -94,14 +94,14 @@ fn parts(alloc: Global) -> Result<Parts, Stop> {
         constants: vec![in alloc; Constant::Text(String::from_str(alloc, "text")?)]?,
         units: vec![in alloc; unit]?,
         templates: Vec::new(alloc),
-        spots: Vec::new(alloc),
+        places: Vec::new(alloc),
     })
 }
 
 fn assembled(rt: &HostRuntime) -> Result<(), Stop> {
     let answer = assemble(rt.alloc(), parts(rt.alloc())?);
     print!(rt; "assemble: ")?;
-    // the parts that are handed back are put together again
+    // The returned parts are assembled again.
     let answer = match answer {
         Err((parts, ImageError::NoMemory)) => {
             again(rt)?;
@@ -124,7 +124,7 @@ fn assembled(rt: &HostRuntime) -> Result<(), Stop> {
 fn upgraded(rt: &HostRuntime, image: Image) -> Result<(), Stop> {
     let answer = upgrade(rt.alloc(), image);
     print!(rt; "upgrade: ")?;
-    // the image that is handed back is upgraded again
+    // The returned image is upgraded again.
     let answer = match answer {
         Err((image, ImageError::NoMemory)) => {
             again(rt)?;

@@ -1,6 +1,6 @@
-//! Writers that take what they are given in pieces.
+//! Tests writers that take their input in pieces.
 
-use crate::shelf::{context_of, templates_of};
+use crate::memory_library::{context_of, templates_of};
 use crate::stop::Stop;
 use jt_args::DEFAULT;
 use jt_codegen::compile;
@@ -12,15 +12,15 @@ use jt_verify::{Verified, verify};
 use std::alloc::Global;
 use std::io;
 
-/// How many bytes a writer without memory takes at most.
+/// The greatest number of bytes that a writer without memory takes.
 const ROOM: usize = 256;
 
-/// At most so many calls of a writer are tried, with each of these lengths of pieces.
+/// The last call at which a writer is made to fail, and the lengths of its pieces.
 const CALLS: u32 = 1_000;
 
 const PIECES: [usize; 3] = [1, 2, 1_000];
 
-/// A writer into a room of its own, which takes one byte a call and no memory.
+/// A writer into a buffer of its own, which takes one byte per call and allocates nothing.
 #[derive(Drop)]
 pub(crate) struct Taken {
     room: [u8; ROOM],
@@ -28,7 +28,7 @@ pub(crate) struct Taken {
 }
 
 impl Taken {
-    /// A writer that has taken nothing.
+    /// Returns a writer that has taken nothing.
     pub(crate) fn new() -> Taken {
         Taken {
             room: [0; ROOM],
@@ -36,7 +36,7 @@ impl Taken {
         }
     }
 
-    /// What it took.
+    /// Returns the text that the writer took.
     pub(crate) fn text(&self) -> &str {
         match self.room.get(..self.len) {
             Some(bytes) => std::str::from_utf8(bytes).unwrap_or("?"),
@@ -63,8 +63,8 @@ impl io::Write for Taken {
     }
 }
 
-/// A writer that takes pieces of some length, fails at one of its calls, and would take more behind
-/// it.
+/// A writer that takes pieces of some length and fails at one of its calls. After the failure it
+/// would take more.
 #[derive(Drop)]
 struct Flaky {
     taken: Vec<u8>,
@@ -100,14 +100,14 @@ impl io::Write for Flaky {
 }
 
 /// Runs a row into writers that fail at their first call, at their second one and so on, until the
-/// run ends before.
+/// run ends before the failure.
 pub(crate) fn write_answers(rt: &HostRuntime, row: &str) -> Result<(), Stop> {
     let alloc = rt.alloc();
-    let shelf = templates_of(alloc, row)?;
+    let memory_library = templates_of(alloc, row)?;
     let Ok(context) = context_from_json(alloc, context_of(row)) else {
         return Err(Stop::Other);
     };
-    let Ok(image) = compile(alloc, "t", &shelf, Options::new()) else {
+    let Ok(image) = compile(alloc, "t", &memory_library, Options::new()) else {
         return Err(Stop::Other);
     };
     let Ok(verified) = verify(alloc, image) else {
@@ -124,7 +124,8 @@ pub(crate) fn write_answers(rt: &HostRuntime, row: &str) -> Result<(), Stop> {
     Ok(())
 }
 
-/// Prints what a writer took of a run, and how that is answered; whether the writer did not fail.
+/// Prints the bytes that a writer took of a run, and the result of the run. Returns whether the
+/// writer did not fail.
 fn is_whole(
     rt: &HostRuntime,
     verified: &Verified,

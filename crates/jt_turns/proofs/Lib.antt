@@ -1,6 +1,6 @@
-mod Around
-mod Fuel
-mod Opening
-mod Running
-mod Turning
-pub mod Escapes
+mod RoundStep
+mod StepsTakeFuel
+mod OpenedSessions
+mod SessionsById
+mod TurnOutcomes
+pub mod EscapedTextCorrect

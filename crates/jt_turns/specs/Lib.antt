@@ -1,6 +1,7 @@
 pub mod Lines
 pub mod Numbering
+pub mod Openings
 pub mod Outcomes
 pub mod Shown
-pub mod Standing
+pub mod SessionStates
 pub mod Worlds

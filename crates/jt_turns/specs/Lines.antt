@@ -15,22 +15,22 @@ limit_name config.output = codes "Output"
 limit_name config.size = codes "Size"
 limit_name config.nesting = codes "Nesting"
 
--- a fault, with its place if it has one
-abbrev pub fault_told : Fault → Option Place → List ℕ
-fault_told f None = fault_text f
-fault_told f (Some q) =
-    fault_text f ++ (codes " in " ++ (q.template ++ (codes " line " ++ decimal q.line)))
+-- The text of a fault, with its place if it has one.
+abbrev pub placed_fault : Fault → Option Place → List ℕ
+placed_fault fault None = fault_text fault
+placed_fault fault (Some place) =
+    fault_text fault ++ (codes " in " ++ (place.template ++ (codes " line " ++ decimal place.line)))
 
--- The line of a session, by its id: a text as it is, with the number of its bytes, a fault, or the
--- limit that was spent. Whoever made the image chose the name of the template that a fault names,
--- so that line is shown as one.
+-- The line of a session, by its id: a text with the number of its bytes, a fault, or the limit that
+-- was spent. The template name of a fault comes from the author of the image, and its line is shown
+-- as one line.
 abbrev pub session_line : ℕ → Outcome → List ℕ
-session_line i (config.text t) =
-    decimal i ++ (codes " text " ++ (decimal (length t) ++ (codes ":" ++ (t ++ codes "\n"))))
-session_line i (config.fault f q) = one_line (decimal i ++ (codes " fault " ++ fault_told f q))
-session_line i (config.spent l) = decimal i ++ (codes " spent " ++ (limit_name l ++ codes "\n"))
+session_line id (config.text t) =
+    decimal id ++ (codes " text " ++ (decimal (length t) ++ (codes ":" ++ (t ++ codes "\n"))))
+session_line id (config.fault f place) = one_line (decimal id ++ (codes " fault " ++ placed_fault f place))
+session_line id (config.spent limit) = decimal id ++ (codes " spent " ++ (limit_name limit ++ codes "\n"))
 
--- the lines of sessions in order, from the id of the first one
+-- The lines of sessions in order, from the id of the first one.
 abbrev pub session_lines : ℕ → List Outcome → List ℕ
-session_lines i [] = []
-session_lines i (o ∷ os) = session_line i o ++ session_lines (i + 1) os
+session_lines id [] = []
+session_lines id (outcome ∷ outcomes) = session_line id outcome ++ session_lines (id + 1) outcomes

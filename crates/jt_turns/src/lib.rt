@@ -1,7 +1,7 @@
-//! Verified images that run in turns: the line of each, whatever the turns are.
+//! Runs verified images in turns, and reports each in a line that does not depend on the turns.
 //!
-//! The sessions are opened (turns), have turns until each has ended (rounds), and are told in lines
-//! (lines). Read first: specs/Outcomes.antt and specs/Lines.antt.
+//! The sessions are opened (turns), have turns until each has ended (rounds), and are reported in
+//! lines (lines). Read first: specs/Outcomes.antt and specs/Lines.antt.
 #![tactic(auto)]
 
 mod lines;

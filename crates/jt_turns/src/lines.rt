@@ -1,8 +1,8 @@
-//! The lines of sessions that have ended.
+//! Formats the lines of sessions that have ended.
 ghost use Rattle.std.specs.Prelude.{◌≡◌, ◌<◌, ◌≤◌, true, IfOk, string_bytes};
 ghost use Rattle.jt_machine.specs.View.{limit_view, outcome_view};
 ghost use Rattle.jt_turns.specs.Lines.{limit_name, session_line, session_lines};
-ghost use Rattle.jt_turns.specs.Standing.{IsNumbered, OutcomeAt, have_ended, outcomes};
+ghost use Rattle.jt_turns.specs.SessionStates.{IsNumbered, OutcomeAt, have_ended, outcomes};
 
 use crate::shown::line_of;
 use jt_budget::Spent;
@@ -10,7 +10,7 @@ use jt_machine::Outcome;
 use jt_sessions::Host;
 use std::alloc::{AllocError, Global};
 
-/// The lines of the sessions 1 to `count`, which have ended.
+/// Returns the lines of the sessions 1 to `count`, all of which have ended.
 pub(crate) fn lines(alloc: Global, host: &Host, count: u64) -> Result<String, AllocError>
     requires numbered { IsNumbered count host.now.sessions }
     requires ended { have_ended host.now.sessions ≡ true }
@@ -26,7 +26,7 @@ pub(crate) fn lines(alloc: Global, host: &Host, count: u64) -> Result<String, Al
     Ok(text)
 }
 
-/// The outcome of one of the sessions 1 to `count`, which have ended.
+/// Returns the outcome of one of the sessions 1 to `count`, all of which have ended.
 fn outcome_at(host: &Host, count: u64, id: u64) -> &Outcome
     requires first { 1 ≤ id }
     requires last { id ≤ count }
@@ -41,7 +41,7 @@ fn outcome_at(host: &Host, count: u64, id: u64) -> &Outcome
     }
 }
 
-/// The line of a session.
+/// Returns the line of a session.
 fn line(alloc: Global, id: u64, outcome: &Outcome) -> Result<String, AllocError>
     ensures { IfOk result (λ line. string_bytes line ≡ session_line id (outcome_view outcome.now)) }
 {
@@ -67,7 +67,7 @@ fn line(alloc: Global, id: u64, outcome: &Outcome) -> Result<String, AllocError>
     }
 }
 
-/// The name of a limit.
+/// Returns the name of a limit.
 pub fn limit_text(spent: Spent) -> &'static str
     ensures { result.now ≡ limit_name (limit_view spent) }
 {

@@ -1,12 +1,13 @@
-//! Turns of all sessions of a host, until each has ended.
+//! Lets all sessions of a host take turns until each has ended.
 ghost use Rattle.std.specs.Prelude.{◌≡◌, ◌≤◌, ◌<◌, true, false, IfOk, IfErr, OnOk};
 ghost use Rattle.jt_sessions.specs.Turns.{TurnRefused};
-ghost use Rattle.jt_turns.specs.Standing.{HadTurn, HaveMoved, IsNumbered, fuel_left, have_ended, progress_of};
+ghost use Rattle.jt_turns.specs.SessionStates.{HadTurn, HaveMoved, IsNumbered, fuel_left};
+ghost use Rattle.jt_turns.specs.SessionStates.{have_ended, progress_of};
 
 use jt_machine::{Progress, session_laws};
 use jt_sessions::{Host, HostError};
 
-/// Gives the sessions 1 to `count` turns, until all have ended.
+/// Lets the sessions 1 to `count` take turns until all have ended.
 pub(crate) fn run_all(host: &mut Host, count: u64, slice: u32) -> Result<(), HostError>
     requires slice { 1 ≤ slice }
     requires numbered { IsNumbered count host.old.sessions }
@@ -22,7 +23,7 @@ pub(crate) fn run_all(host: &mut Host, count: u64, slice: u32) -> Result<(), Hos
     Ok(())
 }
 
-/// Gives each of the sessions 1 to `count` a turn, and says whether one of them goes on still.
+/// Lets each of the sessions 1 to `count` take a turn, and returns whether one is still going.
 fn run_each(host: &mut Host, count: u64, slice: u32) -> Result<bool, HostError>
     requires slice { 1 ≤ slice }
     requires numbered { IsNumbered count host.old.sessions }
@@ -42,7 +43,7 @@ fn run_each(host: &mut Host, count: u64, slice: u32) -> Result<bool, HostError>
     Ok(going)
 }
 
-/// Gives a session a turn, and says whether it goes on still.
+/// Lets a session take a turn, and returns whether it is still going.
 fn turn(host: &mut Host, id: u64, slice: u32) -> Result<bool, HostError>
     ensures turned { IfOk result
         (λ goes_on. HadTurn host.old host.new id slice (progress_of goes_on)) }

@@ -1,11 +1,11 @@
-//! Names and paths that others chose, as lines show them.
+//! Shows names and paths that others chose.
 ghost use Rattle.std.specs.Prelude.{◌≡◌, ◌<◌, ◌/◌, ◌%◌, ◌++◌, IfOk, OnOk, string_bytes};
 ghost use Rattle.jt_turns.specs.Shown.{escape, hex_digit, one_line, shown};
 
 use std::alloc::{AllocError, Global};
 
-/// The line of a text: each control character of it is shown as `\x` and two digits, so that it is
-/// one line.
+/// Returns the line of a text. Each control character in it is shown as `\x` and two hexadecimal
+/// digits, and the line has no other line end.
 pub(crate) fn line_of(alloc: Global, text: &str) -> Result<String, AllocError>
     ensures { IfOk result (λ line. string_bytes line ≡ one_line text.now) }
 {
@@ -14,12 +14,12 @@ pub(crate) fn line_of(alloc: Global, text: &str) -> Result<String, AllocError>
     Ok(line)
 }
 
-/// A text with each control character as `\x` and two digits.
+/// Returns a text with each control character shown as `\x` and two hexadecimal digits.
 fn shown_text(alloc: Global, text: &str) -> Result<String, AllocError>
     ensures { IfOk result (λ made. string_bytes made ≡ shown text.now) }
 {
     let mut made = String::new(alloc);
-    // All before `plain` is appended. What lies between it and `at` is shown as it is.
+    // All bytes before `plain` are appended. The bytes from `plain` to `at` are shown unchanged.
     let mut plain = 0;
     for (at, byte) in text.as_bytes().iter().enumerate() {
         if byte.is_ascii_control() {
@@ -32,7 +32,7 @@ fn shown_text(alloc: Global, text: &str) -> Result<String, AllocError>
     Ok(made)
 }
 
-/// Appends `\x` and the two digits of a byte.
+/// Appends `\x` and the two hexadecimal digits of a byte.
 fn push_escape(made: &mut String, byte: u8) -> Result<(), AllocError>
     ensures { OnOk result (string_bytes made.new ≡ string_bytes made.old ++ escape byte) }
 {
@@ -43,7 +43,7 @@ fn push_escape(made: &mut String, byte: u8) -> Result<(), AllocError>
     Ok(())
 }
 
-/// The two digits of a byte to the base 16.
+/// Returns the two hexadecimal digits of a byte.
 pub fn hex_digits(byte: u8) -> (&'static str, &'static str)
     ensures high { result.0.now ≡ hex_digit (byte / 16) }
     ensures low { result.1.now ≡ hex_digit (byte % 16) }
@@ -51,7 +51,7 @@ pub fn hex_digits(byte: u8) -> (&'static str, &'static str)
     (hex_digit_text(byte / 16), hex_digit_text(byte % 16))
 }
 
-/// A digit of a number to the base 16.
+/// Returns a hexadecimal digit.
 fn hex_digit_text(number: u8) -> &'static str
     requires { number < 16 }
     ensures { result.now ≡ hex_digit number }

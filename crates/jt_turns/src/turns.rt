@@ -1,4 +1,4 @@
-//! Images that run in turns.
+//! Runs images in turns.
 ghost use Rattle.std.specs.Prelude.{◌≡◌};
 ghost use Rattle.jt_turns.specs.Numbering.{ids_from, ids_of};
 
@@ -11,14 +11,14 @@ use jt_value::Context;
 use jt_verify::Verified;
 use std::alloc::Global;
 
-/// An image, and the context that it is to run for.
+/// An image, and the context for which it runs.
 #[derive(Drop)]
 pub struct Start {
     pub code: Verified,
     pub context: Context,
 }
 
-/// Sessions of images, which take turns. Their ids are 1, 2, 3 and so on, and none is closed.
+/// Sessions of images that take turns. Their ids are 1, 2, 3 and so on, and none is closed.
 #[derive(Drop)]
 pub struct Sessions {
     host: Host,
@@ -29,15 +29,15 @@ pub struct Sessions {
 
 impl Sessions {
     ghost use Rattle.std.specs.Prelude.{◌++◌, ◌∷◌, [], List, IfErr, OnOk, OnErr};
-    ghost use Rattle.jt_image.specs.Config.{Budget as Limits};
     ghost use Rattle.jt_machine.specs.View.{budget_view};
+    ghost use Rattle.jt_turns.specs.Openings.{Opening, under};
     ghost use Rattle.jt_turns.specs.Outcomes.{IsNotOpened, TakesTurns};
-    ghost use Rattle.jt_turns.specs.Standing.{Stands};
+    ghost use Rattle.jt_turns.specs.SessionStates.{Stands};
     ghost use Rattle.jt_turns.specs.Worlds.{world_of};
 
-    /// No session.
+    /// Returns sessions of no image.
     pub fn new(alloc: Global) -> Sessions
-        ensures { (b : Limits) → Stands b [] (world_of result) }
+        ensures { Stands [] (world_of result) }
     {
         Sessions {
             host: Host::new(alloc),
@@ -45,18 +45,21 @@ impl Sessions {
         }
     }
 
-    /// Opens one session more: that of an image for its context, under the budget.
+    /// Opens the session of an image for its context under a budget of its own.
     ///
     /// # Errors
     ///
-    /// `Full` where 64 are open; `NoMemory` where a growth was refused. The sessions are unchanged.
+    /// Each error leaves the sessions unchanged.
+    ///
+    /// - `Full` if 64 sessions are open.
+    /// - `NoMemory` if a growth is refused.
     pub fn open(&mut self, start: Start, budget: Budget) -> Result<(), HostError>
-        ensures opened { OnOk result ((ss : List Start)
-            → Stands (budget_view budget) ss (world_of self.old)
-            → Stands (budget_view budget) (ss ++ start ∷ []) (world_of self.new)) }
-        ensures refused { IfErr result (λ e. (ss : List Start)
-            → Stands (budget_view budget) ss (world_of self.old)
-            → IsNotOpened ss e) }
+        ensures opened { OnOk result ((openings : List Opening)
+            → Stands openings (world_of self.old)
+            → Stands (openings ++ under (budget_view budget) start ∷ []) (world_of self.new)) }
+        ensures refused { IfErr result (λ e. (openings : List Opening)
+            → Stands openings (world_of self.old)
+            → IsNotOpened openings e) }
         ensures unchanged { OnErr result (world_of self.new ≡ world_of self.old) }
     {
         let Start { code, context } = start;
@@ -69,17 +72,17 @@ impl Sessions {
         }
     }
 
-    /// Runs the sessions side by side, in turns of `slice` instructions, or of one where that is 0;
-    /// and answers the line of each, in their order: `1 text 5:Hello`, with the number of the
-    /// text's bytes, `2 fault F2 Undefined` or `3 spent Fuel`.
+    /// Runs the sessions in turns of `slice` instructions, or of one if `slice` is 0. Returns the
+    /// line of each in order: `1 text 5:Hello`, with the number of the text's bytes, `2 fault F2
+    /// Undefined` or `3 spent Fuel`.
     ///
     /// # Errors
     ///
-    /// `NoMemory` where a growth was refused.
+    /// `NoMemory` if a growth is refused.
     pub fn run(self, alloc: Global, slice: u32) -> Result<String, HostError>
-        ensures { (b : Limits) (ss : List Start)
-            → Stands b ss (world_of self)
-            → TakesTurns b ss result }
+        ensures { (openings : List Opening)
+            → Stands openings (world_of self)
+            → TakesTurns openings result }
     {
         session_laws();
         let Sessions { mut host, count } = self;

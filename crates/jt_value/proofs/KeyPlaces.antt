@@ -1,5 +1,7 @@
--- The place of a key's first value, and the value there.
-use Rattle.std.proofs.Common.{◌≡◌, ℕ, zero, suc, ◌+◌, ◌<◌, Bool, true, false, cond, List, [], ◌∷◌, length, take, drop, get_or, Option, Some, None, String, Global, string_bytes, nat_lt, nat_cmp, refl, sym, ap, ◌∙◌, subst, arith}
+-- The index of a key's first value, and the value there.
+use Rattle.std.proofs.Common.{◌≡◌, ℕ, zero, suc, ◌+◌, ◌<◌, Bool, true, false, cond, List, [], ◌∷◌, length, take, drop}
+use Rattle.std.proofs.Common.{get_or, Option, Some, None, String, Global, string_bytes, nat_lt, nat_cmp, refl, sym, ap}
+use Rattle.std.proofs.Common.{◌∙◌, subst, arith}
 use Rattle.std.specs.Prelude.{option_map, is_some}
 use Rattle.std.specs.Option.{option_map_or}
 use Rattle.std.specs.Str.{bytes_eq}
@@ -15,12 +17,13 @@ use Rattle.jt_value.specs.View.{view, entries_view}
 use Rattle.jt_value.proofs.Lists.{Pair}
 use Rattle.jt_value.proofs.EntryLaws.{missing, has_key-entry_of}
 
--- a key is there exactly where it has a place
+-- A key occurs exactly if it has an index.
 pub has_key-place_of : (k : List ℕ) (es : Entries) → has_key k es ≡ is_some (place_of k es)
 has_key-place_of k no_entries = refl
 has_key-place_of k (entry l t es) = by (bytes_eq l k) (has_key-place_of k es)
   where
-    by : (b : Bool) → has_key k es ≡ is_some (place_of k es) → cond b true (has_key k es) ≡ is_some (cond b (Some 0) (option_map suc (place_of k es)))
+    by : (b : Bool) → has_key k es ≡ is_some (place_of k es)
+        → cond b true (has_key k es) ≡ is_some (cond b (Some 0) (option_map suc (place_of k es)))
     by true rest = refl
     by false rest = rest ∙ mapped (place_of k es)
       where
@@ -28,7 +31,7 @@ has_key-place_of k (entry l t es) = by (bytes_eq l k) (has_key-place_of k es)
         mapped None = refl
         mapped (Some p) = refl
 
--- the value at the place is the first one
+-- The value at the index of a key is the key's first value.
 abbrev At : List Pair → List ℕ → Option ℕ → Type 0
 At xs k None = entry_of k (entries_view xs) ≡ None
 At xs k (Some i) = (i < length xs) × ((d : Pair) → entry_of k (entries_view xs) ≡ Some (view (get_or xs i d).1))
@@ -37,10 +40,12 @@ pub at_place : (xs : List Pair) (k : List ℕ) → At xs k (place_of k (entries_
 at_place [] k = refl
 at_place (x ∷ xs) k = by (bytes_eq (string_bytes x.0) k) refl (place_of k (entries_view xs)) (at_place xs k)
   where
-    by : (b : Bool) → bytes_eq (string_bytes x.0) k ≡ b → (o : Option ℕ) → At xs k o → At (x ∷ xs) k (cond b (Some 0) (option_map suc o))
+    by : (b : Bool) → bytes_eq (string_bytes x.0) k ≡ b → (o : Option ℕ) → At xs k o
+        → At (x ∷ xs) k (cond b (Some 0) (option_map suc o))
     by true e o rest = (omega arith, λ d. ap (λ b. cond b (Some (view x.1)) (entry_of k (entries_view xs))) e)
     by false e None rest = ap (λ b. cond b (Some (view x.1)) (entry_of k (entries_view xs))) e ∙ rest
-    by false e (Some i) rest = (omega (arith, rest.0), λ d. ap (λ b. cond b (Some (view x.1)) (entry_of k (entries_view xs))) e ∙ rest.1 d)
+    by false e (Some i) rest =
+        (omega (arith, rest.0), λ d. ap (λ b. cond b (Some (view x.1)) (entry_of k (entries_view xs))) e ∙ rest.1 d)
 
 pub placed : (xs : List Pair) (k : List ℕ) (i : ℕ) → Some i ≡ place_of k (entries_view xs) → At xs k (Some i)
 placed xs k i e = subst (At xs k) (sym e) (at_place xs k)
@@ -48,8 +53,9 @@ placed xs k i e = subst (At xs k) (sym e) (at_place xs k)
 pub unplaced : (k : List ℕ) (es : Entries) → None ≡ place_of k es → entry_of k es ≡ None
 unplaced k es e = missing (entry_of k es) (sym (has_key-entry_of k es) ∙ has_key-place_of k es ∙ ap is_some (sym e))
 
--- a key stands among the first entries exactly where its place is below their number
-pub stands_among : (xs : List Pair) (k : List ℕ) (i : ℕ) → has_key k (entries_view (take i xs)) ≡ option_map_or (λ p. nat_lt p i) (place_of k (entries_view xs)) false
+-- A key occurs in the first entries exactly if its index is less than their number.
+pub stands_among : (xs : List Pair) (k : List ℕ) (i : ℕ)
+    → has_key k (entries_view (take i xs)) ≡ option_map_or (λ p. nat_lt p i) (place_of k (entries_view xs)) false
 stands_among [] k zero = refl
 stands_among [] k (suc i) = refl
 stands_among (x ∷ xs) k zero = none (place_of k (entries_view (x ∷ xs)))
@@ -57,16 +63,19 @@ stands_among (x ∷ xs) k zero = none (place_of k (entries_view (x ∷ xs)))
     none : (o : Option ℕ) → false ≡ option_map_or (λ p. nat_lt p 0) o false
     none None = refl
     none (Some p) = grind (arith, nat_tests)
-stands_among (x ∷ xs) k (suc i) = by (bytes_eq (string_bytes x.0) k) (place_of k (entries_view xs)) (stands_among xs k i)
+stands_among (x ∷ xs) k (suc i) =
+    by (bytes_eq (string_bytes x.0) k) (place_of k (entries_view xs)) (stands_among xs k i)
   where
     by : (b : Bool) (o : Option ℕ) → has_key k (entries_view (take i xs)) ≡ option_map_or (λ p. nat_lt p i) o false
-        → cond b true (has_key k (entries_view (take i xs))) ≡ option_map_or (λ p. nat_lt p (suc i)) (cond b (Some 0) (option_map suc o)) false
+        → cond b true (has_key k (entries_view (take i xs)))
+        ≡ option_map_or (λ p. nat_lt p (suc i)) (cond b (Some 0) (option_map suc o)) false
     by true o rest = grind (arith, nat_tests)
     by false None rest = rest
     by false (Some p) rest = rest ∙ grind (arith, nat_tests)
 
--- the same for the names that a proof has for them
-pub seen : (k m : List ℕ) (xs : List Pair) (es : Entries) → entries_view xs ≡ es → (i j : ℕ) (b : Bool) → b ≡ option_map_or (λ p. nat_lt p j) (place_of k es) false → k ≡ m → j ≡ i
+-- `stands_among` in the form that the proof of `has_before` uses.
+pub seen : (k m : List ℕ) (xs : List Pair) (es : Entries) → entries_view xs ≡ es → (i j : ℕ) (b : Bool)
+    → b ≡ option_map_or (λ p. nat_lt p j) (place_of k es) false → k ≡ m → j ≡ i
     → has_key m (entries_view (take i xs)) ≡ b
 seen k m xs es same i j b h p q =
     stands_among xs m i
@@ -75,30 +84,37 @@ seen k m xs es same i j b h p q =
     ∙ ap (λ n. option_map_or (λ o. nat_lt o n) (place_of k es) false) (sym q)
     ∙ sym h
 
--- an entry's value is smaller than the entries
-pub size_lt : (xs : List Pair) (i : ℕ) (e : Pair) → i < length xs → e ≡ get_or xs i e → size (view e.1) < entries_size (entries_view xs)
+-- The value of an entry is smaller than the map of the entries.
+pub size_lt : (xs : List Pair) (i : ℕ) (e : Pair) → i < length xs → e ≡ get_or xs i e
+    → size (view e.1) < entries_size (entries_view xs)
 size_lt [] i e lt is = absurd (omega arith)
-size_lt (x ∷ xs) zero e lt is = let s : size (view e.1) ≡ size (view x.1) = ap (λ (y : Pair). size (view y.1)) is in omega (arith, s)
+size_lt (x ∷ xs) zero e lt is =
+    let s : size (view e.1) ≡ size (view x.1) = ap (λ (y : Pair). size (view y.1)) is in omega (arith, s)
 size_lt (x ∷ xs) (suc i) e lt is = omega (arith, size_lt xs i e (omega arith) is)
 
--- ---- the places that are kept
+-- ---- The stored indices
 
--- places count from the first entry of all, where entries in front are left
+-- Holds if the stored index maps each key to its first entry among the entries from i on.
 abbrev pub IsKept : List Pair → ℕ → BTreeMap (String Global) ℕ → Type 0
-IsKept xs i places = (k : List ℕ) → get_by_text places k ≡ option_map (λ p. i + p) (place_of k (entries_view (drop i xs)))
+IsKept xs i places =
+    (k : List ℕ) → get_by_text places k ≡ option_map (λ p. i + p) (place_of k (entries_view (drop i xs)))
 
-pub kept_none : (xs : List Pair) (i : ℕ) (places : BTreeMap (String Global) ℕ) → i ≡ length xs → places.entries ≡ [] → IsKept xs i places
+pub kept_none : (xs : List Pair) (i : ℕ) (places : BTreeMap (String Global) ℕ) → i ≡ length xs → places.entries ≡ []
+    → IsKept xs i places
 kept_none xs i places e none k =
     ap (λ (es : List (String Global × ℕ)). lookup (is_at (λ n. slice_cmp nat_cmp k (string_bytes n))) es) none
-    ∙ sym (ap (λ (l : List Pair). option_map (λ p. i + p) (place_of k (entries_view l))) (ap (λ n. drop n xs) e ∙ drop-length xs))
+    ∙ sym (ap (λ (l : List Pair). option_map (λ p. i + p) (place_of k (entries_view l)))
+    (ap (λ n. drop n xs) e ∙ drop-length xs))
 
-pub kept_more : (xs : List Pair) (i j : ℕ) (e : Pair) (n : List ℕ) (old new : BTreeMap (String Global) ℕ) → j ≡ i + 1 → i < length xs → e ≡ get_or xs i e → n ≡ string_bytes e.0 → IsKept xs j old
+pub kept_more : (xs : List Pair) (i j : ℕ) (e : Pair) (n : List ℕ) (old new : BTreeMap (String Global) ℕ) → j ≡ i + 1
+    → i < length xs → e ≡ get_or xs i e → n ≡ string_bytes e.0 → IsKept xs j old
     → ((k : List ℕ) → get_by_text new k ≡ update bytes_eq (get_by_text old) n (Some i) k) → IsKept xs i new
 kept_more xs i j e n old new is lt at name before put k =
     put k
     ∙ ap (λ (m : List ℕ). cond (bytes_eq m k) (Some i) (get_by_text old k)) name
     ∙ by (bytes_eq (string_bytes e.0) k) (place_of k (entries_view (drop j xs))) (before k)
-    ∙ sym (ap (λ (l : List Pair). option_map (λ p. i + p) (place_of k (entries_view l))) (drop_more xs i e lt ∙ ap (λ (y : Pair). y ∷ drop (i + 1) xs) (sym at) ∙ ap (λ m. e ∷ drop m xs) (sym is)))
+    ∙ sym (ap (λ (l : List Pair). option_map (λ p. i + p) (place_of k (entries_view l)))
+    (drop_more xs i e lt ∙ ap (λ (y : Pair). y ∷ drop (i + 1) xs) (sym at) ∙ ap (λ m. e ∷ drop m xs) (sym is)))
   where
     by : (b : Bool) (o : Option ℕ) → get_by_text old k ≡ option_map (λ p. j + p) o
         → cond b (Some i) (get_by_text old k) ≡ option_map (λ p. i + p) (cond b (Some 0) (option_map suc o))
@@ -106,8 +122,11 @@ kept_more xs i j e n old new is lt at name before put k =
     by false None h = h
     by false (Some p) h = h ∙ ap Some (omega (arith, is))
 
-pub kept_all : (xs : List Pair) (i : ℕ) (places : BTreeMap (String Global) ℕ) → i ≡ 0 → IsKept xs i places → (k : List ℕ) → get_by_text places k ≡ place_of k (entries_view xs)
-kept_all xs i places e h k = h k ∙ ap (λ n. option_map (λ p. n + p) (place_of k (entries_view (drop n xs)))) e ∙ same (place_of k (entries_view xs))
+pub kept_all : (xs : List Pair) (i : ℕ) (places : BTreeMap (String Global) ℕ) → i ≡ 0 → IsKept xs i places
+    → (k : List ℕ) → get_by_text places k ≡ place_of k (entries_view xs)
+kept_all xs i places e h k =
+    h k ∙ ap (λ n. option_map (λ p. n + p) (place_of k (entries_view (drop n xs)))) e
+    ∙ same (place_of k (entries_view xs))
   where
     same : (o : Option ℕ) → option_map (λ p. 0 + p) o ≡ o
     same None = refl

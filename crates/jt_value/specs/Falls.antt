@@ -1,5 +1,5 @@
--- What lies inside a list or a map is smaller than it. These are lemmas, which the models of lists
--- and maps cite.
+-- The items of a list and the values of a map are smaller than it. The models of lists and maps
+-- cite these lemmas.
 use Rattle.std.specs.Prelude.{◌+◌, ◌*◌, ◌≤◌, max, List, [], ◌∷◌, String}
 use Rattle.std.proofs.Common.{arith}
 use Rattle.std.specs.declared.alloc.Global.{Global}
@@ -29,7 +29,7 @@ pub most-entries : (es : List (String Global × Value))
 most-entries [] = omega arith
 most-entries (e ∷ es) = omega (arith, deep_le e.1, most-entries es)
 
--- the same by the sizes by which recursions fall
+-- The size by which a recursion decreases is bounded by the size of the view.
 pub size_le : (v : Value) → size-Value v ≤ 2 * size (view v) + 1
 size_le v = omega (arith, deep_le v)
 

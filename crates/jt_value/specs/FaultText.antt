@@ -1,7 +1,8 @@
--- What a refusal prints: a fault its code and its name.
+-- The printed text of an error. A fault prints as its code and its name.
 use Rattle.std.specs.Prelude.{ℕ, List, codes}
 use Rattle.jt_value.specs.declared.fault.Fault.{Fault}
-use Rattle.jt_value.specs.declared.fault.Fault.TheVariants.{BadType, Undefined, Overflow, ZeroDivide, Unprintable, NotIterable, Unpack, Range, BadArgument}
+use Rattle.jt_value.specs.declared.fault.Fault.TheVariants.{BadType, Undefined, Overflow, ZeroDivide, Unprintable}
+use Rattle.jt_value.specs.declared.fault.Fault.TheVariants.{NotIterable, Unpack, Range, BadArgument}
 use Rattle.jt_value.specs.declared.fault.ValueError.{ValueError}
 use Rattle.jt_value.specs.declared.fault.ValueError.TheVariants as error
 

@@ -1,11 +1,12 @@
--- A code of trees: a tree written as a row of tokens, and read back with a stack of entries. The
--- models of lists and maps have to name one for their values; no contract rests on what it is.
+-- A code of trees: a tree is written as a list of tokens, and read back with a stack of entries.
+-- The models of lists and maps have to name a code for their values; no contract depends on it.
 use Rattle.std.specs.Prelude.{◌≡◌, ℕ, zero, suc, ℤ, pos, true, false, List, [], ◌∷◌, ◌++◌, refl}
 use Rattle.std.proofs.Common.{ap, ◌∙◌}
 use Rattle.std.specs.Coded.{Coded, code_by, coded×, coded_list, coded_ℕ, coded_ℤ}
-use Rattle.jt_value.specs.Tree.{Tree, undefined, nothing, truth_value, number, text, markup, list, map, Items, no_items, item, Entries, no_entries, entry}
+use Rattle.jt_value.specs.Tree.{Tree, undefined, nothing, truth_value, number, text, markup, list, map, Items, no_items}
+use Rattle.jt_value.specs.Tree.{item, Entries, no_entries, entry}
 
--- what a token is, its number, its text and its key
+-- A token: its kind, its number, its text and its key.
 abbrev pub Token : Type 0
 Token = ℕ × (ℤ × (List ℕ × List ℕ))
 
@@ -29,7 +30,7 @@ abbrev mutual
   entry_tokens no_entries = []
   entry_tokens (entry k t es) = entry_tokens es ++ tokens k t
 
--- one value more in front of the top
+-- The stack with one more value before its top entries.
 abbrev pub put : List ℕ → Tree → List Entries → List Entries
 put k t [] = []
 put k t (es ∷ rest) = entry k t es ∷ rest
@@ -66,7 +67,7 @@ abbrev pub top : List Entries → Entries
 top [] = no_entries
 top (es ∷ rest) = es
 
--- items as entries with empty keys
+-- Items as entries with empty keys.
 abbrev pub keyed : Items → Entries
 keyed no_items = no_entries
 keyed (item t ts) = entry [] t (keyed ts)

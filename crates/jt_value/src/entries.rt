@@ -1,4 +1,4 @@
-//! The entries of a map by their keys. A key that stands twice has its first value.
+//! Searches and compares the entries of a map. A repeated key has its first value.
 ghost use Rattle.std.specs.Prelude.{◌≡◌};
 ghost use Rattle.std.specs.Cmp.Lexicographic.{slice_cmp};
 ghost use Rattle.std.specs.Ordering.{nat_cmp, is_lt};
@@ -7,7 +7,7 @@ ghost use Rattle.jt_value.specs.View.{entries_view};
 
 use crate::value::Value;
 
-/// The place of a key's first value: the entries are gone through one by one.
+/// Returns the index of a key's first entry, by a linear search.
 pub(crate) fn first_place(entries: &[(String, Value)], key: &str) -> Option<usize>
     ensures { result ≡ place_of key.now (entries_view entries.now) }
 {
@@ -21,7 +21,7 @@ pub(crate) fn first_place(entries: &[(String, Value)], key: &str) -> Option<usiz
     None
 }
 
-/// Whether both have the same keys at the same places.
+/// Returns whether both maps have equal keys at each index.
 pub(crate) fn have_same_keys(entries: &[(String, Value)], others: &[(String, Value)]) -> bool
     ensures { result ≡ same_keys (entries_view entries.now) (entries_view others.now) }
 {
@@ -38,14 +38,14 @@ pub(crate) fn have_same_keys(entries: &[(String, Value)], others: &[(String, Val
     true
 }
 
-/// Whether a key stands before another one, in byte order.
+/// Returns whether `key` precedes `other` in byte order.
 fn is_before(key: &str, other: &str) -> bool
     ensures { result ≡ is_lt (slice_cmp nat_cmp key.now other.now) }
 {
     key < other
 }
 
-/// Whether each key stands before the next one, in byte order, as in an object of JSON.
+/// Returns whether each key precedes the next one in byte order, as in a JSON object.
 pub(crate) fn ascend(entries: &[(String, Value)]) -> bool
     ensures { result ≡ ascends (entries_view entries.now) }
 {

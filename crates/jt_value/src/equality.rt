@@ -1,10 +1,11 @@
-//! Equality.
+//! Compares values for equality.
 ghost use Rattle.std.specs.Prelude.{◌≡◌, ◌↔◌, true, false, IfSome, IsTrue};
 ghost use Rattle.std.specs.Option.{option_map_or};
 ghost use Rattle.jt_value.specs.Tree as tree;
 ghost use Rattle.jt_value.specs.Tree.{Entries};
 ghost use Rattle.jt_value.specs.Entries.{entry_of, has_key, all_keys, same_keys};
-ghost use Rattle.jt_value.specs.Equality.{equal, equal_items, equal_at, truth_number, AgreeAtEachKey};
+ghost use Rattle.jt_value.specs.Equality.{equal, equal_items, equal_at, truth_number};
+ghost use Rattle.jt_value.specs.Equality.{AgreeAtEachKey};
 ghost use Rattle.jt_value.specs.View.{view, items_view, entries_view};
 
 use crate::entries::{ascend, have_same_keys};
@@ -12,28 +13,32 @@ use crate::payload::ValueMap;
 use crate::value::Value;
 
 impl Value {
-    /// Whether two values are equal: numbers and truth values as numbers, texts by their
-    /// characters, markup or not, lists item by item, maps by their keys' first values in any
-    /// order; none equals none, and undefined undefined.
+    /// Returns whether two values are equal:
+    ///
+    /// - numbers and truth values compare as numbers;
+    /// - texts compare by their characters, plain or markup;
+    /// - lists compare item by item;
+    /// - maps compare by the first value of each key, in any order;
+    /// - none equals none, and undefined equals undefined.
     pub fn equals(&self, other: &Value) -> bool
         ensures value { result ≡ equal (view self.now) (view other.now) }
-        ensures maps { (es fs : Entries)
-            → view self.now ≡ tree.map es
-            → view other.now ≡ tree.map fs
-            → IsTrue result ↔ AgreeAtEachKey es fs }
+        ensures maps { (entries others : Entries)
+            → view self.now ≡ tree.map entries
+            → view other.now ≡ tree.map others
+            → IsTrue result ↔ AgreeAtEachKey entries others }
     {
         are_equal(self, other)
     }
 }
 
-/// The number that a truth value equals.
+/// Returns the number that a truth value equals.
 fn number_of_truth(truth: bool) -> i64
     ensures { result ≡ truth_number truth }
 {
     if truth { 1 } else { 0 }
 }
 
-/// Whether the value is the number, or the truth value that equals it.
+/// Returns whether the value is the number, or the truth value that equals it.
 fn is_number(value: &Value, wanted: i64) -> bool
     ensures { result ≡ equal (tree.number wanted) (view value.now) }
 {
@@ -44,7 +49,7 @@ fn is_number(value: &Value, wanted: i64) -> bool
     }
 }
 
-/// Whether the value is the text, markup or not.
+/// Returns whether the value is the text, plain or markup.
 fn is_text(value: &Value, wanted: &str) -> bool
     ensures { result ≡ equal (tree.text wanted.now) (view value.now) }
 {
@@ -112,8 +117,8 @@ fn are_maps_equal(map: &ValueMap, other: &ValueMap) -> bool
     has_all_keys(map, others) && are_first_values_equal(map, other)
 }
 
-/// Whether two maps are equal, in one pass through both in the order of their keys, where that is
-/// known of both.
+/// Returns whether two maps are equal, in one pass over both in key order. Returns `None` if the
+/// key order of a map is unknown.
 #[cycle(equality)]
 fn are_equal_in_order(map: &ValueMap, other: &ValueMap) -> Option<bool>
     ensures { IfSome result (λ equals. equals ≡ equal (tree.map map.now) (tree.map other.now)) }
@@ -131,9 +136,9 @@ fn are_equal_in_order(map: &ValueMap, other: &ValueMap) -> Option<bool>
     Some(others.next().is_none())
 }
 
-/// Whether one map has more keys than the other has entries, which is told where its keys ascend:
-/// then none of them stands twice. A large map of a context is so not searched for each key of a
-/// short one.
+/// Returns whether the numbers of entries show that the maps differ. One map then has more entries,
+/// and its keys ascend, so no key is repeated. This spares searching a large map of a context for
+/// each key of a short one.
 fn differ_in_number(entries: &[(String, Value)], others: &[(String, Value)]) -> bool
     ensures { IsTrue result
         → equal (tree.map (entries_view entries.now)) (tree.map (entries_view others.now)) ≡ false }
@@ -145,7 +150,7 @@ fn differ_in_number(entries: &[(String, Value)], others: &[(String, Value)]) -> 
     }
 }
 
-/// Whether a map has each key of some entries.
+/// Returns whether a map has each key of the entries `others`.
 fn has_all_keys(map: &ValueMap, others: &[(String, Value)]) -> bool
     ensures { result ≡ all_keys (λ k. has_key k map.now) (entries_view others.now) }
 {
@@ -157,8 +162,7 @@ fn has_all_keys(map: &ValueMap, others: &[(String, Value)]) -> bool
     true
 }
 
-/// The same as `are_first_values_equal`, in one pass, for maps that have the same keys at the same
-/// places.
+/// As `are_first_values_equal`, but in one pass, for maps with equal keys at each index.
 #[cycle(equality)]
 fn are_values_equal_in_place(map: &ValueMap, others: &[(String, Value)]) -> bool
     requires { same_keys map.now (entries_view others.now) ≡ true }
@@ -176,7 +180,7 @@ fn are_values_equal_in_place(map: &ValueMap, others: &[(String, Value)]) -> bool
     true
 }
 
-/// Whether the first value of each key of the map equals that key's first value in the other.
+/// Returns whether the first value of each key of `map` equals that key's first value in `other`.
 #[cycle(equality)]
 fn are_first_values_equal(map: &ValueMap, other: &ValueMap) -> bool
     ensures { result ≡ all_keys (λ k. equal_at map.now k (entry_of k other.now)) map.now }
@@ -193,7 +197,7 @@ fn are_first_values_equal(map: &ValueMap, other: &ValueMap) -> bool
     true
 }
 
-/// Whether the value equals the first value of the key.
+/// Returns whether the value equals the key's first value in the map.
 #[cycle(equality)]
 fn is_first_value(value: &Value, key: &str, map: &ValueMap) -> bool
     ensures { result ≡ option_map_or (equal (view value.now)) (entry_of key.now map.now) false }

@@ -1,4 +1,4 @@
-//! Why a value could not be made or printed.
+//! Defines the faults of templates, and the errors of calls on values.
 ghost use Rattle.std.specs.Prelude.{◌≡◌, Some, codes};
 ghost use Rattle.jt_value.specs.FaultText.{fault_text, error_text};
 
@@ -6,31 +6,31 @@ use std::alloc::{AllocError, AllocFailed};
 use std::error::Error;
 use std::fmt;
 
-/// A fault of a template. It prints as its code and its name, as `F2 Undefined`.
+/// A fault of a template. It prints as its code and its name, for example `F2 Undefined`.
 #[derive(Clone, Copy, Debug, PartialEq, Eq)]
 pub enum Fault {
-    /// F1: an operand of a type that no case of the operation takes.
+    /// F1: an operand whose type the operation does not accept.
     BadType,
-    /// F2: an operand that is undefined, where no case takes it.
+    /// F2: an undefined operand that the operation does not accept.
     Undefined,
-    /// F3: a number outside 64 bits.
+    /// F3: a number outside the range of 64 bits.
     Overflow,
     /// F4: a division by 0.
     ZeroDivide,
-    /// F5: a list or a map where a text is printed.
+    /// F5: a list or a map that would be printed.
     Unprintable,
-    /// F6: a value without items.
+    /// F6: a value that has no items.
     NotIterable,
-    /// F7: another number of items than of names.
+    /// F7: a number of items that differs from the number of names.
     Unpack,
     /// F8: a range with the step 0.
     Range,
-    /// F9: an argument that the operation does not take.
+    /// F9: an argument that the operation does not accept.
     BadArgument,
 }
 
 impl Fault {
-    /// The code and the name, as `F2 Undefined`.
+    /// Returns the code and the name, for example `F2 Undefined`.
     pub fn text(self) -> &'static str
         ensures { result.now ≡ fault_text self }
     {
@@ -58,7 +58,7 @@ impl fmt::Display for Fault {
 
 impl Error for Fault {}
 
-/// A growth was refused.
+/// The error of a growth that was refused.
 #[derive(Clone, Copy, Debug, PartialEq, Eq)]
 pub struct NoMemory;
 
@@ -84,12 +84,12 @@ impl<T: Drop> From<AllocFailed<T>> for NoMemory {
     }
 }
 
-/// Why a call on values gave nothing: a fault of the template, or a growth that was refused.
+/// The error of a call on values: a fault of the template, or lack of memory.
 #[derive(Clone, Copy, Debug, PartialEq, Eq)]
 pub enum ValueError {
-    /// The template's fault.
+    /// A fault of the template.
     Fault(Fault),
-    /// A growth was refused.
+    /// A growth that was refused.
     NoMemory,
 }
 

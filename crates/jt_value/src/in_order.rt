@@ -1,6 +1,6 @@
-//! The entries of a map in byte order of their keys, of each key the first.
+//! Iterates over the entries of a map in byte order of their keys: the first entry of each key.
 ghost use Rattle.std.specs.Prelude.{◌≡◌, ◌<◌, IfSome, MatchOption, string_bytes};
-ghost use Rattle.jt_value.specs.InOrder.{to_come, IsInOrder};
+ghost use Rattle.jt_value.specs.internal.InOrder.{to_come, IsInOrder};
 ghost use Rattle.jt_value.specs.KeySearch.{Finds};
 ghost use Rattle.jt_value.specs.Tree.{no_entries, entry, size, entries_size};
 ghost use Rattle.jt_value.specs.View.{view, entries_view};
@@ -9,17 +9,16 @@ use crate::key_search::KeySearch;
 use crate::value::Value;
 use std::collections::btree_map::Values;
 
-/// Which entries are still to come.
+/// The entries that the iterator has yet to return.
 #[derive(Drop)]
 enum Rest<'a> {
-    /// All from a place on: their keys ascend.
+    /// All entries from an index on. Their keys ascend.
     From(usize),
-    /// Those at places that are kept.
+    /// The entries at the stored indices that remain.
     At(Values<'a, String, usize>),
 }
 
-/// Goes through the first entries of the keys of a map, in byte order of the keys. It takes no
-/// memory.
+/// An iterator over the first entry of each key of a map, in byte order. It allocates nothing.
 #[derive(Drop)]
 pub(crate) struct InOrder<'a> {
     entries: &'a [(String, Value)],
@@ -27,7 +26,8 @@ pub(crate) struct InOrder<'a> {
 }
 
 impl<'a> InOrder<'a> {
-    /// From the first key on, or none where no order of the keys is known: they are few.
+    /// Returns an iterator that starts at the first key. Returns `None` for a map with few entries,
+    /// whose key order is unknown.
     pub(crate) fn new(entries: &'a [(String, Value)], search: &'a KeySearch) -> Option<InOrder<'a>>
         requires { Finds search.now (entries_view entries.now) }
         ensures entries { IfSome result (λ order. order.entries.now ≡ entries.now) }
@@ -42,7 +42,8 @@ impl<'a> InOrder<'a> {
         Some(InOrder { entries, rest })
     }
 
-    /// The entry that comes next. Its value is smaller than the map, so a recursion into it ends.
+    /// Returns the next entry. Its value is smaller than the map, so a recursion into it
+    /// terminates.
     pub(crate) fn next(&mut self) -> Option<&'a (String, Value)>
         ensures entries { self.new.entries ≡ self.old.entries }
         ensures step { MatchOption result (to_come self.old ≡ no_entries)

@@ -1,4 +1,4 @@
-//! How the first place of a key is found among the entries of a map.
+//! Finds the first entry of a key in a map.
 ghost use Rattle.std.specs.Prelude.{◌≡◌, ℕ, List, true, IfOk};
 ghost use Rattle.std.specs.BTreeMap.{get_by_text};
 ghost use Rattle.jt_value.specs.Entries.{place_of, ascends};
@@ -10,24 +10,24 @@ use crate::value::Value;
 use std::alloc::{AllocError, Global};
 use std::collections::BTreeMap;
 
-/// A map of at most so many entries is gone through one by one: for so few that takes no longer
-/// than a search of another kind, and nothing has to be kept.
+/// The greatest number of entries that are searched linearly. For such a short map no other search
+/// is faster, and no index is stored.
 const FEW: usize = 8;
 
-/// How a key is found among the entries of a map.
+/// The way to find a key in a map.
 #[derive(Drop)]
 pub(crate) enum KeySearch {
-    /// They are gone through one by one: they are few.
+    /// A linear search: the entries are few.
     Linear,
-    /// By halves: the keys ascend in byte order.
+    /// A binary search: the keys ascend in byte order.
     Binary,
-    /// By the place that is kept of each key's first value.
+    /// An index that maps each key to its first entry.
     Indexed(BTreeMap<String, usize>),
 }
 
 impl KeySearch {
-    /// How keys are found among these entries. Memory is taken only where these are many and their
-    /// keys do not ascend.
+    /// Returns the search for these entries. Allocates only if they are many and their keys do not
+    /// ascend.
     pub(crate) fn new(alloc: Global, entries: &[(String, Value)]) -> Result<KeySearch, AllocError>
         ensures { IfOk result (λ search. Finds search (entries_view entries.now)) }
     {
@@ -40,7 +40,7 @@ impl KeySearch {
         Ok(KeySearch::Indexed(first_places(alloc, entries)?))
     }
 
-    /// The first place of a key among the entries.
+    /// Returns the index of a key's first entry, or `None` if the key does not occur.
     pub(crate) fn place(&self, entries: &[(String, Value)], key: &str) -> Option<usize>
         requires { Finds self.now (entries_view entries.now) }
         ensures { result ≡ place_of key.now (entries_view entries.now) }
@@ -53,8 +53,8 @@ impl KeySearch {
     }
 }
 
-/// The place of each key's first value. Of a key that stands twice the place in front is put last,
-/// over the others.
+/// Returns the index of each key's first entry. The entries are visited from the last to the first,
+/// so the first entry of a repeated key overwrites the later ones.
 fn first_places(
     alloc: Global,
     entries: &[(String, Value)],
@@ -71,7 +71,7 @@ fn first_places(
     Ok(places)
 }
 
-/// The place of a key among entries whose keys ascend.
+/// Returns the index of a key in entries whose keys ascend, or `None` if the key does not occur.
 fn ascending_place(entries: &[(String, Value)], key: &str) -> Option<usize>
     requires { ascends (entries_view entries.now) ≡ true }
     ensures { result ≡ place_of key.now (entries_view entries.now) }

@@ -1,4 +1,4 @@
-//! Order.
+//! Orders numbers and texts.
 ghost use Rattle.std.specs.Prelude.{◌≡◌, ℕ, List, Ok};
 ghost use Rattle.std.specs.Cmp.Lexicographic.{slice_cmp};
 ghost use Rattle.std.specs.Ordering.{nat_cmp};
@@ -10,17 +10,18 @@ use crate::value::Value;
 use std::cmp::Ordering;
 
 impl Value {
-    /// The order of two numbers or two texts, markup or not; texts go by code points.
+    /// Returns the order of two numbers, or of two texts by code points. Texts may be plain or
+    /// markup.
     ///
     /// # Errors
     ///
-    /// For all other operands `Undefined` if one of them is undefined, else `BadType`.
+    /// For other operands `Undefined` if one of them is undefined, else `BadType`.
     pub fn compare(&self, other: &Value) -> Result<Ordering, Fault>
         ensures value { result ≡ order (view self.now) (view other.now) }
-        ensures code_points { (cs ds : List ℕ)
-            → Spells cs (view self.now)
-            → Spells ds (view other.now)
-            → result ≡ Ok (slice_cmp nat_cmp cs ds) }
+        ensures code_points { (points others : List ℕ)
+            → Spells points (view self.now)
+            → Spells others (view other.now)
+            → result ≡ Ok (slice_cmp nat_cmp points others) }
     {
         ordering_of(self, other)
     }

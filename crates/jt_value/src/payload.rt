@@ -1,9 +1,9 @@
-//! What lists and maps are made of: their items and entries, with the size and the nesting that
-//! these give them.
-ghost use Rattle.std.specs.Prelude.{◌≡◌, ◌+◌, ◌-◌, ◌^◌, min, false, IfOk, IfSome, OnOk, OnErr, nat_lt, option_map, option_copied};
+//! Stores the items of lists and the entries of maps, with their size and nesting.
+ghost use Rattle.std.specs.Prelude.{◌≡◌, ◌+◌, ◌-◌, ◌^◌, min, false, IfOk, IfSome, OnOk, OnErr};
+ghost use Rattle.std.specs.Prelude.{nat_lt, option_map, option_copied};
 ghost use Rattle.std.specs.Option.{option_map_or};
 ghost use Rattle.jt_value.specs.Entries.{entry_of, has_key, place_of};
-ghost use Rattle.jt_value.specs.InOrder.{to_come, IsInOrder};
+ghost use Rattle.jt_value.specs.internal.InOrder.{to_come, IsInOrder};
 ghost use Rattle.jt_value.specs.Tree.{items_size, items_nesting, entries_size, entries_nesting};
 ghost use Rattle.jt_value.specs.Payload.{more_items, joined_items};
 ghost use Rattle.jt_value.specs.View.{view, items_view, entries_view};
@@ -14,7 +14,7 @@ use crate::value::Value;
 use std::alloc::{AllocError, Global};
 use std::marker::Model;
 
-/// The items of a list, and what the list's size and nesting are by them.
+/// The items of a list, with its size and nesting.
 #[cycle(value)]
 #[derive(Drop)]
 pub struct ValueList {
@@ -23,7 +23,7 @@ pub struct ValueList {
     nesting: u32,
 }
 
-/// The entries of a map, how its keys are found, and what the map's size and nesting are by them.
+/// The entries of a map, with the search for its keys, its size and its nesting.
 #[cycle(value)]
 #[derive(Drop)]
 pub struct ValueMap {
@@ -77,7 +77,7 @@ impl Model for ValueMap {
 }
 
 impl ValueList {
-    /// A list of items.
+    /// Returns the list of the items.
     pub(crate) fn new(items: Vec<Value>) -> ValueList
         ensures { result ≡ items_view items.items }
     {
@@ -94,7 +94,11 @@ impl ValueList {
         }
     }
 
-    /// Puts an item behind the others. Where memory is refused nothing changes.
+    /// Appends an item.
+    ///
+    /// # Errors
+    ///
+    /// `AllocError` if a growth is refused. The list is then unchanged.
     pub fn push(&mut self, item: Value) -> Result<(), AllocError>
         ensures ok { OnOk result (self.new ≡ more_items self.old (view item)) }
         ensures err { OnErr result (self.new ≡ self.old) }
@@ -107,7 +111,11 @@ impl ValueList {
         Ok(())
     }
 
-    /// Puts copies of items behind the others. A refusal leaves some of them there.
+    /// Appends copies of items.
+    ///
+    /// # Errors
+    ///
+    /// `AllocError` if a growth is refused. Some of the copies may then have been appended.
     pub fn append(&mut self, more: &[Value]) -> Result<(), AllocError>
         ensures { OnOk result (self.new ≡ joined_items self.old (items_view more.now)) }
     {
@@ -118,14 +126,14 @@ impl ValueList {
         Ok(())
     }
 
-    /// The items.
+    /// Returns the items.
     pub fn items(&self) -> &[Value]
         ensures { items_view result.now ≡ self.now }
     {
         self.items.as_slice()
     }
 
-    /// The items, taken out of the list.
+    /// Returns the items and consumes the list.
     pub fn into_items(self) -> Vec<Value>
         ensures { items_view result.items ≡ self }
     {
@@ -133,14 +141,14 @@ impl ValueList {
         items
     }
 
-    /// The list's size, or the greatest number where it is greater.
+    /// Returns the list's size, at most 2^64 - 1.
     pub fn size(&self) -> u64
         ensures { result ≡ min (1 + items_size self.now) (2 ^ 64 - 1) }
     {
         self.size
     }
 
-    /// The list's nesting, or the greatest number where it is greater.
+    /// Returns the list's nesting, at most 2^32 - 1.
     pub fn nesting(&self) -> u32
         ensures { result ≡ min (1 + items_nesting self.now) (2 ^ 32 - 1) }
     {
@@ -161,7 +169,7 @@ impl Clone for ValueList {
 }
 
 impl ValueMap {
-    /// A map of entries.
+    /// Returns the map of the entries.
     pub(crate) fn new(alloc: Global, entries: Vec<(String, Value)>) -> Result<ValueMap, AllocError>
         ensures { IfOk result (λ map. map ≡ entries_view entries.items) }
     {
@@ -183,14 +191,14 @@ impl ValueMap {
         })
     }
 
-    /// The entries.
+    /// Returns the entries.
     pub fn entries(&self) -> &[(String, Value)]
         ensures { entries_view result.now ≡ self.now }
     {
         self.entries.as_slice()
     }
 
-    /// The first value of a key.
+    /// Returns the first value of a key, or `None` if the key does not occur.
     pub fn get(&self, key: &str) -> Option<&Value>
         ensures { option_map view (option_copied result) ≡ entry_of key.now self.now }
     {
@@ -200,14 +208,14 @@ impl ValueMap {
         }
     }
 
-    /// Whether a key is there.
+    /// Returns whether the map has the key.
     pub fn contains_key(&self, key: &str) -> bool
         ensures { result ≡ has_key key.now self.now }
     {
         self.place(key).is_some()
     }
 
-    /// Whether a key stands before an index.
+    /// Returns whether a key occurs before an index.
     pub(crate) fn has_before(&self, key: &str, index: usize) -> bool
         ensures { result
             ≡ option_map_or (λ place. nat_lt place index) (place_of key.now self.now) false }
@@ -218,7 +226,8 @@ impl ValueMap {
         }
     }
 
-    /// The first entries of the keys in byte order, or none where no order of the keys is known.
+    /// Returns an iterator over the first entry of each key in byte order, or `None` if the key
+    /// order is unknown.
     pub(crate) fn in_order(&self) -> Option<InOrder<'_>>
         ensures entries { IfSome result (λ order. entries_view order.entries.now ≡ self.now) }
         ensures in_order { IfSome result (λ order. IsInOrder (to_come order) self.now) }
@@ -226,21 +235,21 @@ impl ValueMap {
         InOrder::new(&self.entries, &self.search)
     }
 
-    /// The place of a key's first value.
+    /// Returns the index of a key's first entry, or `None` if the key does not occur.
     fn place(&self, key: &str) -> Option<usize>
         ensures { result ≡ place_of key.now self.now }
     {
         self.search.place(&self.entries, key)
     }
 
-    /// The map's size, or the greatest number where it is greater.
+    /// Returns the map's size, at most 2^64 - 1.
     pub fn size(&self) -> u64
         ensures { result ≡ min (1 + entries_size self.now) (2 ^ 64 - 1) }
     {
         self.size
     }
 
-    /// The map's nesting, or the greatest number where it is greater.
+    /// Returns the map's nesting, at most 2^32 - 1.
     pub fn nesting(&self) -> u32
         ensures { result ≡ min (1 + entries_nesting self.now) (2 ^ 32 - 1) }
     {

@@ -1,4 +1,4 @@
-//! Printed texts, contexts, operators on operands that are kept, and errors as texts.
+//! Tests printed texts, contexts, operators on kept operands, and errors as texts.
 
 use jt_ops::{Limits, OpId, binary, binary_owned};
 use jt_value::{Context, Fault, NoMemory, Value, ValueError};
@@ -28,7 +28,7 @@ fn values_print(rt: HostRuntime) -> Result<(), Fail> {
     Ok(())
 }
 
-/// Whether a number is added to a context.
+/// Adds a number to a context and returns whether that succeeded.
 fn is_added(alloc: Global, context: &mut Context, name: &str, number: i64) -> bool {
     match String::from_str(alloc, name) {
         Ok(name) => context.insert(name, Value::Int(number)).is_ok(),
@@ -66,7 +66,7 @@ fn operands_are_kept(rt: HostRuntime) -> Result<(), Fail> {
     Ok(())
 }
 
-/// The list of one number.
+/// Returns the list of one number.
 fn list_of(alloc: Global, number: i64) -> Result<Value, Fail> {
     let mut items = Vec::new(alloc);
     items.push(Value::Int(number))?;

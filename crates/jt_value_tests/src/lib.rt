@@ -1,5 +1,5 @@
-//! Calls of values and operators that the program does not make, each with ample memory. All that
-//! it shows stands in rows/values.txt.
+//! Tests calls on values and operators that the program does not make, each with ample memory.
+//! tests/rows/values.txt lists what they show.
 #![tactic(auto)]
 
 #[cfg(test)]

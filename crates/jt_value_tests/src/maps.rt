@@ -1,16 +1,16 @@
-//! Maps of many keys: their equality in other orders, and what is found in them by key.
+//! Tests maps with many keys: equality in different orders, and lookup by key.
 
 use jt_value::Value;
 use std::alloc::Global;
 use std::test::Fail;
 
-/// The entry of a number: its digits are the key.
+/// Returns an entry whose key is the number in decimal.
 fn entry_of(alloc: Global, number: u32, value: i64) -> Result<(String, Value), Fail> {
     Ok((format!(in alloc; "{number}")?, Value::Int(value)))
 }
 
-/// Twenty entries of the numbers from 10 on, each at its own. From one to the next it is so many
-/// numbers on, and behind 29 again from 10.
+/// Returns twenty entries whose keys are the numbers from 10 to 29, each with its number as the
+/// value. The keys advance by `step`, modulo 20.
 fn entries_of(alloc: Global, step: u8) -> Result<Vec<(String, Value)>, Fail> {
     let mut entries = Vec::new(alloc);
     for turn in 0..20u8 {
@@ -20,7 +20,7 @@ fn entries_of(alloc: Global, step: u8) -> Result<Vec<(String, Value)>, Fail> {
     Ok(entries)
 }
 
-/// Whether the first equals the second, and the second the first.
+/// Returns whether the two values are equal, compared in both directions.
 fn are_equal(left: &Value, right: &Value) -> bool {
     left.equals(right) && right.equals(left)
 }
@@ -59,7 +59,7 @@ fn the_first_value_of_a_key_counts(rt: HostRuntime) -> Result<(), Fail> {
     Ok(())
 }
 
-/// Whether a map has 10 at its key, and nothing at a key that is not there.
+/// Returns whether a map has 10 at the key `10`, has the key `29`, and lacks two other keys.
 fn has_ten(value: &Value) -> bool {
     match value {
         Value::Map(map) => {

@@ -1,4 +1,4 @@
--- How two shapes differ.
+-- The differences of two shapes.
 use Rattle.std.specs.Prelude.{◌≡◌, ◌≢◌, ◌<◌, length, Result, Ok, Err}
 use Rattle.jt_image.specs.declared.kind.Flaw.{Flaw}
 use Rattle.jt_image.specs.declared.kind.Flaw.TheVariants as flaw
@@ -7,22 +7,22 @@ use Rattle.jt_image.specs.Typed.{max_entries}
 use Rattle.jt_verify.specs.declared.refusal.Refusal.{Refusal}
 use Rattle.jt_verify.specs.declared.refusal.Refusal.TheVariants as refusal
 
--- a shape of more entries than a shape may have
+-- A shape has more entries than a shape may have.
 abbrev pub IsTooDeep : Shape → Flaw → Type 0
-IsTooDeep s f = (f ≡ flaw.TooDeep) × (max_entries < length s)
+IsTooDeep shape f = (f ≡ flaw.TooDeep) × (max_entries < length shape)
 
--- shapes of other lengths, or of one length with other kinds
+-- Two shapes differ in their lengths, or have equal lengths and different kinds.
 abbrev pub DifferBy : Shape → Shape → Flaw → Type 0
-DifferBy l r flaw.DepthDiffers = length l ≢ length r
-DifferBy l r flaw.KindDiffers = (length l ≡ length r) × (l ≢ r)
-DifferBy l r f = ⊥
+DifferBy left right flaw.DepthDiffers = length left ≢ length right
+DifferBy left right flaw.KindDiffers = (length left ≡ length right) × (left ≢ right)
+DifferBy left right f = ⊥
 
--- shapes that meet are equal, or they differ
+-- Two shapes that meet are equal, or they differ by the flaw.
 abbrev pub Meets : Shape → Shape → Result (Unit {0}) Flaw → Type 0
-Meets l r (Ok u) = l ≡ r
-Meets l r (Err f) = DifferBy l r f
+Meets left right (Ok u) = left ≡ right
+Meets left right (Err f) = DifferBy left right f
 
--- the refusal says how they differ; the place is not known
+-- The refusal states how the shapes differ; it has no place.
 abbrev pub Differ : Shape → Shape → Refusal → Type 0
-Differ l r (refusal.Flaw f unit point) = (unit ≡ 0) × (point ≡ 0) × DifferBy l r f
-Differ l r refusal.NoMemory = ⊥
+Differ left right (refusal.Flaw f unit point) = (unit ≡ 0) × (point ≡ 0) × DifferBy left right f
+Differ left right refusal.NoMemory = ⊥

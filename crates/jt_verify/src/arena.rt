@@ -1,23 +1,26 @@
-//! The shapes of a unit, each kept once.
-ghost use Rattle.std.specs.Prelude.{◌≡◌, ℕ, List, ◌+◌, ◌-◌, ◌^◌, ◌<◌, ◌≤◌, [], ◌∷◌, ◌++◌, length, slice_get, slice_set, IfOk, OnOk, OnErr};
+//! Stores the shapes of a unit, each once.
+ghost use Rattle.std.specs.Prelude.{◌≡◌, ℕ, List, ◌+◌, ◌-◌, ◌^◌, ◌<◌, ◌≤◌, [], ◌∷◌, ◌++◌, length};
+ghost use Rattle.std.specs.Prelude.{slice_get, slice_set, IfOk, OnOk, OnErr};
 ghost use Rattle.jt_image.specs.Effect.{may_return, pushes};
 ghost use Rattle.jt_image.specs.Typed.{max_entries};
-ghost use Rattle.jt_verify.specs.Arena.{TellsEqual, shape_in, IsIn, Holds, IsAdded, IsKept, StandsFor, Pops, PopsMany, kind_of, lists_of, IsArena};
+ghost use Rattle.jt_verify.specs.internal.Arena.{TellsEqual, shape_in, IsIn, Holds, IsAdded};
+ghost use Rattle.jt_verify.specs.internal.Arena.{IsKept, StandsFor, Pops, PopsMany, kind_of};
+ghost use Rattle.jt_verify.specs.internal.Arena.{lists_of, IsArena};
 
 use crate::links::{
-    Entry, Handle, Link, Mark, Node, digits, find, is_same, jump_on, node_at, node_of,
+    Link, Node, NonValue, NonValueEntry, ShapeId, digits, find, is_same, jump_on, node_at, node_of,
 };
 use jt_image::{Flaw, Kind};
 use smallvec::SmallVec;
 use std::alloc::{AllocError, Global};
 use std::marker::Model;
 
-/// Shapes, each kept once. Contracts see the shape of each node.
+/// The shapes of a unit, each stored once. Contracts see the shape of each node.
 #[derive(Drop)]
 pub(crate) struct Arena {
     nodes: SmallVec<Node, 32>,
-    // three of each number of a node, and of 0: to the first mark on it, and to two further ones on
-    // what it stands on
+    // Three links for each node and for number 0. One leads to the first entry on the node, and two
+    // lead to further entries on the node below it.
     links: SmallVec<u32, 128>,
 }
 
@@ -27,7 +30,7 @@ impl Model for Arena {
 
     ghost Value = { List (List Kind) };
 
-    ghost use Rattle.jt_verify.specs.Arena.{lists_of, IsArena};
+    ghost use Rattle.jt_verify.specs.internal.Arena.{lists_of, IsArena};
 
     ghost view = { λ a. lists_of a.nodes.items };
 
@@ -35,7 +38,7 @@ impl Model for Arena {
 }
 
 impl Arena {
-    /// The arena of the empty shape.
+    /// Returns the arena of the empty shape.
     pub(crate) fn new(alloc: Global) -> Result<Arena, AllocError>
         ensures { IfOk result (λ a. a ≡ [] ∷ []) }
     {
@@ -45,8 +48,8 @@ impl Arena {
         })
     }
 
-    /// How many entries there are.
-    pub(crate) fn height(&self, shape: Handle) -> usize
+    /// Returns the number of entries of a shape.
+    pub(crate) fn height(&self, shape: ShapeId) -> usize
         requires { IsIn self.now shape }
         ensures length { result ≡ length (shape_in self.now shape) }
         ensures fits { result < 2 ^ 33 }
@@ -54,19 +57,19 @@ impl Arena {
         shape.values as usize + node_of(self.nodes.as_slice(), shape.node).height as usize
     }
 
-    /// Whether two shapes are equal.
-    pub(crate) fn is_equal(&self, left: Handle, right: Handle) -> bool
+    /// Returns whether two shapes are equal.
+    pub(crate) fn is_equal(&self, left: ShapeId, right: ShapeId) -> bool
         requires left { IsIn self.now left }
         requires right { IsIn self.now right }
         ensures { TellsEqual (shape_in self.now left) (shape_in self.now right) result }
     {
-        // Only read, so that the arena's law is known here.
+        // Read only so that the prover knows the arena's invariant here.
         let _nodes = &self.nodes;
         is_same(left, right)
     }
 
-    /// The entry at the top, and the shape below it.
-    pub(crate) fn pop(&self, shape: Handle) -> Option<(Kind, Handle)>
+    /// Returns the top entry of a shape, and the shape below it.
+    pub(crate) fn pop(&self, shape: ShapeId) -> Option<(Kind, ShapeId)>
         requires { IsIn self.now shape }
         ensures { Pops self.now (shape_in self.now shape) result }
     {
@@ -74,7 +77,7 @@ impl Arena {
         if shape.values > 0 {
             return Some((
                 Kind::Value,
-                Handle {
+                ShapeId {
                     values: shape.values - 1,
                     node: shape.node,
                 },
@@ -87,15 +90,15 @@ impl Arena {
         Some((node.mark.kind(), node.below))
     }
 
-    /// The shape below that many values.
-    pub(crate) fn pop_values(&self, shape: Handle, count: usize) -> Result<Handle, Flaw>
+    /// Returns the shape below the top `count` values, or a flaw if they are not all values.
+    pub(crate) fn pop_values(&self, shape: ShapeId, count: usize) -> Result<ShapeId, Flaw>
         requires { IsIn self.now shape }
         ensures { PopsMany self.now count (shape_in self.now shape) result }
     {
-        // Only read, so that the arena's law is known here.
+        // Read only so that the prover knows the arena's invariant here.
         let _nodes = &self.nodes;
         if count <= shape.values as usize {
-            return Ok(Handle {
+            return Ok(ShapeId {
                 values: shape.values - count as u32,
                 node: shape.node,
             });
@@ -106,28 +109,30 @@ impl Arena {
         Err(Flaw::WrongKind)
     }
 
-    /// That many values on top of a shape that they don't make too long.
-    pub(crate) fn push_values(&self, shape: Handle, count: u32) -> Handle
+    /// Returns a shape with `count` more values on top. It has at most one entry more than a shape
+    /// may have.
+    pub(crate) fn push_values(&self, shape: ShapeId, count: u32) -> ShapeId
         requires within { IsIn self.now shape }
         requires small { length (shape_in self.now shape) + count ≤ max_entries + 1 }
         ensures { Holds self.now result (pushes count (shape_in self.now shape)) }
     {
-        Handle {
+        ShapeId {
             values: shape.values + count,
             node: shape.node,
         }
     }
 
-    /// The kind of the entry that has so many entries above it.
-    pub(crate) fn kind_below(&self, shape: Handle, above: u32) -> Option<Kind>
+    /// Returns the kind of the entry that lies below `above` others.
+    pub(crate) fn kind_below(&self, shape: ShapeId, above: u32) -> Option<Kind>
         requires { IsIn self.now shape }
         ensures { result ≡ slice_get (shape_in self.now shape) above }
     {
         kind_in(self.nodes.as_slice(), shape, above)
     }
 
-    /// A mark on top of a shape that is not too long, with what was there before.
-    pub(crate) fn push(&mut self, shape: Handle, mark: Mark) -> Result<Handle, AllocError>
+    /// Pushes an entry that is not a value onto a shape that is not full. All earlier shapes are
+    /// kept.
+    pub(crate) fn push(&mut self, shape: ShapeId, mark: NonValue) -> Result<ShapeId, AllocError>
         requires within { IsIn self.old shape }
         requires small { length (shape_in self.old shape) < max_entries }
         ensures ok { IfOk result
@@ -136,12 +141,12 @@ impl Arena {
     {
         let height = self.height(shape) as u32 + 1;
         let node = push_in(&mut self.nodes, &mut self.links, shape, mark, height)?;
-        Ok(Handle { values: 0, node })
+        Ok(ShapeId { values: 0, node })
     }
 }
 
-// The kind of the entry that has so many entries above it, by the nodes of an arena.
-fn kind_in(nodes: &[Node], shape: Handle, above: u32) -> Option<Kind>
+// Returns the kind of the entry that lies below `above` others, from the nodes of an arena.
+fn kind_in(nodes: &[Node], shape: ShapeId, above: u32) -> Option<Kind>
     requires arena { (ls : List ℕ) × IsArena nodes.now ls }
     requires within { IsIn (lists_of nodes.now) shape }
     ensures { result ≡ slice_get (shape_in (lists_of nodes.now) shape) above }
@@ -157,7 +162,7 @@ fn kind_in(nodes: &[Node], shape: Handle, above: u32) -> Option<Kind>
         let between = node.height - node_of(nodes, node.jump.to).height;
         if under >= between {
             left = under - between;
-            rest = Handle {
+            rest = ShapeId {
                 values: 0,
                 node: node.jump.to,
             };
@@ -173,12 +178,12 @@ fn kind_in(nodes: &[Node], shape: Handle, above: u32) -> Option<Kind>
     }
 }
 
-// The node of a mark on a shape, which is added unless it is there.
+// Returns the number of the node for an entry on a shape. Adds the node unless it exists.
 fn push_in(
     nodes: &mut SmallVec<Node, 32>,
     links: &mut SmallVec<u32, 128>,
-    shape: Handle,
-    mark: Mark,
+    shape: ShapeId,
+    mark: NonValue,
     height: u32,
 ) -> Result<u32, AllocError>
     requires arena { IsArena nodes.old.items links.old.items }
@@ -192,7 +197,7 @@ fn push_in(
     match find(
         nodes.as_slice(),
         links.as_slice(),
-        Entry { mark, below: shape },
+        NonValueEntry { mark, below: shape },
         3 * shape.node as usize,
         digits(mark, shape.values),
     ) {
@@ -212,7 +217,7 @@ fn push_in(
     }
 }
 
-// One node more, to which the link at a place leads from now on. The answer is its number.
+// Adds a node, lets the link at `place` lead to it, and returns its number.
 fn add(
     nodes: &mut SmallVec<Node, 32>,
     links: &mut SmallVec<u32, 128>,

@@ -1,20 +1,25 @@
-//! Verifies codes: each point that is reached has one shape, and every instruction there is in
+//! Verifies codes: each reached point has one shape, and every instruction at such a point is in
 //! order.
 //!
-//! `verify` (checked) gives a `Verified`, the only thing that runs; the verifier follows each path
-//! (verifier), one instruction at a time (typing), with shapes kept once (shape, arena, links).
-//! Read first: jt_image's specs/Typed.antt, and verifier.rt.
+//! - verified: `verify` and `verify_view`, whose results are the only codes that run.
+//! - verifier: the worklist that follows each path through a unit.
+//! - effect: what one instruction does to a shape.
+//! - arena, links: the shapes of the verifier, each stored once and compared by its number.
+//! - shape: shapes as values and their `join`, for hosts; `verify` does not use them.
+//! - refusal: why a code is refused.
+//!
+//! Read first: specs/Typed.antt of jt_image, then verifier.rt.
 #![tactic(auto)]
 
 mod arena;
-mod checked;
+mod effect;
 mod links;
 mod refusal;
 mod shape;
-mod typing;
+mod verified;
 mod verifier;
 
-pub use checked::{Checked, Verified, VerifiedView, verify, verify_view};
 pub use jt_image::{Flaw, Kind};
 pub use refusal::Refusal;
 pub use shape::{Shape, join};
+pub use verified::{Checked, Verified, VerifiedView, verify, verify_view};

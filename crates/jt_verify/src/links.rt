@@ -1,63 +1,65 @@
-//! The nodes of an arena, and the links by which a node is found from the one that it stands on.
-ghost use Rattle.std.specs.Prelude.{◌≡◌, ◌≢◌, ◌+◌, ◌-◌, ◌*◌, ◌<◌, ◌≤◌, [], length, get_or, slice_get, Some, MatchBool};
-ghost use Rattle.jt_verify.specs.Arena.{kind_of, digit_of, lists_of, IsUnder, IsAt, AreJumps, AreLinks, Finding};
+//! Defines the nodes of an arena, and the links that lead to a node from the node below it.
+ghost use Rattle.std.specs.Prelude.{◌≡◌, ◌≢◌, ◌+◌, ◌-◌, ◌*◌, ◌<◌, ◌≤◌, [], length, get_or};
+ghost use Rattle.std.specs.Prelude.{slice_get, Some, MatchBool};
+ghost use Rattle.jt_verify.specs.internal.Arena.{kind_of, digit_of, lists_of, IsUnder, IsAt};
+ghost use Rattle.jt_verify.specs.internal.Arena.{AreJumps, AreLinks, Finding};
 
 use jt_image::Kind;
 
-/// An entry that is no value.
+/// An entry that is not a value.
 #[derive(Clone, Copy, PartialEq, Eq)]
-pub(crate) enum Mark {
+pub(crate) enum NonValue {
     Frame,
     Capture,
 }
 
-impl Mark {
-    /// The kind of the entry.
+impl NonValue {
+    /// Returns the kind of the entry.
     pub(crate) fn kind(self) -> Kind
         ensures { result ≡ kind_of self }
     {
         match self {
-            Mark::Frame => Kind::Frame,
-            Mark::Capture => Kind::Capture,
+            NonValue::Frame => Kind::Frame,
+            NonValue::Capture => Kind::Capture,
         }
     }
 }
 
-/// A shape of an arena: so many values on top of a node. Number 0 is no node: nothing lies below
-/// the values.
+/// The id of a shape in an arena: `values` values on top of a node. Number 0 is no node: then
+/// nothing lies below the values.
 #[derive(Clone, Copy)]
-pub(crate) struct Handle {
+pub(crate) struct ShapeId {
     pub(crate) values: u32,
     pub(crate) node: u32,
 }
 
-/// A way down: to a node further below, or to number 0, over so many nodes.
+/// A link down to a lower node, or to number 0. It descends `over` nodes.
 #[derive(Clone, Copy)]
-pub(crate) struct Jump {
+pub(crate) struct SkipLink {
     pub(crate) to: u32,
     pub(crate) over: u32,
 }
 
-/// An entry that is no value, the shape below it, the number of entries up to this one, and a way
-/// further down.
+/// A node: an entry that is not a value, the shape below it, the height up to and with the entry,
+/// and a skip link.
 #[derive(Clone, Copy)]
 pub(crate) struct Node {
-    pub(crate) mark: Mark,
-    pub(crate) below: Handle,
+    pub(crate) mark: NonValue,
+    pub(crate) below: ShapeId,
     pub(crate) height: u32,
-    pub(crate) jump: Jump,
+    pub(crate) jump: SkipLink,
 }
 
 impl Node {
-    // What stands for number 0.
+    // Returns the placeholder for number 0.
     fn none() -> Node
         ensures { (result.height ≡ 0) × (result.jump.to ≡ 0) }
     {
         Node {
-            mark: Mark::Frame,
-            below: Handle { values: 0, node: 0 },
+            mark: NonValue::Frame,
+            below: ShapeId { values: 0, node: 0 },
             height: 0,
-            jump: Jump { to: 0, over: 0 },
+            jump: SkipLink { to: 0, over: 0 },
         }
     }
 }
@@ -68,28 +70,28 @@ impl Default for Node {
     }
 }
 
-/// A mark on a shape.
+/// An entry that is not a value, on top of a shape.
 #[derive(Clone, Copy)]
-pub(crate) struct Entry {
-    pub(crate) mark: Mark,
-    pub(crate) below: Handle,
+pub(crate) struct NonValueEntry {
+    pub(crate) mark: NonValue,
+    pub(crate) below: ShapeId,
 }
 
-/// A node, or the place of the link that would lead to it.
+/// The result of a lookup: a node, or the index of the vacant link that would lead to it.
 #[derive(Clone, Copy)]
 pub(crate) enum Link {
     To(u32),
     Vacant(usize),
 }
 
-/// Whether two handles are the same.
-pub(crate) fn is_same(left: Handle, right: Handle) -> bool
+/// Returns whether two shape ids are equal.
+pub(crate) fn is_same(left: ShapeId, right: ShapeId) -> bool
     ensures { MatchBool result (left ≡ right) (left ≢ right) }
 {
     left.values == right.values && left.node == right.node
 }
 
-/// The node of a number.
+/// Returns the node of a number, counted from 1.
 pub(crate) fn node_at(nodes: &[Node], node: u32) -> Node
     requires some { 0 < node }
     requires within { node ≤ length nodes.now }
@@ -98,7 +100,7 @@ pub(crate) fn node_at(nodes: &[Node], node: u32) -> Node
     nodes[node as usize - 1]
 }
 
-/// The node of a number. Number 0 is none: no entries lead up to it, and no way leads down.
+/// Returns the node of a number. Number 0 has a placeholder with height 0 and no skip link down.
 pub(crate) fn node_of(nodes: &[Node], node: u32) -> Node
     requires { node ≤ length nodes.now }
     ensures { IsAt nodes.now node result }
@@ -109,9 +111,9 @@ pub(crate) fn node_of(nodes: &[Node], node: u32) -> Node
     node_at(nodes, node)
 }
 
-/// The way down for a new node on this one: two ways of one length become one, so that from any
-/// node a few steps lead to any node below.
-pub(crate) fn jump_on(nodes: &[Node], below: u32) -> Jump
+/// Returns the skip link for a new node on top of `below`. Two links of equal length merge into
+/// one, so that a few steps lead from any node to any node below it.
+pub(crate) fn jump_on(nodes: &[Node], below: u32) -> SkipLink
     requires within { below ≤ length nodes.now }
     requires jumps { AreJumps nodes.now }
     ensures older { result.to ≤ below }
@@ -120,15 +122,15 @@ pub(crate) fn jump_on(nodes: &[Node], below: u32) -> Jump
     let near = node_of(nodes, below).jump;
     let far = node_of(nodes, near.to).jump;
     if near.over == far.over {
-        return Jump {
+        return SkipLink {
             to: far.to,
             over: far.over.saturating_mul(2).saturating_add(1),
         };
     }
-    Jump { to: below, over: 1 }
+    SkipLink { to: below, over: 1 }
 }
 
-// The node to which a link leads, or 0.
+// Returns the number of the node to which a link leads, or 0.
 fn link_at(links: &[u32], place: usize) -> u32
     requires { place < length links.now }
     ensures { result ≡ get_or links.now place 0 }
@@ -136,31 +138,31 @@ fn link_at(links: &[u32], place: usize) -> u32
     links[place]
 }
 
-// Whether a node is this mark on this handle.
-fn is_entry(node: Node, wanted: Entry) -> bool
+// Returns whether a node is this entry on this shape.
+fn is_entry(node: Node, wanted: NonValueEntry) -> bool
     ensures { MatchBool result ((node.mark ≡ wanted.mark) × (node.below ≡ wanted.below))
         (node.mark ≡ wanted.mark → node.below ≢ wanted.below) }
 {
     node.mark == wanted.mark && is_same(node.below, wanted.below)
 }
 
-/// The digits by which a mark is looked up among those on one node: the mark's, then those of the
-/// number of values between.
-pub(crate) fn digits(mark: Mark, values: u32) -> usize
+/// Returns the binary digits by which an entry is looked up among those on one node. The lowest
+/// digit is its kind; the other digits are the number of values between.
+pub(crate) fn digits(mark: NonValue, values: u32) -> usize
     ensures { result ≡ 2 * values + digit_of mark }
 {
     match mark {
-        Mark::Frame => 2 * values as usize,
-        Mark::Capture => 2 * values as usize + 1,
+        NonValue::Frame => 2 * values as usize,
+        NonValue::Capture => 2 * values as usize + 1,
     }
 }
 
-/// Looks a mark on a shape up, from a place on: at each node that is another one, the next digit
-/// says by which link to go on.
+/// Looks up an entry on a shape, from the link at `place` on. At each node that is another entry,
+/// the next digit selects the link to follow.
 pub(crate) fn find(
     nodes: &[Node],
     links: &[u32],
-    wanted: Entry,
+    wanted: NonValueEntry,
     place: usize,
     digits: usize,
 ) -> Link

@@ -1,6 +1,6 @@
-//! Why a code is refused.
+//! Defines why a code is refused.
 ghost use Rattle.std.specs.Prelude.{◌≡◌};
-ghost use Rattle.jt_verify.specs.Names.{name_of};
+ghost use Rattle.jt_verify.specs.internal.Names.{name_of};
 ghost use Rattle.jt_verify.specs.declared.refusal.Refusal.TheVariants as refusals;
 
 use jt_image::Flaw;
@@ -8,7 +8,7 @@ use jt_value::NoMemory;
 use std::alloc::{AllocError, AllocFailed};
 use thiserror::Error;
 
-/// Why a code is refused: what is wrong, in which unit and at which point, or no memory.
+/// The reason why a code is refused: a flaw with its unit and point, or lack of memory.
 #[derive(Clone, Copy, Debug, PartialEq, Eq, Error)]
 pub enum Refusal {
     #[error("{name} unit {unit} point {point}", name = flaw_name(.flaw))]
@@ -21,7 +21,7 @@ pub enum Refusal {
     NoMemory,
 }
 
-// The code and the name of a flaw.
+// Returns the number, K1 to K9, and the name of a flaw.
 fn flaw_name(flaw: &Flaw) -> &'static str
     ensures { result.now ≡ name_of flaw.now }
 {

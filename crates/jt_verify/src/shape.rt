@@ -1,4 +1,5 @@
-//! Shapes: the kinds of the entries of an activation.
+//! Defines shapes as values for hosts: the kinds of the entries of an activation. The verifier
+//! compares those of arena.rt.
 ghost use Rattle.std.specs.Prelude.{◌≡◌, [], ◌∷◌, length, OnOk, OnErr, MatchResult};
 ghost use Rattle.jt_verify.specs.Differing.{Differ};
 
@@ -9,10 +10,10 @@ use smallvec::SmallVec;
 use std::alloc::Global;
 use std::marker::Model;
 
-/// The kinds of the entries. Contracts see the top first.
+/// The kinds of the entries of an activation. Contracts see the top first.
 #[derive(Drop)]
 pub struct Shape {
-    // the top is last; none until an allocator comes with the first entry
+    // The top is last; `None` until the first entry comes with an allocator.
     entries: Option<SmallVec<Kind, 32>>,
 }
 
@@ -28,14 +29,14 @@ impl Model for Shape {
 }
 
 impl Shape {
-    /// No entries.
+    /// Returns the shape without entries.
     pub fn new() -> Shape
         ensures { result ≡ [] }
     {
         Shape { entries: None }
     }
 
-    /// How many entries there are.
+    /// Returns the number of entries.
     pub fn len(&self) -> usize
         ensures { result ≡ length self.now }
     {
@@ -45,7 +46,11 @@ impl Shape {
         }
     }
 
-    /// Puts an entry on top. Without memory nothing changes.
+    /// Pushes an entry.
+    ///
+    /// # Errors
+    ///
+    /// `NoMemory` if a growth was refused. The shape is then unchanged.
     pub fn push(&mut self, alloc: Global, kind: Kind) -> Result<(), NoMemory>
         ensures ok { OnOk result (self.new ≡ kind ∷ self.old) }
         ensures err { OnErr result (self.new ≡ self.old) }
@@ -62,8 +67,14 @@ impl Shape {
     }
 }
 
-/// Joins two paths that meet: their shapes have to be equal. `join` knows no place, so a refusal
-/// names unit 0 and point 0.
+/// Joins two paths that meet: their shapes must be equal.
+///
+/// # Errors
+///
+/// - `DepthDiffers` if the lengths differ.
+/// - `KindDiffers` if the lengths are equal and the kinds differ.
+///
+/// The refusal names unit 0 and point 0, since `join` knows no place.
 pub fn join(left: &Shape, right: &Shape) -> Result<(), Refusal>
     ensures { MatchResult result (λ _. left.now ≡ right.now) (λ e. Differ left.now right.now e) }
 {

@@ -1,46 +1,47 @@
-//! The verifier: it follows each path through a unit, and keeps the shape of each point that it
-//! comes to.
+//! Verifies a code: follows each path through a unit, and keeps the shape of each reached point.
 ghost use Rattle.std.specs.Prelude.{◌≡◌, ◌<◌, ◌≤◌, ◌++◌, length, IfOk, IfErr, OnOk};
 ghost use Rattle.std.specs.List.{AllByRecursion};
 ghost use Rattle.jt_image.specs.IsCode.{IsCode};
 ghost use Rattle.jt_image.specs.Typed.{IsTyped, max_entries};
-ghost use Rattle.jt_verify.specs.Arena.{shape_in, IsIn, IsKept};
+ghost use Rattle.jt_verify.specs.internal.Arena.{shape_in, IsIn, IsKept};
 ghost use Rattle.jt_verify.specs.Differing.{Meets};
-ghost use Rattle.jt_verify.specs.Working.{IsUnit, WorksOn, IsTypedAt, WorksFrom, Arriving, StepsOn, IsBehind, path_in, table_in, IsInIf, handles_sent, left_of, left_from, Refuses};
+ghost use Rattle.jt_verify.specs.internal.Working.{IsUnit, WorksOn, IsTypedAt, WorksFrom, Arriving};
+ghost use Rattle.jt_verify.specs.internal.Working.{StepsOn, IsBehind, path_in, table_in, IsInIf};
+ghost use Rattle.jt_verify.specs.internal.Working.{handles_sent, left_of, left_from, Refuses};
 ghost use Rattle.jt_verify.specs.Refusing.{RefusalHolds};
 
 use crate::arena::Arena;
-use crate::links::Handle;
+use crate::effect::{EffectError, InstrContext, Successors};
+use crate::links::ShapeId;
 use crate::refusal::Refusal;
-use crate::typing::{At, EffectError, Leads};
 use jt_image::{Code, Flaw, MAX_ENTRIES, UnitHeader};
 use std::alloc::{AllocError, Global};
 
-/// A shape that comes to a point.
+/// A shape that waits at a point to be followed.
 #[derive(Clone, Copy)]
-pub(crate) struct Path {
+pub(crate) struct WorkItem {
     pub(crate) point: usize,
-    pub(crate) shape: Handle,
+    pub(crate) shape: ShapeId,
 }
 
-/// What is known of a unit while it is verified: its shapes, the one of each point that has one,
-/// and the paths that are still to be followed.
+/// The state of a unit's verification: its shapes, the shape of each point that has one, and the
+/// worklist of the paths to follow.
 #[derive(Drop)]
-pub(crate) struct Work {
+pub(crate) struct Dataflow {
     pub(crate) arena: Arena,
-    pub(crate) shapes: Vec<Option<Handle>>,
-    pub(crate) paths: Vec<Path>,
+    pub(crate) shapes: Vec<Option<ShapeId>>,
+    pub(crate) worklist: Vec<WorkItem>,
 }
 
-/// What is behind an instruction: a shape, and where it comes.
+/// The state after an instruction: a shape, and the points that it reaches.
 #[derive(Clone, Copy)]
-pub(crate) struct After {
-    pub(crate) shape: Handle,
-    pub(crate) leads: Leads,
+pub(crate) struct OutState {
+    pub(crate) shape: ShapeId,
+    pub(crate) leads: Successors,
 }
 
-// Whether two shapes that meet are equal, and how they differ otherwise.
-fn meets(arena: &Arena, known: Handle, shape: Handle) -> Result<(), Flaw>
+// Checks that two shapes that meet at a point are equal. The flaw states how they differ.
+fn check_join(arena: &Arena, known: ShapeId, shape: ShapeId) -> Result<(), Flaw>
     requires known { IsIn arena.now known }
     requires shape { IsIn arena.now shape }
     ensures { Meets (shape_in arena.now known) (shape_in arena.now shape) result }
@@ -54,12 +55,13 @@ fn meets(arena: &Arena, known: Handle, shape: Handle) -> Result<(), Flaw>
     Err(Flaw::DepthDiffers)
 }
 
-// Whether a path's shape is known at its point, which is new otherwise.
-fn arrive(
+// Returns whether a path's shape is already known at its point. Otherwise the point is new. Refuses
+// a shape that is too long, or that differs from the known one.
+fn is_known_at(
     arena: &Arena,
-    shapes: &[Option<Handle>],
+    shapes: &[Option<ShapeId>],
     unit: usize,
-    path: Path,
+    path: WorkItem,
 ) -> Result<bool, Refusal>
     requires point { path.point < length shapes.now }
     requires shape { IsIn arena.now path.shape }
@@ -77,20 +79,20 @@ fn arrive(
     let Some(known) = shapes[point] else {
         return Ok(false);
     };
-    match meets(arena, known, path.shape) {
+    match check_join(arena, known, path.shape) {
         Ok(()) => Ok(true),
         Err(flaw) => Err(Refusal::Flaw { flaw, unit, point }),
     }
 }
 
-// The shape behind the instruction at a point, and where it comes.
+// Returns the shape after the instruction at a point, and the points that it reaches.
 fn step<C: Code>(
     arena: &mut Arena,
     code: &C,
     unit: usize,
     header: &UnitHeader,
-    path: Path,
-) -> Result<After, Refusal>
+    path: WorkItem,
+) -> Result<OutState, Refusal>
     requires unit { IsUnit (C.code code.now) unit header.now }
     requires point { path.point < header.now.instructions }
     requires shape { IsIn arena.old path.shape }
@@ -103,7 +105,7 @@ fn step<C: Code>(
     let Some(instruction) = code.instruction(unit, point) else {
         unreachable!()
     };
-    let at = At {
+    let at = InstrContext {
         arena,
         header,
         point,
@@ -125,43 +127,49 @@ fn step<C: Code>(
         None => found.shape,
         Some(mark) => arena.push(found.shape, mark)?,
     };
-    Ok(After { shape, leads })
+    Ok(OutState { shape, leads })
 }
 
-// Sends a shape on to each point that is led to; the next one is followed first.
-fn send(paths: &mut Vec<Path>, leads: Leads, shape: Handle) -> Result<(), AllocError>
-    ensures { OnOk result (paths.new.items ≡ paths.old.items ++ handles_sent leads shape) }
+// Pushes a shape to the worklist for each successor. The next point comes last, so it is followed
+// first.
+fn push_successors(
+    worklist: &mut Vec<WorkItem>,
+    leads: Successors,
+    shape: ShapeId,
+) -> Result<(), AllocError>
+    ensures { OnOk result (worklist.new.items ≡ worklist.old.items ++ handles_sent leads shape) }
 {
     if let Some(point) = leads.target {
-        paths.push(Path { point, shape })?;
+        worklist.push(WorkItem { point, shape })?;
     }
     if let Some(point) = leads.next {
-        paths.push(Path { point, shape })?;
+        worklist.push(WorkItem { point, shape })?;
     }
     Ok(())
 }
 
-// Follows a path one instruction on, where its point is new.
+// Follows a path over one instruction, if its point is new.
 fn follow<C: Code>(
-    work: &mut Work,
+    work: &mut Dataflow,
     code: &C,
     unit: usize,
     header: &UnitHeader,
-    path: Path,
+    path: WorkItem,
 ) -> Result<(), Refusal>
     requires unit { IsUnit (C.code code.now) unit header.now }
     requires works { WorksFrom (C.code code.now) unit work.old path }
-    ensures ok { OnOk result (WorksOn (C.code code.now) unit work.new work.new.paths.items) }
-    ensures less { OnOk result (left_of work.new work.new.paths.items < left_from work.old path) }
+    ensures ok { OnOk result (WorksOn (C.code code.now) unit work.new work.new.worklist.items) }
+    ensures less { OnOk result
+        (left_of work.new work.new.worklist.items < left_from work.old path) }
     ensures err { IfErr result (Refuses (C.code code.now) unit) }
 {
-    let is_known = arrive(&work.arena, &work.shapes, unit, path)?;
+    let is_known = is_known_at(&work.arena, &work.shapes, unit, path)?;
     if is_known {
         return Ok(());
     }
     let after = step(&mut work.arena, code, unit, header, path)?;
     work.shapes[path.point] = Some(path.shape);
-    send(&mut work.paths, after.leads, after.shape)?;
+    push_successors(&mut work.worklist, after.leads, after.shape)?;
     Ok(())
 }
 
@@ -183,29 +191,28 @@ fn verify_unit<C: Code>(
             point: 0,
         });
     }
-    let mut work = Work {
+    let mut work = Dataflow {
         arena: Arena::new(alloc)?,
         shapes: vec![in alloc; None; header.instructions]?,
-        paths: Vec::new(alloc),
+        worklist: Vec::new(alloc),
     };
-    work.paths.push(Path {
+    work.worklist.push(WorkItem {
         point: 0,
-        shape: Handle { values: 0, node: 0 },
+        shape: ShapeId { values: 0, node: 0 },
     })?;
-    'paths: while let Some(path) = work.paths.pop() {
+    'worklist: while let Some(path) = work.worklist.pop() {
         follow(&mut work, code, unit, header, path)?;
     }
     Ok(())
 }
 
-/// Accepts a code exactly where it is in order. Every unit is verified, from the first on, called
-/// or not.
+/// Accepts a code exactly if it is in order. Verifies every unit from the first on, called or not.
 pub(crate) fn verify_code<C: Code>(alloc: Global, code: &C) -> Result<(), Refusal>
-    // A code that is accepted is typed.
+    // An accepted code is typed.
     ensures ok { OnOk result (IsTyped (C.code code.now)) }
-    // A refusal holds.
+    // A refusal holds of the code.
     ensures err { IfErr result (λ r. RefusalHolds (C.code code.now) r) }
-    // A typed code is refused only for want of memory.
+    // A typed code is refused only for lack of memory.
     ensures exact { IfErr result (λ r. IsTyped (C.code code.now) → r ≡ Refusal.NoMemory) }
     ensures whole { IsCode (C.code code.now) }
 {

@@ -3,15 +3,21 @@ use Rattle.clap.specs.Words.{App, new_app, with_subcommand}
 use Rattle.jt_args.specs.Line.{check_app, compile_app, render_app, run_app, turns_app, upgrade_app}
 use Rattle.jt_args.proofs.grammar.program.Goals as goal
 
--- the program without its commands
+-- The program without its commands.
 abbrev bare : App
 bare = let a = new_app (codes "jt") in record a {
-  top = record a.top { no_binary_name = true; disable_help_subcommand = true; subcommand_required = true };
+  top =
+      record
+      a.top { no_binary_name = true; has_version = true; disable_help_subcommand = true; subcommand_required = true };
 }
 
--- with the commands of the table
+-- A program with the commands of the table added.
 abbrev with_all : App → App
-with_all a = with_subcommand (with_subcommand (with_subcommand (with_subcommand (with_subcommand (with_subcommand a compile_app.top) check_app.top) run_app.top) render_app.top) turns_app.top) upgrade_app.top
+with_all a =
+    with_subcommand (with_subcommand (with_subcommand
+    (with_subcommand (with_subcommand (with_subcommand a compile_app.top) check_app.top) run_app.top) render_app.top)
+    turns_app.top)
+    upgrade_app.top
 
 pub returns : goal.returns
 returns c = search (arith, rules)

@@ -8,15 +8,20 @@ use Rattle.jt_args.proofs.line.asked.Goals as goal
 use Rattle.jt_args.proofs.line.asked.Goals.{in_default-via-in-Some+in_default, in_default-via-in_default}
 
 pub render_job-requires-clause-numbers : goal.render_job-requires-clause-numbers
-render_job-requires-clause-numbers c = at_rows HasNumbers (subcommand_rows_of c.args.matches.now) _ c.in-Some-render-default.ensures.rows c.requires.numbers
+render_job-requires-clause-numbers c =
+    at_rows HasNumbers (subcommand_rows_of c.args.matches.now) _ c.in-Some-render-default.ensures.rows
+    c.requires.numbers
 
 pub turns_job-requires-clause-numbers : goal.turns_job-requires-clause-numbers
-turns_job-requires-clause-numbers c = at_rows HasNumbers (subcommand_rows_of c.args.matches.now) _ c.in-Some-turns-default.ensures.rows c.requires.numbers
+turns_job-requires-clause-numbers c =
+    at_rows HasNumbers (subcommand_rows_of c.args.matches.now) _ c.in-Some-turns-default.ensures.rows c.requires.numbers
 
 pub returns-in-Some-turns-default-clause-err : goal.returns-in-Some-turns-default-clause-err
 returns-in-Some-turns-default-clause-err c =
-    let is : subcommand_rows_of c.args.matches.now ≡ Some (codes "turns", rows_of (found_of c.in-Some-turns-default.found.now)) = search rules in
-    IfErr-weaker c.turns_job.result _ _ (λ e h. usage_weaker _ _ e (λ unpaired paired. unpaired (subst ArePaired is paired refl)) h) c.turns_job.ensures.err
+    let is : subcommand_rows_of c.args.matches.now
+    ≡ Some (codes "turns", rows_of (found_of c.in-Some-turns-default.found.now)) = search rules in
+    IfErr-weaker c.turns_job.result _ _
+    (λ e h. usage_weaker _ _ e (λ unpaired paired. unpaired (subst ArePaired is paired refl)) h) c.turns_job.ensures.err
 
 pub unreachable-unreachable : goal.unreachable-unreachable
 unreachable-unreachable c = search (arith, rules, no_other, no_name)

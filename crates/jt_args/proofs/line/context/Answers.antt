@@ -7,4 +7,6 @@ pub returns-in_ok-from_str-in-Some : goal.returns-in_ok-from_str-in-Some
 returns-in_ok-from_str-in-Some c = search (arith, rules, first_value-rows)
 
 pub returns-in-None : goal.returns-in-None
-returns-in-None c = sym (ap (option_map (λ (s : Bor (List ℕ)). s.now)) c.in-None.is) ∙ (c.get_str.ensures ∙ first_value-rows (found_of c.args.found.now) (codes "CONTEXT"))
+returns-in-None c =
+    sym (ap (option_map (λ (s : Bor (List ℕ)). s.now)) c.in-None.is)
+    ∙ (c.get_str.ensures ∙ first_value-rows (found_of c.args.found.now) (codes "CONTEXT"))

@@ -1,6 +1,8 @@
 use Rattle.std.proofs.Common.{◌≡◌, ◌++◌, map, drop, string_bytes}
-use Rattle.jt_chains.specs.Pages.{pages_view}
+use Rattle.jt_chains.specs.TemplateFiles.{files_view}
 use Rattle.jt_bind.proofs.program_names.template_names.Given as goal
 
-abbrev pub invariant-loop-page : goal.invariant-loop-page
-invariant-loop-page l = map string_bytes l.strings.items ++ map (λ t. t.name) (pages_view (drop l.page-index l.pages)) ≡ map (λ t. t.name) (pages_view l.pages)
+abbrev pub invariant-loop-file : goal.invariant-loop-file
+invariant-loop-file l =
+    map string_bytes l.strings.items ++ map (λ t. t.name) (files_view (drop l.file-index l.files))
+    ≡ map (λ t. t.name) (files_view l.files)

@@ -1,5 +1,5 @@
 use Rattle.std.proofs.Common.{arith, rules}
-use Rattle.jt_bind.proofs.Made.{program_is}
+use Rattle.jt_bind.proofs.ProgramParts.{program_is}
 use Rattle.jt_bind.proofs.resolving.resolved.Goals as goal
 
 pub returns : goal.returns

@@ -1,12 +1,12 @@
 use Rattle.std.proofs.Common.{◌+◌, ◌++◌, map, drop, ap, ◌∙◌, arith, rules}
 use Rattle.jt_chains.specs.Parts.{block_view}
 use Rattle.jt_chains.specs.View.{chain_view}
-use Rattle.jt_meaning.specs.Layout.{numbered_bodies}
-use Rattle.jt_meaning.specs.Programs.{body_routines}
-use Rattle.jt_trees.specs.Texts.{texts}
-use Rattle.jt_bind.specs.Scoped.{world_in, order_in, home_in, templates_in}
-use Rattle.jt_bind.proofs.Routing.{routines_both, routines_left}
-use Rattle.jt_bind.proofs.Numbered.{numbered_end, block_routine}
+use Rattle.jt_semantics.specs.Layout.{numbered_bodies}
+use Rattle.jt_semantics.specs.Programs.{body_routines}
+use Rattle.jt_ast.specs.Texts.{texts}
+use Rattle.jt_bind.specs.internal.Scoped.{cenv_in, order_in, namespace_in, templates_in}
+use Rattle.jt_bind.proofs.RoutineConcatenation.{routines_both, routines_left}
+use Rattle.jt_bind.proofs.NumberedBodies.{numbered_end, block_routine}
 use Rattle.jt_bind.proofs.routines.resolve_blocks.Goals as goal
 
 pub returns : goal.returns
@@ -16,6 +16,12 @@ pub loop-place-preserved : goal.loop-place-preserved
 loop-place-preserved c = λ left.
     let l = c.loop-place in
     let scope = c.args.tables.now in
-    let all = ap (map (block_view (chain_view scope.chain.now).templates)) c.deref-block-items.ensures.value ∙ c.here-here.ensures.all_blocks in
-    routines_both (templates_in scope) _ _ (body_routines (world_in scope) (order_in scope) (home_in scope) (drop (l.place + 1) (numbered_bodies (world_in scope) (home_in scope))) ++ left) _ _ _ _ _ _ (l.invariant left)
-    (block_routine scope c.deref-block-items.result.now all l.place c.block-item.result _ left _ _ _ _ _ c.loop-place-test.true c.block-item.is (ap texts c.in_ok-parameters.ensures.items ∙ c.block_parameters.ensures) c.in_ok-resolve_routine.ensures c.in_ok-push.ensures.items)
+    let all = ap (map (block_view (chain_view scope.chain.now).templates)) c.deref-block-items.ensures.value
+    ∙ c.here-here.ensures.all_blocks in
+    routines_both (templates_in scope) _ _ (body_routines (cenv_in scope) (order_in scope) (namespace_in scope)
+    (drop (l.place + 1) (numbered_bodies (cenv_in scope) (namespace_in scope)))
+    ++ left) _ _ _ _ _ _
+    (l.invariant left)
+    (block_routine scope c.deref-block-items.result.now all l.place c.block-item.result _ left _ _ _ _ _
+    c.loop-place-test.true c.block-item.is (ap texts c.in_ok-parameters.ensures.items ∙ c.block_parameters.ensures)
+    c.in_ok-resolve_routine.ensures c.in_ok-push.ensures.items)

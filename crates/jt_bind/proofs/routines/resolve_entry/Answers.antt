@@ -1,6 +1,6 @@
 use Rattle.std.proofs.Common.{sym, ◌∙◌, arith, rules}
-use Rattle.jt_bind.specs.Scoped.{world_in, order_in, home_in, templates_in}
-use Rattle.jt_bind.proofs.Routing.{no_entry, one_entry}
+use Rattle.jt_bind.specs.internal.Scoped.{cenv_in, order_in, namespace_in, templates_in}
+use Rattle.jt_bind.proofs.RoutineConcatenation.{no_entry, one_entry}
 use Rattle.jt_bind.proofs.routines.resolve_entry.Goals as goal
 
 pub returns-then-here : goal.returns-then-here
@@ -9,5 +9,6 @@ returns-then-here c = search (arith, rules, no_entry)
 pub returns : goal.returns
 returns c =
     let scope = c.args.tables.now in
-    let laid = c.here-here.ensures in
-    one_entry (templates_in scope) (world_in scope) (order_in scope) (home_in scope) (sym laid.kind ∙ c.if-here.false) _ _ _ _ _ c.in_ok-resolve_chain.ensures c.in_ok-push.ensures.items
+    let namespace_layout = c.here-here.ensures in
+    one_entry (templates_in scope) (cenv_in scope) (order_in scope) (namespace_in scope)
+    (sym namespace_layout.kind ∙ c.if-here.false) _ _ _ _ _ c.in_ok-resolve_chain.ensures c.in_ok-push.ensures.items

@@ -3,10 +3,10 @@ use Rattle.std.proofs.lemmas.List.{at_drop_all}
 use Rattle.jt_chains.specs.Layers.{layer_view}
 use Rattle.jt_chains.specs.View.{chain_view}
 use Rattle.jt_chains.specs.declared.layers.Layer.{Layer}
-use Rattle.jt_meaning.specs.Resolve.{followed, resolved_chain}
-use Rattle.jt_bind.specs.Scoped.{world_in, order_in, home_in, templates_in}
-use Rattle.jt_bind.proofs.LeadingBodies.{lead_both, lead_of, lead_left, led_of}
-use Rattle.jt_bind.proofs.Chained.{layers_turn, root_here}
+use Rattle.jt_semantics.specs.Resolve.{followed, resolved_chain}
+use Rattle.jt_bind.specs.internal.Scoped.{cenv_in, order_in, namespace_in, templates_in}
+use Rattle.jt_bind.proofs.BodyConcatenation.{lead_both, lead_of, lead_left, led_of}
+use Rattle.jt_bind.proofs.ChainTemplates.{layers_turn, root_here}
 use Rattle.jt_bind.proofs.routines.resolve_layers.Goals as goal
 
 pub returns : goal.returns
@@ -14,7 +14,10 @@ returns c = λ left.
     let l = c.loop-place in
     let scope = c.args.tables.now in
     lead_left (templates_in scope) _ _ _ _ _ _ _
-    (at_drop_all (λ (z : List Layer). followed (resolved_chain (world_in scope) (order_in scope) (home_in scope) (map (layer_view (chain_view scope.chain.now).templates) z)) left) c.args.layers.now l.place (omega arith)) (l.invariant left)
+    (at_drop_all (λ (z : List Layer). followed (resolved_chain (cenv_in scope) (order_in scope) (namespace_in scope)
+    (map (layer_view (chain_view scope.chain.now).templates) z)) left)
+    c.args.layers.now l.place (omega arith))
+    (l.invariant left)
 
 pub loop-place-preserved : goal.loop-place-preserved
 loop-place-preserved c = search (arith, rules, lead_both, lead_of, layers_turn, root_here, led_of)

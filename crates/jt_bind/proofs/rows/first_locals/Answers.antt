@@ -1,12 +1,12 @@
 use Rattle.std.proofs.Common.{◌+◌, ◌<◌, length, drop, sym, append-nil, arith}
 use Rattle.std.proofs.lemmas.List.{at_drop_all}
-use Rattle.jt_resolved.specs.Slots.{variable, local}
-use Rattle.jt_resolved.specs.declared.program.Slot.TheVariants as s
-use Rattle.jt_resolved.specs.declared.program.SlotExpr.TheVariants as e
-use Rattle.jt_meaning.specs.Resolve as resolve
-use Rattle.jt_bind.proofs.Calling.{locals_next}
-use Rattle.jt_bind.proofs.LeadingRows.{of_whole, of_left, row_both, row_item}
-use Rattle.jt_resolved.proofs.ExpressionViews.{view_Variable}
+use Rattle.jt_ir.specs.Slots.{variable, local}
+use Rattle.jt_ir.specs.declared.program.Slot.TheVariants as s
+use Rattle.jt_ir.specs.declared.program.SlotExpr.TheVariants as e
+use Rattle.jt_semantics.specs.Resolve as resolve
+use Rattle.jt_bind.proofs.CalleeResolution.{locals_next}
+use Rattle.jt_bind.proofs.RowConcatenation.{of_whole, of_left, row_both, row_item}
+use Rattle.jt_ir.proofs.ExpressionViews.{view_Variable}
 use Rattle.jt_bind.proofs.rows.first_locals.Goals as goal
 
 pub returns : goal.returns
@@ -20,5 +20,6 @@ loop-local-preserved c = λ xs p n.
     let lt : l.local < length xs = omega arith in
     row_both _ _ _ _ _ _ _ _ _ (l.invariant xs p n)
     (of_whole _ _ _ _ _ _ _ (locals_next xs l.local lt)
-    (row_item (variable (local l.local)) (resolve.first_locals (l.local + 1) (drop (l.local + 1) xs)) (e.Variable (s.Local l.local)) l.row.items _ p p
+    (row_item (variable (local l.local)) (resolve.first_locals (l.local + 1) (drop (l.local + 1) xs))
+    (e.Variable (s.Local l.local)) l.row.items _ p p
     (record { shown = view_Variable (s.Local l.local); pooled = sym (append-nil p) }) c.in_ok-push.ensures.items))

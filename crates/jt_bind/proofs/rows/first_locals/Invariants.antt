@@ -1,9 +1,11 @@
 use Rattle.std.proofs.Common.{◌≡◌, List, [], length, drop}
 use Rattle.jt_value.specs.Tree.{Tree}
-use Rattle.jt_trees.specs.Expressions.{Text}
-use Rattle.jt_meaning.specs.Resolve as resolve
-use Rattle.jt_bind.specs.Scoped.{RowLeads}
+use Rattle.jt_ast.specs.Expressions.{Text}
+use Rattle.jt_semantics.specs.Resolve as resolve
+use Rattle.jt_bind.specs.internal.Scoped.{RowLeads}
 use Rattle.jt_bind.proofs.rows.first_locals.Given as goal
 
 abbrev pub invariant-loop-local : goal.invariant-loop-local
-invariant-loop-local l = (xs : List Text) (p : List Tree) → length xs ≡ l.count → RowLeads (resolve.first_locals 0 xs) (resolve.first_locals l.local (drop l.local xs)) [] l.row.items p p
+invariant-loop-local l =
+    (xs : List Text) (p : List Tree) → length xs ≡ l.count
+    → RowLeads (resolve.first_locals 0 xs) (resolve.first_locals l.local (drop l.local xs)) [] l.row.items p p

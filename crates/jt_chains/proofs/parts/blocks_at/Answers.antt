@@ -1,5 +1,5 @@
 use Rattle.std.proofs.Common.{arith, rules}
-use Rattle.jt_chains.proofs.Placed.{along_turn}
+use Rattle.jt_chains.proofs.TemplatesByIndex.{along_turn}
 use Rattle.jt_chains.proofs.parts.blocks_at.Goals as goal
 
 pub loop-place-preserved : goal.loop-place-preserved

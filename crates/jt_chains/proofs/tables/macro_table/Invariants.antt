@@ -1,7 +1,7 @@
 use Rattle.std.proofs.Common.{◌≡◌, ◌≤◌, length, drop}
 use Rattle.std.specs.BTreeMap.{get_by_text}
-use Rattle.jt_trees.specs.Expressions.{Text}
-use Rattle.jt_trees.specs.StatementView.{body_view}
+use Rattle.jt_ast.specs.Expressions.{Text}
+use Rattle.jt_ast.specs.StatementView.{body_view}
 use Rattle.jt_chains.specs.Tables.{macro_place}
 use Rattle.jt_chains.proofs.tables.macro_table.Given as goal
 

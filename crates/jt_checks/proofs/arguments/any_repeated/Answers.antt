@@ -1,7 +1,7 @@
 use Rattle.std.proofs.Common.{sym, ◌∙◌, get_or, arith, rules}
-use Rattle.jt_trees.specs.Texts.{texts}
-use Rattle.jt_checks.specs.Standing.{is_among}
-use Rattle.jt_checks.proofs.Sets.{again_none, again_step, again_here, from_not, from_not_false, nameless}
+use Rattle.jt_ast.specs.Texts.{texts}
+use Rattle.jt_checks.specs.internal.ScopeLookup.{is_among}
+use Rattle.jt_checks.proofs.NameSets.{again_none, again_step, again_here, from_not, from_not_false, nameless}
 use Rattle.jt_checks.proofs.arguments.any_repeated.Goals as goal
 
 pub loop-name-init : goal.loop-name-init
@@ -13,5 +13,7 @@ loop-name-preserved c = search (arith, rules, from_not, get_or, nameless, again_
 pub returns-then-not-branch : goal.returns-then-not-branch
 returns-then-not-branch c =
     let l = c.loop-name in
-    let old = from_not_false c.in_ok-insert.field-0 (is_among l.seen (get_or c.args.names.now l.name-index nameless).now) c.in_ok-insert.ensures.added c.if-not-branch.true in
+    let old = from_not_false c.in_ok-insert.field-0
+    (is_among l.seen (get_or c.args.names.now l.name-index nameless).now) c.in_ok-insert.ensures.added
+    c.if-not-branch.true in
     sym (again_here l.seen c.args.names.now l.name-index nameless c.loop-name-test.true old) ∙ l.invariant

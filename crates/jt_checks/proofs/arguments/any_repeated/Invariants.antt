@@ -1,6 +1,6 @@
 use Rattle.std.proofs.Common.{◌≡◌, drop}
-use Rattle.jt_trees.specs.Texts.{repeated, texts}
-use Rattle.jt_checks.proofs.Sets.{again}
+use Rattle.jt_ast.specs.Texts.{repeated, texts}
+use Rattle.jt_checks.proofs.NameSets.{again}
 use Rattle.jt_checks.proofs.arguments.any_repeated.Given as goal
 
 abbrev pub invariant-loop-name : goal.invariant-loop-name

@@ -1,14 +1,15 @@
 use Rattle.std.proofs.Common.{length, ◌∙◌, ap}
-use Rattle.jt_trees.specs.ExpressionView.{exprs_view, pairs_view}
-use Rattle.jt_trees.specs.StatementView.{parameters_view}
+use Rattle.jt_ast.specs.ExpressionView.{exprs_view, pairs_view}
+use Rattle.jt_ast.specs.StatementView.{parameters_view}
 use Rattle.jt_chains.specs.Uses.{count, keywords}
 use Rattle.jt_rules.specs.Walk as rules
-use Rattle.jt_trees.specs.Texts.{texts}
-use Rattle.jt_checks.proofs.Fits.{equal_ok, fits_is, too_many, named_well}
+use Rattle.jt_ast.specs.Texts.{texts}
+use Rattle.jt_checks.proofs.ArgumentsFit.{equal_ok, fits_is, too_many, named_well}
 use Rattle.jt_checks.proofs.arguments.fits.Goals as goal
 
 pub returns-then-parameters-row : goal.returns-then-parameters-row
-returns-then-parameters-row c = too_many c.args.parameters.now c.args.row.now (keywords (pairs_view c.args.pairs.now)) c.if-parameters-row.true
+returns-then-parameters-row c =
+    too_many c.args.parameters.now c.args.row.now (keywords (pairs_view c.args.pairs.now)) c.if-parameters-row.true
 
 pub returns : goal.returns
 returns c =
@@ -16,4 +17,7 @@ returns c =
     let row = c.args.row.now in
     let ns = texts c.deref.result.now in
     let ks = keywords (pairs_view c.args.pairs.now) in
-    equal_ok c.names_fit.result (named_well ps (length row) ns) (rules.fits (parameters_view ps) (count (exprs_view row)) ks) (fits_is ps row ks ns c.if-parameters-row.false (ap texts c.deref.ensures.value ∙ c.in_ok-names.ensures)) c.names_fit.ensures
+    equal_ok c.names_fit.result (named_well ps (length row) ns)
+    (rules.fits (parameters_view ps) (count (exprs_view row)) ks)
+    (fits_is ps row ks ns c.if-parameters-row.false (ap texts c.deref.ensures.value ∙ c.in_ok-names.ensures))
+    c.names_fit.ensures

@@ -1,5 +1,5 @@
 use Rattle.std.proofs.Common.{arith, rules}
-use Rattle.jt_checks.proofs.Filled.{last_reached, none_reached}
+use Rattle.jt_checks.proofs.FilledParameters.{last_reached, none_reached}
 use Rattle.jt_checks.proofs.arguments.reached.Goals as goal
 
 pub returns-then-is_given-clause-value : goal.returns-then-is_given-clause-value

@@ -1,11 +1,14 @@
 use Rattle.std.proofs.Common.{◌≡◌, ◌≤◌, length, drop, false}
-use Rattle.jt_trees.specs.StatementView as parsed
-use Rattle.jt_evaluation.specs.Filters.{some_given}
-use Rattle.jt_trees.specs.Texts.{texts}
+use Rattle.jt_ast.specs.StatementView as parsed
+use Rattle.jt_eval.specs.Filters.{some_given}
+use Rattle.jt_ast.specs.Texts.{texts}
 use Rattle.jt_checks.proofs.arguments.reached.Given as goal
 
 abbrev pub invariant-loop-last : goal.invariant-loop-last
-invariant-loop-last l = record { within : l.last ≤ length l.parameters; none : some_given (parsed.parameters_view (drop l.last l.parameters)) (texts l.names) ≡ false }
+invariant-loop-last l = record {
+  within : l.last ≤ length l.parameters;
+  none : some_given (parsed.parameters_view (drop l.last l.parameters)) (texts l.names) ≡ false;
+}
 
 abbrev pub decreases-loop-last : goal.decreases-loop-last
 decreases-loop-last l = l.last

@@ -1,11 +1,12 @@
 use Rattle.std.proofs.Common.{◌≡◌, ◌+◌, ◌-◌, ◌^◌, ◌<◌, min, drop}
-use Rattle.jt_trees.specs.Texts.{texts}
+use Rattle.jt_ast.specs.Texts.{texts}
 use Rattle.jt_rules.specs.Rules.{libraries_counted}
-use Rattle.jt_checks.specs.Standing.{world_in}
+use Rattle.jt_checks.specs.internal.ScopeLookup.{cenv_in}
 use Rattle.jt_checks.proofs.checking.count_in_libraries.Given as goal
 
 abbrev pub invariant-loop-library : goal.invariant-loop-library
 invariant-loop-library l = record {
   within : l.count < 2 ^ 64;
-  left : min (l.count + libraries_counted (world_in l.chain) (texts (drop l.library-index l.libraries))) (2 ^ 64 - 1) ≡ min (libraries_counted (world_in l.chain) (texts l.libraries)) (2 ^ 64 - 1);
+  left : min (l.count + libraries_counted (cenv_in l.chain) (texts (drop l.library-index l.libraries))) (2 ^ 64 - 1)
+      ≡ min (libraries_counted (cenv_in l.chain) (texts l.libraries)) (2 ^ 64 - 1);
 }

@@ -1,8 +1,9 @@
 use Rattle.std.proofs.Common.{length, sym, ap, ◌∙◌}
-use Rattle.jt_checks.specs.Standing.{world_in}
-use Rattle.jt_checks.proofs.Turns.{texts_length}
+use Rattle.jt_checks.specs.internal.ScopeLookup.{cenv_in}
+use Rattle.jt_checks.proofs.LoopSteps.{texts_length}
 use Rattle.jt_checks.proofs.checking.count_in_library.Goals as goal
 
 pub returns : goal.returns
-unfolding world_in
-returns c = c.len.ensures.len ∙ sym (texts_length c.in_ok-library_names.field-0.keys) ∙ ap length c.in_ok-library_names.ensures
+unfolding cenv_in
+returns c =
+    c.len.ensures.len ∙ sym (texts_length c.in_ok-library_names.field-0.keys) ∙ ap length c.in_ok-library_names.ensures

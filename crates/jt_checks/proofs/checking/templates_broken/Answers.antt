@@ -1,30 +1,38 @@
 use Rattle.std.proofs.Common.{◌+◌, drop, sym, ap, ◌∙◌}
 use Rattle.std.proofs.lemmas.List.{at_drop_all}
-use Rattle.jt_trees.specs.StatementView.{body_view}
+use Rattle.jt_ast.specs.StatementView.{body_view}
 use Rattle.jt_chains.specs.View.{chain_view}
 use Rattle.jt_rules.specs.Walk as rules
-use Rattle.jt_checks.specs.ScopeView.{its_world, its_home}
-use Rattle.jt_checks.proofs.Turns.{page_broken, shown_layers, its_layers, layers_left, some_first}
+use Rattle.jt_checks.specs.internal.ScopeView.{its_cenv, its_namespace}
+use Rattle.jt_checks.proofs.LoopSteps.{file_broken, shown_layers, its_layers, layers_left, some_first}
 use Rattle.jt_checks.proofs.checking.templates_broken.Goals as goal
 
 pub returns-in-Some : goal.returns-in-Some
 returns-in-Some c =
     let s = c.args.scope.now in
-    let world = its_world s in
-    let home = its_home s in
+    let cenv = its_cenv s in
+    let namespace = its_namespace s in
     let ts = (chain_view s.chain.now).templates in
     let ls = c.deref-layer-items.result.now in
     let i = c.loop-layer.layer-index in
     let l = c.layer-item.result in
-    some_first (page_broken world home (body_view l.body.now)) (rules.templates_broken world home (shown_layers ts (drop (i + 1) ls))) c.in-Some.rule (sym c.in_ok-rule.ensures ∙ c.in-Some.is)
-    ∙ sym (layers_left world home ts ls i l c.loop-layer-test.true c.layer-item.is) ∙ c.loop-layer.invariant
-    ∙ ap (λ z. rules.templates_broken world home (shown_layers ts z)) c.deref-layer-items.ensures.value ∙ ap (rules.templates_broken world home) (its_layers s.chain.now s.home c.in_ok-layers.layers.items (c.in_ok-layers.ensures.there s.stands))
+    some_first (file_broken cenv namespace (body_view l.body.now))
+    (rules.templates_broken cenv namespace (shown_layers ts (drop (i + 1) ls))) c.in-Some.rule
+    (sym c.in_ok-rule.ensures ∙ c.in-Some.is)
+    ∙ sym (layers_left cenv namespace ts ls i l c.loop-layer-test.true c.layer-item.is) ∙ c.loop-layer.invariant
+    ∙ ap (λ z. rules.templates_broken cenv namespace (shown_layers ts z)) c.deref-layer-items.ensures.value
+    ∙ ap (rules.templates_broken cenv namespace)
+    (its_layers s.chain.now s.namespace c.in_ok-layers.layers.items (c.in_ok-layers.ensures.there s.stands))
 
 pub returns : goal.returns
 returns c =
     let s = c.args.scope.now in
-    let world = its_world s in
-    let home = its_home s in
+    let cenv = its_cenv s in
+    let namespace = its_namespace s in
     let ts = (chain_view s.chain.now).templates in
-    sym (at_drop_all (λ z. rules.templates_broken world home (shown_layers ts z)) c.deref-layer-items.result.now c.loop-layer.layer-index c.loop-layer-test.false) ∙ c.loop-layer.invariant
-    ∙ ap (λ z. rules.templates_broken world home (shown_layers ts z)) c.deref-layer-items.ensures.value ∙ ap (rules.templates_broken world home) (its_layers s.chain.now s.home c.in_ok-layers.layers.items (c.in_ok-layers.ensures.there s.stands))
+    sym (at_drop_all (λ z. rules.templates_broken cenv namespace (shown_layers ts z)) c.deref-layer-items.result.now
+    c.loop-layer.layer-index c.loop-layer-test.false)
+    ∙ c.loop-layer.invariant
+    ∙ ap (λ z. rules.templates_broken cenv namespace (shown_layers ts z)) c.deref-layer-items.ensures.value
+    ∙ ap (rules.templates_broken cenv namespace)
+    (its_layers s.chain.now s.namespace c.in_ok-layers.layers.items (c.in_ok-layers.ensures.there s.stands))

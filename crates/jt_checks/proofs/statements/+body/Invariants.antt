@@ -1,13 +1,13 @@
 use Rattle.std.proofs.Common.{◌≡◌, ◌+◌, ◌*◌, max, drop}
 use denote.Param.Weighed.{most}
-use Rattle.jt_trees.specs.declared.statement.Stmt.{size-Stmt}
-use Rattle.jt_trees.proofs.Left.{Branch}
-use Rattle.jt_trees.specs.StatementView as parsed
+use Rattle.jt_ast.specs.declared.statement.Stmt.{size-Stmt}
+use Rattle.jt_ast.proofs.RemainingParts.{Branch}
+use Rattle.jt_ast.specs.StatementView as parsed
 use Rattle.jt_rules.specs.Walk as rules
-use Rattle.jt_checks.specs.ScopeView.{its_world, its_home, within_view}
+use Rattle.jt_checks.specs.internal.ScopeView.{its_cenv, its_namespace, within_view}
 use Rattle.jt_checks.proofs.statements.+body.Given as goal
 
--- ---- how deep the statements are that are left, and who hands its own on
+-- ---- measures: the depth of the remaining statements, and the order of the calls
 
 abbrev pub decreases-statement_broken : goal.decreases-statement_broken
 decreases-statement_broken l = 6 * size-Stmt l.statement.now
@@ -25,12 +25,22 @@ abbrev pub decreases-turns_broken : goal.decreases-turns_broken
 decreases-turns_broken l = 6 * max (most (λ x. size-Stmt x) l.inside.now) (most (λ x. size-Stmt x) l.otherwise.now) + 2
 
 abbrev pub decreases-choice_broken : goal.decreases-choice_broken
-decreases-choice_broken l = 6 * max (most (λ (b : Branch). most (λ x. size-Stmt x) b.body.items) l.branches.now) (most (λ x. size-Stmt x) l.other.now) + 3
+decreases-choice_broken l =
+    6 * max (most (λ (b : Branch). most (λ x. size-Stmt x) b.body.items) l.branches.now)
+    (most (λ x. size-Stmt x) l.other.now)
+    + 3
 
--- ---- what is left
+-- ---- the remaining items
 
 abbrev pub invariant-branches_broken-loop-condition : goal.invariant-branches_broken-loop-condition
-invariant-branches_broken-loop-condition l = rules.branches_broken (its_world l.scope) (its_home l.scope) (parsed.branches_view (drop l.condition-index l.branches)) (within_view l.within) ≡ rules.branches_broken (its_world l.scope) (its_home l.scope) (parsed.branches_view l.branches) (within_view l.within)
+invariant-branches_broken-loop-condition l =
+    rules.branches_broken (its_cenv l.scope) (its_namespace l.scope)
+    (parsed.branches_view (drop l.condition-index l.branches)) (within_view l.within)
+    ≡ rules.branches_broken (its_cenv l.scope) (its_namespace l.scope) (parsed.branches_view l.branches)
+    (within_view l.within)
 
 abbrev pub invariant-body_broken-loop-statement : goal.invariant-body_broken-loop-statement
-invariant-body_broken-loop-statement l = rules.body_broken (its_world l.scope) (its_home l.scope) (parsed.body_view (drop l.statement-index l.body)) (within_view l.within) ≡ rules.body_broken (its_world l.scope) (its_home l.scope) (parsed.body_view l.body) (within_view l.within)
+invariant-body_broken-loop-statement l =
+    rules.body_broken (its_cenv l.scope) (its_namespace l.scope) (parsed.body_view (drop l.statement-index l.body))
+    (within_view l.within)
+    ≡ rules.body_broken (its_cenv l.scope) (its_namespace l.scope) (parsed.body_view l.body) (within_view l.within)

@@ -1,5 +1,5 @@
 use Rattle.std.proofs.Common.{drop}
-use Rattle.jt_codegen.specs.Statements.{Closes}
+use Rattle.jt_codegen.specs.internal.Statements.{Closes}
 use Rattle.jt_codegen.proofs.emission.close_all.Given as goal
 
 abbrev pub invariant-loop-at : goal.invariant-loop-at

@@ -1,5 +1,5 @@
 use Rattle.std.proofs.Common.{arith, rules}
-use Rattle.jt_names.proofs.Inserted.{key_inserted}
+use Rattle.jt_names.proofs.SortedNames.{key_inserted}
 use Rattle.jt_codegen.proofs.places.add_template.Goals as goal
 
 pub returns-in_ok-insert : goal.returns-in_ok-insert

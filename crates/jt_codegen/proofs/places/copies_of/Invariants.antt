@@ -1,5 +1,5 @@
 use Rattle.std.proofs.Common.{◌≡◌, ◌++◌, drop}
-use Rattle.jt_trees.specs.Texts.{texts}
+use Rattle.jt_ast.specs.Texts.{texts}
 use Rattle.jt_image.specs.View.{texts_view}
 use Rattle.jt_codegen.proofs.places.copies_of.Given as goal
 

@@ -1,5 +1,5 @@
 use Rattle.std.proofs.Common.{arith, rules}
-use Rattle.jt_codegen.proofs.Telling.{named_more}
+use Rattle.jt_codegen.proofs.PlaceTables.{named_more}
 use Rattle.jt_codegen.proofs.places.named_templates.Goals as goal
 
 pub loop-tag-preserved : goal.loop-tag-preserved

@@ -7,13 +7,14 @@ use Rattle.jt_image.specs.declared.parts.Parts.{Parts}
 use Rattle.jt_image.specs.declared.version.Version.TheVariants as version
 use Rattle.jt_image.specs.Parts.{each_of, section_of_unit}
 use Rattle.jt_constants.specs.Merged.{constant_of, each_once, new_places}
-use Rattle.jt_constants.proofs.Sizes.{units_len}
-use Rattle.jt_resolved.specs.View.{routine_view, templates_of}
-use Rattle.jt_resolved.specs.declared.program.Routine.{Routine}
+use Rattle.jt_constants.specs.Refusals.{RefusesTable}
+use Rattle.jt_constants.proofs.MergeIsNoLarger.{units_len}
+use Rattle.jt_ir.specs.View.{routine_view, templates_of}
+use Rattle.jt_ir.specs.declared.program.Routine.{Routine}
 use Rattle.jt_lower.specs.Lower.{unit_of}
 use Rattle.std.proofs.lemmas.List.{length-map, with_items_is}
-use Rattle.jt_codegen.proofs.Merging.{ps}
-use Rattle.jt_codegen.proofs.Tabled.{numbered_len, units_refused, parts_are}
+use Rattle.jt_codegen.proofs.MergedUnitsFit.{ps}
+use Rattle.jt_codegen.proofs.ProgramTables.{numbered_len, parts_are, table_refused, units_refused}
 use Rattle.jt_codegen.proofs.tables.parts_of.Goals as goal
 
 pub returns-then-len-gt-MAX_COUNT-clause-refused : goal.returns-then-len-gt-MAX_COUNT-clause-refused
@@ -21,6 +22,14 @@ returns-then-len-gt-MAX_COUNT-clause-refused c = search (arith, rules, numbered_
 
 pub returns-clause-short : goal.returns-clause-short
 returns-clause-short c = search (arith, rules, units_len, ps)
+
+pub returns-in_err-table-clause-refused : goal.returns-in_err-table-clause-refused
+returns-in_err-table-clause-refused c =
+    let e = c.in_err-table.field-0.0 in
+    let p = err_from_is_err_and c.from_residual.result c.from_residual.ensures.1 in
+    let refused = subst (λ (vs : List Value). RefusesTable e (map constant_of (map view vs))) c.deref.ensures.value
+    c.in_err-table.ensures.refused in
+    rw (p.1, p.2) (table_refused e c.args.program.now refused)
 
 pub returns-in_err-code-clause-refused : goal.returns-in_err-code-clause-refused
 returns-in_err-code-clause-refused c = search (arith, rules, err_from_is_err_and, length-map, units_refused)
@@ -30,9 +39,13 @@ returns-clause-emitted c =
     let p = c.args.program.now in
     let ts = templates_of p in
     let code = c.in_ok-code.code in
-    let read = subst (λ (rs : List Routine). each_of section_of_unit code.units.items ≡ Some (map unit_of (map (routine_view ts) rs))) c.deref-2.ensures.value (c.in_ok-code.ensures.emitted ts) in
-    let at = c.deref-3.ensures.value ∙ c.in_ok-table.ensures.places ∙ ap (λ (vs : List Value). new_places (map constant_of (map view vs))) c.deref.ensures.value in
-    let once = c.in_ok-table.ensures.once ∙ ap (λ (vs : List Value). each_once (map constant_of (map view vs))) c.deref.ensures.value in
+    let read = subst
+    (λ (rs : List Routine). each_of section_of_unit code.units.items ≡ Some (map unit_of (map (routine_view ts) rs)))
+    c.deref-2.ensures.value (c.in_ok-code.ensures.emitted ts) in
+    let at = c.deref-3.ensures.value ∙ c.in_ok-table.ensures.places
+    ∙ ap (λ (vs : List Value). new_places (map constant_of (map view vs))) c.deref.ensures.value in
+    let once = c.in_ok-table.ensures.once
+    ∙ ap (λ (vs : List Value). each_once (map constant_of (map view vs))) c.deref.ensures.value in
     let parts : Parts = record {
       version = version.Two;
       globals = c.in-Ok.globals;
@@ -40,7 +53,11 @@ returns-clause-emitted c =
       constants = c.in_ok-table.table.constants;
       units = with_items code.units c.move_constants.new.units;
       templates = c.in_ok-named.named.templates;
-      spots = c.in_ok-named.named.spots;
+      places = c.in_ok-named.named.places;
     } in
-    let len : length c.move_constants.new.units ≡ code.units.len = omega (arith, c.move_constants.auto.units, ap length c.deref_mut.ensures.value, code.units.ok.0) in
-    parts_are p parts code.units.items c.deref-3.result.now read (λ us e. ap (each_of section_of_unit) (with_items_is code.units c.move_constants.new.units len) ∙ c.move_constants.ensures us (ap (each_of section_of_unit) c.deref_mut.ensures.value ∙ e)) at refl (search rules) (search rules) once (search rules) (search rules)
+    let len : length c.move_constants.new.units ≡ code.units.len =
+    omega (arith, c.move_constants.auto.units, ap length c.deref_mut.ensures.value, code.units.ok.0) in
+    parts_are p parts code.units.items c.deref-3.result.now read
+    (λ us e. ap (each_of section_of_unit) (with_items_is code.units c.move_constants.new.units len)
+    ∙ c.move_constants.ensures us (ap (each_of section_of_unit) c.deref_mut.ensures.value ∙ e)) at refl (search rules)
+    (search rules) once (search rules) (search rules)

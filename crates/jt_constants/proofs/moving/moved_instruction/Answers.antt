@@ -17,11 +17,15 @@ read_data n = refl
 pub returns-in-Some-Const : goal.returns-in-Some-Const
 returns-in-Some-Const c = λ i e.
     let places = c.args.places.now in
-    let known : op.Const c.in-Some-Const.constant ≡ i = sym c.in-Some-Const.field-0-is ∙ same_Some c.in-Some-Const.field-0 i (sym c.in-Some-Const.is ∙ c.instruction.ensures.table ∙ e) in
-    ap instruction_of c.wire.ensures ∙ read_const c.moved.result ∙ ap (λ n. Some (op.Const n)) c.moved.ensures ∙ ap (λ j. Some (with_places places j)) known
+    let known : op.Const c.in-Some-Const.constant ≡ i = sym c.in-Some-Const.field-0-is
+    ∙ same_Some c.in-Some-Const.field-0 i (sym c.in-Some-Const.is ∙ c.instruction.ensures.table ∙ e) in
+    ap instruction_of c.wire.ensures ∙ read_const c.moved.result ∙ ap (λ n. Some (op.Const n)) c.moved.ensures
+    ∙ ap (λ j. Some (with_places places j)) known
 
 pub returns-in-Some-Data : goal.returns-in-Some-Data
 returns-in-Some-Data c = λ i e.
     let places = c.args.places.now in
-    let known : op.Data c.in-Some-Data.constant ≡ i = sym c.in-Some-Data.field-0-is ∙ same_Some c.in-Some-Data.field-0 i (sym c.in-Some-Data.is ∙ c.instruction.ensures.table ∙ e) in
-    ap instruction_of c.wire-in-Some-Data.ensures ∙ read_data c.moved-in-Some-Data.result ∙ ap (λ n. Some (op.Data n)) c.moved-in-Some-Data.ensures ∙ ap (λ j. Some (with_places places j)) known
+    let known : op.Data c.in-Some-Data.constant ≡ i = sym c.in-Some-Data.field-0-is
+    ∙ same_Some c.in-Some-Data.field-0 i (sym c.in-Some-Data.is ∙ c.instruction.ensures.table ∙ e) in
+    ap instruction_of c.wire-in-Some-Data.ensures ∙ read_data c.moved-in-Some-Data.result
+    ∙ ap (λ n. Some (op.Data n)) c.moved-in-Some-Data.ensures ∙ ap (λ j. Some (with_places places j)) known

@@ -1,4 +1,5 @@
-use Rattle.std.proofs.Common.{◌≡◌, ◌∙◌, ◌++◌, ◌-◌, ◌<◌, ℤ, [], ◌∷◌, length, map, Option, Some, None, option_map, string_bytes, string_cmp, subst, w64, sym, ap, refl, arith, rules}
+use Rattle.std.proofs.Common.{◌≡◌, ◌∙◌, ◌++◌, ◌-◌, ◌<◌, ℤ, [], ◌∷◌, length, map, Option, Some, None, option_map}
+use Rattle.std.proofs.Common.{string_bytes, string_cmp, subst, w64, sym, ap, refl, arith, rules}
 use mir.Val.{to_z, of_z}
 use Rattle.std.specs.List.Sorted.{IsStrictlySortedBy}
 use Rattle.std.specs.Map.{keys_of}
@@ -13,10 +14,12 @@ use Rattle.jt_value.specs.Tree as tree
 use Rattle.jt_value.specs.Pairs.{pairs}
 use Rattle.jt_value.specs.View.{view}
 use Rattle.jt_contexts.specs.Json.{value_of, pairs_in}
-use Rattle.jt_contexts.specs.KeyOrder.{in_order}
+use Rattle.jt_contexts.specs.internal.KeyOrder.{in_order}
 use Rattle.jt_contexts.proofs.KeyOrder.{is_in_order, put_all-more}
-use Rattle.jt_contexts.proofs.Members.{one_more}
-use Rattle.jt_contexts.proofs.Turns.{all_items, before, converted-array, converted-object, entries_in, item_read, items_over, member_read, members_over, none_before, one_more_item, pairs-put, whole_data}
+use Rattle.jt_contexts.proofs.MemberValues.{one_more}
+use Rattle.jt_contexts.proofs.ParseSteps.{all_items, before, converted-array, converted-object, entries_in, item_read}
+use Rattle.jt_contexts.proofs.ParseSteps.{items_over, member_read, members_over, none_before, one_more_item, pairs-put}
+use Rattle.jt_contexts.proofs.ParseSteps.{whole_data}
 use Rattle.jt_contexts.proofs.reading.+read.Goals as goal
 
 pub read-returns-in_ok-text-in-String-clause-ok : goal.read-returns-in_ok-text-in-String-clause-ok
@@ -37,7 +40,9 @@ read-returns-in-Some-clause-ok t c =
     let same : to_z w64 (of_z w64 c.in-Some.number) ≡ c.in-Some.number = search rules in
     record {
       spelt = number whole.0;
-      read = ap (converted of_json) (ap (value c.args.depth) here ∙ value_is c.args.depth _) ∙ ap (λ (o : Option Num). option_map (λ (d : Data). (d, c.next.new.self)) (option_map number o)) whole.1;
+      read =
+          ap (converted of_json) (ap (value c.args.depth) here ∙ value_is c.args.depth _)
+          ∙ ap (λ (o : Option Num). option_map (λ (d : Data). (d, c.next.new.self)) (option_map number o)) whole.1;
       is = whole.2 ∙ ap (λ (z : ℤ). Some (tree.number z)) (sym same);
     }
 
@@ -64,7 +69,10 @@ read-returns-in-Null-clause-ok t c =
 pub read-returns-in_ok-list-in-BeginArray-clause-ok : goal.read-returns-in_ok-list-in-BeginArray-clause-ok
 read-returns-in_ok-list-in-BeginArray-clause-ok t c =
     let first : c.args.reader.now ≡ token_of c.in_ok-token.token ∷ c.next.new.self = grind arith in
-    let opened = ap (converted of_json) (ap (value c.args.depth) (first ∙ ap (λ k. token_of k ∷ c.next.new.self) c.in-BeginArray.is) ∙ value-begin_array c.args.depth c.next.new.self (omega arith)) ∙ converted-array (items (value (c.args.depth - 1)) (length c.next.new.self) c.next.new.self) in
+    let opened = ap (converted of_json) (ap (value c.args.depth)
+    (first ∙ ap (λ k. token_of k ∷ c.next.new.self) c.in-BeginArray.is)
+    ∙ value-begin_array c.args.depth c.next.new.self (omega arith))
+    ∙ converted-array (items (value (c.args.depth - 1)) (length c.next.new.self) c.next.new.self) in
     let found = c.in_ok-items-in-BeginArray.ensures.ok in
     record {
       spelt = array found.spelt;
@@ -72,15 +80,21 @@ read-returns-in_ok-list-in-BeginArray-clause-ok t c =
       is = ap (option_map tree.list) found.is ∙ ap Some (sym c.in_ok-list-in-BeginArray.ensures);
     }
 
-pub read-returns-in_ok-from_entries-in-BeginObject-clause-ok : goal.read-returns-in_ok-from_entries-in-BeginObject-clause-ok
+pub read-returns-in_ok-from_entries-in-BeginObject-clause-ok :
+    goal.read-returns-in_ok-from_entries-in-BeginObject-clause-ok
 read-returns-in_ok-from_entries-in-BeginObject-clause-ok t c =
     let first : c.args.reader.now ≡ token_of c.in_ok-token.token ∷ c.next.new.self = grind arith in
-    let opened = ap (converted of_json) (ap (value c.args.depth) (first ∙ ap (λ k. token_of k ∷ c.next.new.self) c.in-BeginObject.is) ∙ value-begin_object c.args.depth c.next.new.self (omega arith)) ∙ converted-object (members (value (c.args.depth - 1)) (length c.next.new.self) c.next.new.self) in
+    let opened = ap (converted of_json) (ap (value c.args.depth)
+    (first ∙ ap (λ k. token_of k ∷ c.next.new.self) c.in-BeginObject.is)
+    ∙ value-begin_object c.args.depth c.next.new.self (omega arith))
+    ∙ converted-object (members (value (c.args.depth - 1)) (length c.next.new.self) c.next.new.self) in
     let found = c.in_ok-members-in-BeginObject.ensures.ok in
     record {
       spelt = object found.spelt;
       read = opened ∙ ap (parse_map object) found.read;
-      is = ap (option_map tree.map) (entries_in found.spelt c.in_ok-members-in-BeginObject.members.items found.is) ∙ ap Some (sym c.in_ok-from_entries-in-BeginObject.ensures);
+      is =
+          ap (option_map tree.map) (entries_in found.spelt c.in_ok-members-in-BeginObject.members.items found.is)
+          ∙ ap Some (sym c.in_ok-from_entries-in-BeginObject.ensures);
     }
 
 pub read_items-items-init : goal.read_items-items-init
@@ -106,14 +120,17 @@ read_items-items-preserved t c =
     let less : length r < length l.reader = rw (← going.1) done.shorter in
     let d = done.ok.spelt in
     let turn = item_read p n l.reader r d (omega (arith, l.invariant.enough)) going.0 (rw (← going.1) done.ok.read) in
-    let now : map view c.push.new.self.items ≡ map view l.found.items ++ view v ∷ [] = ap (map view) c.in_ok-push.ensures.items ∙ map-append view l.found.items (v ∷ []) in
+    let now : map view c.push.new.self.items ≡ map view l.found.items ++ view v ∷ [] =
+    ap (map view) c.in_ok-push.ensures.items ∙ map-append view l.found.items (v ∷ []) in
     record {
       so_far = so_far ++ d ∷ [];
       turns = n - 1;
       enough = omega (arith, l.invariant.enough);
       read = l.invariant.read ∙ ap (parse_map (before so_far)) turn ∙ one_more_item so_far d _;
       shorter = omega (arith, l.invariant.shorter);
-      are = one_more value_of so_far (map view l.found.items) d (view v) l.invariant.are done.ok.is ∙ ap (map Some) (sym now);
+      are =
+          one_more value_of so_far (map view l.found.items) d (view v) l.invariant.are done.ok.is
+          ∙ ap (map Some) (sym now);
     }
 
 pub read_items-returns-clause-ok : goal.read_items-returns-clause-ok
@@ -150,13 +167,20 @@ read_members-members-preserved t c =
       so_far = put k d old;
       turns = n - 1;
       enough = omega (arith, l.invariant.enough);
-      read = l.invariant.read ∙ member_read p old n k l.reader s r d (omega (arith, l.invariant.enough)) named done.ok.read;
+      read =
+          l.invariant.read
+          ∙ member_read p old n k l.reader s r d (omega (arith, l.invariant.enough)) named done.ok.read;
       shorter = omega (arith, l.invariant.shorter);
-      are = ap (λ name. pairs_in (put name d old)) (sym copied) ∙ pairs-put old (in_order l.found.items) c.in_ok-key.key d v l.invariant.are done.ok.is ∙ ap (λ es. Some (pairs es)) (sym now);
+      are =
+          ap (λ name. pairs_in (put name d old)) (sym copied)
+          ∙ pairs-put old (in_order l.found.items) c.in_ok-key.key d v l.invariant.are done.ok.is
+          ∙ ap (λ es. Some (pairs es)) (sym now);
     }
 
 pub read_members-returns-clause-ok : goal.read_members-returns-clause-ok
 read_members-returns-clause-ok t c = search (arith, rules, members_over)
 
 pub read_members-returns-clause-ordered : goal.read_members-returns-clause-ordered
-read_members-returns-clause-ordered t c = subst (λ es. IsStrictlySortedBy string_cmp (keys_of es)) (sym c.in_ok-members.ensures) (is_in_order c.members.found.items)
+read_members-returns-clause-ordered t c =
+    subst (λ es. IsStrictlySortedBy string_cmp (keys_of es)) (sym c.in_ok-members.ensures)
+    (is_in_order c.members.found.items)

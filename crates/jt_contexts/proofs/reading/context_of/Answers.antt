@@ -1,10 +1,11 @@
-use Rattle.std.proofs.Common.{◌≡◌, ◌∙◌, ◌++◌, [], ◌∷◌, ap, append_assoc, append-nil, string_bytes, string_cmp, subst, sym, arith, rules}
+use Rattle.std.proofs.Common.{◌≡◌, ◌∙◌, ◌++◌, [], ◌∷◌, ap, append_assoc, append-nil, string_bytes, string_cmp, subst}
+use Rattle.std.proofs.Common.{sym, arith, rules}
 use Rattle.std.specs.List.Sorted.{IsStrictlySortedBy}
 use Rattle.std.specs.Map.{keys_of}
 use Rattle.jt_value.specs.Pairs.{Pairs, pairs, put}
 use Rattle.jt_value.specs.View.{view}
-use Rattle.jt_contexts.proofs.Members.{nil_of, unless_failed}
-use Rattle.jt_contexts.proofs.Turns.{Entry, put_last}
+use Rattle.jt_contexts.proofs.MemberValues.{nil_of, unless_failed}
+use Rattle.jt_contexts.proofs.ParseSteps.{Entry, put_last}
 use Rattle.jt_contexts.proofs.reading.context_of.Goals as goal
 
 pub loop-name-init : goal.loop-name-init
@@ -15,10 +16,14 @@ loop-name-preserved c =
     let done = c.loop-name.yielded in
     let m : Entry = (c.in-Some.name, c.in-Some.value) in
     let left = c.next.new.self.rest.items in
-    let all : c.args.members.items ≡ done ++ m ∷ left = c.loop-name.invariant.0 ∙ ap (λ es. done ++ es) c.in-Some.ensures.steps.0 in
+    let all : c.args.members.items ≡ done ++ m ∷ left =
+    c.loop-name.invariant.0 ∙ ap (λ es. done ++ es) c.in-Some.ensures.steps.0 in
     let ordered = subst (λ es. IsStrictlySortedBy string_cmp (keys_of es)) all c.requires in
-    let new = unless_failed c.insert.result _ c.if-is_err.ensures.value c.insert.ensures.ok in
-    (all ∙ sym (append_assoc done (m ∷ []) left), new ∙ ap (λ (ps : Pairs). put (string_bytes c.in-Some.name) (view c.in-Some.value) ps) c.loop-name.invariant.1 ∙ put_last done m left ordered)
+    let new = unless_failed c.insert.result _ c.if-is_err.ensures.value c.insert.ensures.ok in (
+      all ∙ sym (append_assoc done (m ∷ []) left),
+      new ∙ ap (λ (ps : Pairs). put (string_bytes c.in-Some.name) (view c.in-Some.value) ps) c.loop-name.invariant.1
+          ∙ put_last done m left ordered,
+    )
 
 pub returns : goal.returns
 returns c = search (arith, rules, nil_of)

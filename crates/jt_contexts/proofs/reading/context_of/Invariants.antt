@@ -4,4 +4,5 @@ use Rattle.jt_value.specs.Pairs.{pairs}
 use Rattle.jt_contexts.proofs.reading.context_of.Given as goal
 
 abbrev pub invariant-loop-name : goal.invariant-loop-name
-invariant-loop-name l = (l.fn.members.items ≡ l.yielded ++ l.name-iterator.rest.items) × (pairs_of l.context ≡ pairs l.yielded)
+invariant-loop-name l =
+    (l.fn.members.items ≡ l.yielded ++ l.name-iterator.rest.items) × (pairs_of l.context ≡ pairs l.yielded)

@@ -7,7 +7,7 @@ use Rattle.json.specs.Reads.{token_of}
 use Rattle.json.proofs.Grammar.{value-begin_object}
 use Rattle.serde_json.specs.Data.{object}
 use Rattle.serde_json.specs.Read.{of_json, converted}
-use Rattle.jt_contexts.proofs.Turns.{converted-object, whole_read}
+use Rattle.jt_contexts.proofs.ParseSteps.{converted-object, whole_read}
 use Rattle.jt_contexts.proofs.reading.read_context.Goals as goal
 
 pub returns : goal.returns

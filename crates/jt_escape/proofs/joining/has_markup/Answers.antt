@@ -14,4 +14,6 @@ any_markup (v ∷ vs) = ap (λ b. is_markup (view v) || b) (any_markup vs)
 pub returns : goal.returns
 returns c =
     let items = c.args.items.now in
-    any_from_yields_List (λ (v : Value). is_markup (view v)) _ _ _ c.any.ensures.ran (YieldsList-from_slice items cc) (λ x b q k. search (rules, tests)) ∙ any_markup items
+    any_from_yields_List (λ (v : Value). is_markup (view v)) _ _ _ c.any.ensures.ran (YieldsList-from_slice items cc)
+    (λ x b q k. search (rules, tests))
+    ∙ any_markup items

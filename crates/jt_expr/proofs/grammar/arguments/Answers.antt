@@ -1,5 +1,5 @@
 use Rattle.std.proofs.Common.{◌≡◌}
-use Rattle.jt_expr.proofs.Promised.{arguments_promised}
+use Rattle.jt_expr.proofs.ReaderContracts.{arguments_promised}
 use Rattle.jt_expr.proofs.grammar.arguments.Goals as goal
 
 pub returns : goal.returns

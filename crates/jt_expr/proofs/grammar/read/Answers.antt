@@ -1,5 +1,5 @@
 use Rattle.std.proofs.Common.{◌≡◌}
-use Rattle.jt_expr.proofs.Promised.{read_promised}
+use Rattle.jt_expr.proofs.ReaderContracts.{read_promised}
 use Rattle.jt_expr.proofs.grammar.read.Goals as goal
 
 pub returns : goal.returns

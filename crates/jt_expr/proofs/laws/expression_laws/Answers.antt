@@ -1,5 +1,5 @@
-use Rattle.jt_expr.proofs.Weighs.{spells_weighs}
-use Rattle.jt_expr.proofs.Short.{spells_short}
+use Rattle.jt_expr.proofs.TokenWeights.{spells_weighs}
+use Rattle.jt_expr.proofs.NameLengths.{spells_short}
 use Rattle.jt_expr.proofs.laws.expression_laws.Goals as goal
 
 pub returns : goal.returns

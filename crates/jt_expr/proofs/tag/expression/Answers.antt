@@ -1,4 +1,4 @@
-use Rattle.jt_expr.proofs.Exact.{answer_spelled, answers_only, answers_alone, answers_syntax, answers_deep}
+use Rattle.jt_expr.proofs.WholeTagExact.{answer_spelled, answers_only, answers_alone, answers_syntax, answers_deep}
 use Rattle.jt_expr.proofs.tag.expression.Goals as goal
 
 pub returns-clause-spelled : goal.returns-clause-spelled

@@ -1,12 +1,14 @@
 use Rattle.std.proofs.Common.{rules, ◌≡◌, ◌≤◌, ◌<◌, map, length, Err, arith, subst}
 use Rattle.jt_scan.specs.View.{token_view}
 use Rattle.jt_expr.specs.Cursor.{ahead}
-use Rattle.jt_expr.proofs.Exact.{OfAll, refused_before, left_over, all_read}
+use Rattle.jt_expr.proofs.WholeTagExact.{OfAll, refused_before, left_over, all_read}
 use Rattle.jt_expr.proofs.tag.read_all.Goals as goal
 
 pub returns-in_err-expr : goal.returns-in_err-expr
 returns-in_err-expr c =
-    let q : OfAll c.args.limit (map token_view c.args.tokens.now) (Err c.in_err-expr.field-0.0) = subst (λ z. OfAll c.args.limit z (Err c.in_err-expr.field-0.0)) c.new-rest.ensures (refused_before _ _ _ _ c.in_err-expr.ensures.promises) in
+    let q : OfAll c.args.limit (map token_view c.args.tokens.now) (Err c.in_err-expr.field-0.0) = subst
+    (λ z. OfAll c.args.limit z (Err c.in_err-expr.field-0.0)) c.new-rest.ensures
+    (refused_before _ _ _ _ c.in_err-expr.ensures.promises) in
     search rules
 
 pub returns-then-left-gt0 : goal.returns-then-left-gt0
@@ -18,4 +20,5 @@ pub returns : goal.returns
 returns c =
     let none : length (ahead c.read.new.cursor) ≤ 0 = omega (arith, c.left.ensures, c.if-left-gt0.false) in
     let same : c.into_inner.result ≡ c.in_ok-expr.field-0.expr.value = cc in
-    all_read _ _ _ c.in_ok-expr.field-0 c.into_inner.result (rw c.new-rest.ensures at c.in_ok-expr.ensures.promises) none same
+    all_read _ _ _ c.in_ok-expr.field-0 c.into_inner.result (rw c.new-rest.ensures at c.in_ok-expr.ensures.promises)
+    none same

@@ -1,7 +1,8 @@
 use Rattle.std.proofs.Common.{false, []}
 use Rattle.jt_value.specs.Tree as tree
-use Rattle.jt_filters.specs.Operands.{tree_of}
-use Rattle.jt_filters.proofs.Built.{built, kept, safe_text, escaped_text, once_text, join_of, list_of, distinct_of, sorted_of, reversed_of, pairs_of_map, sorted_map}
+use Rattle.jt_filters.specs.internal.Operands.{tree_of}
+use Rattle.jt_filters.proofs.BuiltPayloads.{built, kept, safe_text, escaped_text, once_text, join_of, list_of}
+use Rattle.jt_filters.proofs.BuiltPayloads.{distinct_of, sorted_of, reversed_of, pairs_of_map, sorted_map}
 use Rattle.jt_filters.proofs.building.build_one.Goals as goal
 
 pub returns-in-Capitalize : goal.returns-in-Capitalize
@@ -35,7 +36,8 @@ pub returns-in-Items : goal.returns-in-Items
 returns-in-Items c = rw c.in-Items.is (built _ _ (pairs_of_map _) c.items.ensures)
 
 pub returns-in-Join : goal.returns-in-Join
-returns-in-Join c = rw c.in-Join.is (built _ _ (join_of c.args.autoescape (tree.text []) (tree_of c.args.operand)) c.join.ensures)
+returns-in-Join c =
+    rw c.in-Join.is (built _ _ (join_of c.args.autoescape (tree.text []) (tree_of c.args.operand)) c.join.ensures)
 
 pub returns-in-List : goal.returns-in-List
 returns-in-List c = rw c.in-List.is (built _ _ (list_of _) c.list.ensures)

@@ -1,4 +1,4 @@
-use Rattle.jt_filters.proofs.Built.{built, replaced_of}
+use Rattle.jt_filters.proofs.BuiltPayloads.{built, replaced_of}
 use Rattle.jt_filters.proofs.building.build_three.Goals as goal
 
 pub returns-in-Replace : goal.returns-in-Replace

@@ -3,26 +3,45 @@ use Rattle.jt_value.specs.Falls.{sizes-items, sizes-entries}
 use Rattle.jt_value.specs.Tree.{items_size, entries_size}
 use Rattle.jt_value.specs.View.{view}
 use Rattle.jt_value.specs.declared.payload.ValueList.TheDeep.{size-Value}
-use Rattle.jt_filters.specs.Codes.{code}
+use Rattle.jt_filters.specs.internal.Codes.{code}
 use Rattle.jt_filters.proofs.RowsPut.{row_put}
 use Rattle.jt_filters.proofs.codes.+codes.Goals as goal
 
 pub push_value-push_items-requires : goal.push_value-push_items-requires
-push_value-push_items-requires t c =
-    (omega (arith, sizes-items c.items.result.now, ap items_size (c.items.ensures ∙ c.deref.ensures), ap size-Value c.in-List.is), tt)
+push_value-push_items-requires t c = (
+  omega (
+    arith,
+    sizes-items c.items.result.now,
+    ap items_size (c.items.ensures ∙ c.deref.ensures),
+    ap size-Value c.in-List.is,
+  ),
+  tt,
+)
 
 pub push_value-rows_of-requires : goal.push_value-rows_of-requires
-push_value-rows_of-requires t c =
-    (omega (arith, sizes-entries c.entries.result.now, ap entries_size (c.entries.ensures ∙ c.deref-in-Map.ensures), ap size-Value c.in-Map.is), tt)
+push_value-rows_of-requires t c = (
+  omega (
+    arith,
+    sizes-entries c.entries.result.now,
+    ap entries_size (c.entries.ensures ∙ c.deref-in-Map.ensures),
+    ap size-Value c.in-Map.is,
+  ),
+  tt,
+)
 
 pub rows_of-loop-left-preserved-in_ok-insert : goal.rows_of-loop-left-preserved-in_ok-insert
 rows_of-loop-left-preserved-in_ok-insert t c =
     let e = c.index-entries-left.result in
     record {
       inside = omega (arith, c.loop-left.invariant.inside);
-      same = row_put c.args.entries.now c.loop-left.left (c.loop-left.left - 1) e c.loop-left.rows.entries c.insert.new.self.entries c.as_str.result c.push_value.new.bytes
-          (omega (arith, c.loop-left-test.true)) (omega (arith, c.loop-left-test.true, c.loop-left.invariant.inside)) c.index-entries-left.is
-          c.in_ok-insert.ensures.entries c.as_str.ensures.value (c.in_ok-push_value.ensures ∙ ap (λ (s : List ℕ). s ++ code (view e.1)) c.new-bytes.ensures.items) c.loop-left.invariant.same;
+      same =
+          row_put c.args.entries.now c.loop-left.left (c.loop-left.left - 1) e c.loop-left.rows.entries
+          c.insert.new.self.entries c.as_str.result c.push_value.new.bytes
+          (omega (arith, c.loop-left-test.true)) (omega (arith, c.loop-left-test.true, c.loop-left.invariant.inside))
+          c.index-entries-left.is
+          c.in_ok-insert.ensures.entries c.as_str.ensures.value
+          (c.in_ok-push_value.ensures ∙ ap (λ (s : List ℕ). s ++ code (view e.1)) c.new-bytes.ensures.items)
+          c.loop-left.invariant.same;
     }
 
 pub rows_of-loop-left-preserved : goal.rows_of-loop-left-preserved
@@ -30,7 +49,12 @@ rows_of-loop-left-preserved t c =
     let e = c.index-entries-left.result in
     record {
       inside = omega (arith, c.loop-left.invariant.inside);
-      same = row_put c.args.entries.now c.loop-left.left (c.loop-left.left - 1) e c.loop-left.rows.entries c.insert.new.self.entries c.as_str.result c.push_value.new.bytes
-          (omega (arith, c.loop-left-test.true)) (omega (arith, c.loop-left-test.true, c.loop-left.invariant.inside)) c.index-entries-left.is
-          c.in_ok-insert.ensures.entries c.as_str.ensures.value (c.in_ok-push_value.ensures ∙ ap (λ (s : List ℕ). s ++ code (view e.1)) c.new-bytes.ensures.items) c.loop-left.invariant.same;
+      same =
+          row_put c.args.entries.now c.loop-left.left (c.loop-left.left - 1) e c.loop-left.rows.entries
+          c.insert.new.self.entries c.as_str.result c.push_value.new.bytes
+          (omega (arith, c.loop-left-test.true)) (omega (arith, c.loop-left-test.true, c.loop-left.invariant.inside))
+          c.index-entries-left.is
+          c.in_ok-insert.ensures.entries c.as_str.ensures.value
+          (c.in_ok-push_value.ensures ∙ ap (λ (s : List ℕ). s ++ code (view e.1)) c.new-bytes.ensures.items)
+          c.loop-left.invariant.same;
     }

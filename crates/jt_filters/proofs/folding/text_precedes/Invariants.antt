@@ -1,5 +1,5 @@
 use Rattle.std.proofs.Common.{◌≡◌, ◌≤◌, drop, length}
-use Rattle.jt_filter_meaning.specs.Ordering.{text_precedes}
+use Rattle.jt_filter_semantics.specs.Ordering.{text_precedes}
 use Rattle.jt_filters.proofs.folding.text_precedes.Given as goal
 
 abbrev pub invariant-loop-byte : goal.invariant-loop-byte

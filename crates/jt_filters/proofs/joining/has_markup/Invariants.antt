@@ -1,6 +1,6 @@
 use Rattle.std.proofs.Common.{◌≡◌}
-use Rattle.jt_op_meaning.specs.ItemOf.{items_count}
-use Rattle.jt_filters.specs.Operands.{items_in}
+use Rattle.jt_op_semantics.specs.ItemOf.{items_count}
+use Rattle.jt_filters.specs.internal.Operands.{items_in}
 use Rattle.jt_escape.specs.Joining.{has_markup}
 use Rattle.jt_filters.proofs.joining.has_markup.Given as goal
 

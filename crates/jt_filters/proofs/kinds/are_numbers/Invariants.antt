@@ -1,7 +1,7 @@
 use Rattle.std.proofs.Common.{◌≡◌}
-use Rattle.jt_op_meaning.specs.ItemOf.{items_count}
-use Rattle.jt_filter_meaning.specs.Kinds.{all_numbers}
-use Rattle.jt_filters.specs.Operands.{items_in}
+use Rattle.jt_op_semantics.specs.ItemOf.{items_count}
+use Rattle.jt_filter_semantics.specs.Kinds.{all_numbers}
+use Rattle.jt_filters.specs.internal.Operands.{items_in}
 use Rattle.jt_filters.proofs.kinds.are_numbers.Given as goal
 
 abbrev pub invariant-loop-item : goal.invariant-loop-item

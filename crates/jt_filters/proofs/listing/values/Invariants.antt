@@ -1,8 +1,8 @@
 use Rattle.std.proofs.Common.{◌≡◌}
 use Rattle.jt_value.specs.Payload.{joined_items}
 use Rattle.jt_value.specs.View.{items_view}
-use Rattle.jt_op_meaning.specs.ItemOf.{items_count}
-use Rattle.jt_filters.specs.Operands.{items_in}
+use Rattle.jt_op_semantics.specs.ItemOf.{items_count}
+use Rattle.jt_filters.specs.internal.Operands.{items_in}
 use Rattle.jt_filters.proofs.listing.values.Given as goal
 
 abbrev pub invariant-loop-item : goal.invariant-loop-item

@@ -1,8 +1,10 @@
-use Rattle.jt_filters.specs.Operands.{tree_of, items_in}
-use Rattle.jt_filters.specs.Rows.{gives}
-use Rattle.jt_filters.proofs.Rows.{behind_item_fault}
+use Rattle.jt_filters.specs.internal.Operands.{tree_of, items_in}
+use Rattle.jt_filters.specs.internal.Rows.{gives}
+use Rattle.jt_filters.proofs.ItemResults.{behind_item_fault}
 use Rattle.jt_filters.proofs.mapping.row_measure.Goals as goal
 
 pub returns-in-Err : goal.returns-in-Err
 returns-in-Err c =
-    behind_item_fault (gives c.args.change) (items_in c.loop-item.items) (items_in c.in-Some.behind) (tree_of c.in-Some.item) c.loop-item.size c.loop-item.nesting c.in-Err.fault _ c.in-Some.ensures.some c.in-Err.ensures c.loop-item.invariant.same
+    behind_item_fault (gives c.args.change) (items_in c.loop-item.items) (items_in c.in-Some.behind)
+    (tree_of c.in-Some.item) c.loop-item.size c.loop-item.nesting c.in-Err.fault _ c.in-Some.ensures.some
+    c.in-Err.ensures c.loop-item.invariant.same

@@ -1,5 +1,5 @@
 use Rattle.std.proofs.Common.{◌++◌, List, ℕ, ap, sym, ◌∙◌, string_bytes, append_assoc, arith, rules}
-use Rattle.jt_filter_meaning.specs.Texts.{replaced_behind}
+use Rattle.jt_filter_semantics.specs.Texts.{replaced_behind}
 use Rattle.jt_filters.proofs.Replacements.{replaced_step, behind_utf8, replaced_nowhere}
 use Rattle.jt_filters.proofs.replacing.replaced_text.Goals as goal
 
@@ -22,7 +22,8 @@ loop-front-preserved c =
     record {
       utf8 = behind_utf8 old s behind found.0 found.1 c.loop-front.invariant.utf8 found.2.1 found.4;
       same =
-          ap (λ (t : List ℕ). t ++ rest) (c.in_ok-push_str-2.ensures.bytes ∙ ap (λ (t : List ℕ). t ++ new) c.in_ok-push_str.ensures.bytes)
+          ap (λ (t : List ℕ). t ++ rest)
+          (c.in_ok-push_str-2.ensures.bytes ∙ ap (λ (t : List ℕ). t ++ new) c.in_ok-push_str.ensures.bytes)
           ∙ append_assoc (string_bytes c.loop-front.replaced ++ front) new rest
           ∙ append_assoc (string_bytes c.loop-front.replaced) front (new ++ rest)
           ∙ ap (λ (t : List ℕ). string_bytes c.loop-front.replaced ++ t) (sym e)

@@ -1,6 +1,6 @@
 use Rattle.std.proofs.Common.{◌≡◌, ◌++◌, length, string_bytes}
 use Rattle.std.specs.Str.{IsUtf8}
-use Rattle.jt_filter_meaning.specs.Texts.{replaced_behind}
+use Rattle.jt_filter_semantics.specs.Texts.{replaced_behind}
 use Rattle.jt_filters.proofs.replacing.replaced_text.Given as goal
 
 abbrev pub invariant-loop-front : goal.invariant-loop-front

@@ -1,9 +1,9 @@
 use Rattle.std.proofs.Common.{◌≡◌}
-use Rattle.jt_op_meaning.specs.ItemOf.{items_count}
-use Rattle.jt_filters.specs.Operands.{items_in}
+use Rattle.jt_op_semantics.specs.ItemOf.{items_count}
+use Rattle.jt_filters.specs.internal.Operands.{items_in}
 use Rattle.std.specs.Prelude.{Ok}
 use Rattle.std.proofs.Common.{pos}
-use Rattle.jt_filter_meaning.specs.Numbers.{sum_behind}
+use Rattle.jt_filter_semantics.specs.Numbers.{sum_behind}
 use Rattle.jt_filters.proofs.scalars.sum_of.Given as goal
 
 abbrev pub invariant-loop-item : goal.invariant-loop-item

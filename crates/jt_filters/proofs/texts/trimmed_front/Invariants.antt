@@ -1,6 +1,6 @@
 use Rattle.std.proofs.Common.{◌≡◌, drop}
 use Rattle.std.specs.Str.{IsCharBoundary}
-use Rattle.jt_filter_meaning.specs.Texts.{trimmed_front}
+use Rattle.jt_filter_semantics.specs.Texts.{trimmed_front}
 use Rattle.jt_filters.proofs.texts.trimmed_front.Given as goal
 
 abbrev pub invariant-loop-byte : goal.invariant-loop-byte

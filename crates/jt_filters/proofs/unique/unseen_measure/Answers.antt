@@ -1,5 +1,5 @@
 use Rattle.std.proofs.Common.{arith, rules}
-use Rattle.jt_filters.proofs.Alike.{whole_next}
+use Rattle.jt_filters.proofs.DistinctItems.{whole_next}
 use Rattle.jt_filters.proofs.unique.unseen_measure.Goals as goal
 
 pub loop-item-preserved : goal.loop-item-preserved

@@ -1,6 +1,6 @@
 use Rattle.std.proofs.Common.{◌≡◌, ◌<◌, ℕ, true, false}
 use Rattle.jt_graph.specs.View.{graph_of}
-use Rattle.jt_graph.specs.Walks.{IsWalk, is_done, is_open, visit_of}
+use Rattle.jt_graph.specs.internal.Walks.{IsWalk, is_done, is_open, visit_of}
 use Rattle.jt_graph.proofs.ordering.order.Given as goal
 
 abbrev pub invariant-loop-number : goal.invariant-loop-number

@@ -1,7 +1,7 @@
 use Rattle.std.proofs.Common.{◌≡◌, true, arith, rules}
 use Rattle.jt_image.specs.Code.{Code}
 use Rattle.jt_image.specs.Parts.{code_seen, KeepsLimits, Starts}
-use Rattle.jt_image.proofs.Assembled.{short_names, short_texts, entry_from, is_code}
+use Rattle.jt_image.proofs.AssembleCorrect.{short_names, short_texts, entry_from, is_code}
 use Rattle.jt_image.proofs.assembling.check.Goals as goal
 use Rattle.jt_image.proofs.assembling.check.Goals.{then-named, else-named, then-starts, else-starts}
 
@@ -24,13 +24,19 @@ returns-clause-spelled c =
             let ordered : v.units_are_in_order.result ≡ true = cc in
             let first : Starts k.units = (rw w.deref-then-named.ensures.value at w.starts.ensures).0 started in
             is_code k
-            (record { globals = omega arith; names = c.keeps_limits.ensures.utf8; constants = c.keeps_limits.ensures.held; units = (rw c.deref.ensures.value at c.are_known.ensures.fits) c.if-not-are_known.false; templates = c.keeps_limits.ensures.templates })
+            (record {
+              globals = omega arith;
+              names = c.keeps_limits.ensures.utf8;
+              constants = c.keeps_limits.ensures.held;
+              units = (rw c.deref.ensures.value at c.are_known.ensures.fits) c.if-not-are_known.false;
+              templates = c.keeps_limits.ensures.templates;
+            })
             (record {
               names = (rw c.deref-3.ensures.value at c.in_ok-named.ensures).0 w.if-named.true;
               units = (rw v.deref-then-starts.ensures.value at v.units_are_in_order.ensures).0 ordered;
               entry = entry_from k first;
               templates = places.0;
-              spots = places.1;
+              places = places.1;
               placed = rw total at places.2;
             })
             limits

@@ -3,8 +3,10 @@ use Rattle.std.proofs.lemmas.Iterator.{YieldsList-from_slice}
 use Rattle.jt_image.specs.Code.{Section}
 use Rattle.jt_image.specs.IsCode.{max_locals}
 use Rattle.jt_image.specs.View.{unit_view}
-use Rattle.jt_image.proofs.Tested.{all_seen}
+use Rattle.jt_image.proofs.AllDecides.{all_seen}
 use Rattle.jt_image.proofs.assembling.locals_fit.Goals as goal
 
 pub returns : goal.returns
-returns c = all_seen _ _ _ unit_view (λ (u : Section). u.locals ≤ max_locals) c.all.ensures.ran (YieldsList-from_slice c.args.units.now cc) (λ x b q k. search (rules, tests))
+returns c =
+    all_seen _ _ _ unit_view (λ (u : Section). u.locals ≤ max_locals) c.all.ensures.ran
+    (YieldsList-from_slice c.args.units.now cc) (λ x b q k. search (rules, tests))

@@ -1,8 +1,8 @@
 use Rattle.std.proofs.Common.{[], take}
 use Rattle.jt_image.specs.View.{names_view}
 use Rattle.jt_image.specs.Reading.{IsTable}
-use Rattle.jt_image.proofs.Found.{AllGood}
-use Rattle.jt_image.proofs.Sound.{IsNamed}
+use Rattle.jt_image.proofs.DecodeSoundLemmas.{AllGood}
+use Rattle.jt_image.proofs.DecodeSound.{IsNamed}
 use Rattle.jt_image.proofs.assembling.names_are_in_order.Given as goal
 
 abbrev pub invariant-names : goal.invariant-names

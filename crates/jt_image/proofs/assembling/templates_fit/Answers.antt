@@ -1,8 +1,10 @@
 use Rattle.std.proofs.Common.{◌≤◌, List, ℕ, length, string_bytes, rules, tests}
 use Rattle.std.proofs.lemmas.Iterator.{YieldsList-from_slice}
 use Rattle.jt_image.specs.IsCode.{max_count}
-use Rattle.jt_image.proofs.Tested.{all_seen}
+use Rattle.jt_image.proofs.AllDecides.{all_seen}
 use Rattle.jt_image.proofs.assembling.templates_fit.Goals as goal
 
 pub returns : goal.returns
-returns c = all_seen _ _ _ string_bytes (λ (t : List ℕ). length t ≤ max_count) c.all.ensures.ran (YieldsList-from_slice c.args.templates.now cc) (λ x b q k. search (rules, tests))
+returns c =
+    all_seen _ _ _ string_bytes (λ (t : List ℕ). length t ≤ max_count) c.all.ensures.ran
+    (YieldsList-from_slice c.args.templates.now cc) (λ x b q k. search (rules, tests))

@@ -1,4 +1,4 @@
-use Rattle.jt_image.proofs.Lawful.{lawful}
+use Rattle.jt_image.proofs.CodeLawsHold.{lawful}
 use Rattle.jt_image.proofs.laws.code_laws.Goals as goal
 
 pub returns : goal.returns

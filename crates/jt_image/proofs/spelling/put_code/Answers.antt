@@ -1,5 +1,5 @@
 use Rattle.std.proofs.Common.{arith, rules}
-use Rattle.jt_image.proofs.Written.{each_holds}
+use Rattle.jt_image.proofs.PartsForAssembly.{each_holds}
 use Rattle.jt_image.proofs.spelling.put_code.Goals as goal
 
 pub put_instr-requires : goal.put_instr-requires

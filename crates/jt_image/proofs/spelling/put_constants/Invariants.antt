@@ -5,4 +5,5 @@ use Rattle.jt_image.specs.Spelling.{constant_bytes}
 use Rattle.jt_image.proofs.spelling.put_constants.Given as goal
 
 abbrev pub invariant-constants : goal.invariant-constants
-invariant-constants l = l.out.items ≡ l.fn.out.items ++ flat_map constant_bytes (constants_view (take l.constant-index l.constants))
+invariant-constants l =
+    l.out.items ≡ l.fn.out.items ++ flat_map constant_bytes (constants_view (take l.constant-index l.constants))

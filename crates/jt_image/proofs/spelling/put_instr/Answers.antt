@@ -1,6 +1,6 @@
 use Rattle.std.proofs.Common.{rules, arith}
 use Rattle.std.proofs.lemmas.Grind.{common_steps}
-use Rattle.jt_image.proofs.Written.{known_bytes}
+use Rattle.jt_image.proofs.PartsForAssembly.{known_bytes}
 use Rattle.jt_image.proofs.spelling.put_instr.Goals as goal
 
 pub returns : goal.returns

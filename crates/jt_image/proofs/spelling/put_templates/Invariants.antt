@@ -5,4 +5,5 @@ use Rattle.jt_image.specs.Spelling.{template_bytes}
 use Rattle.jt_image.proofs.spelling.put_templates.Given as goal
 
 abbrev pub invariant-templates : goal.invariant-templates
-invariant-templates l = l.out.items ≡ l.fn.out.items ++ flat_map template_bytes (texts_view (take l.template-index l.templates))
+invariant-templates l =
+    l.out.items ≡ l.fn.out.items ++ flat_map template_bytes (texts_view (take l.template-index l.templates))

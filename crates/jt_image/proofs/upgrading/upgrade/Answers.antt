@@ -1,5 +1,5 @@
 use Rattle.std.proofs.Common.{arith, rules}
-use Rattle.jt_image.proofs.Upgraded.{same_run}
+use Rattle.jt_image.proofs.UpgradeCorrect.{same_run}
 use Rattle.jt_image.proofs.upgrading.upgrade.Goals as goal
 
 pub returns-in-One-clause-runs : goal.returns-in-One-clause-runs

@@ -5,19 +5,21 @@ use Rattle.std.proofs.lemmas.Result.{err_from_is_err_and}
 use Rattle.jt_graph.specs.View.{graph_of}
 use Rattle.jt_chains.specs.Chain.{sources_in}
 use Rattle.jt_inherit.specs.Chains.{IsChain}
-use Rattle.jt_inherit.specs.Found.{found_templates, found_homes}
+use Rattle.jt_inherit.specs.internal.Found.{found_templates, found_namespaces}
 use Rattle.jt_chains.specs.Includes.{InOrder, begins_with_chain}
-use Rattle.jt_chains.specs.Pages.{home_view, pages_view}
+use Rattle.jt_chains.specs.TemplateFiles.{namespace_view, files_view}
 use Rattle.jt_chains.specs.Tables.{AreAt}
-use Rattle.jt_chains.specs.declared.pages.Page.{Page}
-use Rattle.jt_chains.specs.Places.{home_at}
-use Rattle.jt_trees.specs.Texts.{repeated}
+use Rattle.jt_chains.specs.declared.files.TemplateFile.{TemplateFile}
+use Rattle.jt_chains.specs.Places.{namespace_at}
+use Rattle.jt_ast.specs.Texts.{repeated}
 use Rattle.jt_chains.specs.View.{Seen}
 use Rattle.jt_chains.specs.Weights.{chains_weight}
 use Rattle.jt_inherit.specs.Small.{chains_len}
-use Rattle.jt_inherit.proofs.OnWay.{all_short}
-use Rattle.jt_inherit.proofs.Settled.{no_chain, one_chain}
-use Rattle.jt_inherit.proofs.Whole.{ways_placed, next_len, chain_breaks, order_breaks, in_order, begins, chained, weighs, few_homes, some_homes, all_whole, its_found, its_ways, its_order, its_homes, its_names}
+use Rattle.jt_inherit.proofs.PathTemplates.{all_short}
+use Rattle.jt_inherit.proofs.ChainIsUnique.{no_chain, one_chain}
+use Rattle.jt_inherit.proofs.ChainComplete.{ways_placed, next_len, chain_breaks, order_breaks, in_order, begins}
+use Rattle.jt_inherit.proofs.ChainComplete.{chained, weighs, few_namespaces, some_namespaces, all_whole, its_found}
+use Rattle.jt_inherit.proofs.ChainComplete.{its_paths, its_order, its_namespaces, its_names}
 use Rattle.jt_inherit.proofs.chaining.chain.Goals as goal
 
 pub check_chains-requires-clause-named : goal.check_chains-requires-clause-named
@@ -28,15 +30,17 @@ check_chains-requires-clause-named g c =
 pub check_chains-requires-clause-places : goal.check_chains-requires-clause-places
 check_chains-requires-clause-places g c =
     let f = c.in_ok-found.found in
-    ways_placed (g.L.Library.sources c.args.library.now) (found_templates f) (found_homes f) (found_homes f) (graph_of f.ways.items) (graph_of f.next.items) c.in_ok-found.ensures.found.followed
+    ways_placed (g.L.Library.sources c.args.library.now) (found_templates f) (found_namespaces f) (found_namespaces f)
+    (graph_of f.extends_paths.items) (graph_of f.next.items) c.in_ok-found.ensures.found.followed
 
 pub returns-in_err-check_chains-clause-refused : goal.returns-in_err-check_chains-clause-refused
 returns-in_err-check_chains-clause-refused g c =
     let f = c.in_ok-found.found in
     let is = c.in_ok-found.ensures in
     let found = its_found f is.found is.root is.all in
-    let all = its_ways f is.found is.root is.all in
-    let p = err_from_is_err_and c.from_residual-in_err-check_chains.result c.from_residual-in_err-check_chains.ensures.1 in
+    let all = its_paths f is.found is.root is.all in
+    let p =
+    err_from_is_err_and c.from_residual-in_err-check_chains.result c.from_residual-in_err-check_chains.ensures.1 in
     rw (p.1, p.2) (chain_breaks found all c.in_err-check_chains.field-0.0 c.in_err-check_chains.ensures.broken)
 
 pub returns-in_err-order-clause-refused : goal.returns-in_err-order-clause-refused
@@ -44,37 +48,56 @@ returns-in_err-order-clause-refused g c =
     let f = c.in_ok-found.found in
     let is = c.in_ok-found.ensures in
     let found = its_found f is.found is.root is.all in
-    let all = its_ways f is.found is.root is.all in
+    let all = its_paths f is.found is.root is.all in
     let p = err_from_is_err_and c.from_residual-in_err-order.result c.from_residual-in_err-order.ensures.1 in
-    rw p.1 (order_breaks found all (graph_of c.deref.result.now) c.in_err-order.field-0.0 p.0 (ap graph_of c.deref.ensures.value) p.2 (λ q. c.in_err-order.ensures.cycle (ap Err q)))
+    rw p.1 (order_breaks found all (graph_of c.deref.result.now) c.in_err-order.field-0.0 p.0
+    (ap graph_of c.deref.ensures.value) p.2 (λ q. c.in_err-order.ensures.cycle (ap Err q)))
 
-pub homes_in-requires-clause-within : goal.homes_in-requires-clause-within
-homes_in-requires-clause-within g c =
+pub namespaces_in-requires-clause-within : goal.namespaces_in-requires-clause-within
+namespaces_in-requires-clause-within g c =
     let f = c.in_ok-found.found in
     let is = c.in_ok-found.ensures in
     let found = its_found f is.found is.root is.all in
-    let all = its_ways f is.found is.root is.all in
-    let o = its_order f is.found is.root is.all c.deref.result.now c.in_ok-order.order.items c.deref.ensures.value c.in_ok-order.ensures.ordered in
-    let ways = length-map f.ways.items (λ (v : Vec ℕ Global). v.items) in
-    let lens = next_len (g.L.Library.sources c.args.library.now) (found_templates f) (found_homes f) (found_homes f) (graph_of f.ways.items) (graph_of f.next.items) found.followed ∙ ways in
-    subst (λ z. AllByRecursion (λ i. i < length f.ways.items) z) (sym c.deref-2.ensures.value) (subst (λ n. AllByRecursion (λ i. i < n) c.in_ok-order.order.items) lens o.within)
+    let all = its_paths f is.found is.root is.all in
+    let o = its_order f is.found is.root is.all c.deref.result.now c.in_ok-order.order.items c.deref.ensures.value
+    c.in_ok-order.ensures.ordered in
+    let extends_paths = length-map f.extends_paths.items (λ (v : Vec ℕ Global). v.items) in
+    let lens = next_len (g.L.Library.sources c.args.library.now) (found_templates f) (found_namespaces f)
+    (found_namespaces f) (graph_of f.extends_paths.items) (graph_of f.next.items) found.followed
+    ∙ extends_paths in
+    subst (λ z. AllByRecursion (λ i. i < length f.extends_paths.items) z) (sym c.deref-2.ensures.value)
+    (subst (λ n. AllByRecursion (λ i. i < n) c.in_ok-order.order.items) lens o.within)
 
 pub invariant_of-result : goal.invariant_of-result
 invariant_of-result g c =
     let f = c.in_ok-found.found in
     let is = c.in_ok-found.ensures in
     let found = its_found f is.found is.root is.all in
-    let all = its_ways f is.found is.root is.all in
-    let o = its_order f is.found is.root is.all c.deref.result.now c.in_ok-order.order.items c.deref.ensures.value c.in_ok-order.ensures.ordered in
-    let named = its_names f c.in_ok-order.order.items c.deref-2.result.now c.in_ok-homes.homes.items c.deref-2.ensures.value c.in_ok-homes.ensures in
+    let all = its_paths f is.found is.root is.all in
+    let o = its_order f is.found is.root is.all c.deref.result.now c.in_ok-order.order.items c.deref.ensures.value
+    c.in_ok-order.ensures.ordered in
+    let named = its_names f c.in_ok-order.order.items c.deref-2.result.now c.in_ok-namespaces.namespaces.items
+    c.deref-2.ensures.value c.in_ok-namespaces.ensures in
     let kept = c.in_ok-check_chains.ensures.kept in
     record {
       once = found.known.read.once;
-      some = omega (arith, ap length named, length-map c.in_ok-homes.homes.items home_view, length-map c.in_ok-order.order.items (home_at (found_homes f)), some_homes found all kept o);
+      some =
+          omega (
+            arith,
+            ap length named,
+            length-map c.in_ok-namespaces.namespaces.items namespace_view,
+            length-map c.in_ok-order.order.items (namespace_at (found_namespaces f)),
+            some_namespaces found all kept o,
+          );
       begins = ap begins_with_chain (named ∙ (begins found all kept o).1);
       order = subst (InOrder (sources_in (found_templates f))) (sym named) (in_order found all kept o);
-      whole = all_whole found all kept o c.in_ok-homes.homes.items (its_homes f c.in_ok-order.order.items c.deref-2.result.now c.in_ok-homes.homes.items c.deref-2.ensures.value c.in_ok-homes.ensures);
-      placed = subst (λ (z : List Page). AreAt (pages_view z) c.in_ok-places.places) c.deref-3.ensures.value c.in_ok-places.ensures;
+      whole =
+          all_whole found all kept o c.in_ok-namespaces.namespaces.items
+          (its_namespaces f c.in_ok-order.order.items c.deref-2.result.now c.in_ok-namespaces.namespaces.items
+          c.deref-2.ensures.value c.in_ok-namespaces.ensures);
+      placed =
+          subst (λ (z : List TemplateFile). AreAt (files_view z) c.in_ok-places.places) c.deref-3.ensures.value
+          c.in_ok-places.ensures;
     }
 
 pub returns-clause-chained : goal.returns-clause-chained
@@ -82,65 +105,81 @@ returns-clause-chained g c =
     let f = c.in_ok-found.found in
     let is = c.in_ok-found.ensures in
     let found = its_found f is.found is.root is.all in
-    let all = its_ways f is.found is.root is.all in
-    let o = its_order f is.found is.root is.all c.deref.result.now c.in_ok-order.order.items c.deref.ensures.value c.in_ok-order.ensures.ordered in
-    let named = its_names f c.in_ok-order.order.items c.deref-2.result.now c.in_ok-homes.homes.items c.deref-2.ensures.value c.in_ok-homes.ensures in
-    subst (λ z. IsChain (g.L.Library.sources c.args.library.now) c.args.entry.now c.args.options (record { templates = found_templates f; order = z; escaping = c.args.options.autoescape })) (sym named) (chained found all c.in_ok-check_chains.ensures.kept o)
+    let all = its_paths f is.found is.root is.all in
+    let o = its_order f is.found is.root is.all c.deref.result.now c.in_ok-order.order.items c.deref.ensures.value
+    c.in_ok-order.ensures.ordered in
+    let named = its_names f c.in_ok-order.order.items c.deref-2.result.now c.in_ok-namespaces.namespaces.items
+    c.deref-2.ensures.value c.in_ok-namespaces.ensures in
+    subst (λ z. IsChain (g.L.Library.sources c.args.library.now) c.args.entry.now c.args.options
+    (record { templates = found_templates f; order = z; escaping = c.args.options.autoescape })) (sym named)
+    (chained found all c.in_ok-check_chains.ensures.kept o)
 
 pub returns-clause-weighs : goal.returns-clause-weighs
 returns-clause-weighs g c =
     let f = c.in_ok-found.found in
     let is = c.in_ok-found.ensures in
     let found = its_found f is.found is.root is.all in
-    let all = its_ways f is.found is.root is.all in
-    let o = its_order f is.found is.root is.all c.deref.result.now c.in_ok-order.order.items c.deref.ensures.value c.in_ok-order.ensures.ordered in
-    let named = its_names f c.in_ok-order.order.items c.deref-2.result.now c.in_ok-homes.homes.items c.deref-2.ensures.value c.in_ok-homes.ensures in
+    let all = its_paths f is.found is.root is.all in
+    let o = its_order f is.found is.root is.all c.deref.result.now c.in_ok-order.order.items c.deref.ensures.value
+    c.in_ok-order.ensures.ordered in
+    let named = its_names f c.in_ok-order.order.items c.deref-2.result.now c.in_ok-namespaces.namespaces.items
+    c.deref-2.ensures.value c.in_ok-namespaces.ensures in
     let s = sources_in (found_templates f) in
-    subst (λ z. chains_weight s z ≤ chains_len (g.L.Library.sources c.args.library.now) s z) (sym named) (weighs found all c.in_ok-check_chains.ensures.kept o)
+    subst (λ z. chains_weight s z ≤ chains_len (g.L.Library.sources c.args.library.now) s z) (sym named)
+    (weighs found all c.in_ok-check_chains.ensures.kept o)
 
 pub returns-clause-short : goal.returns-clause-short
 returns-clause-short g c =
-    all_short (g.L.Library.sources c.args.library.now) (found_templates c.in_ok-found.found) c.in_ok-found.ensures.found.known.within
+    all_short (g.L.Library.sources c.args.library.now) (found_templates c.in_ok-found.found)
+    c.in_ok-found.ensures.found.known.within
 
 pub returns-clause-few : goal.returns-clause-few
 returns-clause-few g c =
     let f = c.in_ok-found.found in
     let is = c.in_ok-found.ensures in
     let found = its_found f is.found is.root is.all in
-    let all = its_ways f is.found is.root is.all in
-    let o = its_order f is.found is.root is.all c.deref.result.now c.in_ok-order.order.items c.deref.ensures.value c.in_ok-order.ensures.ordered in
-    let named = its_names f c.in_ok-order.order.items c.deref-2.result.now c.in_ok-homes.homes.items c.deref-2.ensures.value c.in_ok-homes.ensures in
-    subst (λ z. 7 * length z ≤ chains_weight (sources_in (found_templates f)) z + 7) (sym named) (few_homes found all c.in_ok-check_chains.ensures.kept o)
+    let all = its_paths f is.found is.root is.all in
+    let o = its_order f is.found is.root is.all c.deref.result.now c.in_ok-order.order.items c.deref.ensures.value
+    c.in_ok-order.ensures.ordered in
+    let named = its_names f c.in_ok-order.order.items c.deref-2.result.now c.in_ok-namespaces.namespaces.items
+    c.deref-2.ensures.value c.in_ok-namespaces.ensures in
+    subst (λ z. 7 * length z ≤ chains_weight (sources_in (found_templates f)) z + 7) (sym named)
+    (few_namespaces found all c.in_ok-check_chains.ensures.kept o)
 
--- ---- one chain alone, and none where there is a refusal
+-- ---- one chain only, and none if there is an error
 
 pub returns-in_err-found-clause-only : goal.returns-in_err-found-clause-only
 returns-in_err-found-clause-only g c =
     let p = err_from_is_err_and c.from_residual.result c.from_residual.ensures.1 in
-    rw (p.1, p.2) (λ d i. no_chain (g.L.Library.sources c.args.library.now) c.args.options c.args.entry.now d i c.in_err-found.field-0.0 c.in_err-found.ensures.refused)
+    rw (p.1, p.2) (λ d i. no_chain (g.L.Library.sources c.args.library.now) c.args.options c.args.entry.now d i
+    c.in_err-found.field-0.0 c.in_err-found.ensures.refused)
 
 pub returns-in_err-check_chains-clause-only : goal.returns-in_err-check_chains-clause-only
 returns-in_err-check_chains-clause-only g c =
     let f = c.in_ok-found.found in
     let is = c.in_ok-found.ensures in
     let found = its_found f is.found is.root is.all in
-    let all = its_ways f is.found is.root is.all in
-    let p = err_from_is_err_and c.from_residual-in_err-check_chains.result c.from_residual-in_err-check_chains.ensures.1 in
+    let all = its_paths f is.found is.root is.all in
+    let p =
+    err_from_is_err_and c.from_residual-in_err-check_chains.result c.from_residual-in_err-check_chains.ensures.1 in
     let e = c.in_err-check_chains.field-0.0 in
-    rw (p.1, p.2) (λ d i. no_chain (g.L.Library.sources c.args.library.now) c.args.options c.args.entry.now d i e (chain_breaks found all e c.in_err-check_chains.ensures.broken))
+    rw (p.1, p.2) (λ d i. no_chain (g.L.Library.sources c.args.library.now) c.args.options c.args.entry.now d i e
+    (chain_breaks found all e c.in_err-check_chains.ensures.broken))
 
 pub returns-in_err-order-clause-only : goal.returns-in_err-order-clause-only
 returns-in_err-order-clause-only g c =
     let f = c.in_ok-found.found in
     let is = c.in_ok-found.ensures in
     let found = its_found f is.found is.root is.all in
-    let all = its_ways f is.found is.root is.all in
+    let all = its_paths f is.found is.root is.all in
     let p = err_from_is_err_and c.from_residual-in_err-order.result c.from_residual-in_err-order.ensures.1 in
-    rw p.1 (λ d i. no_chain (g.L.Library.sources c.args.library.now) c.args.options c.args.entry.now d i p.0 (order_breaks found all (graph_of c.deref.result.now) c.in_err-order.field-0.0 p.0 (ap graph_of c.deref.ensures.value) p.2 (λ q. c.in_err-order.ensures.cycle (ap Err q))))
+    rw p.1 (λ d i. no_chain (g.L.Library.sources c.args.library.now) c.args.options c.args.entry.now d i p.0
+    (order_breaks found all (graph_of c.deref.result.now) c.in_err-order.field-0.0 p.0
+    (ap graph_of c.deref.ensures.value) p.2 (λ q. c.in_err-order.ensures.cycle (ap Err q))))
 
-pub returns-in_err-homes-clause-only : goal.returns-in_err-homes-clause-only
-returns-in_err-homes-clause-only g c =
-    let p = err_from_is_err_and c.from_residual-in_err-homes.result c.from_residual-in_err-homes.ensures.1 in
+pub returns-in_err-namespaces-clause-only : goal.returns-in_err-namespaces-clause-only
+returns-in_err-namespaces-clause-only g c =
+    let p = err_from_is_err_and c.from_residual-in_err-namespaces.result c.from_residual-in_err-namespaces.ensures.1 in
     rw p.1 (λ d i. p.2)
 
 pub returns-in_err-places-clause-only : goal.returns-in_err-places-clause-only
@@ -153,7 +192,13 @@ returns-clause-only g c =
     let f = c.in_ok-found.found in
     let is = c.in_ok-found.ensures in
     let found = its_found f is.found is.root is.all in
-    let all = its_ways f is.found is.root is.all in
-    let o = its_order f is.found is.root is.all c.deref.result.now c.in_ok-order.order.items c.deref.ensures.value c.in_ok-order.ensures.ordered in
-    let seen : Seen = record { templates = found_templates f; order = map (home_at (found_homes f)) c.in_ok-order.order.items; escaping = c.args.options.autoescape } in
-    λ d i. one_chain (g.L.Library.sources c.args.library.now) c.args.options c.args.entry.now seen d (chained found all c.in_ok-check_chains.ensures.kept o) i found.known.only
+    let all = its_paths f is.found is.root is.all in
+    let o = its_order f is.found is.root is.all c.deref.result.now c.in_ok-order.order.items c.deref.ensures.value
+    c.in_ok-order.ensures.ordered in
+    let seen : Seen = record {
+      templates = found_templates f;
+      order = map (namespace_at (found_namespaces f)) c.in_ok-order.order.items;
+      escaping = c.args.options.autoescape;
+    } in
+    λ d i. one_chain (g.L.Library.sources c.args.library.now) c.args.options c.args.entry.now seen d
+    (chained found all c.in_ok-check_chains.ensures.kept o) i found.known.only

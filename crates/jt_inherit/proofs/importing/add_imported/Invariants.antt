@@ -1,12 +1,13 @@
 use Rattle.std.proofs.Common.{◌≡◌, ◌++◌, drop}
-use Rattle.jt_trees.specs.StatementView.{body_view}
+use Rattle.jt_ast.specs.StatementView.{body_view}
 use Rattle.jt_chains.specs.Chain.{sources_in}
-use Rattle.jt_chains.specs.Pages.{pages_view}
-use Rattle.jt_inherit.specs.Kept.{imported_names}
-use Rattle.jt_trees.specs.Texts.{texts}
+use Rattle.jt_chains.specs.TemplateFiles.{files_view}
+use Rattle.jt_inherit.specs.internal.RuleTests.{imported_names}
+use Rattle.jt_ast.specs.Texts.{texts}
 use Rattle.jt_inherit.proofs.importing.add_imported.Given as goal
 
 abbrev pub invariant-loop-statement : goal.invariant-loop-statement
 invariant-loop-statement l =
-    texts l.given.items ++ imported_names (sources_in (pages_view l.shelf.pages.now)) (body_view (drop l.statement-index l.body))
-    ≡ texts l.initial.given.items ++ imported_names (sources_in (pages_view l.shelf.pages.now)) (body_view l.body)
+    texts l.given.items
+    ++ imported_names (sources_in (files_view l.store.files.now)) (body_view (drop l.statement-index l.body))
+    ≡ texts l.initial.given.items ++ imported_names (sources_in (files_view l.store.files.now)) (body_view l.body)

@@ -4,14 +4,17 @@ use Rattle.std.specs.Option.{is_none}
 use Rattle.std.proofs.lemmas.Iterator.{YieldsList-from_slice}
 use Rattle.std.proofs.lemmas.Iterator.Search.{any_from_yields_List}
 use Rattle.std.proofs.lemmas.List.Recursion.{same_from_clauses}
-use Rattle.jt_trees.specs.StatementView.{given_view}
+use Rattle.jt_ast.specs.StatementView.{given_view}
 use Rattle.jt_chains.specs.Chain.{public_macro}
-use Rattle.jt_inherit.specs.Given.{macros_held}
-use Rattle.jt_inherit.specs.Kept.{has_not}
+use Rattle.jt_inherit.specs.internal.Given.{macros_held}
+use Rattle.jt_inherit.specs.internal.RuleTests.{has_not}
 use Rattle.jt_inherit.proofs.importing.has_not.Goals as goal
 
 pub returns : goal.returns
 returns c =
-    let ms = macros_held c.args.page.now in
-    any_from_yields_List (λ x. is_none (public_macro (string_bytes x.0) ms)) _ _ _ c.any.ensures.ran (YieldsList-from_slice c.args.names.now cc) (λ x b q k. search (rules, tests))
-    ∙ same_from_clauses (list_any (λ x. is_none (public_macro (string_bytes x.0) ms))) (λ xs. has_not ms (given_view xs)) (λ x b. is_none (public_macro (string_bytes x.0) ms) || b) refl (λ _ _. refl) (λ _ _. refl) c.args.names.now
+    let ms = macros_held c.args.file.now in
+    any_from_yields_List (λ x. is_none (public_macro (string_bytes x.0) ms)) _ _ _ c.any.ensures.ran
+    (YieldsList-from_slice c.args.names.now cc) (λ x b q k. search (rules, tests))
+    ∙ same_from_clauses (list_any (λ x. is_none (public_macro (string_bytes x.0) ms)))
+    (λ xs. has_not ms (given_view xs)) (λ x b. is_none (public_macro (string_bytes x.0) ms) || b) refl (λ _ _. refl)
+    (λ _ _. refl) c.args.names.now

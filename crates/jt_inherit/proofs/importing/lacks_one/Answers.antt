@@ -1,5 +1,5 @@
 use Rattle.std.proofs.Common.{arith, rules}
-use Rattle.jt_inherit.proofs.Shelved.{nothing_lacks, library_lacks}
+use Rattle.jt_inherit.proofs.StoreLookup.{nothing_lacks, library_lacks}
 use Rattle.jt_inherit.proofs.importing.lacks_one.Goals as goal
 
 pub returns-then-is_library : goal.returns-then-is_library

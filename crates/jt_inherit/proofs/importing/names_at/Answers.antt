@@ -1,33 +1,39 @@
 use Rattle.std.proofs.Common.{◌++◌, List, ℕ, get_or, sym, ap, ◌∙◌}
 use Rattle.std.proofs.lemmas.List.{at_drop_all, append-nil}
-use Rattle.jt_trees.specs.StatementView.{body_view}
+use Rattle.jt_ast.specs.StatementView.{body_view}
 use Rattle.jt_chains.specs.Along.{along, templates_at}
 use Rattle.jt_chains.specs.Chain.{sources_in}
-use Rattle.jt_chains.specs.Pages.{pages_view}
-use Rattle.jt_inherit.specs.Kept.{imported_names}
-use Rattle.jt_trees.specs.Texts.{texts}
-use Rattle.jt_chains.proofs.Placed.{along_turn, page_at, place_within}
-use Rattle.jt_inherit.proofs.Finding.{placed_templates}
-use Rattle.jt_inherit.proofs.Ruled.{names_found}
+use Rattle.jt_chains.specs.TemplateFiles.{files_view}
+use Rattle.jt_inherit.specs.internal.RuleTests.{imported_names}
+use Rattle.jt_ast.specs.Texts.{texts}
+use Rattle.jt_chains.proofs.TemplatesByIndex.{along_turn, file_at, place_within}
+use Rattle.jt_inherit.proofs.DiscoveryInvariant.{placed_templates}
+use Rattle.jt_inherit.proofs.ChainRules.{names_found}
 use Rattle.jt_inherit.proofs.importing.names_at.Goals as goal
 
 pub loop-place-preserved : goal.loop-place-preserved
 loop-place-preserved c =
-    let ps = c.args.shelf.pages.now in
-    let s = sources_in (pages_view ps) in
+    let ps = c.args.store.files.now in
+    let s = sources_in (files_view ps) in
     let is = c.args.places.now in
     let k = c.loop-place.place-index in
     let i = get_or is k 0 in
     let lt = place_within ps is k c.loop-place-test.true c.requires in
-    along_turn (λ n b. imported_names s b) (pages_view ps) is k (body_view c.body.result.now) (texts c.loop-place.given.items) (texts c.add_imported.new.given.items)
-    c.loop-place-test.true (c.body.ensures ∙ sym (page_at ps i (get_or ps i c.index-shelf-place.result) lt (ap (λ d. get_or ps i d) c.index-shelf-place.is))) c.in_ok-add_imported.ensures
+    along_turn (λ n b. imported_names s b) (files_view ps) is k (body_view c.body.result.now)
+    (texts c.loop-place.given.items) (texts c.add_imported.new.given.items)
+    c.loop-place-test.true (c.body.ensures
+    ∙ sym (file_at ps i (get_or ps i c.index-store-place.result) lt (ap (λ d. get_or ps i d) c.index-store-place.is)))
+    c.in_ok-add_imported.ensures
     ∙ c.loop-place.invariant
 
 pub returns : goal.returns
 returns c =
-    let ts = pages_view c.args.shelf.pages.now in
+    let ts = files_view c.args.store.files.now in
     let s = sources_in ts in
     let is = c.args.places.now in
     let found = texts c.loop-place.given.items in
-    let ended = at_drop_all (λ (z : List ℕ). found ++ along ts (λ n b. imported_names s b) z) is c.loop-place.place-index c.loop-place-test.false in
-    sym (append-nil found) ∙ sym ended ∙ c.loop-place.invariant ∙ names_found s ts (templates_at ts is) is (placed_templates ts is c.requires) c.in_ok-macros.macros.items c.in_ok-macros.ensures
+    let ended = at_drop_all (λ (z : List ℕ). found ++ along ts (λ n b. imported_names s b) z) is
+    c.loop-place.place-index c.loop-place-test.false in
+    sym (append-nil found) ∙ sym ended ∙ c.loop-place.invariant
+    ∙ names_found s ts (templates_at ts is) is (placed_templates ts is c.requires) c.in_ok-macros.macros.items
+    c.in_ok-macros.ensures

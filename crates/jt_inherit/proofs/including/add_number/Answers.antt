@@ -1,11 +1,11 @@
 use Rattle.std.proofs.Common.{◌∷◌, [], sym, subst}
 use Rattle.std.proofs.lemmas.Result.{err_from_is_err_and}
-use Rattle.jt_inherit.specs.Found.{AreNext, IsNextFault}
+use Rattle.jt_inherit.specs.internal.Found.{AreNext, IsNextFault}
 use Rattle.jt_chains.specs.Needs.{need_view}
-use Rattle.jt_inherit.specs.Sets.{names_view, homes_view}
-use Rattle.jt_inherit.proofs.Following.{one_known}
-use Rattle.jt_inherit.proofs.Among.{of_texts}
-use Rattle.jt_inherit.proofs.Members.{placed_among}
+use Rattle.jt_inherit.specs.internal.Sets.{names_view, namespaces_view}
+use Rattle.jt_inherit.proofs.FollowStep.{one_known}
+use Rattle.jt_inherit.proofs.NameMembership.{of_texts}
+use Rattle.jt_inherit.proofs.Membership.{placed_among}
 use Rattle.jt_inherit.proofs.including.add_number.Goals as goal
 
 pub returns-in_err-number-clause-refused : goal.returns-in_err-number-clause-refused
@@ -15,18 +15,21 @@ returns-in_err-number-clause-refused c =
     let e = c.in_err-number.field-0.0 in
     let p = err_from_is_err_and c.from_residual-in_err-number.result c.from_residual-in_err-number.ensures.1 in
     rw (p.1, p.2)
-    (subst (λ l. IsNextFault (homes_view c.args.homes.now) l e) (sym (one_known ks n (placed_among of_texts ks c.in-Some._place n.name c.in-Some.ensures)))
-    (subst (λ h. IsNextFault (homes_view c.args.homes.now) (h ∷ []) e) c.in_ok-home.ensures c.in_err-number.ensures.refused))
+    (subst (λ l. IsNextFault (namespaces_view c.args.namespaces.now) l e)
+    (sym (one_known ks n (placed_among of_texts ks c.in-Some._place n.name c.in-Some.ensures)))
+    (subst (λ h. IsNextFault (namespaces_view c.args.namespaces.now) (h ∷ []) e) c.in_ok-namespace.ensures
+    c.in_err-number.ensures.refused))
 
 pub returns-clause-next : goal.returns-clause-next
 returns-clause-next c =
     let ks = names_view c.args.names.now in
     let n = need_view c.args.include in
-    let old = homes_view c.args.homes.now in
-    let new = homes_view c.number_of.new.homes in
+    let old = namespaces_view c.args.namespaces.now in
+    let new = namespaces_view c.number_of.new.namespaces in
     let i = c.in_ok-number.number in (
       i ∷ [],
       c.in_ok-push.ensures.items,
-      subst (λ l. AreNext old new l (i ∷ [])) (sym (one_known ks n (placed_among of_texts ks c.in-Some._place n.name c.in-Some.ensures)))
-          (subst (λ h. AreNext old new (h ∷ []) (i ∷ [])) c.in_ok-home.ensures c.in_ok-number.ensures.next),
+      subst (λ l. AreNext old new l (i ∷ []))
+          (sym (one_known ks n (placed_among of_texts ks c.in-Some._place n.name c.in-Some.ensures)))
+          (subst (λ h. AreNext old new (h ∷ []) (i ∷ [])) c.in_ok-namespace.ensures c.in_ok-number.ensures.next),
     )

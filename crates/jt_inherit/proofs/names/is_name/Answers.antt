@@ -1,6 +1,7 @@
 use Rattle.std.proofs.Common.{rules}
-use Rattle.jt_inherit.proofs.Naming.{named}
+use Rattle.jt_inherit.proofs.ValidNames.{named}
 use Rattle.jt_inherit.proofs.names.is_name.Goals as goal
 
 pub returns-then-has_name_bytes : goal.returns-then-has_name_bytes
-returns-then-has_name_bytes c = named c.args.name.now c.has_parts.result (search rules) (search rules) c.has_parts.ensures
+returns-then-has_name_bytes c =
+    named c.args.name.now c.has_parts.result (search rules) (search rules) c.has_parts.ensures

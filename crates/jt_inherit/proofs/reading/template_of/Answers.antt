@@ -9,18 +9,20 @@ use Rattle.jt_parse.specs.Grammar.{Spelled}
 use Rattle.jt_parse.specs.Kept.{pieces}
 use Rattle.jt_parse.specs.Refusals.{IsRefusal}
 use Rattle.jt_parse.specs.Names.{body_unknown}
-use Rattle.jt_trees.specs.Statements.{Body, body_levels}
-use Rattle.jt_trees.specs.StatementView.{body_of}
+use Rattle.jt_ast.specs.Statements.{Body, body_levels}
+use Rattle.jt_ast.specs.StatementView.{body_of}
 use Rattle.jt_parse.specs.View.{reads_of}
 use Rattle.jt_parse.specs.declared.error.ParseError.TheVariants as parse_error
-use Rattle.jt_inherit.proofs.Cuts.{limited, tree_found, only_tree, no_tree, unspelled}
-use Rattle.jt_inherit.proofs.Lengths.{taken, few_chars, few_bytes, cut_short}
+use Rattle.jt_inherit.proofs.SourceErrors.{limited, tree_found, only_tree, no_tree, unspelled}
+use Rattle.jt_inherit.proofs.TreeLengths.{taken, few_chars, few_bytes, cut_short}
 use Rattle.jt_inherit.proofs.reading.template_of.Goals as goal
 
 pub returns-in-Ok-parse-clause-weighs : goal.returns-in-Ok-parse-clause-weighs
 returns-in-Ok-parse-clause-weighs c =
-    let utf8 : IsUtf8 c.in-Ok.source.text = subst IsUtf8 (ap (λ (s : Held). s.text) c.source.view_is) (IsUtf8-string_bytes c.source.inside.text) in
-    let text = taken c.args.options c.args.text.now c.in-Ok.source (λ long. let no = c.in-Ok.ensures.long long in absurd (cc)) c.in-Ok.ensures.short in
+    let utf8 : IsUtf8 c.in-Ok.source.text =
+    subst IsUtf8 (ap (λ (s : Held). s.text) c.source.view_is) (IsUtf8-string_bytes c.source.inside.text) in
+    let text = taken c.args.options c.args.text.now c.in-Ok.source
+    (λ long. let no = c.in-Ok.ensures.long long in absurd (cc)) c.in-Ok.ensures.short in
     omega (
       arith,
       c.in-Ok-parse.ensures.weighs,
@@ -31,8 +33,10 @@ returns-in-Ok-parse-clause-weighs c =
 
 pub returns-in-Ok-parse-clause-short : goal.returns-in-Ok-parse-clause-short
 returns-in-Ok-parse-clause-short c =
-    let utf8 : IsUtf8 c.in-Ok.source.text = subst IsUtf8 (ap (λ (s : Held). s.text) c.source.view_is) (IsUtf8-string_bytes c.source.inside.text) in
-    let text = taken c.args.options c.args.text.now c.in-Ok.source (λ long. let no = c.in-Ok.ensures.long long in absurd (cc)) c.in-Ok.ensures.short in
+    let utf8 : IsUtf8 c.in-Ok.source.text =
+    subst IsUtf8 (ap (λ (s : Held). s.text) c.source.view_is) (IsUtf8-string_bytes c.source.inside.text) in
+    let text = taken c.args.options c.args.text.now c.in-Ok.source
+    (λ long. let no = c.in-Ok.ensures.long long in absurd (cc)) c.in-Ok.ensures.short in
     omega (
       arith,
       c.in-Ok-parse.ensures.short,
@@ -43,23 +47,40 @@ returns-in-Ok-parse-clause-short c =
 
 pub returns-in-Ok-parse-clause-spelled : goal.returns-in-Ok-parse-clause-spelled
 returns-in-Ok-parse-clause-spelled c =
-    let short : length c.args.text.now ≤ max_source_len = limited c.args.text.now (λ long. let no = c.in-Ok.ensures.long long in absurd (cc)) in
-    let text : c.in-Ok.source.text ≡ normalized c.args.options.keep_trailing_newline c.args.text.now = taken c.args.options c.args.text.now c.in-Ok.source (λ long. let no = c.in-Ok.ensures.long long in absurd (cc)) c.in-Ok.ensures.short in
-    tree_found c.args.options c.args.text.now c.in-Ok.source (c.in-Ok.ensures.short short) c.in-Ok-scan.segments.items c.in-Ok-parse.template short c.in-Ok-scan.ensures.cut c.in-Ok-scan.ensures.options
-    (subst (λ z. Spelled (body_of c.in-Ok-parse.template) (pieces (reads_of z)) × (body_levels (body_of c.in-Ok-parse.template) ≤ 100)) c.as_slice.ensures.value c.in-Ok-parse.ensures.spelled) c.in-Ok-parse.ensures.known
+    let short : length c.args.text.now ≤ max_source_len =
+    limited c.args.text.now (λ long. let no = c.in-Ok.ensures.long long in absurd (cc)) in
+    let text : c.in-Ok.source.text ≡ normalized c.args.options.keep_trailing_newline c.args.text.now = taken
+    c.args.options c.args.text.now c.in-Ok.source (λ long. let no = c.in-Ok.ensures.long long in absurd (cc))
+    c.in-Ok.ensures.short in
+    tree_found c.args.options c.args.text.now c.in-Ok.source (c.in-Ok.ensures.short short) c.in-Ok-scan.segments.items
+    c.in-Ok-parse.template short c.in-Ok-scan.ensures.cut c.in-Ok-scan.ensures.options
+    (subst (λ z. Spelled (body_of c.in-Ok-parse.template) (pieces (reads_of z))
+    × (body_levels (body_of c.in-Ok-parse.template) ≤ 100))
+    c.as_slice.ensures.value c.in-Ok-parse.ensures.spelled)
+    c.in-Ok-parse.ensures.known
 
 pub returns-in-Ok-parse-clause-only : goal.returns-in-Ok-parse-clause-only
 returns-in-Ok-parse-clause-only c =
-    let short : length c.args.text.now ≤ max_source_len = limited c.args.text.now (λ long. let no = c.in-Ok.ensures.long long in absurd (cc)) in
+    let short : length c.args.text.now ≤ max_source_len =
+    limited c.args.text.now (λ long. let no = c.in-Ok.ensures.long long in absurd (cc)) in
     λ b t.
-    only_tree c.args.options c.args.text.now c.in-Ok.source (c.in-Ok.ensures.short short) c.in-Ok-scan.segments.items c.in-Ok-scan.ensures.options c.in-Ok-scan.ensures.only c.in-Ok-parse.template
-    (subst (λ z. (d : Body) → Spelled d (pieces (reads_of z)) → body_levels d ≤ 100 → body_unknown d ≡ None → body_of c.in-Ok-parse.template ≡ d) c.as_slice.ensures.value c.in-Ok-parse.ensures.only) b t
+    only_tree c.args.options c.args.text.now c.in-Ok.source (c.in-Ok.ensures.short short) c.in-Ok-scan.segments.items
+    c.in-Ok-scan.ensures.options c.in-Ok-scan.ensures.only c.in-Ok-parse.template
+    (subst (λ z. (d : Body) → Spelled d (pieces (reads_of z)) → body_levels d ≤ 100 → body_unknown d ≡ None
+    → body_of c.in-Ok-parse.template ≡ d)
+    c.as_slice.ensures.value c.in-Ok-parse.ensures.only) b t
 
 pub returns-clause-refused : goal.returns-clause-refused
 returns-clause-refused c =
-    let short : length c.args.text.now ≤ max_source_len = limited c.args.text.now (λ long. let no = c.in-Ok.ensures.long long in absurd (cc)) in
+    let short : length c.args.text.now ≤ max_source_len =
+    limited c.args.text.now (λ long. let no = c.in-Ok.ensures.long long in absurd (cc)) in
     let e = c.in-Err-parse.refusal in
-    let none = no_tree c.args.options c.args.text.now c.in-Ok.source (c.in-Ok.ensures.short short) c.in-Ok-scan.segments.items c.in-Ok-scan.ensures.options c.in-Ok-scan.ensures.only e in
-    unspelled c.args.options c.args.text.now c.in-Ok.source (c.in-Ok.ensures.short short) c.in-Ok-scan.segments.items c.args.name.now e c.unparsed.result c.in-Ok-scan.ensures.cut c.in-Ok-scan.ensures.options
+    let none = no_tree c.args.options c.args.text.now c.in-Ok.source (c.in-Ok.ensures.short short)
+    c.in-Ok-scan.segments.items c.in-Ok-scan.ensures.options c.in-Ok-scan.ensures.only e in
+    unspelled c.args.options c.args.text.now c.in-Ok.source (c.in-Ok.ensures.short short) c.in-Ok-scan.segments.items
+    c.args.name.now e c.unparsed.result c.in-Ok-scan.ensures.cut c.in-Ok-scan.ensures.options
     (subst (λ z. IsRefusal e (pieces (reads_of z))) c.as_slice.ensures.value c.in-Err-parse.ensures.refused)
-    (λ f. none f (subst (λ z. (d : Body) → Spelled d (pieces (reads_of z)) → body_levels d ≤ 100 → body_unknown d ≡ None → e ≡ parse_error.NoMemory) c.as_slice.ensures.value c.in-Err-parse.ensures.only)) c.unparsed.ensures
+    (λ f. none f (subst (λ z. (d : Body) → Spelled d (pieces (reads_of z)) → body_levels d ≤ 100 → body_unknown d ≡ None
+    → e ≡ parse_error.NoMemory)
+    c.as_slice.ensures.value c.in-Err-parse.ensures.only))
+    c.unparsed.ensures

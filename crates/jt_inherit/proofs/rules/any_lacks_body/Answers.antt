@@ -1,9 +1,9 @@
 use Rattle.std.proofs.Common.{◌∷◌, [], ◌&&◌, not, List, take, sym, ap, subst, ◌∙◌}
 use Rattle.std.proofs.lemmas.List.{map-append}
-use Rattle.jt_trees.specs.Texts.{among, texts}
-use Rattle.jt_inherit.specs.Checks.{block_names}
+use Rattle.jt_ast.specs.Texts.{among, texts}
+use Rattle.jt_inherit.specs.internal.Checks.{block_names}
 use Rattle.jt_chains.specs.declared.parts.Block.{Block}
-use Rattle.jt_inherit.proofs.Checked.{AreGiven, among_set, body_lacking, body_goes, take_next, take_all, all_given}
+use Rattle.jt_inherit.proofs.BodyRules.{AreGiven, among_set, body_lacking, body_goes, take_next, take_all, all_given}
 use Rattle.jt_chains.specs.Parts.{blocks_view}
 use Rattle.jt_inherit.proofs.rules.any_lacks_body.Goals as goal
 
@@ -11,17 +11,24 @@ pub returns-then-is_lacking : goal.returns-then-is_lacking
 returns-then-is_lacking c =
     λ ts.
     let l = c.loop-block in
-    sym (body_lacking ts c.args.blocks.now l.block-index c.block-item.result c.loop-block-test.true c.block-item.is (texts l.names.keys) l.invariant.0
-    (ap (λ k. not k && c.block-item.result.required) (sym c.in_ok-known.ensures.known) ∙ sym c.is_lacking.ensures ∙ c.if-is_lacking.true))
+    sym (body_lacking ts c.args.blocks.now l.block-index c.block-item.result c.loop-block-test.true c.block-item.is
+    (texts l.names.keys) l.invariant.0
+    (ap (λ k. not k && c.block-item.result.required) (sym c.in_ok-known.ensures.known) ∙ sym c.is_lacking.ensures
+    ∙ c.if-is_lacking.true))
 
 pub loop-block-preserved : goal.loop-block-preserved
 loop-block-preserved c =
     let l = c.loop-block in
     let x = c.block-item.result in (
-      λ y. among_set (texts l.names.keys) (texts c.note.new.names.keys) (block_names (take l.block-index c.args.blocks.now)) x.name.now l.invariant.0 c.in_ok-known.ensures.noted y
-          ∙ ap (among y) (sym (ap block_names (take_next c.args.blocks.now l.block-index x c.loop-block-test.true c.block-item.is) ∙ map-append (λ (b : Block). b.name.now) (take l.block-index c.args.blocks.now) (x ∷ []))),
-      λ ts. body_goes ts c.args.blocks.now l.block-index x c.loop-block-test.true c.block-item.is (texts l.names.keys) l.invariant.0 (l.invariant.1 ts)
-          (ap (λ k. not k && x.required) (sym c.in_ok-known.ensures.known) ∙ sym c.is_lacking.ensures ∙ c.if-is_lacking.false),
+      λ y. among_set (texts l.names.keys) (texts c.note.new.names.keys)
+          (block_names (take l.block-index c.args.blocks.now)) x.name.now l.invariant.0 c.in_ok-known.ensures.noted y
+          ∙ ap (among y) (sym (ap block_names
+          (take_next c.args.blocks.now l.block-index x c.loop-block-test.true c.block-item.is)
+          ∙ map-append (λ (b : Block). b.name.now) (take l.block-index c.args.blocks.now) (x ∷ []))),
+      λ ts. body_goes ts c.args.blocks.now l.block-index x c.loop-block-test.true c.block-item.is (texts l.names.keys)
+          l.invariant.0 (l.invariant.1 ts)
+          (ap (λ k. not k && x.required) (sym c.in_ok-known.ensures.known) ∙ sym c.is_lacking.ensures
+          ∙ c.if-is_lacking.false),
     )
 
 pub returns : goal.returns
@@ -29,4 +36,5 @@ returns c =
     λ ts.
     let l = c.loop-block in
     let whole = take_all c.args.blocks.now l.block-index c.loop-block-test.false in
-    sym (all_given (blocks_view ts c.args.blocks.now) (subst (λ (z : List Block). AreGiven (blocks_view ts z)) whole (l.invariant.1 ts)))
+    sym (all_given (blocks_view ts c.args.blocks.now)
+    (subst (λ (z : List Block). AreGiven (blocks_view ts z)) whole (l.invariant.1 ts)))

@@ -1,12 +1,13 @@
 use Rattle.std.proofs.Common.{◌≡◌, List, take}
-use Rattle.jt_trees.specs.Expressions.{Text}
-use Rattle.jt_trees.specs.Texts.{among, texts}
+use Rattle.jt_ast.specs.Expressions.{Text}
+use Rattle.jt_ast.specs.Texts.{among, texts}
 use Rattle.jt_chains.specs.Chain.{Template}
-use Rattle.jt_inherit.specs.Checks.{block_names}
+use Rattle.jt_inherit.specs.internal.Checks.{block_names}
 use Rattle.jt_chains.specs.Parts.{blocks_view}
-use Rattle.jt_inherit.proofs.Checked.{AreGiven}
+use Rattle.jt_inherit.proofs.BodyRules.{AreGiven}
 use Rattle.jt_inherit.proofs.rules.any_lacks_body.Given as goal
 
 abbrev pub invariant-loop-block : goal.invariant-loop-block
 invariant-loop-block l =
-    ((x : Text) → among x (texts l.names.keys) ≡ among x (block_names (take l.block-index l.blocks))) × ((ts : List Template) → AreGiven (blocks_view ts (take l.block-index l.blocks)))
+    ((x : Text) → among x (texts l.names.keys) ≡ among x (block_names (take l.block-index l.blocks)))
+    × ((ts : List Template) → AreGiven (blocks_view ts (take l.block-index l.blocks)))

@@ -2,12 +2,12 @@ use Rattle.std.proofs.Common.{◌≡◌, ◌++◌, ◌∷◌, ◌&&◌, ◌||◌
 use Rattle.std.specs.Option.{option_to_list}
 use Rattle.std.specs.Str.{bytes_eq}
 use Rattle.std.proofs.lemmas.List.{append_assoc}
-use Rattle.jt_trees.specs.StatementView.{body_view}
-use Rattle.jt_inherit.specs.Checks.{lacks_next}
+use Rattle.jt_ast.specs.StatementView.{body_view}
+use Rattle.jt_inherit.specs.internal.Checks.{lacks_next}
 use Rattle.jt_chains.specs.Parts.{block_view, blocks_view}
 use Rattle.jt_chains.specs.Supers.{calls_super}
 use Rattle.jt_chains.specs.declared.parts.Block.{Block}
-use Rattle.jt_inherit.proofs.Checked.{any_text, has_given, next_more, next_lacking, all_next, no_items}
+use Rattle.jt_inherit.proofs.BodyRules.{any_text, has_given, next_more, next_lacking, all_next, no_items}
 use Rattle.jt_inherit.proofs.rules.any_lacks_next.Goals as goal
 
 pub returns-then-is_lacking : goal.returns-then-is_lacking
@@ -17,10 +17,14 @@ returns-then-is_lacking c =
     let b = c.in-Some.block in
     let qs = c.pop.new.self.items in
     let popped = c.pop.ensures.items ∙ ap (λ o. qs ++ option_to_list o) c.in-Some.is in
-    let whole : c.args.bodies.items ≡ qs ++ b ∷ v.0 = v.1 ∙ ap (λ (l : List Block). l ++ v.0) popped ∙ append_assoc qs (b ∷ []) v.0 in
-    let has : c.contains.result ≡ has_given b.name.now (blocks_view ts v.0) = c.contains.ensures ∙ any_text b.name.now c.loop-block.given.keys ∙ v.2 ts b.name.now in
-    let test = ap (λ z. not z && calls_super (body_view b.body.now)) (sym has) ∙ ap (λ z. not c.contains.result && z) (sym c.calls_super.ensures) ∙ sym c.is_lacking.ensures in
-    sym (ap (λ (l : List Block). lacks_next (blocks_view ts l)) whole ∙ next_lacking ts qs b v.0 (test ∙ c.if-is_lacking.true))
+    let whole : c.args.bodies.items ≡ qs ++ b ∷ v.0 =
+    v.1 ∙ ap (λ (l : List Block). l ++ v.0) popped ∙ append_assoc qs (b ∷ []) v.0 in
+    let has : c.contains.result ≡ has_given b.name.now (blocks_view ts v.0) =
+    c.contains.ensures ∙ any_text b.name.now c.loop-block.given.keys ∙ v.2 ts b.name.now in
+    let test = ap (λ z. not z && calls_super (body_view b.body.now)) (sym has)
+    ∙ ap (λ z. not c.contains.result && z) (sym c.calls_super.ensures) ∙ sym c.is_lacking.ensures in
+    sym (ap (λ (l : List Block). lacks_next (blocks_view ts l)) whole
+    ∙ next_lacking ts qs b v.0 (test ∙ c.if-is_lacking.true))
 
 pub loop-block-preserved : goal.loop-block-preserved
 loop-block-preserved c =
@@ -32,8 +36,10 @@ loop-block-preserved c =
       v.1 ∙ ap (λ (l : List Block). l ++ v.0) popped ∙ append_assoc qs (b ∷ []) v.0,
       λ ts x. c.in_ok-note_given.ensures x ∙ ap (λ z. (bytes_eq b.name.now x && not b.required) || z) (v.2 ts x),
       λ ts.
-          let has : c.contains.result ≡ has_given b.name.now (blocks_view ts v.0) = c.contains.ensures ∙ any_text b.name.now c.loop-block.given.keys ∙ v.2 ts b.name.now in
-          let test = ap (λ z. not z && calls_super (body_view b.body.now)) (sym has) ∙ ap (λ z. not c.contains.result && z) (sym c.calls_super.ensures) ∙ sym c.is_lacking.ensures in
+          let has : c.contains.result ≡ has_given b.name.now (blocks_view ts v.0) =
+          c.contains.ensures ∙ any_text b.name.now c.loop-block.given.keys ∙ v.2 ts b.name.now in
+          let test = ap (λ z. not z && calls_super (body_view b.body.now)) (sym has)
+          ∙ ap (λ z. not c.contains.result && z) (sym c.calls_super.ensures) ∙ sym c.is_lacking.ensures in
           next_more (block_view ts b) (blocks_view ts v.0) (v.3 ts) (test ∙ c.if-is_lacking.false),
     )
 

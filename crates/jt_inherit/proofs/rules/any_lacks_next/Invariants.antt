@@ -1,10 +1,10 @@
 use Rattle.std.proofs.Common.{◌≡◌, ◌++◌, List, length}
-use Rattle.jt_trees.specs.Expressions.{Text}
-use Rattle.jt_trees.specs.Texts.{among, texts}
+use Rattle.jt_ast.specs.Expressions.{Text}
+use Rattle.jt_ast.specs.Texts.{among, texts}
 use Rattle.jt_chains.specs.Chain.{Template}
 use Rattle.jt_chains.specs.Parts.{blocks_view}
 use Rattle.jt_chains.specs.declared.parts.Block.{Block}
-use Rattle.jt_inherit.proofs.Checked.{has_given, HaveNext}
+use Rattle.jt_inherit.proofs.BodyRules.{has_given, HaveNext}
 use Rattle.jt_inherit.proofs.rules.any_lacks_next.Given as goal
 
 abbrev pub decreases-loop-block : goal.decreases-loop-block

@@ -1,8 +1,10 @@
 use Rattle.std.proofs.Common.{◌≡◌, false, take}
-use Rattle.jt_trees.specs.Expressions.{Text}
-use Rattle.jt_trees.specs.Texts.{among, repeated, texts}
-use Rattle.jt_inherit.specs.Checks.{block_names}
+use Rattle.jt_ast.specs.Expressions.{Text}
+use Rattle.jt_ast.specs.Texts.{among, repeated, texts}
+use Rattle.jt_inherit.specs.internal.Checks.{block_names}
 use Rattle.jt_inherit.proofs.rules.blocks_repeat.Given as goal
 
 abbrev pub invariant-loop-block : goal.invariant-loop-block
-invariant-loop-block l = ((x : Text) → among x (texts l.names.keys) ≡ among x (block_names (take l.block-index l.blocks))) × (repeated (block_names (take l.block-index l.blocks)) ≡ false)
+invariant-loop-block l =
+    ((x : Text) → among x (texts l.names.keys) ≡ among x (block_names (take l.block-index l.blocks)))
+    × (repeated (block_names (take l.block-index l.blocks)) ≡ false)

@@ -1,41 +1,53 @@
 use Rattle.std.proofs.Common.{List, sym, ap, ◌∙◌}
-use Rattle.jt_trees.specs.Texts.{repeated, texts}
-use Rattle.jt_inherit.specs.Checks.{lacks_body}
+use Rattle.jt_ast.specs.Texts.{repeated, texts}
+use Rattle.jt_inherit.specs.internal.Checks.{lacks_body}
 use Rattle.jt_chains.specs.Along.{templates_at}
-use Rattle.jt_chains.specs.Pages.{pages_view}
+use Rattle.jt_chains.specs.TemplateFiles.{files_view}
 use Rattle.jt_chains.specs.Parts.{blocks_view}
 use Rattle.jt_chains.specs.declared.parts.Block.{Block}
 use denote.Ref.{Bor}
-use Rattle.jt_trees.specs.Expressions.{Text}
-use Rattle.jt_inherit.proofs.Finding.{placed_templates}
-use Rattle.jt_inherit.proofs.Ruled.{bodies_told, next_told}
+use Rattle.jt_ast.specs.Expressions.{Text}
+use Rattle.jt_inherit.proofs.DiscoveryInvariant.{placed_templates}
+use Rattle.jt_inherit.proofs.ChainRules.{bodies_told, next_told}
 use Rattle.jt_inherit.proofs.rules.check_rules.Goals as goal
 
 pub returns-then-branch-3-clause-broken : goal.returns-then-branch-3-clause-broken
 returns-then-branch-3-clause-broken c =
-    let ts = pages_view c.args.shelf.pages.now in
+    let ts = files_view c.args.store.files.now in
     let is = c.args.places.now in
-    bodies_told c.args.escaping ts (templates_at ts is) is (placed_templates ts is c.requires) c.in_ok-blocks.blocks.items c.in_ok-any_lacks_body.field-0 c.in_ok-blocks.ensures
+    bodies_told c.args.escaping ts (templates_at ts is) is (placed_templates ts is c.requires)
+    c.in_ok-blocks.blocks.items c.in_ok-any_lacks_body.field-0 c.in_ok-blocks.ensures
     (c.in_ok-any_lacks_body.ensures ts ∙ ap (λ (z : List Block). lacks_body (blocks_view ts z)) c.deref-2.ensures.value)
     ∙ c.if-branch-3.true
 
 pub returns-then-branch-4-clause-broken : goal.returns-then-branch-4-clause-broken
 returns-then-branch-4-clause-broken c =
-    let ts = pages_view c.args.shelf.pages.now in
+    let ts = files_view c.args.store.files.now in
     let is = c.args.places.now in
-    next_told c.args.escaping ts (templates_at ts is) is (placed_templates ts is c.requires) c.in_ok-blocks.blocks.items c.in_ok-any_lacks_next.field-0 c.in_ok-blocks.ensures (c.in_ok-any_lacks_next.ensures ts) ∙ c.if-branch-4.true
+    next_told c.args.escaping ts (templates_at ts is) is (placed_templates ts is c.requires) c.in_ok-blocks.blocks.items
+    c.in_ok-any_lacks_next.field-0 c.in_ok-blocks.ensures (c.in_ok-any_lacks_next.ensures ts)
+    ∙ c.if-branch-4.true
 
 pub returns-clause-kept : goal.returns-clause-kept
 returns-clause-kept c =
-    let ts = pages_view c.args.shelf.pages.now in
+    let ts = files_view c.args.store.files.now in
     let is = c.args.places.now in
     let placed = placed_templates ts is c.requires in
     record {
       doubles = sym c.in_ok-any_double.ensures ∙ c.if-branch.false;
-      bodies = bodies_told c.args.escaping ts (templates_at ts is) is placed c.in_ok-blocks.blocks.items c.in_ok-any_lacks_body.field-0 c.in_ok-blocks.ensures
-          (c.in_ok-any_lacks_body.ensures ts ∙ ap (λ (z : List Block). lacks_body (blocks_view ts z)) c.deref-2.ensures.value)
+      bodies =
+          bodies_told c.args.escaping ts (templates_at ts is) is placed c.in_ok-blocks.blocks.items
+          c.in_ok-any_lacks_body.field-0 c.in_ok-blocks.ensures
+          (c.in_ok-any_lacks_body.ensures ts
+          ∙ ap (λ (z : List Block). lacks_body (blocks_view ts z)) c.deref-2.ensures.value)
           ∙ c.if-branch-3.false;
-      next = next_told c.args.escaping ts (templates_at ts is) is placed c.in_ok-blocks.blocks.items c.in_ok-any_lacks_next.field-0 c.in_ok-blocks.ensures (c.in_ok-any_lacks_next.ensures ts) ∙ c.if-branch-4.false;
-      names = ap repeated (sym c.in_ok-names_at.ensures) ∙ ap (λ (z : List (Bor Text)). repeated (texts z)) (sym c.deref.ensures.value) ∙ sym c.in_ok-names_repeat.ensures ∙ c.if-branch-2.false;
+      next =
+          next_told c.args.escaping ts (templates_at ts is) is placed c.in_ok-blocks.blocks.items
+          c.in_ok-any_lacks_next.field-0 c.in_ok-blocks.ensures (c.in_ok-any_lacks_next.ensures ts)
+          ∙ c.if-branch-4.false;
+      names =
+          ap repeated (sym c.in_ok-names_at.ensures)
+          ∙ ap (λ (z : List (Bor Text)). repeated (texts z)) (sym c.deref.ensures.value)
+          ∙ sym c.in_ok-names_repeat.ensures ∙ c.if-branch-2.false;
       macros_there = sym c.any_lacks_macros.ensures ∙ c.if-any_lacks_macros.false;
     }

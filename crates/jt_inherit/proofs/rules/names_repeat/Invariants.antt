@@ -1,7 +1,9 @@
 use Rattle.std.proofs.Common.{◌≡◌, false, take}
-use Rattle.jt_trees.specs.Expressions.{Text}
-use Rattle.jt_trees.specs.Texts.{among, repeated, texts}
+use Rattle.jt_ast.specs.Expressions.{Text}
+use Rattle.jt_ast.specs.Texts.{among, repeated, texts}
 use Rattle.jt_inherit.proofs.rules.names_repeat.Given as goal
 
 abbrev pub invariant-loop-name : goal.invariant-loop-name
-invariant-loop-name l = ((x : Text) → among x (texts l.names.keys) ≡ among x (texts (take l.name-index l.given))) × (repeated (texts (take l.name-index l.given)) ≡ false)
+invariant-loop-name l =
+    ((x : Text) → among x (texts l.names.keys) ≡ among x (texts (take l.name-index l.given)))
+    × (repeated (texts (take l.name-index l.given)) ≡ false)

@@ -1,5 +1,5 @@
 use Rattle.std.proofs.Common.{not, ap, ◌∙◌}
-use Rattle.jt_inherit.proofs.Checked.{any_text, name_more, not_not}
+use Rattle.jt_inherit.proofs.BodyRules.{any_text, name_more, not_not}
 use Rattle.jt_inherit.proofs.rules.note.Goals as goal
 
 pub returns-clause-known : goal.returns-clause-known

@@ -1,8 +1,10 @@
 use Rattle.std.proofs.Common.{◌≡◌, ◌++◌, drop, map}
-use Rattle.jt_trees.specs.StatementView.{body_view}
+use Rattle.jt_ast.specs.StatementView.{body_view}
 use Rattle.jt_chains.specs.Chain.{libraries_in}
 use Rattle.jt_chains.specs.Needs.{library_need, needs_view}
 use Rattle.jt_inherit.proofs.statements.add_imports.Given as goal
 
 abbrev pub invariant-loop-statement : goal.invariant-loop-statement
-invariant-loop-statement l = needs_view l.found.items ++ map library_need (libraries_in (body_view (drop l.statement-index l.body))) ≡ needs_view l.initial.found.items ++ map library_need (libraries_in (body_view l.body))
+invariant-loop-statement l =
+    needs_view l.found.items ++ map library_need (libraries_in (body_view (drop l.statement-index l.body)))
+    ≡ needs_view l.initial.found.items ++ map library_need (libraries_in (body_view l.body))

@@ -2,22 +2,28 @@ use Rattle.std.proofs.Common.{◌≡◌, ◌∙◌, Bool, true, false, ◌||◌,
 use Rattle.std.specs.List.{list_any}
 use Rattle.std.proofs.lemmas.Iterator.{YieldsList-from_slice}
 use Rattle.std.proofs.lemmas.Iterator.Search.{any_from_yields_List}
-use Rattle.jt_trees.specs.ExpressionView.{exprs_view, pairs_view}
-use Rattle.jt_trees.specs.StatementView.{filterings_view}
-use Rattle.jt_trees.specs.declared.statement.Filtering.{Filtering}
-use Rattle.jt_chains.specs.Supers.{filtering_super, row_super, pairs_super}
+use Rattle.jt_ast.specs.ExpressionView.{exprs_view, pairs_view}
+use Rattle.jt_ast.specs.StatementView.{filter_calls_view}
+use Rattle.jt_ast.specs.declared.statement.FilterCall.{FilterCall}
+use Rattle.jt_chains.specs.Supers.{filter_call_super, row_super, pairs_super}
 use Rattle.jt_inherit.proofs.supers.filters_super.Goals as goal
 
-abbrev has_super : Filtering → Bool
+abbrev has_super : FilterCall → Bool
 has_super f = row_super (exprs_view f.arguments.items) || pairs_super (pairs_view f.keywords.items)
 
 or_assoc : (a b c : Bool) → ((a || b) || c) ≡ (a || (b || c))
 or_assoc true b c = refl
 or_assoc false b c = refl
 
-any_super : (fs : List Filtering) → list_any has_super fs ≡ filtering_super (filterings_view fs)
+any_super : (fs : List FilterCall) → list_any has_super fs ≡ filter_call_super (filter_calls_view fs)
 any_super [] = refl
-any_super (f ∷ fs) = ap (λ b. has_super f || b) (any_super fs) ∙ or_assoc (row_super (exprs_view f.arguments.items)) (pairs_super (pairs_view f.keywords.items)) (filtering_super (filterings_view fs))
+any_super (f ∷ fs) =
+    ap (λ b. has_super f || b) (any_super fs)
+    ∙ or_assoc (row_super (exprs_view f.arguments.items)) (pairs_super (pairs_view f.keywords.items))
+    (filter_call_super (filter_calls_view fs))
 
 pub returns : goal.returns
-returns c = any_from_yields_List has_super _ _ _ c.any.ensures.ran (YieldsList-from_slice c.args.filters.now cc) (λ x b q k. search (rules, tests)) ∙ any_super c.args.filters.now
+returns c =
+    any_from_yields_List has_super _ _ _ c.any.ensures.ran (YieldsList-from_slice c.args.filters.now cc)
+    (λ x b q k. search (rules, tests))
+    ∙ any_super c.args.filters.now

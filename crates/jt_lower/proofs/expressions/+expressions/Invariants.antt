@@ -1,16 +1,16 @@
 use Rattle.std.proofs.Common.{ℕ, ◌+◌, ◌*◌, List, drop}
 use Rattle.std.specs.Prelude.{max}
 use denote.Param.Weighed.{most}
-use Rattle.jt_trees.specs.Expressions.{Text}
-use Rattle.jt_resolved.specs.Slots.{none}
-use Rattle.jt_resolved.specs.declared.program.SlotExpr.{size-SlotExpr}
-use Rattle.jt_resolved.specs.View.{row_view}
+use Rattle.jt_ast.specs.Expressions.{Text}
+use Rattle.jt_ir.specs.Slots.{none}
+use Rattle.jt_ir.specs.declared.program.SlotExpr.{size-SlotExpr}
+use Rattle.jt_ir.specs.View.{row_view}
 use Rattle.jt_lower.specs.Lower.{row_asm}
 use Rattle.jt_lower.specs.Emission.{StandsFor, tag_view}
-use Rattle.jt_lower.proofs.Rows.{Leaves}
+use Rattle.jt_lower.proofs.RowCode.{Leaves}
 use Rattle.jt_lower.proofs.expressions.+expressions.Given as goal
 
--- ---- how deep the expressions are that are left, and who hands its own on
+-- ---- measures: the size of the expression, and the functions that pass it on
 
 abbrev pub decreases-emit_expression : goal.decreases-emit_expression
 decreases-emit_expression l = 3 * size-SlotExpr l.expr.now
@@ -27,7 +27,10 @@ decreases-emit_side l = 3 * size-SlotExpr l.expr.now + 1
 abbrev pub decreases-emit_instead : goal.decreases-emit_instead
 decreases-emit_instead l = 3 * size-SlotExpr l.expr.now + 2
 
--- ---- of a row, what is left
+-- ---- the rest of a sequence
 
 abbrev pub invariant-emit_row-loop-kept : goal.invariant-emit_row-loop-kept
-invariant-emit_row-loop-kept l = (ts : List Text) (h : ℕ) → StandsFor l.above h → Leaves ts (tag_view ts l.tag) l.initial.code (row_asm (tag_view ts l.tag) (row_view l.row none) h) l.code (drop l.kept-index l.row) l.top
+invariant-emit_row-loop-kept l =
+    (ts : List Text) (h : ℕ) → StandsFor l.above h
+    → Leaves ts (tag_view ts l.tag) l.initial.code (row_asm (tag_view ts l.tag) (row_view l.row none) h) l.code
+    (drop l.kept-index l.row) l.top

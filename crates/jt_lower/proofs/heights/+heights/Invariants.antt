@@ -1,4 +1,4 @@
-use Rattle.jt_lower.proofs.Lows.{Left}
+use Rattle.jt_lower.proofs.HeightsDecided.{Left}
 use Rattle.jt_lower.proofs.heights.+heights.Given as goal
 
 abbrev pub invariant-fits_row-loop-kept : goal.invariant-fits_row-loop-kept

@@ -1,4 +1,4 @@
-use Rattle.jt_lower.proofs.Whole.{laws_hold}
+use Rattle.jt_lower.proofs.LowerLawsHold.{laws_hold}
 use Rattle.jt_lower.proofs.laws.low_laws.Goals as goal
 
 pub returns : goal.returns

@@ -1,39 +1,50 @@
-use Rattle.std.proofs.Common.{◌≡◌, ℕ, ◌+◌, ◌-◌, ◌<◌, ◌≤◌, List, length, get_or, take, sym, ap, ◌∙◌, length-append, arith, rules}
+use Rattle.std.proofs.Common.{◌≡◌, ℕ, ◌+◌, ◌-◌, ◌<◌, ◌≤◌, List, length, get_or, take, sym, ap, ◌∙◌, length-append}
+use Rattle.std.proofs.Common.{arith, rules}
 use Rattle.std.proofs.lemmas.List.{take_all}
 use Rattle.jt_budget.specs.declared.budget.Budget.{Budget}
 use Rattle.jt_escape.specs.Escaping.{escaped, escaped_byte}
-use Rattle.jt_escape.proofs.Runs.{escaped_more, escaped_front}
+use Rattle.jt_escape.proofs.EscapedPrefix.{escaped_more, escaped_front}
 use Rattle.jt_machine.proofs.escaping.emit_escaped.Goals as goal
 
--- only the output is another one, after two changes of it too
-still : (a b d : Budget) (n : ℕ) → b ≡ record a { output = b.output } → d ≡ record b { output = n } → d ≡ record a { output = d.output }
+-- Two changes of the output change only the output.
+still : (a b d : Budget) (n : ℕ) → b ≡ record a { output = b.output } → d ≡ record b { output = n }
+    → d ≡ record a { output = d.output }
 still a b d n before now =
-    let first : record b { output = n } ≡ record a { output = n } = ap (λ (x : Budget). record x { output = n }) before in
+    let first : record b { output = n } ≡ record a { output = n } =
+    ap (λ (x : Budget). record x { output = n }) before in
     let same : n ≡ d.output = sym (ap (λ (x : Budget). x.output) now) in
     now ∙ first ∙ ap (λ (m : ℕ). record a { output = m }) same
 
--- one byte more
-taken_more : (text items : List ℕ) (i n : ℕ) → items ≡ text → i < length items → n ≡ length (escaped_byte (get_or items i 0)) → length (escaped (take (i + 1) text)) ≡ length (escaped (take i text)) + n
+-- The escaped length with one more byte is the sum of both lengths.
+taken_more : (text items : List ℕ) (i n : ℕ) → items ≡ text → i < length items
+    → n ≡ length (escaped_byte (get_or items i 0))
+    → length (escaped (take (i + 1) text)) ≡ length (escaped (take i text)) + n
 taken_more text items i n same inside is =
     let within : i < length text = rw same at inside in
     let here : n ≡ length (escaped_byte (get_or text i 0)) = rw same at is in
-    ap length (escaped_more text i within) ∙ length-append (escaped (take i text)) (escaped_byte (get_or text i 0)) ∙ ap (λ (m : ℕ). length (escaped (take i text)) + m) (sym here)
+    ap length (escaped_more text i within) ∙ length-append (escaped (take i text)) (escaped_byte (get_or text i 0))
+    ∙ ap (λ (m : ℕ). length (escaped (take i text)) + m) (sym here)
 
 pub bytes-preserved : goal.bytes-preserved
 bytes-preserved c =
-    let more = taken_more c.args.text.now c.as_bytes-byte-items.result.now c.bytes.byte-index c.escaped_len.result c.as_bytes-byte-items.ensures.value c.bytes-test.true c.escaped_len.ensures in
+    let more = taken_more c.args.text.now c.as_bytes-byte-items.result.now c.bytes.byte-index c.escaped_len.result
+    c.as_bytes-byte-items.ensures.value c.bytes-test.true c.escaped_len.ensures in
     let now = c.in_ok-emit.ensures.ok.1 in
     let output = ap (λ (x : Budget). x.output) now in
     record {
       taken = omega (arith, more, output, c.in_ok-emit.ensures.ok.0, c.bytes.invariant.taken);
-      same = still c.args.left.now c.bytes.rest c.emit.new.self (c.bytes.rest.output - c.escaped_len.result) c.bytes.invariant.same now;
+      same =
+          still c.args.left.now c.bytes.rest c.emit.new.self (c.bytes.rest.output - c.escaped_len.result)
+          c.bytes.invariant.same now;
     }
 
 pub returns-in_err-emit-clause-err : goal.returns-in_err-emit-clause-err
 returns-in_err-emit-clause-err c =
-    let more = taken_more c.args.text.now c.as_bytes-byte-items.result.now c.bytes.byte-index c.escaped_len.result c.as_bytes-byte-items.ensures.value c.bytes-test.true c.escaped_len.ensures in
+    let more = taken_more c.args.text.now c.as_bytes-byte-items.result.now c.bytes.byte-index c.escaped_len.result
+    c.as_bytes-byte-items.ensures.value c.bytes-test.true c.escaped_len.ensures in
     let front = escaped_front c.args.text.now (c.bytes.byte-index + 1) in
-    let long : c.args.left.now.output < length (escaped c.args.text.now) = omega (arith, more, front, c.in_err-emit.ensures.err.1, c.bytes.invariant.taken) in
+    let long : c.args.left.now.output < length (escaped c.args.text.now) =
+    omega (arith, more, front, c.in_err-emit.ensures.err.1, c.bytes.invariant.taken) in
     let named = c.in_err-emit.ensures.err.0 in
     search (rules, long, named)
 
@@ -42,5 +53,8 @@ returns-clause-ok c =
     let text = c.args.text.now in
     let all : length text ≤ c.bytes.byte-index = rw c.as_bytes-byte-items.ensures.value at c.bytes-test.false in
     let whole = ap (λ (xs : List ℕ). length (escaped xs)) (take_all c.bytes.byte-index text all) in
-    let rest : c.bytes.rest.output ≡ c.args.left.now.output - length (escaped text) = omega (arith, whole, c.bytes.invariant.taken) in
-    (omega (arith, whole, c.bytes.invariant.taken), c.bytes.invariant.same ∙ ap (λ (m : ℕ). record c.args.left.now { output = m }) rest)
+    let rest : c.bytes.rest.output ≡ c.args.left.now.output - length (escaped text) =
+    omega (arith, whole, c.bytes.invariant.taken) in (
+      omega (arith, whole, c.bytes.invariant.taken),
+      c.bytes.invariant.same ∙ ap (λ (m : ℕ). record c.args.left.now { output = m }) rest,
+    )

@@ -1,6 +1,6 @@
 use Rattle.std.proofs.Common.{◌≡◌, map, take}
 use Rattle.jt_value.specs.View.{view}
-use Rattle.jt_machine.proofs.Steps.{key_of}
+use Rattle.jt_machine.proofs.StepLemmas.{key_of}
 use Rattle.jt_machine.proofs.items.keys.Given as goal
 
 abbrev pub invariant-entries : goal.invariant-entries

@@ -4,7 +4,7 @@ use Rattle.jt_value.specs.Tree.{no_entries}
 use Rattle.jt_image.specs.Step.{put_entries}
 use Rattle.jt_machine.specs.Entries.{all_held}
 use Rattle.jt_machine.specs.View.{budget_view}
-use Rattle.jt_machine.proofs.Weighing.{map_size, map_nesting, map_within}
+use Rattle.jt_machine.proofs.MapSize.{map_size, map_nesting, map_within}
 use Rattle.jt_machine.proofs.limits.map_limit.Goals as goal
 
 pub returns-in-None : goal.returns-in-None
@@ -13,4 +13,5 @@ returns-in-None c = map_within (budget_view c.args.budget.now) (all_held c.args.
 pub returns-in-Some : goal.returns-in-Some
 returns-in-Some c =
     let ts = all_held c.args.pairs.now in
-    c.limit_by.ensures (tree.map (put_entries no_entries ts)) (omega (arith, map_size ts)) (omega (arith, map_nesting ts))
+    c.limit_by.ensures (tree.map (put_entries no_entries ts)) (omega (arith, map_size ts))
+    (omega (arith, map_nesting ts))

@@ -1,7 +1,7 @@
 use Rattle.std.proofs.Common.{◌≡◌, ◌≤◌, ◌-◌}
 use Rattle.jt_image.specs.Run.{Goes, after}
 use Rattle.jt_machine.specs.StageView.{IsReached}
-use Rattle.jt_machine.specs.Made.{AreMade}
+use Rattle.jt_machine.specs.internal.ConstantCache.{AreCached}
 use Rattle.jt_machine.specs.View.{config_view}
 use Rattle.jt_machine.proofs.machine.take_steps.Given as goal
 
@@ -10,7 +10,7 @@ invariant-steps g l = record {
   within : l.left ≤ l.k;
   so_far : after (g.C.Code.code l.code) (l.k - l.left) (config_view l.fn.state) ≡ Goes (config_view l.state);
   reached : IsReached (g.C.Code.code l.code) l.state;
-  made : AreMade (g.C.Code.code l.code) l.made.items;
+  made : AreCached (g.C.Code.code l.code) l.made.items;
 }
 
 abbrev pub decreases-steps : goal.decreases-steps

@@ -2,13 +2,14 @@ use Rattle.std.proofs.Common.{◌≡◌, length, map}
 use Rattle.jt_value.specs.Tree.{no_entries}
 use Rattle.jt_value.specs.View.{view, entries_view}
 use Rattle.jt_image.specs.Step.{put_entries}
-use Rattle.jt_machine.specs.Making.{upward, HasTextKeys}
+use Rattle.jt_machine.specs.internal.Making.{upward, HasTextKeys}
 use Rattle.jt_machine.proofs.maps.entries_of.Given as goal
 
 abbrev pub invariant-pairs : goal.invariant-pairs
 invariant-pairs l = record {
   texts : HasTextKeys l.values.items;
-  same : put_entries (entries_view l.entries.items) (upward l.values.items) ≡ put_entries no_entries (map view l.fn.values.items);
+  same : put_entries (entries_view l.entries.items) (upward l.values.items)
+      ≡ put_entries no_entries (map view l.fn.values.items);
 }
 
 abbrev pub decreases-pairs : goal.decreases-pairs

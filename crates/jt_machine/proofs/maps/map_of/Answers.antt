@@ -1,10 +1,13 @@
 use Rattle.std.proofs.Common.{map, ap, sym, ◌∙◌, Ok}
 use Rattle.jt_value.specs.Tree.{Tree}
 use Rattle.jt_value.specs.View.{view, entries_view}
-use Rattle.jt_machine.proofs.Mapping.{mapped_is}
-use Rattle.jt_machine.proofs.Returning.{if_ok_map}
+use Rattle.jt_machine.proofs.MapUnlessKeyFault.{mapped_is}
+use Rattle.jt_machine.proofs.ReturnCorrect.{if_ok_map}
 use Rattle.jt_machine.proofs.maps.map_of.Goals as goal
 
 pub returns : goal.returns
 returns c =
-    if_ok_map c.from_entries.result _ _ c.from_entries.ensures (λ v e. mapped_is (map view c.args.values.items) (entries_view c.in_ok-entries.entries.items) c.requires c.in_ok-entries.ensures ∙ ap (λ (t : Tree). Ok t) (sym e))
+    if_ok_map c.from_entries.result _ _ c.from_entries.ensures
+    (λ v e. mapped_is (map view c.args.values.items) (entries_view c.in_ok-entries.entries.items) c.requires
+    c.in_ok-entries.ensures
+    ∙ ap (λ (t : Tree). Ok t) (sym e))

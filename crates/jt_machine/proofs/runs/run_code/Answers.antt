@@ -3,12 +3,12 @@ use Rattle.jt_value.specs.ContextView.{pairs_of}
 use Rattle.jt_value.specs.declared.value.Value.{Value}
 use Rattle.jt_image.specs.Config.{Caller}
 use Rattle.jt_image.specs.Run.{next, Goes, Ends, passed, start}
-use Rattle.jt_machine.specs.Made.{AreMade}
+use Rattle.jt_machine.specs.internal.ConstantCache.{AreCached}
 use Rattle.jt_machine.specs.View.{budget_view, config_view, outcome_view}
 use Rattle.jt_machine.specs.Growing.{ComesToGrow}
-use Rattle.jt_machine.proofs.Pieces.{on_err}
-use Rattle.jt_machine.proofs.AtOnce.{reached_gone, ending_gone}
-use Rattle.jt_machine.proofs.Steps.{ending_now, ending_back, reached_next, reached_sound}
+use Rattle.jt_machine.proofs.DrainedOutput.{on_err}
+use Rattle.jt_machine.proofs.FastPathCorrect.{reached_gone, ending_gone}
+use Rattle.jt_machine.proofs.StepLemmas.{ending_now, ending_back, reached_next, reached_sound}
 use Rattle.jt_machine.proofs.runs.run_code.Goals as goal
 
 pub steps-init : goal.steps-init
@@ -17,44 +17,75 @@ steps-init g c =
       reached = (0, ap Goes (sym c.in_ok-state.ensures.state));
       same = λ o e. rw c.in_ok-state.ensures.state at e;
       depth = c.in_ok-state.ensures.depth;
-      made = subst (λ (es : List (ℕ × Value)). AreMade (g.C.Code.code c.args.code.now) es) (sym c.new-made.ensures.items) tt;
+      made =
+          subst (λ (es : List (ℕ × Value)). AreCached (g.C.Code.code c.args.code.now) es) (sym c.new-made.ensures.items)
+          tt;
     }
 
 pub step-requires-clause-not_wrong : goal.step-requires-clause-not_wrong
 step-requires-clause-not_wrong g c =
     let k = g.C.Code.code c.args.code.now in
-    let r = reached_gone k (pairs_of c.args.context.now) (budget_view c.args.budget) c.steps.state c.hurry.new.state c.steps.invariant.reached c.hurry.ensures.gone in
-    (reached_sound c.code_laws.ensures k c.requires.whole c.requires.typed (pairs_of c.args.context.now) (budget_view c.args.budget) (config_view c.hurry.new.state) r).not_wrong
+    let r = reached_gone k (pairs_of c.args.context.now) (budget_view c.args.budget) c.steps.state c.run_fast.new.state
+    c.steps.invariant.reached c.run_fast.ensures.gone in
+    (reached_sound c.code_laws.ensures k c.requires.whole c.requires.typed (pairs_of c.args.context.now)
+    (budget_view c.args.budget) (config_view c.run_fast.new.state) r).not_wrong
 
 pub step-requires-clause-bounded : goal.step-requires-clause-bounded
 step-requires-clause-bounded g c =
     let k = g.C.Code.code c.args.code.now in
-    let r = reached_gone k (pairs_of c.args.context.now) (budget_view c.args.budget) c.steps.state c.hurry.new.state c.steps.invariant.reached c.hurry.ensures.gone in
-    let s = (reached_sound c.code_laws.ensures k c.requires.whole c.requires.typed (pairs_of c.args.context.now) (budget_view c.args.budget) (config_view c.hurry.new.state) r) in
+    let r = reached_gone k (pairs_of c.args.context.now) (budget_view c.args.budget) c.steps.state c.run_fast.new.state
+    c.steps.invariant.reached c.run_fast.ensures.gone in
+    let s = (reached_sound c.code_laws.ensures k c.requires.whole c.requires.typed (pairs_of c.args.context.now)
+    (budget_view c.args.budget) (config_view c.run_fast.new.state) r) in
     record { sized = s.sized; few = s.few }
 
 pub step-requires-clause-depth : goal.step-requires-clause-depth
-step-requires-clause-depth g c = omega (arith, c.steps.invariant.depth, c.hurry.ensures.gone.depth, ap (λ (waiting : List Caller). length waiting) c.hurry.ensures.gone.callers)
+step-requires-clause-depth g c =
+    omega (
+      arith,
+      c.steps.invariant.depth,
+      c.run_fast.ensures.gone.depth,
+      ap (λ (waiting : List Caller). length waiting) c.run_fast.ensures.gone.callers,
+    )
 
 pub steps-preserved : goal.steps-preserved
 steps-preserved g c =
     let k = g.C.Code.code c.args.code.now in
-    let e : next k (config_view c.hurry.new.state) ≡ Goes (config_view c.step.new.state) = c.in_ok-outcome.ensures.next ∙ rw c.in_default-2.is refl in
-    let r = reached_gone k (pairs_of c.args.context.now) (budget_view c.args.budget) c.steps.state c.hurry.new.state c.steps.invariant.reached c.hurry.ensures.gone in
+    let e : next k (config_view c.run_fast.new.state) ≡ Goes (config_view c.step.new.state) =
+    c.in_ok-outcome.ensures.next ∙ rw c.in_default-2.is refl in
+    let r = reached_gone k (pairs_of c.args.context.now) (budget_view c.args.budget) c.steps.state c.run_fast.new.state
+    c.steps.invariant.reached c.run_fast.ensures.gone in
     record {
-      reached = reached_next k (pairs_of c.args.context.now) (budget_view c.args.budget) (config_view c.hurry.new.state) (config_view c.step.new.state) r e;
-      same = λ o r. c.steps.invariant.same o (ending_gone k c.steps.state c.hurry.new.state o c.hurry.ensures.gone (ending_back k (config_view c.hurry.new.state) (config_view c.step.new.state) o e r));
-      depth = omega (arith, c.steps.invariant.depth, c.hurry.ensures.gone.depth, ap (λ (waiting : List Caller). length waiting) c.hurry.ensures.gone.callers, (reached_sound c.code_laws.ensures k c.requires.whole c.requires.typed (pairs_of c.args.context.now) (budget_view c.args.budget) (config_view c.hurry.new.state) r).depth (config_view c.step.new.state) e);
+      reached =
+          reached_next k (pairs_of c.args.context.now) (budget_view c.args.budget) (config_view c.run_fast.new.state)
+          (config_view c.step.new.state) r e;
+      same =
+          λ o r. c.steps.invariant.same o (ending_gone k c.steps.state c.run_fast.new.state o c.run_fast.ensures.gone
+          (ending_back k (config_view c.run_fast.new.state) (config_view c.step.new.state) o e r));
+      depth =
+          omega (
+            arith,
+            c.steps.invariant.depth,
+            c.run_fast.ensures.gone.depth,
+            ap (λ (waiting : List Caller). length waiting) c.run_fast.ensures.gone.callers,
+            (reached_sound c.code_laws.ensures k c.requires.whole c.requires.typed (pairs_of c.args.context.now)
+                (budget_view c.args.budget) (config_view c.run_fast.new.state) r).depth
+                (config_view c.step.new.state) e,
+          );
       made = c.in_ok-outcome.ensures.made;
     }
 
 pub steps-smaller : goal.steps-smaller
 steps-smaller g c =
     let k = g.C.Code.code c.args.code.now in
-    let e : next k (config_view c.hurry.new.state) ≡ Goes (config_view c.step.new.state) = c.in_ok-outcome.ensures.next ∙ rw c.in_default-2.is refl in
-    let r = reached_gone k (pairs_of c.args.context.now) (budget_view c.args.budget) c.steps.state c.hurry.new.state c.steps.invariant.reached c.hurry.ensures.gone in
-    let less = (reached_sound c.code_laws.ensures k c.requires.whole c.requires.typed (pairs_of c.args.context.now) (budget_view c.args.budget) (config_view c.hurry.new.state) r).takes (config_view c.step.new.state) e in
-    omega (arith, less, c.hurry.ensures.gone.fuel)
+    let e : next k (config_view c.run_fast.new.state) ≡ Goes (config_view c.step.new.state) =
+    c.in_ok-outcome.ensures.next ∙ rw c.in_default-2.is refl in
+    let r = reached_gone k (pairs_of c.args.context.now) (budget_view c.args.budget) c.steps.state c.run_fast.new.state
+    c.steps.invariant.reached c.run_fast.ensures.gone in
+    let less = (reached_sound c.code_laws.ensures k c.requires.whole c.requires.typed (pairs_of c.args.context.now)
+    (budget_view c.args.budget) (config_view c.run_fast.new.state) r).takes
+    (config_view c.step.new.state) e in
+    omega (arith, less, c.run_fast.ensures.gone.fuel)
 
 pub returns-in-Some-2-clause-outcome : goal.returns-in-Some-2-clause-outcome
 returns-in-Some-2-clause-outcome g c =
@@ -62,19 +93,27 @@ returns-in-Some-2-clause-outcome g c =
     let o = outcome_view c.in-Some-2.outcome in
     let x = pairs_of c.args.context.now in
     let b = budget_view c.args.budget in
-    let e : next k (config_view c.hurry.new.state) ≡ Ends o = c.in_ok-outcome.ensures.next ∙ rw c.in-Some-2.is refl in
-    let r = c.steps.invariant.same o (ending_gone k c.steps.state c.hurry.new.state o c.hurry.ensures.gone (ending_now k (config_view c.hurry.new.state) o e)) in
+    let e : next k (config_view c.run_fast.new.state) ≡ Ends o =
+    c.in_ok-outcome.ensures.next ∙ rw c.in-Some-2.is refl in
+    let r = c.steps.invariant.same o (ending_gone k c.steps.state c.run_fast.new.state o c.run_fast.ensures.gone
+    (ending_now k (config_view c.run_fast.new.state) o e)) in
     let n : passed b x k.names ≡ None = sym c.in_default.ensures in
     rw n r
 
 pub returns-in_err-state-clause-memory : goal.returns-in_err-state-clause-memory
-returns-in_err-state-clause-memory g c = on_err c.from_residual.result (sym c.in_default.ensures, inl c.in_err-state.ensures.memory)
+returns-in_err-state-clause-memory g c =
+    on_err c.from_residual.result (sym c.in_default.ensures, inl c.in_err-state.ensures.memory)
 
 pub returns-in_err-outcome-clause-memory : goal.returns-in_err-outcome-clause-memory
 returns-in_err-outcome-clause-memory g c =
     let k = g.C.Code.code c.args.code.now in
     let x = pairs_of c.args.context.now in
     let b = budget_view c.args.budget in
-    let r = reached_gone k x b c.steps.state c.hurry.new.state c.steps.invariant.reached c.hurry.ensures.gone in
-    let comes : ComesToGrow k (start k x b) = record { steps = r.0; last = config_view c.hurry.new.state; reached = r.1; grows = c.in_err-outcome.ensures.memory } in
+    let r = reached_gone k x b c.steps.state c.run_fast.new.state c.steps.invariant.reached c.run_fast.ensures.gone in
+    let comes : ComesToGrow k (start k x b) = record {
+      steps = r.0;
+      last = config_view c.run_fast.new.state;
+      reached = r.1;
+      grows = c.in_err-outcome.ensures.memory;
+    } in
     on_err c.from_residual-in_err-outcome.result (sym c.in_default.ensures, inr comes)

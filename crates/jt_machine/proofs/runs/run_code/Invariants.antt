@@ -2,17 +2,19 @@ use Rattle.std.proofs.Common.{◌+◌, ◌<◌, ◌^◌, length}
 use Rattle.jt_value.specs.ContextView.{pairs_of}
 use Rattle.jt_image.specs.Config.{Outcome}
 use Rattle.jt_image.specs.Run.{Ending, start}
-use Rattle.jt_machine.specs.Made.{AreMade}
+use Rattle.jt_machine.specs.internal.ConstantCache.{AreCached}
 use Rattle.jt_machine.specs.View.{budget_view, config_view}
-use Rattle.jt_machine.proofs.Steps.{Reached}
+use Rattle.jt_machine.proofs.StepLemmas.{Reached}
 use Rattle.jt_machine.proofs.runs.run_code.Given as goal
 
 abbrev pub invariant-steps : goal.invariant-steps
 invariant-steps g l = record {
   reached : Reached (g.C.Code.code l.code) (pairs_of l.fn.context) (budget_view l.fn.budget) (config_view l.state);
-  same : (o : Outcome) → Ending (g.C.Code.code l.code) (config_view l.state) o → Ending (g.C.Code.code l.code) (start (g.C.Code.code l.code) (pairs_of l.fn.context) (budget_view l.fn.budget)) o;
+  same : (o : Outcome) → Ending (g.C.Code.code l.code) (config_view l.state) o
+      → Ending (g.C.Code.code l.code) (start (g.C.Code.code l.code) (pairs_of l.fn.context) (budget_view l.fn.budget))
+      o;
   depth : l.state.left.depth + length l.state.stack.callers < 2 ^ 32;
-  made : AreMade (g.C.Code.code l.code) l.made.items;
+  made : AreCached (g.C.Code.code l.code) l.made.items;
 }
 
 abbrev pub decreases-steps : goal.decreases-steps

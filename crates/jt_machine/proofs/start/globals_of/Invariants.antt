@@ -7,4 +7,6 @@ use Rattle.jt_machine.specs.Entries.{values_view}
 use Rattle.jt_machine.proofs.start.globals_of.Given as goal
 
 abbrev pub invariant-names : goal.invariant-names
-invariant-names g l = filled (pairs_of l.context) (drop l.i (g.C.Code.code l.code).names) (values_view l.globals.items) ≡ filled (pairs_of l.context) (g.C.Code.code l.code).names (replicate (g.C.Code.code l.code).globals tree.undefined)
+invariant-names g l =
+    filled (pairs_of l.context) (drop l.i (g.C.Code.code l.code).names) (values_view l.globals.items)
+    ≡ filled (pairs_of l.context) (g.C.Code.code l.code).names (replicate (g.C.Code.code l.code).globals tree.undefined)

@@ -1,9 +1,10 @@
 use Rattle.std.proofs.Common.{arith}
 use Rattle.jt_value.specs.Tree.{size}
-use Rattle.jt_machine.proofs.Steps.{greatest-more}
+use Rattle.jt_machine.proofs.StepLemmas.{greatest-more}
 use Rattle.jt_machine.proofs.unpacking.greatest_size.Goals as goal
 
 pub values-preserved : goal.values-preserved
 values-preserved c =
-    let e = greatest-more size c.args.values.now c.values.value-index c.value-item.result c.values-test.true c.value-item.is in
+    let e =
+    greatest-more size c.args.values.now c.values.value-index c.value-item.result c.values-test.true c.value-item.is in
     omega (arith, e, c.size.ensures, c.max-most.ensures, c.values.invariant)

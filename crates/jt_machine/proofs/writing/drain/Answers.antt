@@ -8,4 +8,6 @@ returns-in_err-put_all-clause-put g c =
     rw p.1 front
 
 pub returns-in_err-put_all-clause-fails : goal.returns-in_err-put_all-clause-fails
-returns-in_err-put_all-clause-fails g c = let p = err_from_is_err_and c.from_residual.result c.from_residual.ensures.1 in rw p.1 c.in_err-put_all.ensures.fails
+returns-in_err-put_all-clause-fails g c =
+    let p = err_from_is_err_and c.from_residual.result c.from_residual.ensures.1 in
+    rw p.1 c.in_err-put_all.ensures.fails

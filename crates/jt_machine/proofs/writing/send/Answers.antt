@@ -1,16 +1,19 @@
 use Rattle.std.proofs.Common.{◌∷◌, List, ℕ, ap, subst, sym, ◌∙◌}
 use Rattle.std.specs.Prelude.{string_bytes, slice_set}
 use Rattle.std.proofs.lemmas.Result.{on_ok_weaker}
-use Rattle.jt_machine.specs.Emitting.{behind}
+use Rattle.jt_machine.specs.Emitting.{prefixed}
 use Rattle.jt_machine.specs.Sinks.{HasPut}
 use Rattle.jt_machine.specs.View.{config_view, outer_view}
-use Rattle.jt_machine.proofs.Pieces.{outer_is, outer_emptied, with_buffers}
+use Rattle.jt_machine.proofs.DrainedOutput.{outer_is, outer_emptied, with_buffers}
 use Rattle.jt_machine.proofs.writing.send.Goals as goal
 
 pub returns-in-Some-clause-put : goal.returns-in-Some-clause-put
 returns-in-Some-clause-put g c =
-    let e = outer_is (string_bytes c.args.state.now.buffer) c.args.state.now.outer.items c.in-Some.outermost.now c.in-Some.ensures.item.3.0 c.in-Some.ensures.value in
-    subst (λ (bytes : List ℕ). HasPut c.drain.result bytes (g.W.Sink.taken c.args.sink.now) (g.W.Sink.taken c.drain.new.sink)) (sym e) c.drain.ensures.put
+    let e = outer_is (string_bytes c.args.state.now.buffer) c.args.state.now.outer.items c.in-Some.outermost.now
+    c.in-Some.ensures.item.3.0 c.in-Some.ensures.value in
+    subst
+    (λ (bytes : List ℕ). HasPut c.drain.result bytes (g.W.Sink.taken c.args.sink.now) (g.W.Sink.taken c.drain.new.sink))
+    (sym e) c.drain.ensures.put
 
 pub returns-in-Some-clause-emptied : goal.returns-in-Some-clause-emptied
 returns-in-Some-clause-emptied g c =
@@ -19,4 +22,7 @@ returns-in-Some-clause-emptied g c =
     let s = c.in-Some.outermost.now in
     let e = outer_is b items s c.in-Some.ensures.item.3.0 c.in-Some.ensures.value in
     on_ok_weaker c.drain.result
-    (λ z. ap (with_buffers (config_view c.args.state.now)) (ap (λ (w : List ℕ). behind w (b ∷ outer_view (slice_set items 0 c.drain.new.buffer))) e ∙ outer_emptied b items s c.drain.new.buffer c.in-Some.ensures.item.3.0 c.in-Some.ensures.value z)) c.drain.ensures.emptied
+    (λ z. ap (with_buffers (config_view c.args.state.now))
+    (ap (λ (w : List ℕ). prefixed w (b ∷ outer_view (slice_set items 0 c.drain.new.buffer))) e
+    ∙ outer_emptied b items s c.drain.new.buffer c.in-Some.ensures.item.3.0 c.in-Some.ensures.value z))
+    c.drain.ensures.emptied

@@ -5,11 +5,11 @@ use Rattle.jt_value.specs.declared.value.Value.{Value}
 use Rattle.jt_image.specs.Config.{Caller, Config}
 use Rattle.jt_image.specs.Run.{next, start, Goes, Ends, passed}
 use Rattle.jt_machine.specs.Emitting.{emitted_by}
-use Rattle.jt_machine.specs.Made.{AreMade}
+use Rattle.jt_machine.specs.internal.ConstantCache.{AreCached}
 use Rattle.jt_machine.specs.View.{budget_view, config_view, outcome_view}
-use Rattle.jt_machine.proofs.AtOnce.{sent_gone}
-use Rattle.jt_machine.proofs.Pieces.{nothing_yet, was_sent, went_on, whole_run, cut_short, text_is, on_err}
-use Rattle.jt_machine.proofs.Growing.{if_err_given, so_far_grows}
+use Rattle.jt_machine.proofs.FastPathCorrect.{sent_gone}
+use Rattle.jt_machine.proofs.DrainedOutput.{nothing_yet, was_sent, went_on, whole_run, cut_short, text_is, on_err}
+use Rattle.jt_machine.proofs.AllocationPoints.{if_err_given, so_far_grows}
 use Rattle.jt_machine.proofs.writing.write_code.Goals as goal
 
 pub steps-init : goal.steps-init
@@ -18,34 +18,78 @@ steps-init g c =
     let x = pairs_of c.args.context.now in
     let b = budget_view c.args.budget in
     record {
-      so_far = nothing_yet k x b (g.W.Sink.taken c.args.sink.now) (config_view c.in_ok-state.state) c.in_ok-state.ensures.state;
+      so_far =
+          nothing_yet k x b (g.W.Sink.taken c.args.sink.now) (config_view c.in_ok-state.state)
+          c.in_ok-state.ensures.state;
       works = c.requires.works;
       depth = c.in_ok-state.ensures.depth;
-      made = subst (λ (es : List (ℕ × Value)). AreMade (g.C.Code.code c.args.code.now) es) (sym c.new-made.ensures.items) tt;
+      made =
+          subst (λ (es : List (ℕ × Value)). AreCached (g.C.Code.code c.args.code.now) es) (sym c.new-made.ensures.items)
+          tt;
     }
 
 pub step-requires-clause-not_wrong : goal.step-requires-clause-not_wrong
-step-requires-clause-not_wrong g c = (sent_gone c.code_laws.ensures (g.C.Code.code c.args.code.now) c.requires.whole c.requires.typed (pairs_of c.args.context.now) (budget_view c.args.budget) (g.W.Sink.taken c.args.sink.now) (g.W.Sink.taken c.send.new.sink) c.send.new.state c.hurry.new.state (was_sent c.code_laws.ensures (g.C.Code.code c.args.code.now) c.requires.whole c.requires.typed (pairs_of c.args.context.now) (budget_view c.args.budget) (g.W.Sink.taken c.args.sink.now) (g.W.Sink.taken c.steps.sink) (g.W.Sink.taken c.send.new.sink) (config_view c.steps.state) (config_view c.send.new.state) tt c.steps.invariant.so_far c.in_ok-send.ensures.put c.in_ok-send.ensures.emptied) c.hurry.ensures.gone).sound.not_wrong
+step-requires-clause-not_wrong g c =
+    (sent_gone c.code_laws.ensures (g.C.Code.code c.args.code.now) c.requires.whole c.requires.typed
+    (pairs_of c.args.context.now) (budget_view c.args.budget) (g.W.Sink.taken c.args.sink.now)
+    (g.W.Sink.taken c.send.new.sink) c.send.new.state c.run_fast.new.state
+    (was_sent c.code_laws.ensures (g.C.Code.code c.args.code.now) c.requires.whole c.requires.typed
+    (pairs_of c.args.context.now) (budget_view c.args.budget) (g.W.Sink.taken c.args.sink.now)
+    (g.W.Sink.taken c.steps.sink) (g.W.Sink.taken c.send.new.sink) (config_view c.steps.state)
+    (config_view c.send.new.state) tt c.steps.invariant.so_far c.in_ok-send.ensures.put c.in_ok-send.ensures.emptied)
+    c.run_fast.ensures.gone).sound.not_wrong
 
 pub step-requires-clause-bounded : goal.step-requires-clause-bounded
 step-requires-clause-bounded g c =
-    let s = (sent_gone c.code_laws.ensures (g.C.Code.code c.args.code.now) c.requires.whole c.requires.typed (pairs_of c.args.context.now) (budget_view c.args.budget) (g.W.Sink.taken c.args.sink.now) (g.W.Sink.taken c.send.new.sink) c.send.new.state c.hurry.new.state (was_sent c.code_laws.ensures (g.C.Code.code c.args.code.now) c.requires.whole c.requires.typed (pairs_of c.args.context.now) (budget_view c.args.budget) (g.W.Sink.taken c.args.sink.now) (g.W.Sink.taken c.steps.sink) (g.W.Sink.taken c.send.new.sink) (config_view c.steps.state) (config_view c.send.new.state) tt c.steps.invariant.so_far c.in_ok-send.ensures.put c.in_ok-send.ensures.emptied) c.hurry.ensures.gone) in
+    let s = (sent_gone c.code_laws.ensures (g.C.Code.code c.args.code.now) c.requires.whole c.requires.typed
+    (pairs_of c.args.context.now) (budget_view c.args.budget) (g.W.Sink.taken c.args.sink.now)
+    (g.W.Sink.taken c.send.new.sink) c.send.new.state c.run_fast.new.state
+    (was_sent c.code_laws.ensures (g.C.Code.code c.args.code.now) c.requires.whole c.requires.typed
+    (pairs_of c.args.context.now) (budget_view c.args.budget) (g.W.Sink.taken c.args.sink.now)
+    (g.W.Sink.taken c.steps.sink) (g.W.Sink.taken c.send.new.sink) (config_view c.steps.state)
+    (config_view c.send.new.state) tt c.steps.invariant.so_far c.in_ok-send.ensures.put c.in_ok-send.ensures.emptied)
+    c.run_fast.ensures.gone) in
     record { sized = s.sound.sized; few = s.sound.few }
 
 pub step-requires-clause-depth : goal.step-requires-clause-depth
-step-requires-clause-depth g c = omega (arith, c.steps.invariant.depth, ap (λ (y : Config). y.left.depth) c.in_ok-send.ensures.emptied, ap (λ (y : Config). length y.machine.callers) c.in_ok-send.ensures.emptied, c.hurry.ensures.gone.depth, ap (λ (waiting : List Caller). length waiting) c.hurry.ensures.gone.callers)
+step-requires-clause-depth g c =
+    omega (
+      arith,
+      c.steps.invariant.depth,
+      ap (λ (y : Config). y.left.depth) c.in_ok-send.ensures.emptied,
+      ap (λ (y : Config). length y.machine.callers) c.in_ok-send.ensures.emptied,
+      c.run_fast.ensures.gone.depth,
+      ap (λ (waiting : List Caller). length waiting) c.run_fast.ensures.gone.callers,
+    )
 
 pub steps-preserved : goal.steps-preserved
 steps-preserved g c =
     let k = g.C.Code.code c.args.code.now in
     let x = pairs_of c.args.context.now in
     let b = budget_view c.args.budget in
-    let s = sent_gone c.code_laws.ensures k c.requires.whole c.requires.typed x b (g.W.Sink.taken c.args.sink.now) (g.W.Sink.taken c.send.new.sink) c.send.new.state c.hurry.new.state (was_sent c.code_laws.ensures k c.requires.whole c.requires.typed x b (g.W.Sink.taken c.args.sink.now) (g.W.Sink.taken c.steps.sink) (g.W.Sink.taken c.send.new.sink) (config_view c.steps.state) (config_view c.send.new.state) tt c.steps.invariant.so_far c.in_ok-send.ensures.put c.in_ok-send.ensures.emptied) c.hurry.ensures.gone in
-    let e : next k (config_view c.hurry.new.state) ≡ Goes (config_view c.step.new.state) = c.in_ok-outcome.ensures.next ∙ rw c.in_default-2.is refl in
+    let s = sent_gone c.code_laws.ensures k c.requires.whole c.requires.typed x b (g.W.Sink.taken c.args.sink.now)
+    (g.W.Sink.taken c.send.new.sink) c.send.new.state c.run_fast.new.state
+    (was_sent c.code_laws.ensures k c.requires.whole c.requires.typed x b (g.W.Sink.taken c.args.sink.now)
+    (g.W.Sink.taken c.steps.sink) (g.W.Sink.taken c.send.new.sink) (config_view c.steps.state)
+    (config_view c.send.new.state) tt c.steps.invariant.so_far c.in_ok-send.ensures.put c.in_ok-send.ensures.emptied)
+    c.run_fast.ensures.gone in
+    let e : next k (config_view c.run_fast.new.state) ≡ Goes (config_view c.step.new.state) =
+    c.in_ok-outcome.ensures.next ∙ rw c.in_default-2.is refl in
     record {
-      so_far = went_on k x b (g.W.Sink.taken c.args.sink.now) (g.W.Sink.taken c.send.new.sink) (config_view c.hurry.new.state) (config_view c.step.new.state) tt s.so_far e;
+      so_far =
+          went_on k x b (g.W.Sink.taken c.args.sink.now) (g.W.Sink.taken c.send.new.sink)
+          (config_view c.run_fast.new.state) (config_view c.step.new.state) tt s.so_far e;
       works = c.in_ok-send.ensures.fails;
-      depth = omega (arith, c.steps.invariant.depth, ap (λ (y : Config). y.left.depth) c.in_ok-send.ensures.emptied, ap (λ (y : Config). length y.machine.callers) c.in_ok-send.ensures.emptied, c.hurry.ensures.gone.depth, ap (λ (waiting : List Caller). length waiting) c.hurry.ensures.gone.callers, s.sound.depth (config_view c.step.new.state) e);
+      depth =
+          omega (
+            arith,
+            c.steps.invariant.depth,
+            ap (λ (y : Config). y.left.depth) c.in_ok-send.ensures.emptied,
+            ap (λ (y : Config). length y.machine.callers) c.in_ok-send.ensures.emptied,
+            c.run_fast.ensures.gone.depth,
+            ap (λ (waiting : List Caller). length waiting) c.run_fast.ensures.gone.callers,
+            s.sound.depth (config_view c.step.new.state) e,
+          );
       made = c.in_ok-outcome.ensures.made;
     }
 
@@ -54,9 +98,20 @@ steps-smaller g c =
     let k = g.C.Code.code c.args.code.now in
     let x = pairs_of c.args.context.now in
     let b = budget_view c.args.budget in
-    let s = sent_gone c.code_laws.ensures k c.requires.whole c.requires.typed x b (g.W.Sink.taken c.args.sink.now) (g.W.Sink.taken c.send.new.sink) c.send.new.state c.hurry.new.state (was_sent c.code_laws.ensures k c.requires.whole c.requires.typed x b (g.W.Sink.taken c.args.sink.now) (g.W.Sink.taken c.steps.sink) (g.W.Sink.taken c.send.new.sink) (config_view c.steps.state) (config_view c.send.new.state) tt c.steps.invariant.so_far c.in_ok-send.ensures.put c.in_ok-send.ensures.emptied) c.hurry.ensures.gone in
-    let e : next k (config_view c.hurry.new.state) ≡ Goes (config_view c.step.new.state) = c.in_ok-outcome.ensures.next ∙ rw c.in_default-2.is refl in
-    omega (arith, s.sound.takes (config_view c.step.new.state) e, ap (λ (y : Config). y.left.fuel) c.in_ok-send.ensures.emptied, c.hurry.ensures.gone.fuel)
+    let s = sent_gone c.code_laws.ensures k c.requires.whole c.requires.typed x b (g.W.Sink.taken c.args.sink.now)
+    (g.W.Sink.taken c.send.new.sink) c.send.new.state c.run_fast.new.state
+    (was_sent c.code_laws.ensures k c.requires.whole c.requires.typed x b (g.W.Sink.taken c.args.sink.now)
+    (g.W.Sink.taken c.steps.sink) (g.W.Sink.taken c.send.new.sink) (config_view c.steps.state)
+    (config_view c.send.new.state) tt c.steps.invariant.so_far c.in_ok-send.ensures.put c.in_ok-send.ensures.emptied)
+    c.run_fast.ensures.gone in
+    let e : next k (config_view c.run_fast.new.state) ≡ Goes (config_view c.step.new.state) =
+    c.in_ok-outcome.ensures.next ∙ rw c.in_default-2.is refl in
+    omega (
+      arith,
+      s.sound.takes (config_view c.step.new.state) e,
+      ap (λ (y : Config). y.left.fuel) c.in_ok-send.ensures.emptied,
+      c.run_fast.ensures.gone.fuel,
+    )
 
 pub returns-in_err-state-clause-begun : goal.returns-in_err-state-clause-begun
 returns-in_err-state-clause-begun g c =
@@ -66,7 +121,8 @@ returns-in_err-state-clause-begun g c =
     let old = g.W.Sink.taken c.args.sink.now in
     let n : passed b x k.names ≡ None = sym c.in_default.ensures in
     let safe = (c.code_laws.ensures.runs k c.requires.whole c.requires.typed).safe x b in
-    on_err c.from_residual.result (cut_short k x b old old old (start k x b) [] [] n safe tt (nothing_yet k x b old (start k x b) refl) refl (Appends-nil old))
+    on_err c.from_residual.result (cut_short k x b old old old (start k x b) [] [] n safe tt
+    (nothing_yet k x b old (start k x b) refl) refl (Appends-nil old))
 
 pub returns-in_err-send-clause-begun : goal.returns-in_err-send-clause-begun
 returns-in_err-send-clause-begun g c =
@@ -76,7 +132,9 @@ returns-in_err-send-clause-begun g c =
     let n : passed b x k.names ≡ None = sym c.in_default.ensures in
     let safe = (c.code_laws.ensures.runs k c.requires.whole c.requires.typed).safe x b in
     let t = c.in_err-send.ensures.put in
-    on_err c.from_residual-in_err-send.result (cut_short k x b (g.W.Sink.taken c.args.sink.now) (g.W.Sink.taken c.steps.sink) (g.W.Sink.taken c.send.new.sink) (config_view c.steps.state) t.1.front t.0 n safe tt c.steps.invariant.so_far t.1.parts t.1.taken)
+    on_err c.from_residual-in_err-send.result
+    (cut_short k x b (g.W.Sink.taken c.args.sink.now) (g.W.Sink.taken c.steps.sink) (g.W.Sink.taken c.send.new.sink)
+    (config_view c.steps.state) t.1.front t.0 n safe tt c.steps.invariant.so_far t.1.parts t.1.taken)
 
 pub returns-in_err-outcome-clause-begun : goal.returns-in_err-outcome-clause-begun
 returns-in_err-outcome-clause-begun g c =
@@ -86,9 +144,15 @@ returns-in_err-outcome-clause-begun g c =
     let n : passed b x k.names ≡ None = sym c.in_default.ensures in
     let safe = (c.code_laws.ensures.runs k c.requires.whole c.requires.typed).safe x b in
     let mid = g.W.Sink.taken c.send.new.sink in
-    let d = config_view c.hurry.new.state in
-    let s = sent_gone c.code_laws.ensures k c.requires.whole c.requires.typed x b (g.W.Sink.taken c.args.sink.now) mid c.send.new.state c.hurry.new.state (was_sent c.code_laws.ensures k c.requires.whole c.requires.typed x b (g.W.Sink.taken c.args.sink.now) (g.W.Sink.taken c.steps.sink) mid (config_view c.steps.state) (config_view c.send.new.state) tt c.steps.invariant.so_far c.in_ok-send.ensures.put c.in_ok-send.ensures.emptied) c.hurry.ensures.gone in
-    on_err c.from_residual-in_err-outcome.result (cut_short k x b (g.W.Sink.taken c.args.sink.now) mid mid d [] (emitted_by d) n safe tt s.so_far refl (Appends-nil mid))
+    let d = config_view c.run_fast.new.state in
+    let s = sent_gone c.code_laws.ensures k c.requires.whole c.requires.typed x b (g.W.Sink.taken c.args.sink.now) mid
+    c.send.new.state c.run_fast.new.state (was_sent c.code_laws.ensures k c.requires.whole c.requires.typed x b
+    (g.W.Sink.taken c.args.sink.now) (g.W.Sink.taken c.steps.sink) mid (config_view c.steps.state)
+    (config_view c.send.new.state) tt c.steps.invariant.so_far c.in_ok-send.ensures.put c.in_ok-send.ensures.emptied)
+    c.run_fast.ensures.gone in
+    on_err c.from_residual-in_err-outcome.result
+    (cut_short k x b (g.W.Sink.taken c.args.sink.now) mid mid d [] (emitted_by d) n safe tt s.so_far refl
+    (Appends-nil mid))
 
 pub returns-in_err-close-clause-begun : goal.returns-in_err-close-clause-begun
 returns-in_err-close-clause-begun g c =
@@ -98,12 +162,18 @@ returns-in_err-close-clause-begun g c =
     let n : passed b x k.names ≡ None = sym c.in_default.ensures in
     let safe = (c.code_laws.ensures.runs k c.requires.whole c.requires.typed).safe x b in
     let mid = g.W.Sink.taken c.send.new.sink in
-    let d = config_view c.hurry.new.state in
+    let d = config_view c.run_fast.new.state in
     let o = outcome_view c.in-Some-2.outcome in
-    let s = sent_gone c.code_laws.ensures k c.requires.whole c.requires.typed x b (g.W.Sink.taken c.args.sink.now) mid c.send.new.state c.hurry.new.state (was_sent c.code_laws.ensures k c.requires.whole c.requires.typed x b (g.W.Sink.taken c.args.sink.now) (g.W.Sink.taken c.steps.sink) mid (config_view c.steps.state) (config_view c.send.new.state) tt c.steps.invariant.so_far c.in_ok-send.ensures.put c.in_ok-send.ensures.emptied) c.hurry.ensures.gone in
+    let s = sent_gone c.code_laws.ensures k c.requires.whole c.requires.typed x b (g.W.Sink.taken c.args.sink.now) mid
+    c.send.new.state c.run_fast.new.state (was_sent c.code_laws.ensures k c.requires.whole c.requires.typed x b
+    (g.W.Sink.taken c.args.sink.now) (g.W.Sink.taken c.steps.sink) mid (config_view c.steps.state)
+    (config_view c.send.new.state) tt c.steps.invariant.so_far c.in_ok-send.ensures.put c.in_ok-send.ensures.emptied)
+    c.run_fast.ensures.gone in
     let e : next k d ≡ Ends o = c.in_ok-outcome.ensures.next ∙ rw c.in-Some-2.is refl in
     let t = c.in_err-close.ensures.put in
-    on_err c.from_residual-in_err-close.result (cut_short k x b (g.W.Sink.taken c.args.sink.now) mid (g.W.Sink.taken c.close.new.sink) d t.1.front t.0 n safe tt s.so_far (text_is k d o tt e s.empty ∙ t.1.parts) t.1.taken)
+    on_err c.from_residual-in_err-close.result
+    (cut_short k x b (g.W.Sink.taken c.args.sink.now) mid (g.W.Sink.taken c.close.new.sink) d t.1.front t.0 n safe tt
+    s.so_far (text_is k d o tt e s.empty ∙ t.1.parts) t.1.taken)
 
 pub returns-in-Some-2-clause-ended : goal.returns-in-Some-2-clause-ended
 returns-in-Some-2-clause-ended g c =
@@ -112,19 +182,34 @@ returns-in-Some-2-clause-ended g c =
     let b = budget_view c.args.budget in
     let n : passed b x k.names ≡ None = sym c.in_default.ensures in
     let mid = g.W.Sink.taken c.send.new.sink in
-    let d = config_view c.hurry.new.state in
+    let d = config_view c.run_fast.new.state in
     let o = outcome_view c.in-Some-2.outcome in
-    let s = sent_gone c.code_laws.ensures k c.requires.whole c.requires.typed x b (g.W.Sink.taken c.args.sink.now) mid c.send.new.state c.hurry.new.state (was_sent c.code_laws.ensures k c.requires.whole c.requires.typed x b (g.W.Sink.taken c.args.sink.now) (g.W.Sink.taken c.steps.sink) mid (config_view c.steps.state) (config_view c.send.new.state) tt c.steps.invariant.so_far c.in_ok-send.ensures.put c.in_ok-send.ensures.emptied) c.hurry.ensures.gone in
+    let s = sent_gone c.code_laws.ensures k c.requires.whole c.requires.typed x b (g.W.Sink.taken c.args.sink.now) mid
+    c.send.new.state c.run_fast.new.state (was_sent c.code_laws.ensures k c.requires.whole c.requires.typed x b
+    (g.W.Sink.taken c.args.sink.now) (g.W.Sink.taken c.steps.sink) mid (config_view c.steps.state)
+    (config_view c.send.new.state) tt c.steps.invariant.so_far c.in_ok-send.ensures.put c.in_ok-send.ensures.emptied)
+    c.run_fast.ensures.gone in
     let e : next k d ≡ Ends o = c.in_ok-outcome.ensures.next ∙ rw c.in-Some-2.is refl in
-    whole_run k x b (g.W.Sink.taken c.args.sink.now) mid (g.W.Sink.taken c.close.new.sink) d o c.in_ok-close.field-0 n tt s.so_far s.empty e c.in_ok-close.ensures.ended c.in_ok-close.ensures.put
+    whole_run k x b (g.W.Sink.taken c.args.sink.now) mid (g.W.Sink.taken c.close.new.sink) d o c.in_ok-close.field-0 n
+    tt s.so_far s.empty e c.in_ok-close.ensures.ended c.in_ok-close.ensures.put
 
 pub returns-in_err-state-clause-wanted : goal.returns-in_err-state-clause-wanted
-returns-in_err-state-clause-wanted g c = if_err_given c.from_residual.result _ _ (sym c.in_default.ensures, inl c.in_err-state.ensures.memory)
+returns-in_err-state-clause-wanted g c =
+    if_err_given c.from_residual.result _ _ (sym c.in_default.ensures, inl c.in_err-state.ensures.memory)
 
 pub returns-in_err-outcome-clause-wanted : goal.returns-in_err-outcome-clause-wanted
 returns-in_err-outcome-clause-wanted g c =
     let k = g.C.Code.code c.args.code.now in
     let x = pairs_of c.args.context.now in
     let b = budget_view c.args.budget in
-    let s = sent_gone c.code_laws.ensures k c.requires.whole c.requires.typed x b (g.W.Sink.taken c.args.sink.now) (g.W.Sink.taken c.send.new.sink) c.send.new.state c.hurry.new.state (was_sent c.code_laws.ensures k c.requires.whole c.requires.typed x b (g.W.Sink.taken c.args.sink.now) (g.W.Sink.taken c.steps.sink) (g.W.Sink.taken c.send.new.sink) (config_view c.steps.state) (config_view c.send.new.state) tt c.steps.invariant.so_far c.in_ok-send.ensures.put c.in_ok-send.ensures.emptied) c.hurry.ensures.gone in
-    if_err_given c.from_residual-in_err-outcome.result _ _ (sym c.in_default.ensures, inr (so_far_grows k x b (g.W.Sink.taken c.args.sink.now) (g.W.Sink.taken c.send.new.sink) (config_view c.hurry.new.state) tt s.so_far c.in_err-outcome.ensures.memory))
+    let s = sent_gone c.code_laws.ensures k c.requires.whole c.requires.typed x b (g.W.Sink.taken c.args.sink.now)
+    (g.W.Sink.taken c.send.new.sink) c.send.new.state c.run_fast.new.state
+    (was_sent c.code_laws.ensures k c.requires.whole c.requires.typed x b (g.W.Sink.taken c.args.sink.now)
+    (g.W.Sink.taken c.steps.sink) (g.W.Sink.taken c.send.new.sink) (config_view c.steps.state)
+    (config_view c.send.new.state) tt c.steps.invariant.so_far c.in_ok-send.ensures.put c.in_ok-send.ensures.emptied)
+    c.run_fast.ensures.gone in
+    if_err_given c.from_residual-in_err-outcome.result _ _ (
+      sym c.in_default.ensures,
+      inr (so_far_grows k x b (g.W.Sink.taken c.args.sink.now) (g.W.Sink.taken c.send.new.sink)
+          (config_view c.run_fast.new.state) tt s.so_far c.in_err-outcome.ensures.memory),
+    )

@@ -1,16 +1,17 @@
 use Rattle.std.proofs.Common.{◌≡◌, ◌+◌, ◌<◌, ◌^◌, false, length}
 use Rattle.jt_value.specs.ContextView.{pairs_of}
-use Rattle.jt_machine.specs.Made.{AreMade}
+use Rattle.jt_machine.specs.internal.ConstantCache.{AreCached}
 use Rattle.jt_machine.specs.View.{budget_view, config_view}
-use Rattle.jt_machine.proofs.Pieces.{SoFar}
+use Rattle.jt_machine.proofs.DrainedOutput.{SoFar}
 use Rattle.jt_machine.proofs.writing.write_code.Given as goal
 
 abbrev pub invariant-steps : goal.invariant-steps
 invariant-steps g l = record {
-  so_far : SoFar (g.C.Code.code l.code) (pairs_of l.fn.context) (budget_view l.fn.budget) (g.W.Sink.taken l.fn.sink) (g.W.Sink.taken l.sink) (config_view l.state);
+  so_far : SoFar (g.C.Code.code l.code) (pairs_of l.fn.context) (budget_view l.fn.budget) (g.W.Sink.taken l.fn.sink)
+      (g.W.Sink.taken l.sink) (config_view l.state);
   works : g.W.Sink.failed l.sink ≡ false;
   depth : l.state.left.depth + length l.state.stack.callers < 2 ^ 32;
-  made : AreMade (g.C.Code.code l.code) l.made.items;
+  made : AreCached (g.C.Code.code l.code) l.made.items;
 }
 
 abbrev pub decreases-steps : goal.decreases-steps

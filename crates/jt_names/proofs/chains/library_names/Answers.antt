@@ -1,5 +1,5 @@
 use Rattle.std.proofs.Common.{arith, rules}
-use Rattle.jt_names.proofs.OfLibraries.{names_alone}
+use Rattle.jt_names.proofs.LibraryNames.{names_alone}
 use Rattle.jt_names.proofs.chains.library_names.Goals as goal
 
 pub returns : goal.returns

@@ -6,16 +6,17 @@ use Rattle.jt_chains.specs.Chain.{Template}
 use Rattle.jt_chains.specs.Layers.{layer_view}
 use Rattle.jt_chains.specs.Uses.{body_names}
 use Rattle.jt_chains.specs.declared.layers.Layer.{Layer}
-use Rattle.jt_trees.specs.Texts.{all_inserted}
-use Rattle.jt_trees.specs.Expressions.{Text}
-use Rattle.jt_trees.specs.StatementView.{body_view}
-use Rattle.jt_names.proofs.Inserted.{inserted_both}
+use Rattle.jt_ast.specs.Texts.{all_inserted}
+use Rattle.jt_ast.specs.Expressions.{Text}
+use Rattle.jt_ast.specs.StatementView.{body_view}
+use Rattle.jt_names.proofs.SortedNames.{inserted_both}
 use Rattle.jt_names.proofs.chains.own_names.Goals as goal
 
 abbrev all_names : List Template → List Layer → List Text
 all_names ts ls = flat_map (λ t. body_names t.body) (map (layer_view ts) ls)
 
-layer_added : (ts : List Template) (ls : List Layer) (i : ℕ) (l : Layer) (ns ns' : List Text) → i < length ls → l ≡ get_or ls i l → ns' ≡ all_inserted (body_names (body_view l.body.now)) ns
+layer_added : (ts : List Template) (ls : List Layer) (i : ℕ) (l : Layer) (ns ns' : List Text) → i < length ls
+    → l ≡ get_or ls i l → ns' ≡ all_inserted (body_names (body_view l.body.now)) ns
     → all_inserted (all_names ts (drop (i + 1) ls)) ns' ≡ all_inserted (all_names ts (drop i ls)) ns
 layer_added ts ls i l ns ns' lt is e = search (arith, rules, inserted_both, drop_more)
 

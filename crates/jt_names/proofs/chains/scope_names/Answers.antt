@@ -6,14 +6,15 @@ use Rattle.jt_chains.specs.Chain.{Template}
 use Rattle.jt_chains.specs.Layers.{layer_view}
 use Rattle.jt_chains.specs.Uses.{scope_names_in}
 use Rattle.jt_chains.specs.declared.layers.Layer.{Layer}
-use Rattle.jt_trees.specs.Expressions.{Text}
-use Rattle.jt_trees.specs.StatementView.{body_view}
+use Rattle.jt_ast.specs.Expressions.{Text}
+use Rattle.jt_ast.specs.StatementView.{body_view}
 use Rattle.jt_names.proofs.chains.scope_names.Goals as goal
 
 abbrev all_names : List Template → List Layer → List Text
 all_names ts ls = flat_map (λ t. scope_names_in t.body) (map (layer_view ts) ls)
 
-layer_added : (ts : List Template) (ls : List Layer) (i : ℕ) (l : Layer) (old new : List Text) → i < length ls → l ≡ get_or ls i l → new ≡ old ++ scope_names_in (body_view l.body.now)
+layer_added : (ts : List Template) (ls : List Layer) (i : ℕ) (l : Layer) (old new : List Text) → i < length ls
+    → l ≡ get_or ls i l → new ≡ old ++ scope_names_in (body_view l.body.now)
     → new ++ all_names ts (drop (i + 1) ls) ≡ old ++ all_names ts (drop i ls)
 layer_added ts ls i l old new lt is e = search (arith, rules, append_assoc, drop_more)
 

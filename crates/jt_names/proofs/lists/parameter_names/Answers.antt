@@ -1,10 +1,12 @@
 use Rattle.std.proofs.Common.{◌≡◌, subst, map, List, ℕ, IfOk, string_bytes, rules, tests}
 use Rattle.std.proofs.lemmas.Iterator.{YieldsList-from_slice, YieldsList-from_map_by}
 use Rattle.std.proofs.lemmas.Iterator.Consumers.{map_from_collect}
-use Rattle.jt_trees.specs.Texts.{texts}
-use Rattle.jt_names.proofs.TheirNames.{their_names}
+use Rattle.jt_ast.specs.Texts.{texts}
+use Rattle.jt_names.proofs.ListedNames.{their_names}
 use Rattle.jt_names.proofs.lists.parameter_names.Goals as goal
 
 pub returns : goal.returns
 returns c = subst (λ xs. IfOk c.collect.result (λ ns. texts ns.items ≡ xs)) (their_names c.args.parameters.now)
-    (map_from_collect _ c.collect.ensures.ran (YieldsList-from_map_by _ (λ r. r.now) (λ p. string_bytes p.name) (YieldsList-from_slice c.args.parameters.now cc) c.map.ensures.closure (λ x r q k. search (rules, tests))))
+    (map_from_collect _ c.collect.ensures.ran
+    (YieldsList-from_map_by _ (λ r. r.now) (λ p. string_bytes p.name) (YieldsList-from_slice c.args.parameters.now cc)
+    c.map.ensures.closure (λ x r q k. search (rules, tests))))

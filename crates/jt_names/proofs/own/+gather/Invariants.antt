@@ -1,19 +1,21 @@
 use Rattle.std.proofs.Common.{◌≡◌, ◌+◌, ◌*◌, drop}
 use Rattle.std.specs.Prelude.{max}
 use denote.Param.Weighed.{most}
-use Rattle.jt_trees.specs.declared.expression.Expr.{size-Expr}
-use Rattle.jt_trees.specs.ExpressionView.{exprs_view, pairs_view}
+use Rattle.jt_ast.specs.declared.expression.Expr.{size-Expr}
+use Rattle.jt_ast.specs.ExpressionView.{exprs_view, pairs_view}
 use Rattle.jt_chains.specs.Uses as uses
-use Rattle.jt_trees.specs.Texts.{all_inserted, texts}
+use Rattle.jt_ast.specs.Texts.{all_inserted, texts}
 use Rattle.jt_names.proofs.own.+gather.Given as goal
 
--- ---- how deep the trees are that are left, and who hands its own on
+-- ---- measures: the depth of the remaining trees, and the order of the calls
 
 abbrev pub decreases-add_expression : goal.decreases-add_expression
 decreases-add_expression l = 4 * size-Expr l.expr.now
 
 abbrev pub decreases-add_applied : goal.decreases-add_applied
-decreases-add_applied l = 4 * max (size-Expr l.value.now) (max (most (λ x. size-Expr x) l.row.now) (most (λ x. size-Expr x.1) l.pairs.now)) + 3
+decreases-add_applied l =
+    4 * max (size-Expr l.value.now) (max (most (λ x. size-Expr x) l.row.now) (most (λ x. size-Expr x.1) l.pairs.now))
+    + 3
 
 abbrev pub decreases-add_arguments : goal.decreases-add_arguments
 decreases-add_arguments l = 4 * max (most (λ x. size-Expr x) l.row.now) (most (λ x. size-Expr x.1) l.pairs.now) + 2
@@ -33,10 +35,14 @@ decreases-add_row l = 4 * most (λ x. size-Expr x) l.row.now + 1
 abbrev pub decreases-add_pairs : goal.decreases-add_pairs
 decreases-add_pairs l = 4 * most (λ x. size-Expr x.1) l.pairs.now + 1
 
--- ---- what is left
+-- ---- the remaining items
 
 abbrev pub invariant-add_row-loop-expr : goal.invariant-add_row-loop-expr
-invariant-add_row-loop-expr l = all_inserted (uses.row_names (exprs_view (drop l.expr-index l.row))) (texts l.names.keys) ≡ all_inserted (uses.row_names (exprs_view l.row)) (texts l.initial.names.keys)
+invariant-add_row-loop-expr l =
+    all_inserted (uses.row_names (exprs_view (drop l.expr-index l.row))) (texts l.names.keys)
+    ≡ all_inserted (uses.row_names (exprs_view l.row)) (texts l.initial.names.keys)
 
 abbrev pub invariant-add_pairs-loop-value : goal.invariant-add_pairs-loop-value
-invariant-add_pairs-loop-value l = all_inserted (uses.pair_names (pairs_view (drop l.value-index l.pairs))) (texts l.names.keys) ≡ all_inserted (uses.pair_names (pairs_view l.pairs)) (texts l.initial.names.keys)
+invariant-add_pairs-loop-value l =
+    all_inserted (uses.pair_names (pairs_view (drop l.value-index l.pairs))) (texts l.names.keys)
+    ≡ all_inserted (uses.pair_names (pairs_view l.pairs)) (texts l.initial.names.keys)

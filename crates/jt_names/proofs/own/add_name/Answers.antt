@@ -1,6 +1,6 @@
 use Rattle.std.proofs.Common.{ap, ◌∙◌}
-use Rattle.jt_trees.specs.Texts.{texts}
-use Rattle.jt_names.proofs.Inserted.{key_inserted}
+use Rattle.jt_ast.specs.Texts.{texts}
+use Rattle.jt_names.proofs.SortedNames.{key_inserted}
 use Rattle.jt_names.proofs.own.add_name.Goals as goal
 
 pub returns : goal.returns

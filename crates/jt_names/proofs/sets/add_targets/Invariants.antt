@@ -1,7 +1,9 @@
 use Rattle.std.proofs.Common.{◌≡◌, ◌++◌, drop}
-use Rattle.jt_trees.specs.StatementView.{names_view}
-use Rattle.jt_trees.specs.Texts.{texts}
+use Rattle.jt_ast.specs.StatementView.{names_view}
+use Rattle.jt_ast.specs.Texts.{texts}
 use Rattle.jt_names.proofs.sets.add_targets.Given as goal
 
 abbrev pub invariant-loop-target : goal.invariant-loop-target
-invariant-loop-target l = texts l.found.items ++ names_view (drop l.target-index l.targets) ≡ texts l.initial.found.items ++ names_view l.targets
+invariant-loop-target l =
+    texts l.found.items ++ names_view (drop l.target-index l.targets)
+    ≡ texts l.initial.found.items ++ names_view l.targets

@@ -11,7 +11,8 @@ use Rattle.jt_ops.proofs.limits.made.Goals as goal
 
 pub returns : goal.returns
 returns c =
-    λ wanted t is payload shown. is ∙ ap (λ (u : Tree). Ok u) (sym (subst (λ (b : Result Value NoMemory). IfOk b (λ v. view v ≡ t)) c.in_ok-built.was shown))
+    λ wanted t is payload shown. is ∙ ap (λ (u : Tree). Ok u)
+    (sym (subst (λ (b : Result Value NoMemory). IfOk b (λ v. view v ≡ t)) c.in_ok-built.was shown))
 
 pub returns-in_err-built : goal.returns-in_err-built
 returns-in_err-built c = λ wanted t is payload shown.

@@ -1,12 +1,12 @@
 use Rattle.std.proofs.Common.{◌≡◌, ◌+◌, ◌*◌, max, drop}
 use denote.Param.Weighed.{most}
-use Rattle.jt_trees.specs.declared.statement.Stmt.{size-Stmt}
-use Rattle.jt_trees.specs.StatementView.{body_view, branches_view}
-use Rattle.jt_trees.proofs.Left.{Branch}
+use Rattle.jt_ast.specs.declared.statement.Stmt.{size-Stmt}
+use Rattle.jt_ast.specs.StatementView.{body_view, branches_view}
+use Rattle.jt_ast.proofs.RemainingParts.{Branch}
 use Rattle.jt_parse.specs.Names.{body_unknown, branch_unknown}
 use Rattle.jt_parse.proofs.names.+names.Given as goal
 
--- ---- how deep the statements are that are left, and who hands its own on
+-- ---- the measure: the size of the statements, and the rank of a function that passes its own on
 
 abbrev pub decreases-check_statement : goal.decreases-check_statement
 decreases-check_statement l = 3 * size-Stmt l.statement.now
@@ -15,9 +15,12 @@ abbrev pub decreases-check_body : goal.decreases-check_body
 decreases-check_body l = 3 * most (λ x. size-Stmt x) l.body.now + 1
 
 abbrev pub decreases-check_choice : goal.decreases-check_choice
-decreases-check_choice l = 3 * max (most (λ (b : Branch). most (λ x. size-Stmt x) b.body.items) l.branches.now) (most (λ x. size-Stmt x) l.other.now) + 2
+decreases-check_choice l =
+    3 * max (most (λ (b : Branch). most (λ x. size-Stmt x) b.body.items) l.branches.now)
+    (most (λ x. size-Stmt x) l.other.now)
+    + 2
 
--- ---- what is left
+-- ---- the remaining parts
 
 abbrev pub invariant-check_body-loop-statement : goal.invariant-check_body-loop-statement
 invariant-check_body-loop-statement l =

@@ -1,4 +1,4 @@
-use Rattle.jt_trees.proofs.StatementViews.{view_If}
+use Rattle.jt_ast.proofs.StatementViews.{view_If}
 use Rattle.jt_parse.proofs.open_stmts.if_statement.Goals as goal
 
 pub returns : goal.returns

@@ -1,6 +1,6 @@
 use Rattle.std.proofs.Common.{ap, ◌∙◌}
-use Rattle.jt_trees.specs.StatementView.{body_view}
-use Rattle.jt_parse.proofs.Views.{body-push}
+use Rattle.jt_ast.specs.StatementView.{body_view}
+use Rattle.jt_parse.proofs.AppendedStatements.{body-push}
 use Rattle.jt_parse.proofs.open_stmts.push_statement.Goals as goal
 
 pub returns : goal.returns

@@ -1,4 +1,5 @@
-use Rattle.jt_parse.proofs.Answers.{answer_spelled, answer_known, answer_only, answer_refused, answer_weighs, answer_short}
+use Rattle.jt_parse.proofs.ParserCorrect.{answer_spelled, answer_known, answer_only, answer_refused, answer_weighs}
+use Rattle.jt_parse.proofs.ParserCorrect.{answer_short}
 use Rattle.jt_parse.specs.Kept.{pieces}
 use Rattle.jt_parse.specs.View.{reads_of}
 use Rattle.jt_parse.proofs.parser.parse.Goals as goal

@@ -5,5 +5,7 @@ use Rattle.jt_parse.proofs.tags.given_or.Goals as goal
 
 pub returns-in_ok-same-in-None : goal.returns-in_ok-same-in-None
 returns-in_ok-same-in-None c =
-    ap (λ z. (string_bytes c.args.name, z)) (c.in_ok-same-in-None.ensures ∙ spelled_again c.deref.result.now c.deref.utf8 ∙ c.deref.ensures)
-    ∙ ap (λ z. (string_bytes c.args.name, unwrap_or (option_map string_bytes z) (string_bytes c.args.name))) (sym c.in-None.is)
+    ap (λ z. (string_bytes c.args.name, z))
+    (c.in_ok-same-in-None.ensures ∙ spelled_again c.deref.result.now c.deref.utf8 ∙ c.deref.ensures)
+    ∙ ap (λ z. (string_bytes c.args.name, unwrap_or (option_map string_bytes z) (string_bytes c.args.name)))
+    (sym c.in-None.is)

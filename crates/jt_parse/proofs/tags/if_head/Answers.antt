@@ -1,12 +1,15 @@
 use Rattle.std.proofs.Common.{rules, refl, codes, ℕ, Ok, Err}
 use Rattle.jt_expr.specs.Cursor.{ahead}
-use Rattle.jt_parse.specs.Readers.{ReadsHead}
-use Rattle.jt_parse.specs.declared.heads.Head.TheVariants as h
+use Rattle.jt_parse.specs.internal.Readers.{ReadsHead}
+use Rattle.jt_parse.specs.declared.opening_tags.Head.TheVariants as h
 use Rattle.jt_parse.proofs.FirstTags.{if_last}
 use Rattle.jt_parse.proofs.tags.if_head.Goals as goal
 
 pub returns-in_err-condition : goal.returns-in_err-condition
-returns-in_err-condition c = let q = λ (line : ℕ). if_last line c.args.levels (ahead c.args.cursor.now) (Err c.in_err-condition.field-0.0) _ c.in_err-condition.ensures (ahead c.expression.new.cursor) in search rules
+returns-in_err-condition c =
+    let q = λ (line : ℕ). if_last line c.args.levels (ahead c.args.cursor.now) (Err c.in_err-condition.field-0.0) _
+    c.in_err-condition.ensures (ahead c.expression.new.cursor) in
+    search rules
 
 pub returns : goal.returns
 returns c = λ line.

@@ -1,9 +1,9 @@
 use Rattle.std.proofs.Common.{◌≡◌, ◌++◌, map, string_bytes}
 use Rattle.jt_program.specs.Files.{AreSources}
-use Rattle.jt_program.specs.Templates.{source_of}
+use Rattle.jt_host.specs.Templates.{source_of}
 use Rattle.jt_program.proofs.program.templates_in.Given as goal
 
--- the names so far and those that are left are all, and each so far has its source
+-- The names so far and the remaining ones are all names, and each name so far has its source.
 abbrev pub invariant-loop-name : goal.invariant-loop-name
 invariant-loop-name g l = (l.initial.name-iterator.rest.items ≡ l.yielded ++ l.name-iterator.rest.items)
     × AreSources (g.F.Files.known l.files) (string_bytes l.dir) (map string_bytes l.yielded) (source_of l.templates)

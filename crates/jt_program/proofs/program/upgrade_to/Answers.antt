@@ -1,18 +1,19 @@
 use Rattle.std.proofs.Common.{◌≡◌, List, inr, rules, string_bytes, subst, ℕ}
 use Rattle.std.proofs.lemmas.Result.{err_from_is_err_and}
 use Rattle.jt_program.specs.Commands.{HasUpgrade}
-use Rattle.jt_program.specs.Program.{IsUpgraded}
+use Rattle.jt_host.specs.Calls.{IsUpgraded}
 use Rattle.jt_program.proofs.Endings.{not_rewritten}
 use Rattle.jt_program.proofs.program.upgrade_to.Goals as goal
 
-pub returns-in_err-put_at-clause-ends : goal.returns-in_err-put_at-clause-ends
-returns-in_err-put_at-clause-ends g c =
-    let p = err_from_is_err_and c.from_residual-in_err-put_at.result c.from_residual-in_err-put_at.ensures.1 in
-    rw (p.1, p.2) (not_rewritten (g.F.Files.known c.args.files.now) (g.F.Files.known c.put_at.new.files) (string_bytes c.args.image) (string_bytes c.args.out) c.in_ok-bytes.bytes.items
-    c.in_err-put_at.field-0.0 c.in_ok-bytes.ensures.held c.in_err-put_at.ensures.err)
+pub returns-in_err-write_at-clause-ends : goal.returns-in_err-write_at-clause-ends
+returns-in_err-write_at-clause-ends g c =
+    let p = err_from_is_err_and c.from_residual-in_err-write_at.result c.from_residual-in_err-write_at.ensures.1 in
+    rw (p.1, p.2) (not_rewritten (g.F.Files.known c.args.files.now) (g.F.Files.known c.write_at.new.files)
+    (string_bytes c.args.image) (string_bytes c.args.out) c.in_ok-bytes.bytes.items
+    c.in_err-write_at.field-0.0 c.in_ok-bytes.ensures.held c.in_err-write_at.ensures.err)
 
-pub returns-in_err-put_at-clause-touched : goal.returns-in_err-put_at-clause-touched
-returns-in_err-put_at-clause-touched g c =
+pub returns-in_err-write_at-clause-touched : goal.returns-in_err-write_at-clause-touched
+returns-in_err-write_at-clause-touched g c =
     let same : c.deref.result.now ≡ c.in_ok-bytes.bytes.items = search rules in
     let has : HasUpgrade (g.F.Files.known c.args.files.now) (string_bytes c.args.image) = record {
       bytes = c.in_ok-bytes.bytes.items;

@@ -1,5 +1,5 @@
 use Rattle.std.proofs.Common.{◌≤◌}
-use Rattle.jt_reference.specs.Output.{most}
+use Rattle.jt_reference.specs.internal.Output.{most}
 use Rattle.jt_reference.proofs.machine.carried_on.Given as goal
 
 abbrev pub invariant-loop : goal.invariant-loop

@@ -3,7 +3,7 @@ use denote.Text.{Utf8}
 use denote.Shadow.{shadow}
 use Rattle.std.specs.Str.{chars}
 use Rattle.jt_scan.specs.Cut.{ends_raw}
-use Rattle.jt_scan.proofs.Raws.{IsClearTo}
+use Rattle.jt_scan.proofs.RawText.{IsClearTo}
 use Rattle.jt_scan.proofs.endraw.split_raw.Given as goal
 
 abbrev pub invariant-raw : goal.invariant-raw

@@ -1,6 +1,6 @@
 use Rattle.std.proofs.Common.{◌≤◌, ◌-◌, length}
 use Rattle.memchr.specs.Find.{Nowhere}
-use Rattle.jt_scan.specs.Scanning.{OpensAt}
+use Rattle.jt_scan.specs.internal.Scanning.{OpensAt}
 use Rattle.jt_scan.proofs.find.find_opener.Given as goal
 
 abbrev pub invariant-braces : goal.invariant-braces

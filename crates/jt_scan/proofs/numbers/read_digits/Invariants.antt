@@ -2,7 +2,7 @@ use Rattle.std.proofs.Common.{length}
 use denote.Text.{Utf8}
 use denote.Shadow.{shadow}
 use Rattle.std.specs.Str.{chars}
-use Rattle.jt_scan.proofs.NumberTurns.{IsSum}
+use Rattle.jt_scan.proofs.NumberLoop.{IsSum}
 use Rattle.jt_scan.proofs.numbers.read_digits.Given as goal
 
 abbrev pub invariant-digits : goal.invariant-digits

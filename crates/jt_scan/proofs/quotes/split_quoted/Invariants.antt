@@ -2,7 +2,7 @@ use Rattle.std.proofs.Common.{length}
 use denote.Text.{Utf8}
 use denote.Shadow.{shadow}
 use Rattle.std.specs.Str.{chars}
-use Rattle.jt_scan.proofs.QuoteTurns.{IsPassed}
+use Rattle.jt_scan.proofs.QuoteLoop.{IsPassed}
 use Rattle.jt_scan.proofs.quotes.split_quoted.Given as goal
 
 abbrev pub invariant-quoted : goal.invariant-quoted

@@ -16,12 +16,19 @@ pub ends-preserved : goal.ends-preserved
 unfolding encode
 ends-preserved c =
     let p = cr_at c.as_bytes.result.now c.ends.rest.now c.in-Some.at c.as_bytes.ensures.value c.in-Some.ensures in
-    let t = ends_turn (string_bytes c.ends.held) c.ends.rest.now c.range.result.now c.behind_lf-rest.result.now (lf_ends false c.args.text.now) c.in-Some.at c.ends.invariant.1 p.2 p.0 p.1
-    (c.range.ensures.value ∙ front_is c.ends.rest.now c.in-Some.at) (c.behind_lf-rest.ensures ∙ ap without_first_lf c.range_from.ensures.value) in (
+    let t = ends_turn (string_bytes c.ends.held) c.ends.rest.now c.range.result.now c.behind_lf-rest.result.now
+    (lf_ends false c.args.text.now) c.in-Some.at c.ends.invariant.1 p.2 p.0 p.1
+    (c.range.ensures.value ∙ front_is c.ends.rest.now c.in-Some.at)
+    (c.behind_lf-rest.ensures ∙ ap without_first_lf c.range_from.ensures.value) in (
       search rules,
-      ap (λ z. z ++ lf_ends false c.behind_lf-rest.result.now) (c.in_ok-push.ensures.bytes ∙ ap (λ z. z ++ (10 ∷ [])) c.in_ok-push_str.ensures.bytes) ∙ t,
+      ap (λ z. z ++ lf_ends false c.behind_lf-rest.result.now)
+          (c.in_ok-push.ensures.bytes ∙ ap (λ z. z ++ (10 ∷ [])) c.in_ok-push_str.ensures.bytes)
+          ∙ t,
     )
 
 pub returns : goal.returns
 returns c =
-    c.in_ok-push_str-2.ensures.bytes ∙ ap (λ z. string_bytes c.ends.held ++ z) (sym (ends_whole c.ends.rest.now (no_cr c.as_bytes.result.now c.ends.rest.now c.as_bytes.ensures.value c.in_default.ensures))) ∙ c.ends.invariant.1
+    c.in_ok-push_str-2.ensures.bytes ∙ ap (λ z. string_bytes c.ends.held ++ z)
+    (sym (ends_whole c.ends.rest.now
+    (no_cr c.as_bytes.result.now c.ends.rest.now c.as_bytes.ensures.value c.in_default.ensures)))
+    ∙ c.ends.invariant.1

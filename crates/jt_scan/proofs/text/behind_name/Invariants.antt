@@ -2,7 +2,7 @@ use Rattle.std.proofs.Common.{◌≡◌, length}
 use denote.Text.{Utf8}
 use denote.Shadow.{shadow}
 use Rattle.std.specs.Str.{chars}
-use Rattle.jt_scan.specs.Scanning.{run}
+use Rattle.jt_scan.specs.internal.Scanning.{run}
 use Rattle.jt_scan.proofs.text.behind_name.Given as goal
 
 abbrev pub invariant-name : goal.invariant-name

@@ -1,5 +1,5 @@
 use Rattle.std.proofs.Common.{arith, rules}
-use Rattle.jt_turns.proofs.Turning.{ended_session, is_not_refused, is_told}
+use Rattle.jt_turns.proofs.TurnOutcomes.{ended_session, is_not_refused, is_told}
 use Rattle.jt_turns.proofs.lines.outcome_at.Goals as goal
 
 pub unreachable-requires : goal.unreachable-requires

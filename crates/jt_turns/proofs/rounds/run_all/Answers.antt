@@ -1,6 +1,6 @@
 use Rattle.std.proofs.Common.{sym, arith, rules}
-use Rattle.jt_turns.proofs.Running.{false_true}
-use Rattle.jt_turns.proofs.Turning.{moved_both, moved_length, moved_none, moved_numbered}
+use Rattle.jt_turns.proofs.SessionsById.{false_true}
+use Rattle.jt_turns.proofs.TurnOutcomes.{moved_both, moved_length, moved_none, moved_numbered}
 use Rattle.jt_turns.proofs.rounds.run_all.Goals as goal
 
 pub rounds-init : goal.rounds-init

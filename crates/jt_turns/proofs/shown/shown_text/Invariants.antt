@@ -1,10 +1,10 @@
 use Rattle.std.proofs.Common.{◌≡◌, ◌++◌, ◌≤◌, string_bytes}
 use Rattle.std.specs.Str.{IsCharBoundary}
 use Rattle.jt_turns.specs.Shown.{shown}
-use Rattle.jt_turns.proofs.Escapes.{still_shown}
+use Rattle.jt_turns.proofs.EscapedTextCorrect.{still_shown}
 use Rattle.jt_turns.proofs.shown.shown_text.Given as goal
 
--- what was made, with what is still to be shown, is all
+-- The text so far and the text that is still to be shown are the whole text.
 abbrev pub invariant-loop-at : goal.invariant-loop-at
 invariant-loop-at l = record {
   order : l.plain ≤ l.at;

@@ -7,5 +7,6 @@ use Rattle.jt_value.proofs.entries.first_place.Given as goal
 abbrev pub invariant-loop-entry : goal.invariant-loop-entry
 invariant-loop-entry l = record {
   place : l.place ≡ l.entry-index;
-  rest : place_of l.key (entries_view l.entries) ≡ option_map (λ p. l.entry-index + p) (place_of l.key (entries_view (drop l.entry-index l.entries)));
+  rest : place_of l.key (entries_view l.entries)
+      ≡ option_map (λ p. l.entry-index + p) (place_of l.key (entries_view (drop l.entry-index l.entries)));
 }

@@ -1,10 +1,10 @@
 use Rattle.std.proofs.Common.{◌≡◌, true, length, take, drop}
 use Rattle.jt_value.specs.Entries.{entry_of, all_keys, keys, same_keys}
 use Rattle.jt_value.specs.Equality.{equal, equal_items, equal_at}
-use Rattle.jt_value.specs.InOrder.{to_come}
+use Rattle.jt_value.specs.internal.InOrder.{to_come}
 use Rattle.jt_value.specs.Tree as tree
 use Rattle.jt_value.specs.View.{items_view, entries_view}
-use Rattle.jt_value.proofs.InOrder.{alike}
+use Rattle.jt_value.proofs.KeyOrder.{alike}
 use Rattle.jt_value.proofs.equality.+equality.Given as goal
 
 abbrev pub invariant-are_equal_in_order-loop-key : goal.invariant-are_equal_in_order-loop-key
@@ -27,7 +27,8 @@ abbrev pub invariant-are_items_equal-loop-item : goal.invariant-are_items_equal-
 invariant-are_items_equal-loop-item l = record {
   index : l.index ≡ l.item-index;
   lengths : length l.items ≡ length l.others;
-  rest : equal_items (items_view l.items) (items_view l.others) ≡ equal_items (items_view (drop l.item-index l.items)) (items_view (drop l.item-index l.others));
+  rest : equal_items (items_view l.items) (items_view l.others)
+      ≡ equal_items (items_view (drop l.item-index l.items)) (items_view (drop l.item-index l.others));
 }
 
 abbrev pub invariant-are_values_equal_in_place-loop-key : goal.invariant-are_values_equal_in_place-loop-key
@@ -35,5 +36,7 @@ invariant-are_values_equal_in_place-loop-key l = record {
   index : l.index ≡ l.key-index;
   entries : entries_view l.entries ≡ l.map;
   same_keys : same_keys l.map (entries_view l.others) ≡ true;
-  so_far : all_keys (λ k. equal_at l.map k (entry_of k (entries_view l.others))) (entries_view (take l.key-index l.entries)) ≡ true;
+  so_far : all_keys (λ k. equal_at l.map k (entry_of k (entries_view l.others)))
+      (entries_view (take l.key-index l.entries))
+      ≡ true;
 }

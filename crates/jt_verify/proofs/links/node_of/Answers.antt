@@ -1,5 +1,5 @@
 use Rattle.std.proofs.Common.{arith}
-use Rattle.jt_verify.proofs.Ways.{at_some}
+use Rattle.jt_verify.proofs.SkipLinks.{at_some}
 use Rattle.jt_verify.proofs.links.node_of.Goals as goal
 
 pub returns-then-node-eq0 : goal.returns-then-node-eq0

@@ -1,50 +1,66 @@
 use Rattle.std.proofs.Common.{arith, rules, ap, subst}
 use Rattle.jt_image.specs.declared.code.UnitHeader.{UnitHeader}
-use Rattle.jt_verify.specs.Typing.{AreWithin}
-use Rattle.jt_verify.proofs.Walking.{path_inside, path_within, path_in_code, clash_holds, step_flaw_holds, works_met, less_met, works_stepped, less_stepped}
+use Rattle.jt_verify.specs.internal.Typing.{AreWithin}
+use Rattle.jt_verify.proofs.DataflowInvariant.{path_inside, path_within, path_in_code, clash_holds, step_flaw_holds}
+use Rattle.jt_verify.proofs.DataflowInvariant.{works_met, less_met, works_stepped, less_stepped}
 use Rattle.jt_verify.proofs.verifier.follow.Goals as goal
 
-pub arrive-requires-clause-point : goal.arrive-requires-clause-point
-arrive-requires-clause-point g c = rw c.deref.ensures.value (path_within c.args.work.now.paths.items c.args.path c.requires.works)
+pub is_known_at-requires-clause-point : goal.is_known_at-requires-clause-point
+is_known_at-requires-clause-point g c =
+    rw c.deref.ensures.value (path_within c.args.work.now.worklist.items c.args.path c.requires.works)
 
-pub arrive-requires-clause-shape : goal.arrive-requires-clause-shape
-arrive-requires-clause-shape g c = path_inside c.args.work.now.paths.items c.args.path c.requires.works
+pub is_known_at-requires-clause-shape : goal.is_known_at-requires-clause-shape
+is_known_at-requires-clause-shape g c = path_inside c.args.work.now.worklist.items c.args.path c.requires.works
 
-pub arrive-requires-clause-shapes : goal.arrive-requires-clause-shapes
-arrive-requires-clause-shapes g c = rw c.deref.ensures.value c.requires.works.table
+pub is_known_at-requires-clause-shapes : goal.is_known_at-requires-clause-shapes
+is_known_at-requires-clause-shapes g c = rw c.deref.ensures.value c.requires.works.table
 
 pub returns-in_err-is_known-clause-err : goal.returns-in_err-is_known-clause-err
 returns-in_err-is_known-clause-err g c =
-    let h = clash_holds c.args.work.now.paths.items c.args.path c.requires.works c.args.unit c.in_err-is_known.field-0.0 (rw c.deref.ensures.value at c.in_err-is_known.ensures) in
+    let h = clash_holds c.args.work.now.worklist.items c.args.path c.requires.works c.args.unit
+    c.in_err-is_known.field-0.0 (rw c.deref.ensures.value at c.in_err-is_known.ensures) in
     search (rules, h)
 
 pub returns-then-is_known-clause-ok : goal.returns-then-is_known-clause-ok
-returns-then-is_known-clause-ok g c = works_met c.args.work.now.paths.items c.args.path c.requires.works (rw (c.if-is_known.true, c.deref.ensures.value) at c.in_ok-is_known.ensures)
+returns-then-is_known-clause-ok g c =
+    works_met c.args.work.now.worklist.items c.args.path c.requires.works
+    (rw (c.if-is_known.true, c.deref.ensures.value) at c.in_ok-is_known.ensures)
 
 pub returns-then-is_known-clause-less : goal.returns-then-is_known-clause-less
-returns-then-is_known-clause-less g c = less_met c.args.work.now.paths.items c.args.path c.requires.works
+returns-then-is_known-clause-less g c = less_met c.args.work.now.worklist.items c.args.path c.requires.works
 
 pub step-requires-clause-point : goal.step-requires-clause-point
-step-requires-clause-point g c = omega (arith, path_in_code c.args.work.now.paths.items c.args.path c.requires.works, ap (λ (h : UnitHeader). h.instructions) c.requires.unit.header)
+step-requires-clause-point g c =
+    omega (
+      arith,
+      path_in_code c.args.work.now.worklist.items c.args.path c.requires.works,
+      ap (λ (h : UnitHeader). h.instructions) c.requires.unit.header,
+    )
 
 pub step-requires-clause-shape : goal.step-requires-clause-shape
-step-requires-clause-shape g c = path_inside c.args.work.now.paths.items c.args.path c.requires.works
+step-requires-clause-shape g c = path_inside c.args.work.now.worklist.items c.args.path c.requires.works
 
 pub step-requires-clause-small : goal.step-requires-clause-small
 step-requires-clause-small g c = (rw c.if-is_known.false at c.in_ok-is_known.ensures).0
 
 pub returns-in_err-after-clause-err : goal.returns-in_err-after-clause-err
 returns-in_err-after-clause-err g c =
-    let h = step_flaw_holds c.args.work.now.paths.items c.args.path c.requires.works c.step.new.arena c.args.unit c.in_err-after.field-0.0 c.in_err-after.ensures.steps in
+    let h = step_flaw_holds c.args.work.now.worklist.items c.args.path c.requires.works c.step.new.arena c.args.unit
+    c.in_err-after.field-0.0 c.in_err-after.ensures.steps in
     search (rules, h)
 
 pub returns-clause-ok : goal.returns-clause-ok
 returns-clause-ok g c =
     let new = rw (c.if-is_known.false, c.deref.ensures.value) at c.in_ok-is_known.ensures in
-    let within = subst (λ (h : UnitHeader). AreWithin h.instructions c.in_ok-after.after.leads) c.requires.unit.header c.in_ok-after.ensures.behind.within in
-    rw c.in_ok-send.ensures (works_stepped c.args.work.now.paths.items c.args.path c.requires.works c.in_ok-after.ensures.kept c.in_ok-after.after.leads c.in_ok-after.after.shape c.in_ok-after.ensures.behind.shape new.1 new.0 c.in_ok-after.ensures.steps within)
+    let within = subst (λ (h : UnitHeader). AreWithin h.instructions c.in_ok-after.after.leads) c.requires.unit.header
+    c.in_ok-after.ensures.behind.within in
+    rw c.in_ok-push_successors.ensures (works_stepped c.args.work.now.worklist.items c.args.path c.requires.works
+    c.in_ok-after.ensures.kept c.in_ok-after.after.leads c.in_ok-after.after.shape c.in_ok-after.ensures.behind.shape
+    new.1 new.0 c.in_ok-after.ensures.steps within)
 
 pub returns-clause-less : goal.returns-clause-less
 returns-clause-less g c =
     let new = rw (c.if-is_known.false, c.deref.ensures.value) at c.in_ok-is_known.ensures in
-    rw c.in_ok-send.ensures (less_stepped c.args.work.now.paths.items c.args.path c.requires.works c.in_ok-after.ensures.kept c.in_ok-after.after.leads c.in_ok-after.after.shape c.in_ok-after.ensures.behind.shape new.1)
+    rw c.in_ok-push_successors.ensures (less_stepped c.args.work.now.worklist.items c.args.path c.requires.works
+    c.in_ok-after.ensures.kept c.in_ok-after.after.leads c.in_ok-after.after.shape c.in_ok-after.ensures.behind.shape
+    new.1)

@@ -1,11 +1,11 @@
 use Rattle.std.proofs.Common.{List, None, sym, ap, ◌∙◌, arith, rules}
 use Rattle.std.proofs.lemmas.List.{at_drop_all}
 use denote.Ref.{Bor}
-use Rattle.jt_trees.specs.Expressions.{Text}
+use Rattle.jt_ast.specs.Expressions.{Text}
 use Rattle.jt_layout.specs.Names.{place_in}
-use Rattle.jt_trees.specs.Texts.{texts}
-use Rattle.jt_bind.specs.Names.{last_among}
-use Rattle.jt_bind.proofs.Names.{placed_next}
+use Rattle.jt_ast.specs.Texts.{texts}
+use Rattle.jt_bind.specs.internal.Names.{last_among}
+use Rattle.jt_bind.proofs.NumberedNames.{placed_next}
 use Rattle.jt_bind.proofs.name_scope.NameScope.new.Goals as goal
 
 pub invariant_of-result : goal.invariant_of-result
@@ -13,7 +13,10 @@ invariant_of-result c =
     let l = c.loop-name in
     let ks = c.deref-name-items.result.now in
     record {
-      indexed = λ x. sym (at_drop_all (λ (z : List (Bor Text)). last_among x (texts z) l.local (place_in l.index.places x)) ks l.name-index (omega arith)) ∙ l.invariant x
+      indexed =
+          λ x. sym (at_drop_all (λ (z : List (Bor Text)). last_among x (texts z) l.local (place_in l.index.places x)) ks
+          l.name-index (omega arith))
+          ∙ l.invariant x
           ∙ ap (λ (z : List (Bor Text)). last_among x (texts z) c.args.first None) c.deref-name-items.ensures.value;
     }
 

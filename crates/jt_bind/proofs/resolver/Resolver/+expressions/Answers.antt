@@ -1,4 +1,5 @@
-use Rattle.std.proofs.Common.{◌≡◌, ℕ, ◌+◌, Bool, false, List, [], length, drop, refl, sym, ap, ◌∙◌, subst, arith, add-one, Option, Some, None, if◌then◌else◌}
+use Rattle.std.proofs.Common.{◌≡◌, ℕ, ◌+◌, Bool, false, List, [], length, drop, refl, sym, ap, ◌∙◌, subst, arith}
+use Rattle.std.proofs.Common.{add-one, Option, Some, None, if◌then◌else◌}
 use Rattle.std.specs.Prelude.{option_map}
 use Rattle.std.proofs.lemmas.List.{at_drop_all}
 use Rattle.std.proofs.lemmas.Result.{IfOk-weaker}
@@ -6,90 +7,111 @@ use Rattle.jt_value.specs.Tree as tree
 use Rattle.jt_ids.specs.declared.op_id.OpId.{OpId}
 use Rattle.jt_ids.specs.declared.op_id.OpId.TheVariants as op
 use Rattle.jt_ids.specs.declared.test_id.TestId.{TestId}
-use Rattle.jt_trees.specs.Expressions as trees
-use Rattle.jt_trees.specs.ExpressionView.{is_negated, expr_view, exprs_view, pairs_view}
-use Rattle.jt_trees.specs.declared.expression.Expr.{Expr}
+use Rattle.jt_ast.specs.Expressions as trees
+use Rattle.jt_ast.specs.ExpressionView.{is_negated, expr_view, exprs_view, pairs_view}
+use Rattle.jt_ast.specs.declared.expression.Expr.{Expr}
 use Rattle.jt_ids.specs.FilterTable.{filter_id}
-use Rattle.jt_trees.specs.StatementView.{parameters_view}
+use Rattle.jt_ast.specs.StatementView.{parameters_view}
 use Rattle.jt_chains.specs.Chain as chain
 use Rattle.jt_chains.specs.Chain.{a_macro, a_range, a_super, a_block, a_cycle, no_callee}
 use Rattle.jt_chains.specs.Uses.{count, keywords}
-use Rattle.jt_meaning.specs.Operators.{Form, range_of}
-use Rattle.jt_meaning.specs.Resolve.{operation_of, turned_round, in_form, field_from, filled, filled_some, tested_by, locals_from, invoked}
-use Rattle.jt_meaning.specs.Expressions.{filter_parameters}
+use Rattle.jt_semantics.specs.Operators.{OperatorForm, range_of}
+use Rattle.jt_semantics.specs.Resolve.{operation_of, turned_round, in_form, field_from, filled, filled_some, tested_by}
+use Rattle.jt_semantics.specs.Resolve.{locals_from, invoked}
+use Rattle.jt_semantics.specs.Expressions.{filter_parameters}
 use Rattle.jt_ids.specs.LoopTable.{field_named}
-use Rattle.jt_resolved.specs.Pool.{Constant, own}
-use Rattle.jt_resolved.specs.Slots as slots
-use Rattle.jt_resolved.specs.Slots.{invoke}
-use Rattle.jt_evaluation.specs.TheFilters.{the_filters}
-use Rattle.jt_resolved.specs.View.{expr_view as coded, row_view}
-use Rattle.jt_resolved.specs.declared.program.SlotExpr.TheVariants as e
-use Rattle.jt_resolved.specs.declared.program.Maker.TheVariants as m
-use Rattle.jt_bind.specs.Callees.{IsCallee}
+use Rattle.jt_ir.specs.Pool.{Constant, own}
+use Rattle.jt_ir.specs.Slots as slots
+use Rattle.jt_ir.specs.Slots.{invoke}
+use Rattle.jt_eval.specs.TheFilters.{the_filters}
+use Rattle.jt_ir.specs.View.{expr_view as coded, row_view}
+use Rattle.jt_ir.specs.declared.program.SlotExpr.TheVariants as e
+use Rattle.jt_ir.specs.declared.program.NaryOp.TheVariants as m
+use Rattle.jt_bind.specs.internal.Callees.{IsCallee}
 use Rattle.jt_bind.specs.declared.callee.Callee.{Callee}
-use Rattle.jt_bind.specs.Scoped.{values, IsPlaced, world_in, order_in, callee_in, spot_in, expr_in, row_in, asides_in, entries_in, filtered_in}
-use Rattle.jt_bind.proofs.Calling.{count_length, macro_called, cycled}
-use Rattle.jt_bind.proofs.Depths.{call_depth, filter_depth, test_depth}
-use Rattle.jt_bind.proofs.Filters.{named_is, parameters_are}
-use Rattle.jt_bind.proofs.LeadingRows.{same_tree, begun, of_whole, of_left, row_both, row_item, row_aside, made_placed, invoked_placed}
-use Rattle.jt_trees.proofs.Left.{Entry, row_left, pairs_left}
-use Rattle.jt_trees.proofs.ExpressionViews.{shown_item, shown_call, shown_filter, shown_test, shown_unary, shown_binary, shown_when, shown_choice}
-use Rattle.jt_resolved.proofs.ExpressionViews.{view_Made, view_Invoke}
+use Rattle.jt_bind.specs.internal.Scoped.{values, IsPlaced, cenv_in, order_in, callee_in, senv_in, expr_in, row_in}
+use Rattle.jt_bind.specs.internal.Scoped.{asides_in, entries_in, filtered_in}
+use Rattle.jt_bind.proofs.CalleeResolution.{count_length, macro_called, cycled}
+use Rattle.jt_bind.proofs.ExpressionDepths.{call_depth, filter_depth, test_depth}
+use Rattle.jt_bind.proofs.FilterIds.{named_is, parameters_are}
+use Rattle.jt_bind.proofs.RowConcatenation.{same_tree, begun, of_whole, of_left, row_both, row_item, row_aside}
+use Rattle.jt_bind.proofs.RowConcatenation.{made_placed, invoked_placed}
+use Rattle.jt_ast.proofs.RemainingParts.{Entry, row_left, pairs_left}
+use Rattle.jt_ast.proofs.ExpressionViews.{shown_item, shown_call, shown_filter, shown_test, shown_unary, shown_binary}
+use Rattle.jt_ast.proofs.ExpressionViews.{shown_when, shown_choice}
+use Rattle.jt_ir.proofs.ExpressionViews.{view_Made, view_Invoke}
 use Rattle.jt_bind.proofs.resolver.Resolver.+expressions.Goals as goal
 
 pub resolve_row-loop-expr-preserved : goal.resolve_row-loop-expr-preserved
 resolve_row-loop-expr-preserved t c = λ left.
     let l = c.loop-expr in
     let scope = c.args.self.now.tables.now in
-    let spot = c.args.self.now.spot in
+    let senv = c.args.self.now.senv in
     let ts = c.args.row.now in
     let x = c.expr-item.result in
     row_both _ _ _ _ _ _ _ _ _ (l.invariant left)
-    (of_whole _ _ _ _ _ _ _ (ap (λ r. row_in scope r spot left) (sym (row_left ts l.expr-index x c.loop-expr-test.true c.expr-item.is)))
-    (row_item (expr_in scope (expr_view x) spot) (row_in scope (exprs_view (drop (l.expr-index + 1) ts)) spot left) c.in_ok-next.next l.done.items _ (values l.pool) _ c.in_ok-next.ensures c.in_ok-push.ensures.items))
+    (of_whole _ _ _ _ _ _ _
+    (ap (λ r. row_in scope r senv left) (sym (row_left ts l.expr-index x c.loop-expr-test.true c.expr-item.is)))
+    (row_item (expr_in scope (expr_view x) senv) (row_in scope (exprs_view (drop (l.expr-index + 1) ts)) senv left)
+    c.in_ok-next.next l.done.items _ (values l.pool) _ c.in_ok-next.ensures c.in_ok-push.ensures.items))
 
 pub resolve_row-returns : goal.resolve_row-returns
 resolve_row-returns t c = λ left.
     let l = c.loop-expr in
-    of_left _ _ _ _ _ _ _ (at_drop_all (λ (z : List Expr). row_in c.args.self.now.tables.now (exprs_view z) c.args.self.now.spot left) c.args.row.now l.expr-index (omega arith)) (l.invariant left)
+    of_left _ _ _ _ _ _ _ (at_drop_all
+    (λ (z : List Expr). row_in c.args.self.now.tables.now (exprs_view z) c.args.self.now.senv left) c.args.row.now
+    l.expr-index (omega arith))
+    (l.invariant left)
 
 pub resolve_entries-loop-key-preserved : goal.resolve_entries-loop-key-preserved
 resolve_entries-loop-key-preserved t c =
     let l = c.loop-key in
     let scope = c.args.self.now.tables.now in
-    let spot = c.args.self.now.spot in
+    let senv = c.args.self.now.senv in
     let ps = c.args.pairs.now in
     let x = c.loop-key-item.result in
-    let rest = entries_in scope (pairs_view (drop (l.key-index + 1) ps)) spot in
-    let value = expr_in scope (expr_view x.1) spot in
+    let rest = entries_in scope (pairs_view (drop (l.key-index + 1) ps)) senv in
+    let value = expr_in scope (expr_view x.1) senv in
     row_both _ _ _ _ _ _ _ _ _ l.invariant
-    (of_whole _ _ _ _ _ _ _ (ap (λ k. slots.item (slots.pooled (own (tree.text k))) (slots.item value rest)) c.as_str.ensures.value
-    ∙ ap (λ r. entries_in scope r spot) (sym (pairs_left ps l.key-index x c.loop-key-test.true c.loop-key-item.is)))
-    (row_both _ _ _ _ _ _ _ _ _ (row_item _ (slots.item value rest) c.in_ok-place.place l.done.items _ (values l.pool) _ c.in_ok-place.ensures c.in_ok-push.ensures.items)
+    (of_whole _ _ _ _ _ _ _
+    (ap (λ k. slots.item (slots.pooled (own (tree.text k))) (slots.item value rest)) c.as_str.ensures.value
+    ∙ ap (λ r. entries_in scope r senv) (sym (pairs_left ps l.key-index x c.loop-key-test.true c.loop-key-item.is)))
+    (row_both _ _ _ _ _ _ _ _ _ (row_item _ (slots.item value rest) c.in_ok-place.place l.done.items _ (values l.pool) _
+    c.in_ok-place.ensures c.in_ok-push.ensures.items)
     (row_item value rest c.in_ok-next.next _ _ _ _ c.in_ok-next.ensures c.in_ok-push-2.ensures.items)))
 
 pub resolve_list-returns : goal.resolve_list-returns
 resolve_list-returns t c =
-    made_placed slots.a_list _ c.resolve_row.new.done.items _ _ _ (begun _ _ _ _ _ _ _ c.new-items.ensures.items (c.in_ok-resolve_row.ensures slots.none)) (view_Made m.List c.resolve_row.new.done)
+    made_placed slots.a_list _ c.resolve_row.new.done.items _ _ _
+    (begun _ _ _ _ _ _ _ c.new-items.ensures.items (c.in_ok-resolve_row.ensures slots.none))
+    (view_Made m.List c.resolve_row.new.done)
 
 pub resolve_map-returns : goal.resolve_map-returns
 resolve_map-returns t c =
-    made_placed slots.a_map _ c.resolve_entries.new.done.items _ _ _ (begun _ _ _ _ _ _ _ c.new-entries.ensures.items c.in_ok-resolve_entries.ensures) (view_Made m.Map c.resolve_entries.new.done)
+    made_placed slots.a_map _ c.resolve_entries.new.done.items _ _ _
+    (begun _ _ _ _ _ _ _ c.new-entries.ensures.items c.in_ok-resolve_entries.ensures)
+    (view_Made m.Map c.resolve_entries.new.done)
 
 pub resolve_attribute-returns : goal.resolve_attribute-returns
 resolve_attribute-returns t c =
-    let a = expr_in c.args.self.now.tables.now (expr_view c.args.value.now) c.args.self.now.spot in
+    let a = expr_in c.args.self.now.tables.now (expr_view c.args.value.now) c.args.self.now.senv in
     let key = c.args.key.now in
     let p = values c.args.pool.now in
     let r = values c.add_text.new.pool in
     IfOk-weaker c.on_two.result _ _ (λ e h.
-    let P : Bool → Type 0 = λ b. IsPlaced (if b then field_from (field_named key) else operation_of op.Item a (slots.pooled (own (tree.text key)))) (coded e) p r in
-    subst P (sym c.if-is_loop_name.false ∙ c.is_loop_name.ensures) (h _ _ _ _ _ c.in_ok-whole.ensures c.in_ok-place.ensures)) c.on_two.ensures
+    let P : Bool → Type 0 = λ b. IsPlaced
+    (if b then field_from (field_named key) else operation_of op.Item a (slots.pooled (own (tree.text key)))) (coded e)
+    p r in
+    subst P (sym c.if-is_loop_name.false ∙ c.is_loop_name.ensures)
+    (h _ _ _ _ _ c.in_ok-whole.ensures c.in_ok-place.ensures)) c.on_two.ensures
 
 pub resolve_asides-returns : goal.resolve_asides-returns
 resolve_asides-returns t c = λ left.
     let l = c.loop-value in
-    of_left _ _ _ _ _ _ _ (at_drop_all (λ (z : List Entry). asides_in c.args.self.now.tables.now (pairs_view z) l.spot left) c.args.pairs.now l.value-index (omega arith)) (l.invariant left)
+    of_left _ _ _ _ _ _ _ (at_drop_all
+    (λ (z : List Entry). asides_in c.args.self.now.tables.now (pairs_view z) l.senv left) c.args.pairs.now l.value-index
+    (omega arith))
+    (l.invariant left)
 
 pub resolve_asides-loop-value-preserved : goal.resolve_asides-loop-value-preserved
 resolve_asides-loop-value-preserved t c = λ left.
@@ -98,11 +120,15 @@ resolve_asides-loop-value-preserved t c = λ left.
     let ps = c.args.pairs.now in
     let x = c.loop-value-item.result in
     let rest = pairs_view (drop (l.value-index + 1) ps) in
-    let value = expr_in scope (expr_view x.1) l.spot in
+    let value = expr_in scope (expr_view x.1) l.senv in
     row_both _ _ _ _ _ _ _ _ _ (l.invariant left)
-    (of_whole _ _ _ _ _ _ _ (ap (λ (n : ℕ). slots.aside l.spot.free value (asides_in scope rest (record l.spot { free = n }) left)) (c.in_ok-spot.ensures ∙ add-one l.spot.free)
-    ∙ ap (λ r. asides_in scope r l.spot left) (sym (pairs_left ps l.value-index x c.loop-value-test.true c.loop-value-item.is)))
-    (row_aside l.spot.free value (asides_in scope rest (record l.spot { free = c.in_ok-spot.field-0 }) left) c.in_ok-next.next l.done.items _ (values l.pool) _ c.in_ok-next.ensures c.in_ok-push.ensures.items))
+    (of_whole _ _ _ _ _ _ _ (ap
+    (λ (n : ℕ). slots.aside l.senv.free value (asides_in scope rest (record l.senv { free = n }) left))
+    (c.in_ok-senv.ensures ∙ add-one l.senv.free)
+    ∙ ap (λ r. asides_in scope r l.senv left)
+    (sym (pairs_left ps l.value-index x c.loop-value-test.true c.loop-value-item.is)))
+    (row_aside l.senv.free value (asides_in scope rest (record l.senv { free = c.in_ok-senv.field-0 }) left)
+    c.in_ok-next.next l.done.items _ (values l.pool) _ c.in_ok-next.ensures c.in_ok-push.ensures.items))
 
 pub resolve_item-returns : goal.resolve_item-returns
 resolve_item-returns t c =
@@ -110,23 +136,26 @@ resolve_item-returns t c =
 
 pub resolve_unary-returns : goal.resolve_unary-returns
 resolve_unary-returns t c =
-    let a = expr_in c.args.self.now.tables.now (expr_view c.args.operand.now) c.args.self.now.spot in
+    let a = expr_in c.args.self.now.tables.now (expr_view c.args.operand.now) c.args.self.now.senv in
     IfOk-weaker c.on_one.result _ _ (λ e h.
-    let P : OpId → Type 0 = λ o. IsPlaced (slots.made (slots.operator o) (slots.item a slots.none)) (coded e) (values c.args.pool.now) (values c.resolve_expression.new.pool) in
+    let P : OpId → Type 0 = λ o. IsPlaced (slots.made (slots.operator o) (slots.item a slots.none)) (coded e)
+    (values c.args.pool.now) (values c.resolve_expression.new.pool) in
     subst P c.unary_operation.ensures (h _ _ _ c.in_ok-value.ensures)) c.on_one.ensures
 
 pub resolve_binary-returns : goal.resolve_binary-returns
 resolve_binary-returns t c =
-    let a = expr_in c.args.self.now.tables.now (expr_view c.args.left.now) c.args.self.now.spot in
-    let b = expr_in c.args.self.now.tables.now (expr_view c.args.right.now) c.args.self.now.spot in
+    let a = expr_in c.args.self.now.tables.now (expr_view c.args.left.now) c.args.self.now.senv in
+    let b = expr_in c.args.self.now.tables.now (expr_view c.args.right.now) c.args.self.now.senv in
     IfOk-weaker c.formed.result _ _ (λ e h.
-    let P : Form → Type 0 = λ f. IsPlaced (in_form f a b) (coded e) (values c.args.pool.now) (values c.resolve_expression-2.new.pool) in
+    let P : OperatorForm → Type 0 =
+    λ f. IsPlaced (in_form f a b) (coded e) (values c.args.pool.now) (values c.resolve_expression-2.new.pool) in
     subst P c.form_of.ensures (h _ _ _ _ _ c.in_ok-first.ensures c.in_ok-second.ensures)) c.formed.ensures
 
 pub resolve_when-returns : goal.resolve_when-returns
 resolve_when-returns t c =
     IfOk-weaker c.chosen.result _ _ (λ e h.
-    h _ _ _ _ _ _ _ c.in_ok-asked.ensures c.in_ok-first.ensures (c.no_value.ensures (values c.resolve_expression-2.new.pool))) c.chosen.ensures
+    h _ _ _ _ _ _ _ c.in_ok-asked.ensures c.in_ok-first.ensures
+    (c.no_value.ensures (values c.resolve_expression-2.new.pool))) c.chosen.ensures
 
 pub resolve_choice-returns : goal.resolve_choice-returns
 resolve_choice-returns t c =
@@ -137,16 +166,22 @@ pub resolve_expression-returns-in-Item : goal.resolve_expression-returns-in-Item
 resolve_expression-returns-in-Item t c =
     let a = c.deref-in-Item.result.now in
     let b = c.deref-in-Item-2.result.now in
-    IfOk-weaker c.resolve_item.result _ _ (λ e h. same_tree c.args.self.now.tables.now c.args.self.now.spot _ _ (coded e) _ _
-    (shown_item c.args.expr.now a b c.in-Item.value c.in-Item.index c.in-Item.is c.deref-in-Item.ensures c.deref-in-Item-2.ensures) h) c.resolve_item.ensures
+    IfOk-weaker c.resolve_item.result _ _
+    (λ e h. same_tree c.args.self.now.tables.now c.args.self.now.senv _ _ (coded e) _ _
+    (shown_item c.args.expr.now a b c.in-Item.value c.in-Item.index c.in-Item.is c.deref-in-Item.ensures
+    c.deref-in-Item-2.ensures) h)
+    c.resolve_item.ensures
 
 pub resolve_expression-returns-in-Call : goal.resolve_expression-returns-in-Call
 resolve_expression-returns-in-Call t c =
     let f = c.deref-in-Call.result.now in
     let us = c.deref-in-Call-2.result.now in
     let qs = c.deref-in-Call-3.result.now in
-    IfOk-weaker c.resolve_call.result _ _ (λ e h. same_tree c.args.self.now.tables.now c.args.self.now.spot _ _ (coded e) _ _
-    (shown_call c.args.expr.now f us qs c.in-Call.called c.in-Call.row c.in-Call.pairs c.in-Call.is c.deref-in-Call.ensures c.deref-in-Call-2.ensures.value c.deref-in-Call-3.ensures.value) h) c.resolve_call.ensures
+    IfOk-weaker c.resolve_call.result _ _
+    (λ e h. same_tree c.args.self.now.tables.now c.args.self.now.senv _ _ (coded e) _ _
+    (shown_call c.args.expr.now f us qs c.in-Call.called c.in-Call.row c.in-Call.pairs c.in-Call.is
+    c.deref-in-Call.ensures c.deref-in-Call-2.ensures.value c.deref-in-Call-3.ensures.value) h)
+    c.resolve_call.ensures
 
 pub resolve_expression-returns-in-Filter : goal.resolve_expression-returns-in-Filter
 resolve_expression-returns-in-Filter t c =
@@ -154,9 +189,12 @@ resolve_expression-returns-in-Filter t c =
     let k = c.deref-in-Filter-2.result.now in
     let us = c.deref-in-Filter-3.result.now in
     let qs = c.deref-in-Filter-4.result.now in
-    IfOk-weaker c.resolve_filter.result _ _ (λ e h. same_tree c.args.self.now.tables.now c.args.self.now.spot _ _ (coded e) _ _
+    IfOk-weaker c.resolve_filter.result _ _
+    (λ e h. same_tree c.args.self.now.tables.now c.args.self.now.senv _ _ (coded e) _ _
     (ap (λ x. trees.filter (expr_view a) x (exprs_view us) (pairs_view qs)) c.deref-in-Filter-2.ensures
-    ∙ shown_filter c.args.expr.now a c.in-Filter.name us qs c.in-Filter.value c.in-Filter.row c.in-Filter.pairs c.in-Filter.is c.deref-in-Filter.ensures c.deref-in-Filter-3.ensures.value c.deref-in-Filter-4.ensures.value) h) c.resolve_filter.ensures
+    ∙ shown_filter c.args.expr.now a c.in-Filter.name us qs c.in-Filter.value c.in-Filter.row c.in-Filter.pairs
+    c.in-Filter.is c.deref-in-Filter.ensures c.deref-in-Filter-3.ensures.value c.deref-in-Filter-4.ensures.value) h)
+    c.resolve_filter.ensures
 
 pub resolve_expression-returns-in-Test : goal.resolve_expression-returns-in-Test
 resolve_expression-returns-in-Test t c =
@@ -164,70 +202,91 @@ resolve_expression-returns-in-Test t c =
     let us = c.deref-in-Test-3.result.now in
     let v = c.in-Test in
     let qs = pairs_view v.keywords.items in
-    IfOk-weaker c.resolve_test.result _ _ (λ e h. same_tree c.args.self.now.tables.now c.args.self.now.spot _ _ (coded e) _ _
+    IfOk-weaker c.resolve_test.result _ _
+    (λ e h. same_tree c.args.self.now.tables.now c.args.self.now.senv _ _ (coded e) _ _
     (ap (λ x. trees.test (expr_view a) (is_negated v.polarity) x (exprs_view us) qs) c.deref-in-Test-2.ensures
-    ∙ shown_test c.args.expr.now a v.polarity v.name us v.keywords.items v.value v.row v.keywords v.is c.deref-in-Test.ensures c.deref-in-Test-3.ensures.value refl) (h qs)) c.resolve_test.ensures
+    ∙ shown_test c.args.expr.now a v.polarity v.name us v.keywords.items v.value v.row v.keywords v.is
+    c.deref-in-Test.ensures c.deref-in-Test-3.ensures.value refl) (h qs)) c.resolve_test.ensures
 
 pub resolve_expression-returns-in-Unary : goal.resolve_expression-returns-in-Unary
 resolve_expression-returns-in-Unary t c =
     let a = c.deref-in-Unary.result.now in
-    IfOk-weaker c.resolve_unary.result _ _ (λ e h. same_tree c.args.self.now.tables.now c.args.self.now.spot _ _ (coded e) _ _
-    (shown_unary c.args.expr.now a c.in-Unary.operator c.in-Unary.operand c.in-Unary.is c.deref-in-Unary.ensures) h) c.resolve_unary.ensures
+    IfOk-weaker c.resolve_unary.result _ _
+    (λ e h. same_tree c.args.self.now.tables.now c.args.self.now.senv _ _ (coded e) _ _
+    (shown_unary c.args.expr.now a c.in-Unary.operator c.in-Unary.operand c.in-Unary.is c.deref-in-Unary.ensures) h)
+    c.resolve_unary.ensures
 
 pub resolve_expression-returns-in-Binary : goal.resolve_expression-returns-in-Binary
 resolve_expression-returns-in-Binary t c =
     let a = c.deref-in-Binary.result.now in
     let b = c.deref-in-Binary-2.result.now in
-    IfOk-weaker c.resolve_binary.result _ _ (λ e h. same_tree c.args.self.now.tables.now c.args.self.now.spot _ _ (coded e) _ _
-    (shown_binary c.args.expr.now a b c.in-Binary.operator c.in-Binary.left c.in-Binary.right c.in-Binary.is c.deref-in-Binary.ensures c.deref-in-Binary-2.ensures) h) c.resolve_binary.ensures
+    IfOk-weaker c.resolve_binary.result _ _
+    (λ e h. same_tree c.args.self.now.tables.now c.args.self.now.senv _ _ (coded e) _ _
+    (shown_binary c.args.expr.now a b c.in-Binary.operator c.in-Binary.left c.in-Binary.right c.in-Binary.is
+    c.deref-in-Binary.ensures c.deref-in-Binary-2.ensures) h)
+    c.resolve_binary.ensures
 
 pub resolve_expression-returns-in-When : goal.resolve_expression-returns-in-When
 resolve_expression-returns-in-When t c =
     let a = c.deref-in-When.result.now in
     let b = c.deref-in-When-2.result.now in
-    IfOk-weaker c.resolve_when.result _ _ (λ e h. same_tree c.args.self.now.tables.now c.args.self.now.spot _ _ (coded e) _ _
-    (shown_when c.args.expr.now a b c.in-When.condition c.in-When.value c.in-When.is c.deref-in-When.ensures c.deref-in-When-2.ensures) h) c.resolve_when.ensures
+    IfOk-weaker c.resolve_when.result _ _
+    (λ e h. same_tree c.args.self.now.tables.now c.args.self.now.senv _ _ (coded e) _ _
+    (shown_when c.args.expr.now a b c.in-When.condition c.in-When.value c.in-When.is c.deref-in-When.ensures
+    c.deref-in-When-2.ensures) h)
+    c.resolve_when.ensures
 
 pub resolve_expression-returns-in-Choice : goal.resolve_expression-returns-in-Choice
 resolve_expression-returns-in-Choice t c =
     let a = c.deref-in-Choice.result.now in
     let b = c.deref-in-Choice-2.result.now in
     let d = c.deref-in-Choice-3.result.now in
-    IfOk-weaker c.resolve_choice.result _ _ (λ e h. same_tree c.args.self.now.tables.now c.args.self.now.spot _ _ (coded e) _ _
-    (shown_choice c.args.expr.now a b d c.in-Choice.condition c.in-Choice.value c.in-Choice.other c.in-Choice.is c.deref-in-Choice.ensures c.deref-in-Choice-2.ensures c.deref-in-Choice-3.ensures) h) c.resolve_choice.ensures
+    IfOk-weaker c.resolve_choice.result _ _
+    (λ e h. same_tree c.args.self.now.tables.now c.args.self.now.senv _ _ (coded e) _ _
+    (shown_choice c.args.expr.now a b d c.in-Choice.condition c.in-Choice.value c.in-Choice.other c.in-Choice.is
+    c.deref-in-Choice.ensures c.deref-in-Choice-2.ensures c.deref-in-Choice-3.ensures) h)
+    c.resolve_choice.ensures
 
 -- ---- tests and filters
 
 pub resolve_test-returns : goal.resolve_test-returns
 resolve_test-returns t c =
-    let a = expr_in c.args.self.now.tables.now (trees.test (expr_view c.args.value.now) false c.args.name.now (exprs_view c.args.row.now) trees.no_pairs) c.args.self.now.spot in
+    let a = expr_in c.args.self.now.tables.now
+    (trees.test (expr_view c.args.value.now) false c.args.name.now (exprs_view c.args.row.now) trees.no_pairs)
+    c.args.self.now.senv in
     IfOk-weaker c.turned.result _ _ (λ e h ps.
-    let P : Bool → Type 0 = λ n. IsPlaced (turned_round n a) (coded e) (values c.args.pool.now) (values c.resolve_plain_test.new.pool) in
+    let P : Bool → Type 0 =
+    λ n. IsPlaced (turned_round n a) (coded e) (values c.args.pool.now) (values c.resolve_plain_test.new.pool) in
     subst P c.is_negated.ensures (h a _ _ (c.in_ok-test.ensures ps))) c.turned.ensures
 
 pub resolve_plain_test-returns-in_ok-resolve_row-in-Some : goal.resolve_plain_test-returns-in_ok-resolve_row-in-Some
 resolve_plain_test-returns-in_ok-resolve_row-in-Some t c = λ ps.
     let s = c.args.self.now.tables.now in
-    let spot = c.args.self.now.spot in
-    let a = expr_in s (expr_view c.args.value.now) spot in
-    let es = row_in s (exprs_view c.args.row.now) spot slots.none in
+    let senv = c.args.self.now.senv in
+    let a = expr_in s (expr_view c.args.value.now) senv in
+    let es = row_in s (exprs_view c.args.row.now) senv slots.none in
     let whole = slots.item a es in
     let given = c.in_ok-operands-in-Some.operands in
     let done = c.resolve_row.new.done in
     let p = values c.args.pool.now in
     let q = values c.resolve_expression.new.pool in
     let r = values c.resolve_row.new.pool in
-    let P : Option TestId → Type 0 = λ o. IsPlaced (tested_by o whole) (coded (e.Made (m.Test c.in-Some.test) done)) p r in
+    let P : Option TestId → Type 0 =
+    λ o. IsPlaced (tested_by o whole) (coded (e.Made (m.Test c.in-Some.test) done)) p r in
     subst P (sym c.in-Some.is ∙ c.test_of.ensures)
-    (made_placed (slots.test c.in-Some.test) whole done.items _ p r (row_both whole es slots.none [] given.items done.items p q r
-    (row_item a es c.in_ok-first-in-Some.first [] given.items p q c.in_ok-first-in-Some.ensures c.in_ok-operands-in-Some.ensures) (c.in_ok-resolve_row-in-Some.ensures slots.none))
+    (made_placed (slots.test c.in-Some.test) whole done.items _ p r
+    (row_both whole es slots.none [] given.items done.items p q r
+    (row_item a es c.in_ok-first-in-Some.first [] given.items p q c.in_ok-first-in-Some.ensures
+    c.in_ok-operands-in-Some.ensures)
+    (c.in_ok-resolve_row-in-Some.ensures slots.none))
     (view_Made (m.Test c.in-Some.test) done))
 
 pub resolve_plain_test-returns-in-None : goal.resolve_plain_test-returns-in-None
 resolve_plain_test-returns-in-None t c = λ ps.
     let s = c.args.self.now.tables.now in
-    let spot = c.args.self.now.spot in
-    let whole = slots.item (expr_in s (expr_view c.args.value.now) spot) (row_in s (exprs_view c.args.row.now) spot slots.none) in
+    let senv = c.args.self.now.senv in
+    let whole =
+    slots.item (expr_in s (expr_view c.args.value.now) senv) (row_in s (exprs_view c.args.row.now) senv slots.none) in
     let p = values c.args.pool.now in
     let P : Option TestId → Type 0 = λ o. IsPlaced (tested_by o whole) (coded c.absent.result) p p in
     subst P (sym c.in-None.is ∙ c.test_of.ensures) (c.absent.ensures p)
@@ -235,36 +294,39 @@ resolve_plain_test-returns-in-None t c = λ ps.
 pub resolve_filter-returns-in-None : goal.resolve_filter-returns-in-None
 resolve_filter-returns-in-None t c =
     let s = c.args.self.now.tables.now in
-    let a = expr_in s (expr_view c.args.value.now) c.args.self.now.spot in
+    let a = expr_in s (expr_view c.args.value.now) c.args.self.now.senv in
     let ts = exprs_view c.args.arguments.row.now in
     let ps = pairs_view c.args.arguments.pairs.now in
     let p = values c.args.pool.now in
-    let named : (world_in s).filters.named c.args.name.now ts ps ≡ None = named_is c.args.name.now ts ps ∙ ap (option_map filter_id) (sym c.filter_of.ensures ∙ c.in-None.is) in
-    let P : Option ℕ → Type 0 = λ o. IsPlaced (filtered_in s o a ts ps c.args.self.now.spot) (coded c.absent.result) p p in
+    let named : (cenv_in s).filters.named c.args.name.now ts ps ≡ None =
+    named_is c.args.name.now ts ps ∙ ap (option_map filter_id) (sym c.filter_of.ensures ∙ c.in-None.is) in
+    let P : Option ℕ → Type 0 =
+    λ o. IsPlaced (filtered_in s o a ts ps c.args.self.now.senv) (coded c.absent.result) p p in
     subst P (sym named) (c.absent.ensures p)
 
 pub resolve_filter-returns-in_ok-first-in-Some : goal.resolve_filter-returns-in_ok-first-in-Some
 resolve_filter-returns-in_ok-first-in-Some t c =
     let s = c.args.self.now.tables.now in
-    let a = expr_in s (expr_view c.args.value.now) c.args.self.now.spot in
+    let a = expr_in s (expr_view c.args.value.now) c.args.self.now.senv in
     let ts = exprs_view c.args.arguments.row.now in
     let ps = pairs_view c.args.arguments.pairs.now in
     let p = values c.args.pool.now in
     let q = values c.resolve_filtered.new.pool in
-    let named : (world_in s).filters.named c.args.name.now ts ps ≡ Some (filter_id c.in-Some.filter) = named_is c.args.name.now ts ps ∙ ap (option_map filter_id) (sym c.filter_of.ensures ∙ c.in-Some.is) in
+    let named : (cenv_in s).filters.named c.args.name.now ts ps ≡ Some (filter_id c.in-Some.filter) =
+    named_is c.args.name.now ts ps ∙ ap (option_map filter_id) (sym c.filter_of.ensures ∙ c.in-Some.is) in
     IfOk-weaker c.resolve_filtered.result _ _ (λ e h.
-    let P : Option ℕ → Type 0 = λ o. IsPlaced (filtered_in s o a ts ps c.args.self.now.spot) (coded e) p q in
+    let P : Option ℕ → Type 0 = λ o. IsPlaced (filtered_in s o a ts ps c.args.self.now.senv) (coded e) p q in
     subst P (sym named) (h a p c.in_ok-first-in-Some.ensures)) c.resolve_filtered.ensures
 
 pub resolve_filtered-returns : goal.resolve_filtered-returns
 resolve_filtered-returns t c = λ k p h.
     let s = c.args.self.now.tables.now in
-    let spot = c.args.self.now.spot in
+    let senv = c.args.self.now.senv in
     let f = c.args.filter in
     let ts = exprs_view c.args.arguments.row.now in
     let ps = pairs_view c.args.arguments.pairs.now in
     let xs = keywords ps in
-    let ks = locals_from spot.free xs in
+    let ks = locals_from senv.free xs in
     let n = length c.args.arguments.row.now in
     let given = c.in_ok-given.given in
     let done = c.resolve_given.new.done in
@@ -273,37 +335,49 @@ resolve_filtered-returns t c = λ k p h.
     let q = values c.resolve_given.new.pool in
     let r = values c.fill_some.new.pool in
     let left = filled_some (parameters_view c.deref.result.now) n xs ks in
-    let es = row_in s ts spot (asides_in s ps spot left) in
-    let known : parameters_view c.deref.result.now ≡ filter_parameters the_filters (Some (filter_id f)) = ap parameters_view c.deref.ensures.value ∙ c.in_ok-parameters.ensures ∙ sym (parameters_are f) in
-    let P : slots.SRow Constant → Type 0 = λ z. IsPlaced (slots.made (slots.filter (filter_id f) spot.escaping) (slots.item k (row_in s ts spot (asides_in s ps spot z)))) (coded (e.Made (m.Filter f spot.escaping) full)) p r in
-    subst P (ap (λ z. filled_some z n xs ks) known ∙ ap (λ (i : ℕ). filled_some (filter_parameters the_filters (Some (filter_id f))) i xs ks) (sym (count_length c.args.arguments.row.now)))
-    (made_placed (slots.filter (filter_id f) spot.escaping) (slots.item k es) full.items _ p r
-    (row_both (slots.item k es) es slots.none [] given.items full.items p old r (row_item k es c.args.value [] given.items p old h c.in_ok-given.ensures)
-    (row_both es left slots.none given.items done.items full.items old q r (c.in_ok-resolve_given.ensures left) c.in_ok-fill_some.ensures))
-    (view_Made (m.Filter f spot.escaping) full))
+    let es = row_in s ts senv (asides_in s ps senv left) in
+    let known : parameters_view c.deref.result.now ≡ filter_parameters the_filters (Some (filter_id f)) =
+    ap parameters_view c.deref.ensures.value ∙ c.in_ok-parameters.ensures ∙ sym (parameters_are f) in
+    let P : slots.SRow Constant → Type 0 = λ z. IsPlaced
+    (slots.made (slots.filter (filter_id f) senv.escaping) (slots.item k (row_in s ts senv (asides_in s ps senv z))))
+    (coded (e.Made (m.Filter f senv.escaping) full)) p r in
+    subst P (ap (λ z. filled_some z n xs ks) known
+    ∙ ap (λ (i : ℕ). filled_some (filter_parameters the_filters (Some (filter_id f))) i xs ks)
+    (sym (count_length c.args.arguments.row.now)))
+    (made_placed (slots.filter (filter_id f) senv.escaping) (slots.item k es) full.items _ p r
+    (row_both (slots.item k es) es slots.none [] given.items full.items p old r
+    (row_item k es c.args.value [] given.items p old h c.in_ok-given.ensures)
+    (row_both es left slots.none given.items done.items full.items old q r (c.in_ok-resolve_given.ensures left)
+    c.in_ok-fill_some.ensures))
+    (view_Made (m.Filter f senv.escaping) full))
 
 -- ---- calls
 
 pub resolve_macro-returns : goal.resolve_macro-returns
 resolve_macro-returns t c =
     let s = c.args.self.now.tables.now in
-    let spot = c.args.self.now.spot in
+    let senv = c.args.self.now.senv in
     let signature = c.args.signature in
     let ps = pairs_view c.args.arguments.pairs.now in
-    let left = filled (parameters_view signature.parameters.now) (length c.args.arguments.row.now) signature.first_default (locals_from spot.free (keywords ps)) in
-    let es = row_in s (exprs_view c.args.arguments.row.now) spot (asides_in s ps spot left) in
+    let left = filled (parameters_view signature.parameters.now) (length c.args.arguments.row.now)
+    signature.first_default (locals_from senv.free (keywords ps)) in
+    let es = row_in s (exprs_view c.args.arguments.row.now) senv (asides_in s ps senv left) in
     let done = c.resolve_given.new.done in
     let full = c.fill.new.done in
     let p = values c.args.pool.now in
     let q = values c.resolve_given.new.pool in
-    invoked_placed signature.unit spot.escaping es full.items _ p q (row_both es left slots.none [] done.items full.items p q q
-    (begun _ _ _ _ _ _ _ c.new-given.ensures.items (c.in_ok-resolve_given.ensures left)) (c.in_ok-fill.ensures q)) (view_Invoke signature.unit spot.escaping full)
+    invoked_placed signature.unit senv.escaping es full.items _ p q
+    (row_both es left slots.none [] done.items full.items p q q
+    (begun _ _ _ _ _ _ _ c.new-given.ensures.items (c.in_ok-resolve_given.ensures left)) (c.in_ok-fill.ensures q))
+    (view_Invoke signature.unit senv.escaping full)
 
 pub resolve_range-returns : goal.resolve_range-returns
 resolve_range-returns t c =
     let done = c.resolve_row.new.done in
-    made_placed (slots.operator (range_of (length c.args.row.now))) _ done.items _ _ _ (begun _ _ _ _ _ _ _ c.new-operands.ensures.items (c.in_ok-resolve_row.ensures slots.none))
-    (view_Made (m.Operator c.range_of.result) done ∙ ap (λ o. slots.made (slots.operator o) (row_view done.items slots.none)) c.range_of.ensures)
+    made_placed (slots.operator (range_of (length c.args.row.now))) _ done.items _ _ _
+    (begun _ _ _ _ _ _ _ c.new-operands.ensures.items (c.in_ok-resolve_row.ensures slots.none))
+    (view_Made (m.Operator c.range_of.result) done
+    ∙ ap (λ o. slots.made (slots.operator o) (row_view done.items slots.none)) c.range_of.ensures)
 
 pub resolve_cycle-returns : goal.resolve_cycle-returns
 resolve_cycle-returns t c =
@@ -312,120 +386,160 @@ resolve_cycle-returns t c =
 pub resolve_call-returns-in-Macro : goal.resolve_call-returns-in-Macro
 resolve_call-returns-in-Macro t c =
     let s = c.args.self.now.tables.now in
-    let spot = c.args.self.now.spot in
+    let senv = c.args.self.now.senv in
     let ts = exprs_view c.args.arguments.row.now in
     let ps = pairs_view c.args.arguments.pairs.now in
-    let ks = locals_from spot.free (keywords ps) in
+    let ks = locals_from senv.free (keywords ps) in
     let k = callee_in s (expr_view c.args.called.now) in
-    let Q : Callee → Type 0 = λ z. IsCallee (world_in s) (order_in s) z k in
+    let Q : Callee → Type 0 = λ z. IsCallee (cenv_in s) (order_in s) z k in
     let m = subst Q c.in-Macro.is c.in_ok-signature.ensures in
     let n : count ts ≡ length c.args.arguments.row.now = count_length c.args.arguments.row.now in
     let signature = c.in-Macro.signature in
-    let same : invoke signature.unit spot.escaping (row_in s ts spot (asides_in s ps spot (filled (parameters_view signature.parameters.now) (length c.args.arguments.row.now) signature.first_default ks)))
-    ≡ invoked (world_in s) (order_in s) k (spot_in s spot) (λ z. row_in s ts spot z) (λ z. asides_in s ps spot z) (count ts) ks =
-    macro_called (world_in s) (order_in s) m.0 signature m.1 m.2.0 spot.escaping (λ z. row_in s ts spot (asides_in s ps spot z)) (length c.args.arguments.row.now) ks
-    ∙ ap (λ (i : ℕ). invoked (world_in s) (order_in s) (a_macro m.0 m.1) (spot_in s spot) (λ z. row_in s ts spot z) (λ z. asides_in s ps spot z) i ks) (sym n)
-    ∙ ap (λ z. invoked (world_in s) (order_in s) z (spot_in s spot) (λ y. row_in s ts spot y) (λ y. asides_in s ps spot y) (count ts) ks) (sym m.2.1) in
+    let same : invoke signature.unit senv.escaping
+    (row_in s ts senv (asides_in s ps senv
+    (filled (parameters_view signature.parameters.now) (length c.args.arguments.row.now) signature.first_default ks)))
+    ≡ invoked (cenv_in s) (order_in s) k (senv_in s senv) (λ z. row_in s ts senv z) (λ z. asides_in s ps senv z)
+    (count ts) ks =
+    macro_called (cenv_in s) (order_in s) m.0 signature m.1 m.2.0 senv.escaping
+    (λ z. row_in s ts senv (asides_in s ps senv z)) (length c.args.arguments.row.now) ks
+    ∙ ap (λ (i : ℕ). invoked (cenv_in s) (order_in s) (a_macro m.0 m.1) (senv_in s senv) (λ z. row_in s ts senv z)
+    (λ z. asides_in s ps senv z) i ks) (sym n)
+    ∙ ap (λ z. invoked (cenv_in s) (order_in s) z (senv_in s senv) (λ y. row_in s ts senv y)
+    (λ y. asides_in s ps senv y) (count ts) ks)
+    (sym m.2.1) in
     IfOk-weaker c.resolve_macro.result _ _ (λ e h.
-    let P : slots.SlotExpr Constant → Type 0 = λ z. IsPlaced z (coded e) (values c.args.pool.now) (values c.resolve_macro.new.pool) in
+    let P : slots.SlotExpr Constant → Type 0 =
+    λ z. IsPlaced z (coded e) (values c.args.pool.now) (values c.resolve_macro.new.pool) in
     subst P same h) c.resolve_macro.ensures
 
 pub resolve_call-returns-in-Range : goal.resolve_call-returns-in-Range
 resolve_call-returns-in-Range t c =
     let s = c.args.self.now.tables.now in
-    let spot = c.args.self.now.spot in
+    let senv = c.args.self.now.senv in
     let ts = exprs_view c.args.arguments.row.now in
     let ps = pairs_view c.args.arguments.pairs.now in
-    let ks = locals_from spot.free (keywords ps) in
+    let ks = locals_from senv.free (keywords ps) in
     let k = callee_in s (expr_view c.args.called.now) in
-    let Q : Callee → Type 0 = λ z. IsCallee (world_in s) (order_in s) z k in
+    let Q : Callee → Type 0 = λ z. IsCallee (cenv_in s) (order_in s) z k in
     let is : k ≡ a_range = subst Q c.in-Range.is c.in_ok-signature.ensures in
     let n : count ts ≡ length c.args.arguments.row.now = count_length c.args.arguments.row.now in
-    let same : slots.made (slots.operator (range_of (length c.args.arguments.row.now))) (row_in s ts spot slots.none)
-    ≡ invoked (world_in s) (order_in s) k (spot_in s spot) (λ z. row_in s ts spot z) (λ z. asides_in s ps spot z) (count ts) ks =
-    ap (λ (i : ℕ). slots.made (slots.operator (range_of i)) (row_in s ts spot slots.none)) (sym n)
-    ∙ ap (λ z. invoked (world_in s) (order_in s) z (spot_in s spot) (λ y. row_in s ts spot y) (λ y. asides_in s ps spot y) (count ts) ks) (sym is) in
+    let same : slots.made (slots.operator (range_of (length c.args.arguments.row.now))) (row_in s ts senv slots.none)
+    ≡ invoked (cenv_in s) (order_in s) k (senv_in s senv) (λ z. row_in s ts senv z) (λ z. asides_in s ps senv z)
+    (count ts) ks =
+    ap (λ (i : ℕ). slots.made (slots.operator (range_of i)) (row_in s ts senv slots.none)) (sym n)
+    ∙ ap (λ z. invoked (cenv_in s) (order_in s) z (senv_in s senv) (λ y. row_in s ts senv y)
+    (λ y. asides_in s ps senv y) (count ts) ks) (sym is) in
     IfOk-weaker c.resolve_range.result _ _ (λ e h.
-    let P : slots.SlotExpr Constant → Type 0 = λ z. IsPlaced z (coded e) (values c.args.pool.now) (values c.resolve_range.new.pool) in
+    let P : slots.SlotExpr Constant → Type 0 =
+    λ z. IsPlaced z (coded e) (values c.args.pool.now) (values c.resolve_range.new.pool) in
     subst P same h) c.resolve_range.ensures
 
 pub resolve_call-returns-in-Cycle : goal.resolve_call-returns-in-Cycle
 resolve_call-returns-in-Cycle t c =
     let s = c.args.self.now.tables.now in
-    let spot = c.args.self.now.spot in
+    let senv = c.args.self.now.senv in
     let ts = exprs_view c.args.arguments.row.now in
     let ps = pairs_view c.args.arguments.pairs.now in
-    let ks = locals_from spot.free (keywords ps) in
+    let ks = locals_from senv.free (keywords ps) in
     let k = callee_in s (expr_view c.args.called.now) in
-    let Q : Callee → Type 0 = λ z. IsCallee (world_in s) (order_in s) z k in
+    let Q : Callee → Type 0 = λ z. IsCallee (cenv_in s) (order_in s) z k in
     let is : k ≡ a_cycle = subst Q c.in-Cycle.is c.in_ok-signature.ensures in
     let n : count ts ≡ length c.args.arguments.row.now = count_length c.args.arguments.row.now in
-    let same : cycled (length c.args.arguments.row.now) (row_in s ts spot slots.none)
-    ≡ invoked (world_in s) (order_in s) k (spot_in s spot) (λ z. row_in s ts spot z) (λ z. asides_in s ps spot z) (count ts) ks =
-    ap (λ (i : ℕ). cycled i (row_in s ts spot slots.none)) (sym n)
-    ∙ ap (λ z. invoked (world_in s) (order_in s) z (spot_in s spot) (λ y. row_in s ts spot y) (λ y. asides_in s ps spot y) (count ts) ks) (sym is) in
+    let same : cycled (length c.args.arguments.row.now) (row_in s ts senv slots.none)
+    ≡ invoked (cenv_in s) (order_in s) k (senv_in s senv) (λ z. row_in s ts senv z) (λ z. asides_in s ps senv z)
+    (count ts) ks =
+    ap (λ (i : ℕ). cycled i (row_in s ts senv slots.none)) (sym n)
+    ∙ ap (λ z. invoked (cenv_in s) (order_in s) z (senv_in s senv) (λ y. row_in s ts senv y)
+    (λ y. asides_in s ps senv y) (count ts) ks) (sym is) in
     IfOk-weaker c.resolve_cycle.result _ _ (λ e h.
-    let P : slots.SlotExpr Constant → Type 0 = λ z. IsPlaced z (coded e) (values c.args.pool.now) (values c.resolve_cycle.new.pool) in
+    let P : slots.SlotExpr Constant → Type 0 =
+    λ z. IsPlaced z (coded e) (values c.args.pool.now) (values c.resolve_cycle.new.pool) in
     subst P same h) c.resolve_cycle.ensures
 
 pub resolve_call-returns-in-Super : goal.resolve_call-returns-in-Super
 resolve_call-returns-in-Super t c =
     let s = c.args.self.now.tables.now in
-    let spot = c.args.self.now.spot in
+    let senv = c.args.self.now.senv in
     let ts = exprs_view c.args.arguments.row.now in
     let ps = pairs_view c.args.arguments.pairs.now in
-    let ks = locals_from spot.free (keywords ps) in
+    let ks = locals_from senv.free (keywords ps) in
     let k = callee_in s (expr_view c.args.called.now) in
-    let Q : Callee → Type 0 = λ z. IsCallee (world_in s) (order_in s) z k in
+    let Q : Callee → Type 0 = λ z. IsCallee (cenv_in s) (order_in s) z k in
     let is : k ≡ a_super = subst Q c.in-Super.is c.in_ok-signature.ensures in
     IfOk-weaker c.super_called.result _ _ (λ e h.
-    let P : chain.Callee → Type 0 = λ z. IsPlaced (invoked (world_in s) (order_in s) z (spot_in s spot) (λ y. row_in s ts spot y) (λ y. asides_in s ps spot y) (count ts) ks) (coded e) (values c.args.pool.now) (values c.args.pool.now) in
+    let P : chain.Callee → Type 0 = λ z. IsPlaced (invoked (cenv_in s) (order_in s) z (senv_in s senv)
+    (λ y. row_in s ts senv y) (λ y. asides_in s ps senv y) (count ts) ks) (coded e)
+    (values c.args.pool.now) (values c.args.pool.now) in
     subst P (sym is) (h (values c.args.pool.now))) c.super_called.ensures
 
 pub resolve_call-returns-in-Block : goal.resolve_call-returns-in-Block
 resolve_call-returns-in-Block t c =
     let s = c.args.self.now.tables.now in
-    let spot = c.args.self.now.spot in
+    let senv = c.args.self.now.senv in
     let ts = exprs_view c.args.arguments.row.now in
     let ps = pairs_view c.args.arguments.pairs.now in
-    let ks = locals_from spot.free (keywords ps) in
+    let ks = locals_from senv.free (keywords ps) in
     let k = callee_in s (expr_view c.args.called.now) in
-    let Q : Callee → Type 0 = λ z. IsCallee (world_in s) (order_in s) z k in
+    let Q : Callee → Type 0 = λ z. IsCallee (cenv_in s) (order_in s) z k in
     let is : k ≡ a_block c.in-Block.name.now = subst Q c.in-Block.is c.in_ok-signature.ensures in
     IfOk-weaker c.block_called.result _ _ (λ e h.
-    let P : chain.Callee → Type 0 = λ z. IsPlaced (invoked (world_in s) (order_in s) z (spot_in s spot) (λ y. row_in s ts spot y) (λ y. asides_in s ps spot y) (count ts) ks) (coded e) (values c.args.pool.now) (values c.args.pool.now) in
-    subst P (sym is) (h (λ y. row_in s ts spot y) (λ y. asides_in s ps spot y) (count ts) ks (values c.args.pool.now))) c.block_called.ensures
+    let P : chain.Callee → Type 0 = λ z. IsPlaced (invoked (cenv_in s) (order_in s) z (senv_in s senv)
+    (λ y. row_in s ts senv y) (λ y. asides_in s ps senv y) (count ts) ks) (coded e)
+    (values c.args.pool.now) (values c.args.pool.now) in
+    subst P (sym is) (h (λ y. row_in s ts senv y) (λ y. asides_in s ps senv y) (count ts) ks (values c.args.pool.now)))
+    c.block_called.ensures
 
 pub resolve_call-returns-in-Unknown : goal.resolve_call-returns-in-Unknown
 resolve_call-returns-in-Unknown t c =
     let s = c.args.self.now.tables.now in
-    let spot = c.args.self.now.spot in
+    let senv = c.args.self.now.senv in
     let ts = exprs_view c.args.arguments.row.now in
     let ps = pairs_view c.args.arguments.pairs.now in
-    let ks = locals_from spot.free (keywords ps) in
+    let ks = locals_from senv.free (keywords ps) in
     let k = callee_in s (expr_view c.args.called.now) in
-    let Q : Callee → Type 0 = λ z. IsCallee (world_in s) (order_in s) z k in
+    let Q : Callee → Type 0 = λ z. IsCallee (cenv_in s) (order_in s) z k in
     let is : k ≡ no_callee = subst Q c.in-Unknown.is c.in_ok-signature.ensures in
-    let P : chain.Callee → Type 0 = λ z. IsPlaced (invoked (world_in s) (order_in s) z (spot_in s spot) (λ y. row_in s ts spot y) (λ y. asides_in s ps spot y) (count ts) ks) (coded c.absent.result) (values c.args.pool.now) (values c.args.pool.now) in
+    let P : chain.Callee → Type 0 = λ z. IsPlaced (invoked (cenv_in s) (order_in s) z (senv_in s senv)
+    (λ y. row_in s ts senv y) (λ y. asides_in s ps senv y) (count ts) ks)
+    (coded c.absent.result) (values c.args.pool.now) (values c.args.pool.now) in
     subst P (sym is) (c.absent.ensures (values c.args.pool.now))
 
--- ---- what is left is less deep
+-- ---- the remaining trees are less deep
 
 pub resolve_expression-resolve_call-requires : goal.resolve_expression-resolve_call-requires
 resolve_expression-resolve_call-requires t c =
     let us = c.deref-in-Call-2.result.now in
-    let qs = c.deref-in-Call-3.result.now in
-    (omega (arith, call_depth c.args.expr.now us qs c.in-Call.called c.in-Call.row c.in-Call.pairs c.in-Call.is c.deref-in-Call-2.ensures.value c.deref-in-Call-3.ensures.value), tt)
+    let qs = c.deref-in-Call-3.result.now in (
+      omega (
+        arith,
+        call_depth c.args.expr.now us qs c.in-Call.called c.in-Call.row c.in-Call.pairs c.in-Call.is
+            c.deref-in-Call-2.ensures.value c.deref-in-Call-3.ensures.value,
+      ),
+      tt,
+    )
 
 pub resolve_expression-resolve_filter-requires : goal.resolve_expression-resolve_filter-requires
 resolve_expression-resolve_filter-requires t c =
     let a = c.deref-in-Filter.result.now in
     let us = c.deref-in-Filter-3.result.now in
-    let qs = c.deref-in-Filter-4.result.now in
-    (omega (arith, filter_depth c.args.expr.now a us qs c.in-Filter.value c.in-Filter.name c.in-Filter.row c.in-Filter.pairs c.in-Filter.is c.deref-in-Filter.ensures c.deref-in-Filter-3.ensures.value c.deref-in-Filter-4.ensures.value), tt)
+    let qs = c.deref-in-Filter-4.result.now in (
+      omega (
+        arith,
+        filter_depth c.args.expr.now a us qs c.in-Filter.value c.in-Filter.name c.in-Filter.row c.in-Filter.pairs
+            c.in-Filter.is c.deref-in-Filter.ensures c.deref-in-Filter-3.ensures.value
+            c.deref-in-Filter-4.ensures.value,
+      ),
+      tt,
+    )
 
 pub resolve_expression-resolve_test-requires : goal.resolve_expression-resolve_test-requires
 resolve_expression-resolve_test-requires t c =
     let a = c.deref-in-Test.result.now in
-    let us = c.deref-in-Test-3.result.now in
-    (omega (arith, test_depth c.args.expr.now a us c.in-Test.value c.in-Test.polarity c.in-Test.name c.in-Test.row c.in-Test.keywords c.in-Test.is c.deref-in-Test.ensures c.deref-in-Test-3.ensures.value), tt)
+    let us = c.deref-in-Test-3.result.now in (
+      omega (
+        arith,
+        test_depth c.args.expr.now a us c.in-Test.value c.in-Test.polarity c.in-Test.name c.in-Test.row
+            c.in-Test.keywords c.in-Test.is c.deref-in-Test.ensures c.deref-in-Test-3.ensures.value,
+      ),
+      tt,
+    )

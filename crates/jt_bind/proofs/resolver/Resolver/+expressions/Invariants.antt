@@ -1,14 +1,14 @@
 use Rattle.std.proofs.Common.{◌+◌, ◌*◌, drop}
 use Rattle.std.specs.Prelude.{max}
 use denote.Param.Weighed.{most}
-use Rattle.jt_trees.specs.ExpressionView.{exprs_view, pairs_view}
-use Rattle.jt_trees.specs.declared.expression.Expr.{size-Expr}
-use Rattle.jt_resolved.specs.Pool.{Constant}
-use Rattle.jt_resolved.specs.Slots.{SRow}
-use Rattle.jt_bind.specs.Scoped.{values, RowLeads, row_in, asides_in, entries_in}
+use Rattle.jt_ast.specs.ExpressionView.{exprs_view, pairs_view}
+use Rattle.jt_ast.specs.declared.expression.Expr.{size-Expr}
+use Rattle.jt_ir.specs.Pool.{Constant}
+use Rattle.jt_ir.specs.Slots.{SRow}
+use Rattle.jt_bind.specs.internal.Scoped.{values, RowLeads, row_in, asides_in, entries_in}
 use Rattle.jt_bind.proofs.resolver.Resolver.+expressions.Given as goal
 
--- ---- how deep the trees are that are left, and who hands its own on
+-- ---- measures: the depth of the remaining trees, and the order of the calls
 
 abbrev pub decreases-resolve_expression : goal.decreases-resolve_expression
 decreases-resolve_expression l = 6 * size-Expr l.expr.now
@@ -23,7 +23,8 @@ abbrev pub decreases-resolve_entries : goal.decreases-resolve_entries
 decreases-resolve_entries l = 6 * most (λ x. size-Expr x.1) l.pairs.now + 1
 
 abbrev pub decreases-resolve_given : goal.decreases-resolve_given
-decreases-resolve_given l = 6 * max (most (λ x. size-Expr x) l.arguments.row.now) (most (λ x. size-Expr x.1) l.arguments.pairs.now) + 2
+decreases-resolve_given l =
+    6 * max (most (λ x. size-Expr x) l.arguments.row.now) (most (λ x. size-Expr x.1) l.arguments.pairs.now) + 2
 
 abbrev pub decreases-resolve_list : goal.decreases-resolve_list
 decreases-resolve_list l = 6 * most (λ x. size-Expr x) l.row.now + 2
@@ -44,7 +45,8 @@ abbrev pub decreases-resolve_when : goal.decreases-resolve_when
 decreases-resolve_when l = 6 * max (size-Expr l.condition.now) (size-Expr l.value.now) + 1
 
 abbrev pub decreases-resolve_choice : goal.decreases-resolve_choice
-decreases-resolve_choice l = 6 * max (size-Expr l.condition.now) (max (size-Expr l.value.now) (size-Expr l.other.now)) + 1
+decreases-resolve_choice l =
+    6 * max (size-Expr l.condition.now) (max (size-Expr l.value.now) (size-Expr l.other.now)) + 1
 
 abbrev pub decreases-resolve_unary : goal.decreases-resolve_unary
 decreases-resolve_unary l = 6 * size-Expr l.operand.now + 1
@@ -56,16 +58,22 @@ abbrev pub decreases-resolve_plain_test : goal.decreases-resolve_plain_test
 decreases-resolve_plain_test l = 6 * max (size-Expr l.value.now) (most (λ x. size-Expr x) l.row.now) + 2
 
 abbrev pub decreases-resolve_filter : goal.decreases-resolve_filter
-decreases-resolve_filter l = 6 * max (size-Expr l.value.now) (max (most (λ x. size-Expr x) l.arguments.row.now) (most (λ x. size-Expr x.1) l.arguments.pairs.now)) + 4
+decreases-resolve_filter l =
+    6 * max (size-Expr l.value.now)
+    (max (most (λ x. size-Expr x) l.arguments.row.now) (most (λ x. size-Expr x.1) l.arguments.pairs.now))
+    + 4
 
 abbrev pub decreases-resolve_filtered : goal.decreases-resolve_filtered
-decreases-resolve_filtered l = 6 * max (most (λ x. size-Expr x) l.arguments.row.now) (most (λ x. size-Expr x.1) l.arguments.pairs.now) + 3
+decreases-resolve_filtered l =
+    6 * max (most (λ x. size-Expr x) l.arguments.row.now) (most (λ x. size-Expr x.1) l.arguments.pairs.now) + 3
 
 abbrev pub decreases-resolve_call : goal.decreases-resolve_call
-decreases-resolve_call l = 6 * max (most (λ x. size-Expr x) l.arguments.row.now) (most (λ x. size-Expr x.1) l.arguments.pairs.now) + 4
+decreases-resolve_call l =
+    6 * max (most (λ x. size-Expr x) l.arguments.row.now) (most (λ x. size-Expr x.1) l.arguments.pairs.now) + 4
 
 abbrev pub decreases-resolve_macro : goal.decreases-resolve_macro
-decreases-resolve_macro l = 6 * max (most (λ x. size-Expr x) l.arguments.row.now) (most (λ x. size-Expr x.1) l.arguments.pairs.now) + 3
+decreases-resolve_macro l =
+    6 * max (most (λ x. size-Expr x) l.arguments.row.now) (most (λ x. size-Expr x.1) l.arguments.pairs.now) + 3
 
 abbrev pub decreases-resolve_range : goal.decreases-resolve_range
 decreases-resolve_range l = 6 * most (λ x. size-Expr x) l.row.now + 2
@@ -73,16 +81,22 @@ decreases-resolve_range l = 6 * most (λ x. size-Expr x) l.row.now + 2
 abbrev pub decreases-resolve_cycle : goal.decreases-resolve_cycle
 decreases-resolve_cycle l = 6 * most (λ x. size-Expr x) l.row.now + 3
 
--- ---- of a row, what is left
+-- ---- the remaining items of a list
 
 abbrev pub invariant-resolve_row-loop-expr : goal.invariant-resolve_row-loop-expr
-invariant-resolve_row-loop-expr l = (left : SRow Constant) → RowLeads (row_in l.self.tables.now (exprs_view l.row) l.self.spot left) (row_in l.self.tables.now (exprs_view (drop l.expr-index l.row)) l.self.spot left)
+invariant-resolve_row-loop-expr l =
+    (left : SRow Constant) → RowLeads (row_in l.self.tables.now (exprs_view l.row) l.self.senv left)
+    (row_in l.self.tables.now (exprs_view (drop l.expr-index l.row)) l.self.senv left)
     l.initial.done.items l.done.items (values l.initial.pool) (values l.pool)
 
 abbrev pub invariant-resolve_asides-loop-value : goal.invariant-resolve_asides-loop-value
-invariant-resolve_asides-loop-value l = (left : SRow Constant) → RowLeads (asides_in l.self.tables.now (pairs_view l.pairs) l.self.spot left) (asides_in l.self.tables.now (pairs_view (drop l.value-index l.pairs)) l.spot left)
+invariant-resolve_asides-loop-value l =
+    (left : SRow Constant) → RowLeads (asides_in l.self.tables.now (pairs_view l.pairs) l.self.senv left)
+    (asides_in l.self.tables.now (pairs_view (drop l.value-index l.pairs)) l.senv left)
     l.initial.done.items l.done.items (values l.initial.pool) (values l.pool)
 
 abbrev pub invariant-resolve_entries-loop-key : goal.invariant-resolve_entries-loop-key
-invariant-resolve_entries-loop-key l = RowLeads (entries_in l.self.tables.now (pairs_view l.pairs) l.self.spot) (entries_in l.self.tables.now (pairs_view (drop l.key-index l.pairs)) l.self.spot)
+invariant-resolve_entries-loop-key l =
+    RowLeads (entries_in l.self.tables.now (pairs_view l.pairs) l.self.senv)
+    (entries_in l.self.tables.now (pairs_view (drop l.key-index l.pairs)) l.self.senv)
     l.initial.done.items l.done.items (values l.initial.pool) (values l.pool)

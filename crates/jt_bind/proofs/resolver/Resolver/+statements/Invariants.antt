@@ -1,16 +1,16 @@
 use Rattle.std.proofs.Common.{◌+◌, ◌*◌, max, drop}
 use denote.Param.Weighed.{most}
-use Rattle.jt_meaning.specs.Resolve.{followed}
-use Rattle.jt_trees.specs.StatementView.{body_view, branches_view}
-use Rattle.jt_trees.specs.declared.statement.Stmt.{size-Stmt}
-use Rattle.jt_trees.proofs.Left.{Branch}
-use Rattle.jt_resolved.specs.Pool.{Constant}
-use Rattle.jt_resolved.specs.Slots.{SBody}
-use Rattle.jt_bind.specs.Scoped.{values, BodyLeads, templates_in}
-use Rattle.jt_bind.specs.Stated.{ChoiceLeads, body_in, choice_in}
+use Rattle.jt_semantics.specs.Resolve.{followed}
+use Rattle.jt_ast.specs.StatementView.{body_view, branches_view}
+use Rattle.jt_ast.specs.declared.statement.Stmt.{size-Stmt}
+use Rattle.jt_ast.proofs.RemainingParts.{Branch}
+use Rattle.jt_ir.specs.Pool.{Constant}
+use Rattle.jt_ir.specs.Slots.{SBody}
+use Rattle.jt_bind.specs.internal.Scoped.{values, BodyLeads, templates_in}
+use Rattle.jt_bind.specs.internal.Stated.{ChoiceLeads, body_in, choice_in}
 use Rattle.jt_bind.proofs.resolver.Resolver.+statements.Given as goal
 
--- ---- how deep the statements are that are left, and who hands its own on
+-- ---- measures: the depth of the remaining statements, and the order of the calls
 
 abbrev pub decreases-resolve_if_set : goal.decreases-resolve_if_set
 decreases-resolve_if_set l = 6 * size-Stmt l.statement.now
@@ -52,14 +52,23 @@ abbrev pub decreases-resolve_branch : goal.decreases-resolve_branch
 decreases-resolve_branch l = 6 * most (λ x. size-Stmt x) l.branch.now.body.items + 4
 
 abbrev pub decreases-resolve_branches : goal.decreases-resolve_branches
-decreases-resolve_branches l = 6 * max (most (λ (b : Branch). most (λ x. size-Stmt x) b.body.items) l.branches.now) (most (λ x. size-Stmt x) l.other.now) + 5
+decreases-resolve_branches l =
+    6 * max (most (λ (b : Branch). most (λ x. size-Stmt x) b.body.items) l.branches.now)
+    (most (λ x. size-Stmt x) l.other.now)
+    + 5
 
--- ---- what is left
+-- ---- the remaining items
 
 abbrev pub invariant-resolve_body-loop-statement : goal.invariant-resolve_body-loop-statement
-invariant-resolve_body-loop-statement l = (left : SBody Constant) → BodyLeads (templates_in l.self.tables.now) (followed (body_in l.self.tables.now (body_view l.body) l.self.spot) left) (followed (body_in l.self.tables.now (body_view (drop l.statement-index l.body)) l.self.spot) left)
+invariant-resolve_body-loop-statement l =
+    (left : SBody Constant) → BodyLeads (templates_in l.self.tables.now)
+    (followed (body_in l.self.tables.now (body_view l.body) l.self.senv) left)
+    (followed (body_in l.self.tables.now (body_view (drop l.statement-index l.body)) l.self.senv) left)
     l.initial.done.items l.done.items (values l.initial.pool) (values l.pool)
 
 abbrev pub invariant-resolve_branches-loop-branch : goal.invariant-resolve_branches-loop-branch
-invariant-resolve_branches-loop-branch l = (other : SBody Constant) → ChoiceLeads (templates_in l.self.tables.now) (choice_in l.self.tables.now (branches_view l.branches) l.self.spot other) (choice_in l.self.tables.now (branches_view (drop l.branch-index l.branches)) l.self.spot other)
+invariant-resolve_branches-loop-branch l =
+    (other : SBody Constant) → ChoiceLeads (templates_in l.self.tables.now)
+    (choice_in l.self.tables.now (branches_view l.branches) l.self.senv other)
+    (choice_in l.self.tables.now (branches_view (drop l.branch-index l.branches)) l.self.senv other)
     l.made.items (values l.initial.pool) (values l.pool)

@@ -1,16 +1,18 @@
-use Rattle.std.proofs.Common.{◌≡◌, ◌+◌, ◌-◌, length, take, length-drop, List, ◌∷◌, drop, sym, ap, ◌∙◌, arith, true, rules}
+use Rattle.std.proofs.Common.{◌≡◌, ◌+◌, ◌-◌, length, take, length-drop, List, ◌∷◌, drop, sym, ap, ◌∙◌, arith, true}
+use Rattle.std.proofs.Common.{rules}
 use Rattle.std.proofs.lemmas.List.{at_drop_all, take_all}
-use Rattle.jt_trees.specs.ExpressionView.{pairs_view}
+use Rattle.jt_ast.specs.ExpressionView.{pairs_view}
 use Rattle.jt_chains.specs.Uses.{keywords}
-use Rattle.jt_trees.specs.StatementView.{parameter_view, parameters_view}
-use Rattle.jt_trees.specs.declared.statement.Parameter.{Parameter}
-use Rattle.jt_evaluation.specs.Filters.{some_given, default_value}
-use Rattle.jt_resolved.specs.Pool.{own}
-use Rattle.jt_meaning.specs.Layout.{slot_in}
-use Rattle.jt_meaning.specs.Resolve.{filled_some, locals_from, value_or}
-use Rattle.jt_bind.specs.Scoped.{values}
-use Rattle.jt_bind.proofs.LeadingRows.{of_whole, of_left, row_both, row_item}
-use Rattle.jt_bind.proofs.Parameters.{filled_some_behind, none_filled, one_filled, parameters_behind, parameters_left}
+use Rattle.jt_ast.specs.StatementView.{parameter_view, parameters_view}
+use Rattle.jt_ast.specs.declared.statement.Parameter.{Parameter}
+use Rattle.jt_eval.specs.Filters.{some_given, default_value}
+use Rattle.jt_ir.specs.Pool.{own}
+use Rattle.jt_semantics.specs.Layout.{slot_in}
+use Rattle.jt_semantics.specs.Resolve.{filled_some, locals_from, value_or}
+use Rattle.jt_bind.specs.internal.Scoped.{values}
+use Rattle.jt_bind.proofs.RowConcatenation.{of_whole, of_left, row_both, row_item}
+use Rattle.jt_bind.proofs.UnfilledParameters.{filled_some_behind, none_filled, one_filled, parameters_behind}
+use Rattle.jt_bind.proofs.UnfilledParameters.{parameters_left}
 use Rattle.jt_bind.proofs.resolver.Resolver.fill_some.Goals as goal
 
 pub returns : goal.returns
@@ -19,12 +21,17 @@ returns c =
     let ps = c.args.parameters.now in
     let qs = c.behind-rest.result.now in
     let xs = keywords (pairs_view c.args.arguments.pairs.now) in
-    let ks = locals_from c.args.self.now.spot.free xs in
-    of_whole _ _ _ _ _ _ _ (sym (filled_some_behind (parameters_view ps) (length c.args.arguments.row.now) xs ks ∙ ap (λ z. filled_some z 0 xs ks) (parameters_behind ps qs (length c.args.arguments.row.now) c.behind-rest.ensures)))
-    (of_left _ _ _ _ _ _ _ (at_drop_all (λ (z : List Parameter). filled_some (parameters_view z) 0 xs ks) qs l.place (omega arith)) l.invariant)
+    let ks = locals_from c.args.self.now.senv.free xs in
+    of_whole _ _ _ _ _ _ _ (sym (filled_some_behind (parameters_view ps) (length c.args.arguments.row.now) xs ks
+    ∙ ap (λ z. filled_some z 0 xs ks)
+    (parameters_behind ps qs (length c.args.arguments.row.now) c.behind-rest.ensures)))
+    (of_left _ _ _ _ _ _ _
+    (at_drop_all (λ (z : List Parameter). filled_some (parameters_view z) 0 xs ks) qs l.place (omega arith))
+    l.invariant)
 
 pub returns-then-not-is_some_given : goal.returns-then-not-is_some_given
-returns-then-not-is_some_given c = search (arith, rules, take_all, length-drop, of_whole, filled_some_behind, parameters_behind, of_left, none_filled)
+returns-then-not-is_some_given c =
+    search (arith, rules, take_all, length-drop, of_whole, filled_some_behind, parameters_behind, of_left, none_filled)
 
 pub loop-place-preserved : goal.loop-place-preserved
 loop-place-preserved c =
@@ -32,11 +39,18 @@ loop-place-preserved c =
     let qs = c.behind-rest.result.now in
     let x = c.index-rest-place.result in
     let xs = keywords (pairs_view c.args.arguments.pairs.now) in
-    let ks = locals_from c.args.self.now.spot.free xs in
+    let ks = locals_from c.args.self.now.senv.free xs in
     let rest = parameters_view (drop (l.place + 1) qs) in
-    let left : parameters_view (drop l.place qs) ≡ parameter_view x ∷ rest = parameters_left qs l.place x c.loop-place-test.true c.index-rest-place.is in
-    let whole : take (length qs - l.place) (drop l.place qs) ≡ drop l.place qs = take_all (length qs - l.place) (drop l.place qs) (omega (arith, length-drop l.place qs)) in
-    let given : some_given (parameter_view x ∷ rest) xs ≡ true = sym (ap (λ z. some_given z xs) left) ∙ sym (ap (λ (z : List Parameter). some_given (parameters_view z) xs) whole) ∙ sym c.is_some_given.ensures ∙ c.if-not-is_some_given.false in
+    let left : parameters_view (drop l.place qs) ≡ parameter_view x ∷ rest =
+    parameters_left qs l.place x c.loop-place-test.true c.index-rest-place.is in
+    let whole : take (length qs - l.place) (drop l.place qs) ≡ drop l.place qs =
+    take_all (length qs - l.place) (drop l.place qs) (omega (arith, length-drop l.place qs)) in
+    let given : some_given (parameter_view x ∷ rest) xs ≡ true = sym (ap (λ z. some_given z xs) left)
+    ∙ sym (ap (λ (z : List Parameter). some_given (parameters_view z) xs) whole) ∙ sym c.is_some_given.ensures
+    ∙ c.if-not-is_some_given.false in
     row_both _ _ _ _ _ _ _ _ _ l.invariant
-    (of_whole _ _ _ _ _ _ _ (sym (ap (λ z. filled_some z 0 xs ks) left ∙ one_filled (parameter_view x) rest xs ks given))
-    (row_item (value_or (slot_in (parameter_view x).name ks) (own (default_value (parameter_view x).default))) (filled_some rest 0 xs ks) c.in_ok-value.value l.done.items _ (values l.pool) _ c.in_ok-value.ensures c.in_ok-push.ensures.items))
+    (of_whole _ _ _ _ _ _ _
+    (sym (ap (λ z. filled_some z 0 xs ks) left ∙ one_filled (parameter_view x) rest xs ks given))
+    (row_item (value_or (slot_in (parameter_view x).name ks) (own (default_value (parameter_view x).default)))
+    (filled_some rest 0 xs ks) c.in_ok-value.value l.done.items _ (values l.pool) _ c.in_ok-value.ensures
+    c.in_ok-push.ensures.items))

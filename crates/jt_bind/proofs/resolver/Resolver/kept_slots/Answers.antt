@@ -1,5 +1,5 @@
 use Rattle.std.proofs.Common.{arith, rules}
-use Rattle.jt_bind.proofs.Stating.{kept_step}
+use Rattle.jt_bind.proofs.StatementResolution.{kept_step}
 use Rattle.jt_bind.proofs.resolver.Resolver.kept_slots.Goals as goal
 
 pub loop-place-preserved : goal.loop-place-preserved

@@ -1,29 +1,31 @@
 use Rattle.std.proofs.Common.{◌≡◌, refl, ℕ, [], sym, ap, ◌∙◌, subst, true, false, Option, arith, rules}
 use Rattle.std.specs.Option.{is_none}
 use Rattle.std.proofs.lemmas.Result.{IfOk-weaker}
-use Rattle.jt_trees.specs.Statements as trees
-use Rattle.jt_trees.specs.StatementView.{is_ignored, are_seen}
-use Rattle.jt_resolved.specs.Slots as slots
-use Rattle.jt_meaning.specs.Layout.{first_slot, names}
+use Rattle.jt_ast.specs.Statements as trees
+use Rattle.jt_ast.specs.StatementView.{is_ignored, passes_context}
+use Rattle.jt_ir.specs.Slots as slots
+use Rattle.jt_semantics.specs.Layout.{first_slot, names}
 use Rattle.jt_chains.specs.Chain.{a_chain}
-use Rattle.jt_layout.specs.Laid.{IsHomeAt}
-use Rattle.jt_trees.specs.Texts.{texts}
-use Rattle.jt_bind.specs.Scoped.{world_in, order_in, templates_in}
-use Rattle.jt_bind.specs.Stated.{stmt_in}
-use Rattle.jt_bind.proofs.LeadingBodies.{led_of, led_both}
-use Rattle.jt_bind.proofs.Standing.{no_row, absent_names, absent_unit, include_shown, include_missing}
+use Rattle.jt_layout.specs.NamespaceLayout.{IsNamespaceAt}
+use Rattle.jt_ast.specs.Texts.{texts}
+use Rattle.jt_bind.specs.internal.Scoped.{cenv_in, order_in, templates_in}
+use Rattle.jt_bind.specs.internal.Stated.{stmt_in}
+use Rattle.jt_bind.proofs.BodyConcatenation.{led_of, led_both}
+use Rattle.jt_bind.proofs.BlocksAndIncludes.{no_row, absent_names, absent_unit, include_shown, include_missing}
 use Rattle.jt_bind.proofs.resolver.Resolver.put_include.Goals as goal
 
 pub returns-in_default : goal.returns-in_default
 returns-in_default c =
     let scope = c.args.self.now.tables.now in
     let x = c.args.name.now in
-    let there : is_none ((world_in scope).sources x) ≡ false = sym c.is_missing.ensures ∙ c.if-is_missing.false in
-    let P : Option ℕ → Type 0 = IsHomeAt (order_in scope) (a_chain x) in
+    let there : is_none ((cenv_in scope).sources x) ≡ false = sym c.is_missing.ensures ∙ c.if-is_missing.false in
+    let P : Option ℕ → Type 0 = IsNamespaceAt (order_in scope) (a_chain x) in
     let absent = subst P c.in_default.is c.chain_place.ensures in
     IfOk-weaker c.put_run.result _ _ (λ u h p. led_of (templates_in scope) _ _ _ _ _ _
-    (include_shown scope c.args.self.now.spot c.args.line x (is_ignored c.args.missing) (are_seen c.args.names) (first_slot (world_in scope) (order_in scope) (a_chain x)) [] c.units.result there refl
-    (sym (absent_names (world_in scope) (order_in scope) (a_chain x) absent)) (c.units.ensures ∙ sym (absent_unit (world_in scope) (order_in scope) x absent)))
+    (include_shown scope c.args.self.now.senv c.args.line x (is_ignored c.args.missing) (passes_context c.args.names)
+    (first_slot (cenv_in scope) (order_in scope) (a_chain x)) [] c.units.result there refl
+    (sym (absent_names (cenv_in scope) (order_in scope) (a_chain x) absent))
+    (c.units.ensures ∙ sym (absent_unit (cenv_in scope) (order_in scope) x absent)))
     (h (templates_in scope) slots.none p p (no_row _ c.new.ensures.items p))) c.put_run.ensures
 
 pub at-there-requires : goal.at-there-requires
@@ -32,28 +34,33 @@ at-there-requires c = search (arith, rules)
 pub returns : goal.returns
 returns c =
     let scope = c.args.self.now.tables.now in
-    let spot = c.args.self.now.spot in
+    let senv = c.args.self.now.senv in
     let x = c.args.name.now in
     let T = templates_in scope in
-    let world = world_in scope in
+    let cenv = cenv_in scope in
     let order = order_in scope in
     let chain = c.at-there.result.now in
-    let there : is_none (world.sources x) ≡ false = sym c.is_missing.ensures ∙ c.if-is_missing.false in
-    let P : Option ℕ → Type 0 = IsHomeAt order (a_chain x) in
+    let there : is_none (cenv.sources x) ≡ false = sym c.is_missing.ensures ∙ c.if-is_missing.false in
+    let P : Option ℕ → Type 0 = IsNamespaceAt order (a_chain x) in
     let is = (subst P c.in-Some.is c.chain_place.ensures).1 in
-    let laid = c.at-there.ensures in
+    let namespace_layout = c.at-there.ensures in
     IfOk-weaker c.put_run-2.result _ _ (λ u h p. led_of T _ _ _ _ _ _
-    (include_shown scope spot c.args.line x (is_ignored c.args.missing) c.are_seen.result chain.first_slot (texts chain.names.items) chain.unit there (laid.from ∙ ap (first_slot world order) is)
-    (laid.named ∙ ap (names world order) is) (laid.chain_unit x is)
-    ∙ ap (λ seen. stmt_in scope (trees.include c.args.line x (is_ignored c.args.missing) seen) spot) c.are_seen.ensures)
-    (led_both T _ _ _ _ _ _ _ _ (c.in_ok-hand_on.ensures p) (h T slots.none p p (no_row _ c.new-2.ensures.items p)))) c.put_run-2.ensures
+    (include_shown scope senv c.args.line x (is_ignored c.args.missing) c.passes_context.result chain.first_slot
+    (texts chain.names.items) chain.unit there (namespace_layout.from ∙ ap (first_slot cenv order) is)
+    (namespace_layout.named ∙ ap (names cenv order) is) (namespace_layout.chain_unit x is)
+    ∙ ap (λ seen. stmt_in scope (trees.include c.args.line x (is_ignored c.args.missing) seen) senv)
+    c.passes_context.ensures)
+    (led_both T _ _ _ _ _ _ _ _ (c.in_ok-pass_globals.ensures p)
+    (h T slots.none p p (no_row _ c.new-2.ensures.items p))))
+    c.put_run-2.ensures
 
 pub returns-then-is_missing : goal.returns-then-is_missing
 returns-then-is_missing c =
     let scope = c.args.self.now.tables.now in
-    let spot = c.args.self.now.spot in
+    let senv = c.args.self.now.senv in
     let x = c.args.name.now in
-    let none : is_none ((world_in scope).sources x) ≡ true = sym c.is_missing.ensures ∙ c.if-is_missing.true in
+    let none : is_none ((cenv_in scope).sources x) ≡ true = sym c.is_missing.ensures ∙ c.if-is_missing.true in
     IfOk-weaker c.put_missing.result _ _ (λ u h p. led_of (templates_in scope) _ _ _ _ _ _
-    (include_missing scope spot c.args.line x c.is_ignored.result (are_seen c.args.names) none
-    ∙ ap (λ ignored. stmt_in scope (trees.include c.args.line x ignored (are_seen c.args.names)) spot) c.is_ignored.ensures) (h scope p)) c.put_missing.ensures
+    (include_missing scope senv c.args.line x c.is_ignored.result (passes_context c.args.names) none
+    ∙ ap (λ ignored. stmt_in scope (trees.include c.args.line x ignored (passes_context c.args.names)) senv)
+    c.is_ignored.ensures) (h scope p)) c.put_missing.ensures

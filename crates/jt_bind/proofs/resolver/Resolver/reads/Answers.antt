@@ -2,27 +2,31 @@ use Rattle.std.proofs.Common.{◌+◌, List, drop, arith}
 use Rattle.std.specs.Prelude.{option_map}
 use Rattle.std.proofs.lemmas.List.{at_drop_all}
 use denote.Ref.{Bor}
-use Rattle.jt_trees.specs.Expressions.{Text}
-use Rattle.jt_trees.specs.Texts.{texts}
-use Rattle.jt_resolved.specs.View.{slot_view}
-use Rattle.jt_meaning.specs.Resolve as resolve
-use Rattle.jt_meaning.specs.Resolve.{read_from}
-use Rattle.jt_bind.specs.Scoped.{spot_in}
-use Rattle.jt_bind.proofs.Calling.{reads_next}
-use Rattle.jt_bind.proofs.LeadingRows.{of_whole, of_left, row_both, row_item}
+use Rattle.jt_ast.specs.Expressions.{Text}
+use Rattle.jt_ast.specs.Texts.{texts}
+use Rattle.jt_ir.specs.View.{slot_view}
+use Rattle.jt_semantics.specs.Resolve as resolve
+use Rattle.jt_semantics.specs.Resolve.{read_from}
+use Rattle.jt_bind.specs.internal.Scoped.{senv_in}
+use Rattle.jt_bind.proofs.CalleeResolution.{reads_next}
+use Rattle.jt_bind.proofs.RowConcatenation.{of_whole, of_left, row_both, row_item}
 use Rattle.jt_bind.proofs.resolver.Resolver.reads.Goals as goal
 
 pub returns : goal.returns
 returns c = λ p.
     let l = c.loop-name in
-    let table = (spot_in c.args.self.now.tables.now c.args.self.now.spot).table in
-    of_left _ _ _ _ _ _ _ (at_drop_all (λ (z : List (Bor Text)). resolve.reads table (texts z)) c.args.names.now l.name-index (omega arith)) (l.invariant p)
+    let table = (senv_in c.args.self.now.tables.now c.args.self.now.senv).table in
+    of_left _ _ _ _ _ _ _
+    (at_drop_all (λ (z : List (Bor Text)). resolve.reads table (texts z)) c.args.names.now l.name-index (omega arith))
+    (l.invariant p)
 
 pub loop-name-preserved : goal.loop-name-preserved
 loop-name-preserved c = λ p.
     let l = c.loop-name in
     let ks = c.args.names.now in
-    let table = (spot_in c.args.self.now.tables.now c.args.self.now.spot).table in
+    let table = (senv_in c.args.self.now.tables.now c.args.self.now.senv).table in
     row_both _ _ _ _ _ _ _ _ _ (l.invariant p)
     (of_whole _ _ _ _ _ _ _ (reads_next table ks l.name-index _ c.slot.result c.loop-name-test.true c.slot.ensures)
-    (row_item (read_from (option_map slot_view c.slot.result)) (resolve.reads table (texts (drop (l.name-index + 1) ks))) c.reading.result l.row.items _ p p (c.reading.ensures p) c.in_ok-push.ensures.items))
+    (row_item (read_from (option_map slot_view c.slot.result))
+    (resolve.reads table (texts (drop (l.name-index + 1) ks))) c.reading.result l.row.items _ p p (c.reading.ensures p)
+    c.in_ok-push.ensures.items))

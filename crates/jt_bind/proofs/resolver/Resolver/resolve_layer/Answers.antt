@@ -1,5 +1,5 @@
 use Rattle.std.proofs.Common.{arith, rules}
-use Rattle.jt_bind.proofs.LeadingBodies.{led_of}
+use Rattle.jt_bind.proofs.BodyConcatenation.{led_of}
 use Rattle.jt_bind.proofs.resolver.Resolver.resolve_layer.Goals as goal
 
 pub returns-then-is_root : goal.returns-then-is_root

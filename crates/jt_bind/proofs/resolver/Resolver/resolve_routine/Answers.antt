@@ -1,17 +1,17 @@
 use Rattle.std.proofs.Common.{List, length, max, sym, ap, ◌∙◌}
 use Rattle.std.proofs.lemmas.List.{length-map}
 use denote.Ref.{Bor}
-use Rattle.jt_trees.specs.Expressions.{Text}
-use Rattle.jt_trees.specs.StatementView as written
-use Rattle.jt_resolved.specs.View.{body_view}
-use Rattle.jt_resolved.specs.declared.program.SlotStmt.{SlotStmt}
-use Rattle.jt_trees.specs.Texts.{texts}
-use Rattle.jt_resolved.specs.Locals.{body_locals}
-use Rattle.jt_meaning.specs.Resolve.{bound_all}
-use Rattle.jt_bind.specs.Scoped.{values, spot_in, templates_in}
-use Rattle.jt_bind.specs.Stated.{scoped_in}
-use Rattle.jt_bind.proofs.LeadingBodies.{led_begun}
-use Rattle.jt_bind.proofs.Routing.{locals_same, routine_made}
+use Rattle.jt_ast.specs.Expressions.{Text}
+use Rattle.jt_ast.specs.StatementView as written
+use Rattle.jt_ir.specs.View.{body_view}
+use Rattle.jt_ir.specs.declared.program.SlotStmt.{SlotStmt}
+use Rattle.jt_ast.specs.Texts.{texts}
+use Rattle.jt_ir.specs.Locals.{body_locals}
+use Rattle.jt_semantics.specs.Resolve.{bound_all}
+use Rattle.jt_bind.specs.internal.Scoped.{values, senv_in, templates_in}
+use Rattle.jt_bind.specs.internal.Stated.{scoped_in}
+use Rattle.jt_bind.proofs.BodyConcatenation.{led_begun}
+use Rattle.jt_bind.proofs.RoutineConcatenation.{locals_same, routine_made}
 use Rattle.jt_bind.proofs.resolver.Resolver.resolve_routine.Goals as goal
 
 pub returns : goal.returns
@@ -19,12 +19,16 @@ returns c =
     let scope = c.args.self.now.tables.now in
     let T = templates_in scope in
     let names = c.args.parameters in
-    let whole = scoped_in scope (written.body_view c.args.body.now) (bound_all (texts names.items) (spot_in scope c.args.self.now.spot)) in
+    let whole = scoped_in scope (written.body_view c.args.body.now)
+    (bound_all (texts names.items) (senv_in scope c.args.self.now.senv)) in
     let body = c.resolve_within.new.done in
     let p = values c.args.pool.now in
     let q = values c.resolve_within.new.pool in
     let led = led_begun T whole _ _ _ p q c.new-done.ensures.items c.in_ok-resolve_within.ensures in
     let count = c.len-count.ensures ∙ names.ok.0 ∙ sym (length-map names.items (λ (k : Bor Text). k.now)) in
-    routine_made T c.len-count.result (length (texts names.items)) whole body c.larger-locals.result (max (length (texts names.items)) (body_locals whole)) p q led count
-    (c.larger-locals.ensures ∙ ap (λ n. max n c.in_ok-body_locals.field-0) count ∙ ap (max (length (texts names.items))) (locals_same T whole body.items p q c.in_ok-body_locals.field-0 led
-    (λ b. sym (ap (λ (z : List SlotStmt). body_locals (body_view T z b)) c.deref.ensures.value) ∙ c.in_ok-body_locals.ensures T b)))
+    routine_made T c.len-count.result (length (texts names.items)) whole body c.larger-locals.result
+    (max (length (texts names.items)) (body_locals whole)) p q led count
+    (c.larger-locals.ensures ∙ ap (λ n. max n c.in_ok-body_locals.field-0) count
+    ∙ ap (max (length (texts names.items))) (locals_same T whole body.items p q c.in_ok-body_locals.field-0 led
+    (λ b. sym (ap (λ (z : List SlotStmt). body_locals (body_view T z b)) c.deref.ensures.value)
+    ∙ c.in_ok-body_locals.ensures T b)))

@@ -1,12 +1,12 @@
 use Rattle.std.proofs.Common.{List, arith, rules}
 use Rattle.std.proofs.lemmas.List.{at_drop_all}
-use Rattle.jt_trees.specs.StatementView.{body_view}
-use Rattle.jt_trees.specs.declared.statement.Stmt.{Stmt}
-use Rattle.jt_meaning.specs.Resolve.{followed, resolved_sets}
-use Rattle.jt_bind.specs.Scoped.{world_in, order_in, spot_in, templates_in}
-use Rattle.jt_bind.proofs.Chained.{sets_next}
-use Rattle.jt_bind.proofs.LeadingBodies.{lead_both, lead_of, lead_left}
-use Rattle.jt_trees.proofs.Left.{statements_left}
+use Rattle.jt_ast.specs.StatementView.{body_view}
+use Rattle.jt_ast.specs.declared.statement.Stmt.{Stmt}
+use Rattle.jt_semantics.specs.Resolve.{followed, resolved_sets}
+use Rattle.jt_bind.specs.internal.Scoped.{cenv_in, order_in, senv_in, templates_in}
+use Rattle.jt_bind.proofs.ChainTemplates.{sets_next}
+use Rattle.jt_bind.proofs.BodyConcatenation.{lead_both, lead_of, lead_left}
+use Rattle.jt_ast.proofs.RemainingParts.{statements_left}
 use Rattle.jt_bind.proofs.resolver.Resolver.resolve_sets.Goals as goal
 
 pub loop-statement-preserved : goal.loop-statement-preserved
@@ -17,4 +17,7 @@ returns c = λ left.
     let l = c.loop-statement in
     let scope = c.args.self.now.tables.now in
     lead_left (templates_in scope) _ _ _ _ _ _ _
-    (at_drop_all (λ (z : List Stmt). followed (resolved_sets (world_in scope) (order_in scope) (body_view z) (spot_in scope c.args.self.now.spot)) left) c.args.body.now l.statement-index (omega arith)) (l.invariant left)
+    (at_drop_all (λ (z : List Stmt).
+    followed (resolved_sets (cenv_in scope) (order_in scope) (body_view z) (senv_in scope c.args.self.now.senv)) left)
+    c.args.body.now l.statement-index (omega arith))
+    (l.invariant left)

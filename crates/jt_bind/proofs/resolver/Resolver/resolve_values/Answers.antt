@@ -1,17 +1,19 @@
 use Rattle.std.proofs.Common.{ℕ, ◌+◌, List, drop, sym, ap, ◌∙◌, arith, add-one}
 use Rattle.std.proofs.lemmas.List.{at_drop_all}
-use Rattle.jt_trees.specs.ExpressionView.{expr_view, pairs_view}
-use Rattle.jt_resolved.specs.Slots as slots
-use Rattle.jt_bind.specs.Scoped.{expr_in, templates_in}
-use Rattle.jt_bind.specs.Stated.{line_in, values_in}
-use Rattle.jt_bind.proofs.LeadingBodies.{lead_both, lead_of, lead_left}
-use Rattle.jt_trees.proofs.Left.{Entry, pairs_left}
+use Rattle.jt_ast.specs.ExpressionView.{expr_view, pairs_view}
+use Rattle.jt_ir.specs.Slots as slots
+use Rattle.jt_bind.specs.internal.Scoped.{expr_in, templates_in}
+use Rattle.jt_bind.specs.internal.Stated.{line_in, values_in}
+use Rattle.jt_bind.proofs.BodyConcatenation.{lead_both, lead_of, lead_left}
+use Rattle.jt_ast.proofs.RemainingParts.{Entry, pairs_left}
 use Rattle.jt_bind.proofs.resolver.Resolver.resolve_values.Goals as goal
 
 pub returns : goal.returns
 returns c = λ behind.
     let l = c.loop-value in
-    lead_left (templates_in c.args.self.now.tables.now) _ _ _ _ _ _ _ (at_drop_all (λ (z : List Entry). values_in c.args.self.now.tables.now (pairs_view z) l.spot c.args.line behind) c.args.pairs.now l.value-index (omega arith)) (l.invariant behind)
+    lead_left (templates_in c.args.self.now.tables.now) _ _ _ _ _ _ _
+    (at_drop_all (λ (z : List Entry). values_in c.args.self.now.tables.now (pairs_view z) l.senv c.args.line behind)
+    c.args.pairs.now l.value-index (omega arith)) (l.invariant behind)
 
 pub loop-value-preserved : goal.loop-value-preserved
 loop-value-preserved c = λ behind.
@@ -21,9 +23,13 @@ loop-value-preserved c = λ behind.
     let x = c.loop-value-item.result in
     let T = templates_in scope in
     let rest = pairs_view (drop (l.value-index + 1) ps) in
-    let line = line_in scope l.spot c.args.line in
-    let value = expr_in scope (expr_view x.1) l.spot in
+    let line = line_in scope l.senv c.args.line in
+    let value = expr_in scope (expr_view x.1) l.senv in
     lead_both T _ _ _ _ _ _ _ _ _ (l.invariant behind)
-    (lead_of T _ _ _ _ _ _ _ (ap (λ (n : ℕ). slots.stmt (slots.assign line (slots.one (slots.local l.spot.free)) value) (values_in scope rest (record l.spot { free = n }) c.args.line behind)) (c.in_ok-spot.ensures ∙ add-one l.spot.free)
-    ∙ ap (λ r. values_in scope r l.spot c.args.line behind) (sym (pairs_left ps l.value-index x c.loop-value-test.true c.loop-value-item.is)))
-    (c.in_ok-put_assign.ensures scope value _ _ c.in_ok-given.ensures (values_in scope rest (record l.spot { free = c.in_ok-spot.field-0 }) c.args.line behind)))
+    (lead_of T _ _ _ _ _ _ _ (ap (λ (n : ℕ). slots.stmt (slots.assign line (slots.one (slots.local l.senv.free)) value)
+    (values_in scope rest (record l.senv { free = n }) c.args.line behind))
+    (c.in_ok-senv.ensures ∙ add-one l.senv.free)
+    ∙ ap (λ r. values_in scope r l.senv c.args.line behind)
+    (sym (pairs_left ps l.value-index x c.loop-value-test.true c.loop-value-item.is)))
+    (c.in_ok-put_assign.ensures scope value _ _ c.in_ok-given.ensures
+    (values_in scope rest (record l.senv { free = c.in_ok-senv.field-0 }) c.args.line behind)))

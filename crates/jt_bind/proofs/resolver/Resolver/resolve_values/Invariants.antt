@@ -1,11 +1,14 @@
 use Rattle.std.proofs.Common.{drop}
-use Rattle.jt_trees.specs.ExpressionView.{pairs_view}
-use Rattle.jt_resolved.specs.Pool.{Constant}
-use Rattle.jt_resolved.specs.Slots.{SBody}
-use Rattle.jt_bind.specs.Scoped.{values, BodyLeads, templates_in}
-use Rattle.jt_bind.specs.Stated.{values_in}
+use Rattle.jt_ast.specs.ExpressionView.{pairs_view}
+use Rattle.jt_ir.specs.Pool.{Constant}
+use Rattle.jt_ir.specs.Slots.{SBody}
+use Rattle.jt_bind.specs.internal.Scoped.{values, BodyLeads, templates_in}
+use Rattle.jt_bind.specs.internal.Stated.{values_in}
 use Rattle.jt_bind.proofs.resolver.Resolver.resolve_values.Given as goal
 
 abbrev pub invariant-loop-value : goal.invariant-loop-value
-invariant-loop-value l = (behind : SBody Constant) → BodyLeads (templates_in l.self.tables.now) (values_in l.self.tables.now (pairs_view l.pairs) l.self.spot l.line behind) (values_in l.self.tables.now (pairs_view (drop l.value-index l.pairs)) l.spot l.line behind)
+invariant-loop-value l =
+    (behind : SBody Constant) → BodyLeads (templates_in l.self.tables.now)
+    (values_in l.self.tables.now (pairs_view l.pairs) l.self.senv l.line behind)
+    (values_in l.self.tables.now (pairs_view (drop l.value-index l.pairs)) l.senv l.line behind)
     l.initial.done.items l.done.items (values l.initial.pool) (values l.pool)

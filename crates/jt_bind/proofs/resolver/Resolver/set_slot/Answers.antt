@@ -1,11 +1,12 @@
 use Rattle.std.proofs.Common.{sym, ap, ◌∙◌}
 use Rattle.std.specs.Prelude.{unwrap_or}
-use Rattle.jt_resolved.specs.Slots.{local}
-use Rattle.jt_bind.specs.Scoped.{spot_in}
-use Rattle.jt_bind.proofs.Placed.{slot_of_found, viewed_or}
-use Rattle.jt_resolved.specs.View.{slot_view}
+use Rattle.jt_ir.specs.Slots.{local}
+use Rattle.jt_bind.specs.internal.Scoped.{senv_in}
+use Rattle.jt_bind.proofs.PlacesAndScopes.{slot_of_found, viewed_or}
+use Rattle.jt_ir.specs.View.{slot_view}
 use Rattle.jt_bind.proofs.resolver.Resolver.set_slot.Goals as goal
 
 pub returns : goal.returns
 returns c =
-    ap slot_view c.unwrap_or.ensures ∙ sym (viewed_or c.slot.result) ∙ ap (λ o. unwrap_or o (local 0)) c.slot.ensures ∙ sym (slot_of_found c.args.name.now (spot_in c.args.self.now.tables.now c.args.self.now.spot).table)
+    ap slot_view c.unwrap_or.ensures ∙ sym (viewed_or c.slot.result) ∙ ap (λ o. unwrap_or o (local 0)) c.slot.ensures
+    ∙ sym (slot_of_found c.args.name.now (senv_in c.args.self.now.tables.now c.args.self.now.senv).table)

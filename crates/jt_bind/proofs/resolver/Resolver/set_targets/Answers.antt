@@ -1,13 +1,14 @@
 use Rattle.std.proofs.Common.{◌≡◌, Global, String, List, [], ◌∷◌, length, refl, arith, rules}
-use Rattle.jt_trees.specs.StatementView.{names_view}
-use Rattle.jt_meaning.specs.Layout.{Table}
-use Rattle.jt_meaning.specs.Resolve.{kept_slots, set_targets}
-use Rattle.jt_resolved.specs.Slots.{several}
+use Rattle.jt_ast.specs.StatementView.{names_view}
+use Rattle.jt_semantics.specs.Layout.{Table}
+use Rattle.jt_semantics.specs.Resolve.{kept_slots, set_targets}
+use Rattle.jt_ir.specs.Slots.{several}
 use Rattle.jt_bind.proofs.resolver.Resolver.set_targets.Goals.{else-names-lt1+else-names-lt2}
 use Rattle.jt_bind.proofs.resolver.Resolver.set_targets.Goals as goal
 
--- where not one name is set alone, each takes an item
-several_take : (t : Table) (ks : List (String Global)) → (length ks ≡ 1 → ⊥) → several (kept_slots t (names_view ks)) ≡ set_targets t (names_view ks)
+-- If there is not exactly one name, each name takes an item.
+several_take : (t : Table) (ks : List (String Global)) → (length ks ≡ 1 → ⊥)
+    → several (kept_slots t (names_view ks)) ≡ set_targets t (names_view ks)
 several_take t [] n = refl
 several_take t (k ∷ []) n = absurd (n refl)
 several_take t (k ∷ l ∷ ks) n = refl

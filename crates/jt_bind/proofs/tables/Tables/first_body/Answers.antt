@@ -1,7 +1,7 @@
 use Rattle.std.proofs.Common.{arith, rules}
 use Rattle.std.proofs.lemmas.List.{length-map}
-use Rattle.jt_bind.proofs.Places.{first_within}
+use Rattle.jt_bind.proofs.ListIndices.{first_within}
 use Rattle.jt_bind.proofs.tables.Tables.first_body.Goals as goal
 
-pub returns-in_ok-more-in-Some : goal.returns-in_ok-more-in-Some
-returns-in_ok-more-in-Some c = search (arith, rules, length-map, first_within)
+pub returns-in_ok-checked_sum-in-Some : goal.returns-in_ok-checked_sum-in-Some
+returns-in_ok-checked_sum-in-Some c = search (arith, rules, length-map, first_within)

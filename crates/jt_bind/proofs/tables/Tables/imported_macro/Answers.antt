@@ -2,13 +2,13 @@ use Rattle.std.proofs.Common.{◌≡◌, sym, ap, ◌∙◌, subst, Some, arith,
 use Rattle.std.specs.Prelude.{option_map}
 use Rattle.std.proofs.lemmas.Result.{IfOk-weaker}
 use denote.Ref.{Bor}
-use Rattle.jt_trees.specs.Expressions as trees
-use Rattle.jt_trees.specs.Expressions.{Text}
+use Rattle.jt_ast.specs.Expressions as trees
+use Rattle.jt_ast.specs.Expressions.{Text}
 use Rattle.jt_chains.specs.Chain as chain
 use Rattle.jt_chains.specs.Chain.{a_library, macros, macro_of, given_to}
-use Rattle.jt_bind.specs.Callees.{IsCallee, library_of, of_home}
-use Rattle.jt_bind.specs.Scoped.{world_in, order_in, given_in, callee_in}
-use Rattle.jt_bind.proofs.Imported.{called_there, member_is, no_library, private_is, public_is}
+use Rattle.jt_bind.specs.internal.Callees.{IsCallee, library_of, of_namespace}
+use Rattle.jt_bind.specs.internal.Scoped.{cenv_in, order_in, given_in, callee_in}
+use Rattle.jt_bind.proofs.ImportedCallees.{called_there, member_is, no_library, private_is, public_is}
 use Rattle.jt_bind.proofs.tables.Tables.imported_macro.Goals as goal
 
 pub returns-in_default : goal.returns-in_default
@@ -22,13 +22,17 @@ returns c =
     let scope = c.args.self.now in
     let of = c.args.of.now in
     let x = c.args.name.now in
-    let sources = (world_in scope).sources in
+    let sources = (cenv_in scope).sources in
     let o = given_to of (given_in scope) in
     let n = c.in-Some.library.now in
-    let some : library_of o ≡ Some n = sym c.library_named.ensures ∙ ap (option_map (λ (z : Bor Text). z.now)) c.in-Some.is in
+    let some : library_of o ≡ Some n =
+    sym c.library_named.ensures ∙ ap (option_map (λ (z : Bor Text). z.now)) c.in-Some.is in
     let f = trees.attribute (trees.name of) x in
-    let whole : callee_in scope f ≡ of_home (a_library n) (macro_of x (macros sources (a_library n))) =
-    member_is sources (given_in scope) of x c.requires.not_self c.requires.not_loop ∙ public_is sources o x n some (sym c.is_private.ensures ∙ c.if-is_private.false) in
+    let whole : callee_in scope f ≡ of_namespace (a_library n) (macro_of x (macros sources (a_library n))) =
+    member_is sources (given_in scope) of x c.requires.not_self c.requires.not_loop
+    ∙ public_is sources o x n some (sym c.is_private.ensures ∙ c.if-is_private.false) in
     IfOk-weaker c.library_macro.result _ _ (λ k h.
-    let P : chain.Callee → Type 0 = λ z. IsCallee (world_in scope) (order_in scope) k z in
-    subst P (sym whole) (h (λ m q. (called_there scope c.stands.ensures f (a_library n) m (whole ∙ ap (of_home (a_library n)) q)).1))) c.library_macro.ensures
+    let P : chain.Callee → Type 0 = λ z. IsCallee (cenv_in scope) (order_in scope) k z in
+    subst P (sym whole)
+    (h (λ m q. (called_there scope c.stands.ensures f (a_library n) m (whole ∙ ap (of_namespace (a_library n)) q)).1)))
+    c.library_macro.ensures

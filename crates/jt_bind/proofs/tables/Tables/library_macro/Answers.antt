@@ -1,5 +1,5 @@
 use Rattle.std.proofs.Common.{arith, rules}
-use Rattle.jt_bind.proofs.Imported.{nowhere}
+use Rattle.jt_bind.proofs.ImportedCallees.{nowhere}
 use Rattle.jt_bind.proofs.tables.Tables.library_macro.Goals as goal
 
 pub macro_at-requires : goal.macro_at-requires

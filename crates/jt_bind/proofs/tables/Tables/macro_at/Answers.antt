@@ -1,13 +1,13 @@
 use Rattle.std.proofs.Common.{◌≡◌, ℕ, sym, ap, ◌∙◌, subst, Option, arith, rules}
 use Rattle.std.proofs.lemmas.Option.{get_or_from_slice_get}
-use Rattle.jt_trees.specs.StatementView.{parameters_view}
+use Rattle.jt_ast.specs.StatementView.{parameters_view}
 use Rattle.jt_chains.specs.Parts.{macro_view}
-use Rattle.jt_chains.specs.Places.{home_at}
+use Rattle.jt_chains.specs.Places.{namespace_at}
 use Rattle.jt_chains.specs.View.{chain_view}
 use Rattle.jt_chains.specs.declared.parts.Macro.{Macro}
-use Rattle.jt_layout.specs.Laid.{IsCalled}
-use Rattle.jt_bind.specs.Callees.{of_home}
-use Rattle.jt_bind.specs.Scoped.{world_in, order_in}
+use Rattle.jt_layout.specs.NamespaceLayout.{IsCalled}
+use Rattle.jt_bind.specs.internal.Callees.{of_namespace}
+use Rattle.jt_bind.specs.internal.Scoped.{cenv_in, order_in}
 use Rattle.jt_bind.proofs.tables.Tables.macro_at.Goals as goal
 
 pub returns-in_default : goal.returns-in_default
@@ -17,22 +17,24 @@ pub returns : goal.returns
 returns c =
     let scope = c.args.self.now in
     let x = c.args.name.now in
-    let h = home_at (order_in scope) c.args.home in
+    let h = namespace_at (order_in scope) c.args.namespace in
     let there = c.at-there.result.now in
     let ts = (chain_view scope.chain.now).templates in
     let i = c.in-Some.place in
-    let laid = c.at-there.ensures in
-    let P : Option ℕ → Type 0 = λ o. IsCalled (world_in scope) (order_in scope) ts h there x o in
-    let at = subst P (sym c.place.ensures ∙ c.in-Some.is) (laid.by_names x) in
-    let found : c.index-found.result.now ≡ at.code = c.index-found.ensures ∙ get_or_from_slice_get there.macros.items i at.code c.index-found.result.now at.found in (
+    let namespace_layout = c.at-there.ensures in
+    let P : Option ℕ → Type 0 = λ o. IsCalled (cenv_in scope) (order_in scope) ts h there x o in
+    let at = subst P (sym c.place.ensures ∙ c.in-Some.is) (namespace_layout.by_names x) in
+    let found : c.index-found.result.now ≡ at.code =
+    c.index-found.ensures ∙ get_or_from_slice_get there.macros.items i at.code c.index-found.result.now at.found in (
       h,
       macro_view ts at.code,
       (
         record {
           takes = ap (λ (m : Macro). parameters_view m.parameters.now) found;
-          runs = c.in_ok-more.ensures ∙ at.macro_unit;
-          defaults = c.index.ensures ∙ get_or_from_slice_get there.defaults.items i _ c.index.result.now at.first_default;
+          runs = c.in_ok-checked_sum.ensures ∙ at.macro_unit;
+          defaults =
+              c.index.ensures ∙ get_or_from_slice_get there.defaults.items i _ c.index.result.now at.first_default;
         },
-        ap (of_home h) at.meant,
+        ap (of_namespace h) at.meant,
       ),
     )

@@ -3,23 +3,27 @@ use Rattle.std.specs.Str.{bytes_eq}
 use Rattle.jt_chains.specs.Chain.{given_to, all_bodies}
 use Rattle.jt_chains.specs.Named.{named_view}
 use Rattle.jt_chains.specs.Parts.{block_view}
-use Rattle.jt_chains.specs.Places.{home_at}
+use Rattle.jt_chains.specs.Places.{namespace_at}
 use Rattle.jt_chains.specs.View.{chain_view, sources_of}
-use Rattle.jt_checks.specs.Standing.{known_of, world_in, home_in}
-use Rattle.jt_checks.proofs.Named.{any_named, any_filtered}
+use Rattle.jt_checks.specs.internal.ScopeLookup.{known_of, cenv_in, namespace_in}
+use Rattle.jt_checks.proofs.NameLookup.{any_named, any_filtered}
 use Rattle.jt_checks.proofs.scope.Scope.new.Goals as goal
 
 pub invariant_of-result-clause-knows_given : goal.invariant_of-result-clause-knows_given
-unfolding world_in home_in
+unfolding cenv_in namespace_in
 invariant_of-result-clause-knows_given c = λ x.
     let seen = chain_view c.args.chain.now in
-    let h = home_at seen.order c.args.home in
-    c.in_ok-names.ensures seen.templates h x ∙ ap (λ gs. known_of (given_to x (map (named_view seen.templates h) gs))) c.deref.ensures.value ∙ ap (λ gs. known_of (given_to x gs)) (c.in_ok-parts.ensures.there c.requires)
+    let h = namespace_at seen.order c.args.namespace in
+    c.in_ok-names.ensures seen.templates h x
+    ∙ ap (λ gs. known_of (given_to x (map (named_view seen.templates h) gs))) c.deref.ensures.value
+    ∙ ap (λ gs. known_of (given_to x gs)) (c.in_ok-parts.ensures.there c.requires)
 
 pub invariant_of-result-clause-knows_blocks : goal.invariant_of-result-clause-knows_blocks
-unfolding world_in home_in
+unfolding cenv_in namespace_in
 invariant_of-result-clause-knows_blocks c = λ x.
     let seen = chain_view c.args.chain.now in
     let ts = seen.templates in
-    c.in_ok-blocks.ensures ts x ∙ ap (λ bs. any_named x (map (block_view ts) bs)) c.deref-2.ensures.value ∙ ap (any_named x) (c.in_ok-bodies.ensures.there c.requires)
-    ∙ any_filtered (λ b. bytes_eq b.name x) (all_bodies (sources_of seen) seen.escaping (home_at seen.order c.args.home))
+    c.in_ok-blocks.ensures ts x ∙ ap (λ bs. any_named x (map (block_view ts) bs)) c.deref-2.ensures.value
+    ∙ ap (any_named x) (c.in_ok-bodies.ensures.there c.requires)
+    ∙ any_filtered (λ b. bytes_eq b.name x)
+    (all_bodies (sources_of seen) seen.escaping (namespace_at seen.order c.args.namespace))

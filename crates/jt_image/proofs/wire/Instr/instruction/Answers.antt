@@ -1,4 +1,4 @@
-use Rattle.jt_image.proofs.Complete.{instruction_exact}
+use Rattle.jt_image.proofs.DecodeComplete.{instruction_exact}
 use Rattle.jt_image.proofs.wire.Instr.instruction.Goals as goal
 
 pub returns-clause-exact : goal.returns-clause-exact

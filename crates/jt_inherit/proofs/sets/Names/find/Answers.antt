@@ -5,4 +5,5 @@ use Rattle.jt_inherit.proofs.sets.Names.find.Goals as goal
 pub returns : goal.returns
 returns c =
     let s = c.args.self.now in
-    find_told c.args.name.now s.items.items s.numbers c.copied.result s.numbered (c.copied.ensures ∙ c.get.ensures.value)
+    find_told c.args.name.now s.items.items s.numbers c.copied.result s.numbered
+    (c.copied.ensures ∙ c.get.ensures.value)

@@ -1,13 +1,14 @@
-use Rattle.std.proofs.Common.{◌≡◌, ◌++◌, ◌∷◌, [], Some, List, String, Global, length, string_bytes, cond, sym, ap, subst, ◌∙◌, arith}
+use Rattle.std.proofs.Common.{◌≡◌, ◌++◌, ◌∷◌, [], Some, List, String, Global, length, string_bytes, cond, sym, ap}
+use Rattle.std.proofs.Common.{subst, ◌∙◌, arith}
 use Rattle.std.specs.BTreeMap.{get_by_text}
 use Rattle.std.specs.Str.{bytes_eq}
 use Rattle.std.proofs.lemmas.Map.Text.{btree_map_updates_text}
-use Rattle.jt_trees.specs.Texts.{among}
-use Rattle.jt_trees.specs.Expressions.{Text}
-use Rattle.jt_inherit.specs.Numbers.{AreNumbers, is_text}
-use Rattle.jt_inherit.specs.SetView.{strings}
+use Rattle.jt_ast.specs.Texts.{among}
+use Rattle.jt_ast.specs.Expressions.{Text}
+use Rattle.jt_inherit.specs.internal.Numbers.{AreNumbers, is_text}
+use Rattle.jt_inherit.specs.internal.SetView.{strings}
 use Rattle.jt_inherit.proofs.NameSets.{put_told}
-use Rattle.jt_inherit.proofs.Numbered.{pushed}
+use Rattle.jt_inherit.proofs.NumberTables.{pushed}
 use Rattle.jt_inherit.proofs.sets.Names.put.Goals as goal
 
 pub invariant_of-self-2 : goal.invariant_of-self-2
@@ -18,11 +19,16 @@ invariant_of-self-2 c =
     let item = c.in_ok-item.item in
     let same : string_bytes key ≡ string_bytes item = c.in_ok-key.ensures.ok ∙ sym c.in_ok-item.ensures.ok in
     let number : c.len-number.result ≡ length ks = omega (arith, c.len-number.ensures, s.items.ok.0) in
-    let all : c.push.new.self.items ≡ ks ++ item ∷ [] = pushed c.push.result c.reserve.new.self.items ks c.push.new.self.items item c.push.ensures.items (c.push.ensures.succeeds (omega (arith, c.in_ok-reserve.ensures.ok))) c.in_ok-reserve.ensures.items in
+    let all : c.push.new.self.items ≡ ks ++ item ∷ [] = pushed c.push.result c.reserve.new.self.items ks
+    c.push.new.self.items item c.push.ensures.items
+    (c.push.ensures.succeeds (omega (arith, c.in_ok-reserve.ensures.ok))) c.in_ok-reserve.ensures.items in
     let more = λ (x : Text).
-    btree_map_updates_text (string_bytes key) s.numbers c.insert.new.self (Some c.len-number.result) c.in_ok-insert.ensures.updates x
-    ∙ ap (λ b. cond (bytes_eq b x) (Some c.len-number.result) (get_by_text s.numbers x)) same ∙ ap (λ n. cond (bytes_eq (string_bytes item) x) (Some n) (get_by_text s.numbers x)) number in
+    btree_map_updates_text (string_bytes key) s.numbers c.insert.new.self (Some c.len-number.result)
+    c.in_ok-insert.ensures.updates x
+    ∙ ap (λ b. cond (bytes_eq b x) (Some c.len-number.result) (get_by_text s.numbers x)) same
+    ∙ ap (λ n. cond (bytes_eq (string_bytes item) x) (Some n) (get_by_text s.numbers x)) number in
     record {
       numbered = subst (λ (l : List (String Global)). AreNumbers is_text l c.insert.new.self) (sym all)
-          (put_told ks item s.numbers c.insert.new.self s.numbered (ap (λ (n : Text). among n (strings ks)) c.in_ok-item.ensures.ok ∙ c.requires) more);
+          (put_told ks item s.numbers c.insert.new.self s.numbered
+          (ap (λ (n : Text). among n (strings ks)) c.in_ok-item.ensures.ok ∙ c.requires) more);
     }

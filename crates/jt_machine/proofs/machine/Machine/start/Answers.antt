@@ -3,17 +3,23 @@ use Rattle.jt_value.specs.ContextView.{pairs_of}
 use Rattle.jt_image.specs.Code.{Code}
 use Rattle.jt_image.specs.Run.{Goes, start}
 use Rattle.jt_machine.specs.View.{budget_view}
-use Rattle.jt_machine.proofs.Slicing.{runs_in_slices}
+use Rattle.jt_machine.proofs.SlicesAddUp.{runs_in_slices}
 use Rattle.jt_machine.proofs.machine.Machine.start.Goals as goal
 
 pub returns-in-Some-clause-slices : goal.returns-in-Some-clause-slices
-returns-in-Some-clause-slices c = λ x b. runs_in_slices c.args.verified x b ((c.code_laws.ensures.runs c.args.verified c.image.ensures.whole c.image.ensures.typed).safe x b)
+returns-in-Some-clause-slices c =
+    λ x b. runs_in_slices c.args.verified x b
+    ((c.code_laws.ensures.runs c.args.verified c.image.ensures.whole c.image.ensures.typed).safe x b)
 
 pub returns-in-Ok-clause-slices : goal.returns-in-Ok-clause-slices
-returns-in-Ok-clause-slices c = λ x b. runs_in_slices c.args.verified x b ((c.code_laws.ensures.runs c.args.verified c.image.ensures.whole c.image.ensures.typed).safe x b)
+returns-in-Ok-clause-slices c =
+    λ x b. runs_in_slices c.args.verified x b
+    ((c.code_laws.ensures.runs c.args.verified c.image.ensures.whole c.image.ensures.typed).safe x b)
 
 pub returns-in-Err-clause-slices : goal.returns-in-Err-clause-slices
-returns-in-Err-clause-slices c = λ x b. runs_in_slices c.args.verified x b ((c.code_laws.ensures.runs c.args.verified c.image.ensures.whole c.image.ensures.typed).safe x b)
+returns-in-Err-clause-slices c =
+    λ x b. runs_in_slices c.args.verified x b
+    ((c.code_laws.ensures.runs c.args.verified c.image.ensures.whole c.image.ensures.typed).safe x b)
 
 pub invariant_of-result-in-Ok : goal.invariant_of-result-in-Ok
 invariant_of-result-in-Ok c =

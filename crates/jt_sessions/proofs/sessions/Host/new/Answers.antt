@@ -1,4 +1,4 @@
-use Rattle.jt_sessions.proofs.Alone.{run_alone}
+use Rattle.jt_sessions.proofs.SessionIsolation.{run_alone}
 use Rattle.jt_sessions.proofs.sessions.Host.new.Goals as goal
 
 pub returns-clause-alone : goal.returns-clause-alone

@@ -1,7 +1,7 @@
 use Rattle.std.proofs.Common.{◌≡◌, List, Bor, ap}
 use Rattle.jt_value.specs.declared.in_order.InOrder.{InOrder}
 use Rattle.jt_value.proofs.Lists.{Pair}
-use Rattle.jt_value.proofs.InOrder.{smaller}
+use Rattle.jt_value.proofs.KeyOrder.{smaller}
 use Rattle.jt_value.proofs.in_order.InOrder.next.Goals as goal
 use Rattle.jt_value.proofs.in_order.InOrder.next.Goals.{in-From, in-At+in_ok-place-in-At}
 
@@ -12,4 +12,5 @@ returns-clause-smaller c =
       | in-From w ↦ ap (λ (o : InOrder). o.entries) w.self-is
       | in-At+in_ok-place-in-At w ↦ ap (λ (o : InOrder). o.entries) w.self-is
     ] in
-    smaller c.args.self.now.entries.now c.match-self.self.entries.now c.match-self.place c.get.result (ap (λ (s : Bor (List Pair)). s.now) same) c.get.ensures.lookup
+    smaller c.args.self.now.entries.now c.match-self.self.entries.now c.match-self.place c.get.result
+    (ap (λ (s : Bor (List Pair)). s.now) same) c.get.ensures.lookup

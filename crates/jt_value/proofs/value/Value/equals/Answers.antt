@@ -7,5 +7,6 @@ use Rattle.jt_value.proofs.value.Value.equals.Goals as goal
 
 pub returns-clause-maps : goal.returns-clause-maps
 returns-clause-maps c = λ es fs p q.
-    let e : c.are_equal.result ≡ equal (tree.map es) (tree.map fs) = c.are_equal.ensures ∙ ap (λ t. equal t (view c.args.other.now)) p ∙ ap (equal (tree.map es)) q in
+    let e : c.are_equal.result ≡ equal (tree.map es) (tree.map fs) =
+    c.are_equal.ensures ∙ ap (λ t. equal t (view c.args.other.now)) p ∙ ap (equal (tree.map es)) q in
     (λ h. equal-agree es fs (sym e ∙ h), λ h. e ∙ agree-equal es fs h)

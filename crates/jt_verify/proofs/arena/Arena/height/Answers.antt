@@ -1,5 +1,5 @@
 use Rattle.std.proofs.Common.{arith, rules}
-use Rattle.jt_verify.proofs.Nodes.{height_in}
+use Rattle.jt_verify.proofs.ShapesAreUnique.{height_in}
 use Rattle.jt_verify.proofs.arena.Arena.height.Goals as goal
 
 pub returns-clause-length : goal.returns-clause-length

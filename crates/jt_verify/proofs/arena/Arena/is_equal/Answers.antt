@@ -1,5 +1,5 @@
 use Rattle.std.proofs.Common.{arith, rules}
-use Rattle.jt_verify.proofs.Nodes.{equal_is}
+use Rattle.jt_verify.proofs.ShapesAreUnique.{equal_is}
 use Rattle.jt_verify.proofs.arena.Arena.is_equal.Goals as goal
 
 pub returns : goal.returns

@@ -1,6 +1,6 @@
 use Rattle.std.proofs.Common.{get_or, arith, rules}
-use Rattle.jt_verify.proofs.Values.{length-pushes, pops_values}
-use Rattle.jt_verify.proofs.Nodes.{pops_nothing, pops_a_mark}
+use Rattle.jt_verify.proofs.ValuesOnTop.{length-pushes, pops_values}
+use Rattle.jt_verify.proofs.ShapesAreUnique.{pops_nothing, pops_a_mark}
 use Rattle.jt_verify.proofs.arena.Arena.pop_values.Goals as goal
 
 pub returns-then-count-shape : goal.returns-then-count-shape

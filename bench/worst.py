@@ -1,0 +1,221 @@
+#!/usr/bin/env python3
+"""Prints how long a unit of fuel can last: each operator, filter, test and statement over the operands that are worst for it.
+
+    bench/worst.py [--jt PATH] [--fuel N] [--rows N] [--most SECONDS] [WORD ..]
+
+Without --jt it takes the program that `rt run` keeps, crates/jt_cli/out/jt_cli. Each form stands in a loop that --fuel (100,000) ends.
+A row has the microseconds of processor time for a unit, the seconds that the default budget of 1,000,000 units lasts at that rate, and
+the form with the names of its operands (OPERANDS below). Reading the context is measured apart and taken off. A run is ended after --cap
+(5) seconds; its row then has a `>`. The --rows (40) slowest forms are printed, the slowest first; with words, all forms that have one of
+them. The status is 1 if a form is slower than --most (15 seconds for the default budget).
+"""
+import json, os, pathlib, random, resource, subprocess, sys, tempfile
+from timing import flags, timed
+
+MILLION = 1_000_000
+DEFAULT = 1_000_000
+random.seed(1)
+
+# How many items a list has: a unit of fuel pays for 64 of a size, so more items only make a run longer.
+ITEMS = 250_000
+
+# The values of the context.
+OPERANDS = {
+    "zero": 0,
+    "one": 1,
+    "letter": "a",
+    "word": "abcdefghij",
+    "text": "a" * MILLION,
+    "text2": "a" * (MILLION - 1) + "b",
+    "half": "a" * (MILLION // 2 - 1) + "b",
+    "blank": " " * MILLION,
+    "letters": "".join(random.choices("abcdefghijklmnopqrstuvwxyzABCDEFGHIJKLMNOPQRSTUVWXYZ", k=MILLION)),
+    "marks": "<" * MILLION,
+    "greek": "".join(chr(random.randrange(0x80, 0x800)) for _ in range(MILLION // 2)),
+    "han": "".join(chr(random.randrange(0x4E00, 0x9FFF)) for _ in range(MILLION // 3)),
+    "numbers": list(range(ITEMS)),
+    "numbers2": list(range(ITEMS - 1)) + [-1],
+    "shuffled": random.sample(range(ITEMS), ITEMS),
+    "equal": [7] * ITEMS,
+    "great": random.sample(range(2**62, 2**62 + 2**40), ITEMS),
+    "truths": [random.random() < 0.5 for _ in range(ITEMS)],
+    "mixed": list(range(ITEMS - 1)) + ["a"],
+    "nones": [None] * ITEMS,
+    "empties": [""] * ITEMS,
+    "lists": [[] for _ in range(ITEMS)],
+    "pairs": [[i, i] for i in range(ITEMS // 3)],
+    "short": [f"{random.randrange(10**4):04}" for _ in range(ITEMS // 5)],
+    "words": [f"{random.randrange(10**9):09}" for _ in range(ITEMS // 10)],
+    "alike": ["a" * 990 + f"{i:09}" for i in range(ITEMS // 1000)],
+    "keys": {f"{i:06}": i for i in range(ITEMS // 8)},
+    "turned": {f"{i:06}": i for i in reversed(range(ITEMS // 8))},
+    "scattered": {f"{i:06}": i for i in random.sample(range(ITEMS // 8), ITEMS // 8)},
+    "voids": [{} for _ in range(ITEMS)],
+    "maps": [{"a": i, "b": "x"} for i in range(ITEMS // 10)],
+    "alone": {"a": 1},
+    "deep": json.loads("[" * 31 + "]" * 31),
+}
+TEXTS = ["letter", "word", "text", "blank", "letters", "marks", "greek", "han"]
+LISTS = ["numbers", "shuffled", "equal", "great", "truths", "mixed", "nones", "empties", "lists", "voids", "pairs", "short", "words", "alike", "maps"]
+MAPS = ["keys", "turned", "scattered", "alone"]
+ALL = ["zero", *TEXTS, *LISTS, *MAPS, "deep"]
+
+ONE = ["abs", "capitalize", "default", "dictsort", "escape", "first", "forceescape", "int", "items", "join", "last", "length", "list", "lower", "map('abs')", "map('string')", "map('upper')", "map('length')", "map('list')", "map('default', 1)", "map('escape')", "map('unique')", "map('sort')", "max", "min", "reject", "reverse", "safe", "select", "sort", "sort(true)", "string", "sum", "trim", "unique", "upper"]
+JUDGED = ["select('odd')", "reject('odd')", "select('defined')", "select('eq', word)", "select('in', letters)", "select('in', short)", "select('eq', keys)", "map('join', text)", "select('divisibleby', 3)", "select('gt', 3)", "selectattr('a')", "rejectattr('a', 'eq', 2)", "map(attribute='a')", "map('replace', 'a', 'b')"]
+TESTS = ["defined", "undefined", "none", "boolean", "integer", "string", "mapping", "escaped", "true", "false"]
+
+
+def expressions():
+    """Expressions over the operands, each with the names that it reads."""
+    for x in ALL:
+        for name in ONE:
+            yield f"{x}|{name}"
+        yield from [x, f"not {x}", f"{x}[0]", f"{x}[-1]", f"{x}['a']", f"{x}.a", f"{x} ~ letter", f"letter ~ {x}", f"{x}|attr('a')", f"{x}|default(word)", f"[{x}, {x}, {x}]", f"{{'a': {x}}}", f"{x} if {x} else word", f"{x} and word", f"{x} or word", f"{x} * 1", f"{x} == {x}"]
+    for x in ["text", "numbers", "words", "scattered", "deep"]:
+        yield from [f"{x} is {test}" for test in TESTS]
+    for x in LISTS:
+        yield from [f"{x}|{name}" for name in JUDGED]
+        yield from [f"{x} + [1]", f"[1] + {x}", f"{x} + {x}", f"'zzz' in {x}", f"-1 in {x}", f"{x}|join(text)", f"{x}|join(',')", f"{x}[999999]"]
+    for x in TEXTS:
+        yield from [f"{x}|replace('a', 'b')", f"{x}|replace('a', 'bb')", f"{x}|replace('aa', '')", f"{x}|replace('b', 'c')", f"letter|replace(letter, {x})", f"{x}|replace({x}, letter)", f"{x}|replace(half, letter)", f"half in {x}", f"'b' in {x}", f"'ab' in {x}", f"{x} in {x}", f"{x}[999999]", f"{x} < {x}", f"{x}|join(',')", f"{x}|safe|upper", f"{x}|safe ~ {x}"]
+    for x in MAPS:
+        yield from [f"'zzz' in {x}", f"{x}['000001']", f"{x}.zzz", f"keys == {x}", f"{x} == scattered", f"{x} is eq turned"]
+    yield from ["text == text2", "text < text2", "text is eq text2", "text is lt text2", "numbers == numbers2", "numbers < numbers2", "-1 in numbers", "999999 in numbers", "word in words", "deep == deep", "keys in voids", "alike|unique", "letters|unique", "greek|unique|sort", "shuffled|sort|unique", "[text, text, text, text]|join", "[keys, turned]|unique", "[numbers, numbers2]|unique", "[scattered, turned]|unique", "[text, text2]|sort", "[text, text2]|unique"]
+    # little that is read and much that is made
+    for n in ["10", "100", "1000", "10000", "100000", "1000000"]:
+        yield from [f"letter * {n}", f"range({n})", f"range(0, -{n}, -1)", f"range({n})|length", f"range({n})[0]", f"3 in range({n})", f"range({n}) == range({n})", f"range({n})|sum", f"(letter * {n})|length", f"(letter|safe) * {n}"]
+    yield from ["word * 100000", "'' * 1000000", "'ab' * 500000", "text * 1", "half * 2", "'é' * 500000", "letter * 1048575", "range(1048575)", "one // one", "7 % 3", "2 ** 62", "-5 // 3", "one + one", "-one", "+one", "one < one", "zero == one", "one ~ one"]
+
+
+STATEMENTS = {
+    "for over a list": ("numbers", "{% for x in numbers %}{% endfor %}"),
+    "for over a text": ("greek", "{% for x in greek %}{% endfor %}"),
+    "for over a map": ("scattered", "{% for x in scattered %}{% endfor %}"),
+    "for over a list that faults none": ("numbers", "{% for x in numbers if false %}{% endfor %}"),
+    "for over the empty list": ("", "{% for x in [] %}{% endfor %}"),
+    "for with else": ("", "{% for x in [] %}{% else %}{% endfor %}"),
+    "for that unpacks": ("", "{% for a, b in [[1, 2]] %}{% endfor %}"),
+    "for that unpacks a text": ("", "{% for a, b in ['ab', 'cd'] %}{% endfor %}"),
+    "for over a range": ("", "{% for x in range(1000) %}{% endfor %}"),
+    "fields of the loop": ("", "{% for x in range(3) %}{% if loop.index and loop.last and loop.nextitem %}{% endif %}{% endfor %}"),
+    "loop.nextitem of a text": ("greek", "{% for x in greek %}{{ loop.nextitem }}{% endfor %}"),
+    "set": ("", "{% set q = 1 %}"),
+    "set of a list": ("", "{% set q = [1, 2, 3, 4, 5, 6, 7, 8] %}"),
+    "set of a map": ("", '{% set q = {"a": 1, "b": 2, "c": 3} %}'),
+    "set of a range": ("", "{% set q = range(1000000) %}"),
+    "set of a repeated text": ("", "{% set q = 'a' * 1000000 %}"),
+    "set that unpacks": ("", "{% set a, b = [1, 2] %}"),
+    "set of a block": ("text", "{% set c %}{{ text }}{% endset %}"),
+    "set of an empty block": ("", "{% set c %}{% endset %}"),
+    "filter": ("text", "{% filter upper %}{{ text }}{% endfilter %}"),
+    "filter of nothing": ("", "{% filter upper %}{% endfilter %}"),
+    "emit of nothing": ("", "{{ '' }}"),
+    "escaped emit": ("marks", "{% set c %}{{ marks }}{% endset %}"),
+    "include": ("", '{% include "empty" %}'),
+    "include of 1000 tags": ("", '{% include "tags" %}'),
+    "include without context": ("", '{% include "empty" without context %}'),
+    "block": ("", "{{ self.k() }}"),
+    "macro": ("", "{{ m(1) }}"),
+    "macro with defaults": ("", "{{ d() }}"),
+    "macro with 100 defaults": ("", "{{ h() }}"),
+    "macro with keywords": ("", "{{ d(c=1, b=2) }}"),
+    "macro that fails to find a name": ("", "{{ m(undefined_name) }}"),
+    "if": ("", "{% if 1 %}{% endif %}"),
+    "if with elif": ("", "{% if 0 %}{% elif 0 %}{% else %}{% endif %}"),
+    "text": ("", "x"),
+}
+FRAME = (
+    "{% macro m(x) %}{% endmacro %}{% macro d(a=1, b='y', c='x') %}{% endmacro %}"
+    + "{% macro h(" + ", ".join(f"a{i}={i}" for i in range(100)) + ") %}{% endmacro %}{% block k %}{% endblock %}"
+)
+
+
+def names_of(form):
+    """The operands that a form names."""
+    words = "".join(c if c.isalnum() else " " for c in form).split()
+    return sorted({word for word in words if word in OPERANDS})
+
+
+def forms():
+    """The name of each form, its operands and its source."""
+    for text in dict.fromkeys(expressions()):
+        yield text, names_of(text), "{% if " + text + " %}{% endif %}"
+    for name, (operands, source) in STATEMENTS.items():
+        yield name, operands.split(), source
+
+
+class Bench:
+    """A folder with one context for each set of operands, and the seconds that reading it takes."""
+
+    def __init__(self, jt, fuel, cap, folder):
+        self.jt, self.fuel, self.cap, self.folder, self.read = jt, fuel, cap, folder, {}
+        os.mkdir(f"{folder}/d")
+        pathlib.Path(folder, "d", "empty").write_text("")
+        pathlib.Path(folder, "d", "tags").write_text("{{ '' }}" * 1000)
+
+    def run(self, operands, source, fuel):
+        pathlib.Path(self.folder, "d", "t").write_text(source)
+        words = [self.jt, "render", "d", "t", f"{'+'.join(operands) or 'none'}.json", "--fuel", str(fuel)]
+        limit = lambda: resource.setrlimit(resource.RLIMIT_CPU, (self.cap, self.cap))
+        return timed(words, cwd=self.folder, stdin=subprocess.DEVNULL, preexec_fn=limit)
+
+    def base(self, operands):
+        """The seconds that a template takes which only names the operands."""
+        key = "+".join(operands) or "none"
+        if key not in self.read:
+            pathlib.Path(self.folder, f"{key}.json").write_text(json.dumps({name: OPERANDS[name] for name in operands}))
+            source = FRAME + "".join("{% if false %}{{ " + name + " }}{% endif %}" for name in operands)
+            self.read[key] = min(self.run(operands, source, DEFAULT)[0] for _ in range(3))
+        return self.read[key]
+
+    def unit(self, operands, source):
+        """The microseconds for a unit of fuel, and how the run ended."""
+        base = self.base(operands)
+        took, ran = self.run(operands, FRAME + "{% for i in range(20000) %}" + source + "{% endfor %}", self.fuel)
+        told = (ran.stderr or ran.stdout).decode(errors="replace").strip().split("\n")[0]
+        if ran.returncode < 0:
+            told = "still going"
+        return max(took - base, 0) / self.fuel * MILLION, told
+
+
+def measure(bench, words, found, others):
+    """Adds the forms that have one of the words, if there are words, to those that were spent or to the others."""
+    for name, operands, source in forms():
+        if words and not any(word in name for word in words):
+            continue
+        micros, told = bench.unit(operands, source)
+        if told == "still going" or "spent Fuel" in told:
+            found.append((micros, told == "still going", name))
+        else:
+            others.setdefault(told.split(" at ")[0][:40], []).append(name)
+
+
+def main():
+    parser = flags(__doc__)
+    parser.add_argument("--fuel", type=int, default=100_000)
+    parser.add_argument("--cap", type=int, default=5)
+    parser.add_argument("--rows", type=int, default=40)
+    parser.add_argument("--most", type=float, default=15.0)
+    parser.add_argument("words", nargs="*")
+    asked = parser.parse_args()
+    found, others = [], {}
+    with tempfile.TemporaryDirectory() as folder:
+        bench = Bench(asked.jt, asked.fuel, asked.cap, folder)
+        try:
+            measure(bench, asked.words, found, others)
+        except KeyboardInterrupt:
+            print("(interrupted: these forms were measured)")
+    found.sort(reverse=True)
+    print("us a unit | seconds for the default budget | form")
+    for micros, is_going, name in found if asked.words else found[: asked.rows]:
+        sign = ">" if is_going else " "
+        print(f"{sign}{micros:9.2f} | {sign}{micros * DEFAULT / MILLION:9.2f} | {name}")
+    print(f"{len(found)} forms were spent")
+    for told, names in sorted(others.items()):
+        print(f"{len(names)} forms ended with {told}" + (f": {', '.join(names)}" if asked.words else f", as {names[0]}"))
+    slow = [name for micros, _, name in found if micros > asked.most]
+    sys.exit(f"slower than {asked.most} seconds: {', '.join(slow)}" if slow else 0)
+
+
+if __name__ == "__main__":
+    main()

@@ -1,0 +1,347 @@
+/* Tests the calls over handles. Prints what fails; the last line is 'N passed, M failed'. */
+#include <pthread.h>
+#include <stdio.h>
+#include <stdlib.h>
+#include <string.h>
+
+#include "jt.h"
+
+static int passed, failed;
+
+static void expect(bool holds, const char *what) {
+    if (holds) {
+        passed++;
+    } else {
+        failed++;
+        printf("failed: %s\n", what);
+    }
+}
+
+#define BYTES(text) (const uint8_t *)(text), strlen(text)
+
+static const struct jt_budget budget = {
+    .fuel = 100000, .output = 65536, .depth = 8, .size = 65536, .nesting = 8};
+static const struct jt_options options = JT_OPTIONS;
+
+/* What a call has answered and written; the rest of the buffer is 'x'. */
+struct result {
+    struct jt_answer answer;
+    uint8_t out[256];
+};
+
+static void clear(struct result *result) { memset(result->out, 'x', sizeof result->out); }
+
+static bool same(const struct result *a, const struct result *b) {
+    return a->answer.status == b->answer.status && a->answer.code == b->answer.code &&
+           a->answer.line == b->answer.line && a->answer.reserved == b->answer.reserved &&
+           a->answer.length == b->answer.length && memcmp(a->out, b->out, sizeof a->out) == 0;
+}
+
+static bool is(struct jt_answer answer, uint32_t status, uint32_t code) {
+    return answer.status == status && answer.code == code;
+}
+
+/* Templates, and the image of `page`. */
+static const char texts[] = "pageHello {{ name }}!listed{% include 'page' %}bad{{ 1 + }}";
+static const struct jt_lengths lengths[] = {{4, 17}, {6, 20}, {3, 9}};
+#define TEMPLATES BYTES(texts), lengths, sizeof lengths / sizeof *lengths
+static uint8_t image[4096];
+static size_t image_length;
+
+static void compile(void) {
+    const struct jt_answer answer =
+        jt_compile(TEMPLATES, BYTES("page"), options, image, sizeof image);
+    expect(is(answer, JT_DONE, 0) && answer.length <= sizeof image, "an image");
+    image_length = answer.length;
+}
+
+static void version(void) {
+    struct result result;
+    clear(&result);
+    const struct jt_answer answer = jt_version(result.out, 256);
+    expect(is(answer, JT_DONE, 0) && answer.length >= strlen(JT_VERSION) &&
+               memcmp(result.out, JT_VERSION, strlen(JT_VERSION)) == 0,
+           "the version of the header");
+    expect(jt_version(result.out, 0).length == answer.length, "the length of the version");
+}
+
+static void empty_handles(void) {
+    struct jt_library library = {0}, other_library = {0};
+    struct jt_image nothing = {0}, other = {0};
+    struct jt_context context = {0};
+    struct jt_outcome outcome = {0};
+    struct result result;
+    expect(is(jt_library_compile(&library, BYTES("page"), options, &nothing, result.out, 256),
+              JT_USAGE, JT_NOT_HELD) &&
+               !nothing.full,
+           "no library to compile from");
+    expect(is(jt_image_save(&nothing, result.out, 256), JT_USAGE, JT_NOT_HELD),
+           "no image to save");
+    expect(is(jt_image_run(&nothing, &context, budget, &outcome, result.out, 256), JT_USAGE,
+              JT_NOT_HELD),
+           "no image and no context");
+    jt_outcome_free(&outcome);
+    expect(is(jt_outcome_read(&outcome, result.out, 256), JT_USAGE, JT_NOT_HELD), "no outcome");
+    expect(jt_image_share(&nothing, &other) == JT_USAGE && !other.full, "no image to share");
+    expect(jt_library_share(&library, &other_library) == JT_USAGE && !other_library.full,
+           "no library to share");
+    for (int i = 0; i < 2; i++) {
+        jt_library_free(&library);
+        jt_image_free(&nothing);
+        jt_context_free(&context);
+        jt_outcome_free(&outcome);
+    }
+    expect(!library.full && !nothing.full && !context.full && !outcome.full,
+           "an empty handle is freed");
+}
+
+/* Checks that the images of a library, and its refusals, are those of jt_compile. */
+static void libraries(void) {
+    const char *entries[] = {"page", "listed", "bad", "none", "\xff"};
+    const struct jt_lengths more = {4, 18};
+    struct jt_library library = {0}, other = {0};
+    struct jt_image made = {0};
+    static uint8_t saved[4096], compiled[4096];
+    struct result a, b;
+    expect(is(jt_library_load(TEMPLATES, &library, a.out, 256), JT_DONE, 0) && library.full,
+           "a library is loaded");
+    for (size_t which = 0; which < sizeof entries / sizeof *entries; which++) {
+        clear(&a);
+        clear(&b);
+        const struct jt_answer usual = jt_compile(TEMPLATES, BYTES(entries[which]), options,
+                                                  compiled, sizeof compiled);
+        a.answer =
+            jt_library_compile(&library, BYTES(entries[which]), options, &made, a.out, 256);
+        expect(library.full, "a library is still there");
+        if (usual.status == JT_DONE) {
+            expect(is(a.answer, JT_DONE, 0) && made.full && a.answer.length == 0,
+                   "a template of a library is compiled");
+            const struct jt_answer save = jt_image_save(&made, saved, sizeof saved);
+            expect(is(save, JT_DONE, 0) && save.length == usual.length &&
+                       memcmp(saved, compiled, save.length) == 0,
+                   "the image of a library is that of the templates");
+            clear(&a);
+            expect(jt_image_save(&made, a.out, 7).length == usual.length && a.out[0] == 'x' &&
+                       made.full,
+                   "an image that is longer than the buffer");
+        } else {
+            b.answer = jt_compile(TEMPLATES, BYTES(entries[which]), options, b.out, 256);
+            expect(same(&a, &b) && !made.full, "a template of a library is refused");
+        }
+    }
+    expect(jt_library_share(&library, &other) == JT_DONE && other.full, "a library is shared");
+    expect(is(jt_library_load(BYTES(texts), &more, 1, &library, a.out, 256), JT_USAGE,
+              JT_LENGTHS) &&
+               !library.full,
+           "lengths that do not fit free the library that was held");
+    expect(is(jt_library_compile(&other, BYTES("page"), options, &made, a.out, 256), JT_DONE, 0),
+           "a shared library outlives its first handle");
+    jt_library_free(&other);
+    expect(is(jt_image_save(&made, saved, sizeof saved), JT_DONE, 0),
+           "an image outlives its library");
+    jt_image_free(&made);
+}
+
+static void refusals(void) {
+    struct jt_image kept = {0};
+    struct jt_context context = {0};
+    struct result a, b;
+    expect(is(jt_image_load(image, image_length, &kept, a.out, 256), JT_DONE, 0) && kept.full,
+           "an image is kept");
+    clear(&a);
+    clear(&b);
+    a.answer = jt_image_load(BYTES("no image"), &kept, a.out, 256);
+    b.answer = jt_check(BYTES("no image"), b.out, 256);
+    expect(a.answer.status == JT_REFUSED && same(&a, &b), "bytes that are no image");
+    expect(!kept.full, "a refusal frees the image that was kept");
+    expect(is(jt_context_load(BYTES("{}"), &context, a.out, 256), JT_DONE, 0) && context.full,
+           "a context is kept");
+    clear(&a);
+    clear(&b);
+    a.answer = jt_context_load(BYTES("[1"), &context, a.out, 256);
+    b.answer = jt_run(image, image_length, BYTES("[1"), budget, b.out, 256);
+    expect(a.answer.status == JT_REFUSED && same(&a, &b), "bytes that are no context");
+    expect(!context.full, "a refusal frees the context that was kept");
+}
+
+/* Checks that a call refuses a handle of another kind, which only a cast passes. */
+static void other_kinds(struct jt_image *kept, struct jt_context *context,
+                        struct jt_outcome *outcome) {
+    struct jt_library library = {0};
+    struct jt_image made = {0};
+    struct jt_outcome other = {0};
+    struct result a;
+    expect(is(jt_outcome_read((struct jt_outcome *)context, a.out, 256), JT_USAGE, JT_NOT_HELD),
+           "a context is no outcome");
+    expect(is(jt_image_run(kept, (struct jt_context *)outcome, budget, &other, a.out, 256),
+              JT_USAGE, JT_NOT_HELD),
+           "an outcome is no context");
+    expect(is(jt_library_compile((struct jt_library *)kept, BYTES("page"), options, &made, a.out,
+                                 256),
+              JT_USAGE, JT_NOT_HELD),
+           "an image is no library");
+    jt_library_load(TEMPLATES, &library, a.out, 256);
+    expect(is(jt_image_run((struct jt_image *)&library, context, budget, &other, a.out, 256),
+              JT_USAGE, JT_NOT_HELD),
+           "a library is no image");
+    expect(is(jt_image_save((struct jt_image *)&library, a.out, 256), JT_USAGE, JT_NOT_HELD),
+           "a library is not saved");
+    expect(library.full && kept->full && context->full && outcome->full,
+           "handles of another kind stay as they are");
+    jt_library_free(&library);
+    jt_outcome_free(&other);
+}
+
+/* Checks that each kept run and each outcome is what jt_run writes into the same buffer. */
+static void runs(void) {
+    const char *contexts[] = {"{\"name\": \"<World>\"}", "{\"name\": []}", "{}", "{\"name\": 7}"};
+    struct jt_image kept = {0};
+    struct jt_context context = {0};
+    struct jt_outcome outcome = {0};
+    struct result a, b;
+    jt_image_load(image, image_length, &kept, a.out, 256);
+    for (size_t which = 0; which < sizeof contexts / sizeof *contexts; which++) {
+        expect(is(jt_context_load(BYTES(contexts[which]), &context, a.out, 256), JT_DONE, 0),
+               "a context replaces a context");
+        for (size_t room = 0; room <= 64; room++) {
+            clear(&a);
+            clear(&b);
+            a.answer = jt_image_run(&kept, &context, budget, &outcome, a.out, room);
+            b.answer = jt_run(image, image_length, BYTES(contexts[which]), budget, b.out, room);
+            expect(same(&a, &b), "a kept run");
+            clear(&a);
+            a.answer = jt_outcome_read(&outcome, a.out, room);
+            expect(same(&a, &b), "an outcome in a buffer of the same length");
+            clear(&a);
+            clear(&b);
+            a.answer = jt_outcome_read(&outcome, a.out, 256);
+            b.answer = jt_run(image, image_length, BYTES(contexts[which]), budget, b.out, 256);
+            expect(same(&a, &b), "an outcome in a longer buffer");
+        }
+    }
+    struct jt_budget less = budget;
+    less.fuel = 1;
+    expect(is(jt_image_run(&kept, &context, less, &outcome, a.out, 256), JT_SPENT, JT_FUEL),
+           "Fuel");
+    expect(is(jt_outcome_read(&outcome, a.out, 256), JT_SPENT, JT_FUEL), "Fuel is kept");
+    other_kinds(&kept, &context, &outcome);
+    jt_context_free(&context);
+    jt_outcome_free(&outcome);
+    jt_image_free(&kept);
+    expect(!context.full && !outcome.full && !kept.full, "handles are freed");
+    jt_context_free(&context);
+    jt_image_free(&kept);
+}
+
+/* Checks that a shared image outlives its first handle, and that a handle may be moved. */
+static void owners(void) {
+    struct jt_image first = {0}, second = {0};
+    struct jt_context context = {0};
+    struct jt_outcome outcome = {0};
+    struct result result;
+    jt_image_load(image, image_length, &first, result.out, 256);
+    expect(jt_image_share(&first, &second) == JT_DONE, "an image is shared");
+    expect(jt_image_share(&first, &second) == JT_DONE, "a shared image is replaced");
+    jt_image_free(&first);
+    struct jt_image *moved = malloc(sizeof *moved);
+    memcpy(moved, &second, sizeof second);
+    memset(&second, 0, sizeof second);
+    jt_context_load(BYTES("{\"name\": 7}"), &context, result.out, 256);
+    expect(is(jt_image_run(moved, &context, budget, &outcome, result.out, 256), JT_DONE, 0),
+           "a moved handle");
+    jt_image_free(moved);
+    jt_context_free(&context);
+    free(moved);
+    const struct jt_answer answer = jt_outcome_read(&outcome, result.out, 256);
+    expect(is(answer, JT_DONE, 0) && answer.length == 8 && memcmp(result.out, "Hello 7!", 8) == 0,
+           "an outcome outlives its image and its context");
+    jt_outcome_free(&outcome);
+}
+
+/* Runs the image of this handle for a context of this thread; returns the number of failures. */
+static void *run_alone(void *handle) {
+    struct jt_image *mine = handle;
+    struct jt_context context = {0};
+    struct jt_outcome outcome = {0};
+    struct result result;
+    size_t failures =
+        jt_context_load(BYTES("{\"name\": \"<World>\"}"), &context, result.out, 256).status !=
+        JT_DONE;
+    for (int i = 0; i < 200; i++) {
+        const struct jt_answer answer =
+            jt_image_run(mine, &context, budget, &outcome, result.out, 256);
+        failures += answer.status != JT_DONE || answer.length != 20 ||
+                    memcmp(result.out, "Hello &lt;World&gt;!", 20) != 0;
+    }
+    jt_context_free(&context);
+    jt_outcome_free(&outcome);
+    jt_image_free(mine);
+    return (void *)failures;
+}
+
+/* Compiles each template of the library of this handle; returns the number of failures. */
+static void *compile_alone(void *handle) {
+    struct jt_library *mine = handle;
+    struct jt_image made = {0};
+    struct result result;
+    size_t failures = 0;
+    for (int i = 0; i < 50; i++) {
+        failures += jt_library_compile(mine, BYTES(i % 2 ? "page" : "listed"), options, &made,
+                                       result.out, 256)
+                        .status != JT_DONE;
+    }
+    jt_image_free(&made);
+    jt_library_free(mine);
+    return (void *)failures;
+}
+
+static void threads_of_a_library(void) {
+    static struct jt_library theirs[4];
+    pthread_t started[4];
+    struct jt_library library = {0};
+    struct result result;
+    jt_library_load(TEMPLATES, &library, result.out, 256);
+    for (int i = 0; i < 4; i++) {
+        expect(jt_library_share(&library, &theirs[i]) == JT_DONE, "a library for a thread");
+        expect(pthread_create(&started[i], NULL, compile_alone, &theirs[i]) == 0, "a thread");
+    }
+    for (int i = 0; i < 4; i++) {
+        void *failures;
+        pthread_join(started[i], &failures);
+        expect(failures == NULL && !theirs[i].full, "compilations of a thread");
+    }
+    /* (The last handle is freed here, because helgrind does not know atomic counts.) */
+    jt_library_free(&library);
+}
+
+static void threads(void) {
+    static struct jt_image theirs[4];
+    pthread_t started[4];
+    struct jt_image kept = {0};
+    struct result result;
+    jt_image_load(image, image_length, &kept, result.out, 256);
+    for (int i = 0; i < 4; i++) {
+        expect(jt_image_share(&kept, &theirs[i]) == JT_DONE, "an image for a thread");
+        expect(pthread_create(&started[i], NULL, run_alone, &theirs[i]) == 0, "a thread");
+    }
+    jt_image_free(&kept);
+    for (int i = 0; i < 4; i++) {
+        void *failures;
+        pthread_join(started[i], &failures);
+        expect(failures == NULL && !theirs[i].full, "runs of a thread");
+    }
+}
+
+int main(void) {
+    compile();
+    version();
+    empty_handles();
+    libraries();
+    refusals();
+    runs();
+    owners();
+    threads();
+    threads_of_a_library();
+    printf("%d passed, %d failed\n", passed, failed);
+    return failed != 0;
+}

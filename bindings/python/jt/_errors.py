@@ -1,0 +1,108 @@
+"""The exceptions of the package. docs/errors.md describes each code, with a remedy.
+
+The arguments of each exception are those of its constructor, so all of them can be pickled.
+"""
+import re
+from typing import Optional
+
+FAULTS = {
+    1: "BadType",
+    2: "Undefined",
+    3: "Overflow",
+    4: "ZeroDivide",
+    5: "Unprintable",
+    6: "NotIterable",
+    7: "Unpack",
+    8: "Range",
+    9: "BadArgument",
+}
+_REASON = re.compile(
+    r"(?P<code>[A-Z]\d+) (?P<name>\w+)(?: in (?P<template>.*) line (?P<line>\d+))?", re.S
+)
+
+
+class JtError(Exception):
+    """The reason why there is no text or no image."""
+
+
+class Fault(JtError):
+    """A fault of the template: `code` and `name`, and `template` and `line` if they are known."""
+
+    number: int
+    code: str
+    name: str
+    template: Optional[str]
+    line: Optional[int]
+
+    def __init__(
+        self, number: int, template: Optional[str] = None, line: Optional[int] = None
+    ) -> None:
+        super().__init__(number, template, line)
+        self.number, self.template, self.line = number, template, line
+        self.code, self.name = f"F{number}", FAULTS.get(number, "Unknown")
+
+    def __str__(self) -> str:
+        place = f" in {self.template} line {self.line}" if self.line else ""
+        return f"fault {self.code} {self.name}{place}"
+
+
+class Spent(JtError):
+    """A number of the budget that did not suffice: `name` is the field of `Budget`."""
+
+    name: str
+
+    def __init__(self, name: str) -> None:
+        super().__init__(name)
+        self.name = name
+
+    def __str__(self) -> str:
+        return f"spent {self.name}"
+
+
+class Refused(JtError):
+    """A template that does not compile, or bytes that are no image or no context.
+
+    `reason` is the line of the program, as `P1 Syntax in page line 2`; `code`, `name`, `template`
+    and `line` are its parts. `entry` is the template that was compiled, if one was.
+    """
+
+    reason: str
+    code: str
+    name: str
+    template: Optional[str]
+    line: Optional[int]
+    entry: Optional[str]
+
+    def __init__(self, reason: str, entry: Optional[str] = None) -> None:
+        super().__init__(reason, entry)
+        self.reason, self.entry = reason, entry
+        found = _REASON.match(reason)
+        self.code, self.name = (found["code"], found["name"]) if found else ("", "")
+        self.template = found["template"] if found else None
+        self.line = int(found["line"]) if found and found["line"] else None
+
+    def __str__(self) -> str:
+        said = self.entry is None or self.template is not None
+        return f"refused {self.reason}" + ("" if said else f", compiling {self.entry}")
+
+
+class ContextError(Refused):
+    """A context that cannot be JSON: `path` names the value, `what` says what it is."""
+
+    path: str
+    what: str
+
+    def __init__(self, reason: str, path: str, what: str) -> None:
+        super().__init__(reason)
+        self.args = (reason, path, what)
+        self.path, self.what = path, what
+
+    def __str__(self) -> str:
+        return f"{self.path}: {self.what}"
+
+
+class NoMemory(JtError, MemoryError):
+    """The library was refused memory."""
+
+    def __str__(self) -> str:
+        return "no memory"

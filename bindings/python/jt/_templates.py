@@ -1,0 +1,207 @@
+"""Templates: from sources to images."""
+import codecs
+import os
+import threading
+from dataclasses import dataclass, fields
+from types import MappingProxyType
+from typing import Dict, Iterator, List, Mapping, Optional, Tuple, Union
+
+from ._contexts import ContextLike
+from ._errors import NoMemory, Refused
+from ._images import Budget, Image
+from ._library import FlagBytes, Lengths, LibraryHandle, library, tell
+
+# A source with more bytes is S7.
+_MOST_BYTES = 1_048_576
+
+
+@dataclass(frozen=True)
+class Options:
+    """How templates are read; the defaults are those of the program `jt`."""
+
+    trim_blocks: bool = False
+    lstrip_blocks: bool = False
+    keep_trailing_newline: bool = False
+    autoescape: bool = True
+
+    def __post_init__(self) -> None:
+        for field in fields(self):
+            value = getattr(self, field.name)
+            if not isinstance(value, bool):
+                raise TypeError(f"{field.name} is no bool: {value!r}")
+
+
+class Templates:
+    """Sources by their names, with options: what `Environment` and its loader are in Jinja.
+
+    The sources are read here, once, and all templates are compiled from them. They are copied, so
+    later changes of the mapping or the folder have no effect. Threads may share the templates.
+    """
+
+    def __init__(self, sources: Mapping[str, str], options: Options = Options()) -> None:
+        if not isinstance(options, Options):
+            raise TypeError(f"the options are no Options: {options!r}")
+        self._sources = dict(sources)
+        self._options = options
+        # (A finalizer or a signal handler may compile in the middle of a call.)
+        self._lock = threading.RLock()
+        # This handle is only shared from: each compilation has one of its own.
+        self._first = LibraryHandle()
+        _load(self._sources, self._first)
+        self._templates: Dict[str, Template] = {}
+
+    @classmethod
+    def from_folder(
+        cls, path: Union[str, "os.PathLike[str]"], options: Options = Options()
+    ) -> "Templates":
+        """Reads a folder and its subfolders. A name is a path in the folder, as `mails/order.txt`.
+
+        Links, files that are not UTF-8, and folders whose names begin with a dot are left out.
+        """
+        return cls(dict(_read_folder(os.fspath(path), "")), options)
+
+    @property
+    def sources(self) -> Mapping[str, str]:
+        """The sources by their names."""
+        return MappingProxyType(self._sources)
+
+    @property
+    def options(self) -> Options:
+        """The options with which the sources are read."""
+        return self._options
+
+    def template(self, name: str) -> "Template":
+        """Returns the template of a name. It is compiled when it is first needed, and kept.
+
+        # Errors
+        `Refused` with the code C1 if there is no such name.
+        """
+        if name not in self._sources:
+            raise Refused("C1 Missing", name)
+        with self._lock:
+            if name not in self._templates:
+                self._templates[name] = Template._of(name, self)
+            return self._templates[name]
+
+    def _image(self, entry: bytes) -> Image:
+        """Compiles a template."""
+        handle, options = LibraryHandle(), self._options
+        with self._lock:
+            if library.jt_library_share(self._first, handle) != 0:
+                raise NoMemory()
+        flags = FlagBytes(*(getattr(options, name) for name, _ in FlagBytes._fields_))
+        return Image._compiled(handle, entry, flags)
+
+    def __repr__(self) -> str:
+        return f"<jt.Templates of {len(self._sources)} sources>"
+
+    def __reduce__(self) -> Tuple[object, ...]:
+        return type(self), (self._sources, self._options)
+
+
+class Template:
+    """A template of a name, with the sources of all that it may reach by their names.
+
+    It is compiled and verified when it is first needed, once. Threads may share it.
+    """
+
+    def __init__(
+        self, entry: str, sources: Mapping[str, str], options: Options = Options()
+    ) -> None:
+        self._start(entry, Templates(sources, options))
+
+    @classmethod
+    def _of(cls, entry: str, templates: Templates) -> "Template":
+        template = cls.__new__(cls)
+        template._start(entry, templates)
+        return template
+
+    def _start(self, entry: str, templates: Templates) -> None:
+        self._entry = _encoded(entry, "the name of the template")
+        self._name = entry
+        self._templates = templates
+        self._lock = threading.RLock()
+        self._image: Optional[Image] = None
+
+    @property
+    def name(self) -> str:
+        """The name of the template."""
+        return self._name
+
+    def compile(self) -> Image:
+        """Returns the image, for many runs. It is the caller's to close.
+
+        # Errors
+        `Refused` for the sources, `NoMemory`.
+        """
+        return self._compiled().share()
+
+    def render(self, context: ContextLike = None, budget: Budget = Budget()) -> str:
+        """Runs the template once and returns its text.
+
+        # Errors
+        Those of `compile` and of `Image.run`.
+        """
+        return self._compiled().run(context, budget)
+
+    def _compiled(self) -> Image:
+        """Returns the image that is kept."""
+        with self._lock:
+            if self._image is not None:
+                return self._image
+            try:
+                self._image = self._templates._image(self._entry)
+                return self._image
+            except Refused as error:
+                reason = error.reason
+        raise Refused(reason, self._name)
+
+    def __repr__(self) -> str:
+        return f"<jt.Template {self._name!r}>"
+
+    def __reduce__(self) -> Tuple[object, ...]:
+        return type(self), (self._name, self._templates._sources, self._templates._options)
+
+
+def _encoded(text: str, what: str) -> bytes:
+    """Returns the UTF-8 of a name or a source."""
+    if not isinstance(text, str):
+        raise TypeError(f"{what} is no str: {text!r:.40}")
+    try:
+        return text.encode()
+    except UnicodeEncodeError as error:
+        at = error.start
+    raise ValueError(f"{what} has a lone surrogate at character {at}")
+
+
+def _load(sources: Mapping[str, str], handle: LibraryHandle) -> None:
+    """Reads sources into a handle."""
+    parts: List[bytes] = []
+    for name, source in sources.items():
+        parts.append(_encoded(name, "the name of a template"))
+        parts.append(_encoded(source, f"the source of {name!r}"))
+    # (An array of no elements has no address.)
+    lengths = (Lengths * max(1, len(sources)))()
+    for at in range(len(sources)):
+        lengths[at] = Lengths(len(parts[2 * at]), len(parts[2 * at + 1]))
+    texts = b"".join(parts)
+    tell(library.jt_library_load, texts, len(texts), lengths, len(sources), handle)
+
+
+def _read_folder(path: str, before: str) -> Iterator[Tuple[str, str]]:
+    """Reads the templates of a folder, with `before` in front of their names."""
+    with os.scandir(path) as entries:
+        for entry in sorted(entries, key=lambda it: it.name):
+            name = before + entry.name
+            if entry.is_dir(follow_symlinks=False) and not entry.name.startswith("."):
+                yield from _read_folder(entry.path, name + "/")
+            elif entry.is_file(follow_symlinks=False):
+                with open(entry.path, "rb") as file:
+                    data = file.read(_MOST_BYTES + 4)
+                try:
+                    name.encode()
+                    # (What is longer is cut: it is S7 either way.)
+                    whole = len(data) <= _MOST_BYTES
+                    yield name, codecs.getincrementaldecoder("utf-8")().decode(data, whole)
+                except UnicodeError:
+                    pass

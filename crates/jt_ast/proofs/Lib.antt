@@ -1,0 +1,5 @@
+pub mod OnlyArgument
+pub mod ExpressionViews
+pub mod CollectedLists
+pub mod RemainingParts
+pub mod StatementViews

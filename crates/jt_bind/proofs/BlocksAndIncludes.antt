@@ -1,0 +1,98 @@
+-- Blocks at their tags, and includes.
+use Rattle.std.proofs.Common.{◌≡◌, ℕ, suc, ◌+◌, List, [], ◌∷◌, ◌++◌, length, map, flat_map, refl, sym, ap, ◌∙◌, subst}
+use Rattle.std.proofs.Common.{Bool, true, false, Option, Some, None, length-append, append_assoc, arith, rules}
+use Rattle.std.specs.Prelude.{if◌then◌else◌, option_map, ◌||◌}
+use Rattle.std.specs.Option.{is_none}
+use Rattle.std.specs.Str.{bytes_eq}
+use Rattle.jt_value.specs.Tree.{Tree}
+use Rattle.jt_ast.specs.Statements as trees
+use Rattle.jt_ast.specs.Expressions.{Text}
+use Rattle.jt_chains.specs.Chain.{Namespace, a_chain, a_library, same_namespace, listed}
+use Rattle.jt_rules.specs.CompileEnv.{CompileEnv}
+use Rattle.jt_ir.specs.Slots as slots
+use Rattle.jt_semantics.specs.Layout.{Key, of_chain, of_body, same_key, place_of, entry_keys, chain_keys, names}
+use Rattle.jt_semantics.specs.Layout.{names_in, first_slot, unit, block_parameters, Table}
+use Rattle.jt_semantics.specs.Resolve.{StaticEnv, place, left_out, followed, alone, handed_on, reads, placed_body}
+use Rattle.jt_bind.specs.internal.Chains.{Chains}
+use Rattle.jt_bind.specs.internal.Scoped.{RowLeads, cenv_in, order_in, senv_in}
+use Rattle.jt_bind.specs.declared.senv.StaticEnv as code_senv
+use Rattle.jt_bind.specs.internal.Stated.{line_in, stmt_in}
+use Rattle.jt_ir.proofs.ExpressionViews.{Entry}
+
+pub no_row : (es : List Entry) → es ≡ [] → (p : List Tree) → RowLeads slots.none slots.none [] es p p
+no_row es e p =
+    let P : List Entry → Type 0 = λ l. RowLeads slots.none slots.none [] l p p in
+    subst P (sym e) (record { shown = refl; pooled = refl })
+
+-- ---- chains that are not in the order
+
+neither : (a b : Bool) → (a || b) ≡ false → (a ≡ false) × (b ≡ false)
+neither true b e = absurd (cc e)
+neither false b e = (refl, e)
+
+if_true : {A : Type 0} (b : Bool) (x y : A) → b ≡ true → (if b then x else y) ≡ x
+if_true true x y e = refl
+if_true false x y e = absurd (cc e)
+
+if_false : {A : Type 0} (b : Bool) (x y : A) → b ≡ false → (if b then x else y) ≡ y
+if_false true x y e = absurd (cc e)
+if_false false x y e = refl
+
+pub absent_names : (cenv : CompileEnv) (ks : List Namespace) (h : Namespace) → listed h ks ≡ false
+    → names_in cenv ks h ≡ []
+absent_names cenv [] h e = refl
+absent_names cenv (k ∷ ks) h e = search (arith, rules, neither, if_false, flat_map, absent_names cenv ks h)
+
+-- A key that differs from all of these comes after them.
+mapped_past : {A : Type 0} (f : A → Key) (k : Key) → ((a : A) → same_key (f a) k ≡ false)
+    → (xs : List A) (ys : List Key) → place_of k (map f xs ++ ys) ≡ length (map f xs) + place_of k ys
+mapped_past f k h [] ys = omega arith
+mapped_past f k h (x ∷ xs) ys = search (arith, rules, mapped_past f k h xs ys)
+
+entry_past : (cenv : CompileEnv) (k : Namespace) (x : Text) (ys : List Key) → same_namespace k (a_chain x) ≡ false
+    → place_of (of_chain x) (entry_keys cenv k ++ ys) ≡ length (entry_keys cenv k) + place_of (of_chain x) ys
+entry_past cenv (a_chain n) x ys e = if_false (bytes_eq n x) 0 (suc (place_of (of_chain x) ys)) e ∙ omega arith
+entry_past cenv (a_library n) x ys e = omega arith
+
+pub absent_unit : (cenv : CompileEnv) (ks : List Namespace) (x : Text) → listed (a_chain x) ks ≡ false
+    → place_of (of_chain x) (flat_map (chain_keys cenv) ks) ≡ length (flat_map (chain_keys cenv) ks)
+absent_unit cenv [] x e = refl
+absent_unit cenv (k ∷ ks) x e =
+    search
+    (arith, rules, neither, flat_map, absent_unit cenv ks x, mapped_past, entry_past, append_assoc, length-append)
+
+-- ---- statements
+
+pub include_shown : (s : Chains) (senv : code_senv.StaticEnv) (line : ℕ) (x : Text) (missing context : Bool) (n : ℕ)
+    (xs : List Text) (u : ℕ)
+    → is_none ((cenv_in s).sources x) ≡ false
+    → n ≡ first_slot (cenv_in s) (order_in s) (a_chain x) → xs ≡ names (cenv_in s) (order_in s) (a_chain x)
+    → u ≡ unit (cenv_in s) (order_in s) (of_chain x)
+    → followed (handed_on (line_in s senv line) (if context then (senv_in s senv).table else []) n xs)
+    (alone (slots.run u slots.none))
+    ≡ stmt_in s (trees.include line x missing context) senv
+include_shown s senv line x missing context n xs u there e f g = search (arith, rules, if_false)
+
+-- An include of a name without a source.
+pub include_missing : (s : Chains) (senv : code_senv.StaticEnv) (line : ℕ) (x : Text) (missing context : Bool)
+    → is_none ((cenv_in s).sources x) ≡ true
+    → left_out (senv_in s senv) line missing ≡ stmt_in s (trees.include line x missing context) senv
+include_missing s senv line x missing context none = search (arith, rules, if_true)
+
+pub block_run : (cenv : CompileEnv) (order : List Namespace) (sp : StaticEnv) (found : Option ℕ) (x : Text)
+    (table : Table) (u : ℕ)
+    → Some u ≡ option_map (λ j. unit cenv order (of_body sp.namespace j)) found
+    → alone (slots.run u (reads table (block_parameters cenv order sp.namespace x)))
+    ≡ placed_body cenv order sp found x table
+block_run cenv order sp None x table u e = absurd (cc e)
+block_run cenv order sp (Some i) x table u e =
+    let same : u ≡ unit cenv order (of_body sp.namespace i) = cc e in
+    ap (λ n. alone (slots.run n (reads table (block_parameters cenv order sp.namespace x)))) same
+
+-- A block without a body.
+pub block_absent : (cenv : CompileEnv) (order : List Namespace) (sp : StaticEnv) (found : Option ℕ) (x : Text)
+    (table : Table)
+    → None ≡ option_map (λ j. unit cenv order (of_body sp.namespace j)) found
+    → alone (slots.print (place sp 1) sp.escaping slots.absent) ≡ placed_body cenv order sp found x table
+block_absent cenv order sp None x table e = refl
+block_absent cenv order sp (Some i) x table e = absurd (cc e)

@@ -1,0 +1,24 @@
+-- A program by its parts.
+use Rattle.std.proofs.Common.{◌≡◌, ℕ, List, [], map, string_bytes, arith, rules}
+use Rattle.jt_value.specs.Tree.{Tree}
+use Rattle.jt_ast.specs.Expressions.{Text}
+use Rattle.jt_chains.specs.Chain.{Namespace}
+use Rattle.jt_rules.specs.CompileEnv.{CompileEnv}
+use Rattle.jt_semantics.specs.Layout as layout
+use Rattle.jt_semantics.specs.Programs as programs
+use Rattle.jt_ir.specs.Slots as slots
+use Rattle.jt_ir.specs.View.{program_of, templates_of}
+use Rattle.jt_ir.specs.declared.program.Program.{Program}
+use Rattle.jt_bind.specs.internal.Scoped.{values}
+use Rattle.jt_bind.specs.internal.Routines.{AreRoutines}
+
+abbrev made : List Text → ℕ → List Tree → List (slots.Routine ℕ) → slots.Program
+made names globals pool routines = record { names = names; globals = globals; pool = pool; routines = routines }
+
+module _ (cenv : CompileEnv) (order : List Namespace) (entry : Namespace) (ts : List Text) (p : Program) where
+  pub program_is : templates_of p ≡ ts → map string_bytes p.names.items ≡ layout.names cenv order entry
+      → p.globals ≡ programs.count_globals cenv order order
+      → (front : List Tree) → front ≡ layout.shared cenv order
+      → AreRoutines ts (programs.routines cenv order) [] p.routines.items front (values p.pool)
+      → program_of p ≡ programs.program cenv order entry
+  program_is templates names globals front shared r = search (arith, rules)

@@ -1,0 +1,57 @@
+-- Parameters that no positional argument fills.
+use Rattle.std.proofs.Common.{◌≡◌, ℕ, zero, suc, ◌+◌, List, [], ◌∷◌, drop, length, ◌<◌, get_or, refl, sym, ap, ◌∙◌}
+use Rattle.std.proofs.Common.{arith, Bool, true, false, if◌then◌else◌}
+use Rattle.std.proofs.lemmas.List.{drop-map, drop_more}
+use Rattle.jt_ast.specs.Expressions.{Text}
+use Rattle.jt_ast.specs.StatementView.{parameter_view, parameters_view}
+use Rattle.jt_ast.specs.declared.statement.Parameter.{Parameter}
+use Rattle.jt_ast.specs.Statements as trees
+use Rattle.jt_eval.specs.Filters.{some_given, default_value}
+use Rattle.jt_ir.specs.Pool.{own}
+use Rattle.jt_ir.specs.Slots as slots
+use Rattle.jt_semantics.specs.Layout.{Table, slot_in}
+use Rattle.jt_semantics.specs.Resolve.{value_or, filled, filled_some}
+
+-- The parameters after those that positional arguments fill.
+pub filled_behind : (ps : List trees.Parameter) (g d : ℕ) (ks : Table)
+    → filled ps g d ks ≡ filled (drop g ps) 0 (d + g) ks
+filled_behind ps zero d ks = ap (λ n. filled ps 0 n ks) (omega arith)
+filled_behind [] (suc g) d ks = refl
+filled_behind (p ∷ ps) (suc g) d ks = filled_behind ps g (suc d) ks ∙ ap (λ n. filled (drop g ps) 0 n ks) (omega arith)
+
+pub filled_some_behind : (ps : List trees.Parameter) (g : ℕ) (xs : List Text) (ks : Table)
+    → filled_some ps g xs ks ≡ filled_some (drop g ps) 0 xs ks
+filled_some_behind ps zero xs ks = refl
+filled_some_behind [] (suc g) xs ks = refl
+filled_some_behind (p ∷ ps) (suc g) xs ks = filled_some_behind ps g xs ks
+
+-- If no parameter is given by keyword, no more is filled.
+pub none_filled : (ps : List trees.Parameter) (xs : List Text) (ks : Table) → some_given ps xs ≡ false
+    → filled_some ps 0 xs ks ≡ slots.none
+none_filled [] xs ks e = refl
+none_filled (p ∷ ps) xs ks e =
+    ap (λ (b : Bool). if b
+    then slots.item (value_or (slot_in p.name ks) (own (default_value p.default))) (filled_some ps 0 xs ks)
+    else slots.none) e
+
+-- A parameter is filled if it, or one after it, is given by keyword.
+pub one_filled : (p : trees.Parameter) (ps : List trees.Parameter) (xs : List Text) (ks : Table)
+    → some_given (p ∷ ps) xs ≡ true
+    → filled_some (p ∷ ps) 0 xs ks
+    ≡ slots.item (value_or (slot_in p.name ks) (own (default_value p.default))) (filled_some ps 0 xs ks)
+one_filled p ps xs ks e =
+    ap (λ (b : Bool). if b
+    then slots.item (value_or (slot_in p.name ks) (own (default_value p.default))) (filled_some ps 0 xs ks)
+    else slots.none) e
+
+-- The remaining parameters.
+pub parameters_left : (ps : List Parameter) (i : ℕ) (p : Parameter) → i < length ps → p ≡ get_or ps i p
+    → parameters_view (drop i ps) ≡ parameter_view p ∷ parameters_view (drop (i + 1) ps)
+parameters_left ps i p lt is =
+    ap parameters_view (drop_more ps i p lt)
+    ∙ ap (λ (z : Parameter). parameter_view z ∷ parameters_view (drop (i + 1) ps)) (sym is)
+
+-- The parameters after the first g ones.
+pub parameters_behind : (ps qs : List Parameter) (g : ℕ) → qs ≡ drop g ps
+    → drop g (parameters_view ps) ≡ parameters_view qs
+parameters_behind ps qs g e = drop-map parameter_view g ps ∙ ap parameters_view (sym e)

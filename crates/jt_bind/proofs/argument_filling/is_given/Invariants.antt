@@ -1,0 +1,9 @@
+use Rattle.std.proofs.Common.{◌≡◌, drop}
+use Rattle.jt_ast.specs.ExpressionView.{pairs_view}
+use Rattle.jt_chains.specs.Uses.{keywords}
+use Rattle.jt_ast.specs.Texts.{among}
+use Rattle.jt_bind.proofs.argument_filling.is_given.Given as goal
+
+abbrev pub invariant-loop-key : goal.invariant-loop-key
+invariant-loop-key l =
+    among l.name (keywords (pairs_view (drop l.key-index l.pairs))) ≡ among l.name (keywords (pairs_view l.pairs))

@@ -1,0 +1,11 @@
+use Rattle.std.proofs.Common.{◌≡◌, drop}
+use Rattle.jt_ast.specs.ExpressionView.{pairs_view}
+use Rattle.jt_chains.specs.Uses.{keywords}
+use Rattle.jt_ast.specs.StatementView.{parameters_view}
+use Rattle.jt_eval.specs.Filters.{some_given}
+use Rattle.jt_bind.proofs.argument_filling.is_some_given.Given as goal
+
+abbrev pub invariant-loop-parameter : goal.invariant-loop-parameter
+invariant-loop-parameter l =
+    some_given (parameters_view (drop l.parameter-index l.parameters)) (keywords (pairs_view l.pairs))
+    ≡ some_given (parameters_view l.parameters) (keywords (pairs_view l.pairs))

@@ -1,8 +1,0 @@
-use Rattle.std.proofs.Common.{◌≡◌, drop}
-use Rattle.jt_trees.specs.ExpressionView.{pairs_view}
-use Rattle.jt_chains.specs.Uses.{keywords}
-use Rattle.jt_trees.specs.Texts.{among}
-use Rattle.jt_bind.proofs.filling.is_given.Given as goal
-
-abbrev pub invariant-loop-key : goal.invariant-loop-key
-invariant-loop-key l = among l.name (keywords (pairs_view (drop l.key-index l.pairs))) ≡ among l.name (keywords (pairs_view l.pairs))

@@ -1,4 +1,0 @@
-use Rattle.jt_bind.proofs.forms.turned.Goals as goal
-
-pub returns-then-negated : goal.returns-then-negated
-returns-then-negated c = rw c.if-negated.true c.on_one.ensures

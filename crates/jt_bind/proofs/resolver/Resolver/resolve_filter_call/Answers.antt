@@ -1,0 +1,43 @@
+use Rattle.std.proofs.Common.{◌≡◌, ℕ, List, map, take, sym, ap, ◌∙◌, subst, Option, None, arith, rules}
+use Rattle.std.specs.Prelude.{option_map}
+use Rattle.std.proofs.lemmas.List.{take_at, take-map}
+use Rattle.jt_value.specs.Tree.{Tree}
+use Rattle.jt_value.specs.View.{view}
+use Rattle.jt_ast.specs.Expressions as trees
+use Rattle.jt_ast.specs.ExpressionView.{exprs_view, pairs_view}
+use Rattle.jt_ids.specs.FilterTable.{filter_id}
+use Rattle.jt_ast.specs.Expressions.{Text}
+use Rattle.jt_ast.specs.StatementView.{filter_call_view}
+use Rattle.jt_ir.specs.Pool.{expr_values}
+use Rattle.jt_eval.specs.TheFilters as the
+use Rattle.jt_ir.specs.View.{expr_view}
+use Rattle.jt_bind.specs.internal.Scoped.{values, IsPlaced, cenv_in, filtered_in}
+use Rattle.jt_bind.proofs.FilterIds.{named_is}
+use Rattle.jt_bind.proofs.resolver.Resolver.resolve_filter_call.Goals as goal
+
+-- Filter calls with equal names and equal arguments are equal.
+written_as : {x y : Text} {ts us : trees.Exprs} {ps qs : trees.Pairs} → x ≡ y → ts ≡ us → ps ≡ qs
+    → the.filter_written x ts ps ≡ the.filter_written y us qs
+written_as {y = y} {ts = ts} {us = us} {ps = ps} e f g =
+    ap (λ z. the.filter_written z ts ps) e ∙ ap (λ z. the.filter_written y z ps) f ∙ ap (the.filter_written y us) g
+
+pub returns-in_default : goal.returns-in_default
+returns-in_default c = λ k p n h.
+    let s = c.args.self.now.tables.now in
+    let f = filter_call_view c.args.filter_call.now in
+    let row : exprs_view c.as_slice-row.result.now ≡ f.arguments = ap exprs_view c.as_slice-row.ensures.value in
+    let pairs : pairs_view c.as_slice-pairs.result.now ≡ f.keywords = ap pairs_view c.as_slice-pairs.ensures.value in
+    let written = written_as c.as_str.ensures.value row pairs in
+    let named : (cenv_in s).filters.named f.name f.arguments f.keywords ≡ None = named_is f.name f.arguments f.keywords
+    ∙ ap (option_map filter_id) (sym written ∙ sym c.filter_of.ensures ∙ c.in_default.is) in
+    let P : Option ℕ → Type 0 = λ o. IsPlaced (filtered_in s o k f.arguments f.keywords c.args.self.now.senv)
+    (expr_view c.absent.result) p (values c.truncate.new.self) in
+    let Q : List Tree → Type 0 =
+    λ r. IsPlaced (filtered_in s None k f.arguments f.keywords c.args.self.now.senv) (expr_view c.absent.result) p r in
+    let cut : p ≡ values c.truncate.new.self =
+    sym (take_at p (expr_values k) c.args.start n) ∙ ap (take c.args.start) (sym h.pooled)
+    ∙ take-map view c.args.start c.args.pool.now.items ∙ ap (map view) (sym c.truncate.ensures.items) in
+    subst P (sym named) (subst Q cut (c.absent.ensures p))
+
+pub returns : goal.returns
+returns c = search (arith, rules, written_as, named_is)

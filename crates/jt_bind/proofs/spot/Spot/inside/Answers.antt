@@ -1,4 +1,0 @@
-use Rattle.jt_bind.proofs.spot.Spot.inside.Goals as goal
-
-pub returns : goal.returns
-returns c = λ names scope h. h scope c.deref.result c.deref.ensures.value

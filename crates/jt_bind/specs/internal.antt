@@ -1,0 +1,9 @@
+pub mod Callees
+pub mod Chains
+pub mod Counts
+pub mod Formed
+pub mod Names
+pub mod Resolving
+pub mod Routines
+pub mod Scoped
+pub mod Stated

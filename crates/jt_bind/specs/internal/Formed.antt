@@ -1,0 +1,19 @@
+-- The form of an operator in the code, and counts as values. Only private clauses cite this module.
+use Rattle.std.specs.Prelude.{◌≡◌, ℕ, ◌≤◌, ◌^◌, Result, Ok, Err, pos}
+use Rattle.jt_value.specs.Tree as tree
+use Rattle.jt_value.specs.View.{view}
+use Rattle.jt_value.specs.declared.value.Value.{Value}
+use Rattle.jt_semantics.specs.Operators as operators
+use Rattle.jt_bind.specs.declared.operator_forms.OperatorForm.{OperatorForm}
+use Rattle.jt_bind.specs.declared.operator_forms.OperatorForm.TheVariants as f
+
+abbrev pub form_view : OperatorForm → operators.OperatorForm
+form_view (f.Operation o) = operators.operation o
+form_view (f.Negation o) = operators.negation o
+form_view f.Conjunction = operators.conjunction
+form_view f.Disjunction = operators.disjunction
+
+-- The count as a value, or an error if it exceeds the numbers of the language.
+abbrev pub IsNumber : {E : Type 0} → ℕ → Result Value E → Type 0
+IsNumber n (Ok v) = view v ≡ tree.number (pos n)
+IsNumber n (Err e) = 2 ^ 63 ≤ n

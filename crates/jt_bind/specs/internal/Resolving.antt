@@ -1,0 +1,208 @@
+-- The resolved parts of a chain in the environment of a resolver, and the parts that it appends.
+-- Only private clauses cite this module.
+use Rattle.std.specs.Prelude.{ℕ, Bool, List, length, Option, Vec}
+use Rattle.std.specs.declared.alloc.Global.{Global}
+use Rattle.jt_value.specs.Tree.{Tree}
+use Rattle.jt_value.specs.Place as place
+use Rattle.jt_value.specs.declared.value.Value.{Value}
+use Rattle.jt_ast.specs.Expressions as expressions
+use Rattle.jt_ast.specs.Expressions.{Text}
+use Rattle.jt_ast.specs.ExpressionView.{expr_view, exprs_view, pairs_view}
+use Rattle.jt_ast.specs.Statements as trees
+use Rattle.jt_ast.specs.StatementView.{parameters_view, body_view}
+use Rattle.jt_ast.specs.declared.statement.Branch.{Branch}
+use Rattle.jt_ast.specs.declared.statement.Parameter.{Parameter}
+use Rattle.jt_ast.specs.declared.statement.Stmt.{Stmt}
+use Rattle.jt_chains.specs.Chain as chain
+use Rattle.jt_chains.specs.Uses.{keywords}
+use Rattle.jt_ir.specs.Pool.{Constant}
+use Rattle.jt_ir.specs.Slots as slots
+use Rattle.jt_ir.specs.Slots.{SBody, SRow}
+use Rattle.jt_ir.specs.declared.program.SlotBranch.{SlotBranch}
+use Rattle.jt_ir.specs.declared.program.SlotExpr.{SlotExpr}
+use Rattle.jt_ir.specs.declared.program.SlotStmt.{SlotStmt}
+use Rattle.jt_semantics.specs.Layout.{Table}
+use Rattle.jt_semantics.specs.Resolve as resolve
+use Rattle.jt_semantics.specs.Resolve.{locals_from}
+use Rattle.jt_bind.specs.declared.callee.Signature.{Signature}
+use Rattle.jt_bind.specs.declared.emission.Turns.{Turns}
+use Rattle.jt_bind.specs.declared.resolver.Arguments.{Arguments}
+use Rattle.jt_bind.specs.declared.resolver.Resolver.{Resolver}
+use Rattle.jt_bind.specs.internal.Scoped.{values, IsAdded, PutsNone, RowLeads, cenv_in, order_in, senv_in, templates_in}
+use Rattle.jt_bind.specs.internal.Scoped.{expr_in, row_in, asides_in, entries_in, filtered_in}
+use Rattle.jt_bind.specs.internal.Stated.{IsBody, IsBranch, AreTurns, Puts, BodyLed, line_in, stmt_in, body_in}
+use Rattle.jt_bind.specs.internal.Stated.{scoped_in, layer_at, values_in, condition_in}
+
+-- A part of a list is appended, and its values to a pool; the part `left` remains.
+abbrev pub RowAdds : SRow Constant → SRow Constant → Vec (Option ℕ × SlotExpr) Global
+    → Vec (Option ℕ × SlotExpr) Global → Vec Value Global → Vec Value Global → Type 0
+RowAdds whole left before after old new =
+    RowLeads whole left before.items after.items (values old) (values new)
+
+-- A whole list is appended, whatever follows it.
+abbrev pub RowPuts : (SRow Constant → SRow Constant) → Vec (Option ℕ × SlotExpr) Global
+    → Vec (Option ℕ × SlotExpr) Global → Vec Value Global → Vec Value Global → Type 0
+RowPuts whole before after old new =
+    (left : SRow Constant) → RowAdds (whole left) left before after old new
+
+-- The positional and the keyword arguments of a call.
+abbrev pub by_place : Arguments → expressions.Exprs
+by_place a = exprs_view a.row.now
+
+abbrev pub by_name : Arguments → expressions.Pairs
+by_name a = pairs_view a.pairs.now
+
+module _ (r : Resolver) where
+  -- ---- the environment of the resolver
+
+  abbrev pub templates_of : List Text
+  templates_of = templates_in r.tables.now
+
+  abbrev pub senv_of : resolve.StaticEnv
+  senv_of = senv_in r.tables.now r.senv
+
+  -- The slots of the names that are visible.
+  abbrev pub table_of : Table
+  table_of = (senv_in r.tables.now r.senv).table
+
+  -- The place of a tag.
+  abbrev pub line_of : ℕ → place.Place
+  line_of line = line_in r.tables.now r.senv line
+
+  -- The locals that hold the keyword arguments.
+  abbrev pub kept_of : expressions.Pairs → Table
+  kept_of ps = locals_from r.senv.free (keywords ps)
+
+  -- ---- expressions
+
+  abbrev pub expr_of : expressions.Expr → slots.SlotExpr Constant
+  expr_of t = expr_in r.tables.now t r.senv
+
+  -- The resolved expression, with the values that it appends to a pool.
+  abbrev pub IsResolved : expressions.Expr → SlotExpr → Vec Value Global → Vec Value Global → Type 0
+  IsResolved t e old new = IsAdded (expr_of t) e old new
+
+  abbrev pub row_of : expressions.Exprs → SRow Constant → SRow Constant
+  row_of ts left = row_in r.tables.now ts r.senv left
+
+  abbrev pub asides_of : expressions.Pairs → SRow Constant → SRow Constant
+  asides_of ps left = asides_in r.tables.now ps r.senv left
+
+  -- The positional arguments, followed by the keyword arguments.
+  abbrev pub given_of : Arguments → SRow Constant → SRow Constant
+  given_of a left = row_of (by_place a) (asides_of (by_name a) left)
+
+  abbrev pub entries_of : expressions.Pairs → SRow Constant
+  entries_of ps = entries_in r.tables.now ps r.senv
+
+  -- The values of a macro's parameters after the positional ones, and all arguments of its call.
+  abbrev pub filled_of : Signature → Arguments → SRow Constant
+  filled_of s a =
+      resolve.filled (parameters_view s.parameters.now) (length a.row.now) s.first_default
+      (kept_of (by_name a))
+
+  abbrev pub called_of : Signature → Arguments → SRow Constant
+  called_of s a = given_of a (filled_of s a)
+
+  -- The values of a filter's parameters after the positional ones.
+  abbrev pub some_filled_of : List Parameter → Arguments → SRow Constant
+  some_filled_of ps a =
+      resolve.filled_some (parameters_view ps) (length a.row.now) (keywords (by_name a))
+      (kept_of (by_name a))
+
+  -- The call of a block, whatever its arguments are, and the call of the next body of the current
+  -- block.
+  abbrev pub IsBlock : Text → SlotExpr → Type 0
+  IsBlock x e =
+      (row asides : SRow Constant → SRow Constant) (n : ℕ) (ks : Table)
+      → PutsNone (resolve.invoked (cenv_in r.tables.now) (order_in r.tables.now)
+      (chain.a_block x) senv_of row asides n ks) e
+
+  abbrev pub super_of : slots.SlotExpr Constant
+  super_of =
+      resolve.invoked_super (cenv_in r.tables.now) (order_in r.tables.now) senv_of senv_of.part
+
+  abbrev pub filtered_of : Option ℕ → slots.SlotExpr Constant → expressions.Exprs
+      → expressions.Pairs → slots.SlotExpr Constant
+  filtered_of f c ts ps = filtered_in r.tables.now f c ts ps r.senv
+
+  -- One filter of a filter tag, and all of them.
+  abbrev pub filter_call_of : trees.FilterCall → slots.SlotExpr Constant → slots.SlotExpr Constant
+  filter_call_of f c =
+      filtered_of ((cenv_in r.tables.now).filters.named f.name f.arguments f.keywords) c
+      f.arguments f.keywords
+
+  abbrev pub filter_calls_of : List trees.FilterCall → slots.SlotExpr Constant
+      → slots.SlotExpr Constant
+  filter_calls_of fs c =
+      resolve.resolved_filters (cenv_in r.tables.now) (order_in r.tables.now) fs senv_of c
+
+  -- ---- statements
+
+  abbrev pub stmt_of : trees.Stmt → SBody Constant
+  stmt_of t = stmt_in r.tables.now t r.senv
+
+  abbrev pub body_of : trees.Body → SBody Constant
+  body_of b = body_in r.tables.now b r.senv
+
+  abbrev pub scoped_of : trees.Body → resolve.StaticEnv → SBody Constant
+  scoped_of b sp = scoped_in r.tables.now b sp
+
+  -- The environment inside a scope with these names, and the terms that are resolved there.
+  abbrev pub inside_of : List Text → resolve.StaticEnv
+  inside_of xs = resolve.bound_all xs senv_of
+
+  abbrev pub condition_of : Option expressions.Expr → resolve.StaticEnv
+      → Option (slots.SlotExpr Constant)
+  condition_of k sp = condition_in r.tables.now k sp
+
+  -- The statements of a body that set names.
+  abbrev pub sets_of : trees.Body → SBody Constant
+  sets_of b = resolve.resolved_sets (cenv_in r.tables.now) (order_in r.tables.now) b senv_of
+
+  -- A routine with these parameters.
+  abbrev pub routine_of : List Text → trees.Body → slots.Routine Constant
+  routine_of xs b =
+      resolve.resolved_routine (cenv_in r.tables.now) (order_in r.tables.now) xs b senv_of
+
+  -- A template of a chain: all statements of the root, and only those that set names of any other
+  -- template.
+  abbrev pub layer_of : trees.Body → Bool → SBody Constant
+  layer_of b is_root = layer_at r.tables.now senv_of b is_root
+
+  abbrev pub values_of : expressions.Pairs → ℕ → SBody Constant → SBody Constant
+  values_of ps line behind = values_in r.tables.now ps r.senv line behind
+
+  -- The statements of a body, and the values that they append to a pool.
+  abbrev pub BodyIs : SBody Constant → Vec SlotStmt Global → Vec Value Global → Vec Value Global
+      → Type 0
+  BodyIs whole made old new = IsBody templates_of whole made.items (values old) (values new)
+
+  -- A branch of an `if`.
+  abbrev pub BranchIs : Branch Stmt → SlotBranch SlotStmt → Vec Value Global → Vec Value Global
+      → Type 0
+  BranchIs b made old new =
+      IsBranch templates_of (line_of b.line) (expr_of (expr_view b.condition))
+      (body_of (body_view b.body.items)) made (values old) (values new)
+
+  -- The items of a loop whose targets have these names, its condition and its body.
+  abbrev pub TurnsAre : List Text → expressions.Expr → Option expressions.Expr → trees.Body → Turns
+      → Vec Value Global → Vec Value Global → Type 0
+  TurnsAre xs e k b made old new =
+      AreTurns r.tables.now (resolve.fresh_targets r.senv.free xs) (expr_of e)
+      (condition_of k (inside_of xs)) (scoped_of b (inside_of xs)) made (values old) (values new)
+
+  -- All statements of a body are appended, and its values to a pool.
+  abbrev pub BodyAdds : SBody Constant → Vec SlotStmt Global → Vec SlotStmt Global
+      → Vec Value Global → Vec Value Global → Type 0
+  BodyAdds whole before after old new = BodyLed r.tables.now whole before after old new
+
+  -- The resolved statement is appended, and its values to a pool.
+  abbrev pub StmtAdds : trees.Stmt → Vec SlotStmt Global → Vec SlotStmt Global → Vec Value Global
+      → Vec Value Global → Type 0
+  StmtAdds t before after old new = BodyAdds (stmt_of t) before after old new
+
+  -- The resolved statement is appended, and its values to a list.
+  abbrev pub StmtLeads : trees.Stmt → Vec SlotStmt Global → Vec SlotStmt Global → List Tree
+      → List Tree → Type 0
+  StmtLeads t before after p q = Puts r.tables.now (stmt_of t) before after p q

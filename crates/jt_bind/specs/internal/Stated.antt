@@ -1,0 +1,141 @@
+-- The resolved statements of a chain, by the layouts in the code and with the places of the pool
+-- that is filled. Only private clauses cite this module.
+use Rattle.std.specs.Prelude.{◌≡◌, ℕ, Bool, ◌+◌, List, [], ◌++◌, map, length, Option, Some, None, option_map, Vec}
+use Rattle.std.specs.Prelude.{if◌then◌else◌, ◌==◌}
+use Rattle.std.specs.declared.alloc.Global.{Global}
+use Rattle.jt_value.specs.Tree.{Tree}
+use Rattle.jt_value.specs.declared.value.Value.{Value}
+use Rattle.jt_ast.specs.Statements as trees
+use Rattle.jt_ast.specs.Expressions.{Text}
+use Rattle.jt_ast.specs.Statements.{Branches}
+use Rattle.jt_ast.specs.Expressions as expressions
+use Rattle.jt_chains.specs.Chain.{Template}
+use Rattle.jt_chains.specs.Layers.{layer_view}
+use Rattle.jt_chains.specs.Uses.{set_in}
+use Rattle.jt_chains.specs.View.{chain_view}
+use Rattle.jt_chains.specs.declared.layers.Layer.{Layer}
+use Rattle.jt_value.specs.Place as place
+use Rattle.jt_ir.specs.Pool.{Constant, condition_values, body_values, placed_condition, placed_body}
+use Rattle.jt_ir.specs.Slots as slots
+use Rattle.jt_ir.specs.Slots.{SBody}
+use Rattle.jt_ir.specs.View.{Front, place_view, targets_view, expr_view, choice_view}
+use Rattle.jt_ir.specs.declared.program.SlotExpr.{SlotExpr}
+use Rattle.jt_ir.specs.declared.program.SlotBranch.{SlotBranch}
+use Rattle.jt_ir.specs.declared.program.SlotStmt.{SlotStmt}
+use Rattle.jt_semantics.specs.Resolve as resolve
+use Rattle.jt_semantics.specs.Resolve.{followed}
+use Rattle.jt_bind.specs.internal.Chains.{Chains}
+use Rattle.jt_bind.specs.declared.emission.Turns.{Turns}
+use Rattle.jt_bind.specs.declared.senv.StaticEnv.{StaticEnv}
+use Rattle.jt_bind.specs.internal.Scoped.{values, IsPlaced, BodyLeads, cenv_in, order_in, namespace_in, senv_in}
+use Rattle.jt_bind.specs.internal.Scoped.{templates_in}
+
+-- ---- the values at the end of a pool that grows from one list of values to another
+
+-- All statements of a body are appended, whatever follows them.
+abbrev pub Led : List Text → SBody Constant → List SlotStmt → List SlotStmt → List Tree → List Tree
+    → Type 0
+Led templates whole before after old new =
+    (left : SBody Constant) → BodyLeads templates (followed whole left) left before after old new
+
+-- The statements of a body.
+abbrev pub IsBody : List Text → SBody Constant → List SlotStmt → List Tree → List Tree → Type 0
+IsBody templates whole = Led templates whole []
+
+-- A condition, if there is one.
+pub record IsAsked (k : Option (slots.SlotExpr Constant)) (condition : Option SlotExpr) (old new : List Tree) : Type
+    0 where
+  pub shown : option_map expr_view condition ≡ placed_condition k (length old)
+  pub pooled : new ≡ old ++ condition_values k
+
+-- A function that puts a body before other statements, from one pool place to another.
+pub record StandsFor (whole left : SBody Constant) (f : Front) (old new : ℕ) : Type 0 where
+  pub alone : f slots.end ≡ placed_body whole old
+  pub before : f (placed_body left new) ≡ placed_body (followed whole left) old
+  pub until : new ≡ old + length (body_values whole)
+
+-- A branch: the place of its tag, its condition and its statements.
+pub record IsBranch (templates : List Text) (at : place.Place) (c : slots.SlotExpr Constant) (whole : SBody Constant)
+    (b : SlotBranch SlotStmt) (old new : List Tree) : Type 0 where
+  pub between : List Tree
+  pub stands : place_view templates b.place ≡ at
+  pub asked : IsPlaced c (expr_view b.condition) old between
+  pub taken : IsBody templates whole b.body.items between new
+
+-- Branches are resolved; of the `if`, only the `else` part remains.
+pub record ChoiceLeads (templates : List Text) (whole other : SBody Constant) (branches : List (SlotBranch SlotStmt))
+    (old new : List Tree) : Type 0 where
+  pub shown : (f : Front) (left : SBody Constant) (last : ℕ)
+      → StandsFor other left f (length new) last
+      → StandsFor whole left (choice_view templates branches f) (length old) last
+  pub pooled : new ++ body_values other ≡ old ++ body_values whole
+
+-- The slot of a name that is set at an index, if this is its last occurrence.
+abbrev pub slot_if : Option ℕ → ℕ → Option slots.Slot → Option slots.Slot
+slot_if None i s = None
+slot_if (Some j) i s = if j == i then s else None
+
+-- ---- the parts of a chain
+
+module _ (s : Chains) where
+  abbrev pub line_in : StaticEnv → ℕ → place.Place
+  line_in p line = resolve.place (senv_in s p) line
+
+  abbrev pub stmt_in : trees.Stmt → StaticEnv → SBody Constant
+  stmt_in t p = resolve.resolved_stmt (cenv_in s) (order_in s) t (senv_in s p)
+
+  -- All statements of a body are appended to others.
+  abbrev pub Puts : SBody Constant → Vec SlotStmt Global → Vec SlotStmt Global → List Tree
+      → List Tree → Type 0
+  Puts whole before after old new = Led (templates_in s) whole before.items after.items old new
+
+  -- All statements of a body are appended to others, and its values to a pool.
+  abbrev pub BodyLed : SBody Constant → Vec SlotStmt Global → Vec SlotStmt Global → Vec Value Global
+      → Vec Value Global → Type 0
+  BodyLed whole before after old new = Puts whole before after (values old) (values new)
+
+  abbrev pub condition_in : Option expressions.Expr → resolve.StaticEnv
+      → Option (slots.SlotExpr Constant)
+  condition_in k sp = resolve.resolved_condition (cenv_in s) (order_in s) k sp
+
+  abbrev pub body_in : trees.Body → StaticEnv → SBody Constant
+  body_in b p = resolve.resolved_body (cenv_in s) (order_in s) b (senv_in s p)
+
+  abbrev pub choice_in : Branches → StaticEnv → SBody Constant → SBody Constant
+  choice_in bs p other = resolve.resolved_choice (cenv_in s) (order_in s) bs (senv_in s p) other
+
+  -- A body in a scope of its own.
+  abbrev pub scoped_in : trees.Body → resolve.StaticEnv → SBody Constant
+  scoped_in b sp = resolve.scoped (set_in b) sp (resolve.resolved_body (cenv_in s) (order_in s) b)
+
+  -- A template of a chain at its top: all statements of the root, and only those that set names of
+  -- any other template.
+  abbrev pub layer_at : resolve.StaticEnv → trees.Body → Bool → SBody Constant
+  layer_at top b is_root =
+      if is_root
+      then resolve.resolved_body (cenv_in s) (order_in s) b top
+      else resolve.resolved_sets (cenv_in s) (order_in s) b top
+
+  abbrev pub layer_in : Template → Bool → SBody Constant
+  layer_in t is_root =
+      layer_at (resolve.top_senv (cenv_in s) (order_in s) (namespace_in s) t.name) t.body is_root
+
+  -- The templates of a chain.
+  abbrev pub layers_in : List Layer → SBody Constant
+  layers_in ls =
+      resolve.resolved_chain (cenv_in s) (order_in s) (namespace_in s)
+      (map (layer_view (chain_view s.chain.now).templates) ls)
+
+  abbrev pub values_in : expressions.Pairs → StaticEnv → ℕ → SBody Constant → SBody Constant
+  values_in ps p line behind =
+      resolve.resolved_values (cenv_in s) (order_in s) ps (senv_in s p) line behind
+
+  -- The parts of a loop: targets, items, condition and body.
+  pub record AreTurns (xs : slots.Targets) (c : slots.SlotExpr Constant) (k : Option (slots.SlotExpr Constant))
+      (whole : SBody Constant) (t : Turns) (old new : List Tree) : Type 0 where
+    pub given : List Tree
+    pub between : List Tree
+    pub takes : targets_view t.targets ≡ xs
+    pub goes_over : IsPlaced c (expr_view t.items) old given
+    pub asked : IsAsked k t.condition given between
+    pub taken : IsBody (templates_in s) whole t.body.items between new

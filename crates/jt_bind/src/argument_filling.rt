@@ -1,0 +1,129 @@
+//! Fills the parameters that no positional argument fills.
+
+ghost use Rattle.std.specs.Prelude.{◌≡◌, List, drop, IfOk};
+ghost use Rattle.jt_value.specs.Tree.{Tree};
+ghost use Rattle.jt_ast.specs.ExpressionView as written;
+ghost use Rattle.jt_chains.specs.Uses.{keywords};
+ghost use Rattle.jt_semantics.specs.Layout.{slot_in};
+ghost use Rattle.jt_semantics.specs.Resolve as resolve;
+ghost use Rattle.jt_bind.specs.internal.Resolving.{RowAdds, kept_of, filled_of, some_filled_of};
+ghost use Rattle.jt_bind.specs.internal.Scoped.{IsAdded, RowLeads};
+ghost use Rattle.jt_ast.specs.Texts.{among};
+ghost use Rattle.jt_ast.specs.StatementView.{parameter_view, parameters_view};
+ghost use Rattle.jt_eval.specs.Filters.{some_given, default_value};
+ghost use Rattle.jt_ir.specs.Pool.{own};
+ghost use Rattle.jt_ir.specs.Slots as slots;
+
+use crate::callee::Signature;
+use crate::lookup::value_or;
+use crate::operator_forms::default_of;
+use crate::pool::add_value;
+use crate::resolver::{Arguments, Resolver};
+use jt_ast::{Expr, Parameter};
+use jt_ir::SlotExpr;
+use jt_layout::checked_sum;
+use jt_value::{NoMemory, Value};
+
+impl<'t, 's, 'a> Resolver<'t, 's, 'a> {
+    /// Appends the values of a macro's parameters after the positional ones: the keyword argument
+    /// of the parameter's name, or its default. The keyword arguments are in the locals from the
+    /// first free one on.
+    #[inline(never)]
+    pub(crate) fn fill(
+        &self,
+        signature: Signature<'_>,
+        arguments: Arguments<'_>,
+        done: &mut Vec<(Option<usize>, SlotExpr)>,
+    ) -> Result<(), NoMemory>
+        ensures { IfOk result (λ u. (p : List Tree)
+            → RowLeads (filled_of self.now signature.entry arguments.entry) slots.none
+            done.old.items done.new.items p p) }
+    {
+        let given = arguments.row.len();
+        let mut default = checked_sum(signature.first_default, given)?;
+        for parameter in behind(signature.parameters, given) {
+            let slot = self.kept(arguments.pairs, parameter.name.as_str())?;
+            done.push((None, value_or(slot, default)))?;
+            default = checked_sum(default, 1)?;
+        }
+        Ok(())
+    }
+
+    /// Appends the values of a filter's parameters after the positional ones, up to the last one
+    /// that is given by keyword.
+    #[inline(never)]
+    pub(crate) fn fill_some(
+        &self,
+        parameters: &[Parameter],
+        arguments: Arguments<'_>,
+        done: &mut Vec<(Option<usize>, SlotExpr)>,
+        pool: &mut Vec<Value>,
+    ) -> Result<(), NoMemory>
+        ensures { IfOk result (λ u. RowAdds (some_filled_of self.now parameters.now arguments.entry)
+            slots.none done.old done.new pool.old pool.new) }
+    {
+        let rest = behind(parameters, arguments.row.len());
+        for (place, parameter) in rest.iter().enumerate() {
+            let left = &rest[place..];
+            if !is_some_given(left, arguments.pairs) {
+                return Ok(());
+            }
+            let value = self.given_or_default(parameter, arguments.pairs, pool)?;
+            done.push((None, value))?;
+        }
+        Ok(())
+    }
+
+    /// Returns the keyword argument of a parameter's name, or its default.
+    fn given_or_default(
+        &self,
+        parameter: &Parameter,
+        pairs: &[(String, Expr)],
+        pool: &mut Vec<Value>,
+    ) -> Result<SlotExpr, NoMemory>
+        ensures { IfOk result (λ e. IsAdded (resolve.value_or (slot_in
+            (parameter_view parameter.now).name (kept_of self.now (written.pairs_view pairs.now)))
+            (own (default_value (parameter_view parameter.now).default))) e pool.old pool.new) }
+    {
+        match self.kept(pairs, parameter.name.as_str())? {
+            Some(slot) => Ok(SlotExpr::Variable(slot)),
+            None => add_value(pool, default_of(self.alloc, parameter)?),
+        }
+    }
+}
+
+/// Returns the parameters after the first `given` ones.
+fn behind(parameters: &[Parameter], given: usize) -> &[Parameter]
+    ensures { result.now ≡ drop given parameters.now }
+{
+    if given < parameters.len() {
+        &parameters[given..]
+    } else {
+        &parameters[parameters.len()..]
+    }
+}
+
+/// Returns whether one of the parameters is given by keyword.
+fn is_some_given(parameters: &[Parameter], pairs: &[(String, Expr)]) -> bool
+    ensures { result
+        ≡ some_given (parameters_view parameters.now) (keywords (written.pairs_view pairs.now)) }
+{
+    for parameter in parameters {
+        if is_given(parameter.name.as_str(), pairs) {
+            return true;
+        }
+    }
+    false
+}
+
+/// Returns whether a keyword argument has this name.
+fn is_given(name: &str, pairs: &[(String, Expr)]) -> bool
+    ensures { result ≡ among name.now (keywords (written.pairs_view pairs.now)) }
+{
+    for (key, _) in pairs {
+        if key.as_str() == name {
+            return true;
+        }
+    }
+    false
+}

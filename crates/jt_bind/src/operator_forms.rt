@@ -1,0 +1,234 @@
+//! Resolves the operators of the language to operations.
+
+ghost use Rattle.std.specs.Prelude.{◌≡◌, IfOk, List};
+ghost use Rattle.jt_value.specs.Tree.{Tree};
+ghost use Rattle.jt_value.specs.View.{view};
+ghost use Rattle.jt_ast.specs.ExpressionView.{literal_view};
+ghost use Rattle.jt_ast.specs.StatementView.{parameter_view};
+ghost use Rattle.jt_eval.specs.Filters.{default_value};
+ghost use Rattle.jt_semantics.specs.Operators as operators;
+ghost use Rattle.jt_semantics.specs.Resolve as resolve;
+ghost use Rattle.jt_ir.specs.Pool.{Constant};
+ghost use Rattle.jt_ir.specs.Slots as slots;
+ghost use Rattle.jt_eval.specs.Values.{literal};
+ghost use Rattle.jt_bind.specs.internal.Formed.{form_view, IsNumber};
+ghost use Rattle.jt_bind.specs.internal.Scoped.{IsShown, IsAdded, MadeOfOne, MadeOfTwo, turn_in};
+
+use crate::pool::add_value;
+use jt_ast::{BinaryOperator, Literal, Parameter, UnaryOperator};
+use jt_ids::{LoopField, OpId};
+use jt_ir::{NaryOp, SlotExpr};
+use jt_value::{NoMemory, Value};
+use std::alloc::Global;
+
+/// The form of a binary operator.
+#[derive(Clone, Copy)]
+pub(crate) enum OperatorForm {
+    /// The operation on both operands.
+    Operation(OpId),
+    /// The negated operation on both operands.
+    Negation(OpId),
+    /// The left operand if it is false, or else the right one.
+    Conjunction,
+    /// The left operand if it is true, or else the right one.
+    Disjunction,
+}
+
+/// Returns the value of a literal.
+pub(crate) fn literal_value(alloc: Global, constant: &Literal) -> Result<Value, NoMemory>
+    ensures { IfOk result (λ v. view v ≡ literal (literal_view constant.now)) }
+{
+    match constant {
+        Literal::Number(number) => Ok(Value::Int(*number)),
+        Literal::Text(text) => Ok(Value::text(alloc, text)?),
+        Literal::Truth(truth) => Ok(Value::Bool(*truth)),
+        Literal::None => Ok(Value::None),
+    }
+}
+
+/// Returns the default of a parameter, or undefined if it has none.
+pub(crate) fn default_of(alloc: Global, parameter: &Parameter) -> Result<Value, NoMemory>
+    ensures { IfOk result
+        (λ v. view v ≡ default_value (parameter_view parameter.now).default) }
+{
+    match &parameter.default {
+        Some(literal) => literal_value(alloc, literal),
+        None => Ok(Value::Undefined),
+    }
+}
+
+/// Returns the operation of a unary operator.
+pub(crate) fn unary_operation(operator: UnaryOperator) -> OpId
+    ensures { result ≡ operators.unary_operation operator }
+{
+    match operator {
+        UnaryOperator::Negate => OpId::Negate,
+        UnaryOperator::Plus => OpId::Plus,
+        UnaryOperator::Not => OpId::Not,
+    }
+}
+
+/// Returns the operation of `range` for `count` arguments.
+pub(crate) fn range_of(count: usize) -> OpId
+    ensures { result ≡ operators.range_of count }
+{
+    match count {
+        0 | 1 => OpId::RangeToStop,
+        2 => OpId::RangeFromStart,
+        _ => OpId::RangeByStep,
+    }
+}
+
+/// Returns the form of a binary operator.
+pub(crate) fn form_of(escaping: bool, operator: BinaryOperator) -> OperatorForm
+    ensures { form_view result ≡ operators.form escaping operator }
+{
+    match operator {
+        BinaryOperator::Or => OperatorForm::Disjunction,
+        BinaryOperator::And => OperatorForm::Conjunction,
+        BinaryOperator::Equal => OperatorForm::Operation(OpId::Equal),
+        BinaryOperator::NotEqual => OperatorForm::Operation(OpId::NotEqual),
+        BinaryOperator::Less => OperatorForm::Operation(OpId::Less),
+        BinaryOperator::LessOrEqual => OperatorForm::Operation(OpId::LessOrEqual),
+        BinaryOperator::Greater => OperatorForm::Operation(OpId::Greater),
+        BinaryOperator::GreaterOrEqual => OperatorForm::Operation(OpId::GreaterOrEqual),
+        BinaryOperator::In => OperatorForm::Operation(OpId::In),
+        BinaryOperator::NotIn => OperatorForm::Negation(OpId::In),
+        BinaryOperator::Add => OperatorForm::Operation(OpId::Add),
+        BinaryOperator::Subtract => OperatorForm::Operation(OpId::Subtract),
+        BinaryOperator::Concatenate => OperatorForm::Operation(join(escaping)),
+        BinaryOperator::Multiply => OperatorForm::Operation(OpId::Multiply),
+        BinaryOperator::FloorDivide => OperatorForm::Operation(OpId::FloorDivide),
+        BinaryOperator::Remainder => OperatorForm::Operation(OpId::Remainder),
+        BinaryOperator::Power => OperatorForm::Operation(OpId::Power),
+    }
+}
+
+/// Returns the operation that joins texts.
+fn join(escaping: bool) -> OpId
+    ensures { result ≡ operators.join escaping }
+{
+    if escaping {
+        OpId::JoinEscaping
+    } else {
+        OpId::Join
+    }
+}
+
+/// Returns an operation on one operand.
+#[inline(never)]
+pub(crate) fn on_one(alloc: Global, op: OpId, operand: SlotExpr) -> Result<SlotExpr, NoMemory>
+    ensures { IfOk result (MadeOfOne (λ a. slots.made (slots.operator op)
+        (slots.item a slots.none)) operand) }
+{
+    let mut row = Vec::new(alloc);
+    row.push((None, operand))?;
+    Ok(SlotExpr::Made(NaryOp::Operator(op), row))
+}
+
+/// Returns an operation on two operands.
+#[inline(never)]
+pub(crate) fn on_two(
+    alloc: Global,
+    op: OpId,
+    left: SlotExpr,
+    right: SlotExpr,
+) -> Result<SlotExpr, NoMemory>
+    ensures { IfOk result (MadeOfTwo (resolve.operation_of op) left right) }
+{
+    let mut row = Vec::new(alloc);
+    row.push((None, left))?;
+    row.push((None, right))?;
+    Ok(SlotExpr::Made(NaryOp::Operator(op), row))
+}
+
+/// Returns the expression, negated if `negated` holds.
+#[inline(never)]
+pub(crate) fn turned(alloc: Global, negated: bool, inside: SlotExpr) -> Result<SlotExpr, NoMemory>
+    ensures { IfOk result (MadeOfOne (resolve.turned_round negated) inside) }
+{
+    if negated {
+        on_one(alloc, OpId::Not, inside)
+    } else {
+        Ok(inside)
+    }
+}
+
+/// Returns the expression of a binary operator on two operands.
+#[inline(never)]
+pub(crate) fn formed(
+    alloc: Global,
+    form: OperatorForm,
+    left: SlotExpr,
+    right: SlotExpr,
+) -> Result<SlotExpr, NoMemory>
+    ensures { IfOk result (MadeOfTwo (resolve.in_form (form_view form)) left right) }
+{
+    match form {
+        OperatorForm::Operation(op) => on_two(alloc, op, left, right),
+        OperatorForm::Negation(op) => {
+            let inside = on_two(alloc, op, left, right)?;
+            on_one(alloc, OpId::Not, inside)
+        }
+        OperatorForm::Conjunction => {
+            let first = Box::new(alloc, left)?;
+            Ok(SlotExpr::Conjunction(first, Box::new(alloc, right)?))
+        }
+        OperatorForm::Disjunction => {
+            let first = Box::new(alloc, left)?;
+            Ok(SlotExpr::Disjunction(first, Box::new(alloc, right)?))
+        }
+    }
+}
+
+/// Returns the conditional expression that chooses between two values.
+#[inline(never)]
+pub(crate) fn chosen(
+    alloc: Global,
+    condition: SlotExpr,
+    value: SlotExpr,
+    other: SlotExpr,
+) -> Result<SlotExpr, NoMemory>
+    ensures { IfOk result (λ e. (c a b : slots.SlotExpr Constant) (p q r s : List Tree)
+        → IsShown c condition p q
+        → IsShown a value q r
+        → IsShown b other r s
+        → IsShown (slots.choice c a b) e p s) }
+{
+    let asked = Box::new(alloc, condition)?;
+    let first = Box::new(alloc, value)?;
+    Ok(SlotExpr::Choice {
+        condition: asked,
+        value: first,
+        other: Box::new(alloc, other)?,
+    })
+}
+
+/// Returns the expression for the index of a loop's turn modulo `count`.
+#[inline(never)]
+pub(crate) fn turn_among(
+    alloc: Global,
+    count: usize,
+    pool: &mut Vec<Value>,
+) -> Result<SlotExpr, NoMemory>
+    ensures { IfOk result (λ e. IsAdded (turn_in count) e pool.old pool.new) }
+{
+    let number = number_of(count)?;
+    let items = add_value(pool, number)?;
+    on_two(
+        alloc,
+        OpId::Remainder,
+        SlotExpr::Field(LoopField::Index0),
+        items,
+    )
+}
+
+/// Returns a count as a value.
+fn number_of(count: usize) -> Result<Value, NoMemory>
+    ensures { IsNumber count result }
+{
+    match i64::try_from(count) {
+        Ok(count) => Ok(Value::Int(count)),
+        Err(_) => Err(NoMemory),
+    }
+}

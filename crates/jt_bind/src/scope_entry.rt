@@ -1,0 +1,82 @@
+//! Enters scopes, which keep names in locals of their own.
+
+ghost use Rattle.std.specs.Prelude.{◌≡◌, List, IfOk};
+ghost use Rattle.jt_semantics.specs.Resolve.{copied};
+ghost use Rattle.jt_bind.specs.internal.Resolving.{line_of, table_of, templates_of};
+ghost use Rattle.jt_bind.specs.internal.Scoped.{BodyLeads, HasInside, Enters};
+ghost use Rattle.jt_ir.specs.Pool.{Constant};
+ghost use Rattle.jt_ir.specs.Slots.{SBody};
+ghost use Rattle.jt_value.specs.Tree.{Tree};
+ghost use Rattle.jt_ast.specs.Texts.{texts};
+
+use crate::emission::put_assign;
+use crate::lookup::reading;
+use crate::name_scope::NameScope;
+use crate::resolver::Resolver;
+use crate::senv::StaticEnv;
+use jt_ir::{Slot, SlotStmt, Targets};
+use jt_layout::checked_sum;
+use jt_value::NoMemory;
+use std::alloc::Global;
+use std::rc::Rc;
+
+/// The scopes around a term inside an entered scope, and the first free local there.
+#[derive(Drop)]
+pub(crate) struct EnteredScope<'a> {
+    pub name_scopes: Vec<Rc<NameScope<'a>>>,
+    pub free: usize,
+}
+
+/// Returns the scopes of the environment and, innermost, one with these names in locals from the
+/// first free one on.
+fn framed_by<'a>(
+    alloc: Global,
+    senv: &StaticEnv<'_, 'a>,
+    names: Vec<&'a str>,
+) -> Result<Vec<Rc<NameScope<'a>>>, NoMemory>
+    ensures { IfOk result (λ fs. HasInside senv.now (texts names.entry.items) fs.items) }
+{
+    let mut name_scopes = Vec::new(alloc);
+    for name_scope in senv.name_scopes {
+        name_scopes.push(name_scope.clone()?)?;
+    }
+    let inner = NameScope::new(alloc, names, senv.free)?;
+    name_scopes.push(Rc::new(alloc, inner)?)?;
+    Ok(name_scopes)
+}
+
+/// Enters a scope with these names.
+#[inline(never)]
+pub(crate) fn entered<'a>(
+    alloc: Global,
+    senv: &StaticEnv<'_, 'a>,
+    names: Vec<&'a str>,
+) -> Result<EnteredScope<'a>, NoMemory>
+    ensures { IfOk result (λ i. Enters senv.now (texts names.entry.items) i) }
+{
+    let free = checked_sum(senv.free, names.len())?;
+    let name_scopes = framed_by(alloc, senv, names)?;
+    Ok(EnteredScope { name_scopes, free })
+}
+
+impl<'t, 's, 'a> Resolver<'t, 's, 'a> {
+    /// Emits copies of the names' values into locals from the first free one on.
+    #[inline(never)]
+    pub(crate) fn put_copies(
+        &self,
+        names: &[&str],
+        done: &mut Vec<SlotStmt>,
+    ) -> Result<(), NoMemory>
+        ensures { IfOk result (λ u. (behind : SBody Constant) (p : List Tree)
+            → BodyLeads (templates_of self.now) (copied (line_of self.now 1) (table_of self.now)
+            self.now.senv.free (texts names.now) behind) behind done.old.items done.new.items p p) }
+    {
+        let mut local = self.senv.free;
+        for name in names {
+            let value = reading(self.slot(*name));
+            put_assign(&self.senv, 1, Targets::One(Slot::Local(local)), value, done)?;
+            local = checked_sum(local, 1)?;
+        }
+        Ok(())
+    }
+}

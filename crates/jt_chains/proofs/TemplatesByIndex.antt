@@ -1,0 +1,241 @@
+-- Templates by their indices.
+use Rattle.std.proofs.Common.{◌≡◌, ℕ, zero, suc, ◌+◌, ◌<◌, Bool, true, false, ◌||◌, if◌then◌else◌, List, [], ◌∷◌, ◌++◌}
+use Rattle.std.proofs.Common.{length, map, drop, get_or, refl, sym, ap, subst, ◌∙◌, arith, Option, Some, None, rules}
+use Rattle.std.specs.Prelude.{slice_get, flat_map, unwrap_or, option_map}
+use Rattle.std.specs.List.{AllByRecursion}
+use Rattle.std.proofs.lemmas.List.{drop_more, append_assoc, length-map}
+use Rattle.std.proofs.lemmas.Option.{slice_get_within}
+use Rattle.std.proofs.lemmas.Cmp.{nat_list_eq_equiv}
+use Rattle.std.proofs.lemmas.Slice.Eq.{bytes_eq-Decides}
+use Rattle.std.specs.Str.{bytes_eq}
+use Rattle.jt_ast.specs.Expressions.{Text}
+use Rattle.jt_ast.specs.Statements.{Body, end}
+use Rattle.jt_ast.specs.StatementView.{body_of}
+use Rattle.jt_chains.specs.Along.{ArePlaces, body_at, along}
+use Rattle.jt_chains.specs.Chain as chain
+use Rattle.jt_chains.specs.Chain.{Sources, Template, template, holds_macros, library_template, templates, max_templates}
+use Rattle.jt_chains.specs.Chain.{names_up, sources_in}
+use Rattle.jt_ast.specs.Texts.{among, repeated}
+use Rattle.jt_chains.specs.TemplateFiles.{file_view, files_view, namespace_view, names_at, AreWhole}
+use Rattle.jt_chains.specs.Parts.{name_at}
+use Rattle.jt_chains.specs.Places.{namespace_at}
+use Rattle.jt_chains.specs.declared.files.TemplateFile.{TemplateFile}
+use Rattle.jt_chains.specs.declared.chain.Namespace.{Namespace}
+
+pub all_at : {X : Type 0} (P : X → Type 0) (xs : List X) (i : ℕ) (x : X) → i < length xs → x ≡ get_or xs i x
+    → AllByRecursion P xs → P x
+all_at P [] i x lt is a = absurd (omega arith)
+all_at P (y ∷ ys) zero x lt is a = subst P (sym is) a.0
+all_at P (y ∷ ys) (suc i) x lt is a = all_at P ys i x (omega arith) is a.1
+
+pub number_at : (P : ℕ → Type 0) (xs : List ℕ) (i : ℕ) → i < length xs → AllByRecursion P xs → P (get_or xs i 0)
+number_at P [] i lt a = absurd (omega arith)
+number_at P (y ∷ ys) zero lt a = a.0
+number_at P (y ∷ ys) (suc i) lt a = number_at P ys i (omega arith) a.1
+
+pub map_at : {X Y : Type 0} (f : X → Y) (xs : List X) (i : ℕ) (x : X) → i < length xs → x ≡ get_or xs i x
+    → slice_get (map f xs) i ≡ Some (f x)
+map_at f [] i x lt is = absurd (omega arith)
+map_at f (y ∷ ys) zero x lt is = ap (λ z. Some (f z)) (sym is)
+map_at f (y ∷ ys) (suc i) x lt is = map_at f ys i x (omega arith) is
+
+-- The tree of the template file at an index.
+pub file_at : (ps : List TemplateFile) (i : ℕ) (p : TemplateFile) → i < length ps → p ≡ get_or ps i p
+    → body_at (files_view ps) i ≡ body_of p.template
+file_at ps i p lt is = ap (λ o. unwrap_or (option_map (λ (t : Template). t.body) o) end) (map_at file_view ps i p lt is)
+
+-- An index of a template file is an index of its view.
+pub place_within : (ps : List TemplateFile) (is : List ℕ) (k : ℕ) → k < length is → ArePlaces (files_view ps) is
+    → get_or is k 0 < length ps
+place_within ps is k lt a =
+    omega (arith, number_at (λ i. i < length (files_view ps)) is k lt a, length-map ps file_view)
+
+-- ---- concatenation
+
+module _ {A : Type 0} (g : Text → Body → List A) (ts : List Template) where
+  pub along_turn : (is : List ℕ) (k : ℕ) (b : Body) (old new : List A) → k < length is → b ≡ body_at ts (get_or is k 0)
+      → new ≡ old ++ g (name_at ts (get_or is k 0)) b
+      → new ++ along ts g (drop (k + 1) is) ≡ old ++ along ts g (drop k is)
+  along_turn is k b old new lt tree e =
+      let i = get_or is k 0 in
+      let rest = along ts g (drop (k + 1) is) in
+      ap (λ l. l ++ rest) e ∙ append_assoc old (g (name_at ts i) b) rest
+      ∙ ap (λ l. old ++ l) (ap (λ z. g (name_at ts i) z ++ rest) tree ∙ sym (ap (along ts g) (drop_more is k 0 lt)))
+
+  one : (i : ℕ) (t : Template) → slice_get ts i ≡ Some t → g (name_at ts i) (body_at ts i) ≡ g t.name t.body
+  one i t e =
+      ap (λ o. g (unwrap_or (option_map (λ (u : Template). u.name) o) [])
+      (unwrap_or (option_map (λ (u : Template). u.body) o) end)) e
+
+  -- `along` over the indices of templates is `flat_map` over the templates.
+  pub along_templates : (is : List ℕ) (us : List Template) → map (slice_get ts) is ≡ map Some us
+      → along ts g is ≡ flat_map (λ t. g t.name t.body) us
+  along_templates [] [] e = refl
+  along_templates [] (u ∷ us) e = absurd (cc)
+  along_templates (i ∷ is) [] e = absurd (cc)
+  along_templates (i ∷ is) (u ∷ us) e =
+      let h : slice_get ts i ≡ Some u = cc in
+      let r : map (slice_get ts) is ≡ map Some us = cc in
+      ap (λ l. l ++ along ts g is) (one i u h) ∙ ap (λ l. g u.name u.body ++ l) (along_templates is us r)
+
+pub are_places : (ts : List Template) (is : List ℕ) (us : List Template) → map (slice_get ts) is ≡ map Some us
+    → ArePlaces ts is
+are_places ts [] us e = tt
+are_places ts (i ∷ is) [] e = absurd (cc)
+are_places ts (i ∷ is) (u ∷ us) e =
+    let h : slice_get ts i ≡ Some u = cc in
+    let r : map (slice_get ts) is ≡ map Some us = cc in
+    (slice_get_within ts i u h, are_places ts is us r)
+
+-- The view of the namespace at an index.
+pub name_of_namespace : (hs : List Namespace) (i : ℕ) (h : Namespace) → i < length hs → h ≡ get_or hs i h
+    → namespace_at (map namespace_view hs) i ≡ namespace_view h
+name_of_namespace hs i h lt is = ap (λ o. unwrap_or o (chain.a_chain [])) (map_at namespace_view hs i h lt is)
+
+-- ---- templates by their names
+
+same : (x y : Text) → bytes_eq x y ≡ true → x ≡ y
+same x y = (bytes_eq-Decides x y).0
+
+reflexive : (x : Text) → bytes_eq x x ≡ true
+reflexive x = nat_list_eq_equiv.refl x
+
+pub named_among : (ts : List Template) (i : ℕ) (t : Template) → slice_get ts i ≡ Some t
+    → among t.name (map (λ u. u.name) ts) ≡ true
+named_among [] i t e = absurd (cc)
+named_among (u ∷ us) zero t e =
+    let h : u ≡ t = cc in
+    ap (λ (z : Template). bytes_eq z.name t.name || among t.name (map (λ (v : Template). v.name) us)) h
+    ∙ ap (λ b. b || among t.name (map (λ (v : Template). v.name) us)) (reflexive t.name)
+named_among (u ∷ us) (suc i) t e = or_right (bytes_eq u.name t.name) (named_among us i t e)
+  where
+    or_right : (b : Bool) {c : Bool} → c ≡ true → (b || c) ≡ true
+    or_right true h = refl
+    or_right false h = h
+
+or_false : (a b : Bool) → (a || b) ≡ false → (a ≡ false) × (b ≡ false)
+or_false true b e = absurd (cc)
+or_false false b e = (refl, e)
+
+-- If names differ, the template at an index is the one of its name.
+pub only_one : (ts : List Template) (i : ℕ) (t : Template) → repeated (map (λ u. u.name) ts) ≡ false
+    → slice_get ts i ≡ Some t → sources_in ts t.name ≡ Some t.body
+only_one [] i t once e = absurd (cc)
+only_one (u ∷ us) zero t once e =
+    let h : u ≡ t = cc in
+    subst (λ (z : Template). sources_in (u ∷ us) z.name ≡ Some z.body) h
+    (ap (λ b. if b then Some u.body else sources_in us u.name) (reflexive u.name))
+only_one (u ∷ us) (suc i) t once e = by (bytes_eq u.name t.name) refl (only_one us i t apart.1 e)
+  where
+    apart : (among u.name (map (λ (v : Template). v.name) us) ≡ false)
+        × (repeated (map (λ (v : Template). v.name) us) ≡ false)
+    apart =
+        or_false (among u.name (map (λ (v : Template). v.name) us)) (repeated (map (λ (v : Template). v.name) us)) once
+
+    by : (b : Bool) → bytes_eq u.name t.name ≡ b → sources_in us t.name ≡ Some t.body
+        → sources_in (u ∷ us) t.name ≡ Some t.body
+    by true h r =
+        let k : among u.name (map (λ (v : Template). v.name) us) ≡ true =
+        ap (λ x. among x (map (λ (v : Template). v.name) us)) (same u.name t.name h) ∙ named_among us i t e in
+        let n = apart.0 in
+        absurd (cc)
+    by false h r = ap (λ b. if b then Some u.body else sources_in us t.name) h ∙ r
+
+abbrev pub Definition : Sources → List Template → Type 0
+Definition s = AllByRecursion (λ u. s u.name ≡ Some u.body)
+
+given_along : (s : Sources) (ns : List Text) → Definition s (flat_map (λ n. template n (s n)) ns)
+given_along s [] = tt
+given_along s (n ∷ ns) = by (s n) refl (given_along s ns)
+  where
+    by : (o : Option Body) → s n ≡ o → Definition s (flat_map (λ m. template m (s m)) ns)
+        → Definition s (template n o ++ flat_map (λ m. template m (s m)) ns)
+    by None e r = r
+    by (Some b) e r = (e, r)
+
+-- The templates of a chain are those of their names.
+pub given_templates : (s : Sources) (h : chain.Namespace) → Definition s (templates s h)
+given_templates s (chain.a_chain n) = given_along s (names_up s max_templates (Some n))
+given_templates s (chain.a_library n) = alone (s n) refl
+  where
+    alone : (o : Option Body) → s n ≡ o → Definition s (library_template n o)
+    alone None e = tt
+    alone (Some b) e = by (holds_macros b)
+      where
+        by : (c : Bool) → Definition s (if c then template n (Some b) else [])
+        by true = (e, tt)
+        by false = tt
+
+alike : (t u : Template) → t.name ≡ u.name → t.body ≡ u.body → t ≡ u
+alike t u p q = search (arith, rules)
+
+-- If names differ, the names at the indices determine the templates.
+pub placed_by_names : (ts : List Template) (is : List ℕ) (us : List Template) → repeated (map (λ u. u.name) ts) ≡ false
+    → Definition (sources_in ts) us → names_at ts is ≡ map (λ t. Some t.name) us
+    → map (slice_get ts) is ≡ map Some us
+placed_by_names ts [] [] once g e = refl
+placed_by_names ts [] (u ∷ us) once g e = absurd (cc)
+placed_by_names ts (i ∷ is) [] once g e = absurd (cc)
+placed_by_names ts (i ∷ is) (u ∷ us) once g e = by (slice_get ts i) refl (placed_by_names ts is us once g.1 rest)
+  where
+    here : option_map (λ (t : Template). t.name) (slice_get ts i) ≡ Some u.name
+    here = cc
+
+    rest : names_at ts is ≡ map (λ (t : Template). Some t.name) us
+    rest = cc
+
+    found : (t : Template) → slice_get ts i ≡ Some t → t ≡ u
+    found t at =
+        let p : t.name ≡ u.name =
+        (let k : Some t.name ≡ Some u.name = sym (ap (option_map (λ (v : Template). v.name)) at) ∙ here in cc) in
+        let q : Some t.body ≡ Some u.body = sym (only_one ts i t once at) ∙ ap (sources_in ts) p ∙ g.0 in
+        alike t u p (cc)
+
+    by : (o : Option Template) → slice_get ts i ≡ o → map (slice_get ts) is ≡ map Some us
+        → map (slice_get ts) (i ∷ is) ≡ map Some (u ∷ us)
+    by None at r =
+        let k : None ≡ Some u.name = sym (ap (option_map (λ (v : Template). v.name)) at) ∙ here in
+        absurd (cc)
+    by (Some t) at r =
+        ap (λ o. o ∷ map (slice_get ts) is) (at ∙ ap Some (found t at)) ∙ ap (λ l. Some u ∷ l) r
+
+-- The names at the indices of a chain are those of its templates.
+pub whole_at : (ts : List Template) (hs : List Namespace) (i : ℕ) (h : Namespace) → i < length hs → h ≡ get_or hs i h
+    → AreWhole ts hs
+    → names_at ts h.templates.items ≡ map (λ t. Some t.name) (templates (sources_in ts) (namespace_view h))
+whole_at ts [] i h lt is w = absurd (omega arith)
+whole_at ts (k ∷ hs) zero h lt is w =
+    subst (λ (z : Namespace).
+    names_at ts z.templates.items ≡ map (λ t. Some t.name) (templates (sources_in ts) (namespace_view z))) (sym is) w.0
+whole_at ts (k ∷ hs) (suc i) h lt is w = whole_at ts hs i h (omega arith) is w.1
+
+pub namespace_templates : (ts : List Template) (hs : List Namespace) (i : ℕ) (h : Namespace) → i < length hs
+    → h ≡ get_or hs i h → repeated (map (λ u. u.name) ts) ≡ false → AreWhole ts hs
+    → map (slice_get ts) h.templates.items ≡ map Some (templates (sources_in ts) (namespace_view h))
+namespace_templates ts hs i h lt is once w =
+    placed_by_names ts h.templates.items (templates (sources_in ts) (namespace_view h)) once
+    (given_templates (sources_in ts) (namespace_view h)) (whole_at ts hs i h lt is w)
+
+-- `along` over the indices of a chain is `flat_map` over its templates.
+module _ (ps qs : List TemplateFile) (hs : List Namespace) (i : ℕ) (h : Namespace) (is : List ℕ) (same_files : qs ≡ ps)
+    (same_places : is ≡ h.templates.items) (lt : i < length hs) (at : h ≡ get_or hs i h)
+    (once : repeated (map (λ u. u.name) (files_view ps)) ≡ false) (whole : AreWhole (files_view ps) hs) where
+  there : map (slice_get (files_view ps)) h.templates.items
+      ≡ map Some (templates (sources_in (files_view ps)) (namespace_view h))
+  there = namespace_templates (files_view ps) hs i h lt at once whole
+
+  pub namespace_places : ArePlaces (files_view qs) is
+  namespace_places =
+      subst (λ (z : List TemplateFile). ArePlaces (files_view z) is) (sym same_files)
+      (subst (ArePlaces (files_view ps)) (sym same_places)
+      (are_places (files_view ps) h.templates.items (templates (sources_in (files_view ps)) (namespace_view h)) there))
+
+  pub namespace_along : {A : Type 0} (g : Text → Body → List A)
+      → along (files_view qs) g is ≡ flat_map (λ t. g t.name t.body)
+      (templates (sources_in (files_view ps)) (namespace_at (map namespace_view hs) i))
+  namespace_along g =
+      ap (λ (z : List TemplateFile). along (files_view z) g is) same_files ∙ ap (along (files_view ps) g) same_places
+      ∙ along_templates g (files_view ps) h.templates.items (templates (sources_in (files_view ps)) (namespace_view h))
+      there
+      ∙ ap (λ n. flat_map (λ t. g t.name t.body) (templates (sources_in (files_view ps)) n))
+      (sym (name_of_namespace hs i h lt at))

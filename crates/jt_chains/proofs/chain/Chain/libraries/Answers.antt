@@ -1,0 +1,6 @@
+use Rattle.std.proofs.Common.{arith, rules}
+use Rattle.jt_chains.proofs.LibraryMacros.{namespace_libraries}
+use Rattle.jt_chains.proofs.chain.Chain.libraries.Goals as goal
+
+pub returns-in-Some-clause-there : goal.returns-in-Some-clause-there
+returns-in-Some-clause-there c = search (arith, rules, namespace_libraries)

@@ -1,0 +1,14 @@
+use Rattle.std.proofs.Common.{◌≡◌, ◌++◌, drop}
+use Rattle.jt_ast.specs.StatementView.{given_view}
+use Rattle.jt_chains.specs.Chain.{Namespace, all_given_from, sources_in}
+use Rattle.jt_chains.specs.TemplateFiles.{files_view}
+use Rattle.jt_chains.specs.Named.{names_view}
+use Rattle.jt_chains.proofs.definitions.add_from.Given as goal
+
+abbrev pub invariant-loop-name : goal.invariant-loop-name
+invariant-loop-name l = (h : Namespace) →
+    names_view (files_view l.chain.templates.items) h l.found.items
+    ++ all_given_from (sources_in (files_view l.chain.templates.items)) l.library
+    (given_view (drop l.name-index l.names))
+    ≡ names_view (files_view l.chain.templates.items) h l.initial.found.items
+    ++ all_given_from (sources_in (files_view l.chain.templates.items)) l.library (given_view l.names)

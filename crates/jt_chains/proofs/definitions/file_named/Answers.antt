@@ -1,0 +1,9 @@
+use Rattle.std.proofs.Common.{arith, rules}
+use Rattle.std.proofs.lemmas.List.{length-map}
+use Rattle.jt_chains.proofs.definitions.file_named.Goals as goal
+
+pub returns-in-Some : goal.returns-in-Some
+returns-in-Some c = search (arith, rules)
+
+pub returns-in-None : goal.returns-in-None
+returns-in-None c = search (arith, rules, length-map)

@@ -1,0 +1,13 @@
+use Rattle.std.proofs.Common.{List, [], ◌∷◌, string_bytes, ap, ◌∙◌}
+use Rattle.std.specs.Option.{is_some}
+use Rattle.jt_ast.specs.StatementView.{body_of}
+use Rattle.jt_chains.specs.Chain.{Template}
+use Rattle.jt_chains.specs.Parts.{macro_view}
+use Rattle.jt_chains.proofs.MacroTableLookup.{some_mapped}
+use Rattle.jt_chains.proofs.files.TemplateFile.gives.Goals as goal
+
+pub returns : goal.returns
+returns c =
+    let file = c.args.self.now in
+    let ts : List Template = record { name = string_bytes file.name; body = body_of file.template } ∷ [] in
+    c.is_some.ensures ∙ some_mapped (macro_view ts) c.public_macro.result ∙ ap is_some (c.public_macro.ensures ts)

@@ -1,8 +1,0 @@
-use Rattle.std.proofs.Common.{◌≡◌, ◌++◌, map, drop}
-use Rattle.jt_trees.specs.StatementView.{body_view}
-use Rattle.jt_chains.specs.Chain.{libraries_in}
-use Rattle.jt_chains.proofs.given.add_libraries.Given as goal
-
-abbrev pub invariant-loop-statement : goal.invariant-loop-statement
-invariant-loop-statement l =
-    map (λ n. n.now) l.found.items ++ libraries_in (body_view (drop l.statement-index l.body)) ≡ map (λ n. n.now) l.initial.found.items ++ libraries_in (body_view l.body)

@@ -1,9 +1,0 @@
-use Rattle.std.proofs.Common.{◌≡◌, ◌++◌, map, drop}
-use Rattle.jt_chains.specs.Along.{along}
-use Rattle.jt_chains.specs.Chain.{libraries_in}
-use Rattle.jt_chains.specs.Pages.{pages_view}
-use Rattle.jt_chains.proofs.given.libraries_of.Given as goal
-
-abbrev pub invariant-loop-place : goal.invariant-loop-place
-invariant-loop-place l =
-    map (λ n. n.now) l.found.items ++ along (pages_view l.pages) (λ n b. libraries_in b) (drop l.place-index l.home.templates.items) ≡ along (pages_view l.pages) (λ n b. libraries_in b) l.home.templates.items

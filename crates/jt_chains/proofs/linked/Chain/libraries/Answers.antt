@@ -1,6 +1,0 @@
-use Rattle.std.proofs.Common.{arith, rules}
-use Rattle.jt_chains.proofs.Libraries.{home_libraries}
-use Rattle.jt_chains.proofs.linked.Chain.libraries.Goals as goal
-
-pub returns-in-Some-clause-there : goal.returns-in-Some-clause-there
-returns-in-Some-clause-there c = search (arith, rules, home_libraries)

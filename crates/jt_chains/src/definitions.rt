@@ -1,0 +1,285 @@
+//! Defines what the names of a chain stand for: its own macros, imported macros, or libraries.
+
+ghost use Rattle.std.specs.Prelude.{◌≡◌, ◌<◌, ◌++◌, [], List, length, map, option_map, not};
+ghost use Rattle.std.specs.Prelude.{if◌then◌else◌, IfOk};
+ghost use Rattle.std.specs.List.{list_any};
+ghost use Rattle.jt_ast.specs.StatementView.{stmt_view, body_view, given_view};
+ghost use Rattle.jt_ast.specs.Texts.{texts};
+ghost use Rattle.jt_chains.specs.Chain as chains;
+ghost use Rattle.jt_chains.specs.Chain.{Template, templates, macros, own, all_given_from};
+ghost use Rattle.jt_chains.specs.Chain.{imports_in, libraries_in, libraries, given, a_library};
+ghost use Rattle.jt_chains.specs.Along.{along, first_body};
+ghost use Rattle.jt_chains.specs.TemplateFiles.{files_view};
+ghost use Rattle.jt_chains.specs.Parts.{macro_view, macros_view};
+ghost use Rattle.jt_chains.specs.Places.{place_of};
+ghost use Rattle.jt_chains.specs.Named.{Adds, names_view};
+ghost use Rattle.jt_chains.specs.View.{NoneBeyond, namespace_in, imports_along, its_sources};
+ghost use Rattle.jt_chains.specs.View.{its_templates};
+
+use crate::chain::{Chain, Namespace};
+use crate::files::TemplateFile;
+use crate::parts::{Macro, body_of_file};
+use jt_ast::Stmt;
+use std::alloc::{AllocError, Global};
+
+/// The definition of a name: a macro of its own chain or library, a macro of another library with
+/// the name of that library, or a library.
+#[derive(Clone, Copy)]
+pub enum Definition<'a> {
+    Own(Macro<'a>),
+    Imported(&'a str, Macro<'a>),
+    Library(&'a str),
+}
+
+/// A name and its definition.
+#[derive(Clone, Copy)]
+pub struct DefinedName<'a> {
+    pub name: &'a str,
+    pub given: Definition<'a>,
+}
+
+fn is_space(byte: u8) -> bool
+    ensures { result ≡ chains.is_space byte }
+{
+    byte == 32 || (9 <= byte && byte < 14)
+}
+
+/// Returns whether a text holds only whitespace.
+fn is_blank(text: &str) -> bool
+    ensures { result ≡ not (list_any (λ c. not (chains.is_space c)) text.now) }
+{
+    text.bytes().all(is_space)
+}
+
+/// Returns whether a library may hold the statement.
+fn of_a_library(statement: &Stmt) -> bool
+    ensures { result ≡ chains.of_a_library (stmt_view statement.now) }
+{
+    match statement {
+        Stmt::Macro { .. } => true,
+        Stmt::Data(text) => is_blank(text),
+        _ => false,
+    }
+}
+
+/// Returns whether a library may hold all of these statements.
+pub fn holds_macros(body: &[Stmt]) -> bool
+    ensures { result ≡ chains.holds_macros (body_view body.now) }
+{
+    body.iter().all(of_a_library)
+}
+
+/// Returns the index of the template of this name, or the number of templates if it does not exist.
+fn file_named(chain: &Chain, name: &str) -> usize
+    ensures { result ≡ place_of (its_templates chain.now) name.now }
+{
+    match chain.places.get(name) {
+        Some(place) => *place,
+        None => chain.templates.as_slice().len(),
+    }
+}
+
+/// Returns the statements of a library, or none if there is no library of this name.
+fn body_of_library<'a>(chain: &'a Chain, name: &str) -> &'a [Stmt]
+    ensures { body_view result.now
+        ≡ first_body (templates (its_sources chain.now) (a_library name.now)) }
+{
+    let body = body_of_file(&chain.templates, file_named(chain, name));
+    if holds_macros(body) { body } else { &[] }
+}
+
+/// Returns whether a name is private: it begins with `_`.
+pub fn is_private(name: &str) -> bool
+    ensures { result ≡ chains.is_private name.now }
+{
+    name.as_bytes().first().is_some_and(|first| *first == b'_')
+}
+
+/// Adds the names that a `from` tag binds. A macro that the library lacks adds none.
+fn add_from<'a>(
+    chain: &'a Chain,
+    library: &'a str,
+    names: &'a [(String, String)],
+    found: &mut Vec<DefinedName<'a>>,
+) -> Result<(), AllocError>
+    ensures { IfOk result (λ _. Adds (its_templates chain.now) found.old.items found.new.items
+        (λ h. all_given_from (its_sources chain.now) library.now (given_view names.now))) }
+{
+    for (name, given) in names {
+        if let Some(one) = chain.library_macro(library, name) {
+            found.push(DefinedName {
+                name: given.as_str(),
+                given: Definition::Imported(library, one),
+            })?;
+        }
+    }
+    Ok(())
+}
+
+/// Adds the names that the imports of a template bind.
+fn add_imports<'a>(
+    chain: &'a Chain,
+    body: &'a [Stmt],
+    found: &mut Vec<DefinedName<'a>>,
+) -> Result<(), AllocError>
+    ensures { IfOk result (λ _. Adds (its_templates chain.now) found.old.items found.new.items
+        (λ h. imports_in (its_sources chain.now) (body_view body.now))) }
+{
+    for statement in body {
+        match statement {
+            Stmt::Import { library, name, .. } => found.push(DefinedName {
+                name: name.as_str(),
+                given: Definition::Library(library.as_str()),
+            })?,
+            Stmt::From {
+                library,
+                macros,
+                ..
+            } => add_from(chain, library, macros, found)?,
+            _ => {}
+        }
+    }
+    Ok(())
+}
+
+/// Adds the names that the imports of the templates at `places` bind.
+fn imports_at<'a>(
+    chain: &'a Chain,
+    places: &[usize],
+    found: &mut Vec<DefinedName<'a>>,
+) -> Result<(), AllocError>
+    ensures { IfOk result (λ _. Adds (its_templates chain.now) found.old.items found.new.items
+        (λ h. imports_along chain.now places.now)) }
+{
+    for place in places {
+        add_imports(chain, body_of_file(&chain.templates, *place), found)?;
+    }
+    Ok(())
+}
+
+/// Adds the names of macros, defined as a chain's or library's own.
+fn add_own<'a>(
+    files: &'a [TemplateFile],
+    macros: &[Macro<'a>],
+    found: &mut Vec<DefinedName<'a>>,
+) -> Result<(), AllocError>
+    ensures { IfOk result (λ _. Adds (files_view files.now) found.old.items found.new.items
+        (λ h. own h (macros_view (files_view files.now) macros.now))) }
+{
+    for one in macros {
+        found.push(DefinedName {
+            name: one.name,
+            given: Definition::Own(*one),
+        })?;
+    }
+    Ok(())
+}
+
+/// Returns the defined names of a chain or library whose own macros are `macros`.
+fn names_of<'a>(
+    alloc: Global,
+    chain: &'a Chain,
+    namespace: &Namespace,
+    macros: &[Macro<'a>],
+) -> Result<Vec<DefinedName<'a>>, AllocError>
+    ensures { IfOk result (λ ns. (h : chains.Namespace) →
+        names_view (its_templates chain.now) h ns.items
+        ≡ own h (macros_view (its_templates chain.now) macros.now)
+        ++ (if namespace.now.is_library then []
+        else imports_along chain.now namespace.now.templates.items)) }
+{
+    let mut names = Vec::new(alloc);
+    add_own(&chain.templates, macros, &mut names)?;
+    if namespace.is_library {
+        return Ok(names);
+    }
+    imports_at(chain, &namespace.templates, &mut names)?;
+    Ok(names)
+}
+
+impl Chain {
+    /// Returns all names of a chain that stand for a macro or a library, its own macros first.
+    /// Returns none if `namespace` is out of range.
+    pub fn given(&self, alloc: Global, namespace: usize) -> Result<Vec<DefinedName<'_>>, AllocError>
+        ensures there { namespace < length self.now.namespaces.items → IfOk result (λ names.
+            names_view (its_templates self.now) (namespace_in self.now namespace) names.items
+            ≡ given (its_sources self.now) (namespace_in self.now namespace)) }
+        ensures nowhere { NoneBeyond self.now namespace result }
+    {
+        let macros = self.macros(alloc, namespace)?;
+        match self.namespaces.get(namespace) {
+            Some(found) => names_of(alloc, self, found, &macros),
+            None => Ok(Vec::new(alloc)),
+        }
+    }
+}
+
+/// Adds the names of the libraries that a template imports, once for each import tag.
+fn add_libraries<'a>(body: &'a [Stmt], found: &mut Vec<&'a str>) -> Result<(), AllocError>
+    ensures { IfOk result (λ _. texts found.new.items
+        ≡ texts found.old.items ++ libraries_in (body_view body.now)) }
+{
+    for statement in body {
+        match statement {
+            Stmt::Import { library, .. } => found.push(library.as_str())?,
+            Stmt::From { library, .. } => found.push(library.as_str())?,
+            _ => {}
+        }
+    }
+    Ok(())
+}
+
+/// Returns the names of the libraries that a chain imports. A library imports none.
+fn libraries_of<'a>(
+    alloc: Global,
+    files: &'a [TemplateFile],
+    namespace: &Namespace,
+) -> Result<Vec<&'a str>, AllocError>
+    ensures { IfOk result (λ ns. texts ns.items ≡ (if namespace.now.is_library then []
+        else along (files_view files.now) (λ n b. libraries_in b) namespace.now.templates.items)) }
+{
+    let mut found = Vec::new(alloc);
+    if namespace.is_library {
+        return Ok(found);
+    }
+    for place in &namespace.templates {
+        add_libraries(body_of_file(files, *place), &mut found)?;
+    }
+    Ok(found)
+}
+
+impl Chain {
+    /// Returns the names of the libraries that a chain imports, once for each import tag. Returns
+    /// none if `namespace` is out of range.
+    pub fn libraries(&self, alloc: Global, namespace: usize) -> Result<Vec<&str>, AllocError>
+        ensures there { namespace < length self.now.namespaces.items → IfOk result (λ names.
+            texts names.items
+            ≡ libraries (its_sources self.now) (namespace_in self.now namespace)) }
+        ensures nowhere { NoneBeyond self.now namespace result }
+    {
+        match self.namespaces.get(namespace) {
+            Some(found) => libraries_of(alloc, &self.templates, found),
+            None => Ok(Vec::new(alloc)),
+        }
+    }
+
+    /// Returns the macro of this name that the library offers to importers.
+    pub fn library_macro(&self, library: &str, name: &str) -> Option<Macro<'_>>
+        ensures { option_map (macro_view (its_templates self.now)) result
+            ≡ chains.public_macro name.now (macros (its_sources self.now) (a_library library.now)) }
+    {
+        let place = file_named(self, library);
+        match self.templates.get(place) {
+            Some(file) => file.public_macro(place, name),
+            None => None,
+        }
+    }
+
+    /// Returns the statements of a library, or none if there is no library of this name.
+    pub fn library_body(&self, name: &str) -> &[Stmt]
+        ensures { body_view result.now
+            ≡ first_body (templates (its_sources self.now) (a_library name.now)) }
+    {
+        body_of_library(self, name)
+    }
+}

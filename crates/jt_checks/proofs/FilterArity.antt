@@ -1,0 +1,87 @@
+-- Filters by their names, and the arguments that they take.
+use Rattle.std.proofs.Common.{◌≡◌, ℕ, zero, suc, ◌+◌, max, Bool, true, false, not, ◌&&◌, ◌||◌, List, [], ◌∷◌, length}
+use Rattle.std.proofs.Common.{drop, nat_eq, refl, sym, ap, ◌∙◌, arith, Option, Some, None, rules}
+use Rattle.std.specs.Prelude.{option_map, map}
+use Rattle.std.specs.List.{list_any}
+use Rattle.std.specs.Option.{is_some}
+use Rattle.std.proofs.lemmas.Bool.Decides.{nat_tests}
+use Rattle.jt_ast.specs.Expressions as trees
+use Rattle.jt_ast.specs.Expressions.{Exprs, Text}
+use Rattle.jt_ast.specs.ExpressionView.{pairs_view}
+use Rattle.jt_filter_semantics.specs.FilterIds.{filter_of, accepts}
+use Rattle.jt_ids.specs.FilterTable.{filter_id}
+use Rattle.jt_ids.specs.declared.filter_id.FilterId.{FilterId}
+use Rattle.jt_ids.specs.declared.filter_id.FilterId.TheVariants as filter
+use Rattle.jt_chains.specs.Uses.{count, keywords}
+use Rattle.jt_ast.specs.Texts.{among, repeated}
+use Rattle.jt_ast.specs.Statements.{Parameter}
+use Rattle.jt_eval.specs.Filters.{some_given}
+use Rattle.jt_eval.specs.Inside.{names_well, inside_of}
+use Rattle.jt_eval.specs.TheFilters.{the_filters, filter_written, filter_parameters, parameters_of}
+use Rattle.jt_checks.specs.internal.Fitting.{filter_takes}
+use Rattle.jt_rules.specs.Walk as rules
+use Rattle.jt_rules.specs.declared.error.ScopeError.{ScopeError}
+use Rattle.jt_checks.proofs.FilledParameters.{none_reached}
+use Rattle.jt_ast.proofs.RemainingParts.{Entry}
+
+pub known_filter : (f : FilterId) → filter_of (filter_id f) ≡ Some f
+unfolding filter_of
+known_filter filter.Abs = refl
+known_filter f = refl
+
+abbrev pub taken_rightly : FilterId → ℕ → Exprs → trees.Pairs → Bool
+taken_rightly f n ts ps = filter_takes f (filter_parameters f) n (keywords ps) && names_well f ts ps
+
+rule_of : Option FilterId → Exprs → trees.Pairs → Option ScopeError
+rule_of None ts ps = None
+rule_of (Some f) ts ps = rules.unless (taken_rightly f (count ts) ts ps)
+
+-- The rule that a filter breaks, by its id.
+by_id : (o : Option FilterId) (ts : Exprs) (ps : trees.Pairs)
+    → rules.filter_broken the_filters (option_map filter_id o) ts ps ≡ rule_of o ts ps
+unfolding the_filters rule_of
+by_id None ts ps = refl
+by_id (Some f) ts ps =
+    ap (λ (o : Option FilterId). rules.unless ((accepts o
+    (suc (max (count ts) (rules.reached (parameters_of o) (keywords ps))))
+    && (rules.is_filled (parameters_of o) (count ts) (keywords ps)
+    && (not (repeated (keywords ps))
+    && not (list_any (λ k. not (among k (map (λ p. p.name) (drop (count ts) (parameters_of o))))) (keywords ps)))))
+    && inside_of o ts ps))
+    (known_filter f)
+
+pub filter_known : (x : Text) (f : FilterId) (n : ℕ) (ts : Exprs) (ps : trees.Pairs) (b : Bool) (r : Option ScopeError)
+    → Some f ≡ filter_written x ts ps → count ts ≡ n → b ≡ taken_rightly f n ts ps → r ≡ rules.unless b
+    → r ≡ rules.filter_broken the_filters (the_filters.named x ts ps) ts ps
+unfolding the_filters rule_of
+filter_known x f n ts ps b r is same e h =
+    h ∙ ap rules.unless e ∙ ap (λ (k : ℕ). rules.unless (taken_rightly f k ts ps)) (sym same)
+    ∙ ap (λ (o : Option FilterId). rule_of o ts ps) is ∙ sym (by_id (filter_written x ts ps) ts ps)
+
+pub filter_unknown : (x : Text) (ts : Exprs) (ps : trees.Pairs) → None ≡ filter_written x ts ps
+    → None ≡ rules.filter_broken the_filters (the_filters.named x ts ps) ts ps
+unfolding the_filters rule_of
+filter_unknown x ts ps is =
+    ap (λ (o : Option FilterId). rule_of o ts ps) is ∙ sym (by_id (filter_written x ts ps) ts ps)
+
+-- ---- no keyword arguments
+
+none_given : (ps : List Parameter) → some_given ps [] ≡ false
+none_given [] = refl
+none_given (p ∷ ps) = none_given ps
+
+filled_without : (ps : List Parameter) (n : ℕ) → rules.is_filled ps n [] ≡ true
+filled_without [] n = refl
+filled_without (p ∷ ps) (suc n) = filled_without ps n
+filled_without (p ∷ ps) zero = ap (λ b. not b || (is_some p.default && rules.is_filled ps 0 [])) (none_given ps)
+
+with_true : (b c : Bool) → c ≡ true → b ≡ (b && (c && true))
+with_true true c e = sym (ap (λ z. z && true) e)
+with_true false c e = refl
+
+pub takes_by_place : (f : FilterId) (ps : List Parameter) (n : ℕ) → accepts (Some f) (n + 1) ≡ filter_takes f ps n []
+takes_by_place f ps n = search (arith, rules, none_reached, none_given, with_true, filled_without)
+
+pub no_keywords : (ps : List Entry) → nat_eq (length ps) 0 ≡ true → keywords (pairs_view ps) ≡ []
+no_keywords [] e = refl
+no_keywords (p ∷ ps) e = search (arith, rules, nat_eq, nat_tests)

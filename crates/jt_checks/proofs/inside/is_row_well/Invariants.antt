@@ -1,7 +1,0 @@
-use Rattle.std.proofs.Common.{◌≡◌, ◌+◌, drop}
-use Rattle.jt_trees.specs.ExpressionView.{exprs_view}
-use Rattle.jt_evaluation.specs.Inside.{row_well}
-use Rattle.jt_checks.proofs.inside.is_row_well.Given as goal
-
-abbrev pub invariant-loop-index : goal.invariant-loop-index
-invariant-loop-index l = row_well l.filter 1 (exprs_view l.row) ≡ row_well l.filter (l.index + 1) (exprs_view (drop l.index l.row))

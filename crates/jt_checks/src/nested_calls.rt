@@ -1,0 +1,89 @@
+//! Checks the filters, tests and keys that the arguments of a filter name.
+
+ghost use Rattle.std.specs.Prelude.{◌≡◌, option_and_then};
+ghost use Rattle.jt_ast.specs.Written.{literal_text};
+ghost use Rattle.jt_ast.specs.ExpressionView.{expr_view, exprs_view, pairs_view};
+ghost use Rattle.jt_ids.specs.FilterTable.{filter_of_name, named_at, place_of};
+ghost use Rattle.jt_eval.specs.Inside as inside;
+ghost use Rattle.jt_eval.specs.Tests.{test_named};
+
+use jt_ast::{Expr, literal_text};
+use jt_eval::test_of;
+use jt_ids::{ArgumentRole, FilterId};
+
+/// Returns whether `map` may call the filter of this name with `values` values. An unknown name
+/// passes: the parser refuses it.
+#[tactic(auto, using(crate::proofs::NestedCallNames::alone))]
+fn is_filter_called(name: &str, values: usize) -> bool
+    ensures { result ≡ inside.filter_called (filter_of_name name.now) values }
+{
+    FilterId::named(name, None).is_none_or(|filter| filter.may_be_inner() && filter.takes(values))
+}
+
+/// Returns whether the test of this name takes `values` values. An unknown name passes: the parser
+/// refuses it.
+#[tactic(auto, using(crate::proofs::NestedCallNames::turned))]
+fn is_test_called(name: &str, values: usize) -> bool
+    ensures { result ≡ inside.test_called (test_named name.now) values }
+{
+    test_of(name).is_none_or(|test| test.takes(values))
+}
+
+/// Returns whether the named filter or test takes `values` values, the item included.
+fn is_called_well(naming: ArgumentRole, name: &str, values: usize) -> bool
+    ensures { result ≡ inside.called_well naming name.now values }
+{
+    match naming {
+        ArgumentRole::Filter => is_filter_called(name, values),
+        ArgumentRole::Test => is_test_called(name, values),
+        ArgumentRole::Key => true,
+    }
+}
+
+/// Returns whether an argument that names something is a text literal, and what it names takes
+/// `values` values.
+fn is_argument_well(naming: Option<ArgumentRole>, argument: &Expr, values: usize) -> bool
+    ensures { result ≡ inside.argument_well naming (literal_text (expr_view argument.now)) values }
+{
+    let Some(naming) = naming else {
+        return true;
+    };
+    literal_text(argument).is_some_and(|name| is_called_well(naming, name, values))
+}
+
+/// Returns whether each positional argument that names something names it correctly. A named filter
+/// or test takes the item and the arguments after its name.
+#[tactic(auto, using(crate::proofs::NestedCallNames::turn))]
+fn is_row_well(filter: FilterId, row: &[Expr]) -> bool
+    ensures { result ≡ inside.row_well filter 1 (exprs_view row.now) }
+{
+    for (index, argument) in row.iter().enumerate() {
+        let values = row.len() - index;
+        if !is_argument_well(filter.named_at(index + 1), argument, values) {
+            return false;
+        }
+    }
+    true
+}
+
+/// Returns what a keyword argument names, if it names something.
+fn naming_of(filter: FilterId, name: &str) -> Option<ArgumentRole>
+    ensures { result ≡ option_and_then (named_at filter) (place_of filter name.now) }
+{
+    filter.named_at(filter.place(name)?)
+}
+
+/// Returns whether each keyword argument that names something names it correctly. A named filter or
+/// test takes only the item.
+fn are_pairs_well(filter: FilterId, pairs: &[(String, Expr)]) -> bool
+    ensures { result ≡ inside.pairs_well filter (pairs_view pairs.now) }
+{
+    pairs.iter().all(|(name, value)| is_argument_well(naming_of(filter, name), value, 1))
+}
+
+/// Returns whether the arguments of a filter name other things correctly.
+pub(crate) fn are_names_well(filter: FilterId, row: &[Expr], pairs: &[(String, Expr)]) -> bool
+    ensures { result ≡ inside.names_well filter (exprs_view row.now) (pairs_view pairs.now) }
+{
+    is_row_well(filter, row) && are_pairs_well(filter, pairs)
+}

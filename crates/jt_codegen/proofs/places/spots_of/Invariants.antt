@@ -1,7 +1,0 @@
-use Rattle.jt_trees.specs.Texts.{texts}
-use Rattle.jt_image.specs.View.{texts_view}
-use Rattle.jt_codegen.proofs.Telling.{Told}
-use Rattle.jt_codegen.proofs.places.spots_of.Given as goal
-
-abbrev pub invariant-loop-tag : goal.invariant-loop-tag
-invariant-loop-tag l = Told (texts_view l.templates) (texts l.named) l.places l.tag-index l.spots.items

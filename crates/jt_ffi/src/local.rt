@@ -1,0 +1,12 @@
+//! Values that one handle holds, on one thread.
+use crate::error::FfiError;
+use jt_host::Context;
+
+/// A value that stays with one handle, on the thread that made it.
+#[derive(Drop)]
+pub enum Local {
+    /// A context.
+    Context(Context),
+    /// The result of a run: its text, or why there is none.
+    Outcome(Result<Vec<u8>, FfiError>),
+}

@@ -1,0 +1,62 @@
+-- Items with one more at the end.
+use Rattle.std.proofs.lemmas.List.{at_drop_more, at_drop_all}
+use Rattle.std.proofs.Common.{◌≡◌, ℕ, ◌+◌, ◌<◌, ◌≤◌, map, List, [], ◌∷◌, ◌++◌, length, drop, get_or, refl, sym, ap, ◌∙◌}
+use Rattle.std.proofs.Common.{arith, rules}
+use Rattle.std.specs.Char.{encode_utf8}
+use Rattle.jt_value.specs.Tree as tree
+use Rattle.jt_value.specs.Tree.{Tree, Items, no_items, item}
+use Rattle.jt_value.specs.Iteration.{character_items}
+use Rattle.jt_value.specs.View.{view, items_view}
+use Rattle.jt_value.specs.declared.value.Value.{Value}
+use Rattle.jt_value.specs.Payload.{more_items}
+use Rattle.jt_value.proofs.Lists.{items_view-push}
+use Rattle.jt_value.specs.Payload.{joined_items}
+
+-- Items with one more at the end and then the rest are the items and then that one with the rest.
+pub joined_pushed : (ts us : Items) (u : Tree) → joined_items (more_items ts u) us ≡ joined_items ts (item u us)
+joined_pushed no_items us u = refl
+joined_pushed (item t ts) us u = ap (item t) (joined_pushed ts us u)
+
+pub pushed : (before after : List Value) (v : Value) (u : Tree) (us : Items) → after ≡ before ++ v ∷ [] → view v ≡ u
+    → joined_items (items_view after) us ≡ joined_items (items_view before) (item u us)
+pushed before after v u us is same = search (arith, rules, items_view-push, joined_pushed)
+
+pub joined_none : (ts : Items) → joined_items ts no_items ≡ ts
+joined_none no_items = refl
+joined_none (item t ts) = ap (item t) (joined_none ts)
+
+pub character_items-more : (cs : List ℕ) (c : ℕ)
+    → character_items (cs ++ c ∷ []) ≡ more_items (character_items cs) (tree.text (encode_utf8 c))
+character_items-more [] c = refl
+character_items-more (d ∷ cs) c = ap (item (tree.text (encode_utf8 d))) (character_items-more cs c)
+
+-- The characters with one more at the end.
+pub characters_pushed : (before after : List Value) (v : Value) (cs : List ℕ) (c : ℕ) → after ≡ before ++ v ∷ []
+    → view v ≡ tree.text (encode_utf8 c) → items_view before ≡ character_items cs
+    → items_view after ≡ character_items (cs ++ c ∷ [])
+characters_pushed before after v cs c is same inv = search (arith, rules, items_view-push, character_items-more)
+
+-- A step of a loop that makes one item of each element of a list.
+pub made_more : {X : Type 0} (F : List X → Items) (before after : List Value) (v : Value) (xs : List X) (i : ℕ) (x : X)
+    (u : Tree) (all : Items)
+    → i < length xs → x ≡ get_or xs i x → after ≡ before ++ v ∷ [] → view v ≡ u
+    → F (x ∷ drop (i + 1) xs) ≡ item u (F (drop (i + 1) xs))
+    → joined_items (items_view before) (F (drop i xs)) ≡ all
+    → joined_items (items_view after) (F (drop (i + 1) xs)) ≡ all
+made_more {X} F before after v xs i x u all inside at is same one inv =
+    pushed before after v u (F (drop (i + 1) xs)) is same
+    ∙ ap (λ (ts : Items). joined_items (items_view before) ts)
+    (sym one ∙ ap (λ (y : X). F (y ∷ drop (i + 1) xs)) at ∙ sym (at_drop_more F xs i x inside))
+    ∙ inv
+
+-- The end of a loop that makes one item of each element of a list.
+pub made_all : {X : Type 0} (F : List X → Items) (before : List Value) (xs : List X) (i : ℕ) (all : Items)
+    → length xs ≤ i → F [] ≡ no_items → joined_items (items_view before) (F (drop i xs)) ≡ all → items_view before ≡ all
+made_all F before xs i all past none inv =
+    sym (joined_none (items_view before))
+    ∙ ap (λ (ts : Items). joined_items (items_view before) ts) (sym none ∙ sym (at_drop_all F xs i past))
+    ∙ inv
+
+pub same_list : (xs : List ℕ) → map (λ x. x) xs ≡ xs
+same_list [] = refl
+same_list (x ∷ xs) = ap (λ (ys : List ℕ). x ∷ ys) (same_list xs)

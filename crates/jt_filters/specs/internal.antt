@@ -1,0 +1,5 @@
+pub mod Codes
+pub mod Operands
+pub mod Ranks
+pub mod Rows
+pub mod Seen

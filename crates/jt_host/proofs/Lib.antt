@@ -1,0 +1,2 @@
+mod RefusedCode
+pub mod SourceInsertion

@@ -1,0 +1,117 @@
+//! The errors of the calls over bytes.
+
+ghost use Rattle.std.specs.Prelude.{◌≡◌};
+ghost use Rattle.jt_host.specs.CallErrors.{of_image, of_code, of_compile, of_context, of_render};
+ghost use Rattle.jt_host.specs.CallErrors.{of_outcome};
+
+use crate::error::RenderError;
+use jt_budget::Spent;
+use jt_codegen::CompileError;
+use jt_contexts::ContextError;
+use jt_image::ImageError;
+use jt_machine::{Outcome, Place};
+use jt_value::{Fault, NoMemory};
+use jt_verify::Refusal;
+use thiserror::Error;
+
+/// Why a call returns neither a text nor an image.
+#[derive(Debug, Drop, Error, PartialEq, Eq)]
+pub enum CallError {
+    /// The bytes are not an image.
+    #[error("{0}")]
+    Image(ImageError),
+    /// The verifier refuses the image.
+    #[error("{0}")]
+    Code(Refusal),
+    /// The templates do not compile.
+    #[error("{0}")]
+    Template(CompileError),
+    /// The bytes spell no context.
+    #[error("{0}")]
+    Context(ContextError),
+    /// The template ended with a fault, at its place if the image has one.
+    #[error("fault {0}")]
+    Fault(Fault, Option<Place>),
+    /// The budget was spent.
+    #[error("spent {0}")]
+    Spent(Spent),
+    /// A growth was refused.
+    #[error("no memory")]
+    NoMemory,
+}
+
+impl From<NoMemory> for CallError {
+    ghost use Rattle.jt_host.specs.declared.call_error.CallError.TheVariants as error;
+
+    ghost from_gives = { λ _ e. e ≡ error.NoMemory };
+
+    fn from(_refused: NoMemory) -> CallError {
+        CallError::NoMemory
+    }
+}
+
+impl From<ImageError> for CallError {
+    ghost from_gives = { λ fault e. e ≡ of_image fault };
+
+    fn from(fault: ImageError) -> CallError {
+        match fault {
+            ImageError::NoMemory => CallError::NoMemory,
+            other => CallError::Image(other),
+        }
+    }
+}
+
+impl From<Refusal> for CallError {
+    ghost from_gives = { λ refusal e. e ≡ of_code refusal };
+
+    fn from(refusal: Refusal) -> CallError {
+        match refusal {
+            Refusal::NoMemory => CallError::NoMemory,
+            flaw => CallError::Code(flaw),
+        }
+    }
+}
+
+impl From<CompileError> for CallError {
+    ghost from_gives = { λ refusal e. e ≡ of_compile refusal };
+
+    fn from(refusal: CompileError) -> CallError {
+        match refusal {
+            CompileError::NoMemory => CallError::NoMemory,
+            other => CallError::Template(other),
+        }
+    }
+}
+
+impl From<ContextError> for CallError {
+    ghost from_gives = { λ flaw e. e ≡ of_context flaw };
+
+    fn from(flaw: ContextError) -> CallError {
+        match flaw {
+            ContextError::NoMemory => CallError::NoMemory,
+            other => CallError::Context(other),
+        }
+    }
+}
+
+impl From<RenderError> for CallError {
+    ghost from_gives = { λ refusal e. e ≡ of_render refusal };
+
+    fn from(refusal: RenderError) -> CallError {
+        match refusal {
+            RenderError::Compile(refusal) => refusal.into(),
+            RenderError::NoMemory => CallError::NoMemory,
+        }
+    }
+}
+
+/// Returns the text with which a run ended, or the error.
+pub(crate) fn text_of(outcome: Outcome) -> Result<String, CallError>
+    ensures { result ≡ of_outcome outcome }
+{
+    match outcome {
+        Outcome::Text(text) => Ok(text),
+        Outcome::Fault(fault, place) => Err(CallError::Fault(fault, place)),
+        Outcome::Spent(spent) => Err(CallError::Spent(spent)),
+    }
+}

@@ -1,0 +1,610 @@
+-- The spelling of a code is read as this code.
+use Rattle.std.proofs.Common.{◌≡◌, ℕ, ◌+◌, ◌<◌, ◌≤◌, ◌^◌, Bool, true, false, cond, ltb, leb, eqb, List, [], ◌∷◌, ◌++◌}
+use Rattle.std.proofs.Common.{length, map, take, drop, Option, Some, None, Result, Ok, Err, refl, sym, ap, subst, ◌∙◌}
+use Rattle.std.proofs.Common.{arith, append_assoc, rules}
+use Rattle.std.specs.Prelude.{ℤ, ◌==◌, ◌&&◌, ◌||◌, ◌≢◌, not, nat_lt, nat_le, IsUtf8, MatchResult, MatchOption}
+use Rattle.std.specs.Int.{w16, w32, w64, to_le_bytes, cast_signed, cast_unsigned}
+use Rattle.std.specs.List.{flat_map, AllByRecursion}
+use Rattle.std.specs.Str.{bytes_eq}
+use Rattle.std.proofs.Math.Facts.{Fits-of_z, Fits-lt-pow}
+use Rattle.std.proofs.lemmas.Int.{to_z-of_z}
+use Rattle.std.proofs.lemmas.Slice.Eq.{bytes_eq-Decides}
+use Rattle.std.proofs.lemmas.Bool.{lt-ltb, le-leb, le-ltb}
+use Rattle.std.proofs.lemmas.Bool.Decides.{nat_tests}
+use Rattle.std.proofs.lemmas.List.{append-nil, take_at, drop_at}
+use Rattle.jt_image.specs.declared.error.ImageError.{ImageError}
+use Rattle.jt_image.specs.declared.error.ImageError.TheVariants.{BadMagic, Truncated, Trailing, BadOpcode, BadTable}
+use Rattle.jt_image.specs.declared.error.ImageError.TheVariants.{LimitPassed, NoMemory}
+use Rattle.jt_image.specs.declared.instruction.Instruction.{Instruction}
+use Rattle.jt_image.specs.declared.instruction.Instruction.TheVariants as op
+use Rattle.jt_image.specs.declared.wire.Instr.{Instr}
+use Rattle.jt_image.specs.declared.version.Version.{Version}
+use Rattle.jt_image.specs.Code.{Constant, undefined, nothing, truth_value, number, text, markup, Name, Section, Code}
+use Rattle.jt_image.specs.Spelling.{magic, version_number, name_bytes, template_bytes, constant_bytes, header_bytes}
+use Rattle.jt_image.specs.Spelling.{wire_of, wire_bytes, instruction_bytes, spelling}
+use Rattle.jt_image.specs.IsCode.{IsName, Ascend, AreDistinct, IsConstant, IsInstruction, IsSection, total_len}
+use Rattle.jt_image.specs.IsCode.{HasEntry, IsCode, max_locals, max_instructions, max_bytes}
+use Rattle.jt_image.specs.Reading.{◌>>=◌, Gives, check, number_at, byte_at, text_at, is_used, follows, last_name}
+use Rattle.jt_image.specs.Reading.{text_after, slot_at, name_at, names_at, long_text_at, constant_of, constant_at}
+use Rattle.jt_image.specs.Reading.{constants_at, Header, header_total, is_first, parameters_at, kind_at, locals_at}
+use Rattle.jt_image.specs.Reading.{len_at, header_of, header_at, headers_at, known, known_of, instruction_of}
+use Rattle.jt_image.specs.Reading.{instruction_at, instructions_at, section_of, section_at, sections_at, magic_at}
+use Rattle.jt_image.specs.Reading.{version_at, start_at, Trailer, trailer_at, units_at, all_names_at, all_constants_at}
+use Rattle.jt_image.specs.Reading.{code_of}
+use Rattle.jt_image.proofs.ReaderParts.{header_total-push, is_first-push, is_used-push}
+use Rattle.jt_image.proofs.DecodeSoundLemmas.{wide16, wide32, wide64, AllGood}
+use Rattle.jt_image.proofs.DecodeSound.{wire_from, good_instruction, IsFree, IsNamed, long_bytes, IsPlain, IsHeader}
+use Rattle.jt_image.proofs.DecodeSound.{head_bytes, code_bytes, head_of, HasCode}
+use Rattle.jt_image.proofs.WholeImageSound.{last_name-push, AreNames, good_constant, AreConstants, good_header}
+use Rattle.jt_image.proofs.WholeImageSound.{HasFirst, AreUnits, head_spelled, length-map_of}
+use Rattle.jt_image.proofs.TrailerRoundTrip.{version_again, next_again, trailer_bytes, back_again}
+use Rattle.jt_image.proofs.RoundTripLemmas.{number_again, text_again, bind_again, many_again, each_again}
+
+-- A test that holds has no effect.
+check_again : {A : Type 0} (b : Bool) (d : ImageError) (r : Result A ImageError) → b ≡ true → check b d r ≡ r
+check_again true d r e = refl
+check_again false d r e = absurd cc
+
+-- ---- names
+
+slot_again : (globals : ℕ) (before : List Name) (slot : ℕ) (rest : List ℕ) → globals < 2 ^ 16
+    → IsFree globals before slot → slot_at globals before (to_le_bytes w16 slot ++ rest) ≡ Ok (slot, rest)
+unfolding slot_at
+slot_again globals before slot rest small h =
+    let below : ltb slot globals ≡ true = lt-ltb _ _ h.below in
+    let test : (nat_lt slot globals && not (is_used slot before)) ≡ true = rw (below, h.free) refl in
+    bind_again (number_at w16 (to_le_bytes w16 slot ++ rest))
+    (λ s. check (nat_lt s.0 globals && not (is_used s.0 before)) BadTable (Ok s)) slot rest (Ok (slot, rest))
+    (number_again w16 (2 ^ 16) wide16 slot rest (omega (arith, h.below, small)))
+    (check_again (nat_lt slot globals && not (is_used slot before)) BadTable (Ok (slot, rest)) test)
+
+name_again : (globals : ℕ) → globals < 2 ^ 16 → (before : List Name) (n : Name) (rest : List ℕ)
+    → IsNamed globals before n → name_at globals before (name_bytes n ++ rest) ≡ Ok (n, rest)
+unfolding name_at
+name_again globals small before n rest h =
+    ap (name_at globals before) (append_assoc (to_le_bytes w16 n.slot) (template_bytes n.text) rest)
+    ∙ bind_again (slot_at globals before (to_le_bytes w16 n.slot ++ (template_bytes n.text ++ rest)))
+    (λ slot. text_after (last_name before) slot.1 >>= λ t. Ok (record { slot = slot.0; text = t.0 }, t.1)) n.slot
+    (template_bytes n.text ++ rest) (Ok (n, rest))
+    (slot_again globals before n.slot (template_bytes n.text ++ rest) small h.slot)
+    (bind_again (text_after (last_name before) (template_bytes n.text ++ rest))
+    (λ t. Ok (record { slot = n.slot; text = t.0 }, t.1)) n.text rest (Ok (n, rest))
+    (next_again (last_name before) n.text rest h.next) refl)
+
+-- No slot of these names has a name yet.
+abbrev pub IsClear : List Name → List Name → Type 0
+IsClear before ns = AllByRecursion (λ m. is_used m.slot before ≡ false) ns
+
+-- The first of these names may follow those before it.
+abbrev pub Starts : List Name → List Name → Type 0
+Starts before [] = Unit {0}
+Starts before (n ∷ ns) = follows (last_name before) n.text ≡ true
+
+unequal : (a b : ℕ) → a ≢ b → eqb a b ≡ false
+unequal a b ne = grind (arith, nat_tests)
+
+still_clear : (before : List Name) (n : Name) (ns : List Name) → IsClear before ns
+    → AllByRecursion (λ m. n.slot ≢ m.slot) ns → IsClear (before ++ n ∷ []) ns
+still_clear before n [] clear ne = tt
+still_clear before n (m ∷ ns) clear ne =
+    search (arith, rules, unequal, is_used-push, still_clear before n ns clear.1 ne.1)
+
+next_starts : (before : List Name) (n : Name) (ns : List Name) → Ascend (n ∷ ns) → Starts (before ++ n ∷ []) ns
+next_starts before n [] h = tt
+next_starts before n (m ∷ ns) h = ap (λ (o : Option (List ℕ)). follows o m.text) (last_name-push before n) ∙ h.0
+
+rest_ascends : (n : Name) (ns : List Name) → Ascend (n ∷ ns) → Ascend ns
+rest_ascends n [] h = tt
+rest_ascends n (m ∷ ns) h = h.1
+
+pub named : (globals : ℕ) (before ns : List Name) → AllByRecursion (IsName globals) ns → Ascend ns → AreDistinct ns
+    → IsClear before ns → Starts before ns → AllGood (IsNamed globals) before ns
+named globals before [] all up distinct clear starts = tt
+named globals before (n ∷ ns) all up distinct clear starts = (
+  record {
+    slot = record { below = all.0.slot; free = clear.0 };
+    next = record { fits = all.0.fits; utf8 = all.0.utf8; follows = starts };
+  },
+  named globals (before ++ n ∷ []) ns all.1 (rest_ascends n ns up) distinct.1
+      (still_clear before n ns clear.1 distinct.0) (next_starts before n ns up),
+)
+
+pub all_clear : (ns : List Name) → IsClear [] ns
+all_clear [] = tt
+all_clear (n ∷ ns) = (refl, all_clear ns)
+
+pub first_starts : (globals : ℕ) (ns : List Name) → AllByRecursion (IsName globals) ns → Starts [] ns
+first_starts globals [] all = tt
+first_starts globals (n ∷ ns) all = lt-ltb _ _ all.0.some
+
+names_again : (globals : ℕ) → globals < 2 ^ 16 → (ns : List Name) (rest : List ℕ) → AreNames globals ns
+    → all_names_at globals (to_le_bytes w16 (length ns) ++ (flat_map name_bytes ns ++ rest)) ≡ Ok (ns, rest)
+unfolding all_names_at
+names_again globals small ns rest h =
+    bind_again (number_at w16 (to_le_bytes w16 (length ns) ++ (flat_map name_bytes ns ++ rest)))
+    (λ n. names_at globals n.0 n.1) (length ns) (flat_map name_bytes ns ++ rest) (Ok (ns, rest))
+    (number_again w16 (2 ^ 16) wide16 (length ns) (flat_map name_bytes ns ++ rest) h.count)
+    (many_again (name_at globals) name_bytes (IsNamed globals) (name_again globals small) [] ns rest
+    (named globals [] ns h.all h.ascend h.distinct (all_clear ns) (first_starts globals ns h.all)))
+
+-- ---- constants
+
+long_text_again : (t rest : List ℕ) → (length t < 2 ^ 32) × IsUtf8 t
+    → long_text_at (long_bytes t ++ rest) ≡ Ok (t, rest)
+unfolding long_text_at
+long_text_again t rest h =
+    ap long_text_at (append_assoc (to_le_bytes w32 (length t)) t rest)
+    ∙ bind_again (number_at w32 (to_le_bytes w32 (length t) ++ (t ++ rest))) (λ len. text_at len.0 len.1) (length t)
+    (t ++ rest) (Ok (t, rest)) (number_again w32 (2 ^ 32) wide32 (length t) (t ++ rest) h.0) (text_again t rest h.1)
+
+constant_again : (before : List Constant) (x : Constant) (rest : List ℕ) → IsConstant x
+    → constant_at (constant_bytes x ++ rest) ≡ Ok (x, rest)
+unfolding constant_at constant_of
+constant_again before undefined rest h = refl
+constant_again before nothing rest h = refl
+constant_again before (truth_value false) rest h = refl
+constant_again before (truth_value true) rest h = refl
+constant_again before (number z) rest h =
+    let bits = cast_unsigned w64 z in
+    bind_again (number_at w64 (to_le_bytes w64 bits ++ rest)) (λ n. Ok (number (cast_signed w64 n.0), n.1)) bits rest
+    (Ok (number z, rest))
+    (number_again w64 (2 ^ 64) wide64 bits rest (Fits-lt-pow {w = w64} {n = bits} (Fits-of_z {w = w64} {z = z} h)))
+    (ap (λ (i : ℤ). let r : Constant × List ℕ = (number i, rest) in Ok r) (to_z-of_z w64 z h))
+constant_again before (text t) rest h =
+    bind_again (long_text_at (long_bytes t ++ rest)) (λ t. Ok (text t.0, t.1)) t rest (Ok (text t, rest))
+    (long_text_again t rest h) refl
+constant_again before (markup t) rest h =
+    bind_again (long_text_at (long_bytes t ++ rest)) (λ t. Ok (markup t.0, t.1)) t rest (Ok (markup t, rest))
+    (long_text_again t rest h) refl
+
+good_constants : (before cs : List Constant) → AllByRecursion IsConstant cs → AllGood good_constant before cs
+good_constants before [] h = tt
+good_constants before (x ∷ cs) h = (h.0, good_constants (before ++ x ∷ []) cs h.1)
+
+constants_again : (cs : List Constant) (rest : List ℕ) → AreConstants cs
+    → all_constants_at (to_le_bytes w16 (length cs) ++ (flat_map constant_bytes cs ++ rest)) ≡ Ok (cs, rest)
+unfolding all_constants_at
+constants_again cs rest h =
+    bind_again (number_at w16 (to_le_bytes w16 (length cs) ++ (flat_map constant_bytes cs ++ rest)))
+    (λ n. constants_at n.0 n.1) (length cs) (flat_map constant_bytes cs ++ rest) (Ok (cs, rest))
+    (number_again w16 (2 ^ 16) wide16 (length cs) (flat_map constant_bytes cs ++ rest) h.0)
+    (many_again (λ _. constant_at) constant_bytes good_constant constant_again [] cs rest (good_constants [] cs h.1))
+
+-- ---- headers
+
+parameters_again : (first : Bool) (p : ℕ) (rest : List ℕ) → IsPlain first p
+    → parameters_at first (p ∷ rest) ≡ Ok (p, rest)
+unfolding parameters_at
+parameters_again first p rest plain = check_again (not first || p == 0) BadTable (Ok (p, rest)) (holds first plain)
+  where
+    holds : (f : Bool) → IsPlain f p → (not f || eqb p 0) ≡ true
+    holds true h = let e : p ≡ 0 = h refl in rw e refl
+    holds false h = refl
+
+kind_again : (first : Bool) (k : ℕ) (rest : List ℕ) → k ≤ 1 → IsPlain first k → kind_at first (k ∷ rest) ≡ Ok (k, rest)
+unfolding kind_at
+kind_again first k rest le plain = check_again (nat_le k (cond first 0 1)) BadTable (Ok (k, rest)) (holds first plain)
+  where
+    holds : (f : Bool) → IsPlain f k → leb k (cond f 0 1) ≡ true
+    holds true h = le-leb _ _ (omega (arith, h refl))
+    holds false h = le-leb _ _ le
+
+locals_again : (p n : ℕ) (rest : List ℕ) → n ≤ max_locals → p ≤ n
+    → locals_at p (to_le_bytes w16 n ++ rest) ≡ Ok (n, rest)
+unfolding locals_at
+locals_again p n rest small within =
+    bind_again (number_at w16 (to_le_bytes w16 n ++ rest))
+    (λ n. check (nat_le n.0 max_locals) LimitPassed (check (nat_le p n.0) BadTable (Ok n))) n rest (Ok (n, rest))
+    (number_again w16 (2 ^ 16) wide16 n rest (omega (arith, small)))
+    (check_again (nat_le n max_locals) LimitPassed (check (nat_le p n) BadTable (Ok (n, rest))) (le-leb _ _ small)
+    ∙ check_again (nat_le p n) BadTable (Ok (n, rest)) (le-leb _ _ within))
+
+len_again : (total n : ℕ) (rest : List ℕ) → total + n ≤ max_instructions
+    → len_at total (to_le_bytes w32 n ++ rest) ≡ Ok (n, rest)
+unfolding len_at
+len_again total n rest small =
+    bind_again (number_at w32 (to_le_bytes w32 n ++ rest))
+    (λ n. check (nat_le (total + n.0) max_instructions) LimitPassed (Ok n)) n rest (Ok (n, rest))
+    (number_again w32 (2 ^ 32) wide32 n rest (omega (arith, small)))
+    (check_again (nat_le (total + n) max_instructions) LimitPassed (Ok (n, rest)) (le-leb _ _ small))
+
+header_again : (first : Bool) (total : ℕ) (h : Header) (rest : List ℕ) → IsHeader first total h
+    → header_of first total (head_bytes h ++ rest) ≡ Ok (h, rest)
+unfolding header_of
+header_again first total h rest g =
+    let after = to_le_bytes w16 h.locals ++ (to_le_bytes w32 h.len ++ rest) in
+    ap (λ (t : List ℕ). header_of first total (h.parameters ∷ h.kind ∷ t))
+    (append_assoc (to_le_bytes w16 h.locals) (to_le_bytes w32 h.len) rest)
+    ∙ bind_again (parameters_at first (h.parameters ∷ h.kind ∷ after))
+    (λ p. kind_at first p.1 >>= λ k. locals_at p.0 k.1
+    >>= λ l. len_at total l.1 >>= λ n. Ok (record { parameters = p.0; kind = k.0; locals = l.0; len = n.0 }, n.1))
+    h.parameters (h.kind ∷ after) (Ok (h, rest)) (parameters_again first h.parameters (h.kind ∷ after) g.plain)
+    (bind_again (kind_at first (h.kind ∷ after))
+    (λ k. locals_at h.parameters k.1 >>= λ l.
+    len_at total l.1 >>= λ n. Ok (record { parameters = h.parameters; kind = k.0; locals = l.0; len = n.0 }, n.1))
+    h.kind after (Ok (h, rest)) (kind_again first h.kind after g.kind g.emits)
+    (bind_again (locals_at h.parameters after)
+    (λ l.
+    len_at total l.1 >>= λ n. Ok (record { parameters = h.parameters; kind = h.kind; locals = l.0; len = n.0 }, n.1))
+    h.locals (to_le_bytes w32 h.len ++ rest) (Ok (h, rest))
+    (locals_again h.parameters h.locals (to_le_bytes w32 h.len ++ rest) g.locals g.within)
+    (bind_again (len_at total (to_le_bytes w32 h.len ++ rest))
+    (λ n. Ok (record { parameters = h.parameters; kind = h.kind; locals = h.locals; len = n.0 }, n.1)) h.len rest
+    (Ok (h, rest)) (len_again total h.len rest g.fits) refl)))
+
+-- ---- instructions
+
+-- If a reader succeeds and reads no bytes, the next reader continues.
+step_again : {A B : Type 0} (r : Result A ImageError) (f : A → Result B ImageError) (x : A) (y : Result B ImageError)
+    → r ≡ Ok x → f x ≡ y → (r >>= f) ≡ y
+step_again {A} {B} r f x y e g = ap (λ (q : Result A ImageError). q >>= f) e ∙ g
+
+-- If each prefix of the fields is accepted, the instruction is read.
+decode_fields : (i j0 j1 j2 : Instruction) (opcode a b c : ℕ) (rest : List ℕ) → b < 2 ^ 16 → c < 2 ^ 32
+    → known_of opcode 0 0 0 ≡ Ok j0 → known_of opcode a 0 0 ≡ Ok j1 → known_of opcode a b 0 ≡ Ok j2
+    → known_of opcode a b c ≡ Ok i
+    → instruction_at (opcode ∷ a ∷ (to_le_bytes w16 b ++ to_le_bytes w32 c) ++ rest) ≡ Ok (i, rest)
+unfolding instruction_at
+decode_fields i j0 j1 j2 opcode a b c rest small_b small_c e0 e1 e2 e3 =
+    ap (λ (t : List ℕ). instruction_at (opcode ∷ a ∷ t)) (append_assoc (to_le_bytes w16 b) (to_le_bytes w32 c) rest)
+    ∙ step_again (known_of opcode 0 0 0) (λ _. byte_at (a ∷ (to_le_bytes w16 b ++ (to_le_bytes w32 c ++ rest)))
+    >>= λ a. known_of opcode a.0 0 0 >>= λ _. number_at w16 a.1
+    >>= λ b.
+    known_of opcode a.0 b.0 0 >>= λ _. number_at w32 b.1 >>= λ c. known_of opcode a.0 b.0 c.0 >>= λ i. Ok (i, c.1)) j0
+    (Ok (i, rest)) e0
+    (step_again (known_of opcode a 0 0) (λ _. number_at w16 (to_le_bytes w16 b ++ (to_le_bytes w32 c ++ rest))
+    >>= λ b. known_of opcode a b.0 0 >>= λ _. number_at w32 b.1 >>= λ c. known_of opcode a b.0 c.0 >>= λ i. Ok (i, c.1))
+    j1 (Ok (i, rest)) e1
+    (bind_again (number_at w16 (to_le_bytes w16 b ++ (to_le_bytes w32 c ++ rest)))
+    (λ b. known_of opcode a b.0 0 >>= λ _. number_at w32 b.1 >>= λ c. known_of opcode a b.0 c.0 >>= λ i. Ok (i, c.1)) b
+    (to_le_bytes w32 c ++ rest) (Ok (i, rest)) (number_again w16 (2 ^ 16) wide16 b (to_le_bytes w32 c ++ rest) small_b)
+    (step_again (known_of opcode a b 0)
+    (λ _. number_at w32 (to_le_bytes w32 c ++ rest) >>= λ c. known_of opcode a b c.0 >>= λ i. Ok (i, c.1)) j2
+    (Ok (i, rest)) e2
+    (bind_again (number_at w32 (to_le_bytes w32 c ++ rest)) (λ c. known_of opcode a b c.0 >>= λ i. Ok (i, c.1)) c rest
+    (Ok (i, rest)) (number_again w32 (2 ^ 32) wide32 c rest small_c)
+    (step_again (known_of opcode a b c) (λ i. Ok (i, rest)) i (Ok (i, rest)) e3 refl)))))
+
+-- An instruction is read from its fields, and each prefix of them is accepted.
+pub record IsWired (w : Instr) (i : Instruction) : Type 0 where
+  pub by_op : (j : Instruction) × (known_of w.op 0 0 0 ≡ Ok j)
+  pub by_a : (j : Instruction) × (known_of w.op w.a 0 0 ≡ Ok j)
+  pub by_b : (j : Instruction) × (known_of w.op w.a w.b 0 ≡ Ok j)
+  pub whole : known_of w.op w.a w.b w.c ≡ Ok i
+
+pub wired : (i : Instruction) → IsWired (wire_of i) i
+unfolding known_of instruction_of
+wired (op.Const c) = record {
+  by_op = (op.Const 0, refl);
+  by_a = (op.Const 0, refl);
+  by_b = (op.Const 0, refl);
+  whole = refl;
+}
+wired (op.Load c) = record {
+  by_op = (op.Load 0, refl);
+  by_a = (op.Load 0, refl);
+  by_b = (op.Load 0, refl);
+  whole = refl;
+}
+wired (op.Store c) = record {
+  by_op = (op.Store 0, refl);
+  by_a = (op.Store 0, refl);
+  by_b = (op.Store 0, refl);
+  whole = refl;
+}
+wired (op.GLoad c) = record {
+  by_op = (op.GLoad 0, refl);
+  by_a = (op.GLoad 0, refl);
+  by_b = (op.GLoad 0, refl);
+  whole = refl;
+}
+wired (op.GStore c) = record {
+  by_op = (op.GStore 0, refl);
+  by_a = (op.GStore 0, refl);
+  by_b = (op.GStore 0, refl);
+  whole = refl;
+}
+wired op.Drop = record { by_op = (op.Drop, refl); by_a = (op.Drop, refl); by_b = (op.Drop, refl); whole = refl }
+wired op.Dup = record { by_op = (op.Dup, refl); by_a = (op.Dup, refl); by_b = (op.Dup, refl); whole = refl }
+wired (op.Emit a) = record {
+  by_op = (op.Emit 0, refl);
+  by_a = (op.Emit a, refl);
+  by_b = (op.Emit a, refl);
+  whole = refl;
+}
+wired (op.Data c) = record {
+  by_op = (op.Data 0, refl);
+  by_a = (op.Data 0, refl);
+  by_b = (op.Data 0, refl);
+  whole = refl;
+}
+wired (op.Jump c) = record {
+  by_op = (op.Jump 0, refl);
+  by_a = (op.Jump 0, refl);
+  by_b = (op.Jump 0, refl);
+  whole = refl;
+}
+wired (op.JumpIfFalse c) = record {
+  by_op = (op.JumpIfFalse 0, refl);
+  by_a = (op.JumpIfFalse 0, refl);
+  by_b = (op.JumpIfFalse 0, refl);
+  whole = refl;
+}
+wired (op.JumpIfTrue c) = record {
+  by_op = (op.JumpIfTrue 0, refl);
+  by_a = (op.JumpIfTrue 0, refl);
+  by_b = (op.JumpIfTrue 0, refl);
+  whole = refl;
+}
+wired (op.Op a) = record { by_op = (op.Op 0, refl); by_a = (op.Op a, refl); by_b = (op.Op a, refl); whole = refl }
+wired (op.Filter a b c) = record {
+  by_op = (op.Filter 0 0 0, refl);
+  by_a = (op.Filter a 0 0, refl);
+  by_b = (op.Filter a b 0, refl);
+  whole = refl;
+}
+wired (op.Test a b) = record {
+  by_op = (op.Test 0 0, refl);
+  by_a = (op.Test a 0, refl);
+  by_b = (op.Test a b, refl);
+  whole = refl;
+}
+wired (op.MakeList c) = record {
+  by_op = (op.MakeList 0, refl);
+  by_a = (op.MakeList 0, refl);
+  by_b = (op.MakeList 0, refl);
+  whole = refl;
+}
+wired (op.MakeMap c) = record {
+  by_op = (op.MakeMap 0, refl);
+  by_a = (op.MakeMap 0, refl);
+  by_b = (op.MakeMap 0, refl);
+  whole = refl;
+}
+wired op.LoopStart = record {
+  by_op = (op.LoopStart, refl);
+  by_a = (op.LoopStart, refl);
+  by_b = (op.LoopStart, refl);
+  whole = refl;
+}
+wired (op.LoopNext c) = record {
+  by_op = (op.LoopNext 0, refl);
+  by_a = (op.LoopNext 0, refl);
+  by_b = (op.LoopNext 0, refl);
+  whole = refl;
+}
+wired (op.LoopGet a c) = record {
+  by_op = (op.LoopGet 0 0, refl);
+  by_a = (op.LoopGet a 0, refl);
+  by_b = (op.LoopGet a 0, refl);
+  whole = refl;
+}
+wired (op.LoopKeep c) = record {
+  by_op = (op.LoopKeep 0, refl);
+  by_a = (op.LoopKeep 0, refl);
+  by_b = (op.LoopKeep 0, refl);
+  whole = refl;
+}
+wired op.LoopRewind = record {
+  by_op = (op.LoopRewind, refl);
+  by_a = (op.LoopRewind, refl);
+  by_b = (op.LoopRewind, refl);
+  whole = refl;
+}
+wired op.LoopEnd = record {
+  by_op = (op.LoopEnd, refl);
+  by_a = (op.LoopEnd, refl);
+  by_b = (op.LoopEnd, refl);
+  whole = refl;
+}
+wired op.CaptureBegin = record {
+  by_op = (op.CaptureBegin, refl);
+  by_a = (op.CaptureBegin, refl);
+  by_b = (op.CaptureBegin, refl);
+  whole = refl;
+}
+wired (op.CaptureEnd a) = record {
+  by_op = (op.CaptureEnd 0, refl);
+  by_a = (op.CaptureEnd a, refl);
+  by_b = (op.CaptureEnd a, refl);
+  whole = refl;
+}
+wired (op.Unpack c) = record {
+  by_op = (op.Unpack 0, refl);
+  by_a = (op.Unpack 0, refl);
+  by_b = (op.Unpack 0, refl);
+  whole = refl;
+}
+wired (op.Call c) = record {
+  by_op = (op.Call 0, refl);
+  by_a = (op.Call 0, refl);
+  by_b = (op.Call 0, refl);
+  whole = refl;
+}
+wired op.Return = record { by_op = (op.Return, refl); by_a = (op.Return, refl); by_b = (op.Return, refl); whole = refl }
+
+-- The fields of an instruction fit their encoding.
+abbrev pub HasSmallWire : Instruction → Type 0
+HasSmallWire i = ((wire_of i).b < 2 ^ 16) × ((wire_of i).c < 2 ^ 32)
+
+pub small_wire : (i : Instruction) → IsInstruction i → HasSmallWire i
+small_wire a0 h = search (arith, rules)
+
+-- The encoded fields of an instruction are read as this instruction.
+pub by_wire : (w : Instr) (i : Instruction) (rest : List ℕ) → wire_of i ≡ w → w.b < 2 ^ 16 → w.c < 2 ^ 32
+    → instruction_at (wire_bytes w ++ rest) ≡ Ok (i, rest)
+by_wire w i rest e small_b small_c =
+    let h : IsWired w i = subst (λ (v : Instr). IsWired v i) e (wired i) in
+    decode_fields i h.by_op.0 h.by_a.0 h.by_b.0 w.op w.a w.b w.c rest small_b small_c h.by_op.1 h.by_a.1 h.by_b.1
+    h.whole
+
+instruction_again : (before : List Instruction) (i : Instruction) (rest : List ℕ) → IsInstruction i
+    → instruction_at (instruction_bytes i ++ rest) ≡ Ok (i, rest)
+instruction_again before i rest h = let small = small_wire i h in by_wire (wire_of i) i rest refl small.0 small.1
+
+-- Fields without an instruction are not those of an instruction.
+no_instruction : (w : Instr) (i : Instruction) → instruction_of w ≡ None → IsWired w i → ⊥
+unfolding known_of
+no_instruction w i e h = fault (sym (ap known e) ∙ h.whole)
+  where
+    fault : (let r : Result Instruction ImageError = Err BadOpcode in r ≡ Ok i) → ⊥
+    fault f = cc
+
+-- The table of opcodes has the one instruction with these fields, or none if none exists.
+pub instruction_exact : (w : Instr) (o : Option Instruction) → o ≡ instruction_of w
+    → MatchOption o ((i : Instruction) → wire_of i ≢ w) (λ i. wire_of i ≡ w)
+instruction_exact w (Some i) e = wire_from w i (sym e)
+instruction_exact w None e = λ i f. no_instruction w i (sym e) (subst (λ (v : Instr). IsWired v i) f (wired i))
+
+-- ---- units
+
+good_instructions : (before code : List Instruction) → AllByRecursion IsInstruction code
+    → AllGood good_instruction before code
+good_instructions before [] h = tt
+good_instructions before (i ∷ is) h = (h.0, good_instructions (before ++ i ∷ []) is h.1)
+
+section_again : (u : Section) (rest : List ℕ) → HasCode u → section_at (head_of u) (code_bytes u ++ rest) ≡ Ok (u, rest)
+unfolding section_at
+section_again u rest h =
+    bind_again (instructions_at (length u.code) (code_bytes u ++ rest))
+    (λ code. Ok (section_of (head_of u) code.0, code.1)) u.code rest (Ok (u, rest))
+    (many_again (λ _. instruction_at) instruction_bytes good_instruction instruction_again [] u.code rest
+    (good_instructions [] u.code h)) refl
+
+codes_of : (us : List Section) → AllByRecursion IsSection us → AllByRecursion HasCode us
+codes_of [] h = tt
+codes_of (u ∷ us) h = (h.0.code, codes_of us h.1)
+
+-- The first unit emits and has no parameters.
+abbrev IsPlainFirst : Bool → List Section → Type 0
+IsPlainFirst first [] = Unit {0}
+IsPlainFirst first (u ∷ us) = IsPlain first u.parameters × IsPlain first u.kind
+
+not_first : (h : Header) (before : List Header) (us : List Section) → IsPlainFirst (is_first (before ++ h ∷ [])) us
+not_first h before a2 = search (arith, rules, is_first-push)
+
+headers_good : (before : List Header) (us : List Section) → AllByRecursion IsSection us
+    → header_total before + total_len us ≤ max_instructions → IsPlainFirst (is_first before) us
+    → AllGood good_header before (map head_of us)
+headers_good before [] all small plain = tt
+headers_good before (u ∷ us) all small plain =
+    search (
+      arith,
+      rules,
+      headers_good (before ++ head_of u ∷ []) us all.1 (omega (arith, small, header_total-push before (head_of u)))
+          (not_first (head_of u) before us),
+      head_of,
+      header_total-push,
+      not_first,
+    )
+
+plain_first : (us : List Section) → HasFirst us → IsPlainFirst true us
+plain_first a0 h = search (arith, rules)
+
+some_units : (us : List Section) → HasFirst us → 0 < length us
+some_units [] h = search (arith, rules)
+some_units (u ∷ us) h = omega arith
+
+units_again : (us : List Section) (rest : List ℕ) → AreUnits us
+    → units_at (to_le_bytes w16 (length us) ++ (flat_map header_bytes us ++ (flat_map code_bytes us ++ rest)))
+    ≡ Ok (us, rest)
+unfolding units_at
+units_again us rest h =
+    let codes = flat_map code_bytes us ++ rest in
+    let after = flat_map header_bytes us ++ codes in
+    let good = headers_good [] us h.all (omega (arith, h.total)) (plain_first us h.first) in
+    let many : headers_at (length (map head_of us)) (flat_map head_bytes (map head_of us) ++ codes)
+    ≡ Ok (map head_of us, codes) = many_again header_at head_bytes good_header
+    (λ before x rest g. header_again (is_first before) (header_total before) x rest g) [] (map head_of us) codes good in
+    let heads : headers_at (length us) after ≡ Ok (map head_of us, codes) =
+    ap (λ (n : ℕ). headers_at n after) (sym (length-map_of us))
+    ∙ ap (λ (t : List ℕ). headers_at (length (map head_of us)) (t ++ codes)) (sym (head_spelled us)) ∙ many in
+    let each : sections_at (map head_of us) codes ≡ Ok (us, rest) =
+    each_again section_at code_bytes head_of HasCode section_again [] us rest (codes_of us h.all) in
+    bind_again (number_at w16 (to_le_bytes w16 (length us) ++ after))
+    (λ n. check (nat_lt 0 n.0) BadTable (headers_at n.0 n.1 >>= λ hs. sections_at hs.0 hs.1)) (length us) after
+    (Ok (us, rest)) (number_again w16 (2 ^ 16) wide16 (length us) after h.count)
+    (check_again (nat_lt 0 (length us)) BadTable (headers_at (length us) after >>= λ hs. sections_at hs.0 hs.1)
+    (lt-ltb _ _ (some_units us h.first))
+    ∙ bind_again (headers_at (length us) after) (λ hs. sections_at hs.0 hs.1) (map head_of us) codes (Ok (us, rest))
+    heads each)
+
+-- ---- the whole code
+
+magic_again : (rest : List ℕ) → magic_at (magic ++ rest) ≡ Ok rest
+unfolding magic_at
+magic_again rest =
+    let long : ltb (length (magic ++ rest)) 4 ≡ false = le-ltb _ _ (omega arith) in
+    let same : bytes_eq (take 4 (magic ++ rest)) magic ≡ true =
+    (bytes_eq-Decides (take 4 (magic ++ rest)) magic).1 (take_at magic rest 4 refl) in
+    unless_again (ltb (length (magic ++ rest)) 4) Truncated
+    (check (bytes_eq (take 4 (magic ++ rest)) magic) BadMagic (Ok (drop 4 (magic ++ rest)))) long
+    ∙ check_again (bytes_eq (take 4 (magic ++ rest)) magic) BadMagic (Ok (drop 4 (magic ++ rest))) same
+    ∙ ap (λ (t : List ℕ). let r : Result (List ℕ) ImageError = Ok t in r) (drop_at magic rest 4 refl)
+  where
+    unless_again : {A : Type 0} (b : Bool) (d : ImageError) (r : Result A ImageError) → b ≡ false → cond b (Err d) r ≡ r
+    unless_again true d r e = absurd cc
+    unless_again false d r e = refl
+
+start_again : (v : Version) (rest : List ℕ)
+    → start_at (magic ++ (to_le_bytes w16 (version_number v) ++ rest)) ≡ Ok (v, rest)
+unfolding start_at
+start_again v rest =
+    let r = to_le_bytes w16 (version_number v) ++ rest in
+    step_again (magic_at (magic ++ r)) (λ rest. version_at rest) r (Ok (v, rest)) (magic_again r) (version_again v rest)
+
+-- The entry of a code is its first unit.
+first_of : (k : Code) → HasEntry k → HasFirst k.units
+first_of k e = record { entry = e.entry; is = e.is; emits = e.emits; plain = e.plain }
+
+-- The spelling of a code is read as this code.
+pub code_again : (k : Code) → IsCode k → code_of (spelling k) ≡ Ok k
+unfolding code_of
+code_again k h =
+    let back : Trailer = record { templates = k.templates; places = k.places } in
+    let r5 = trailer_bytes k.version back in
+    let r4 =
+    to_le_bytes w16 (length k.units) ++ (flat_map header_bytes k.units ++ (flat_map code_bytes k.units ++ r5)) in
+    let r3 = to_le_bytes w16 (length k.constants) ++ (flat_map constant_bytes k.constants ++ r4) in
+    let r2 = to_le_bytes w16 (length k.names) ++ (flat_map name_bytes k.names ++ r3) in
+    let r1 = to_le_bytes w16 k.globals ++ r2 in
+    let last : trailer_at k.version (total_len k.units) r5 ≡ Ok (back, []) = ap
+    (trailer_at k.version (total_len k.units)) (sym (append-nil r5))
+    ∙ back_again k.version back (total_len k.units) []
+    (record {
+      texts = record { count = h.count_templates; all = h.templates; ascend = h.ascend_templates };
+      places = h.places;
+      placed = h.placed;
+    }) in
+    check_again (nat_le (length (spelling k)) max_bytes) LimitPassed _ (le-leb _ _ h.bytes)
+    ∙ bind_again (start_at (spelling k)) _ k.version r1 (Ok k) (start_again k.version r1)
+    (bind_again (number_at w16 r1) _ k.globals r2 (Ok k) (number_again w16 (2 ^ 16) wide16 k.globals r2 h.globals)
+    (bind_again (all_names_at k.globals r2) _ k.names r3 (Ok k)
+    (names_again k.globals h.globals k.names r3
+    (record { count = h.count_names; all = h.names; ascend = h.ascend; distinct = h.distinct }))
+    (bind_again (all_constants_at r3) _ k.constants r4 (Ok k)
+    (constants_again k.constants r4 (h.count_constants, h.constants))
+    (bind_again (units_at r4) _ k.units r5 (Ok k)
+    (units_again k.units r5
+    (record { count = h.count_units; all = h.units; first = first_of k h.entry; total = h.instructions }))
+    (bind_again (trailer_at k.version (total_len k.units) r5)
+    (λ back. check (length back.1 == 0) Trailing
+    (Ok (record {
+      version = k.version;
+      globals = k.globals;
+      names = k.names;
+      constants = k.constants;
+      units = k.units;
+      templates = back.0.templates;
+      places = back.0.places;
+    }))) back [] (Ok k) last refl)))))
+
+-- ---- the contract of `decode`
+
+-- If reading returns a code, it has no fault.
+no_fault : (k : Code) (d : ImageError) (read : Result Code ImageError) → read ≡ Ok k → read ≡ Err d → ⊥
+no_fault k d read e f = cc
+
+pub is_only : {X : Type 0} (view : X → Code) (k : Code) (r : Result X ImageError) (read : Result Code ImageError)
+    → read ≡ Ok k → Gives view r read → MatchResult r (λ x. view x ≡ k) (λ e. e ≡ NoMemory)
+is_only view k a2 read e g = search (arith, rules, no_fault)

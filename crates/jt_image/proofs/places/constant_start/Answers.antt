@@ -1,9 +1,0 @@
-use Rattle.std.proofs.Common.{◌≡◌, ◌∙◌, arith}
-use Rattle.std.proofs.lemmas.Grind.{common_steps}
-use Rattle.jt_image.proofs.Counted.{constant_stands}
-use Rattle.jt_image.proofs.places.constant_start.Goals as goal
-
-pub returns : goal.returns
-returns c =
-    let same : c.map.result ≡ c.constant_at.result = grind (arith, common_steps) in
-    constant_stands c.args._bytes.now c.args.places.now (λ i. omega (arith, c.type_inv._bytes i)) c.requires c.args.index _ (same ∙ c.constant_at.ensures)

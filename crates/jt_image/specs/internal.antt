@@ -1,0 +1,2 @@
+pub mod HeaderView
+pub mod TrailerView

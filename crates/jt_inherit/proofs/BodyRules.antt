@@ -1,0 +1,275 @@
+-- The rules on bodies of blocks, as they are checked one body at a time.
+use Rattle.std.proofs.Common.{◌≡◌, ℕ, zero, suc, ◌+◌, ◌<◌, ◌≤◌, Bool, true, false, not, cond, ◌&&◌, ◌||◌, List, [], ◌∷◌}
+use Rattle.std.proofs.Common.{◌++◌, length, map, take, drop, get_or, refl, sym, ap, subst, ◌∙◌, arith, rules}
+use Rattle.std.specs.Prelude.{slice_get, unwrap_or, option_map}
+use Rattle.std.proofs.Common.{Some}
+use Rattle.std.proofs.lemmas.List.{drop_more, map-append}
+use Rattle.std.proofs.lemmas.Option.{slice_get-get_or}
+use Rattle.std.specs.BTreeSet as set
+use Rattle.std.specs.BTreeSet.{BTreeSet}
+use Rattle.std.specs.Cmp.Lexicographic.{slice_cmp}
+use Rattle.std.specs.List.{list_any}
+use Rattle.std.specs.Ordering.{nat_cmp, is_eq}
+use Rattle.std.specs.Str.{bytes_eq}
+use Rattle.std.proofs.lemmas.Map.Text.{is_eq-slice_cmp}
+use denote.Ref.{Bor}
+use Rattle.jt_ast.specs.Texts.{among, repeated, texts}
+use Rattle.jt_ast.specs.Expressions.{Text}
+use Rattle.jt_ast.specs.Statements.{end}
+use Rattle.std.specs.Option.{option_to_list}
+use Rattle.jt_chains.specs.Along.{body_at, templates_at}
+use Rattle.jt_inherit.specs.internal.RuleTests.{any_double}
+use Rattle.jt_chains.specs.Chain.{Template, BlockBody, from_given, blocks_in}
+use Rattle.jt_inherit.specs.internal.Checks.{named, lacks_body, lacks_next, block_names}
+use Rattle.jt_chains.specs.Parts.{block_view, blocks_view, name_at}
+use Rattle.jt_chains.specs.declared.parts.Block.{Block}
+use Rattle.jt_chains.specs.Rules.{is_required, lacks_super, is_empty}
+use Rattle.jt_chains.specs.Supers.{calls_super}
+use Rattle.jt_inherit.proofs.NameMembership.{of_texts, reflexive, same, symmetric}
+use Rattle.jt_inherit.proofs.Membership.{among_next, both_false, once_more, or_false, or_true}
+
+-- ---- a set of texts
+
+pub any_text : (x : Text) (ks : List (Bor Text))
+    → list_any (λ k. is_eq (slice_cmp nat_cmp x k.now)) ks ≡ among x (texts ks)
+any_text x [] = refl
+any_text x (k ∷ ks) =
+    ap (λ b. b || list_any (λ (j : Bor Text). is_eq (slice_cmp nat_cmp x j.now)) ks)
+    (is_eq-slice_cmp x k.now ∙ symmetric x k.now)
+    ∙ ap (λ b. bytes_eq k.now x || b) (any_text x ks)
+
+either : (a b : Bool) → cond a true b ≡ (a || b)
+either true b = refl
+either false b = refl
+
+-- A set after the insertion of a name.
+pub name_more : (m n : BTreeSet (Bor Text)) (k : Bor Text)
+    → set.Updates (λ (x y : Bor Text). slice_cmp nat_cmp x.now y.now) m n k true → (x : Text)
+    → among x (texts n.keys) ≡ (bytes_eq k.now x || among x (texts m.keys))
+name_more m n k u x =
+    let here = is_eq (slice_cmp nat_cmp k.now x) in
+    let old = list_any (λ (j : Bor Text). is_eq (slice_cmp nat_cmp x j.now)) m.keys in
+    sym (any_text x n.keys) ∙ u.0 (record { ref_ptr = (0, 0); now = x }) ∙ either here old
+    ∙ ap (λ b. b || old) (is_eq-slice_cmp k.now x) ∙ ap (λ b. bytes_eq k.now x || b) (any_text x m.keys)
+
+-- ---- repeated names
+
+pub again : (x : Text) (xs ys : List Text) → among x xs ≡ true → repeated (xs ++ x ∷ ys) ≡ true
+again x [] ys h = absurd (cc)
+again x (y ∷ xs) ys h = search (arith, rules, again x xs ys, same, among_next of_texts, or_true)
+
+-- ---- the nearest body
+
+abbrev pub names_of : List BlockBody → List Text
+names_of bs = map (λ b. b.name) bs
+
+-- No nearest body of these is a required one.
+abbrev pub AreGiven : List BlockBody → Type 0
+AreGiven bs = (x : Text) → is_required (named x bs) ≡ false
+
+-- A body after others is the nearest one if its name is new.
+named_new : (x : Text) (bs cs : List BlockBody) → among x (names_of bs) ≡ false → named x (bs ++ cs) ≡ named x cs
+named_new x [] cs h = refl
+named_new x (b ∷ bs) cs h =
+    let k = or_false (bytes_eq b.name x) (among x (names_of bs)) h in
+    ap (λ c. cond c (b ∷ named x (bs ++ cs)) (named x (bs ++ cs))) k.0 ∙ named_new x bs cs k.1
+
+-- A body after others is not the nearest one if its name is not new.
+named_old : (x : Text) (bs cs : List BlockBody) → among x (names_of bs) ≡ true
+    → is_required (named x (bs ++ cs)) ≡ is_required (named x bs)
+named_old x [] cs h = absurd (cc)
+named_old x (b ∷ bs) cs h = search (arith, rules, named_old x bs cs)
+
+-- One body more.
+pub given_more : (bs : List BlockBody) (b : BlockBody) → AreGiven bs
+    → (not (among b.name (names_of bs)) && b.required) ≡ false → AreGiven (bs ++ b ∷ [])
+given_more bs b g h x = search (arith, rules, same, named_old, named_new)
+
+any_none : {X : Type 0} (p : X → Bool) → ((x : X) → p x ≡ false) → (xs : List X) → list_any p xs ≡ false
+any_none p h [] = refl
+any_none p h (x ∷ xs) = both_false (p x) (list_any p xs) (h x) (any_none p h xs)
+
+any_here : {X : Type 0} (p : X → Bool) (xs : List X) (x : X) (ys : List X) → p x ≡ true
+    → list_any p (xs ++ x ∷ ys) ≡ true
+any_here p [] x ys h = ap (λ b. b || list_any p ys) h
+any_here p (y ∷ xs) x ys h = or_true (p y) (list_any p (xs ++ x ∷ ys)) (any_here p xs x ys h)
+
+pub all_given : (bs : List BlockBody) → AreGiven bs → lacks_body bs ≡ false
+all_given bs g = any_none (λ b. is_required (named b.name bs)) (λ b. g b.name) bs
+
+pub none_given : (bs : List BlockBody) (b : BlockBody) (cs : List BlockBody) → among b.name (names_of bs) ≡ false
+    → b.required ≡ true → lacks_body (bs ++ b ∷ cs) ≡ true
+none_given bs b cs n r =
+    any_here (λ c. is_required (named c.name (bs ++ b ∷ cs))) bs b cs
+    (ap is_required (named_new b.name bs (b ∷ cs) n)
+    ∙ ap (λ c. is_required (cond c (b ∷ named b.name cs) (named b.name cs))) (reflexive b.name) ∙ r)
+
+-- ---- bodies that `super()` can call
+
+-- A body of the name that is not required is in the list.
+abbrev pub has_given : Text → List BlockBody → Bool
+has_given x [] = false
+has_given x (b ∷ bs) = (bytes_eq b.name x && not b.required) || has_given x bs
+
+none_behind : (x : Text) (bs : List BlockBody) → is_empty (from_given (named x bs)) ≡ not (has_given x bs)
+none_behind x [] = refl
+none_behind x (b ∷ bs) = search (arith, rules, none_behind x bs)
+
+-- No call of `super()` in these bodies lacks a next body.
+abbrev pub HaveNext : List BlockBody → Type 0
+HaveNext bs = (x : Text) → lacks_super (named x bs) ≡ false
+
+pub next_more : (b : BlockBody) (bs : List BlockBody) → HaveNext bs
+    → (not (has_given b.name bs) && calls_super b.body) ≡ false → HaveNext (b ∷ bs)
+next_more b bs n h x = search (arith, rules, same, none_behind, both_false)
+
+pub all_next : (bs : List BlockBody) → HaveNext bs → lacks_next bs ≡ false
+all_next bs n = any_none (λ b. lacks_super (named b.name bs)) (λ b. n b.name) bs
+
+lacks_front : (x : Text) (bs cs : List BlockBody) → lacks_super (named x cs) ≡ true
+    → lacks_super (named x (bs ++ cs)) ≡ true
+lacks_front x [] cs h = h
+lacks_front x (b ∷ bs) cs h = search (arith, rules, lacks_front x bs cs h, or_true)
+
+pub none_next : (bs : List BlockBody) (b : BlockBody) (cs : List BlockBody) → has_given b.name cs ≡ false
+    → calls_super b.body ≡ true → lacks_next (bs ++ b ∷ cs) ≡ true
+none_next bs b cs n h = search (arith, rules, none_behind, reflexive, any_here, lacks_front)
+
+-- ---- one element more
+
+pub parted : {X : Type 0} (xs : List X) (i : ℕ) (x : X) → i < length xs → x ≡ get_or xs i x
+    → (rest : List X) × (xs ≡ take i xs ++ x ∷ rest)
+parted [] i x lt is = absurd (omega arith)
+parted (y ∷ ys) zero x lt is = (ys, ap (λ z. z ∷ ys) (sym is))
+parted (y ∷ ys) (suc i) x lt is =
+    let r = parted ys i x (omega arith) is in
+    (r.0, ap (λ l. y ∷ l) r.1)
+
+take_suc : {X : Type 0} (xs : List X) (i : ℕ) (x : X) → i < length xs → x ≡ get_or xs i x
+    → take (suc i) xs ≡ take i xs ++ x ∷ []
+take_suc [] i x lt is = absurd (omega arith)
+take_suc (y ∷ ys) zero x lt is = ap (λ z. z ∷ []) (sym is)
+take_suc (y ∷ ys) (suc i) x lt is = ap (λ l. y ∷ l) (take_suc ys i x (omega arith) is)
+
+pub take_next : {X : Type 0} (xs : List X) (i : ℕ) (x : X) → i < length xs → x ≡ get_or xs i x
+    → take (i + 1) xs ≡ take i xs ++ x ∷ []
+take_next xs i x lt is = (let e : i + 1 ≡ suc i = omega arith in ap (λ n. take n xs) e) ∙ take_suc xs i x lt is
+
+pub take_all : {X : Type 0} (xs : List X) (i : ℕ) → length xs ≤ i → take i xs ≡ xs
+take_all [] zero le = refl
+take_all [] (suc i) le = refl
+take_all (x ∷ xs) zero le = absurd (omega arith)
+take_all (x ∷ xs) (suc i) le = ap (λ l. x ∷ l) (take_all xs i (omega arith))
+
+or_nil : (c : Bool) → (c || false) ≡ c
+or_nil true = refl
+or_nil false = refl
+
+or_three : (c d e : Bool) → (c || (d || e)) ≡ ((c || d) || e)
+or_three true d e = refl
+or_three false d e = refl
+
+or_swapped : (c d : Bool) → (c || d) ≡ (d || c)
+or_swapped a0 a1 = search (arith, rules)
+
+pub among_snoc : (l : List Text) (n y : Text) → among y (l ++ n ∷ []) ≡ (among y l || bytes_eq n y)
+among_snoc [] n y = or_nil (bytes_eq n y)
+among_snoc (z ∷ l) n y =
+    ap (λ c. bytes_eq z y || c) (among_snoc l n y) ∙ or_three (bytes_eq z y) (among y l) (bytes_eq n y)
+
+-- A set after the insertion of a name.
+pub among_set : (ks ms pre : List Text) (n : Text) → ((y : Text) → among y ks ≡ among y pre)
+    → ((y : Text) → among y ms ≡ (bytes_eq n y || among y ks)) → (y : Text) → among y ms ≡ among y (pre ++ n ∷ [])
+among_set ks ms pre n h m y =
+    m y ∙ ap (λ c. bytes_eq n y || c) (h y) ∙ or_swapped (bytes_eq n y) (among y pre) ∙ sym (among_snoc pre n y)
+
+module _ {X : Type 0} (f : X → Text) (xs : List X) (i : ℕ) (x : X) (lt : i < length xs) (is : x ≡ get_or xs i x) where
+  pub repeat_found : (ks : List Text) → ((y : Text) → among y ks ≡ among y (map f (take i xs))) → among (f x) ks ≡ true
+      → repeated (map f xs) ≡ true
+  repeat_found ks e h =
+      let p = parted xs i x lt is in
+      ap (λ l. repeated (map f l)) p.1 ∙ ap repeated (map-append f (take i xs) (x ∷ p.0))
+      ∙ again (f x) (map f (take i xs)) (map f p.0) (sym (e (f x)) ∙ h)
+
+  pub repeat_goes : (ks ms : List Text) (b : Bool) → ((y : Text) → among y ks ≡ among y (map f (take i xs)))
+      → repeated (map f (take i xs)) ≡ false → b ≡ among (f x) ks
+      → ((y : Text) → among y ms ≡ (bytes_eq (f x) y || among y ks)) → b ≡ false
+      → ((y : Text) → among y ms ≡ among y (map f (take (i + 1) xs))) × (repeated (map f (take (i + 1) xs)) ≡ false)
+  repeat_goes ks ms b e o k m off =
+      let taken : map f (take (i + 1) xs) ≡ map f (take i xs) ++ f x ∷ [] =
+      ap (map f) (take_next xs i x lt is) ∙ map-append f (take i xs) (x ∷ []) in (
+        λ y. among_set ks ms (map f (take i xs)) (f x) e m y ∙ ap (among y) (sym taken),
+        ap repeated taken ∙ once_more of_texts (f x) (map f (take i xs)) o (sym (e (f x)) ∙ sym k ∙ off),
+      )
+
+-- ---- lists of bodies
+
+pub names_seen : (ts : List Template) (xs : List Block) → names_of (blocks_view ts xs) ≡ block_names xs
+names_seen ts [] = refl
+names_seen ts (x ∷ xs) = ap (λ l. x.name.now ∷ l) (names_seen ts xs)
+
+module _ (ts : List Template) (xs : List Block) (i : ℕ) (x : Block) (lt : i < length xs) (is : x ≡ get_or xs i x) where
+  pub body_lacking : (ks : List Text) → ((y : Text) → among y ks ≡ among y (block_names (take i xs)))
+      → (not (among x.name.now ks) && x.required) ≡ true → lacks_body (blocks_view ts xs) ≡ true
+  body_lacking ks h both = search (arith, rules, parted, names_seen, map-append, none_given)
+
+  pub body_goes : (ks : List Text) → ((y : Text) → among y ks ≡ among y (block_names (take i xs)))
+      → AreGiven (blocks_view ts (take i xs)) → (not (among x.name.now ks) && x.required) ≡ false
+      → AreGiven (blocks_view ts (take (i + 1) xs))
+  body_goes ks h g off =
+      let e : blocks_view ts (take (i + 1) xs) ≡ blocks_view ts (take i xs) ++ block_view ts x ∷ [] =
+      ap (blocks_view ts) (take_next xs i x lt is) ∙ map-append (block_view ts) (take i xs) (x ∷ []) in
+      let n : among x.name.now (names_of (blocks_view ts (take i xs))) ≡ among x.name.now ks =
+      ap (among x.name.now) (names_seen ts (take i xs)) ∙ sym (h x.name.now) in
+      subst AreGiven (sym e)
+      (given_more (blocks_view ts (take i xs)) (block_view ts x) g (ap (λ c. not c && x.required) n ∙ off))
+
+pub not_not : (b : Bool) → not (not b) ≡ b
+not_not true = refl
+not_not false = refl
+
+-- A set after the insertion of the name of a body that is not required.
+pub given_noted : (ks ms : List Text) (n : Text) (r : Bool) (x : Text)
+    → ((y : Text) → among y ms ≡ (bytes_eq n y || among y ks)) → not r ≡ true
+    → among x ms ≡ ((bytes_eq n x && not r) || among x ks)
+given_noted ks ms n r x m off = search (arith, rules)
+
+-- ---- templates at indices, one more
+
+nothing : Template
+nothing = record { name = []; body = end }
+
+module _ (e : Bool) (ts : List Template) (is : List ℕ) (k : ℕ) (lt : k < length is) (within : get_or is k 0 < length ts)
+    (xs : List Block) (b : Bool)
+    (seen : blocks_view ts xs ≡ blocks_in (name_at ts (get_or is k 0)) (body_at ts (get_or is k 0)) e)
+    (told : b ≡ repeated (block_names xs)) where
+  double_left : any_double e (templates_at ts (drop k is)) ≡ (b || any_double e (templates_at ts (drop (k + 1) is)))
+  double_left =
+      let i = get_or is k 0 in
+      let t = get_or ts i nothing in
+      let at : slice_get ts i ≡ Some t = slice_get-get_or ts i nothing within in
+      let found : blocks_in (name_at ts i) (body_at ts i) e ≡ blocks_in t.name t.body e =
+      ap (λ o. blocks_in (unwrap_or (option_map (λ (u : Template). u.name) o) [])
+      (unwrap_or (option_map (λ (u : Template). u.body) o) end) e) at in
+      let twice : repeated (map (λ (x : BlockBody). x.name) (blocks_in t.name t.body e)) ≡ b =
+      ap (λ l. repeated (names_of l)) (sym found) ∙ ap (λ l. repeated (names_of l)) (sym seen)
+      ∙ ap repeated (names_seen ts xs) ∙ sym told in
+      ap (λ l. any_double e (templates_at ts l)) (drop_more is k 0 lt)
+      ∙ ap (λ o. any_double e (option_to_list o ++ templates_at ts (drop (k + 1) is))) at
+      ∙ ap (λ c. c || any_double e (templates_at ts (drop (k + 1) is))) twice
+
+  pub double_found : b ≡ true → any_double e (templates_at ts (drop k is)) ≡ true
+  double_found h = double_left ∙ ap (λ c. c || any_double e (templates_at ts (drop (k + 1) is))) h
+
+  pub double_none : b ≡ false
+      → any_double e (templates_at ts (drop k is)) ≡ any_double e (templates_at ts (drop (k + 1) is))
+  double_none h = double_left ∙ ap (λ c. c || any_double e (templates_at ts (drop (k + 1) is))) h
+
+pub next_lacking : (ts : List Template) (qs : List Block) (b : Block) (rest : List Block)
+    → (not (has_given b.name.now (blocks_view ts rest)) && calls_super (block_view ts b).body) ≡ true
+    → lacks_next (blocks_view ts (qs ++ b ∷ rest)) ≡ true
+next_lacking ts qs b rest h = search (arith, rules, map-append, none_next)
+
+pub no_items : {X : Type 0} (xs : List X) → length xs ≡ 0 → xs ≡ []
+no_items [] e = refl
+no_items (x ∷ xs) e = absurd (omega arith)

@@ -1,0 +1,600 @@
+-- The chains and libraries that an entry reaches: all of them are followed and checked, and each
+-- comes before those that it leads to.
+use Rattle.std.proofs.Common.{◌≡◌, ◌≢◌, ◌↔◌, ℕ, zero, suc, ◌+◌, ◌*◌, ◌<◌, ◌≤◌, ◌==◌, Bool, true, false, not, ◌&&◌}
+use Rattle.std.proofs.Common.{nat_lt, List, [], ◌∷◌, ◌++◌, length, map, refl, sym, ap, subst, ◌∙◌, arith, inl, inr, ◌⊎◌}
+use Rattle.std.proofs.Common.{⊎_elim, Some, None, Vec, Global, rules}
+use Rattle.std.proofs.lemmas.List.{length-map, append-nil}
+use Rattle.std.specs.Prelude.{slice_get, unwrap_or}
+use Rattle.std.specs.List.{AllByRecursion, list_any}
+use Rattle.std.specs.Option.{is_some, is_none}
+use Rattle.std.specs.Str.{bytes_eq}
+use Rattle.std.proofs.lemmas.Bool.{cases_lt}
+use Rattle.std.proofs.lemmas.Bool.Decides.{nat_tests}
+use Rattle.jt_graph.specs.Graph as graph
+use Rattle.jt_graph.specs.Graph.{Graph, next_of, IsClosed, HasCycle, IsOrder}
+use Rattle.jt_graph.specs.View.{graph_of}
+use Rattle.jt_graph.specs.declared.error.OrderError.{OrderError}
+use Rattle.jt_graph.specs.declared.error.OrderError.TheVariants as order
+use Rattle.jt_scan.specs.declared.options.Options.{Options}
+use Rattle.jt_ast.specs.Texts.{among, repeated}
+use Rattle.jt_ast.specs.Expressions.{Text}
+use Rattle.jt_chains.specs.Along.{ArePlaces, templates_at}
+use Rattle.jt_inherit.specs.internal.Along.{needs_along}
+use Rattle.jt_chains.specs.Chain.{Namespace, a_chain, listed, is_a_library, Template, templates, sources_in, all_bodies}
+use Rattle.jt_chains.specs.Chain.{given as given_in}
+use Rattle.jt_inherit.specs.Chains.{SourceTexts, IsChain}
+use Rattle.jt_inherit.specs.internal.Checks.{lacks_body, lacks_next}
+use Rattle.jt_inherit.specs.internal.Found.{chains_of, AreFound, IsFound, found_templates, found_namespaces, root_of}
+use Rattle.jt_inherit.specs.internal.Found.{IsFollowed, AreFollowed, IsMet, BreaksAt, HasNamespaces, chosen}
+use Rattle.jt_chains.specs.Includes.{included, InOrder}
+use Rattle.jt_inherit.specs.internal.RuleTests.{KeepAll, BreakOne, their_blocks, their_names, any_double}
+use Rattle.jt_inherit.specs.internal.RuleTests.{any_lacks_macros}
+use Rattle.jt_chains.specs.Names.{IsName}
+use Rattle.jt_chains.specs.Needs.{Need, needed}
+use Rattle.jt_chains.specs.TemplateFiles.{namespace_view, AreWhole}
+use Rattle.jt_chains.specs.Places.{namespace_at}
+use Rattle.jt_inherit.specs.Refusals.{Breaks}
+use Rattle.jt_inherit.specs.Refused.{gives}
+use Rattle.jt_chains.specs.Rules as rules
+use Rattle.jt_chains.specs.Rules.{Asks, Reaches, here, asked, extends_path, is_whole, KeepsRules}
+use Rattle.jt_chains.specs.Weights.{templates_weight, chains_weight}
+use Rattle.jt_inherit.specs.Small.{templates_len, chains_len}
+use Rattle.jt_chains.specs.View.{Seen}
+use Rattle.jt_inherit.specs.internal.ExtendsPaths.{AreKnown, IsExtendsPath, IsWithin}
+use Rattle.jt_inherit.specs.internal.Sets.{names_view}
+use Rattle.jt_inherit.specs.declared.discovery.Discovery.{Discovery}
+use Rattle.jt_inherit.specs.declared.error.ChainError.{ChainError}
+use Rattle.jt_inherit.specs.declared.error.ChainError.TheVariants as error
+use Rattle.jt_chains.specs.declared.chain.Namespace as linked
+use Rattle.jt_inherit.proofs.RulesCarryOver.{given_names}
+use Rattle.jt_inherit.proofs.NamespaceCount.{few_chains}
+use Rattle.jt_inherit.proofs.DiscoveryInvariant.{none_read, few_way, way_names, asked_way, placed_templates}
+use Rattle.jt_inherit.proofs.DiscoveryInvariant.{included_is, whole_path, some_source}
+use Rattle.jt_inherit.proofs.ImportCollection.{all_imported, none_given, none_lacking}
+use Rattle.jt_inherit.proofs.PathsGrow.{names, few_templates, all_at_places}
+use Rattle.jt_inherit.proofs.PathTemplates.{never, and_false, and_true, too_few, few_names, all_named, have_sources}
+use Rattle.jt_inherit.proofs.PathTemplates.{all_among, repeated_up, weigh, names_placed}
+use Rattle.jt_inherit.proofs.TopologicalOrder.{namespace_among, number_of, names_in_order, reached_in_order, no_cycle}
+use Rattle.jt_inherit.proofs.TopologicalOrder.{first_in_order, named_among}
+use Rattle.jt_inherit.proofs.TreeWeights.{all_weigh}
+use Rattle.jt_chains.proofs.TemplatesByIndex.{given_templates}
+use Rattle.jt_inherit.proofs.NameMembership.{of_texts, same}
+use Rattle.jt_inherit.proofs.NamespaceMembership.{chain_among, of_namespaces}
+use Rattle.jt_inherit.proofs.Membership.{among_cases, both_false, no_more, or_false, or_true, placed_among}
+
+-- ---- chains by their numbers
+
+pub at_number : (P : List ℕ → Type 0) (ws : Graph) (i : ℕ) → i < length ws → AllByRecursion P ws → P (next_of ws i)
+at_number P [] i lt a = absurd (omega arith)
+at_number P (w ∷ ws) zero lt a = a.0
+at_number P (w ∷ ws) (suc i) lt a = at_number P ws i (omega arith) a.1
+
+followed_number : (given : SourceTexts) (ts : List Template) (hs gs : List Namespace) (ws ns : Graph) (i : ℕ)
+    → i < length ws → AreFollowed given ts hs gs ws ns
+    → IsFollowed given ts hs (namespace_at gs i) (next_of ws i) (next_of ns i)
+followed_number given ts hs gs [] ns i lt a = absurd (omega arith)
+followed_number given ts hs gs (w ∷ ws) [] i lt a = absurd a
+followed_number given ts hs [] (w ∷ ws) (n ∷ ns) i lt a = absurd a
+followed_number given ts hs (g ∷ gs) (w ∷ ws) (n ∷ ns) zero lt a = a.0
+followed_number given ts hs (g ∷ gs) (w ∷ ws) (n ∷ ns) (suc i) lt a =
+    followed_number given ts hs gs ws ns i (omega arith) a.1
+
+pub next_len : (given : SourceTexts) (ts : List Template) (hs gs : List Namespace) (ws ns : Graph)
+    → AreFollowed given ts hs gs ws ns → length ns ≡ length ws
+next_len given ts hs gs [] [] a = refl
+next_len given ts hs gs [] (n ∷ ns) a = absurd a
+next_len given ts hs gs (w ∷ ws) [] a = absurd a
+next_len given ts hs [] (w ∷ ws) (n ∷ ns) a = absurd a
+next_len given ts hs (g ∷ gs) (w ∷ ws) (n ∷ ns) a = ap suc (next_len given ts hs gs ws ns a.1)
+
+pub ways_placed : (given : SourceTexts) (ts : List Template) (hs gs : List Namespace) (ws ns : Graph)
+    → AreFollowed given ts hs gs ws ns → AllByRecursion (ArePlaces ts) ws
+ways_placed given ts hs gs [] ns a = tt
+ways_placed given ts hs gs (w ∷ ws) [] a = absurd a
+ways_placed given ts hs [] (w ∷ ws) (n ∷ ns) a = absurd a
+ways_placed given ts hs (g ∷ gs) (w ∷ ws) (n ∷ ns) a = (a.0.led.places, ways_placed given ts hs gs ws ns a.1)
+
+some_within : (hs : List Namespace) (j : ℕ) (n : Namespace) → slice_get hs j ≡ Some n → j < length hs
+some_within [] j n e = absurd (cc)
+some_within (h ∷ hs) zero n e = omega arith
+some_within (h ∷ hs) (suc j) n e =
+    let r = some_within hs j n e in
+    omega arith
+
+numbers_within : (hs : List Namespace) (js : List ℕ) (ns : List Namespace) → map (slice_get hs) js ≡ map Some ns
+    → AllByRecursion (λ j. j < length hs) js
+numbers_within hs [] ns e = tt
+numbers_within hs (j ∷ js) [] e = absurd (cc)
+numbers_within hs (j ∷ js) (n ∷ ns) e = search (arith, rules, some_within, numbers_within hs js ns)
+
+next_within : (given : SourceTexts) (ts : List Template) (hs gs : List Namespace) (ws ns : Graph)
+    → AreFollowed given ts hs gs ws ns → AllByRecursion (λ js. AllByRecursion (λ j. j < length hs) js) ns
+next_within given ts hs gs [] [] a = tt
+next_within given ts hs gs [] (n ∷ ns) a = absurd a
+next_within given ts hs gs (w ∷ ws) [] a = absurd a
+next_within given ts hs [] (w ∷ ws) (n ∷ ns) a = absurd a
+next_within given ts hs (g ∷ gs) (w ∷ ws) (n ∷ ns) a =
+    (numbers_within hs n (chosen (names ts) (needs_along ts w)) a.0.numbered, next_within given ts hs gs ws ns a.1)
+
+numbered_among : (hs : List Namespace) (j : ℕ) (js : List ℕ) (ns : List Namespace) → map (slice_get hs) js ≡ map Some ns
+    → graph.among j js ≡ true → listed (namespace_at hs j) ns ≡ true
+numbered_among hs j [] ns e a = absurd (cc)
+numbered_among hs j (k ∷ js) [] e a = absurd (cc)
+numbered_among hs j (k ∷ js) (n ∷ ns) e a =
+    search (arith, rules, numbered_among hs j js ns, nat_tests, placed_among of_namespaces, or_true)
+
+none_next : (ns : Graph) (i j : ℕ) → length ns ≤ i → graph.among j (next_of ns i) ≡ true → ⊥
+none_next [] i j le a = cc
+none_next (n ∷ ns) zero j le a = omega arith
+none_next (n ∷ ns) (suc i) j le a = none_next ns i j (omega arith) a
+
+-- ---- tests over names
+
+any_both : (p : Text → Bool) (xs ys : List Text) → list_any p xs ≡ false → list_any p ys ≡ false
+    → list_any p (xs ++ ys) ≡ false
+any_both p [] ys a b = b
+any_both p (x ∷ xs) ys a b =
+    let k = or_false (p x) (list_any p xs) a in
+    both_false (p x) (list_any p (xs ++ ys)) k.0 (any_both p xs ys k.1 b)
+
+-- ---- templates that are met
+
+module _ (given : SourceTexts) (ts : List Template) where
+  has_source : (n : Text) → among n (names ts) ≡ true → is_none (sources_in ts n) ≡ false
+  has_source n a = search (arith, rules, some_source)
+
+  needs_sources : (ns : List Need) → AllByRecursion (IsMet given (names ts)) ns
+      → list_any (λ n. is_none (sources_in ts n)) (needed false ns) ≡ false
+  needs_sources [] a = refl
+  needs_sources (n ∷ ns) a = search (arith, rules, needs_sources ns a.1, names, both_false, has_source, never)
+
+  needs_met : (P : Text → Type 0) → ((n : Need) → IsMet given (names ts) n → P n.name) → (ns : List Need)
+      → AllByRecursion (IsMet given (names ts)) ns → (x : Text) → among x (needed true ns) ≡ true → P x
+  needs_met P f [] a x h = absurd (cc)
+  needs_met P f (n ∷ ns) a x h = search (arith, rules, needs_met P f ns a.1 x, same)
+
+-- ---- a chain that was followed
+
+module _ (given : SourceTexts) (options : Options) (ts : List Template) {ks : List Text}
+    (known : AreKnown given options ts ks) (h : Namespace) (is : List ℕ) (w : IsExtendsPath ts h is None) where
+  held : AllByRecursion (λ t. sources_in ts t.name ≡ Some t.body) (templates_at ts is)
+  held =
+      subst (AllByRecursion (λ t. sources_in ts t.name ≡ Some t.body)) (whole_path ts h is w)
+      (given_templates (sources_in ts) h)
+
+  pub is_one : is_whole (sources_in ts) options.autoescape h ≡ true
+  is_one =
+      let us = templates_at ts is in
+      let s = sources_in ts in
+      subst (λ xs. (not (repeated xs) && (nat_lt (length xs) 65 && not (list_any (λ n. is_none (s n)) xs))) ≡ true)
+      (sym (way_names ts options.autoescape h is w))
+      (and_true (not (repeated (names us)))
+      (nat_lt (length (names us)) 65 && not (list_any (λ n. is_none (s n)) (names us))) (ap not w.once)
+      (and_true (nat_lt (length (names us)) 65) (not (list_any (λ n. is_none (s n)) (names us)))
+      (few_names (length (names us))
+      (omega (arith, few_way ts options.autoescape h is w, length-map us (λ (t : Template). t.name))))
+      (ap not (have_sources s us held))))
+
+  -- The defined names of a namespace.
+  pub names_told : map (λ g. g.0) (given_in (sources_in ts) h) ≡ their_names (sources_in ts) (templates_at ts is)
+  names_told = search (arith, rules, given_names, whole_path, all_imported, append-nil, none_given)
+
+  -- A library lacks no macro that it imports, since it imports none.
+  chain_alone : any_lacks_macros (sources_in ts) (templates_at ts is) ≡ true → (n : Text) × (h ≡ a_chain n)
+  chain_alone b = search (arith, rules, none_lacking)
+
+  -- A broken rule on blocks, macros or imports.
+  pub one_breaks : (root : Text) → Reaches (sources_in ts) options.autoescape (a_chain root) h → (e : ChainError)
+      → BreakOne (sources_in ts) options.autoescape (templates_at ts is) e → Breaks e given root options
+  one_breaks root r error.DoubleBlock b =
+      record {
+        templates = ts;
+        read = known.read;
+        only = known.only;
+        holds = (h, r, subst (λ us. any_double options.autoescape us ≡ true) (sym (whole_path ts h is w)) b);
+      }
+  one_breaks root r error.RequiredNotGiven b =
+      record {
+        templates = ts;
+        read = known.read;
+        only = known.only;
+        holds = (
+          h,
+          r,
+          and_true (is_whole (sources_in ts) options.autoescape h)
+              (lacks_body (all_bodies (sources_in ts) options.autoescape h)) is_one
+              (subst (λ us. lacks_body (their_blocks options.autoescape us) ≡ true) (sym (whole_path ts h is w)) b),
+        );
+      }
+  one_breaks root r error.NoSuper b =
+      record {
+        templates = ts;
+        read = known.read;
+        only = known.only;
+        holds = (
+          h,
+          r,
+          and_true (is_whole (sources_in ts) options.autoescape h)
+              (lacks_next (all_bodies (sources_in ts) options.autoescape h)) is_one
+              (subst (λ us. lacks_next (their_blocks options.autoescape us) ≡ true) (sym (whole_path ts h is w)) b),
+        );
+      }
+  one_breaks root r error.MacroTwice b =
+      record {
+        templates = ts;
+        read = known.read;
+        only = known.only;
+        holds = (
+          h,
+          r,
+          and_true (is_whole (sources_in ts) options.autoescape h)
+              (repeated (map (λ g. g.0) (given_in (sources_in ts) h))) is_one (ap repeated names_told ∙ b),
+        );
+      }
+  one_breaks root r error.NoMacro b =
+      let k = chain_alone b in
+      record {
+        templates = ts;
+        read = known.read;
+        only = known.only;
+        holds = (h, r, (k.0, k.1, ap (any_lacks_macros (sources_in ts)) (whole_path ts h is w) ∙ b));
+      }
+  one_breaks root r error.NoMemory b = tt
+  one_breaks root r error.Missing b = absurd b
+  one_breaks root r error.BadName b = absurd b
+  one_breaks root r error.ExtendsCycle b = absurd b
+  one_breaks root r error.ChainTooLong b = absurd b
+  one_breaks root r error.IncludeCycle b = absurd b
+  one_breaks root r error.NotALibrary b = absurd b
+  one_breaks root r (error.Scan n e) b = absurd b
+  one_breaks root r (error.Parse n e) b = absurd b
+
+  module _ (met : AllByRecursion (IsMet given (names ts)) (needs_along ts is)) where
+    pub none_missing : list_any (λ n. is_none (sources_in ts n)) (asked (sources_in ts) options.autoescape false h)
+        ≡ false
+    none_missing =
+        ap (list_any (λ n. is_none (sources_in ts n))) (asked_way ts options.autoescape h is w false)
+        ∙ any_both (λ n. is_none (sources_in ts n)) (names (templates_at ts is)) (needed false (needs_along ts is))
+        (have_sources (sources_in ts) (templates_at ts is) held) (needs_sources given ts (needs_along ts is) met)
+
+    pub all_asked : (P : Text → Type 0) → AllByRecursion (λ t. P t.name) (templates_at ts is)
+        → ((n : Need) → IsMet given (names ts) n → P n.name) → (x : Text)
+        → among x (asked (sources_in ts) options.autoescape true h) ≡ true → P x
+    all_asked P a f x i = ⊎_elim
+        (λ p. all_among P (templates_at ts is) x a p)
+        (λ q. needs_met given ts P f (needs_along ts is) met x q)
+        (among_cases of_texts x (names (templates_at ts is)) (needed true (needs_along ts is))
+        (sym (ap (among x) (asked_way ts options.autoescape h is w true)) ∙ i))
+
+-- ---- all chains and libraries
+
+module _ {given : SourceTexts} {options : Options} {entry : Text} {ts : List Template} {ks : List Text}
+    {hs : List Namespace} {ws ns : Graph} (f : AreFound given options entry ts ks hs ws ns)
+    (all : length ws ≡ length hs) where
+  number : (i : ℕ) → i < length hs → IsFollowed given ts hs (namespace_at hs i) (next_of ws i) (next_of ns i)
+  number i lt = followed_number given ts hs hs ws ns i (omega (arith, all)) f.followed
+
+  lens : length ns ≡ length hs
+  lens = next_len given ts hs hs ws ns f.followed ∙ all
+
+  pub closed : IsClosed ns
+  closed =
+      subst (λ n. AllByRecursion (λ js. AllByRecursion (λ j. j < n) js) ns) (sym lens)
+      (next_within given ts hs hs ws ns f.followed)
+
+  reached : (h : Namespace) → listed h hs ≡ true → Reaches (sources_in ts) options.autoescape (a_chain entry) h
+  reached = f.reached
+
+  some : 0 < length hs
+  some = some_within hs 0 (a_chain entry) f.first
+
+  first_namespace : namespace_at hs 0 ≡ a_chain entry
+  first_namespace = ap (λ o. unwrap_or o (a_chain [])) f.first
+
+  includes_next : (i : ℕ) → i < length hs
+      → map (slice_get hs) (next_of ns i) ≡ map Some (included (sources_in ts) (namespace_at hs i))
+  includes_next i lt =
+      (number i lt).numbered ∙ ap (map Some) (sym (included_is ts (namespace_at hs i) (next_of ws i) (number i lt).led))
+
+  pub chain_breaks : (e : ChainError) → BreaksAt options.autoescape ts ws e → Breaks e given entry options
+  chain_breaks e b =
+      let i = b.number in
+      let lt : i < length hs = omega (arith, b.within, all) in
+      one_breaks given options ts f.known (namespace_at hs i) (next_of ws i) (number i lt).led entry
+      (reached (namespace_at hs i) (namespace_among hs i lt)) e b.broken
+
+  -- ---- a cycle of numbers is a cycle of chains
+
+  edge : (i j : ℕ) → graph.among j (next_of ns i) ≡ true
+      → (i < length hs) × (listed (namespace_at hs j) (included (sources_in ts) (namespace_at hs i)) ≡ true)
+  edge i j a =
+      ⊎_elim (λ (lt : i < length hs).
+      (lt, numbered_among hs j (next_of ns i) (included (sources_in ts) (namespace_at hs i)) (includes_next i lt) a))
+      (λ (le : length hs ≤ i). absurd (none_next ns i j (omega (arith, lens, le)) a)) (cases_lt i (length hs))
+
+  along : {i j : ℕ} → graph.Reaches ns i j → (m : Namespace)
+      × (listed m (included (sources_in ts) (namespace_at hs i)) ≡ true)
+      × Reaches (sources_in ts) options.autoescape m (namespace_at hs j)
+  along (graph.step {i} {j} a) = (namespace_at hs j, (edge i j a).1, here)
+  along (graph.further {i} {j} a r) =
+      let k = along r in
+      (namespace_at hs j, (edge i j a).1, rules.through k.1 k.2)
+
+  begins_at : {i j : ℕ} → graph.Reaches ns i j → i < length hs
+  begins_at (graph.step {i} {j} a) = (edge i j a).0
+  begins_at (graph.further {i} {j} a r) = (edge i j a).0
+
+  pub cycle_breaks : HasCycle ns → Breaks error.IncludeCycle given entry options
+  cycle_breaks c = search (arith, rules, reached, namespace_among, begins_at, along)
+
+  pub order_breaks : (g : Graph) (r : OrderError) (e : ChainError) → g ≡ ns → gives r e → (r ≡ order.Cycle → HasCycle g)
+      → Breaks e given entry options
+  order_breaks g order.Cycle e q is c =
+      subst (λ z. Breaks z given entry options) (sym is) (cycle_breaks (subst HasCycle q (c refl)))
+  order_breaks g order.NoMemory e q is c = subst (λ z. Breaks z given entry options) (sym is) tt
+
+  -- ---- the order of namespaces
+
+  module _ (kept : AllByRecursion (λ w. KeepAll (sources_in ts) options.autoescape (templates_at ts w)) ws)
+      {is : List ℕ} (o : IsOrder ns is) where
+    within : AllByRecursion (λ i. i < length hs) is
+    within = subst (λ n. AllByRecursion (λ i. i < n) is) lens o.within
+
+    pub in_order : InOrder (sources_in ts) (map (namespace_at hs) is)
+    in_order = names_in_order (sources_in ts) hs ns is f.once within includes_next o.ordered
+
+    entry_in : listed (a_chain entry) (map (namespace_at hs) is) ≡ true
+    entry_in =
+        subst (λ x. listed x (map (namespace_at hs) is) ≡ true) first_namespace
+        (named_among hs 0 is (o.all 0 (omega (arith, lens, some))))
+
+    in_namespaces : (x : Namespace) → listed x (map (namespace_at hs) is) ≡ true → listed x hs ≡ true
+    in_namespaces x a = from is within a
+      where
+        from : (js : List ℕ) → AllByRecursion (λ i. i < length hs) js → listed x (map (namespace_at hs) js) ≡ true
+            → listed x hs ≡ true
+        from [] w a = absurd (cc)
+        from (j ∷ js) w a = search (arith, rules, from js w.1, namespace_among)
+
+    ordered : {h : Namespace} → Reaches (sources_in ts) options.autoescape (a_chain entry) h
+        → listed h (map (namespace_at hs) is) ≡ true
+    ordered r = reached_in_order (sources_in ts) options.autoescape (map (namespace_at hs) is) in_order r entry_in
+
+    -- The path of a namespace.
+    way_of : (h : Namespace) → listed h hs ≡ true
+        → (w : List ℕ) × IsExtendsPath ts h w None × KeepAll (sources_in ts) options.autoescape (templates_at ts w)
+        × AllByRecursion (IsMet given (names ts)) (needs_along ts w)
+    way_of h a =
+        let k = number_of hs h a in
+        let n = number k.0 k.1 in (
+          next_of ws k.0,
+          subst (λ x. IsExtendsPath ts x (next_of ws k.0) None) k.2 n.led,
+          at_number (λ w. KeepAll (sources_in ts) options.autoescape (templates_at ts w)) ws k.0
+              (omega (arith, k.1, all)) kept,
+          n.met,
+        )
+
+    way_reached : {h : Namespace} → Reaches (sources_in ts) options.autoescape (a_chain entry) h
+        → (w : List ℕ) × IsExtendsPath ts h w None × KeepAll (sources_in ts) options.autoescape (templates_at ts w)
+        × AllByRecursion (IsMet given (names ts)) (needs_along ts w)
+    way_reached {h} r = way_of h (in_namespaces h (ordered r))
+
+    named_met : (n : Need) → IsMet given (names ts) n → IsName n.name
+    named_met n m =
+        ⊎_elim (λ p. all_among IsName ts n.name (all_named given options ts f.known.read.each) p) (λ q. q.1) m
+
+    keeps : KeepsRules (sources_in ts) options.autoescape (a_chain entry)
+    keeps = record {
+      missing = λ x.
+          let k = way_reached x.1 in
+          never (list_any (λ n. is_none (sources_in ts n)) (asked (sources_in ts) options.autoescape false x.0))
+          (none_missing given options ts f.known x.0 k.0 k.1 k.3) x.2;
+      bad_name = λ x.
+          let k = way_reached x.1 in
+          x.2.2 (all_asked given options ts f.known x.0 k.0 k.1 k.3 IsName
+          (all_at_places (λ t. IsName t.name) ts k.0 (all_named given options ts f.known.read.each)) named_met x.2.0
+          x.2.1);
+      extends_cycle = λ x.
+          let k = way_reached x.1 in
+          never (repeated (names (templates_at ts k.0))) k.1.once
+          (repeated_up (sources_in ts) x.2.2 (Some x.2.0) (templates_at ts k.0)
+          (subst (λ h. IsExtendsPath ts h k.0 None) x.2.1 k.1).leads x.2.3);
+      too_long = λ x. ⊎_elim
+          (λ y.
+          let k = way_reached y.1 in
+          let us = templates_at ts k.0 in
+          let le : length us ≤ 64 = omega (arith, few_templates ts k.0, k.1.few) in
+          never ((length (extends_path (sources_in ts) options.autoescape y.0) == 65)
+          && not (repeated (extends_path (sources_in ts) options.autoescape y.0)))
+          (ap (λ xs. (length xs == 65) && not (repeated xs)) (way_names ts options.autoescape y.0 k.0 k.1)
+          ∙ too_few (length (names us)) (not (repeated (names us)))
+          (omega (arith, le, length-map us (λ (t : Template). t.name)))) y.2)
+          (λ y.
+          let le = no_more of_texts y.0 (chains_of hs) (not_true (repeated y.0) y.2)
+          (λ n a. sym (chain_among n hs) ∙ in_namespaces (a_chain n) (ordered (y.3 n a))) in
+          let gt : 1024 < length y.0 = y.1 in
+          let most = f.few in
+          omega (arith, le, gt, most))
+          x;
+      double_block = λ x.
+          let k = way_reached x.1 in
+          never (any_double options.autoescape (templates (sources_in ts) x.0))
+          (ap (any_double options.autoescape) (whole_path ts x.0 k.0 k.1) ∙ k.2.doubles) x.2;
+      required_not_given = λ x.
+          let k = way_reached x.1 in
+          never (is_whole (sources_in ts) options.autoescape x.0
+          && lacks_body (all_bodies (sources_in ts) options.autoescape x.0))
+          (and_false (is_whole (sources_in ts) options.autoescape x.0)
+          (lacks_body (all_bodies (sources_in ts) options.autoescape x.0))
+          (ap (λ us. lacks_body (their_blocks options.autoescape us)) (whole_path ts x.0 k.0 k.1) ∙ k.2.bodies)) x.2;
+      no_super = λ x.
+          let k = way_reached x.1 in
+          never (is_whole (sources_in ts) options.autoescape x.0
+          && lacks_next (all_bodies (sources_in ts) options.autoescape x.0))
+          (and_false (is_whole (sources_in ts) options.autoescape x.0)
+          (lacks_next (all_bodies (sources_in ts) options.autoescape x.0))
+          (ap (λ us. lacks_next (their_blocks options.autoescape us)) (whole_path ts x.0 k.0 k.1) ∙ k.2.next)) x.2;
+      include_cycle =
+          λ x. no_cycle (sources_in ts) options.autoescape (map (namespace_at hs) is) in_order x.0 x.2.0 (ordered x.1)
+          x.2.1 x.2.2;
+      macro_twice = λ x.
+          let k = way_reached x.1 in
+          never
+          (is_whole (sources_in ts) options.autoescape x.0 && repeated (map (λ g. g.0) (given_in (sources_in ts) x.0)))
+          (and_false (is_whole (sources_in ts) options.autoescape x.0)
+          (repeated (map (λ g. g.0) (given_in (sources_in ts) x.0)))
+          (ap repeated (names_told given options ts f.known x.0 k.0 k.1) ∙ k.2.names)) x.2;
+      no_macro = λ x.
+          let k = way_reached x.1 in
+          never (any_lacks_macros (sources_in ts) (templates (sources_in ts) x.0))
+          (ap (any_lacks_macros (sources_in ts)) (whole_path ts x.0 k.0 k.1) ∙ k.2.macros_there) x.2.2;
+      not_a_library = λ x.
+          let k = way_reached x.1 in
+          let l = (subst (λ h. IsExtendsPath ts h k.0 None) x.2.1 k.1).leads in
+          never (is_some (sources_in ts x.2.0) && not (is_a_library (sources_in ts x.2.0)))
+          (and_false (is_some (sources_in ts x.2.0)) (not (is_a_library (sources_in ts x.2.0)))
+          (ap not (ap is_a_library l.source ∙ l.holds))) x.2.2;
+    }
+      where
+        not_true : (b : Bool) → not b ≡ true → b ≡ false
+        not_true true e = absurd (cc)
+        not_true false e = refl
+
+    abbrev pub chain : Seen
+    chain = record { templates = ts; order = map (namespace_at hs) is; escaping = options.autoescape }
+
+    -- A requested name is read, or it has no source.
+    complete : (n : Text) → Asks (sources_in ts) options.autoescape (a_chain entry) n
+        → (among n (names ts) ≡ true) ⊎ (given n ≡ None)
+    complete n x =
+        let k = way_reached x.1 in
+        all_asked given options ts f.known x.0 k.0 k.1 k.3 (λ x. (among x (names ts) ≡ true) ⊎ (given x ≡ None))
+        (all_at_places (λ t. (among t.name (names ts) ≡ true) ⊎ (given t.name ≡ None)) ts k.0
+        (each_known ts (λ x p. p)))
+        (λ m p. ⊎_elim (λ q. inl q) (λ q. inr q.2) p) n x.2
+      where
+        each_known : (us : List Template) → ((x : Text) → among x (names us) ≡ true → among x (names ts) ≡ true)
+            → AllByRecursion (λ t. (among t.name (names ts) ≡ true) ⊎ (given t.name ≡ None)) us
+        each_known [] g = tt
+        each_known (u ∷ us) g = (
+          inl (g u.name (placed_among of_texts (names (u ∷ us)) 0 u.name refl)),
+          each_known us (λ x p. g x (or_true (bytes_eq u.name x) (among x (names us)) p)),
+        )
+
+    -- The templates are the requested ones that the library has.
+    templates_asked : (n : Text)
+        → (among n (names ts) ≡ true) ↔ (Asks (sources_in ts) options.autoescape (a_chain entry) n × (given n ≢ None))
+    templates_asked n = search (arith, rules, none_read, complete)
+
+    pub begins : (rest : List Namespace) × (map (namespace_at hs) is ≡ a_chain entry ∷ rest)
+    begins = from is in_order entry_in within
+      where
+        from : (js : List ℕ) → InOrder (sources_in ts) (map (namespace_at hs) js)
+            → listed (a_chain entry) (map (namespace_at hs) js) ≡ true → AllByRecursion (λ i. i < length hs) js
+            → (rest : List Namespace) × (map (namespace_at hs) js ≡ a_chain entry ∷ rest)
+        from [] p a w = absurd (cc)
+        from (j ∷ js) p a w =
+            let e = first_in_order (sources_in ts) options.autoescape (namespace_at hs j) (map (namespace_at hs) js)
+            (a_chain entry) p a (reached (namespace_at hs j) (namespace_among hs j w.0)) in
+            (map (namespace_at hs) js, ap (λ x. x ∷ map (namespace_at hs) js) e)
+
+    all_reached : (js : List ℕ) → AllByRecursion (λ i. i < length hs) js
+        → AllByRecursion (λ h. Reaches (sources_in ts) options.autoescape (a_chain entry) h) (map (namespace_at hs) js)
+    all_reached [] w = tt
+    all_reached (j ∷ js) w = (reached (namespace_at hs j) (namespace_among hs j w.0), all_reached js w.1)
+
+    pub chained : IsChain given entry options chain
+    chained = record {
+      escaping = refl;
+      read = f.known.read;
+      asked = templates_asked;
+      included = begins.0;
+      begins = begins.1;
+      reached = all_reached is within;
+      order = in_order;
+      rules = keeps;
+    }
+
+    -- The templates of a namespace weigh no more than their sources.
+    one_weighs : (h : Namespace) → listed h hs ≡ true
+        → templates_weight (templates (sources_in ts) h) ≤ templates_len given (templates (sources_in ts) h)
+    one_weighs h a =
+        let k = way_of h a in
+        subst (λ us. templates_weight us ≤ templates_len given us) (sym (whole_path ts h k.0 k.1))
+        (weigh given (templates_at ts k.0) (all_at_places (IsWithin given) ts k.0 f.known.within))
+
+    pub weighs : chains_weight (sources_in ts) (map (namespace_at hs) is)
+        ≤ chains_len given (sources_in ts) (map (namespace_at hs) is)
+    weighs =
+        let b = begins in
+        subst (λ os. chains_weight (sources_in ts) os ≤ chains_len given (sources_in ts) os) (sym b.1)
+        (all_weigh given (sources_in ts) options.autoescape entry b.0 (subst (InOrder (sources_in ts)) b.1 in_order)
+        (λ h a. one_weighs h (in_namespaces h (subst (λ os. listed h os ≡ true) (sym b.1) a)))
+        (λ h a. reached h (in_namespaces h (subst (λ os. listed h os ≡ true) (sym b.1) a))))
+
+    pub few_namespaces : 7 * length (map (namespace_at hs) is)
+        ≤ chains_weight (sources_in ts) (map (namespace_at hs) is) + 7
+    few_namespaces =
+        let b = begins in
+        subst (λ os. 7 * length os ≤ chains_weight (sources_in ts) os + 7) (sym b.1)
+        (few_chains (sources_in ts) options.autoescape (a_chain entry) b.0
+        (subst (InOrder (sources_in ts)) b.1 in_order)
+        (λ h a. reached h (in_namespaces h (subst (λ os. listed h os ≡ true) (sym b.1) a))))
+
+    pub some_namespaces : 0 < length is
+    some_namespaces = from is (o.all 0 (omega (arith, lens, some)))
+      where
+        from : (js : List ℕ) → graph.among 0 js ≡ true → 0 < length js
+        from [] a = absurd (cc)
+        from (j ∷ js) a = omega arith
+
+    whole_along : (js : List ℕ) (namespaces : List linked.Namespace) → AllByRecursion (λ i. i < length hs) js
+        → HasNamespaces hs ws js namespaces → AreWhole ts namespaces
+    whole_along [] [] w a = tt
+    whole_along [] (k ∷ namespaces) w a = absurd a
+    whole_along (j ∷ js) [] w a = absurd a
+    whole_along (j ∷ js) (k ∷ namespaces) w a =
+        search (arith, rules, number, names_placed, placed_templates, whole_path, whole_along js namespaces w.1 a.1)
+
+    pub all_whole : (namespaces : List linked.Namespace) → HasNamespaces hs ws is namespaces → AreWhole ts namespaces
+    all_whole namespaces a = whole_along is namespaces within a
+
+pub namespaces_named : (hs : List Namespace) (ws : Graph) (is : List ℕ) (namespaces : List linked.Namespace)
+    → HasNamespaces hs ws is namespaces → map namespace_view namespaces ≡ map (namespace_at hs) is
+namespaces_named hs ws [] [] a = refl
+namespaces_named hs ws [] (k ∷ namespaces) a = absurd a
+namespaces_named hs ws (i ∷ is) [] a = absurd a
+namespaces_named hs ws (i ∷ is) (k ∷ namespaces) a =
+    ap (λ x. x ∷ map namespace_view namespaces) a.0.0
+    ∙ ap (λ l. namespace_at hs i ∷ l) (namespaces_named hs ws is namespaces a.1)
+
+-- The result of a search from an entry, and an order of its numbers.
+module _ {given : SourceTexts} {options : Options} {entry : Text} (f : Discovery) (is : IsFound given options f)
+    (root : root_of f ≡ entry) (lens : length f.extends_paths.items ≡ length (found_namespaces f)) where
+  pub its_found : AreFound given options entry (found_templates f) (names_view f.names) (found_namespaces f)
+      (graph_of f.extends_paths.items) (graph_of f.next.items)
+  its_found =
+      subst (λ z. AreFound given options z (found_templates f) (names_view f.names) (found_namespaces f)
+      (graph_of f.extends_paths.items) (graph_of f.next.items)) root is
+
+  pub its_paths : length (graph_of f.extends_paths.items) ≡ length (found_namespaces f)
+  its_paths = length-map f.extends_paths.items (λ (v : Vec ℕ Global). v.items) ∙ lens
+
+  pub its_order : (next : List (Vec ℕ Global)) (order : List ℕ) → next ≡ f.next.items
+      → (IsClosed (graph_of next) → IsOrder (graph_of next) order) → IsOrder (graph_of f.next.items) order
+  its_order next order e h =
+      subst (λ (z : List (Vec ℕ Global)). IsOrder (graph_of z) order) e
+      (h (subst (λ (z : List (Vec ℕ Global)). IsClosed (graph_of z)) (sym e) (closed its_found its_paths)))
+
+pub its_namespaces : (f : Discovery) (is js : List ℕ) (namespaces : List linked.Namespace) → js ≡ is
+    → HasNamespaces (found_namespaces f) (graph_of f.extends_paths.items) js namespaces
+    → HasNamespaces (found_namespaces f) (graph_of f.extends_paths.items) is namespaces
+its_namespaces f is js namespaces e has =
+    subst (λ z. HasNamespaces (found_namespaces f) (graph_of f.extends_paths.items) z namespaces) e has
+
+pub its_names : (f : Discovery) (is js : List ℕ) (namespaces : List linked.Namespace) → js ≡ is
+    → HasNamespaces (found_namespaces f) (graph_of f.extends_paths.items) js namespaces
+    → map namespace_view namespaces ≡ map (namespace_at (found_namespaces f)) is
+its_names f is js namespaces e has =
+    namespaces_named (found_namespaces f) (graph_of f.extends_paths.items) is namespaces
+    (its_namespaces f is js namespaces e has)

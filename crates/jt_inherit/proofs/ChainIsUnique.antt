@@ -1,0 +1,184 @@
+-- An entry has one chain, up to the order of its parts, and none if a rule is broken.
+use Rattle.std.proofs.Common.{◌≡◌, ◌≢◌, ◌↔◌, Bool, true, false, List, [], ◌∷◌, refl, sym, ap, subst, ◌∙◌, ⊎_elim}
+use Rattle.std.proofs.Common.{Option, Some, None, string_bytes, arith, rules}
+use Rattle.std.specs.List.{AllByRecursion, list_any}
+use Rattle.std.specs.Option.{is_some, is_none}
+use Rattle.jt_scan.specs.declared.options.Options.{Options}
+use Rattle.jt_ast.specs.Texts.{among}
+use Rattle.jt_ast.specs.Expressions.{Text}
+use Rattle.jt_ast.specs.Statements.{Body}
+use Rattle.jt_chains.specs.Chain.{Sources, a_chain, Template, sources_in}
+use Rattle.jt_inherit.specs.Chains.{SourceTexts, IsTree, IsRead, IsOnly, IsChain}
+use Rattle.jt_inherit.specs.Refusals.{Breaks, Shows, HasFault, IsUncut, IsUnspelled}
+use Rattle.jt_chains.specs.Rules as rules
+use Rattle.jt_chains.specs.Rules.{Asks, here, asked, KeepsRules}
+use Rattle.jt_chains.specs.View.{Seen, sources_of}
+use Rattle.jt_inherit.specs.declared.error.ChainError.{ChainError}
+use Rattle.jt_inherit.specs.declared.error.ChainError.TheVariants as error
+use Rattle.jt_inherit.proofs.RulesCarryOver as carried
+use Rattle.jt_inherit.proofs.DiscoveryInvariant.{some_source}
+use Rattle.jt_inherit.proofs.SourcesGrow.{asks_more, asked_more, reaches_more}
+use Rattle.jt_inherit.proofs.PathsGrow.{names}
+use Rattle.jt_inherit.proofs.NameMembership.{same}
+use Rattle.jt_inherit.proofs.Membership.{or_true}
+
+pub any_at : (p : Text → Bool) (x : Text) (xs : List Text) → among x xs ≡ true → p x ≡ true → list_any p xs ≡ true
+any_at p x [] a t = absurd (cc)
+any_at p x (y ∷ xs) a t = search (arith, rules, any_at p x xs, same, or_true)
+
+-- The template of a source.
+pub source_read : (P : Template → Type 0) (ts : List Template) (n : Text) (b : Body) → AllByRecursion P ts
+    → sources_in ts n ≡ Some b → P (record { name = n; body = b })
+source_read P [] n b a e = absurd (cc)
+source_read P (t ∷ ts) n b a e = search (arith, rules, source_read P ts n b a.1, same)
+
+named_source : (ts : List Template) (n : Text) → among n (names ts) ≡ true → (b : Body) × (sources_in ts n ≡ Some b)
+named_source ts n a = by (sources_in ts n) refl (some_source ts n ∙ a)
+  where
+    by : (o : Option Body) → sources_in ts n ≡ o → is_some o ≡ true → (b : Body) × (sources_in ts n ≡ Some b)
+    by None e q = absurd (cc)
+    by (Some b) e q = (b, e)
+
+source_named : (ts : List Template) (n : Text) (b : Body) → sources_in ts n ≡ Some b → among n (names ts) ≡ true
+source_named ts n b e = sym (some_source ts n) ∙ ap is_some e
+
+module _ (given : SourceTexts) (options : Options) where
+  has_source : (ts : List Template) (n : Text) (b : Body) → AllByRecursion (IsRead given options) ts
+      → sources_in ts n ≡ Some b → given n ≢ None
+  has_source ts n b a e =
+      let r = source_read (IsRead given options) ts n b a e in
+      λ none. let no : None ≡ Some r.source = sym none ∙ r.found in absurd (cc)
+
+  module _ (entry : Text) (d : Seen) (is : IsChain given entry options d) where
+    d_asked : (n : Text) → (among n (names d.templates) ≡ true) ↔
+        (Asks (sources_of d) options.autoescape (a_chain entry) n × (given n ≢ None))
+    d_asked =
+        subst (λ e. (n : Text)
+        → (among n (names d.templates) ≡ true) ↔ (Asks (sources_of d) e (a_chain entry) n × (given n ≢ None)))
+        is.escaping is.asked
+
+    d_keeps : KeepsRules (sources_of d) options.autoescape (a_chain entry)
+    d_keeps = subst (λ e. KeepsRules (sources_of d) e (a_chain entry)) is.escaping is.rules
+
+    -- A requested name that was read in the only way has the same tree in the chain.
+    module _ (ts : List Template) (read : AllByRecursion (IsRead given options) ts)
+        (only : AllByRecursion (IsOnly given options) ts) where
+      pub into : (n : Text) (b : Body) → Asks (sources_of d) options.autoescape (a_chain entry) n
+          → sources_in ts n ≡ Some b → sources_of d n ≡ Some b
+      into n b i e =
+          let c = named_source d.templates n ((d_asked n).1 (i, has_source ts n b read e)) in
+          let one = source_read (IsOnly given options) ts n b only e c.0
+          (source_read (IsRead given options) d.templates n c.0 is.read.each c.1) in
+          c.1 ∙ ap (λ (x : Body). Some x) one
+
+    -- ---- a broken rule
+
+    -- A property that the templates read so far show holds of the chain.
+    shown : (P : Sources → Type 0) → ((s : Sources)
+        → ((n : Text) (b : Body) → Asks (sources_of d) options.autoescape (a_chain entry) n → s n ≡ Some b
+        → sources_of d n ≡ Some b) → P s → ⊥)
+        → Shows given options P → ⊥
+    shown P none x = none (sources_in x.templates) (into x.templates x.read.each x.only) x.holds
+
+    -- A requested name has a tree or no source.
+    no_fault : (n : Text) (P : Text → Type 0) → HasFault given entry options n P → ⊥
+    no_fault n P x =
+        let s = sources_in x.reached.templates in
+        let i = asks_more s (sources_of d) options.autoescape (a_chain entry)
+        (into x.reached.templates x.reached.read.each x.reached.only) n x.reached.holds in
+        let c = named_source d.templates n
+        ((d_asked n).1 (i, λ none. let no : None ≡ Some x.source = sym none ∙ x.found in absurd (cc))) in
+        let r = source_read (IsRead given options) d.templates n c.0 is.read.each c.1 in
+        let told : Some r.source ≡ Some x.source = sym r.found ∙ x.found in
+        let source : r.source ≡ x.source = cc in
+        x.none c.0 (subst (λ z. IsTree options z c.0) source r.tree)
+
+    pub no_chain : (e : ChainError) → Breaks e given entry options → e ≡ error.NoMemory
+    no_chain error.Missing x =
+        let s = sources_in x.reached.templates in
+        let g = into x.reached.templates x.reached.read.each x.reached.only in
+        let h = x.reached.holds in
+        let p = reaches_more s (sources_of d) options.autoescape (a_chain entry) g here h.1 in
+        absurd (d_keeps.missing (
+          h.0,
+          p,
+          any_at (λ n. is_none (sources_of d n)) x.name (asked (sources_of d) options.autoescape false h.0)
+              (asked_more s (sources_of d) options.autoescape (a_chain entry) g false h.0 p x.name h.2)
+              (unread x.name x.found),
+        ))
+      where
+        unread : (n : Text) → given n ≡ None → is_none (sources_of d n) ≡ true
+        unread n none = by (sources_of d n) refl
+          where
+            by : (o : Option Body) → sources_of d n ≡ o → is_none o ≡ true
+            by None e = refl
+            by (Some b) e = absurd (has_source d.templates n b is.read.each e none)
+    no_chain error.BadName x =
+        absurd (shown (λ s. rules.BadName s options.autoescape (a_chain entry))
+        (λ s g b. d_keeps.bad_name (carried.bad_name s (sources_of d) options.autoescape (a_chain entry) g b)) x)
+    no_chain error.ExtendsCycle x =
+        absurd (shown (λ s. rules.ExtendsCycle s options.autoescape (a_chain entry))
+        (λ s g b. ⊎_elim d_keeps.extends_cycle d_keeps.too_long
+        (carried.extends_cycle s (sources_of d) options.autoescape (a_chain entry) g b)) x)
+    no_chain error.ChainTooLong x =
+        absurd (shown (λ s. rules.ChainTooLong s options.autoescape (a_chain entry))
+        (λ s g b. d_keeps.too_long (carried.too_long s (sources_of d) options.autoescape (a_chain entry) g b)) x)
+    no_chain error.DoubleBlock x =
+        absurd (shown (λ s. rules.DoubleBlock s options.autoescape (a_chain entry))
+        (λ s g b. d_keeps.double_block (carried.double_block s (sources_of d) options.autoescape (a_chain entry) g b))
+        x)
+    no_chain error.RequiredNotGiven x =
+        absurd (shown (λ s. rules.RequiredNotGiven s options.autoescape (a_chain entry))
+        (λ s g b.
+        d_keeps.required_not_given (carried.required_not_given s (sources_of d) options.autoescape (a_chain entry) g b))
+        x)
+    no_chain error.NoSuper x =
+        absurd (shown (λ s. rules.NoSuper s options.autoescape (a_chain entry))
+        (λ s g b. d_keeps.no_super (carried.no_super s (sources_of d) options.autoescape (a_chain entry) g b)) x)
+    no_chain error.IncludeCycle x =
+        absurd (shown (λ s. rules.IncludeCycle s options.autoescape (a_chain entry))
+        (λ s g b. d_keeps.include_cycle (carried.include_cycle s (sources_of d) options.autoescape (a_chain entry) g b))
+        x)
+    no_chain error.MacroTwice x =
+        absurd (shown (λ s. rules.MacroTwice s options.autoescape (a_chain entry))
+        (λ s g b. d_keeps.macro_twice (carried.macro_twice s (sources_of d) options.autoescape (a_chain entry) g b)) x)
+    no_chain error.NoMacro x =
+        absurd (shown (λ s. rules.NoMacro s options.autoescape (a_chain entry))
+        (λ s g b. d_keeps.no_macro (carried.no_macro s (sources_of d) options.autoescape (a_chain entry) g b)) x)
+    no_chain error.NotALibrary x =
+        absurd (shown (λ s. rules.NotALibrary s options.autoescape (a_chain entry))
+        (λ s g b. d_keeps.not_a_library (carried.not_a_library s (sources_of d) options.autoescape (a_chain entry) g b))
+        x)
+    no_chain error.NoMemory x = refl
+    no_chain (error.Scan n e) x = absurd (no_fault (string_bytes n) (IsUncut e options) x)
+    no_chain (error.Parse n e) x = absurd (no_fault (string_bytes n) (IsUnspelled e options) x)
+
+  -- ---- one chain only
+
+  module _ (entry : Text) (c d : Seen) (ic : IsChain given entry options c) (id : IsChain given entry options d)
+      (only : AllByRecursion (IsOnly given options) c.templates) where
+    -- A name that the other chain requests has the same tree in this one.
+    back : (n : Text) (b : Body) → Asks (sources_of c) options.autoescape (a_chain entry) n → sources_of d n ≡ Some b
+        → sources_of c n ≡ Some b
+    back n b i e =
+        let f = named_source c.templates n ((d_asked entry c ic n).1 (i, has_source d.templates n b id.read.each e)) in
+        let one = source_read (IsOnly given options) c.templates n f.0 only f.1 b
+        (source_read (IsRead given options) d.templates n b id.read.each e) in
+        f.1 ∙ ap (λ (x : Body). Some x) (sym one)
+
+    pub one_chain : (n : Text) → sources_of c n ≡ sources_of d n
+    one_chain n = by (sources_of c n) refl (sources_of d n) refl
+      where
+        by : (o : Option Body) → sources_of c n ≡ o → (q : Option Body) → sources_of d n ≡ q
+            → sources_of c n ≡ sources_of d n
+        by (Some b) e q f =
+            let i = asks_more (sources_of c) (sources_of d) options.autoescape (a_chain entry)
+            (into entry d id c.templates ic.read.each only) n
+            ((d_asked entry c ic n).0 (source_named c.templates n b e)).0 in
+            e ∙ sym (into entry d id c.templates ic.read.each only n b i e)
+        by None e (Some b) f =
+            let i = asks_more (sources_of d) (sources_of c) options.autoescape (a_chain entry) back n
+            ((d_asked entry d id n).0 (source_named d.templates n b f)).0 in
+            let no : None ≡ Some b = sym e ∙ back n b i f in
+            absurd (cc)
+        by None e None f = e ∙ sym f

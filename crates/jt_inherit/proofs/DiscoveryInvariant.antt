@@ -1,0 +1,396 @@
+-- The facts about followed chains and libraries stay true when more is found.
+use Rattle.std.proofs.Common.{◌≡◌, ℕ, zero, suc, ◌<◌, ◌≤◌, Bool, true, false, cond, List, [], ◌∷◌, ◌++◌, length, map}
+use Rattle.std.proofs.Common.{refl, sym, ap, subst, ◌∙◌, arith, ◌⊎◌, ⊎_elim, Option, Some, None, Vec, Global, rules}
+use Rattle.std.specs.Prelude.{slice_get, flat_map, filter, unwrap_or}
+use Rattle.std.specs.List.{AllByRecursion}
+use Rattle.std.specs.Option.{is_some, option_to_list}
+use Rattle.std.proofs.lemmas.List.{append-nil, append_assoc, length-map, map-append}
+use Rattle.jt_scan.specs.declared.options.Options.{Options}
+use Rattle.jt_ast.specs.Texts.{among}
+use Rattle.jt_ast.specs.Expressions.{Text}
+use Rattle.jt_chains.specs.Along.{ArePlaces, templates_at}
+use Rattle.jt_inherit.specs.internal.Along.{imports_along, needs_along}
+use Rattle.jt_chains.specs.Chain.{Namespace, a_chain, a_library, namespace_name, listed, Template, templates, libraries}
+use Rattle.jt_chains.specs.Chain.{libraries_in, sources_in}
+use Rattle.jt_inherit.specs.Chains.{SourceTexts, IsRead}
+use Rattle.jt_inherit.specs.internal.Found.{AreNext, IsMet, IsNeedFault, IsNextFault, IsFollowed, AreFollowed, AreFound}
+use Rattle.jt_inherit.specs.internal.Found.{chosen}
+use Rattle.jt_chains.specs.Includes.{included, includes_in, needs_in}
+use Rattle.jt_chains.specs.Needs.{Need, include_need, library_need, needed}
+use Rattle.jt_chains.specs.Places.{namespace_at}
+use Rattle.jt_inherit.specs.Refusals.{Breaks}
+use Rattle.jt_chains.specs.Rules.{Asks, Reaches, here, asked, extends_path}
+use Rattle.jt_inherit.specs.internal.ExtendsPaths.{AreKnown, IsExtendsPath}
+use Rattle.jt_inherit.specs.declared.error.ChainError.{ChainError}
+use Rattle.jt_inherit.specs.declared.error.ChainError.TheVariants as error
+use Rattle.jt_inherit.proofs.ImportCollection.{all_imports, imports_needed, imports_chosen, all_includes}
+use Rattle.jt_inherit.proofs.ImportCollection.{includes_chosen, none_imported}
+use Rattle.jt_inherit.proofs.FollowStep.{met_grows, numbers_grow, chosen-append}
+use Rattle.jt_inherit.proofs.SourcesGrow.{reach_more, ask_more, reaches_next}
+use Rattle.jt_inherit.proofs.PathsGrow.{names, names_to_root, templates_grow, way_grows, few_templates}
+use Rattle.jt_inherit.proofs.PathsGrow.{templates_to_root, asked_breaks}
+use Rattle.jt_chains.proofs.IncludeCollection.{by_templates, needed-append}
+use Rattle.jt_chains.proofs.TemplatesByIndex.{along_templates}
+use Rattle.jt_graph.specs.View.{graph_of}
+use Rattle.jt_chains.specs.TemplateFiles.{file_view, files_view}
+use Rattle.jt_chains.specs.declared.files.TemplateFile.{TemplateFile}
+use Rattle.jt_inherit.proofs.NameMembership.{of_texts, same}
+use Rattle.jt_inherit.proofs.NamespaceMembership.{of_namespaces}
+use Rattle.jt_inherit.proofs.Membership.{among_behind, among_front, both_false, only_among, placed_among}
+
+-- ---- templates at indices
+
+placed_one : (ts : List Template) (i : ℕ) → i < length ts → (t : Template) × (slice_get ts i ≡ Some t)
+placed_one [] i lt = absurd (omega arith)
+placed_one (t ∷ ts) zero lt = (t, refl)
+placed_one (t ∷ ts) (suc i) lt = placed_one ts i (omega arith)
+
+pub placed_templates : (ts : List Template) (is : List ℕ) → ArePlaces ts is
+    → map (slice_get ts) is ≡ map Some (templates_at ts is)
+placed_templates ts [] a = refl
+placed_templates ts (i ∷ is) a =
+    let p = placed_one ts i a.0 in
+    let e = p.1 in
+    ap (λ o. o ∷ map (slice_get ts) is) e ∙ ap (λ l. Some p.0 ∷ l) (placed_templates ts is a.1)
+    ∙ sym (ap (λ o. map Some (option_to_list o ++ templates_at ts is)) e)
+
+pub includes_told : (ts : List Template) (is : List ℕ) → ArePlaces ts is
+    → needs_along ts is ≡ flat_map (λ t. includes_in include_need t.body) (templates_at ts is)
+    ++ map library_need (flat_map (λ t. libraries_in t.body) (templates_at ts is))
+includes_told ts is a =
+    let us = templates_at ts is in
+    ap (λ l. l ++ imports_along ts is)
+    (along_templates (λ n b. includes_in include_need b) ts is us (placed_templates ts is a))
+    ∙ ap (λ l. flat_map (λ (t : Template). includes_in include_need t.body) us ++ l)
+    (along_templates (λ n b. map library_need (libraries_in b)) ts is us (placed_templates ts is a) ∙ all_imports us)
+
+pub includes_grow : (ts us : List Template) (is : List ℕ) → ArePlaces ts is → ArePlaces (ts ++ us) is
+    → needs_along (ts ++ us) is ≡ needs_along ts is
+includes_grow ts us is a b =
+    includes_told (ts ++ us) is b ∙ ap (λ vs. flat_map (λ (t : Template). includes_in include_need t.body) vs
+    ++ map library_need (flat_map (λ (t : Template). libraries_in t.body) vs))
+    (templates_grow ts us is a)
+    ∙ sym (includes_told ts is a)
+
+-- ---- names with a source
+
+pub some_source : (ts : List Template) (m : Text) → is_some (sources_in ts m) ≡ among m (names ts)
+some_source [] m = refl
+some_source (t ∷ ts) m = search (arith, rules, some_source ts m, names)
+
+filter_same : (p q : Text → Bool) → ((m : Text) → p m ≡ q m) → (xs : List Text) → filter p xs ≡ filter q xs
+filter_same p q e [] = refl
+filter_same p q e (x ∷ xs) =
+    ap (λ b. cond b (x ∷ filter p xs) (filter p xs)) (e x) ∙ ap (λ l. cond (q x) (x ∷ l) l) (filter_same p q e xs)
+
+pub whole_path : (ts : List Template) (h : Namespace) (is : List ℕ) → IsExtendsPath ts h is None
+    → templates (sources_in ts) h ≡ templates_at ts is
+whole_path ts a1 is w = search (arith, rules, templates_to_root, few_templates)
+
+-- The libraries that a namespace imports, by its path.
+pub libraries_way : (ts : List Template) (h : Namespace) (is : List ℕ) → IsExtendsPath ts h is None
+    → libraries (sources_in ts) h ≡ flat_map (λ t. libraries_in t.body) (templates_at ts is)
+libraries_way ts a1 is w = search (arith, rules, whole_path, append-nil, none_imported)
+
+-- The namespaces that a namespace leads to, by its path.
+pub included_is : (ts : List Template) (h : Namespace) (is : List ℕ) → IsExtendsPath ts h is None
+    → included (sources_in ts) h ≡ chosen (names ts) (needs_along ts is)
+included_is ts h is w =
+    let s = sources_in ts in
+    let us = templates_at ts is in
+    let ks = names ts in
+    let ns = flat_map (λ (t : Template). includes_in include_need t.body) us in
+    let ls = flat_map (λ (t : Template). libraries_in t.body) us in
+    let chains : filter (λ m. is_some (s m)) (flat_map (λ t. needs_in true t.body) (templates s h))
+    ≡ filter (λ m. among m ks) (needed true ns) =
+    ap (λ vs. filter (λ m. is_some (s m)) (flat_map (λ (t : Template). needs_in true t.body) vs)) (whole_path ts h is w)
+    ∙ ap (filter (λ m. is_some (s m))) (sym (by_templates true us))
+    ∙ filter_same (λ m. is_some (s m)) (λ m. among m ks) (some_source ts) (needed true ns) in
+    let theirs : filter (λ m. is_some (s m)) (libraries s h) ≡ filter (λ m. among m ks) ls =
+    ap (filter (λ m. is_some (s m))) (libraries_way ts h is w)
+    ∙ filter_same (λ m. is_some (s m)) (λ m. among m ks) (some_source ts) ls in
+    ap (λ l. map a_chain l ++ map a_library (filter (λ m. is_some (s m)) (libraries s h))) chains
+    ∙ ap (λ l. map a_chain (filter (λ m. among m ks) (needed true ns)) ++ map a_library l) theirs
+    ∙ sym (ap (chosen ks) (includes_told ts is w.places) ∙ chosen-append ks ns (map library_need ls)
+    ∙ ap (λ l. l ++ chosen ks (map library_need ls)) (includes_chosen ks ns (all_includes us))
+    ∙ ap (λ l. map a_chain (filter (λ m. among m ks) (needed true ns)) ++ l) (imports_chosen ks ls))
+
+-- The path of a chain or a library, and the names that it requests.
+module _ (ts : List Template) (e : Bool) (h : Namespace) (is : List ℕ) (w : IsExtendsPath ts h is None) where
+  pub few_way : length (templates_at ts is) ≤ 64
+  few_way = omega (arith, few_templates ts is, w.few)
+
+  pub way_names : extends_path (sources_in ts) e h ≡ names (templates_at ts is)
+  way_names = by h w
+    where
+      by : (k : Namespace) → IsExtendsPath ts k is None → extends_path (sources_in ts) e k ≡ names (templates_at ts is)
+      by (a_chain n) v = names_to_root (sources_in ts) 65 (Some n) (templates_at ts is) (omega (arith, few_way)) v.leads
+      by (a_library n) v = ap (λ m. m ∷ []) (sym v.leads.named) ∙ sym (ap names v.leads.only)
+
+  pub asked_way : (all : Bool)
+      → asked (sources_in ts) e all h ≡ names (templates_at ts is) ++ needed all (needs_along ts is)
+  asked_way all =
+      search (
+        arith,
+        rules,
+        way_names,
+        names,
+        whole_path,
+        libraries_way,
+        by_templates,
+        imports_needed,
+        needed-append,
+        includes_told,
+      )
+
+  -- Each template on the path, and each included or imported one, is requested.
+  pub asks_way : (n : Text) → among n (names (templates_at ts is)) ≡ true
+      → among n (asked (sources_in ts) e true h) ≡ true
+  asks_way n a =
+      ap (among n) (asked_way true)
+      ∙ among_front of_texts n (names (templates_at ts is)) (needed true (needs_along ts is)) a
+
+  pub asks_needed : (all : Bool) (n : Text) → among n (needed all (needs_along ts is)) ≡ true
+      → among n (asked (sources_in ts) e all h) ≡ true
+  asks_needed all n a =
+      ap (among n) (asked_way all)
+      ∙ among_behind of_texts n (names (templates_at ts is)) (needed all (needs_along ts is)) a
+
+pub none_read : (given : SourceTexts) (options : Options) (ts : List Template) (n : Text)
+    → AllByRecursion (IsRead given options) ts → given n ≡ None → among n (names ts) ≡ false
+none_read given options [] n a e = refl
+none_read given options (t ∷ ts) n a e =
+    search (arith, rules, none_read given options ts n a.1 e, names, same, both_false)
+
+-- A template that may be missing, and is, stays missing.
+chosen_same : (given : SourceTexts) (ks ms : List Text) → ((n : Text) → given n ≡ None → among n (ks ++ ms) ≡ false)
+    → (ns : List Need) → AllByRecursion (IsMet given ks) ns → chosen (ks ++ ms) ns ≡ chosen ks ns
+chosen_same given ks ms absent [] a = refl
+chosen_same given ks ms absent (n ∷ ns) a =
+    search (arith, rules, among_front of_texts, chosen_same given ks ms absent ns a.1)
+
+-- ---- followed namespaces
+
+module _ (given : SourceTexts) (options : Options) (ts us : List Template) (hs ms : List Namespace)
+    (read : AllByRecursion (IsRead given options) (ts ++ us)) where
+  more_names : names (ts ++ us) ≡ names ts ++ names us
+  more_names = both_names ts
+    where
+      both_names : (vs : List Template) → names (vs ++ us) ≡ names vs ++ names us
+      both_names [] = refl
+      both_names (v ∷ vs) = ap (λ l. v.name ∷ l) (both_names vs)
+
+  followed_grows : (h : Namespace) (w n : List ℕ) → IsFollowed given ts hs h w n
+      → IsFollowed given (ts ++ us) (hs ++ ms) h w n
+  followed_grows h w n f =
+      let grown = way_grows ts us h w None f.led in
+      let needs = includes_grow ts us w f.led.places grown.places in
+      let same_chosen : chosen (names (ts ++ us)) (needs_along (ts ++ us) w) ≡ chosen (names ts) (needs_along ts w) =
+      ap (λ ks. chosen ks (needs_along (ts ++ us) w)) more_names ∙ ap (chosen (names ts ++ names us)) needs
+      ∙ chosen_same given (names ts) (names us)
+      (λ x e. sym (ap (among x) more_names) ∙ none_read given options (ts ++ us) x read e) (needs_along ts w) f.met in
+      record {
+        led = grown;
+        met = subst (λ l. AllByRecursion (IsMet given (names (ts ++ us))) l) (sym needs)
+            (subst (λ ks. AllByRecursion (IsMet given ks) (needs_along ts w)) (sym more_names)
+            (met_grows given (names ts) (names us) (needs_along ts w) f.met));
+        numbered =
+            subst (λ l. map (slice_get (hs ++ ms)) n ≡ map Some l) (sym same_chosen)
+            (numbers_grow hs ms n (chosen (names ts) (needs_along ts w)) f.numbered);
+      }
+
+  all_grow : (gs : List Namespace) (ws ns : List (List ℕ)) → AreFollowed given ts hs gs ws ns
+      → AreFollowed given (ts ++ us) (hs ++ ms) gs ws ns
+  all_grow gs [] [] a = tt
+  all_grow gs [] (n ∷ ns) a = absurd a
+  all_grow gs (w ∷ ws) [] a = absurd a
+  all_grow [] (w ∷ ws) (n ∷ ns) a = absurd a
+  all_grow (g ∷ gs) (w ∷ ws) (n ∷ ns) a = (followed_grows g w n a.0, all_grow gs ws ns a.1)
+
+followed_longer : (given : SourceTexts) (ts : List Template) (hs gs fs : List Namespace) (ws ns : List (List ℕ))
+    → AreFollowed given ts hs gs ws ns → AreFollowed given ts hs (gs ++ fs) ws ns
+followed_longer given ts hs gs fs [] [] a = tt
+followed_longer given ts hs gs fs [] (n ∷ ns) a = absurd a
+followed_longer given ts hs gs fs (w ∷ ws) [] a = absurd a
+followed_longer given ts hs [] fs (w ∷ ws) (n ∷ ns) a = absurd a
+followed_longer given ts hs (g ∷ gs) fs (w ∷ ws) (n ∷ ns) a = (a.0, followed_longer given ts hs gs fs ws ns a.1)
+
+followed_next : (given : SourceTexts) (ts : List Template) (hs gs : List Namespace) (ws ns : List (List ℕ))
+    (h : Namespace) (w n : List ℕ)
+    → AreFollowed given ts hs gs ws ns → slice_get gs (length ws) ≡ Some h → IsFollowed given ts hs h w n
+    → AreFollowed given ts hs gs (ws ++ w ∷ []) (ns ++ n ∷ [])
+followed_next given ts hs (g ∷ gs) [] [] h w n a at f =
+    let e : g ≡ h = cc in
+    (subst (λ x. IsFollowed given ts hs x w n) (sym e) f, tt)
+followed_next given ts hs (g ∷ gs) (v ∷ ws) (m ∷ ns) h w n a at f =
+    (a.0, followed_next given ts hs gs ws ns h w n a.1 at f)
+followed_next given ts hs a3 a4 a5 h w n a at f = search (arith, rules)
+
+at_front : (xs ys : List Namespace) (i : ℕ) (x : Namespace) → slice_get xs i ≡ Some x → slice_get (xs ++ ys) i ≡ Some x
+at_front [] ys i x e = absurd (cc)
+at_front (y ∷ xs) ys zero x e = e
+at_front (y ∷ xs) ys (suc i) x e = at_front xs ys i x e
+
+-- One more namespace is followed.
+module _ {given : SourceTexts} {options : Options} {root : Text} {ts0 : List Template} {ks0 : List Text}
+    {hs : List Namespace} {ws ns : List (List ℕ)} (f : AreFound given options root ts0 ks0 hs ws ns) {h : Namespace}
+    (at : slice_get hs (length ws) ≡ Some h)
+    {ts1 : List Template} (more : (m1 : List Template) × (ts1 ≡ ts0 ++ m1)) {is : List ℕ}
+    (w : IsExtendsPath ts1 h is None) where
+  pub reached_here : Reaches (sources_in ts1) options.autoescape (a_chain root) h
+  reached_here =
+      reach_more ts0 ts1 more.0 options.autoescape (a_chain root) h more.1
+      (f.reached h (placed_among of_namespaces hs (length ws) h at))
+
+  -- An error of an included or imported template.
+  pub need_breaks : AreKnown given options ts1 (names ts1) → (e : ChainError)
+      → (e ≡ error.NoMemory) ⊎ IsNeedFault given options (needs_along ts1 is) e → Breaks e given root options
+  need_breaks known e fault = ⊎_elim
+      (λ m. subst (λ z. Breaks z given root options) (sym m) tt)
+      (λ n. asked_breaks known reached_here n.name e (asks_needed ts1 options.autoescape h is w true n.name n.asked)
+      (λ q. asks_needed ts1 options.autoescape h is w false n.name (n.must q)) n.fault)
+      fault
+
+  module _ {ts2 : List Template} (m2 : List Template) (e2 : ts2 ≡ ts1 ++ m2) {ks2 : List Text}
+      (known : AreKnown given options ts2 ks2) where
+    pub way_there : IsExtendsPath ts2 h is None
+    way_there = subst (λ vs. IsExtendsPath vs h is None) (sym e2) (way_grows ts1 m2 h is None w)
+
+    needs_there : needs_along ts2 is ≡ needs_along ts1 is
+    needs_there =
+        ap (λ vs. needs_along vs is) e2
+        ∙ includes_grow ts1 m2 is w.places (subst (λ vs. ArePlaces vs is) e2 way_there.places)
+
+    chosen_there : included (sources_in ts2) h ≡ chosen ks2 (needs_along ts2 is)
+    chosen_there = included_is ts2 h is way_there ∙ ap (λ ks. chosen ks (needs_along ts2 is)) (sym known.named)
+
+    all_more : ts2 ≡ ts0 ++ (more.0 ++ m2)
+    all_more = e2 ∙ ap (λ l. l ++ m2) more.1 ∙ append_assoc ts0 more.0 m2
+
+    reached_from : (x : Namespace) → (listed x hs ≡ true) ⊎ (listed x (chosen ks2 (needs_along ts2 is)) ≡ true)
+        → Reaches (sources_in ts2) options.autoescape (a_chain root) x
+    reached_from x c = ⊎_elim
+        (λ a. reach_more ts0 ts2 (more.0 ++ m2) options.autoescape (a_chain root) x all_more (f.reached x a))
+        (λ a. reaches_next (reach_more ts1 ts2 m2 options.autoescape (a_chain root) h e2 reached_here)
+        (ap (listed x) chosen_there ∙ a))
+        c
+
+    pub next_breaks : (e : ChainError) → IsNextFault hs (chosen ks2 (needs_along ts2 is)) e
+        → Breaks e given root options
+    next_breaks e fault = search (arith, rules, reached_from)
+
+    -- Each known name is requested.
+    asks_more : (ks1 : List Text)
+        → ((n : Text) → among n ks1 ≡ true → (among n ks0 ≡ true) ⊎ (among n (names (templates_at ts1 is)) ≡ true))
+        → ((n : Text) → among n ks2 ≡ true → (among n ks1 ≡ true) ⊎ (among n (needed true (needs_along ts1 is)) ≡ true))
+        → (n : Text) → among n ks2 ≡ true → Asks (sources_in ts2) options.autoescape (a_chain root) n
+    asks_more ks1 on_path needs n a = ⊎_elim
+        (λ p. ⊎_elim
+        (λ q. ask_more ts0 ts2 (more.0 ++ m2) options.autoescape (a_chain root) n all_more (f.asked n q))
+        (λ q. ask_more ts1 ts2 m2 options.autoescape (a_chain root) n e2
+        (h, reached_here, asks_way ts1 options.autoescape h is w n q))
+        (on_path n p))
+        (λ p. ask_more ts1 ts2 m2 options.autoescape (a_chain root) n e2
+        (h, reached_here, asks_needed ts1 options.autoescape h is w true n p))
+        (needs n a)
+
+    pub found_more : (ks1 : List Text)
+        → ((n : Text) → among n ks1 ≡ true → (among n ks0 ≡ true) ⊎ (among n (names (templates_at ts1 is)) ≡ true))
+        → ((n : Text) → among n ks2 ≡ true → (among n ks1 ≡ true) ⊎ (among n (needed true (needs_along ts1 is)) ≡ true))
+        → AllByRecursion (IsMet given ks2) (needs_along ts1 is) → {hs2 : List Namespace} {next : List ℕ}
+        → AreNext hs hs2 (chosen ks2 (needs_along ts2 is)) next
+        → AreFound given options root ts2 ks2 hs2 (ws ++ is ∷ []) (ns ++ next ∷ [])
+    found_more ks1 on_path needs met {hs2} {next} n =
+        let read = subst (AllByRecursion (IsRead given options)) all_more known.read.each in
+        let old : AreFollowed given (ts0 ++ (more.0 ++ m2)) (hs ++ n.more) hs ws ns =
+        all_grow given options ts0 (more.0 ++ m2) hs n.more read hs ws ns f.followed in
+        let here_followed : IsFollowed given ts2 hs2 h is next = (record {
+          led = way_there;
+          met =
+              subst (λ l. AllByRecursion (IsMet given (names ts2)) l) (sym needs_there)
+              (subst (λ ks. AllByRecursion (IsMet given ks) (needs_along ts1 is)) known.named met);
+          numbered =
+              subst (λ ks. map (slice_get hs2) next ≡ map Some (chosen ks (needs_along ts2 is))) known.named n.numbered;
+        }) in
+        record {
+          known = known;
+          asked = asks_more ks1 on_path needs;
+          first =
+              subst (λ l. slice_get l 0 ≡ Some (a_chain root)) (sym n.grown)
+              (at_front hs n.more 0 (a_chain root) f.first);
+          once = n.once;
+          few = n.few;
+          reached = λ x a. reached_from x (n.from x a);
+          followed = followed_next given ts2 hs2 hs2 ws ns h is next
+              (subst (λ vs. AreFollowed given vs hs2 hs2 ws ns) (sym all_more)
+              (subst (λ l. AreFollowed given (ts0 ++ (more.0 ++ m2)) l l ws ns) (sym n.grown)
+              (followed_longer given (ts0 ++ (more.0 ++ m2)) (hs ++ n.more) hs n.more ws ns old)))
+              (subst (λ l. slice_get l (length ws) ≡ Some h) (sym n.grown) (at_front hs n.more (length ws) h at))
+              here_followed;
+        }
+
+    pub first_same : {hs2 : List Namespace} {next : List ℕ} → AreNext hs hs2 (chosen ks2 (needs_along ts2 is)) next
+        → namespace_name (namespace_at hs2 0) ≡ root
+    first_same n =
+        ap (λ o. namespace_name (unwrap_or o (a_chain [])))
+        (ap (λ l. slice_get l 0) n.grown ∙ at_front hs n.more 0 (a_chain root) f.first)
+
+-- Only the entry's chain was found.
+pub found_first : (given : SourceTexts) (options : Options) (entry root : Text) (ts : List Template) (ks : List Text)
+    (hs : List Namespace) (ws ns : List (List ℕ))
+    → hs ≡ a_chain entry ∷ [] → root ≡ entry → ts ≡ [] → ks ≡ [] → ws ≡ [] → ns ≡ []
+    → AreFound given options root ts ks hs ws ns
+found_first given options entry root ts ks hs ws ns eh er et ek ew en =
+    subst (λ r. AreFound given options r ts ks hs ws ns) (sym er)
+    (subst (λ z. AreFound given options entry ts ks z ws ns) (sym eh)
+    (subst (λ z. AreFound given options entry z ks (a_chain entry ∷ []) ws ns) (sym et)
+    (subst (λ z. AreFound given options entry [] z (a_chain entry ∷ []) ws ns) (sym ek)
+    (subst (λ z. AreFound given options entry [] [] (a_chain entry ∷ []) z ns) (sym ew)
+    (subst (λ z. AreFound given options entry [] [] (a_chain entry ∷ []) [] z) (sym en)
+    (record {
+      known = record { read = record { each = tt; once = refl }; only = tt; within = tt; named = refl };
+      asked = λ n a. absurd (cc);
+      first = refl;
+      once = refl;
+      few = omega arith;
+      reached =
+          λ x a. subst (λ z. Reaches (sources_in []) options.autoescape (a_chain entry) z)
+          (only_among of_namespaces (a_chain entry) x a) here;
+      followed = tt;
+    }))))))
+
+-- There are no more paths than namespaces.
+pub followed_len : (given : SourceTexts) (ts : List Template) (hs gs : List Namespace) (ws ns : List (List ℕ))
+    → AreFollowed given ts hs gs ws ns → length ws ≤ length gs
+followed_len given ts hs gs [] [] a = omega arith
+followed_len given ts hs gs [] (n ∷ ns) a = absurd a
+followed_len given ts hs gs (w ∷ ws) [] a = absurd a
+followed_len given ts hs [] (w ∷ ws) (n ∷ ns) a = absurd a
+followed_len given ts hs (g ∷ gs) (w ∷ ws) (n ∷ ns) a = omega (arith, followed_len given ts hs gs ws ns a.1)
+
+-- The next namespace to follow.
+pub namespace_number : (hs : List Namespace) (ws : List (Vec ℕ Global)) (o : Option Namespace) (i : ℕ) → i ≡ length ws
+    → slice_get hs i ≡ o → slice_get hs (length (graph_of ws)) ≡ o
+namespace_number hs ws o i at e = ap (slice_get hs) (length-map ws (λ (v : Vec ℕ Global). v.items) ∙ sym at) ∙ e
+
+pub known_names : (given : SourceTexts) (options : Options) (ts : List Template) (ks : List Text)
+    → AreKnown given options ts ks → AreKnown given options ts (names ts)
+known_names given options ts ks k = record { read = k.read; only = k.only; within = k.within; named = refl }
+
+-- Templates with more appended, all of them known.
+module _ {given : SourceTexts} {options : Options} {ks : List Text} (ps qs : List TemplateFile)
+    {rs ds : List TemplateFile} (same_files : ds ≡ ps) (more : rs ≡ ps ++ qs)
+    (known : AreKnown given options (files_view ds ++ files_view qs) ks) where
+  pub both_files : files_view rs ≡ files_view ps ++ files_view qs
+  both_files = ap files_view more ∙ map-append file_view ps qs
+
+  pub both_known : AreKnown given options (files_view rs) ks
+  both_known =
+      subst (λ ts. AreKnown given options ts ks)
+      (ap (λ (zs : List TemplateFile). files_view zs ++ files_view qs) same_files ∙ sym both_files) known
+
+-- The includes and imports of the same templates at the same indices are equal.
+pub same_needs : (ps qs : List TemplateFile) (is js : List ℕ) → qs ≡ ps → js ≡ is
+    → needs_along (files_view qs) js ≡ needs_along (files_view ps) is
+same_needs ps qs is js e f =
+    ap (λ (z : List TemplateFile). needs_along (files_view z) js) e ∙ ap (needs_along (files_view ps)) f

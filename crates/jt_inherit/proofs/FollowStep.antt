@@ -1,0 +1,199 @@
+-- One step of the search: the numbers of the namespaces that a followed one leads to.
+use Rattle.std.proofs.Common.{◌≡◌, ℕ, zero, suc, ◌+◌, ◌<◌, ◌≤◌, Bool, true, false, not, cond, ◌||◌, if◌then◌else◌, List}
+use Rattle.std.proofs.Common.{[], ◌∷◌, ◌++◌, length, map, take, drop, get_or, refl, sym, ap, subst, ◌∙◌, arith, inl}
+use Rattle.std.proofs.Common.{inr, ◌⊎◌, ⊎_elim, Some, length-append, rules}
+use Rattle.std.specs.Prelude.{slice_get}
+use Rattle.std.specs.List.{AllByRecursion}
+use Rattle.std.specs.Str.{bytes_eq}
+use Rattle.std.proofs.lemmas.List.{append-nil, append_assoc, take_more, drop_more, map-append}
+use Rattle.jt_scan.specs.declared.options.Options.{Options}
+use Rattle.jt_ast.specs.Texts.{among, repeated}
+use Rattle.jt_ast.specs.Expressions.{Text}
+use Rattle.jt_inherit.specs.Chains.{SourceTexts}
+use Rattle.jt_chains.specs.Chain.{Namespace, a_chain, a_library, listed}
+use Rattle.jt_inherit.specs.internal.Found.{AreNext, AddsNext, TooMany, IsNextFault, IsMet, IsFaultAt, IsNeedFault}
+use Rattle.jt_inherit.specs.internal.Found.{known_of, chosen, chains_of, twice}
+use Rattle.jt_chains.specs.Needs.{Need, needed, need_namespace, need_view, needs_view}
+use Rattle.jt_inherit.specs.declared.error.ChainError.{ChainError}
+use Rattle.jt_inherit.specs.declared.error.ChainError.TheVariants as error
+use Rattle.jt_chains.specs.declared.includes.Include.{Include}
+use Rattle.jt_inherit.proofs.NameMembership.{of_texts, reflexive}
+use Rattle.jt_inherit.proofs.NamespaceMembership.{chain_among, of_namespaces}
+use Rattle.jt_inherit.proofs.Membership.{among_behind, among_cases, among_front, both_false, once_more, only_among}
+use Rattle.jt_inherit.proofs.Membership.{or_false}
+
+-- ---- known includes and imports
+
+pub known-append : (ks : List Text) (ns ms : List Need) → known_of ks (ns ++ ms) ≡ known_of ks ns ++ known_of ks ms
+known-append ks [] ms = refl
+known-append ks (n ∷ ns) ms = search (arith, rules, known-append ks ns ms)
+
+pub one_known : (ks : List Text) (n : Need) → among n.name ks ≡ true → chosen ks (n ∷ []) ≡ need_namespace n ∷ []
+one_known ks n e = ap (λ b. map need_namespace (cond b (n ∷ []) [])) e
+
+-- ---- numbers of namespaces
+
+last_at : (xs : List Namespace) (x : Namespace) → slice_get (xs ++ x ∷ []) (length xs) ≡ Some x
+last_at [] x = refl
+last_at (y ∷ xs) x = last_at xs x
+
+-- A namespace that has a number.
+pub next_there : (hs : List Namespace) (x : Namespace) (i : ℕ) → twice hs ≡ false → length (chains_of hs) ≤ 1024
+    → slice_get hs i ≡ Some x → AreNext hs hs (x ∷ []) (i ∷ [])
+next_there hs x i once few at = record {
+  more = [];
+  grown = sym (append-nil hs);
+  once = once;
+  few = few;
+  from = λ h a. inl a;
+  numbered = ap (λ o. o ∷ []) at;
+}
+
+-- A namespace that is new.
+pub next_new : (old new : List Namespace) (x : Namespace) (i : ℕ) → new ≡ old ++ x ∷ [] → twice old ≡ false
+    → listed x old ≡ false → length (chains_of new) ≤ 1024 → i ≡ length old → AreNext old new (x ∷ []) (i ∷ [])
+next_new old new x i is once h few at =
+    search (arith, rules, once_more of_namespaces, among_cases of_namespaces, last_at)
+
+at_front : (xs ys : List Namespace) (i : ℕ) (x : Namespace) → slice_get xs i ≡ Some x → slice_get (xs ++ ys) i ≡ Some x
+at_front [] ys i x e = absurd (cc)
+at_front (y ∷ xs) ys zero x e = e
+at_front (y ∷ xs) ys (suc i) x e = at_front xs ys i x e
+
+pub numbers_grow : (xs ys : List Namespace) (is : List ℕ) (ns : List Namespace) → map (slice_get xs) is ≡ map Some ns
+    → map (slice_get (xs ++ ys)) is ≡ map Some ns
+numbers_grow xs ys [] [] e = refl
+numbers_grow xs ys [] (n ∷ ns) e = absurd (cc)
+numbers_grow xs ys (i ∷ is) [] e = absurd (cc)
+numbers_grow xs ys (i ∷ is) (n ∷ ns) e = search (arith, rules, at_front, numbers_grow xs ys is ns)
+
+pub next_both : (a b c xs ys : List Namespace) (is js : List ℕ) → AreNext a b xs is → AreNext b c ys js
+    → AreNext a c (xs ++ ys) (is ++ js)
+next_both a b c xs ys is js p q =
+    search (arith, rules, append_assoc, among_front of_namespaces, among_behind of_namespaces, map-append, numbers_grow)
+
+-- An error at a later name is an error of all names.
+pub fault_later : (a b xs ys zs : List Namespace) (is : List ℕ) (e : ChainError) → AreNext a b xs is
+    → IsNextFault b ys e → IsNextFault a (xs ++ (ys ++ zs)) e
+fault_later a b xs ys zs is e p f = search (arith, rules, among_front of_namespaces, among_behind of_namespaces)
+
+pub too_many : (old : List Namespace) (n : Text) → twice old ≡ false → length (chains_of old) ≡ 1024
+    → listed (a_chain n) old ≡ false → TooMany old (a_chain n ∷ [])
+too_many old n once len new = (
+  chains_of old ++ n ∷ [],
+  omega (arith, length-append (chains_of old) (n ∷ []), len),
+  once_more of_texts n (chains_of old) (chains_once old once) (sym (chain_among n old) ∙ new),
+  λ m a. ⊎_elim (λ p. inl (chain_among m old ∙ p))
+      (λ q. inr (ap (λ b. b || false) (ap (λ z. bytes_eq z m) (only_among of_texts n m q) ∙ reflexive m)))
+      (among_cases of_texts m (chains_of old) (n ∷ []) a),
+)
+  where
+    chains_once : (hs : List Namespace) → twice hs ≡ false → repeated (chains_of hs) ≡ false
+    chains_once [] o = refl
+    chains_once (a_chain m ∷ hs) o =
+        let k = or_false (listed (a_chain m) hs) (twice hs) o in
+        both_false (among m (chains_of hs)) (repeated (chains_of hs)) (sym (chain_among m hs) ∙ k.0)
+        (chains_once hs k.1)
+    chains_once (a_library m ∷ hs) o = chains_once hs (or_false (listed (a_library m) hs) (twice hs) o).1
+
+pub put_fault : (old : List Namespace) (x : Namespace) (n : Text) (e : ChainError) → twice old ≡ false
+    → listed x old ≡ false
+    → (e ≡ error.NoMemory) ⊎ ((e ≡ error.ChainTooLong) × (length (chains_of old) ≡ 1024) × (x ≡ a_chain n))
+    → IsNextFault old (x ∷ []) e
+put_fault old x n e once new f = ⊎_elim (λ m. inl m)
+    (λ t. inr (
+      t.0,
+      subst (λ y. TooMany old (y ∷ [])) (sym t.2) (too_many old n once t.1 (ap (λ y. listed y old) (sym t.2) ∙ new)),
+    )) f
+
+-- ---- includes and imports, in order
+
+pub chosen-append : (ks : List Text) (ns ms : List Need) → chosen ks (ns ++ ms) ≡ chosen ks ns ++ chosen ks ms
+chosen-append ks ns ms =
+    ap (map need_namespace) (known-append ks ns ms) ∙ map-append need_namespace (known_of ks ns) (known_of ks ms)
+
+views-append : (ns ms : List Include) → needs_view (ns ++ ms) ≡ needs_view ns ++ needs_view ms
+views-append ns ms = map-append need_view ns ms
+
+pub chosen_turn : (ks : List Text) (ns : List Include) (k : ℕ) (d : Include) → k < length ns
+    → chosen ks (needs_view (take (k + 1) ns))
+    ≡ chosen ks (needs_view (take k ns)) ++ chosen ks (need_view (get_or ns k d) ∷ [])
+chosen_turn ks ns k d lt =
+    ap (λ (l : List Include). chosen ks (needs_view l)) (take_more ns k d lt)
+    ∙ ap (chosen ks) (views-append (take k ns) (get_or ns k d ∷ []))
+    ∙ chosen-append ks (needs_view (take k ns)) (need_view (get_or ns k d) ∷ [])
+
+split : {X : Type 0} (xs : List X) (k : ℕ) → take k xs ++ drop k xs ≡ xs
+split [] zero = refl
+split [] (suc k) = refl
+split (x ∷ xs) zero = refl
+split (x ∷ xs) (suc k) = ap (λ l. x ∷ l) (split xs k)
+
+pub chosen_all : (ks : List Text) (ns : List Include) (k : ℕ) (d : Include) → k < length ns
+    → chosen ks (needs_view ns) ≡ chosen ks (needs_view (take k ns))
+    ++ (chosen ks (need_view (get_or ns k d) ∷ []) ++ chosen ks (needs_view (drop (k + 1) ns)))
+chosen_all ks ns k d lt =
+    let n = get_or ns k d in
+    ap (λ (l : List Include). chosen ks (needs_view l)) (sym (split ns k))
+    ∙ ap (chosen ks) (views-append (take k ns) (drop k ns))
+    ∙ chosen-append ks (needs_view (take k ns)) (needs_view (drop k ns))
+    ∙ ap (λ l. chosen ks (needs_view (take k ns)) ++ l)
+    (ap (λ (l : List Include). chosen ks (needs_view l)) (drop_more ns k d lt)
+    ∙ chosen-append ks (need_view n ∷ []) (needs_view (drop (k + 1) ns)))
+
+-- ---- templates that are met
+
+pub met_grows : (given : SourceTexts) (ks ms : List Text) (ns : List Need) → AllByRecursion (IsMet given ks) ns
+    → AllByRecursion (IsMet given (ks ++ ms)) ns
+met_grows given ks ms [] a = tt
+met_grows given ks ms (n ∷ ns) a =
+    (⊎_elim (λ p. inl (among_front of_texts n.name ks ms p)) (λ q. inr q) a.0, met_grows given ks ms ns a.1)
+
+pub met_turn : (P : Need → Type 0) (ns : List Include) (k : ℕ) (d : Include) → k < length ns
+    → AllByRecursion P (needs_view (take k ns)) → P (need_view (get_or ns k d))
+    → AllByRecursion P (needs_view (take (k + 1) ns))
+met_turn P ns k d lt a p =
+    subst (λ (l : List Include). AllByRecursion P (needs_view l)) (sym (take_more ns k d lt)) (more (take k ns) a)
+  where
+    more : (ms : List Include) → AllByRecursion P (needs_view ms)
+        → AllByRecursion P (needs_view (ms ++ get_or ns k d ∷ []))
+    more [] b = (p, tt)
+    more (m ∷ ms) b = (b.0, more ms b.1)
+
+pub next_turn : (old mid new : List Namespace) (ks : List Text) (ns : List Include) (k : ℕ) (d : Include)
+    (is js : List ℕ)
+    → k < length ns → AreNext old mid (chosen ks (needs_view (take k ns))) is
+    → AddsNext mid new (chosen ks (need_view (get_or ns k d) ∷ [])) is js
+    → AreNext old new (chosen ks (needs_view (take (k + 1) ns))) js
+next_turn old mid new ks ns k d is js lt p q =
+    subst (AreNext old new (chosen ks (needs_view (take (k + 1) ns)))) (sym q.1)
+    (subst (λ l. AreNext old new l (is ++ q.0)) (sym (chosen_turn ks ns k d lt))
+    (next_both old mid new (chosen ks (needs_view (take k ns))) (chosen ks (need_view (get_or ns k d) ∷ [])) is q.0 p
+    q.2))
+
+pub fault_turn : (old mid : List Namespace) (ks : List Text) (ns : List Include) (k : ℕ) (d : Include) (is : List ℕ)
+    (e : ChainError)
+    → k < length ns → AreNext old mid (chosen ks (needs_view (take k ns))) is
+    → IsNextFault mid (chosen ks (need_view (get_or ns k d) ∷ [])) e → IsNextFault old (chosen ks (needs_view ns)) e
+fault_turn old mid ks ns k d is e lt p f =
+    subst (λ l. IsNextFault old l e) (sym (chosen_all ks ns k d lt))
+    (fault_later old mid (chosen ks (needs_view (take k ns))) (chosen ks (need_view (get_or ns k d) ∷ []))
+    (chosen ks (needs_view (drop (k + 1) ns))) is e p f)
+
+-- ---- an error of an included template
+
+pub asked_at : (all : Bool) (ns : List Include) (k : ℕ) (d : Include) → k < length ns
+    → (all || not (get_or ns k d).ignoring) ≡ true → among (get_or ns k d).name.now (needed all (needs_view ns)) ≡ true
+asked_at all [] k d lt e = absurd (omega arith)
+asked_at all (n ∷ ns) zero d lt e =
+    ap (λ b. among n.name.now ((if b then n.name.now ∷ [] else []) ++ needed all (needs_view ns))) e
+    ∙ ap (λ b. b || among n.name.now (needed all (needs_view ns))) (reflexive n.name.now)
+asked_at all (n ∷ ns) (suc k) d lt e =
+    among_behind of_texts (get_or ns k d).name.now (if all || not n.ignoring then n.name.now ∷ [] else [])
+    (needed all (needs_view ns)) (asked_at all ns k d (omega arith) e)
+
+pub need_fault : (given : SourceTexts) (options : Options) (ns : List Include) (ms : List Need) (k : ℕ) (d : Include)
+    (e : ChainError)
+    → needs_view ns ≡ ms → k < length ns → IsFaultAt given options (need_view (get_or ns k d)) e
+    → IsNeedFault given options ms e
+need_fault given options ns ms k d e same_needs lt f = search (arith, rules, get_or, asked_at)

@@ -1,0 +1,49 @@
+-- Membership of names in lists.
+use Rattle.std.proofs.Common.{◌≡◌, true, List, [], ◌∷◌, ◌++◌, map, refl, sym, ap, ◌∙◌, ◌⊎◌, ⊎_elim, inl, inr}
+use Rattle.std.proofs.lemmas.Cmp.{nat_list_eq_equiv}
+use Rattle.std.proofs.lemmas.Slice.Eq.{bytes_eq-Decides}
+use Rattle.std.specs.List.{AllByRecursion}
+use Rattle.std.specs.Str.{bytes_eq}
+use Rattle.jt_ast.specs.Texts.{among, repeated}
+use Rattle.jt_ast.specs.Expressions.{Text}
+use Rattle.jt_inherit.proofs.Membership.{Members, among_cases, only_among}
+
+pub same : (x y : Text) → bytes_eq x y ≡ true → x ≡ y
+same x y = (bytes_eq-Decides x y).0
+
+pub reflexive : (x : Text) → bytes_eq x x ≡ true
+reflexive x = nat_list_eq_equiv.refl x
+
+pub symmetric : (x y : Text) → bytes_eq x y ≡ bytes_eq y x
+symmetric x y = nat_list_eq_equiv.symm x y
+
+abbrev pub of_texts : Members Text
+of_texts =
+    record {
+      same = bytes_eq;
+      among = among;
+      again = repeated;
+      equal = same;
+      reflexive = reflexive;
+      symmetric = symmetric;
+      among_none = λ x. refl;
+      among_more = λ x y ys. refl;
+      again_none = refl;
+      again_more = λ x xs. refl;
+    }
+
+-- A name in a list with one name appended is an old name or the appended one.
+pub among_last : (old new : List Text) (x y : Text) → new ≡ old ++ x ∷ [] → x ≡ y → (n : Text) → among n new ≡ true
+    → (among n old ≡ true) ⊎ (n ≡ y)
+among_last old new x y e is n a =
+    ⊎_elim (λ p. inl p) (λ q. inr (sym (only_among of_texts x n q) ∙ is))
+    (among_cases of_texts n old (x ∷ []) (sym (ap (among n) e) ∙ a))
+
+pub map_more : {X Y : Type 0} (f : X → Y) (xs : List X) (x : X) → map f (xs ++ x ∷ []) ≡ map f xs ++ f x ∷ []
+map_more f [] x = refl
+map_more f (y ∷ xs) x = ap (λ l. f y ∷ l) (map_more f xs x)
+
+pub all_more : {X : Type 0} (P : X → Type 0) (xs : List X) (x : X) → AllByRecursion P xs → P x
+    → AllByRecursion P (xs ++ x ∷ [])
+all_more P [] x a p = (p, tt)
+all_more P (y ∷ xs) x a p = (a.0, all_more P xs x a.1 p)

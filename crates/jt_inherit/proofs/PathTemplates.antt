@@ -1,0 +1,98 @@
+-- The templates on the path of a chain: their names, sources and weights.
+use Rattle.std.proofs.Common.{◌≡◌, ℕ, zero, suc, ◌≤◌, ◌==◌, Bool, true, false, ◌&&◌, nat_lt, List, [], ◌∷◌, map, refl}
+use Rattle.std.proofs.Common.{sym, ap, ◌∙◌, arith, Option, Some, None, rules}
+use Rattle.std.specs.Prelude.{slice_get}
+use Rattle.std.specs.List.{AllByRecursion, list_any}
+use Rattle.std.specs.Option.{is_none}
+use Rattle.std.proofs.lemmas.Bool.Decides.{nat_tests}
+use Rattle.jt_scan.specs.declared.options.Options.{Options}
+use Rattle.jt_ast.specs.Sizes.{body_bytes}
+use Rattle.jt_ast.specs.Texts.{among, repeated}
+use Rattle.jt_ast.specs.Expressions.{Text}
+use Rattle.jt_chains.specs.Chain.{Sources, Template, extends_of, parent_of, names_up}
+use Rattle.jt_inherit.specs.Chains.{SourceTexts, IsRead}
+use Rattle.jt_chains.specs.Names.{IsName}
+use Rattle.jt_chains.specs.TemplateFiles.{names_at}
+use Rattle.jt_chains.specs.Weights.{templates_weight}
+use Rattle.jt_inherit.specs.Small.{templates_len, source_len}
+use Rattle.jt_inherit.specs.internal.ExtendsPaths.{Leads, IsWithin}
+use Rattle.jt_inherit.proofs.PathsGrow.{names}
+use Rattle.jt_inherit.proofs.NameMembership.{same}
+use Rattle.jt_inherit.proofs.Membership.{both_false, or_true}
+
+-- ---- names on the path
+
+front_up : (s : Sources) (k : ℕ) (n : Text) (t : Template) → t.name ≡ n → s n ≡ Some t.body
+    → names_up s (suc k) (Some n) ≡ t.name ∷ names_up s k (extends_of t.body)
+front_up s k n t e f =
+    ap (λ o. n ∷ names_up s k (parent_of o)) f ∙ ap (λ x. x ∷ names_up s k (extends_of t.body)) (sym e)
+
+among_up : (s : Sources) (k : ℕ) (o : Option Text) (ts : List Template) (x : Text) → Leads s o ts None
+    → among x (names_up s k o) ≡ true → among x (names ts) ≡ true
+among_up s zero o ts x l h = absurd (cc)
+among_up s (suc k) None ts x l h = absurd (cc)
+among_up s (suc k) (Some n) [] x l h = absurd (cc)
+among_up s (suc k) (Some n) (t ∷ ts) x l h =
+    search (arith, rules, front_up, among_up s k (extends_of t.body) ts x l.2, names, or_true)
+
+pub repeated_up : (s : Sources) (k : ℕ) (o : Option Text) (ts : List Template) → Leads s o ts None
+    → repeated (names_up s k o) ≡ true → repeated (names ts) ≡ true
+repeated_up s zero o ts l h = absurd (cc)
+repeated_up s (suc k) None ts l h = absurd (cc)
+repeated_up s (suc k) (Some n) [] l h = absurd (cc)
+repeated_up s (suc k) (Some n) (t ∷ ts) l h =
+    search (arith, rules, front_up, repeated_up s k (extends_of t.body) ts l.2, names, among_up, or_true)
+
+pub all_among : (P : Text → Type 0) (ts : List Template) (n : Text) → AllByRecursion (λ t. P t.name) ts
+    → among n (names ts) ≡ true → P n
+all_among P [] n a h = absurd (cc)
+all_among P (t ∷ ts) n a h = search (arith, rules, all_among P ts n a.1, names, same)
+
+pub have_sources : (s : Sources) (ts : List Template) → AllByRecursion (λ t. s t.name ≡ Some t.body) ts
+    → list_any (λ n. is_none (s n)) (names ts) ≡ false
+have_sources s [] a = refl
+have_sources s (t ∷ ts) a =
+    both_false (is_none (s t.name)) (list_any (λ n. is_none (s n)) (names ts)) (ap is_none a.0) (have_sources s ts a.1)
+
+pub all_named : (given : SourceTexts) (options : Options) (ts : List Template)
+    → AllByRecursion (IsRead given options) ts → AllByRecursion (λ t. IsName t.name) ts
+all_named given options [] a = tt
+all_named given options (t ∷ ts) a = (a.0.named, all_named given options ts a.1)
+
+pub never : (b : Bool) → b ≡ false → b ≡ true → ⊥
+never true p q = cc
+never false p q = cc
+
+pub and_false : (a b : Bool) → b ≡ false → (a && b) ≡ false
+and_false true b e = e
+and_false false b e = refl
+
+pub and_true : (a b : Bool) → a ≡ true → b ≡ true → (a && b) ≡ true
+and_true a b p q = ap (λ c. c && b) p ∙ q
+
+pub too_few : (n : ℕ) (b : Bool) → n ≤ 64 → ((n == 65) && b) ≡ false
+too_few n b le =
+    let e : (n == 65) ≡ false = grind (arith, nat_tests) in
+    ap (λ c. c && b) e
+
+pub few_names : (n : ℕ) → n ≤ 64 → nat_lt n 65 ≡ true
+few_names n le = grind (arith, nat_tests)
+
+-- ---- weights
+
+pub weigh : (given : SourceTexts) (ts : List Template) → AllByRecursion (IsWithin given) ts
+    → templates_weight ts ≤ templates_len given ts
+weigh given [] a = omega arith
+weigh given (t ∷ ts) a = omega (arith, a.0.weighs, weigh given ts a.1)
+
+pub all_short : (given : SourceTexts) (ts : List Template) → AllByRecursion (IsWithin given) ts
+    → AllByRecursion (λ t. body_bytes t.body ≤ source_len (given t.name)) ts
+all_short given [] a = tt
+all_short given (t ∷ ts) a = (a.0.short, all_short given ts a.1)
+
+pub names_placed : (ts : List Template) (is : List ℕ) (us : List Template) → map (slice_get ts) is ≡ map Some us
+    → names_at ts is ≡ map (λ t. Some t.name) us
+names_placed ts [] [] e = refl
+names_placed ts [] (u ∷ us) e = absurd (cc)
+names_placed ts (i ∷ is) [] e = absurd (cc)
+names_placed ts (i ∷ is) (u ∷ us) e = search (arith, rules, names_placed ts is us)

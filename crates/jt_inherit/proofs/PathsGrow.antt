@@ -1,0 +1,421 @@
+-- Paths that are extended, and the facts about them that stay true.
+use Rattle.std.proofs.Common.{◌≡◌, ℕ, zero, suc, ◌+◌, ◌-◌, ◌<◌, ◌≤◌, ◌==◌, Bool, true, false, not, ◌&&◌, List, [], ◌∷◌}
+use Rattle.std.proofs.Common.{◌++◌, length, map, get_or, refl, sym, ap, subst, ◌∙◌, arith, inl, inr, ◌⊎◌, ⊎_elim}
+use Rattle.std.proofs.Common.{Option, Some, None, length-append, string_bytes, rules}
+use Rattle.std.specs.Prelude.{flat_map, slice_get}
+use Rattle.std.specs.Option.{option_to_list}
+use Rattle.std.proofs.lemmas.Option.{slice_get_within, slice_get-get_or}
+use Rattle.std.specs.List.{AllByRecursion}
+use Rattle.std.proofs.lemmas.List.{append-nil, append_assoc, length-map}
+use Rattle.jt_scan.specs.declared.options.Options.{Options}
+use Rattle.jt_ast.specs.Texts.{among, repeated}
+use Rattle.jt_ast.specs.Expressions.{Text}
+use Rattle.jt_ast.specs.Statements.{Body, end}
+use Rattle.jt_ast.specs.StatementView.{body_of}
+use Rattle.jt_chains.specs.Along.{ArePlaces, templates_at}
+use Rattle.jt_chains.specs.Chain.{Sources, Namespace, a_chain, a_library, Template, template, templates, libraries}
+use Rattle.jt_chains.specs.Chain.{extends_of, parent_of, names_up, sources_in}
+use Rattle.jt_inherit.specs.Chains.{SourceTexts, IsRead, IsOnly}
+use Rattle.jt_inherit.specs.internal.Faults.{IsFaultOf}
+use Rattle.jt_chains.specs.Includes.{needs_in}
+use Rattle.jt_chains.specs.TemplateFiles.{file_view, files_view}
+use Rattle.jt_chains.specs.declared.files.TemplateFile.{TemplateFile}
+use Rattle.jt_inherit.specs.Refusals.{Breaks}
+use Rattle.jt_inherit.specs.internal.Sets.{names_view}
+use Rattle.jt_inherit.specs.declared.sets.Names.{Names}
+use Rattle.jt_chains.specs.Rules.{Reaches, asked, extends_path}
+use Rattle.jt_inherit.specs.internal.ExtendsPaths.{Leads, LeadsFrom, AreKnown, IsExtendsPath, IsWithin, AddsName, Grow}
+use Rattle.jt_inherit.specs.declared.error.ChainError.{ChainError}
+use Rattle.jt_inherit.specs.declared.error.ChainError.TheVariants as error
+use Rattle.jt_chains.proofs.TemplatesByIndex.{only_one, map_at}
+use Rattle.jt_inherit.proofs.NameMembership.{all_more, map_more, of_texts}
+use Rattle.jt_inherit.proofs.Membership.{among_front, among_next, comes_again, once_more}
+
+abbrev pub names : List Template → List Text
+names = map (λ t. t.name)
+
+-- ---- sources that grow
+
+abbrev pub Grows : Sources → Sources → Type 0
+Grows s r = (n : Text) (b : Body) → s n ≡ Some b → r n ≡ Some b
+
+pub more_sources : (ts us : List Template) → Grows (sources_in ts) (sources_in (ts ++ us))
+more_sources [] us n b e = absurd (cc)
+more_sources (t ∷ ts) us n b e = search (arith, rules, more_sources ts us n b)
+
+pub leads_grow : (s r : Sources) → Grows s r → (o : Option Text) (ts : List Template) (p : Option Text) → Leads s o ts p
+    → Leads r o ts p
+leads_grow s r g o [] p l = l
+leads_grow s r g None (t ∷ ts) p l = absurd l
+leads_grow s r g (Some n) (t ∷ ts) p l = (l.0, g n t.body l.1, leads_grow s r g (extends_of t.body) ts p l.2)
+
+-- A path with one template more.
+pub leads_more : (s : Sources) (o : Option Text) (ts : List Template) (t : Template) → Leads s o ts (Some t.name)
+    → s t.name ≡ Some t.body → Leads s o (ts ++ t ∷ []) (extends_of t.body)
+leads_more s None [] t l e = absurd (cc)
+leads_more s (Some n) [] t l e =
+    let h : n ≡ t.name = cc in
+    (sym h, ap s h ∙ e, refl)
+leads_more s None (u ∷ ts) t l e = absurd l
+leads_more s (Some n) (u ∷ ts) t l e = (l.0, l.1, leads_more s (extends_of u.body) ts t l.2 e)
+
+-- ---- the names on a path
+
+none_up : (s : Sources) (k : ℕ) → names_up s k None ≡ []
+none_up s zero = refl
+none_up s (suc k) = refl
+
+pub names_lead : (s : Sources) (m k : ℕ) (o : Option Text) (ts : List Template) (p : Option Text) → m ≡ length ts + k
+    → Leads s o ts p → names_up s m o ≡ names ts ++ names_up s k p
+names_lead s m k o [] p e l =
+    let h : m ≡ k = omega arith in
+    ap (λ j. names_up s j o) h ∙ ap (names_up s k) l
+names_lead s m k None (t ∷ ts) p e l = absurd l
+names_lead s zero k (Some n) (t ∷ ts) p e l = absurd (omega arith)
+names_lead s (suc m) k (Some n) (t ∷ ts) p e l =
+    ap (λ o. n ∷ names_up s m (parent_of o)) l.1 ∙ ap (λ x. x ∷ names_up s m (extends_of t.body)) (sym l.0)
+    ∙ ap (λ xs. t.name ∷ xs) (names_lead s m k (extends_of t.body) ts p (omega arith) l.2)
+
+pub names_to_root : (s : Sources) (m : ℕ) (o : Option Text) (ts : List Template) → length ts ≤ m → Leads s o ts None
+    → names_up s m o ≡ names ts
+names_to_root s m o ts le l =
+    let k = m - length ts in
+    names_lead s m k o ts None (omega arith) l ∙ ap (λ xs. names ts ++ xs) (none_up s k) ∙ append-nil (names ts)
+
+pub templates_lead : (s : Sources) (o : Option Text) (ts : List Template) (p : Option Text) → Leads s o ts p
+    → flat_map (λ n. template n (s n)) (names ts) ≡ ts
+templates_lead s o [] p l = refl
+templates_lead s None (t ∷ ts) p l = absurd l
+templates_lead s (Some n) (t ∷ ts) p l =
+    ap (λ b. template t.name b ++ flat_map (λ m. template m (s m)) (names ts)) (ap s l.0 ∙ l.1)
+    ∙ ap (λ xs. t ∷ xs) (templates_lead s (extends_of t.body) ts p l.2)
+
+pub templates_to_root : (s : Sources) (h : Text) (ts : List Template) → length ts ≤ 64 → Leads s (Some h) ts None
+    → templates s (a_chain h) ≡ ts
+templates_to_root s h ts le l =
+    ap (flat_map (λ n. template n (s n))) (names_to_root s 64 (Some h) ts le l) ∙ templates_lead s (Some h) ts None l
+
+-- The next name is requested.
+pub next_asked : (s : Sources) (e all : Bool) (h : Text) (ts : List Template) (n : Text) → length ts ≤ 64
+    → Leads s (Some h) ts (Some n) → among n (asked s e all (a_chain h)) ≡ true
+next_asked s e all h ts n le l =
+    let k = 64 - length ts in
+    let up : extends_path s e (a_chain h) ≡ names ts ++ names_up s (suc k) (Some n) =
+    names_lead s 65 (suc k) (Some h) ts (Some n) (omega arith) l in
+    among_front of_texts n (extends_path s e (a_chain h))
+    (flat_map (λ t. needs_in all t.body) (templates s (a_chain h)) ++ libraries s (a_chain h))
+    (subst (λ xs. among n xs ≡ true) (sym up) (among_next of_texts n (names ts) (names_up s k (parent_of (s n)))))
+
+-- ---- templates at indices when more are read
+
+pub places_grow : (ts us : List Template) (is : List ℕ) → ArePlaces ts is → ArePlaces (ts ++ us) is
+places_grow ts us [] a = tt
+places_grow ts us (i ∷ is) a = (omega (arith, a.0, length-append ts us), places_grow ts us is a.1)
+
+at_front : (ts us : List Template) (i : ℕ) → i < length ts → slice_get (ts ++ us) i ≡ slice_get ts i
+at_front [] us i lt = absurd (omega arith)
+at_front (t ∷ ts) us zero lt = refl
+at_front (t ∷ ts) us (suc i) lt = at_front ts us i (omega arith)
+
+pub templates_grow : (ts us : List Template) (is : List ℕ) → ArePlaces ts is
+    → templates_at (ts ++ us) is ≡ templates_at ts is
+templates_grow ts us [] a = refl
+templates_grow ts us (i ∷ is) a =
+    ap (λ o. option_to_list o ++ templates_at (ts ++ us) is) (at_front ts us i a.0)
+    ∙ ap (λ l. option_to_list (slice_get ts i) ++ l) (templates_grow ts us is a.1)
+
+pub templates_more : (ts : List Template) (is : List ℕ) (i : ℕ) (t : Template) → slice_get ts i ≡ Some t
+    → templates_at ts (is ++ i ∷ []) ≡ templates_at ts is ++ t ∷ []
+templates_more ts [] i t e = ap (λ o. option_to_list o ++ []) e
+templates_more ts (j ∷ is) i t e =
+    ap (λ l. option_to_list (slice_get ts j) ++ l) (templates_more ts is i t e)
+    ∙ sym (append_assoc (option_to_list (slice_get ts j)) (templates_at ts is) (t ∷ []))
+
+pub few_templates : (ts : List Template) (is : List ℕ) → length (templates_at ts is) ≤ length is
+few_templates ts [] = omega arith
+few_templates ts (i ∷ is) = search (arith, rules, few_templates ts is, length-append)
+
+pub all_templates : (ts : List Template) (is : List ℕ) → ArePlaces ts is → length (templates_at ts is) ≡ length is
+all_templates ts [] a = refl
+all_templates ts (i ∷ is) a = by (slice_get ts i) refl (all_templates ts is a.1)
+  where
+    by : (o : Option Template) → slice_get ts i ≡ o → length (templates_at ts is) ≡ length is
+        → length (templates_at ts (i ∷ is)) ≡ suc (length is)
+    by None e r =
+        let h = slice_get-get_or ts i (let none : Template = record { name = []; body = end } in none) a.0 in
+        absurd (cc)
+    by (Some t) e r = ap (λ o. length (option_to_list o ++ templates_at ts is)) e ∙ ap suc r
+
+pub all_at_places : (P : Template → Type 0) (ts : List Template) (is : List ℕ) → AllByRecursion P ts
+    → AllByRecursion P (templates_at ts is)
+all_at_places P ts [] a = tt
+all_at_places P ts (i ∷ is) a = by (slice_get ts i) refl (all_at_places P ts is a)
+  where
+    at : (us : List Template) (j : ℕ) (t : Template) → slice_get us j ≡ Some t → AllByRecursion P us → P t
+    at [] j t e h = absurd (cc)
+    at (u ∷ us) zero t e h = subst P (let k : u ≡ t = cc in k) h.0
+    at (u ∷ us) (suc j) t e h = at us j t e h.1
+
+    by : (o : Option Template) → slice_get ts i ≡ o → AllByRecursion P (templates_at ts is)
+        → AllByRecursion P (option_to_list (slice_get ts i) ++ templates_at ts is)
+    by None e r = subst (λ o. AllByRecursion P (option_to_list o ++ templates_at ts is)) (sym e) r
+    by (Some t) e r = subst (λ o. AllByRecursion P (option_to_list o ++ templates_at ts is)) (sym e) (at ts i t e a, r)
+
+-- ---- known templates when one more is read
+
+pub known_more : (given : SourceTexts) (options : Options) (ts : List Template) (ks : List Text) (t : Template)
+    → AreKnown given options ts ks → among t.name ks ≡ false → IsRead given options t → IsOnly given options t
+    → IsWithin given t
+    → AreKnown given options (ts ++ t ∷ []) (ks ++ t.name ∷ [])
+known_more given options ts ks t k new r only i = search (arith, rules, all_more, map_more, once_more of_texts)
+
+pub last_at : {X : Type 0} (xs : List X) (x : X) → slice_get (xs ++ x ∷ []) (length xs) ≡ Some x
+last_at [] x = refl
+last_at (y ∷ xs) x = last_at xs x
+
+pub length_names : (ts : List Template) → length (names ts) ≡ length ts
+length_names [] = refl
+length_names (t ∷ ts) = ap suc (length_names ts)
+
+-- ---- paths
+
+from_grows : (s r : Sources) → Grows s r → (h : Namespace) (ts : List Template) (p : Option Text) → LeadsFrom s h ts p
+    → LeadsFrom r h ts p
+from_grows s r g (a_chain n) ts p l = leads_grow s r g (Some n) ts p l
+from_grows s r g (a_library n) ts p l = record {
+  template = l.template;
+  only = l.only;
+  named = l.named;
+  source = g n l.template.body l.source;
+  holds = l.holds;
+  last = l.last;
+}
+
+pub way_grows : (ts us : List Template) (h : Namespace) (is : List ℕ) (p : Option Text) → IsExtendsPath ts h is p
+    → IsExtendsPath (ts ++ us) h is p
+way_grows ts us h is p w = search (arith, rules, templates_grow, places_grow, from_grows, more_sources)
+
+pub way_next : (ts : List Template) (h : Text) (is : List ℕ) (i : ℕ) (t : Template) (n : Text)
+    → IsExtendsPath ts (a_chain h) is (Some n) → slice_get ts i ≡ Some t → t.name ≡ n
+    → among n (names (templates_at ts is)) ≡ false
+    → repeated (names ts) ≡ false → length is < 64 → IsExtendsPath ts (a_chain h) (is ++ i ∷ []) (extends_of t.body)
+way_next ts h is i t n w at is_named new once lt =
+    search (
+      arith,
+      rules,
+      templates_more,
+      all_more,
+      slice_get_within,
+      leads_more,
+      only_one,
+      map_more,
+      once_more of_texts,
+      length-append,
+    )
+
+-- ---- a reached chain, and the errors on its path
+
+module _ {given : SourceTexts} {options : Options} {root : Text} {ts : List Template} {ks : List Text}
+    (known : AreKnown given options ts ks) {h : Namespace}
+    (r : Reaches (sources_in ts) options.autoescape (a_chain root) h) where
+  -- An error of a requested template breaks each chain that reaches the requester.
+  pub asked_breaks : (n : Text) (e : ChainError) → among n (asked (sources_in ts) options.autoescape true h) ≡ true
+      → (e ≡ error.Missing → among n (asked (sources_in ts) options.autoescape false h) ≡ true)
+      → IsFaultOf e given n options → Breaks e given root options
+  asked_breaks n error.Missing a must f = record {
+    name = n;
+    reached = record { templates = ts; read = known.read; only = known.only; holds = (h, r, must refl) };
+    found = f;
+  }
+  asked_breaks n error.BadName a must f = record {
+    templates = ts;
+    read = known.read;
+    only = known.only;
+    holds = (h, r, (n, a, f));
+  }
+  asked_breaks n (error.Scan m e) a must f =
+      record {
+        reached =
+            record {
+              templates = ts;
+              read = known.read;
+              only = known.only;
+              holds = (h, r, ap (λ x. among x (asked (sources_in ts) options.autoescape true h)) f.0 ∙ a);
+            };
+        source = f.1.0;
+        found = ap given f.0 ∙ f.1.1;
+        fault = f.1.2;
+        none = f.1.3;
+      }
+  asked_breaks n (error.Parse m e) a must f =
+      record {
+        reached =
+            record {
+              templates = ts;
+              read = known.read;
+              only = known.only;
+              holds = (h, r, ap (λ x. among x (asked (sources_in ts) options.autoescape true h)) f.0 ∙ a);
+            };
+        source = f.1.0;
+        found = ap given f.0 ∙ f.1.1;
+        fault = f.1.2;
+        none = f.1.3;
+      }
+  asked_breaks n error.NoMemory a must f = tt
+  asked_breaks n error.ExtendsCycle a must f = absurd f
+  asked_breaks n error.ChainTooLong a must f = absurd f
+  asked_breaks n error.DoubleBlock a must f = absurd f
+  asked_breaks n error.RequiredNotGiven a must f = absurd f
+  asked_breaks n error.NoSuper a must f = absurd f
+  asked_breaks n error.IncludeCycle a must f = absurd f
+  asked_breaks n error.MacroTwice a must f = absurd f
+  asked_breaks n error.NoMacro a must f = absurd f
+  asked_breaks n error.NotALibrary a must f = absurd f
+
+module _ {given : SourceTexts} {options : Options} {root : Text} {ts : List Template} {ks : List Text}
+    (known : AreKnown given options ts ks) {h : Text}
+    (r : Reaches (sources_in ts) options.autoescape (a_chain root) (a_chain h)) where
+  pub cycle_breaks : {is : List ℕ} {n : Text} → IsExtendsPath ts (a_chain h) is (Some n)
+      → among n (names (templates_at ts is)) ≡ true → Breaks error.ExtendsCycle given root options
+  cycle_breaks {is} {n} w there =
+      let s = sources_in ts in
+      let us = templates_at ts is in
+      let up : names_up s (length us + 1) (Some h) ≡ names us ++ n ∷ [] =
+      names_lead s (length us + 1) 1 (Some h) us (Some n) refl w.leads in
+      record {
+        templates = ts;
+        read = known.read;
+        only = known.only;
+        holds = (a_chain h, r, (h, refl, length us + 1, ap repeated up ∙ comes_again of_texts n (names us) there));
+      }
+
+  pub long_breaks : {is : List ℕ} {n : Text} → IsExtendsPath ts (a_chain h) is (Some n) → length is ≡ 64
+      → among n (names (templates_at ts is)) ≡ false → Breaks error.ChainTooLong given root options
+  long_breaks {is} {n} w full new =
+      let s = sources_in ts in
+      let us = templates_at ts is in
+      let len : length us ≡ 64 = all_templates ts is w.places ∙ full in
+      let up : extends_path s options.autoescape (a_chain h) ≡ names us ++ n ∷ [] =
+      names_lead s 65 1 (Some h) us (Some n) (omega (arith, len)) w.leads in
+      record {
+        templates = ts;
+        read = known.read;
+        only = known.only;
+        holds =
+            inl (
+              a_chain h,
+              r,
+              subst (λ xs. ((length xs == 65) && not (repeated xs)) ≡ true) (sym up)
+                  (sixty_five n us len (once_more of_texts n (names us) w.once new)),
+            );
+      }
+    where
+      sixty_five : (n : Text) (us : List Template) → length us ≡ 64 → repeated (names us ++ n ∷ []) ≡ false
+          → ((length (names us ++ n ∷ []) == 65) && not (repeated (names us ++ n ∷ []))) ≡ true
+      sixty_five n us len o =
+          let count : length (names us ++ n ∷ []) ≡ 65 =
+          length-append (names us) (n ∷ []) ∙ ap (λ k. k + 1) (length-map us (λ (u : Template). u.name) ∙ len) in
+          ap (λ k. (k == 65) && not (repeated (names us ++ n ∷ []))) count ∙ ap not o
+
+  pub fault_breaks : {is : List ℕ} {n : Text} → IsExtendsPath ts (a_chain h) is (Some n) → (e : ChainError)
+      → IsFaultOf e given n options → Breaks e given root options
+  fault_breaks {is} {n} w e f =
+      let few : length (templates_at ts is) ≤ 64 = omega (arith, few_templates ts is, w.few) in
+      asked_breaks known r n e (next_asked (sources_in ts) options.autoescape true h (templates_at ts is) n few w.leads)
+      (λ q. next_asked (sources_in ts) options.autoescape false h (templates_at ts is) n few w.leads) f
+
+-- ---- one template file more
+
+pub files_more : (ps qs : List TemplateFile) (p : TemplateFile) → qs ≡ ps ++ p ∷ []
+    → files_view qs ≡ files_view ps ++ file_view p ∷ []
+files_more ps qs p e = ap files_view e ∙ map_more file_view ps p
+
+-- The name of the last template file is at its index.
+pub file_last : (ps qs : List TemplateFile) (p : TemplateFile) (n : Text) (k : ℕ) → qs ≡ ps ++ p ∷ []
+    → string_bytes p.name ≡ n → k ≡ length ps → slice_get (names (files_view qs)) k ≡ Some n
+file_last ps qs p n k e is at =
+    search (arith, rules, length_names, length-map, files_more, map_more, string_bytes, last_at)
+
+-- ---- one step of a path
+
+pub on_path : {ps qs : List TemplateFile} {is js : List ℕ} {n m : Text} {b : Bool} → qs ≡ ps → js ≡ is → m ≡ n
+    → b ≡ among m (names (templates_at (files_view qs) js)) → b ≡ among n (names (templates_at (files_view ps) is))
+on_path {ps} {qs} {is} {js} {n} {m} {b} p q r e =
+    e ∙ ap (λ (z : List TemplateFile). among m (names (templates_at (files_view z) js))) p
+    ∙ ap (λ (z : List ℕ). among m (names (templates_at (files_view ps) z))) q
+    ∙ ap (λ (z : Text). among z (names (templates_at (files_view ps) is))) r
+
+pub name_of_slice : (ts : List Template) (i : ℕ) (t : Template) → slice_get ts i ≡ Some t
+    → slice_get (names ts) i ≡ Some t.name
+name_of_slice [] i t e = absurd (cc)
+name_of_slice (u ∷ ts) zero t e =
+    let h : u ≡ t = cc in
+    ap (λ (z : Template). Some z.name) h
+name_of_slice (u ∷ ts) (suc i) t e = name_of_slice ts i t e
+
+-- A template at the index of its name, appended to a path.
+module _ (ps qs : List TemplateFile) (more : Grow ps qs) (is : List ℕ) {js : List ℕ} (i : ℕ) {n m : Text}
+    {p : TemplateFile} (at : slice_get (names (files_view qs)) i ≡ Some m) (same_name : m ≡ n)
+    (longer : js ≡ is ++ i ∷ []) (there : p ≡ get_or qs i p) where
+  abbrev ts : List Template
+  ts = files_view ps
+
+  abbrev us : List Template
+  us = files_view qs
+
+  held : slice_get us i ≡ Some (file_view p)
+  held =
+      map_at file_view qs i p
+      (omega (arith, slice_get_within (names us) i m at, length_names us, length-map qs file_view)) there
+
+  named : string_bytes p.name ≡ m
+  named =
+      let told : Some (string_bytes p.name) ≡ Some m = sym (name_of_slice us i (file_view p) held) ∙ at in
+      cc
+
+  -- The path goes on to the parent.
+  way_turn : {h : Text} {o : Option Text} → IsExtendsPath ts (a_chain h) is (Some n)
+      → among n (names (templates_at ts is)) ≡ false → length is < 64 → repeated (names us) ≡ false
+      → o ≡ extends_of (body_of p.template) → IsExtendsPath us (a_chain h) js o
+  way_turn {h} {o} w new lt once ext =
+      let grown : IsExtendsPath us (a_chain h) is (Some n) = subst (λ vs. IsExtendsPath vs (a_chain h) is (Some n))
+      (sym more.1) (way_grows ts more.0 (a_chain h) is (Some n) w) in
+      let newly_read : among n (names (templates_at us is)) ≡ false = ap (λ vs. among n (names (templates_at vs is)))
+      more.1
+      ∙ ap (λ vs. among n (names vs)) (templates_grow ts more.0 is w.places) ∙ new in
+      let next = way_next us h is i (file_view p) n grown held (named ∙ same_name) newly_read once lt in
+      subst (λ z. IsExtendsPath us (a_chain h) z o) (sym longer)
+      (subst (IsExtendsPath us (a_chain h) (is ++ i ∷ [])) (sym ext) next)
+
+  -- Each new name was on the path before or is that of the appended template.
+  way_from : ArePlaces ts is → (k0 k1 k2 : List Text)
+      → ((x : Text) → among x k1 ≡ true → (among x k0 ≡ true) ⊎ (among x (names (templates_at ts is)) ≡ true))
+      → ((x : Text) → among x k2 ≡ true → (among x k1 ≡ true) ⊎ (x ≡ m))
+      → (x : Text) → among x k2 ≡ true → (among x k0 ≡ true) ⊎ (among x (names (templates_at us js)) ≡ true)
+  way_from places k0 k1 k2 before last x a =
+      let theirs : names (templates_at us js) ≡ names (templates_at ts is) ++ string_bytes p.name ∷ [] =
+      ap (λ l. names (templates_at us l)) longer ∙ ap names (templates_more us is i (file_view p) held)
+      ∙ map_more (λ (u : Template). u.name) (templates_at us is) (file_view p)
+      ∙ ap (λ l. names l ++ string_bytes p.name ∷ [])
+      (ap (λ l. templates_at l is) more.1 ∙ templates_grow ts more.0 is places) in
+      ⊎_elim
+      (λ q. ⊎_elim (λ r. inl r) (λ r.
+      inr (ap (among x) theirs ∙ among_front of_texts x (names (templates_at ts is)) (string_bytes p.name ∷ []) r))
+      (before x q))
+      (λ q. inr (ap (among x) theirs ∙ ap (λ y. among x (names (templates_at ts is) ++ y ∷ [])) (named ∙ sym q)
+      ∙ among_next of_texts x (names (templates_at ts is)) []))
+      (last x a)
+
+  pub way_step : {h : Text} {o : Option Text} → IsExtendsPath ts (a_chain h) is (Some n)
+      → among n (names (templates_at ts is)) ≡ false → length is < 64 → repeated (names us) ≡ false
+      → o ≡ extends_of (body_of p.template) → (k0 k1 k2 : Names)
+      → ((x : Text) → among x (names_view k1) ≡ true
+      → (among x (names_view k0) ≡ true) ⊎ (among x (names (templates_at ts is)) ≡ true))
+      → AddsName k1 k2 m
+      → IsExtendsPath us (a_chain h) js o × ((x : Text) → among x (names_view k2) ≡ true
+      → (among x (names_view k0) ≡ true) ⊎ (among x (names (templates_at us js)) ≡ true))
+  way_step w new lt once ext k0 k1 k2 before last =
+      (way_turn w new lt once ext, way_from w.places (names_view k0) (names_view k1) (names_view k2) before last)
+
+pub grow_on : (ps qs rs : List TemplateFile) → Grow ps qs → Grow qs rs → Grow ps rs
+grow_on ps qs rs p q = (p.0 ++ q.0, q.1 ∙ ap (λ l. l ++ q.0) p.1 ∙ append_assoc (files_view ps) p.0 q.0)

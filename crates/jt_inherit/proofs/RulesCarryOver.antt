@@ -1,0 +1,454 @@
+-- A rule that the templates read so far break is broken by the whole chain.
+use Rattle.std.proofs.Common.{◌≡◌, ℕ, zero, suc, ◌<◌, ◌≤◌, ◌==◌, Bool, true, false, not, ◌&&◌, ◌||◌, nat_lt, List, []}
+use Rattle.std.proofs.Common.{◌∷◌, ◌++◌, length, map, refl, sym, ap, subst, ◌∙◌, arith, inl, inr, ◌⊎◌, ⊎_elim, Option}
+use Rattle.std.proofs.Common.{Some, None, length-append, rules}
+use Rattle.std.specs.Prelude.{flat_map}
+use Rattle.std.specs.List.{list_any}
+use Rattle.std.specs.Option.{is_none}
+use Rattle.std.specs.Str.{bytes_eq}
+use Rattle.std.proofs.lemmas.List.{append-nil, map-append}
+use Rattle.std.proofs.lemmas.Bool.{cases_lt}
+use Rattle.std.proofs.lemmas.Bool.Decides.{nat_tests}
+use Rattle.jt_ast.specs.Texts.{among, repeated}
+use Rattle.jt_ast.specs.Expressions.{Text}
+use Rattle.jt_ast.specs.Statements as trees
+use Rattle.jt_ast.specs.Statements.{Body}
+use Rattle.jt_chains.specs.Chain.{Sources, Namespace, a_chain, a_library, Template, template, templates}
+use Rattle.jt_chains.specs.Chain.{library_template, is_a_library, extends_of, parent_of, names_up, blocks_in, MacroBody}
+use Rattle.jt_chains.specs.Chain.{Definition, macros, macros_in, public_macro, given, own, imports, libraries_in}
+use Rattle.jt_inherit.specs.internal.Checks.{lacks_body, lacks_next}
+use Rattle.jt_inherit.specs.internal.RuleTests.{their_blocks, their_macros, any_double, any_lacks_macros, names_from}
+use Rattle.jt_inherit.specs.internal.RuleTests.{imported_names}
+use Rattle.jt_chains.specs.Rules as rules
+use Rattle.jt_chains.specs.Rules.{Asks, Reaches, here, InSomeChain, is_whole, extends_path, BadName, ExtendsCycle}
+use Rattle.jt_chains.specs.Rules.{ChainTooLong, DoubleBlock, RequiredNotGiven, NoSuper, IncludeCycle, MacroTwice}
+use Rattle.jt_chains.specs.Rules.{NoMacro, NotALibrary}
+use Rattle.jt_inherit.proofs.SourcesGrow.{Carries, carries_up, front_carried, up_more, up_some, flat-append, on_path}
+use Rattle.jt_inherit.proofs.SourcesGrow.{on_first, on_libraries, way_more, namespace_more, included_more, reaches_more}
+use Rattle.jt_inherit.proofs.SourcesGrow.{reaches_next, asked_more}
+use Rattle.jt_inherit.proofs.ImportCollection.{all_imported, own_named}
+use Rattle.jt_inherit.proofs.PathTemplates.{and_true}
+use Rattle.jt_inherit.proofs.NameMembership.{of_texts, reflexive}
+use Rattle.jt_inherit.proofs.Membership.{among_behind, among_front, both_false, or_false, or_true}
+
+-- ---- tests of the first elements
+
+any_front : {A : Type 0} (p : A → Bool) (xs ys : List A) → list_any p xs ≡ true → list_any p (xs ++ ys) ≡ true
+any_front p [] ys h = absurd (cc)
+any_front p (x ∷ xs) ys h = search (arith, rules, any_front p xs ys, or_true)
+
+none_front : {A : Type 0} (p : A → Bool) (xs ys : List A) → list_any p (xs ++ ys) ≡ false → list_any p xs ≡ false
+none_front p [] ys h = refl
+none_front p (x ∷ xs) ys h =
+    let k = or_false (p x) (list_any p (xs ++ ys)) h in
+    both_false (p x) (list_any p xs) k.0 (none_front p xs ys k.1)
+
+pub repeated_front : (xs ys : List Text) → repeated xs ≡ true → repeated (xs ++ ys) ≡ true
+repeated_front [] ys h = absurd (cc)
+repeated_front (x ∷ xs) ys h = search (arith, rules, repeated_front xs ys, among_front of_texts, or_true)
+
+both_true : (a b : Bool) → (a && b) ≡ true → (a ≡ true) × (b ≡ true)
+both_true true b h = (refl, h)
+both_true false b h = absurd (cc)
+
+not_true : (b : Bool) → not b ≡ true → b ≡ false
+not_true true e = absurd (cc)
+not_true false e = refl
+
+sixty_five : (n : ℕ) → (n == 65) ≡ true → n ≡ 65
+sixty_five n q = grind (arith, nat_tests)
+
+below : (n : ℕ) → n ≤ 65 → (n == 65) ≡ false → n < 65
+below n le q = grind (arith, nat_tests)
+
+-- ---- names on the path
+
+up_len : (s : Sources) (k : ℕ) (o : Option Text) → length (names_up s k o) ≤ k
+up_len s zero o = omega arith
+up_len s (suc k) None = omega arith
+up_len s (suc k) (Some n) = omega (arith, up_len s k (parent_of (s n)))
+
+-- A path that ends has no more names.
+up_ends : (s : Sources) (m k : ℕ) (o : Option Text) → k ≤ m → length (names_up s k o) < k
+    → names_up s m o ≡ names_up s k o
+up_ends s m zero o le lt = absurd (omega arith)
+up_ends s zero (suc k) o le lt = absurd (omega arith)
+up_ends s (suc m) (suc k) None le lt = refl
+up_ends s (suc m) (suc k) (Some n) le lt =
+    ap (λ l. n ∷ l) (up_ends s m k (parent_of (s n)) (omega (arith, le)) (omega (arith, lt)))
+
+-- If each name on the path has a source, the path is the same, and so are its templates.
+up_same : (s r : Sources) (k : ℕ) (o : Option Text) → Carries s r (names_up r k o)
+    → list_any (λ n. is_none (s n)) (names_up s k o) ≡ false
+    → (names_up r k o ≡ names_up s k o)
+    × (flat_map (λ n. template n (r n)) (names_up r k o) ≡ flat_map (λ n. template n (s n)) (names_up s k o))
+up_same s r zero o g h = (refl, refl)
+up_same s r (suc k) None g h = (refl, refl)
+up_same s r (suc k) (Some n) g h =
+    by (s n) refl (λ b e. up_same s r k (extends_of b) (carries_up s r k n b (front_carried s r k n g b e) g))
+  where
+    by : (o : Option Body) → s n ≡ o
+        → ((b : Body) → s n ≡ Some b → list_any (λ m. is_none (s m)) (names_up s k (extends_of b)) ≡ false
+        → (names_up r k (extends_of b) ≡ names_up s k (extends_of b))
+        × (flat_map (λ m. template m (r m)) (names_up r k (extends_of b))
+        ≡ flat_map (λ m. template m (s m)) (names_up s k (extends_of b))))
+        → (names_up r (suc k) (Some n) ≡ names_up s (suc k) (Some n))
+        × (flat_map (λ m. template m (r m)) (names_up r (suc k) (Some n))
+        ≡ flat_map (λ m. template m (s m)) (names_up s (suc k) (Some n)))
+    by a0 e f = search (arith, rules, front_carried, up_some)
+
+-- Names with a source keep one.
+still_none : (s r : Sources) (xs : List Text) → Carries s r xs → list_any (λ n. is_none (s n)) xs ≡ false
+    → list_any (λ n. is_none (r n)) xs ≡ false
+still_none s r [] g h = refl
+still_none s r (x ∷ xs) g h =
+    search (
+      arith,
+      rules,
+      or_false,
+      both_false,
+      still_none s r xs (λ n a. g n (or_true (bytes_eq x n) (among n xs) a)),
+      or_true,
+      reflexive,
+    )
+
+-- ---- sublists of names, in their order
+
+pub data Within : List Text → List Text → Type 0 where
+  none : Within [] []
+  keep : {x : Text} {xs ys : List Text} → Within xs ys → Within (x ∷ xs) (x ∷ ys)
+  skip : {y : Text} {xs ys : List Text} → Within xs ys → Within xs (y ∷ ys)
+
+within_same : (xs : List Text) → Within xs xs
+within_same [] = none
+within_same (x ∷ xs) = keep (within_same xs)
+
+within_both : {xs ys us vs : List Text} → Within xs ys → Within us vs → Within (xs ++ us) (ys ++ vs)
+within_both none b = b
+within_both (keep a) b = keep (within_both a b)
+within_both (skip a) b = skip (within_both a b)
+
+within_any : (ys : List Text) → Within [] ys
+within_any [] = none
+within_any (y ∷ ys) = skip (within_any ys)
+
+among_within : {xs ys : List Text} → Within xs ys → (z : Text) → among z xs ≡ true → among z ys ≡ true
+among_within none z a = a
+among_within (keep {x} {xs} {ys} r) z a = search (arith, rules, among_within r z, or_true)
+among_within (skip {y} {xs} {ys} r) z a = or_true (bytes_eq y z) (among z ys) (among_within r z a)
+
+repeated_within : {xs ys : List Text} → Within xs ys → repeated xs ≡ true → repeated ys ≡ true
+repeated_within none h = h
+repeated_within (keep {x} {xs} {ys} r) h = search (arith, rules, repeated_within r, among_within, or_true)
+repeated_within (skip {y} {xs} {ys} r) h = or_true (among y ys) (repeated ys) (repeated_within r h)
+
+-- ---- the macros of libraries, if the imported ones keep their source
+
+names_none : (xs : List (Text × Text)) → names_from [] xs ≡ []
+names_none [] = refl
+names_none (x ∷ xs) = search (arith, rules, names_none xs)
+
+module _ (s r : Sources) where
+  in_from : (n : Text) (xs : List (Text × Text)) → ((b : Body) → s n ≡ Some b → r n ≡ Some b)
+      → Within (names_from (macros s (a_library n)) xs) (names_from (macros r (a_library n)) xs)
+  in_from n xs g = search (arith, rules, names_none, within_any, within_same)
+
+  lacking_from : (n : Text) (xs : List (Text × Text)) → ((b : Body) → s n ≡ Some b → r n ≡ Some b)
+      → rules.lacks_one s n xs ≡ true → rules.lacks_one r n xs ≡ true
+  lacking_from n xs g h = by (s n) refl
+    where
+      never_one : (ys : List (Text × Text)) → s n ≡ None → rules.lacks_one s n ys ≡ false
+      never_one [] e = refl
+      never_one (y ∷ ys) e =
+          ap (λ o. (is_a_library o && is_none (public_macro y.0 (macros s (a_library n)))) || rules.lacks_one s n ys) e
+          ∙ never_one ys e
+
+      one : (ys : List (Text × Text)) → s n ≡ r n → rules.lacks_one r n ys ≡ rules.lacks_one s n ys
+      one [] e = refl
+      one (y ∷ ys) e =
+          ap (λ o. (is_a_library o
+          && is_none (public_macro y.0 (flat_map (λ (t : Template). macros_in t.name t.body) (library_template n o))))
+          || rules.lacks_one r n ys) (sym e)
+          ∙ ap (λ b. (is_a_library (s n) && is_none (public_macro y.0 (macros s (a_library n)))) || b) (one ys e)
+
+      by : (o : Option Body) → s n ≡ o → rules.lacks_one r n xs ≡ true
+      by a0 e = search (arith, rules, never_one, one)
+
+  in_imports : (b : Body) → Carries s r (libraries_in b) → Within (imported_names s b) (imported_names r b)
+  in_imports trees.end g = none
+  in_imports (trees.stmt (trees.import_as line n x) rest) g =
+      keep (in_imports rest (λ m a. g m (or_true (bytes_eq n m) (among m (libraries_in rest)) a)))
+  in_imports (trees.stmt (trees.import_from line n xs) rest) g =
+      within_both (in_from n xs (g n (ap (λ c. c || among n (libraries_in rest)) (reflexive n))))
+      (in_imports rest (λ m a. g m (or_true (bytes_eq n m) (among m (libraries_in rest)) a)))
+  in_imports (trees.stmt (trees.data_of t) rest) g = in_imports rest g
+  in_imports (trees.stmt (trees.print line e) rest) g = in_imports rest g
+  in_imports (trees.stmt (trees.choose bs other) rest) g = in_imports rest g
+  in_imports (trees.stmt (trees.for_each line xs e c body other) rest) g = in_imports rest g
+  in_imports (trees.stmt (trees.set line xs e) rest) g = in_imports rest g
+  in_imports (trees.stmt (trees.set_block line x body) rest) g = in_imports rest g
+  in_imports (trees.stmt (trees.with_values line ps body) rest) g = in_imports rest g
+  in_imports (trees.stmt (trees.filter_block line fs body) rest) g = in_imports rest g
+  in_imports (trees.stmt (trees.autoescape line on body) rest) g = in_imports rest g
+  in_imports (trees.stmt (trees.macro line x ps body) rest) g = in_imports rest g
+  in_imports (trees.stmt (trees.include line n i c) rest) g = in_imports rest g
+  in_imports (trees.stmt (trees.extends line x) rest) g = in_imports rest g
+  in_imports (trees.stmt (trees.block line x scoped required body) rest) g = in_imports rest g
+
+  lacking : (b : Body) → Carries s r (libraries_in b) → rules.lacks_macros s b ≡ true → rules.lacks_macros r b ≡ true
+  lacking trees.end g h = h
+  lacking (trees.stmt (trees.import_from line n xs) rest) g h =
+      by (rules.lacks_one s n xs) refl
+      (lacking rest (λ m a. g m (or_true (bytes_eq n m) (among m (libraries_in rest)) a)))
+    where
+      by : (c : Bool) → rules.lacks_one s n xs ≡ c
+          → (rules.lacks_macros s rest ≡ true → rules.lacks_macros r rest ≡ true)
+          → (rules.lacks_one r n xs || rules.lacks_macros r rest) ≡ true
+      by true e f =
+          ap (λ c. c || rules.lacks_macros r rest)
+          (lacking_from n xs (g n (ap (λ c. c || among n (libraries_in rest)) (reflexive n))) e)
+      by false e f =
+          or_true (rules.lacks_one r n xs) (rules.lacks_macros r rest)
+          (f (sym (ap (λ c. c || rules.lacks_macros s rest) e) ∙ h))
+  lacking (trees.stmt (trees.import_as line n x) rest) g h =
+      lacking rest (λ m a. g m (or_true (bytes_eq n m) (among m (libraries_in rest)) a)) h
+  lacking (trees.stmt (trees.data_of t) rest) g h = lacking rest g h
+  lacking (trees.stmt (trees.print line e) rest) g h = lacking rest g h
+  lacking (trees.stmt (trees.choose bs other) rest) g h = lacking rest g h
+  lacking (trees.stmt (trees.for_each line xs e c body other) rest) g h = lacking rest g h
+  lacking (trees.stmt (trees.set line xs e) rest) g h = lacking rest g h
+  lacking (trees.stmt (trees.set_block line x body) rest) g h = lacking rest g h
+  lacking (trees.stmt (trees.with_values line ps body) rest) g h = lacking rest g h
+  lacking (trees.stmt (trees.filter_block line fs body) rest) g h = lacking rest g h
+  lacking (trees.stmt (trees.autoescape line on body) rest) g h = lacking rest g h
+  lacking (trees.stmt (trees.macro line x ps body) rest) g h = lacking rest g h
+  lacking (trees.stmt (trees.include line n i c) rest) g h = lacking rest g h
+  lacking (trees.stmt (trees.extends line x) rest) g h = lacking rest g h
+  lacking (trees.stmt (trees.block line x scoped required body) rest) g h = lacking rest g h
+
+  all_imports : (ts : List Template) → Carries s r (flat_map (λ t. libraries_in t.body) ts)
+      → Within (flat_map (λ t. imported_names s t.body) ts) (flat_map (λ t. imported_names r t.body) ts)
+  all_imports [] g = none
+  all_imports (t ∷ ts) g = within_both
+      (in_imports t.body
+      (λ m a. g m (among_front of_texts m (libraries_in t.body) (flat_map (λ u. libraries_in u.body) ts) a)))
+      (all_imports ts
+      (λ m a. g m (among_behind of_texts m (libraries_in t.body) (flat_map (λ u. libraries_in u.body) ts) a)))
+
+  all_lacking : (ts : List Template) → Carries s r (flat_map (λ t. libraries_in t.body) ts)
+      → any_lacks_macros s ts ≡ true → any_lacks_macros r ts ≡ true
+  all_lacking [] g h = h
+  all_lacking (t ∷ ts) g h =
+      by (rules.lacks_macros s t.body) refl (all_lacking ts
+      (λ m a. g m (among_behind of_texts m (libraries_in t.body) (flat_map (λ u. libraries_in u.body) ts) a)))
+    where
+      by : (c : Bool) → rules.lacks_macros s t.body ≡ c → (any_lacks_macros s ts ≡ true → any_lacks_macros r ts ≡ true)
+          → (rules.lacks_macros r t.body || any_lacks_macros r ts) ≡ true
+      by true e f =
+          ap (λ c. c || any_lacks_macros r ts) (lacking t.body
+          (λ m a. g m (among_front of_texts m (libraries_in t.body) (flat_map (λ u. libraries_in u.body) ts) a)) e)
+      by false e f =
+          or_true (rules.lacks_macros r t.body) (any_lacks_macros r ts)
+          (f (sym (ap (λ c. c || any_lacks_macros s ts) e) ∙ h))
+
+-- The names that stand for macros and libraries.
+pub given_names : (s : Sources) (h : Namespace)
+    → map (λ g. g.0) (given s h) ≡ map (λ m. m.name) (macros s h) ++ map (λ g. g.0) (imports s h)
+given_names s h =
+    map-append (λ (g : Text × Definition). g.0) (own h (macros s h)) (imports s h)
+    ∙ ap (λ l. l ++ map (λ (g : Text × Definition). g.0) (imports s h)) (own_named h (macros s h))
+
+-- ---- the rules
+
+module _ (s r : Sources) (e : Bool) (entry : Namespace)
+    (g : (n : Text) (b : Body) → Asks r e entry n → s n ≡ Some b → r n ≡ Some b) where
+  there : {h : Namespace} → Reaches s e entry h → Reaches r e entry h
+  there p = reaches_more s r e entry g here p
+
+  pub bad_name : BadName s e entry → BadName r e entry
+  bad_name x = (x.0, there x.1, (x.2.0, asked_more s r e entry g true x.0 (there x.1) x.2.0 x.2.1, x.2.2))
+
+  -- A path with 65 names is complete.
+  full : (h : Namespace) → Reaches r e entry h → length (extends_path s e h) ≡ 65
+      → extends_path r e h ≡ extends_path s e h
+  full h p len =
+      let more = way_more s r e entry g h p in
+      more.1 ∙ ap (λ l. extends_path s e h ++ l)
+      (no_more more.0 (omega (arith, len, most h, ap length more.1, length-append (extends_path s e h) more.0)))
+      ∙ append-nil (extends_path s e h)
+    where
+      no_more : (l : List Text) → length l ≤ 0 → l ≡ []
+      no_more [] le = refl
+      no_more (x ∷ l) le = absurd (omega arith)
+
+      most : (k : Namespace) → length (extends_path r e k) ≤ 65
+      most (a_chain n) = up_len r 65 (Some n)
+      most (a_library n) = omega arith
+
+  long : (h : Namespace) → Reaches r e entry h
+      → ((length (extends_path s e h) == 65) && not (repeated (extends_path s e h))) ≡ true
+      → ((length (extends_path r e h) == 65) && not (repeated (extends_path r e h))) ≡ true
+  long h p t =
+      let k = both_true (length (extends_path s e h) == 65) (not (repeated (extends_path s e h))) t in
+      ap (λ l. (length l == 65) && not (repeated l)) (full h p (sixty_five (length (extends_path s e h)) k.0)) ∙ t
+
+  -- A name that occurs twice on the path does so among the first 65 names, or these differ.
+  cycle : (h : Text) (k : ℕ) → Reaches r e entry (a_chain h) → repeated (names_up s k (Some h)) ≡ true
+      → ExtendsCycle r e entry ⊎ ChainTooLong r e entry
+  cycle h k p again =
+      by (repeated (extends_path s e (a_chain h))) refl (length (extends_path s e (a_chain h)) == 65) refl
+    where
+      first : length (extends_path s e (a_chain h)) < 65 → repeated (extends_path s e (a_chain h)) ≡ true
+      first lt = ⊎_elim
+          (λ (c : k < 65).
+          let more = up_more s 65 k (Some h) (omega (arith, c)) in
+          ap repeated more.1 ∙ repeated_front (names_up s k (Some h)) more.0 again)
+          (λ (c : 65 ≤ k).
+          ap repeated (sym (up_ends s k 65 (Some h) c lt)) ∙ again)
+          (cases_lt k 65)
+
+      by : (b : Bool) → repeated (extends_path s e (a_chain h)) ≡ b → (c : Bool)
+          → (length (extends_path s e (a_chain h)) == 65) ≡ c → ExtendsCycle r e entry ⊎ ChainTooLong r e entry
+      by true q c f =
+          let more = way_more s r e entry g (a_chain h) p in
+          inl (a_chain h, p, (h, refl, 65, ap repeated more.1 ∙ repeated_front (extends_path s e (a_chain h)) more.0 q))
+      by false q true f =
+          inr (inl (
+            a_chain h,
+            p,
+            long (a_chain h) p (and_true (length (extends_path s e (a_chain h)) == 65)
+                (not (repeated (extends_path s e (a_chain h)))) f (ap not q)),
+          ))
+      by false q false f =
+          let no : true ≡ false =
+          sym (first (below (length (extends_path s e (a_chain h))) (up_len s 65 (Some h)) f)) ∙ q in
+          absurd (cc)
+
+  pub extends_cycle : ExtendsCycle s e entry → ExtendsCycle r e entry ⊎ ChainTooLong r e entry
+  extends_cycle x =
+      let y = x.2 in
+      cycle y.0 y.2 (subst (Reaches r e entry) y.1 (there x.1)) y.3
+
+  pub too_long : ChainTooLong s e entry → ChainTooLong r e entry
+  too_long x =
+      ⊎_elim (λ y. inl (y.0, there y.1, long y.0 (there y.1) y.2)) (λ y. inr (y.0, y.1, y.2, λ n a. there (y.3 n a))) x
+
+  pub double_block : DoubleBlock s e entry → DoubleBlock r e entry
+  double_block x =
+      let p = there x.1 in
+      let more = namespace_more s r e entry g x.0 p in (
+        x.0,
+        p,
+        ap (any_double e) more.1
+            ∙ any_front (λ t. repeated (map (λ b. b.name) (blocks_in t.name t.body e))) (templates s x.0) more.0 x.2,
+      )
+
+  -- A whole chain or library stays the same.
+  whole_same : (h : Namespace) → Reaches r e entry h → is_whole s e h ≡ true
+      → (templates r h ≡ templates s h) × (is_whole r e h ≡ true)
+  whole_same h p w =
+      let w1 = both_true (not (repeated (extends_path s e h)))
+      (nat_lt (length (extends_path s e h)) 65 && not (list_any (λ n. is_none (s n)) (extends_path s e h))) w in
+      let w2 = both_true (nat_lt (length (extends_path s e h)) 65)
+      (not (list_any (λ n. is_none (s n)) (extends_path s e h))) w1.1 in
+      let sources : list_any (λ n. is_none (s n)) (extends_path s e h) ≡ false =
+      not_true (list_any (λ n. is_none (s n)) (extends_path s e h)) w2.1 in
+      let one = same_namespace_way h p sources in
+      let still =
+      still_none s r (extends_path s e h) (λ n a. on_path s r e entry g h p n (ap (among n) one.0 ∙ a)) sources in (
+        one.1,
+        ap (λ l. not (repeated l) && (nat_lt (length l) 65 && not (list_any (λ n. is_none (r n)) l))) one.0
+            ∙ and_true (not (repeated (extends_path s e h)))
+            (nat_lt (length (extends_path s e h)) 65 && not (list_any (λ n. is_none (r n)) (extends_path s e h))) w1.0
+            (and_true (nat_lt (length (extends_path s e h)) 65)
+            (not (list_any (λ n. is_none (r n)) (extends_path s e h))) w2.0 (ap not still)),
+      )
+    where
+      same_namespace_way : (k : Namespace) → Reaches r e entry k
+          → list_any (λ n. is_none (s n)) (extends_path s e k) ≡ false
+          → (extends_path r e k ≡ extends_path s e k) × (templates r k ≡ templates s k)
+      same_namespace_way (a_chain n) q sources =
+          let more = up_more s 65 64 (Some n) (omega arith) in (
+            (up_same s r 65 (Some n) (on_path s r e entry g (a_chain n) q) sources).0,
+            (up_same s r 64 (Some n) (on_first s r e entry g n q)
+                (none_front (λ m. is_none (s m)) (names_up s 64 (Some n)) more.0
+                (ap (list_any (λ m. is_none (s m))) (sym more.1) ∙ sources))).1,
+          )
+      same_namespace_way (a_library n) q sources = (refl, ap (library_template n) (by (s n) refl))
+        where
+          by : (o : Option Body) → s n ≡ o → r n ≡ s n
+          by None f =
+              let no : false ≡ true = sym sources ∙ ap (λ o. is_none o || false) f in
+              absurd (cc)
+          by (Some b) f = on_path s r e entry g (a_library n) q n (ap (λ c. c || false) (reflexive n)) b f ∙ sym f
+
+  in_chain : (f : List Template → Bool) → InSomeChain s e entry (λ h. f (templates s h))
+      → InSomeChain r e entry (λ h. f (templates r h))
+  in_chain f x = search (arith, rules, there, both_true, whole_same, and_true)
+
+  pub required_not_given : RequiredNotGiven s e entry → RequiredNotGiven r e entry
+  required_not_given = in_chain (λ us. lacks_body (their_blocks e us))
+
+  pub no_super : NoSuper s e entry → NoSuper r e entry
+  no_super = in_chain (λ us. lacks_next (their_blocks e us))
+
+  -- The defined names are among those when more is read.
+  names_kept : (h : Namespace) → Reaches r e entry h → templates r h ≡ templates s h
+      → Within (map (λ x. x.0) (given s h)) (map (λ x. x.0) (given r h))
+  names_kept h p same_templates =
+      subst (λ l. Within l (map (λ x. x.0) (given r h))) (sym (given_names s h))
+      (subst (Within (map (λ m. m.name) (macros s h) ++ map (λ x. x.0) (imports s h))) (sym (given_names r h))
+      (within_both
+      (subst (λ (l : List MacroBody). Within (map (λ m. m.name) (macros s h)) (map (λ m. m.name) l))
+      (sym (ap their_macros same_templates)) (within_same (map (λ m. m.name) (macros s h))))
+      (by h p same_templates)))
+    where
+      by : (k : Namespace) → Reaches r e entry k → templates r k ≡ templates s k
+          → Within (map (λ x. x.0) (imports s k)) (map (λ x. x.0) (imports r k))
+      by (a_library n) q t = none
+      by (a_chain n) q t =
+          let ts = templates s (a_chain n) in
+          let us = templates r (a_chain n) in
+          subst (λ l. Within l (map (λ x. x.0) (imports r (a_chain n)))) (sym (all_imported s ts))
+          (subst (Within (flat_map (λ (u : Template). imported_names s u.body) ts))
+          (sym (all_imported r us ∙ ap (flat_map (λ (u : Template). imported_names r u.body)) t))
+          (all_imports s r ts (λ m a. on_libraries s r e entry g (a_chain n) q m
+          (ap (λ vs. among m (flat_map (λ (u : Template). libraries_in u.body) vs)) t ∙ a))))
+
+  pub macro_twice : MacroTwice s e entry → MacroTwice r e entry
+  macro_twice x =
+      let p = there x.1 in
+      let k = both_true (is_whole s e x.0) (repeated (map (λ y. y.0) (given s x.0))) x.2 in
+      let w = whole_same x.0 p k.0 in (
+        x.0,
+        p,
+        and_true (is_whole r e x.0) (repeated (map (λ y. y.0) (given r x.0))) w.1
+            (repeated_within (names_kept x.0 p w.0) k.1),
+      )
+
+  pub no_macro : NoMacro s e entry → NoMacro r e entry
+  no_macro x =
+      let p = there x.1 in
+      (x.0, p, (x.2.0, x.2.1, by x.0 p (x.2.0) x.2.1 x.2.2))
+    where
+      by : (h : Namespace) → Reaches r e entry h → (n : Text) → h ≡ a_chain n
+          → any_lacks_macros s (templates s h) ≡ true → any_lacks_macros r (templates r h) ≡ true
+      by (a_library m) p n is t = absurd (cc)
+      by (a_chain m) p n is t =
+          let h = a_chain m in
+          let more = namespace_more s r e entry g h p in
+          let f : Template → List Text = λ u. libraries_in u.body in
+          ap (any_lacks_macros r) more.1
+          ∙ any_front (λ u. rules.lacks_macros r u.body) (templates s h) more.0
+          (all_lacking s r (templates s h) (λ k a. on_libraries s r e entry g h p k
+          (ap (λ vs. among k (flat_map f vs)) more.1 ∙ ap (among k) (flat-append f (templates s h) more.0)
+          ∙ among_front of_texts k (flat_map f (templates s h)) (flat_map f more.0) a)) t)
+
+  pub not_a_library : NotALibrary s e entry → NotALibrary r e entry
+  not_a_library x = search (arith, rules, there, on_path, reflexive)
+
+  pub include_cycle : IncludeCycle s e entry → IncludeCycle r e entry
+  include_cycle x =
+      let p = there x.1 in
+      let a = included_more s r e entry g x.0 p x.2.0 x.2.1 in
+      (x.0, p, (x.2.0, a, reaches_more s r e entry g (reaches_next p a) x.2.2))

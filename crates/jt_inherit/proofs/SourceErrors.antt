@@ -1,0 +1,139 @@
+-- Errors of a source: its segments with their options, and the trees that they spell.
+use Rattle.std.proofs.Common.{◌≡◌, ◌<◌, ◌≤◌, List, [], ◌∷◌, length, map, refl, sym, ap, subst, ◌∙◌, chars, ⊎_elim, Some}
+use Rattle.std.proofs.Common.{None, arith, rules}
+use Rattle.std.proofs.lemmas.Bool.{cases_lt}
+use Rattle.jt_scan.specs.Cut as cut
+use Rattle.jt_scan.specs.Cut.{Text, IsCut}
+use Rattle.jt_scan.specs.LineEnds.{normalized}
+use Rattle.jt_scan.specs.SourceView.{Held, max_source_len}
+use Rattle.jt_scan.specs.View.{cut_of, segment_view, HaveOptions}
+use Rattle.jt_scan.specs.Refused as scanner
+use Rattle.jt_scan.specs.declared.error.ScanError.{ScanError}
+use Rattle.jt_scan.specs.declared.error.ScanError.TheVariants as scan_error
+use Rattle.jt_scan.specs.declared.options.Options.{Options}
+use Rattle.jt_scan.specs.declared.segment.Segment.{Segment}
+use Rattle.jt_parse.specs.Grammar.{Spelled}
+use Rattle.jt_parse.specs.Kept.{Read, pieces}
+use Rattle.jt_parse.specs.Names.{body_unknown}
+use Rattle.jt_parse.specs.Refusals.{IsRefusal}
+use Rattle.jt_ast.specs.Statements.{Body, body_levels}
+use Rattle.jt_ast.specs.StatementView.{body_of}
+use Rattle.jt_parse.specs.View.{reads_of}
+use Rattle.jt_parse.specs.declared.error.ParseError.{ParseError}
+use Rattle.jt_parse.specs.declared.error.ParseError.TheVariants as parse_error
+use Rattle.jt_ast.specs.declared.statement.Template.{Template}
+use Rattle.jt_inherit.specs.Chains.{SourceTexts, IsTree, HasNoTree, IsOnly}
+use Rattle.jt_inherit.specs.internal.Faults.{IsFault, IsScan, IsParse}
+use Rattle.jt_inherit.specs.Refusals.{IsUncut, IsUnspelled}
+use Rattle.jt_inherit.specs.declared.error.ChainError.{ChainError}
+use Rattle.jt_inherit.specs.declared.error.ChainError.TheVariants as error
+
+-- If each segment has the options, the segments as read are the cut with these options.
+pub read_cut : (options : Options) (ss : List Segment) → HaveOptions options ss
+    → reads_of ss ≡ map (λ s. (options, s)) (cut_of ss)
+read_cut options [] h = refl
+read_cut options (s ∷ ss) h =
+    ap (λ o. let r : Read = (o, segment_view s) in r ∷ reads_of ss) h.0
+    ∙ ap (λ l. let r : Read = (options, segment_view s) in r ∷ l) (read_cut options ss h.1)
+
+pub limited : (given : Text) → (max_source_len < length given → ⊥) → length given ≤ max_source_len
+limited given long =
+    ⊎_elim (λ (gt : max_source_len < length given). absurd (long gt)) (λ (le : length given ≤ max_source_len). le)
+    (cases_lt max_source_len (length given))
+
+module _ (options : Options) (given : Text) (s : Held)
+    (is : s ≡ record { text = normalized options.keep_trailing_newline given; options = options })
+    (ss : List Segment) where
+  its_text : s.text ≡ normalized options.keep_trailing_newline given
+  its_text = ap (λ (h : Held). h.text) is
+
+  its_cut : IsCut (cut_of ss) (chars s.text)
+      → IsCut (cut_of ss) (chars (normalized options.keep_trailing_newline given))
+  its_cut c = subst (λ x. IsCut (cut_of ss) (chars x)) its_text c
+
+  its_reads : HaveOptions s.options ss → reads_of ss ≡ map (λ s. (options, s)) (cut_of ss)
+  its_reads h = read_cut options ss (subst (λ o. HaveOptions o ss) (ap (λ (z : Held). z.options) is) h)
+
+  -- The cut of a tree that the source spells is a cut of the text.
+  text_cut : (b : Body) (t : IsTree options given b) → IsCut t.segments (chars s.text)
+  text_cut b t = subst (λ x. IsCut t.segments (chars x)) (sym its_text) t.cut
+
+  read_so : (b : Body) (t : IsTree options given b) → cut_of ss ≡ t.segments → HaveOptions s.options ss
+      → Spelled b (pieces (reads_of ss))
+  read_so b t e h = subst (λ rs. Spelled b (pieces rs)) (sym (its_reads h ∙ ap (map (λ q. (options, q))) e)) t.spelled
+
+  module _ (h : HaveOptions s.options ss)
+      (once : (qs : List cut.Segment) → IsCut qs (chars s.text) → cut_of ss ≡ qs) where
+    -- If the segments spell one tree only, the source spells no other.
+    pub only_tree : (t : Template)
+        → ((d : Body) → Spelled d (pieces (reads_of ss)) → body_levels d ≤ 100 → body_unknown d ≡ None → body_of t ≡ d)
+        → (b : Body) → IsTree options given b → b ≡ body_of t
+    only_tree t one b i = sym (one b (read_so b i (once i.segments (text_cut b i)) h) i.levels i.known)
+
+    -- If the segments spell no tree, the source spells none.
+    pub no_tree : (e : ParseError) → (e ≡ parse_error.NoMemory → ⊥)
+        → ((d : Body) → Spelled d (pieces (reads_of ss)) → body_levels d ≤ 100 → body_unknown d ≡ None
+        → e ≡ parse_error.NoMemory) → HasNoTree options given
+    no_tree e f none = λ b i. f (none b (read_so b i (once i.segments (text_cut b i)) h) i.levels i.known)
+
+  pub tree_found : (t : Template) → length given ≤ max_source_len → IsCut (cut_of ss) (chars s.text)
+      → HaveOptions s.options ss → Spelled (body_of t) (pieces (reads_of ss)) × (body_levels (body_of t) ≤ 100)
+      → body_unknown (body_of t) ≡ None → IsTree options given (body_of t)
+  tree_found t le c h p k = search (arith, rules, limited, its_cut, its_reads)
+
+  refused_as : (e : ParseError) → (e ≡ parse_error.NoMemory → ⊥) → IsCut (cut_of ss) (chars s.text)
+      → HaveOptions s.options ss → IsRefusal e (pieces (reads_of ss)) → IsUnspelled e options given
+  refused_as e f c h r = record {
+    fault = f;
+    segments = cut_of ss;
+    cut = its_cut c;
+    refused = subst (λ rs. IsRefusal e (pieces rs)) (its_reads h) r;
+  }
+
+  pub unspelled : (name : Text) (e : ParseError) (x : ChainError) → IsCut (cut_of ss) (chars s.text)
+      → HaveOptions s.options ss → IsRefusal e (pieces (reads_of ss))
+      → ((e ≡ parse_error.NoMemory → ⊥) → HasNoTree options given)
+      → IsParse name e x → IsFault x name options given
+  unspelled name e (error.Parse n f) c h r none p =
+      (p.0, subst (λ z. IsUnspelled z options given) (sym p.1) (refused_as e p.2 c h r), none p.2)
+  unspelled name e error.NoMemory c h r none p = tt
+  unspelled name e (error.Scan n f) c h r none p = absurd p
+  unspelled name e error.Missing c h r none p = absurd p
+  unspelled name e error.BadName c h r none p = absurd p
+  unspelled name e error.ExtendsCycle c h r none p = absurd p
+  unspelled name e error.ChainTooLong c h r none p = absurd p
+  unspelled name e error.DoubleBlock c h r none p = absurd p
+  unspelled name e error.RequiredNotGiven c h r none p = absurd p
+  unspelled name e error.NoSuper c h r none p = absurd p
+  unspelled name e error.IncludeCycle c h r none p = absurd p
+  unspelled name e error.MacroTwice c h r none p = absurd p
+  unspelled name e error.NoMacro c h r none p = absurd p
+  unspelled name e error.NotALibrary c h r none p = absurd p
+
+-- ---- a source that cannot be cut
+
+-- An error of the scanner, with the template's name.
+pub unscanned : (options : Options) (given name : Text) (e : ScanError) (x : ChainError)
+    → ((e ≡ scan_error.NoMemory → ⊥) → IsUncut e options given × HasNoTree options given) → IsScan name e x
+    → IsFault x name options given
+unscanned options given name e a4 r p = search (arith, rules)
+
+pub too_long : (options : Options) (given : Text) (e : ScanError)
+    → (max_source_len < length given → e ≡ scan_error.SourceTooLong 1)
+    → (length given ≤ max_source_len → e ≡ scan_error.NoMemory) → (e ≡ scan_error.NoMemory → ⊥)
+    → IsUncut e options given × HasNoTree options given
+too_long options given e long short f = search (arith, rules, cases_lt)
+
+uncut_so : (options : Options) (given : Text) (e : ScanError) → (e ≡ scan_error.NoMemory → ⊥)
+    → scanner.IsRefusal e (chars (normalized options.keep_trailing_newline given)) → IsUncut e options given
+uncut_so options given a2 f r = search (arith, rules)
+
+-- ---- the template of a name
+
+-- The template is the only one of its name if its source spells no other tree.
+pub only_read : (given : SourceTexts) (options : Options) (name text : Text) (b : Body) → given name ≡ Some text
+    → ((d : Body) → IsTree options text d → d ≡ b) → IsOnly given options (record { name = name; body = b })
+only_read given options name text b found one = λ d r.
+    let told : Some r.source ≡ Some text = sym r.found ∙ found in
+    let source : r.source ≡ text = cc in
+    one d (subst (λ z. IsTree options z d) source r.tree)

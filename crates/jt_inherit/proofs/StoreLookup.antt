@@ -1,0 +1,105 @@
+-- The library of a name in a store: its macros, and the names that are imported from it.
+use Rattle.std.proofs.Common.{◌≡◌, ℕ, ◌<◌, length, get_or, arith, string_bytes, Bool, true, false, ◌&&◌, ◌||◌}
+use Rattle.std.proofs.Common.{if◌then◌else◌, List, [], ◌∷◌, ◌++◌, refl, sym, ap, ◌∙◌, Option, Some, None, rules}
+use Rattle.std.specs.Prelude.{slice_get, flat_map}
+use Rattle.std.specs.Option.{is_some, is_none}
+use Rattle.std.proofs.lemmas.List.{length-map, append-nil}
+use Rattle.std.proofs.lemmas.Option.{slice_get_within}
+use Rattle.jt_ast.specs.Expressions.{Text}
+use Rattle.jt_ast.specs.Statements.{Body}
+use Rattle.jt_ast.specs.StatementView.{body_of}
+use Rattle.jt_ast.specs.Texts.{among, repeated}
+use Rattle.jt_chains.specs.Tables.{library_macros}
+use Rattle.jt_chains.specs.Chain.{Sources, a_library, Template, library_template, holds_macros, is_a_library, MacroBody}
+use Rattle.jt_chains.specs.Chain.{macros, macros_in, public_macro, sources_in}
+use Rattle.jt_chains.specs.TemplateFiles.{file_view, files_view}
+use Rattle.jt_chains.specs.Rules.{lacks_one}
+use Rattle.jt_chains.specs.declared.files.TemplateFile.{TemplateFile}
+use Rattle.jt_chains.proofs.TemplatesByIndex.{map_at, only_one}
+use Rattle.jt_inherit.specs.internal.Given.{macros_held}
+use Rattle.jt_inherit.specs.internal.RuleTests.{has_not, names_from}
+use Rattle.jt_inherit.proofs.DiscoveryInvariant.{some_source}
+use Rattle.jt_inherit.proofs.PathsGrow.{names, length_names, name_of_slice}
+use Rattle.jt_inherit.specs.internal.ExtendsPaths.{AreNamed}
+
+pub unread : (ts : List Template) (n : Text) → among n (names ts) ≡ false → is_a_library (sources_in ts n) ≡ false
+unread ts n h = by (sources_in ts n) (some_source ts n ∙ h)
+  where
+    by : (o : Option Body) → is_some o ≡ false → is_a_library o ≡ false
+    by None e = refl
+    by (Some b) e = absurd (cc)
+
+abbrev own_macros : List Template → List MacroBody
+own_macros = flat_map (λ t. macros_in t.name t.body)
+
+held_read : (n m : Text) (b : Body) → m ≡ n → library_macros m b ≡ own_macros (library_template n (Some b))
+held_read n m b e = search (arith, rules, append-nil)
+
+-- The template of a name, at its index.
+module _ (ps : List TemplateFile) (ks : List Text) (k : AreNamed (files_view ps) ks) (n : Text) (i : ℕ)
+    (at : slice_get ks i ≡ Some n) where
+  named_at : slice_get (names (files_view ps)) i ≡ Some n
+  named_at = ap (λ l. slice_get l i) (sym k.0) ∙ at
+
+  pub place_read : i < length ps
+  place_read =
+      omega (
+        arith,
+        slice_get_within (names (files_view ps)) i n named_at,
+        length_names (files_view ps),
+        length-map ps file_view,
+      )
+
+  module _ (p : TemplateFile) (is : p ≡ get_or ps i p) where
+    there : slice_get (files_view ps) i ≡ Some (file_view p)
+    there = map_at file_view ps i p place_read is
+
+    name_is : string_bytes p.name ≡ n
+    name_is =
+        let told : Some (string_bytes p.name) ≡ Some n =
+        sym (name_of_slice (files_view ps) i (file_view p) there) ∙ named_at in
+        cc
+
+    source_is : sources_in (files_view ps) n ≡ Some (body_of p.template)
+    source_is =
+        ap (sources_in (files_view ps)) (sym name_is)
+        ∙ only_one (files_view ps) i (file_view p) (ap (λ l. repeated l) (sym k.0) ∙ k.1) there
+
+    pub is_library_read : (b : Bool) → b ≡ holds_macros (body_of p.template)
+        → is_a_library (sources_in (files_view ps) n) ≡ b
+    is_library_read b e = ap is_a_library source_is ∙ sym e
+
+    pub macros_there : macros_held p ≡ macros (sources_in (files_view ps)) (a_library n)
+    macros_there =
+        held_read n (string_bytes p.name) (body_of p.template) name_is
+        ∙ sym (ap (λ o. own_macros (library_template n o)) source_is)
+
+no_macros : (s : Sources) (n : Text) → is_a_library (s n) ≡ false → macros s (a_library n) ≡ []
+no_macros s n e = search (arith, rules)
+
+no_macro : (x : Text) → public_macro x [] ≡ None
+no_macro x = search (arith, rules)
+
+none_from : (xs : List (Text × Text)) → names_from [] xs ≡ []
+none_from [] = refl
+none_from (x ∷ xs) =
+    ap (λ (o : Option MacroBody). (if is_some o then x.1 ∷ [] else []) ++ names_from [] xs) (no_macro x.0)
+    ∙ none_from xs
+
+-- A name that is no library's binds no names and lacks no macros.
+pub nothing_from : (s : Sources) (n : Text) (xs : List (Text × Text)) → is_a_library (s n) ≡ false
+    → names_from (macros s (a_library n)) xs ≡ []
+nothing_from s n xs e = ap (λ ms. names_from ms xs) (no_macros s n e) ∙ none_from xs
+
+pub nothing_lacks : (s : Sources) (n : Text) (xs : List (Text × Text)) → is_a_library (s n) ≡ false
+    → lacks_one s n xs ≡ false
+nothing_lacks s n [] e = refl
+nothing_lacks s n (x ∷ xs) e =
+    ap (λ b. (b && is_none (public_macro x.0 (macros s (a_library n)))) || lacks_one s n xs) e ∙ nothing_lacks s n xs e
+
+pub library_lacks : (s : Sources) (n : Text) (xs : List (Text × Text)) → is_a_library (s n) ≡ true
+    → lacks_one s n xs ≡ has_not (macros s (a_library n)) xs
+library_lacks s n [] e = refl
+library_lacks s n (x ∷ xs) e =
+    let none = is_none (public_macro x.0 (macros s (a_library n))) in
+    ap (λ b. (b && none) || lacks_one s n xs) e ∙ ap (λ b. none || b) (library_lacks s n xs e)

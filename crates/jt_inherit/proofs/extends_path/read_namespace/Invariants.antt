@@ -1,0 +1,22 @@
+use Rattle.std.proofs.Common.{◌≡◌, ◌⊎◌, true, length, Some, string_bytes}
+use Rattle.jt_ast.specs.Texts.{among}
+use Rattle.jt_ast.specs.Expressions.{Text}
+use Rattle.jt_chains.specs.Along.{templates_at}
+use Rattle.jt_chains.specs.TemplateFiles.{files_view}
+use Rattle.jt_inherit.specs.internal.Sets.{names_view}
+use Rattle.jt_chains.specs.Chain.{a_chain}
+use Rattle.jt_inherit.specs.internal.ExtendsPaths.{IsExtendsPath, Grow, KnowTemplateFiles}
+use Rattle.jt_inherit.proofs.PathsGrow.{names}
+use Rattle.jt_inherit.proofs.extends_path.read_namespace.Given as goal
+
+abbrev pub invariant-loop-turn : goal.invariant-loop-turn
+invariant-loop-turn g l = record {
+  known : KnowTemplateFiles (g.L.Library.sources l.loader.library.now) l.loader.options l.files.items l.names;
+  grown : Grow l.initial.files.items l.files.items;
+  from : (n : Text) → among n (names_view l.names) ≡ true
+      → (among n (names_view l.initial.names) ≡ true)
+      ⊎ (among n (names (templates_at (files_view l.files.items) l.extends_path.items)) ≡ true);
+  counted : length l.extends_path.items ≡ l._turn;
+  led : IsExtendsPath (files_view l.files.items) (a_chain (string_bytes l.namespace.name)) l.extends_path.items
+      (Some (string_bytes l.name));
+}

@@ -1,0 +1,11 @@
+use Rattle.std.proofs.Common.{◌≡◌, ◌+◌, ◌≤◌, length, drop}
+use Rattle.jt_inherit.specs.internal.Found.{chains_of}
+use Rattle.jt_inherit.specs.internal.SetView.{keys_view}
+use Rattle.jt_inherit.proofs.sets.Namespaces.count_chains.Given as goal
+
+abbrev pub invariant-loop-namespace : goal.invariant-loop-namespace
+invariant-loop-namespace l = record {
+  counted : l.count + length (chains_of (keys_view (drop l.namespace-index l.namespace-items)))
+      ≡ length (chains_of (keys_view l.self.items.items));
+  few : l.count ≤ l.namespace-index;
+}

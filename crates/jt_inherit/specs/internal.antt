@@ -1,0 +1,11 @@
+pub mod Along
+pub mod Checks
+pub mod ExtendsPaths
+pub mod Faults
+pub mod Found
+pub mod Given
+pub mod Lines
+pub mod Numbers
+pub mod RuleTests
+pub mod SetView
+pub mod Sets

@@ -1,0 +1,203 @@
+-- The invariants of the search for chains and libraries. They concern includes and imports, and the
+-- chains and libraries that were followed. Only private clauses cite this module.
+use Rattle.std.specs.Prelude.{◌≡◌, ℕ, ◌<◌, ◌≤◌, ◌⊎◌, true, false, Bool, IsTrue, List, [], ◌∷◌, ◌++◌, ◌||◌, length, map}
+use Rattle.std.specs.Prelude.{filter, slice_get, Some, None}
+use Rattle.std.specs.List.{AllByRecursion}
+use Rattle.jt_graph.specs.Graph.{next_of}
+use Rattle.jt_graph.specs.View.{graph_of}
+use Rattle.jt_ast.specs.Texts.{among, repeated}
+use Rattle.jt_ast.specs.Expressions.{Text}
+use Rattle.jt_scan.specs.declared.options.Options.{Options}
+use Rattle.jt_chains.specs.Along.{templates_at}
+use Rattle.jt_inherit.specs.internal.Along.{needs_along, needs_of}
+use Rattle.jt_chains.specs.Chain as chain
+use Rattle.jt_chains.specs.Chain.{Template, a_chain, a_library, namespace_name, listed, sources_in}
+use Rattle.jt_inherit.specs.Chains.{SourceTexts}
+use Rattle.jt_inherit.specs.internal.Faults.{IsFaultOf}
+use Rattle.jt_inherit.specs.internal.RuleTests.{BreakOne, KeepAll}
+use Rattle.jt_chains.specs.Names.{IsName}
+use Rattle.jt_chains.specs.Needs.{Need, need_namespace, need_view, needed}
+use Rattle.jt_chains.specs.TemplateFiles.{files_view, namespace_view}
+use Rattle.jt_chains.specs.Places.{namespace_at}
+use Rattle.jt_chains.specs.Rules.{max_chains, Asks, Reaches}
+use Rattle.jt_inherit.specs.internal.Sets.{names_view, namespaces_view}
+use Rattle.jt_inherit.specs.internal.ExtendsPaths.{AreKnown, IsExtendsPath}
+use Rattle.jt_inherit.specs.declared.discovery.Discovery.{Discovery}
+use Rattle.jt_inherit.specs.declared.sets.Names.{Names}
+use Rattle.jt_chains.specs.declared.includes.Include.{Include}
+use Rattle.jt_chains.specs.declared.files.TemplateFile.{TemplateFile}
+use Rattle.jt_inherit.specs.declared.error.ChainError.{ChainError}
+use Rattle.jt_chains.specs.declared.chain.Namespace.{Namespace}
+use Rattle.jt_inherit.specs.declared.error.ChainError.TheVariants as error
+
+-- An included or imported template is known, or it may be missing and is: its name is valid and has
+-- no source.
+abbrev pub IsMet : SourceTexts → List Text → Need → Type 0
+IsMet given known n =
+    IsTrue (among n.name known) ⊎ (IsTrue n.ignoring × IsName n.name × (given n.name ≡ None))
+
+-- The error is one of the template; it is `Missing` only if the template may not be missing.
+abbrev pub IsFaultAt : SourceTexts → Options → Need → ChainError → Type 0
+IsFaultAt given options n e =
+    IsFaultOf e given n.name options × (e ≡ error.Missing → n.ignoring ≡ false)
+
+-- The error is one of an included or imported template; it is `Missing` only for a template that
+-- may not be missing.
+pub record IsNeedFault (given : SourceTexts) (options : Options) (ns : List Need) (e : ChainError) :
+    Type 0 where
+  pub name : Text
+  pub asked : IsTrue (among name (needed true ns))
+  pub must : e ≡ error.Missing → IsTrue (among name (needed false ns))
+  pub fault : IsFaultOf e given name options
+
+-- The includes and imports whose templates are known.
+abbrev pub known_of : List Text → List Need → List Need
+known_of known ns = filter (λ n. among n.name known) ns
+
+-- The chains and libraries that includes and imports lead to, if their templates are known.
+abbrev pub chosen : List Text → List Need → List chain.Namespace
+chosen known ns = map need_namespace (known_of known ns)
+
+-- A namespace occurs twice.
+abbrev pub twice : List chain.Namespace → Bool
+twice [] = false
+twice (h ∷ hs) = listed h hs || twice hs
+
+-- The names of the chains in a list of namespaces.
+abbrev pub chains_of : List chain.Namespace → List Text
+chains_of [] = []
+chains_of (a_chain n ∷ hs) = n ∷ chains_of hs
+chains_of (a_library n ∷ hs) = chains_of hs
+
+-- Namespaces, each once, with at most `max_chains` chains among them.
+pub record AreNamespaces (hs : List chain.Namespace) : Type 0 where
+  pub once : twice hs ≡ false
+  pub few : length (chains_of hs) ≤ max_chains
+
+-- The new namespaces extend the old ones, each once, and have `names` at these numbers.
+pub record AreNext (old new names : List chain.Namespace) (numbers : List ℕ) : Type 0 where
+  pub more : List chain.Namespace
+  pub grown : new ≡ old ++ more
+  pub once : twice new ≡ false
+  pub few : length (chains_of new) ≤ max_chains
+  pub from : (h : chain.Namespace) → IsTrue (listed h new)
+      → IsTrue (listed h old) ⊎ IsTrue (listed h names)
+  pub numbered : map (slice_get new) numbers ≡ map Some names
+
+-- The old namespaces and `names` have together more than 1,024 chains.
+abbrev pub TooMany : List chain.Namespace → List chain.Namespace → Type 0
+TooMany old names =
+    (ns : List Text)
+    × (max_chains < length ns)
+    × (repeated ns ≡ false)
+    × ((n : Text)
+    → IsTrue (among n ns)
+    → IsTrue (listed (a_chain n) old) ⊎ IsTrue (listed (a_chain n) names))
+
+-- The numbers are appended to those before.
+abbrev pub AddsNext : List chain.Namespace → List chain.Namespace → List chain.Namespace → List ℕ → List ℕ → Type 0
+AddsNext old new names before after =
+    (numbers : List ℕ) × (after ≡ before ++ numbers) × AreNext old new names numbers
+
+abbrev pub IsNextFault : List chain.Namespace → List chain.Namespace → ChainError → Type 0
+IsNextFault old names e = (e ≡ error.NoMemory) ⊎ ((e ≡ error.ChainTooLong) × TooMany old names)
+
+-- The error of an append: lack of memory, or the namespace is a chain and the greatest number of
+-- chains is reached.
+abbrev pub IsPutFault : List chain.Namespace → chain.Namespace → Text → ChainError → Type 0
+IsPutFault old h n e =
+    (e ≡ error.NoMemory)
+    ⊎ ((e ≡ error.ChainTooLong) × (length (chains_of old) ≡ max_chains) × (h ≡ a_chain n))
+
+-- The error of an include or import, or lack of memory.
+abbrev pub IsNeedRefusal : SourceTexts → Options → List Need → ChainError → Type 0
+IsNeedRefusal given options ns e = (e ≡ error.NoMemory) ⊎ IsNeedFault given options ns e
+
+-- The namespaces that one include or import leads to, and those that the templates at some indices
+-- lead to.
+abbrev pub leads_to : Names → Include → List chain.Namespace
+leads_to ks n = chosen (names_view ks) (need_view n ∷ [])
+
+abbrev pub lead_to : Names → List TemplateFile → List ℕ → List chain.Namespace
+lead_to ks ps is = chosen (names_view ks) (needs_of ps is)
+
+-- The path of a chain or library was read, and each template that it includes or imports was met;
+-- `next` has the numbers of the namespaces that it leads to.
+pub record IsFollowed (given : SourceTexts) (ts : List Template) (hs : List chain.Namespace) (h : chain.Namespace)
+    (extends_path next : List ℕ) : Type 0 where
+  pub led : IsExtendsPath ts h extends_path None
+  pub met : AllByRecursion (IsMet given (map (λ t. t.name) ts)) (needs_along ts extends_path)
+  pub numbered :
+      map (slice_get hs) next ≡ map Some (chosen (map (λ t. t.name) ts) (needs_along ts extends_path))
+
+-- The first namespaces were followed, one for each path.
+abbrev pub AreFollowed : SourceTexts → List Template → List chain.Namespace → List chain.Namespace → List (List ℕ)
+    → List (List ℕ) → Type 0
+AreFollowed given ts hs gs [] [] = Unit {0}
+AreFollowed given ts hs gs [] (n ∷ ns) = ⊥
+AreFollowed given ts hs gs (w ∷ ws) [] = ⊥
+AreFollowed given ts hs [] (w ∷ ws) (n ∷ ns) = ⊥
+AreFollowed given ts hs (g ∷ gs) (w ∷ ws) (n ∷ ns) =
+    IsFollowed given ts hs g w n × AreFollowed given ts hs gs ws ns
+
+-- The templates that were read, and the chains and libraries that were found, the entry's chain
+-- first.
+pub record AreFound (given : SourceTexts) (options : Options) (root : Text) (ts : List Template) (names : List Text)
+    (hs : List chain.Namespace) (extends_paths next : List (List ℕ)) : Type 0 where
+  pub known : AreKnown given options ts names
+  pub asked : (n : Text) → IsTrue (among n names)
+      → Asks (sources_in ts) options.autoescape (a_chain root) n
+  pub first : slice_get hs 0 ≡ Some (a_chain root)
+  pub once : twice hs ≡ false
+  pub few : length (chains_of hs) ≤ max_chains
+  pub reached : (h : chain.Namespace) → IsTrue (listed h hs)
+      → Reaches (sources_in ts) options.autoescape (a_chain root) h
+  pub followed : AreFollowed given ts hs hs extends_paths next
+
+abbrev pub found_templates : Discovery → List Template
+found_templates f = files_view f.files.items
+
+abbrev pub found_namespaces : Discovery → List chain.Namespace
+found_namespaces f = namespaces_view f.namespaces
+
+abbrev pub found_paths : Discovery → List (List ℕ)
+found_paths f = graph_of f.extends_paths.items
+
+-- The templates of each chain and library keep the rules.
+abbrev pub AllKeep : Bool → Discovery → Type 0
+AllKeep escaping f =
+    let ts = found_templates f in
+    AllByRecursion (λ extends_path. KeepAll (sources_in ts) escaping (templates_at ts extends_path)) (found_paths f)
+
+-- The name of the entry.
+abbrev pub root_of : Discovery → Text
+root_of f = namespace_name (namespace_at (found_namespaces f) 0)
+
+abbrev pub IsFound : SourceTexts → Options → Discovery → Type 0
+IsFound given options f =
+    AreFound given options (root_of f) (found_templates f) (names_view f.names) (found_namespaces f)
+    (graph_of f.extends_paths.items) (graph_of f.next.items)
+
+-- Only the entry's chain was found.
+pub record IsFirst (entry : Text) (f : Discovery) : Type 0 where
+  pub namespaces : found_namespaces f ≡ a_chain entry ∷ []
+  pub names : f.names.items.items ≡ []
+  pub files : f.files.items ≡ []
+  pub extends_paths : f.extends_paths.items ≡ []
+  pub next : f.next.items ≡ []
+
+-- The error is one of the templates of some chain or library.
+pub record BreaksAt (escaping : Bool) (ts : List Template) (extends_paths : List (List ℕ)) (e : ChainError) :
+    Type 0 where
+  pub number : ℕ
+  pub within : number < length extends_paths
+  pub broken : BreakOne (sources_in ts) escaping (templates_at ts (next_of extends_paths number)) e
+
+-- The chains and libraries of these numbers.
+abbrev pub HasNamespaces : List chain.Namespace → List (List ℕ) → List ℕ → List Namespace → Type 0
+HasNamespaces hs extends_paths [] [] = Unit {0}
+HasNamespaces hs extends_paths [] (k ∷ ks) = ⊥
+HasNamespaces hs extends_paths (i ∷ is) [] = ⊥
+HasNamespaces hs extends_paths (i ∷ is) (k ∷ ks) =
+    ((namespace_view k ≡ namespace_at hs i) × (k.templates.items ≡ next_of extends_paths i))
+    × HasNamespaces hs extends_paths is ks

@@ -1,0 +1,36 @@
+-- Tables of the numbers of names, of chains and of libraries. Only private clauses cite this
+-- module.
+use Rattle.std.specs.Prelude.{◌≡◌, Bool, List, string_bytes}
+use Rattle.std.specs.List.{position_from}
+use Rattle.std.specs.declared.string.String.{String}
+use Rattle.std.specs.declared.alloc.Global.{Global}
+use Rattle.std.specs.Coded.{Coded-set, coded_ℕ, coded_option, Π_prop}
+use Rattle.std.specs.BTreeMap.{get_by_text}
+use Rattle.std.specs.Str.{bytes_eq}
+use Rattle.jt_ast.specs.Expressions.{Text}
+use Rattle.jt_chains.specs.Chain.{a_chain, a_library, same_namespace}
+use Rattle.jt_chains.specs.Tables.{Table}
+use Rattle.jt_inherit.specs.internal.SetView.{key_view}
+use Rattle.jt_inherit.specs.declared.sets.NamespaceKey.{NamespaceKey}
+
+-- ---- tests of keys
+
+-- The key is the name x, the chain of the name, or the library of the name.
+
+abbrev pub is_text : Text → String Global → Bool
+is_text x k = bytes_eq x (string_bytes k)
+
+abbrev pub is_chain : Text → NamespaceKey → Bool
+is_chain x k = same_namespace (a_chain x) (key_view k)
+
+abbrev pub is_library : Text → NamespaceKey → Bool
+is_library x k = same_namespace (a_library x) (key_view k)
+
+-- A table has the index of the first item of each name, and no other entries.
+abbrev pub AreNumbers : {A : Type 0} → (Text → A → Bool) → List A → Table → Type 0
+AreNumbers is xs m = (x : Text) → get_by_text m x ≡ position_from (is x) 0 xs
+
+pub AreNumbers-prop : {A : Type 0} (is : Text → A → Bool) (xs : List A) (m : Table)
+    → IsProp (AreNumbers is xs m)
+AreNumbers-prop is xs m =
+    Π_prop (λ x. Coded-set (coded_option coded_ℕ) (get_by_text m x) (position_from (is x) 0 xs))

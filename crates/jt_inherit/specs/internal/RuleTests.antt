@@ -1,0 +1,68 @@
+-- The rules on the blocks, macros and imports of the templates of a chain or a library. Only
+-- private clauses cite this module.
+use Rattle.std.specs.Prelude.{◌≡◌, true, false, Bool, ◌||◌, ◌++◌, List, [], ◌∷◌, map, flat_map, if◌then◌else◌}
+use Rattle.std.specs.Option.{is_some, is_none}
+use Rattle.std.specs.List.{list_any}
+use Rattle.jt_ast.specs.Expressions.{Text}
+use Rattle.jt_ast.specs.Texts.{repeated}
+use Rattle.jt_ast.specs.Statements.{import_as, import_from, Body, end, stmt}
+use Rattle.jt_chains.specs.Chain.{Sources, a_library, Template, BlockBody, MacroBody, blocks_in, macros_in, macros}
+use Rattle.jt_chains.specs.Chain.{public_macro}
+use Rattle.jt_chains.specs.Rules.{lacks_macros}
+use Rattle.jt_inherit.specs.internal.Checks.{lacks_body, lacks_next}
+use Rattle.jt_inherit.specs.declared.error.ChainError.{ChainError}
+use Rattle.jt_inherit.specs.declared.error.ChainError.TheVariants as error
+
+-- The names that a `from` tag binds to macros that the library offers.
+abbrev pub names_from : List MacroBody → List (Text × Text) → List Text
+names_from ms [] = []
+names_from ms (x ∷ xs) =
+    (if is_some (public_macro x.0 ms) then x.1 ∷ [] else []) ++ names_from ms xs
+
+-- The library does not offer all of the macros.
+abbrev pub has_not : List MacroBody → List (Text × Text) → Bool
+has_not ms [] = false
+has_not ms (x ∷ xs) = is_none (public_macro x.0 ms) || has_not ms xs
+
+-- The names that the imports of a template bind.
+abbrev pub imported_names : Sources → Body → List Text
+imported_names s end = []
+imported_names s (stmt (import_as line n x) rest) = x ∷ imported_names s rest
+imported_names s (stmt (import_from line n xs) rest) =
+    names_from (macros s (a_library n)) xs ++ imported_names s rest
+imported_names s (stmt t rest) = imported_names s rest
+
+module _ (escaping : Bool) (ts : List Template) where
+  abbrev pub their_blocks : List BlockBody
+  their_blocks = flat_map (λ t. blocks_in t.name t.body escaping) ts
+
+  -- A template has two blocks of one name.
+  abbrev pub any_double : Bool
+  any_double = list_any (λ t. repeated (map (λ b. b.name) (blocks_in t.name t.body escaping))) ts
+
+abbrev pub their_macros : List Template → List MacroBody
+their_macros ts = flat_map (λ t. macros_in t.name t.body) ts
+
+-- The names of macros, then the names that imports bind.
+abbrev pub their_names : Sources → List Template → List Text
+their_names s ts = map (λ m. m.name) (their_macros ts) ++ flat_map (λ t. imported_names s t.body) ts
+
+abbrev pub any_lacks_macros : Sources → List Template → Bool
+any_lacks_macros s ts = list_any (λ t. lacks_macros s t.body) ts
+
+module _ (s : Sources) (escaping : Bool) (ts : List Template) where
+  pub record KeepAll : Type 0 where
+    pub doubles : any_double escaping ts ≡ false
+    pub bodies : lacks_body (their_blocks escaping ts) ≡ false
+    pub next : lacks_next (their_blocks escaping ts) ≡ false
+    pub names : repeated (their_names s ts) ≡ false
+    pub macros_there : any_lacks_macros s ts ≡ false
+
+  abbrev pub BreakOne : ChainError → Type 0
+  BreakOne error.DoubleBlock = any_double escaping ts ≡ true
+  BreakOne error.RequiredNotGiven = lacks_body (their_blocks escaping ts) ≡ true
+  BreakOne error.NoSuper = lacks_next (their_blocks escaping ts) ≡ true
+  BreakOne error.MacroTwice = repeated (their_names s ts) ≡ true
+  BreakOne error.NoMacro = any_lacks_macros s ts ≡ true
+  BreakOne error.NoMemory = Unit {0}
+  BreakOne e = ⊥

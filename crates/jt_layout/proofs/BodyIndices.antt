@@ -1,0 +1,58 @@
+-- Bodies of blocks by their indices.
+use Rattle.std.proofs.Common.{◌≡◌, ℕ, zero, suc, ◌+◌, ◌<◌, true, false, List, [], ◌∷◌, length, map, drop, get_or, refl}
+use Rattle.std.proofs.Common.{sym, ap, ◌∙◌, Option, Some, if◌then◌else◌, add-one, set, arith, rules}
+use Rattle.std.specs.Prelude.{slice_get, filter}
+use Rattle.std.proofs.lemmas.List.{drop_more, drop-set}
+use Rattle.std.specs.Str.{bytes_eq}
+use Rattle.jt_ast.specs.Expressions.{Text}
+use Rattle.jt_chains.specs.Chain.{Template, BlockBody}
+use Rattle.jt_chains.specs.Parts.{block_view}
+use Rattle.jt_chains.specs.declared.parts.Block.{Block}
+use Rattle.jt_semantics.specs.Layout.{counted_from}
+use Rattle.jt_semantics.specs.Resolve.{next_given}
+use Rattle.jt_layout.specs.internal.Places.{nexts}
+
+pub length-counted : {A : Type 0} (n : ℕ) (xs : List A) → length (counted_from n xs) ≡ length xs
+length-counted n [] = refl
+length-counted n (x ∷ xs) = ap suc (length-counted (suc n) xs)
+
+pub length-nexts : (bs : List (ℕ × BlockBody)) → length (nexts bs) ≡ length bs
+length-nexts [] = refl
+length-nexts (b ∷ bs) = ap suc (length-nexts bs)
+
+-- The next body at each index.
+pub next_at : (all : List (ℕ × BlockBody)) (i : ℕ) (n : Option ℕ) → slice_get (nexts all) i ≡ Some n
+    → (c : ℕ × BlockBody) (bs : List (ℕ × BlockBody)) → drop i all ≡ c ∷ bs
+    → n ≡ next_given (filter (λ d. bytes_eq d.1.name c.1.name) bs)
+next_at [] i n e c bs d = absurd (cc)
+next_at (a ∷ all) zero n e c bs d = search (arith, rules)
+next_at (a ∷ all) (suc i) n e c bs d = next_at all i n e c bs d
+
+-- ---- one body more, from the last one to the first
+
+module _ (ts : List Template) (bs : List Block) (i m : ℕ) (b : Block) (lt : i < length bs) (is : b ≡ get_or bs i b)
+    (e : m ≡ i + 1) where
+  abbrev pub behind : List (ℕ × BlockBody)
+  behind = counted_from m (map (block_view ts) (drop m bs))
+
+  pub numbered_left : counted_from i (map (block_view ts) (drop i bs)) ≡ (i, block_view ts b) ∷ behind
+  numbered_left = search (arith, rules, drop_more, add-one)
+
+  abbrev given : Text → List (ℕ × BlockBody) → Option ℕ
+  given x l = next_given (filter (λ c. bytes_eq c.1.name x) l)
+
+  -- A body that is not required, and one that is.
+  pub given_turn : (x : Text) (p q : Option ℕ) → b.required ≡ false → q ≡ (if bytes_eq b.name.now x then Some i else p)
+      → p ≡ given x behind → q ≡ given x (counted_from i (map (block_view ts) (drop i bs)))
+  given_turn x p q r s t = search (arith, rules, numbered_left)
+
+  pub required_turn : (x : Text) (p : Option ℕ) → b.required ≡ true → p ≡ given x behind
+      → p ≡ given x (counted_from i (map (block_view ts) (drop i bs)))
+  required_turn x p r t = search (arith, rules, numbered_left)
+
+  pub nexts_turn : (p : Option ℕ) (old : List (Option ℕ)) → i < length old → p ≡ given b.name.now behind
+      → drop m old ≡ nexts behind
+      → drop i (set old i p) ≡ nexts (counted_from i (map (block_view ts) (drop i bs)))
+  nexts_turn p old le s t =
+      drop-set old i p le ∙ ap (λ k. p ∷ drop k old) (sym e) ∙ ap (λ l. p ∷ l) t ∙ ap (λ o. o ∷ nexts behind) s
+      ∙ ap nexts (sym numbered_left)

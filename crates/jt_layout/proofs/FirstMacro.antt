@@ -1,0 +1,90 @@
+-- The first macro of a name.
+use Rattle.std.proofs.Common.{◌≡◌, ℕ, suc, ◌+◌, Bool, true, false, ◌&&◌, List, [], ◌∷◌, ◌++◌, length, map, refl, sym}
+use Rattle.std.proofs.Common.{ap, ◌∙◌, Option, Some, None, if◌then◌else◌, arith, rules}
+use Rattle.std.specs.Prelude.{slice_get}
+use Rattle.std.specs.Str.{bytes_eq}
+use Rattle.jt_ast.specs.Expressions.{Text}
+use Rattle.jt_ast.specs.StatementView.{parameters_view}
+use Rattle.jt_chains.specs.Chain.{Namespace, Template, macro_of}
+use Rattle.jt_chains.specs.Parts.{macro_view}
+use Rattle.jt_chains.specs.declared.parts.Macro.{Macro}
+use Rattle.jt_semantics.specs.Layout.{Key, of_macro, place_of, first_default}
+use Rattle.jt_layout.specs.internal.Places.{first_of, defaults_from}
+use Rattle.jt_layout.proofs.NamespacesByName.{itself}
+
+module _ (ts : List Template) (x : Text) where
+  -- The first macro of the name, at its index.
+  pub record AtFirst (ms : List Macro) (j : ℕ) : Type 0 where
+    pub code : Macro
+    pub found : slice_get ms j ≡ Some code
+    pub named : bytes_eq code.name.now x ≡ true
+    pub meant : macro_of x (map (macro_view ts) ms) ≡ Some (macro_view ts code)
+    pub default : (d : ℕ)
+        → slice_get (defaults_from d (map (macro_view ts) ms)) j ≡ Some (d + first_default x (map (macro_view ts) ms))
+    pub unit : (h : Namespace) (rest : List Key)
+        → place_of (of_macro h x) (map (λ m. of_macro h m.name) (map (macro_view ts) ms) ++ rest) ≡ j
+
+  pub first_macro : (ms : List Macro) (n i : ℕ) → first_of x n (map (λ m. m.name.now) ms) ≡ Some i
+      → (j : ℕ) × (i ≡ n + j) × AtFirst ms j
+  first_macro [] n i e = absurd (cc)
+  first_macro (m ∷ ms) n i e = by (bytes_eq m.name.now x) refl (first_macro ms (suc n) i)
+    where
+      rest : Option ℕ
+      rest = first_of x (suc n) (map (λ (k : Macro). k.name.now) ms)
+
+      size : ℕ
+      size = length (parameters_view m.parameters.now)
+
+      front : ℕ
+      front = first_default x (map (macro_view ts) ms)
+
+      by : (b : Bool) → bytes_eq m.name.now x ≡ b → (rest ≡ Some i → (j : ℕ) × (i ≡ suc n + j) × AtFirst ms j)
+          → (j : ℕ) × (i ≡ n + j) × AtFirst (m ∷ ms) j
+      by true q g =
+          let here : Some n ≡ Some i = sym (ap (λ c. if c then Some n else rest) q) ∙ e in
+          let is : n ≡ i = cc in (
+            0,
+            omega arith,
+            record {
+              code = m;
+              found = refl;
+              named = q;
+              meant = ap (λ c. if c then Some (macro_view ts m) else macro_of x (map (macro_view ts) ms)) q;
+              default =
+                  λ d. (let z : d ≡ d + 0 = omega arith in ap Some z)
+                  ∙ ap (λ c. Some (d + (if c then 0 else size + front))) (sym q);
+              unit =
+                  λ h ks. ap (λ a. if a && bytes_eq m.name.now x then 0
+                  else suc (place_of (of_macro h x) (map (λ k. of_macro h k.name) (map (macro_view ts) ms) ++ ks)))
+                  (itself h)
+                  ∙ ap (λ a. if a then 0
+                  else suc (place_of (of_macro h x) (map (λ k. of_macro h k.name) (map (macro_view ts) ms) ++ ks))) q;
+            },
+          )
+      by false q g =
+          let r = g (sym (ap (λ c. if c then Some n else rest) q) ∙ e) in (
+            suc r.0,
+            omega (arith, r.1),
+            record {
+              code = r.2.code;
+              found = r.2.found;
+              named = r.2.named;
+              meant = ap (λ c. if c then Some (macro_view ts m) else macro_of x (map (macro_view ts) ms)) q ∙ r.2.meant;
+              default =
+                  λ d. r.2.default (d + size)
+                  ∙ (let z : (d + size) + front ≡ d + (size + front) = omega arith in ap Some z)
+                  ∙ ap (λ c. Some (d + (if c then 0 else size + front))) (sym q);
+              unit =
+                  λ h ks. ap (λ a. if a && bytes_eq m.name.now x then 0
+                  else suc (place_of (of_macro h x) (map (λ k. of_macro h k.name) (map (macro_view ts) ms) ++ ks)))
+                  (itself h)
+                  ∙ ap (λ a. if a then 0
+                  else suc (place_of (of_macro h x) (map (λ k. of_macro h k.name) (map (macro_view ts) ms) ++ ks))) q
+                  ∙ ap suc (r.2.unit h ks);
+            },
+          )
+
+  pub no_macro : (ms : List Macro) (n : ℕ) → first_of x n (map (λ m. m.name.now) ms) ≡ None
+      → macro_of x (map (macro_view ts) ms) ≡ None
+  no_macro [] n e = refl
+  no_macro (m ∷ ms) n e = search (arith, rules, no_macro ms (suc n))

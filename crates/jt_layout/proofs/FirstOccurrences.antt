@@ -1,0 +1,79 @@
+-- The first occurrences of names in lists.
+use Rattle.std.proofs.Common.{◌≡◌, ℕ, zero, suc, ◌+◌, ◌<◌, Bool, true, false, ◌||◌, List, [], ◌∷◌, length, map, drop}
+use Rattle.std.proofs.Common.{get_or, refl, ap, ◌∙◌, Option, Some, None, if◌then◌else◌, add-one, arith, rules}
+use Rattle.std.specs.Prelude.{option_map, filter}
+use Rattle.std.specs.Option.{is_none}
+use Rattle.std.proofs.lemmas.List.{drop_more}
+use Rattle.std.specs.Str.{bytes_eq}
+use denote.Ref.{Bor}
+use Rattle.jt_ast.specs.Expressions.{Text}
+use Rattle.jt_chains.specs.Chain.{Namespace, a_chain, same_namespace, listed, Template, BlockBody, sources_in}
+use Rattle.jt_chains.specs.Places.{namespace_at}
+use Rattle.jt_ir.specs.Slots.{global}
+use Rattle.jt_semantics.specs.Layout.{slot_in, globals_from, counted_from}
+use Rattle.jt_semantics.specs.Resolve.{first_body}
+use Rattle.jt_ast.specs.Texts.{texts}
+use Rattle.jt_layout.specs.NamespaceLayout.{IsNamespaceAt}
+use Rattle.jt_layout.specs.internal.Places.{first_of, first_namespace}
+use Rattle.jt_layout.proofs.NamespacesByName.{same_is}
+
+pub or_right : (a b : Bool) → b ≡ true → (a || b) ≡ true
+or_right true b h = refl
+or_right false b h = h
+
+-- One name more, before the remaining ones.
+pub first_turn : (ks : List (Bor Text)) (i : ℕ) (k : Bor Text) (x : Text) (n m : ℕ) → i < length ks → k ≡ get_or ks i k
+    → m ≡ n + 1
+    → (if bytes_eq k.now x then Some n else first_of x m (texts (drop (i + 1) ks))) ≡ first_of x n (texts (drop i ks))
+first_turn ks i k x n m lt is e = search (arith, rules, add-one, drop_more)
+
+-- ---- the meaning of the first occurrence
+
+-- Names in slots.
+pub in_slots : (x : Text) (n : ℕ) (xs : List Text) → option_map global (first_of x n xs) ≡ slot_in x (globals_from n xs)
+in_slots x n [] = refl
+in_slots x n (y ∷ ys) = search (arith, rules, in_slots x (suc n) ys)
+
+-- Bodies of a block.
+pub first_bodies : (x : Text) (n : ℕ) (bs : List BlockBody)
+    → first_of x n (map (λ b. b.name) bs) ≡ first_body (filter (λ b. bytes_eq b.1.name x) (counted_from n bs))
+first_bodies x n [] = refl
+first_bodies x n (b ∷ bs) = search (arith, rules, first_bodies x (suc n) bs)
+
+-- Templates.
+pub of_sources : (x : Text) (n : ℕ) (ts : List Template)
+    → is_none (first_of x n (map (λ t. t.name) ts)) ≡ is_none (sources_in ts x)
+of_sources x n [] = refl
+of_sources x n (t ∷ ts) = search (arith, rules, of_sources x (suc n) ts)
+
+-- Chains and libraries.
+abbrev IsFrom : List Namespace → Namespace → ℕ → Option ℕ → Type 0
+IsFrom hs h n None = listed h hs ≡ false
+IsFrom hs h n (Some i) = (j : ℕ) × (i ≡ n + j) × (j < length hs) × (namespace_at hs j ≡ h)
+
+from : (h : Namespace) (n : ℕ) (hs : List Namespace) → IsFrom hs h n (first_namespace h n hs)
+from h n [] = refl
+from h n (k ∷ hs) = by (same_namespace k h) refl (from h (suc n) hs)
+  where
+    later : (o : Option ℕ) → same_namespace k h ≡ false → IsFrom hs h (suc n) o → IsFrom (k ∷ hs) h n o
+    later None e r = ap (λ b. b || listed h hs) e ∙ r
+    later (Some i) e r = (suc r.0, omega (arith, r.1), omega (arith, r.2), r.3)
+
+    by : (b : Bool) → same_namespace k h ≡ b → IsFrom hs h (suc n) (first_namespace h (suc n) hs)
+        → IsFrom (k ∷ hs) h n (if b then Some n else first_namespace h (suc n) hs)
+    by true e r = (0, omega arith, omega arith, same_is k h e)
+    by false e r = later (first_namespace h (suc n) hs) e r
+
+pub is_namespace : (h : Namespace) (order : List Namespace) (o : Option ℕ) → o ≡ first_namespace h 0 order
+    → IsNamespaceAt order h o
+is_namespace h order a2 e = search (arith, rules, from)
+
+-- ---- chains and libraries by their indices
+
+pub namespace_get : (hs : List Namespace) (i : ℕ) → get_or hs i (a_chain []) ≡ namespace_at hs i
+namespace_get [] i = refl
+namespace_get (h ∷ hs) zero = refl
+namespace_get (h ∷ hs) (suc i) = namespace_get hs i
+
+pub namespaces_left : (hs : List Namespace) (i : ℕ) → i < length hs → drop i hs ≡ namespace_at hs i ∷ drop (i + 1) hs
+namespaces_left hs i lt = drop_more hs i (a_chain []) lt ∙ ap (λ h. h ∷ drop (i + 1) hs) (namespace_get hs i)

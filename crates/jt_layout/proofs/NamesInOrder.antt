@@ -1,0 +1,131 @@
+-- Names that are inserted in order, and the names of chains.
+use Rattle.std.proofs.Common.{◌≡◌, ℕ, ◌+◌, ◌<◌, Bool, true, false, cond, length, drop, get_or, Vec, Global}
+use Rattle.std.proofs.Common.{if◌then◌else◌, List, [], ◌∷◌, ◌++◌, map, refl, sym, ap, ◌∙◌, Option, Some, append_assoc}
+use Rattle.std.proofs.Common.{arith, rules}
+use Rattle.std.specs.Prelude.{flat_map}
+use Rattle.std.specs.Option.{is_some, is_none}
+use Rattle.std.specs.Str.{bytes_eq}
+use Rattle.std.specs.BTreeSet.{insert_key}
+use Rattle.std.proofs.lemmas.List.{drop_more, append-nil}
+use denote.Ref.{Bor}
+use Rattle.jt_ast.specs.Expressions.{Text}
+use Rattle.jt_ast.specs.Texts.{all_inserted, ascending, texts}
+use Rattle.jt_chains.specs.Chain.{Namespace, a_chain, a_library, same_namespace, Sources, templates}
+use Rattle.jt_chains.specs.Includes.{included, needs_in, with_source}
+use Rattle.jt_chains.specs.Needs.{needed, needs_view}
+use Rattle.jt_chains.specs.Places.{namespace_at}
+use Rattle.jt_chains.specs.Uses.{own_names}
+use Rattle.jt_chains.specs.declared.includes.Include.{Include}
+use Rattle.jt_rules.specs.CompileEnv.{CompileEnv}
+use Rattle.jt_semantics.specs.Layout.{in_globals, names_in}
+use Rattle.jt_layout.specs.internal.Places.{all_names, texts_of}
+use Rattle.jt_layout.proofs.FirstOccurrences.{namespaces_left}
+use Rattle.jt_layout.proofs.NamespacesByName.{same}
+use Rattle.jt_names.proofs.SortedNames.{inserted_both, name_cmp, key_inserted}
+
+-- One more name is inserted into a set.
+pub key_turn : (ks : List (Bor Text)) (i : ℕ) (d : Bor Text) (old new : List (Bor Text)) → i < length ks
+    → new ≡ insert_key name_cmp old (get_or ks i d)
+    → all_inserted (texts (drop (i + 1) ks)) (texts new) ≡ all_inserted (texts (drop i ks)) (texts old)
+key_turn ks i d old new lt e = search (arith, rules, key_inserted, get_or, drop_more)
+
+-- ---- the names of a map
+
+pub names_put : (b : Bool) (v : Vec (Bor Text) Global) (o : Option (Vec (Bor Text) Global))
+    → texts_of (if b then Some v else o) ≡ (if b then texts v.items else texts_of o)
+names_put true v o = refl
+names_put false v o = refl
+
+-- ---- the names of included chains
+
+some_from_none : {A B : Type 0} (o : Option A) (p : Option B) → is_none o ≡ is_none p → is_some o ≡ is_some p
+some_from_none a0 a1 e = search (arith, rules)
+
+module _ (N : Text → List Text) (sources : Sources) (ks : List Include) (i : ℕ) (d : Include) (lt : i < length ks) where
+  abbrev k : Text
+  k = (get_or ks i d).name.now
+
+  abbrev pub those : List Include → List Text
+  those l = flat_map N (with_source sources (needed true (needs_view l)))
+
+  here : those (drop i ks) ≡ flat_map N (cond (is_some (sources k))
+      (k ∷ with_source sources (needed true (needs_view (drop (i + 1) ks))))
+      (with_source sources (needed true (needs_view (drop (i + 1) ks)))))
+  here = ap those (drop_more ks i d lt)
+
+  -- A chain that has a source, and one that does not.
+  pub chain_turn : (p : Option ℕ) (old new : List Text) → is_none p ≡ is_none (sources k) → is_some p ≡ true
+      → new ≡ all_inserted (N k) old
+      → all_inserted (those (drop (i + 1) ks)) new ≡ all_inserted (those (drop i ks)) old
+  chain_turn p old new q s e = search (arith, rules, some_from_none, inserted_both, here)
+
+  pub none_turn : (p : Option ℕ) (old : List Text) → is_none p ≡ is_none (sources k) → is_some p ≡ false
+      → all_inserted (those (drop (i + 1) ks)) old ≡ all_inserted (those (drop i ks)) old
+  none_turn p old q s = search (arith, rules, some_from_none, here)
+
+-- ---- the names of a chain and of the chains that it leads to
+
+flat_map-append : {A B : Type 0} (f : A → List B) (xs ys : List A)
+    → flat_map f (xs ++ ys) ≡ flat_map f xs ++ flat_map f ys
+flat_map-append f [] ys = refl
+flat_map-append f (x ∷ xs) ys =
+    ap (λ l. f x ++ l) (flat_map-append f xs ys) ∙ sym (append_assoc (f x) (flat_map f xs) (flat_map f ys))
+
+flat_map-map : {A B C : Type 0} (f : B → List C) (g : A → B) (xs : List A)
+    → flat_map f (map g xs) ≡ flat_map (λ x. f (g x)) xs
+flat_map-map f g [] = refl
+flat_map-map f g (x ∷ xs) = ap (λ l. f (g x) ++ l) (flat_map-map f g xs)
+
+-- A library has no globals.
+pub no_names : (cenv : CompileEnv) (hs : List Namespace) (n : Text) → names_in cenv hs (a_library n) ≡ []
+no_names cenv [] n = refl
+no_names cenv (k ∷ hs) n = search (arith, rules, no_names cenv hs n)
+
+no_names_of : (cenv : CompileEnv) (hs : List Namespace) (ns : List Text)
+    → flat_map (names_in cenv hs) (map a_library ns) ≡ []
+no_names_of cenv hs [] = refl
+no_names_of cenv hs (n ∷ ns) =
+    ap (λ l. l ++ flat_map (names_in cenv hs) (map a_library ns)) (no_names cenv hs n) ∙ no_names_of cenv hs ns
+
+-- The names of the included chains are those of all that a chain leads to.
+names_of_included : (cenv : CompileEnv) (hs : List Namespace) (h : Namespace)
+    → flat_map (names_in cenv hs) (included cenv.sources h)
+    ≡ flat_map (λ x. names_in cenv hs (a_chain x))
+    (with_source cenv.sources (flat_map (λ t. needs_in true t.body) (templates cenv.sources h)))
+names_of_included cenv hs h = search (arith, rules, flat_map-append, no_names_of, append-nil, flat_map-map)
+
+module _ (cenv : CompileEnv) (order : List Namespace) (i : ℕ) (lt : i < length order) where
+  abbrev h : Namespace
+  h = namespace_at order i
+
+  abbrev behind : List Namespace
+  behind = drop (i + 1) order
+
+  -- The names of the first remaining chain.
+  pub names_here : (ns : List Text)
+      → ns ≡ all_inserted (flat_map (λ x. names_in cenv behind (a_chain x))
+      (with_source cenv.sources (flat_map (λ t. needs_in true t.body) (templates cenv.sources h))))
+      (ascending (own_names cenv.sources h))
+      → ns ≡ all_names cenv behind h
+  names_here ns e = search (arith, rules, inserted_both, names_of_included)
+
+  in_front : (k x : Namespace) → h ≡ k → (if same_namespace k x then in_globals x (all_names cenv behind x)
+      else names_in cenv behind x)
+      ≡ names_in cenv (drop i order) x
+  in_front k x e = search (arith, rules, namespaces_left)
+
+  -- The names of any remaining chain.
+  pub names_turn : (ns old : List Text) (n x : Text) → h ≡ a_chain n → ns ≡ all_names cenv behind h
+      → old ≡ names_in cenv behind (a_chain x)
+      → (if bytes_eq n x then ns else old) ≡ names_in cenv (drop i order) (a_chain x)
+  names_turn ns old n x is e g = by (bytes_eq n x) refl ∙ in_front (a_chain n) (a_chain x) is
+    where
+      by : (b : Bool) → bytes_eq n x ≡ b → (if b then ns else old)
+          ≡ (if b then all_names cenv behind (a_chain x) else names_in cenv behind (a_chain x))
+      by true q = e ∙ ap (all_names cenv behind) (is ∙ ap a_chain (same n x q))
+      by false q = g
+
+  -- A library changes no names.
+  pub names_kept : (old : List Text) (n x : Text) → h ≡ a_library n → old ≡ names_in cenv behind (a_chain x)
+      → old ≡ names_in cenv (drop i order) (a_chain x)
+  names_kept old n x is g = g ∙ in_front (a_library n) (a_chain x) is

@@ -1,0 +1,11 @@
+use Rattle.std.proofs.Common.{arith, string_bytes, rules}
+use Rattle.std.proofs.lemmas.List.{length-map}
+use Rattle.jt_chains.proofs.TemplatesByIndex.{name_of_namespace}
+use Rattle.jt_layout.proofs.NamesInOrder.{names_turn, names_kept}
+use Rattle.jt_layout.proofs.collected.gather.Goals as goal
+
+pub loop-left-preserved-then-itself : goal.loop-left-preserved-then-itself
+loop-left-preserved-then-itself c = search (arith, rules, length-map, string_bytes, name_of_namespace, names_kept)
+
+pub loop-left-preserved : goal.loop-left-preserved
+loop-left-preserved c = search (arith, rules, length-map, string_bytes, name_of_namespace, names_turn)

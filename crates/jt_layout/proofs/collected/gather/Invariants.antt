@@ -1,0 +1,18 @@
+use Rattle.std.proofs.Common.{◌≡◌, ◌≤◌, length, drop}
+use Rattle.jt_ast.specs.Expressions.{Text}
+use Rattle.jt_chains.specs.Chain.{a_chain}
+use Rattle.jt_chains.specs.View.{chain_view}
+use Rattle.jt_rules.specs.CompileEnv.{cenv_of}
+use Rattle.jt_semantics.specs.Layout.{names_in}
+use Rattle.jt_layout.specs.internal.Places.{names_at}
+use Rattle.jt_layout.proofs.collected.gather.Given as goal
+
+abbrev pub invariant-loop-left : goal.invariant-loop-left
+invariant-loop-left l = record {
+  within : l.left ≤ length l.chain.namespaces.items;
+  found : (x : Text) → names_at l.collected.names x
+      ≡ names_in (cenv_of (chain_view l.chain)) (drop l.left (chain_view l.chain).order) (a_chain x);
+}
+
+abbrev pub decreases-loop-left : goal.decreases-loop-left
+decreases-loop-left l = l.left

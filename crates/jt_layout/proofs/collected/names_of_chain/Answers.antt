@@ -1,0 +1,70 @@
+use Rattle.std.proofs.Common.{◌≡◌, List, true, ◌+◌, drop, sym, ap, ◌∙◌, Vec, Global, not, get_or, ◌<◌, length, arith}
+use Rattle.std.proofs.lemmas.Result.{IfOk-weaker}
+use Rattle.std.specs.Prelude.{flat_map}
+use Rattle.std.specs.Option.{is_none}
+use Rattle.std.proofs.lemmas.List.{at_drop_all, length-map}
+use denote.Ref.{Bor}
+use Rattle.jt_ast.specs.Expressions.{Text}
+use Rattle.jt_ast.specs.Texts.{all_inserted, texts}
+use Rattle.jt_chains.specs.Chain.{a_chain, templates}
+use Rattle.jt_chains.specs.Includes.{with_source}
+use Rattle.jt_chains.specs.Needs.{Need, needed, needs_view}
+use Rattle.jt_chains.specs.TemplateFiles.{namespace_view}
+use Rattle.jt_chains.specs.View.{namespace_in, its_sources}
+use Rattle.jt_chains.specs.declared.includes.Include.{Include}
+use Rattle.jt_chains.proofs.IncludeCollection.{by_templates}
+use Rattle.jt_semantics.specs.Layout.{names_in}
+use Rattle.jt_layout.specs.internal.Namespaces.{its_cenv, its_order}
+use Rattle.jt_layout.proofs.NamesInOrder.{chain_turn, none_turn, names_here}
+use Rattle.jt_layout.proofs.collected.names_of_chain.Invariants.{names_of}
+use Rattle.jt_layout.proofs.collected.names_of_chain.Goals as goal
+
+pub loop-include-preserved-then-is_none : goal.loop-include-preserved-then-is_none
+loop-include-preserved-then-is_none c =
+    let chain = c.args.chain.now in
+    let N : Text → List Text =
+    (λ x. names_in (its_cenv chain) (drop (c.args.namespace + 1) (its_order chain)) (a_chain x)) in
+    let l = c.loop-include in
+    let k = get_or c.deref-include-items.result.now l.include-index _ in
+    none_turn N (its_sources chain) c.deref-include-items.result.now l.include-index _ c.loop-include-test.true
+    c.place.result (texts l.names.keys)
+    (ap is_none c.place.ensures ∙ c.requires.sources k.name.now) (c.is_none.ensures ∙ ap not c.if-is_none.true)
+    ∙ l.invariant
+
+pub loop-include-preserved : goal.loop-include-preserved
+loop-include-preserved c =
+    let chain = c.args.chain.now in
+    let N : Text → List Text =
+    (λ x. names_in (its_cenv chain) (drop (c.args.namespace + 1) (its_order chain)) (a_chain x)) in
+    let l = c.loop-include in
+    let k = get_or c.deref-include-items.result.now l.include-index _ in
+    chain_turn N (its_sources chain) c.deref-include-items.result.now l.include-index _ c.loop-include-test.true
+    c.place.result (texts l.names.keys) (texts c.add_to.new.names.keys)
+    (ap is_none c.place.ensures ∙ c.requires.sources k.name.now) (c.is_none.ensures ∙ ap not c.if-is_none.false)
+    (c.in_ok-add_to.ensures ∙ ap (λ xs. all_inserted xs (texts l.names.keys)) (c.requires.behind k.name.now))
+    ∙ l.invariant
+
+pub returns : goal.returns
+returns c =
+    let chain = c.args.chain.now in
+    let N : Text → List Text =
+    (λ x. names_in (its_cenv chain) (drop (c.args.namespace + 1) (its_order chain)) (a_chain x)) in
+    let l = c.loop-include in
+    let ks = c.deref-include-items.result.now in
+    let first = texts c.in_ok-names.names.keys in
+    let lt : c.args.namespace < length (its_order chain) =
+    omega (arith, c.requires.stands, length-map chain.namespaces.items namespace_view) in
+    let ended = at_drop_all
+    (λ (z : List Include). all_inserted (names_of chain c.args.namespace z) (texts l.names.keys)) ks l.include-index
+    c.loop-include-test.false in
+    let all : texts l.names.keys ≡ all_inserted (names_of chain c.args.namespace ks) first = sym ended ∙ l.invariant in
+    let needs = ap needs_view c.deref-include-items.ensures.value ∙ c.in_ok-included.ensures.there c.requires.stands in
+    let whole = all
+    ∙ ap (λ (ns : List Need). all_inserted (flat_map N (with_source (its_sources chain) (needed true ns))) first) needs
+    ∙ ap (λ (xs : List Text). all_inserted (flat_map N (with_source (its_sources chain) xs)) first)
+    (by_templates true (templates (its_sources chain) (namespace_in chain c.args.namespace)))
+    ∙ ap (all_inserted (flat_map N (with_source (its_sources chain) _)))
+    (c.in_ok-names.ensures.there c.requires.stands) in
+    IfOk-weaker c.list_of.result (λ (v : Vec (Bor Text) Global). v.items ≡ l.names.keys) _
+    (λ v p. names_here (its_cenv chain) (its_order chain) c.args.namespace lt (texts v.items) (ap texts p ∙ whole))
+    c.list_of.ensures

@@ -1,6 +1,0 @@
-use Rattle.std.proofs.Common.{None, string_bytes, arith, rules}
-use Rattle.std.proofs.lemmas.Map.Text.{btree_map_updates_str}
-use Rattle.jt_layout.proofs.gathered.Gathered.take.Goals as goal
-
-pub returns-in-Some-clause-others : goal.returns-in-Some-clause-others
-returns-in-Some-clause-others c = search (arith, rules, btree_map_updates_str c.as_str.result.now c.args.self.now.names c.remove.new.self None c.remove.ensures.updates, string_bytes c.args.home.now.name)

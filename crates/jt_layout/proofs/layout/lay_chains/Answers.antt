@@ -1,0 +1,83 @@
+use Rattle.std.proofs.Common.{◌≡◌, ℕ, ◌+◌, ◌<◌, ◌≤◌, [], ◌∷◌, length, get_or, sym, ap, subst, ◌∙◌, arith, length-append}
+use Rattle.std.proofs.Common.{List, drop, string_bytes, rules}
+use Rattle.std.specs.Prelude.{flat_map}
+use Rattle.std.proofs.lemmas.List.{at_drop_all, length-map}
+use Rattle.jt_chains.specs.Chain.{a_chain, listed, same_namespace}
+use Rattle.jt_chains.specs.TemplateFiles.{namespace_view}
+use Rattle.jt_chains.specs.View.{chain_view, namespace_in}
+use Rattle.jt_semantics.specs.Layout as layout
+use Rattle.jt_layout.specs.internal.Namespaces.{its_cenv, its_order}
+use Rattle.jt_layout.specs.NamespaceLayout.{IsLaid}
+use Rattle.jt_layout.specs.internal.Places.{names_at}
+use Rattle.jt_layout.specs.declared.namespace_layout.NamespaceLayout.{NamespaceLayout}
+use Rattle.jt_chains.proofs.TemplatesByIndex.{name_of_namespace}
+use Rattle.jt_layout.proofs.OffsetSteps.{first_front}
+use Rattle.jt_layout.proofs.LayoutCorrect.{each_more, listed_left, left_turn, names_handed}
+use Rattle.jt_layout.proofs.layout.lay_chains.Goals as goal
+
+pub lay_chain-requires : goal.lay_chain-requires
+lay_chain-requires c =
+    let a = c.args.chain.now in
+    let l = c.loop-namespace in
+    let lt : l.namespace < length a.namespaces.items =
+    omega (arith, c.loop-namespace-test.true, c.len-namespace-end.ensures, a.namespaces.ok.0) in
+    let k = c.index.result.now in
+    let is : namespace_in a l.namespace ≡ namespace_view k =
+    name_of_namespace a.namespaces.items l.namespace k lt c.index.ensures in
+    record {
+      stands = lt;
+      named = c.take-names.ensures.taken
+          ∙ names_handed (its_cenv a) (its_order a) k.is_library (string_bytes k.name) (namespace_in a l.namespace)
+          (names_at l.collected.names) is
+          (λ x u. l.invariant.left x
+          (ap (λ h. listed h (drop l.namespace (its_order a))) (sym u) ∙ listed_left a l.namespace lt));
+      front = l.invariant.stands;
+    }
+
+pub loop-namespace-init : goal.loop-namespace-init
+loop-namespace-init c = search (arith, rules, first_front)
+
+pub loop-namespace-preserved : goal.loop-namespace-preserved
+loop-namespace-preserved c =
+    let a = c.args.chain.now in
+    let l = c.loop-namespace in
+    let W = its_cenv a in
+    let O = its_order a in
+    let lt : l.namespace < length a.namespaces.items =
+    omega (arith, c.loop-namespace-test.true, c.len-namespace-end.ensures, a.namespaces.ok.0) in
+    let k = c.index.result.now in
+    let is : namespace_in a l.namespace ≡ namespace_view k =
+    name_of_namespace a.namespaces.items l.namespace k lt c.index.ensures in
+    let grown = c.in_ok-push.ensures.items in
+    let P : ℕ → NamespaceLayout → Type 0 = (λ i t. IsLaid W O (chain_view a).templates (namespace_in a i) t) in
+    let last : P (length l.namespaces.items) c.in_ok-placed.placed.namespace_layout = subst
+    (λ i. P i c.in_ok-placed.placed.namespace_layout) (sym l.invariant.all) c.in_ok-placed.ensures.namespace_layout in
+    record {
+      stands = c.in_ok-placed.ensures.behind;
+      left = λ x u.
+          let other = left_turn a l.namespace lt (a_chain x) u in
+          c.take-names.ensures.others x (ap (λ h. same_namespace h (a_chain x)) (sym is) ∙ other.0)
+          ∙ l.invariant.left x other.1;
+      all =
+          ap length grown ∙ length-append l.namespaces.items (c.in_ok-placed.placed.namespace_layout ∷ [])
+          ∙ ap (λ n. n + 1) l.invariant.all;
+      each =
+          subst
+          (λ (ts : List NamespaceLayout). (i : ℕ) (t : NamespaceLayout) → i < length ts → t ≡ get_or ts i t → P i t)
+          (sym grown) (each_more P l.namespaces.items c.in_ok-placed.placed.namespace_layout l.invariant.each last);
+    }
+
+pub returns-clause-units : goal.returns-clause-units
+returns-clause-units c =
+    let a = c.args.chain.now in
+    let l = c.loop-namespace in
+    let W = its_cenv a in
+    let le : length (its_order a) ≤ l.namespace = omega (
+      arith,
+      c.loop-namespace-test.false,
+      c.len-namespace-end.ensures,
+      a.namespaces.ok.0,
+      length-map a.namespaces.items namespace_view,
+    ) in
+    let none = at_drop_all (λ hs. length (flat_map (layout.chain_keys W) hs)) (its_order a) l.namespace le in
+    omega (arith, l.invariant.stands.all, none)

@@ -1,0 +1,52 @@
+-- The environment of a chain, and the parts of its chains and libraries. Only private clauses cite
+-- this module.
+use Rattle.std.specs.Prelude.{◌≡◌, ℕ, List, Vec}
+use Rattle.std.specs.declared.alloc.Global.{Global}
+use Rattle.std.specs.BTreeMap.{BTreeMap}
+use Rattle.std.specs.Option.{is_none}
+use denote.Ref.{Bor}
+use Rattle.jt_ast.specs.Expressions.{Text}
+use Rattle.jt_chains.specs.Chain.{Namespace, a_chain, BlockBody, MacroBody, Definition, macros, given, all_bodies}
+use Rattle.jt_chains.specs.Named.{names_view}
+use Rattle.jt_chains.specs.View.{chain_view, namespace_in, its_sources, its_templates}
+use Rattle.jt_chains.specs.declared.definitions.DefinedName.{DefinedName}
+use Rattle.jt_chains.specs.declared.chain.Chain.{Chain}
+use Rattle.jt_rules.specs.CompileEnv.{CompileEnv, cenv_of}
+use Rattle.jt_semantics.specs.Layout.{names, names_in}
+use Rattle.jt_layout.specs.Names.{place_in}
+use Rattle.jt_layout.specs.internal.Places.{names_at}
+
+module _ (c : Chain) where
+  abbrev pub its_cenv : CompileEnv
+  its_cenv = cenv_of (chain_view c)
+
+  -- The chains and libraries.
+  abbrev pub its_order : List Namespace
+  its_order = (chain_view c).order
+
+  -- ---- the parts of the chain or library at an index, and their representation in the code
+
+  abbrev pub its_names : ℕ → List Text
+  its_names i = names its_cenv its_order (namespace_in c i)
+
+  abbrev pub its_macros : ℕ → List MacroBody
+  its_macros i = macros (its_sources c) (namespace_in c i)
+
+  abbrev pub its_given : ℕ → List (Text × Definition)
+  its_given i = given (its_sources c) (namespace_in c i)
+
+  abbrev pub given_kept : ℕ → List DefinedName → List (Text × Definition)
+  given_kept i gs = names_view (its_templates c) (namespace_in c i) gs
+
+  abbrev pub its_bodies : ℕ → List BlockBody
+  its_bodies i = all_bodies (its_sources c) c.autoescape (namespace_in c i)
+
+  -- ---- lookup by name
+
+  -- The map has a number for each template that was read.
+  abbrev pub AreSources : BTreeMap (Bor Text) ℕ → Type 0
+  AreSources m = (x : Text) → is_none (place_in m x) ≡ is_none (its_sources c x)
+
+  -- The map has the names of each remaining chain, and no other entries.
+  abbrev pub AreNames : List Namespace → BTreeMap (Bor Text) (Vec (Bor Text) Global) → Type 0
+  AreNames left m = (x : Text) → names_at m x ≡ names_in its_cenv left (a_chain x)

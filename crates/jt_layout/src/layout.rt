@@ -1,0 +1,199 @@
+//! Lays out the chains and libraries that an entry's includes and imports reach.
+
+ghost use Rattle.std.specs.Prelude.{◌≡◌, ◌<◌, ◌+◌, length, IfOk};
+ghost use Rattle.jt_chains.specs.TemplateFiles.{namespace_view};
+ghost use Rattle.jt_rules.specs.CompileEnv.{CompileEnv};
+ghost use Rattle.jt_semantics.specs.Layout as layout;
+ghost use Rattle.jt_ast.specs.Texts.{texts};
+ghost use Rattle.jt_layout.specs.internal.Front.{StandsAt, IsLaidAt, AreLaid};
+ghost use Rattle.jt_layout.specs.internal.Namespaces.{its_cenv, its_order, its_names, AreNames};
+ghost use Rattle.jt_layout.specs.NamespaceLayout.{IsLaidOut};
+
+use crate::bodies::bodies_of;
+use crate::collected::{CollectedNames, gather};
+use crate::count::checked_sum;
+use crate::front::FirstFree;
+use crate::given::given_by_name;
+use crate::index::NameIndex;
+use crate::lists::template_names;
+use crate::macros::macros_of;
+use crate::namespace_layout::NamespaceLayout;
+use crate::namespace_tables::NamespaceTables;
+use crate::places::namespace_places;
+use jt_chains::{Chain, Namespace};
+use jt_value::NoMemory;
+use std::alloc::Global;
+
+/// The layout of a chain or a library, and the first free numbers after it.
+#[derive(Drop)]
+struct Placed<'a> {
+    namespace_layout: NamespaceLayout<'a>,
+    behind: FirstFree,
+}
+
+/// The number of units that a chain has before its macros, and of its names, macros and bodies.
+#[derive(Clone, Copy)]
+struct Counts {
+    entries: usize,
+    names: usize,
+    macros: usize,
+    bodies: usize,
+}
+
+/// The units of a chain's first macro and of its first body, and the first free numbers after the
+/// chain.
+#[derive(Clone, Copy)]
+struct UnitLayout {
+    macro_unit: usize,
+    body_unit: usize,
+    behind: FirstFree,
+}
+
+/// Returns the number of units before the macros: 1 for a chain, and 0 for a library, which is
+/// never rendered.
+fn entries_of(namespace: &Namespace) -> usize
+    ensures { (w : CompileEnv) →
+        result ≡ length (layout.entry_keys w (namespace_view namespace.now)) }
+{
+    if namespace.is_library { 0 } else { 1 }
+}
+
+/// Returns the places of a chain with these counts; `end` is the first pool place after its
+/// defaults.
+fn places_of(front: FirstFree, counts: Counts, end: usize) -> Result<UnitLayout, NoMemory>
+    ensures macro_unit { IfOk result (λ p. p.macro_unit ≡ front.unit + counts.entries) }
+    ensures body_unit { IfOk result (λ p. p.body_unit ≡ p.macro_unit + counts.macros) }
+    ensures slot { IfOk result (λ p. p.behind.slot ≡ front.slot + counts.names) }
+    ensures unit { IfOk result (λ p. p.behind.unit ≡ p.body_unit + counts.bodies) }
+    ensures default { IfOk result (λ p. p.behind.default ≡ end) }
+{
+    let macro_unit = checked_sum(front.unit, counts.entries)?;
+    let body_unit = checked_sum(macro_unit, counts.macros)?;
+    let slot = checked_sum(front.slot, counts.names)?;
+    let unit = checked_sum(body_unit, counts.bodies)?;
+    Ok(UnitLayout {
+        macro_unit,
+        body_unit,
+        behind: FirstFree {
+            slot,
+            unit,
+            default: end,
+        },
+    })
+}
+
+/// Lays out one chain or library.
+fn lay_chain<'a>(
+    alloc: Global,
+    chain: &'a Chain,
+    namespace: usize,
+    names: Vec<&'a str>,
+    front: FirstFree,
+) -> Result<Placed<'a>, NoMemory>
+    requires stands { namespace < length chain.now.namespaces.items }
+    requires named { texts names.items ≡ its_names chain.now namespace }
+    requires front { StandsAt chain.now namespace front }
+    ensures namespace_layout { IfOk result (λ p. IsLaidAt chain.now namespace p.namespace_layout) }
+    ensures behind { IfOk result (λ p. StandsAt chain.now (namespace + 1) p.behind) }
+{
+    let itself = &chain.namespaces[namespace];
+    let slots = NameIndex::of(alloc, &names, front.slot)?;
+    let macros = macros_of(alloc, chain, namespace, front.default)?;
+    let given = given_by_name(alloc, chain, namespace)?;
+    let bodies = bodies_of(alloc, chain, namespace)?;
+    let counts = Counts {
+        entries: entries_of(itself),
+        names: names.len(),
+        macros: macros.all.len(),
+        bodies: bodies.all.len(),
+    };
+    let places = places_of(front, counts, macros.defaults.end)?;
+    let namespace_layout = NamespaceLayout {
+        is_library: itself.is_library,
+        names,
+        slots,
+        first_slot: front.slot,
+        unit: front.unit,
+        macro_unit: places.macro_unit,
+        body_unit: places.body_unit,
+        macros: macros.all,
+        called: macros.called,
+        defaults: macros.defaults.places,
+        given: given.all,
+        given_places: given.places,
+        blocks: bodies.all,
+        first_bodies: bodies.firsts,
+        next_bodies: bodies.nexts,
+        scope_names: bodies.scope_names,
+        scoped: bodies.scoped,
+    };
+    Ok(Placed {
+        namespace_layout,
+        behind: places.behind,
+    })
+}
+
+/// The layouts of all chains and libraries, and the number of their units.
+#[derive(Drop)]
+struct Tables<'a> {
+    namespaces: Vec<NamespaceLayout<'a>>,
+    units: usize,
+}
+
+/// Lays out the chains and libraries in order.
+fn lay_chains<'a>(
+    alloc: Global,
+    chain: &'a Chain,
+    mut collected: CollectedNames<'a>,
+) -> Result<Tables<'a>, NoMemory>
+    requires { AreNames chain.now (its_order chain.now) collected.names }
+    ensures each { IfOk result (λ t. AreLaid chain.now t.namespaces.items) }
+    ensures all { IfOk result (λ t. length t.namespaces.items ≡ length chain.now.namespaces.items) }
+    ensures units { IfOk result
+        (λ t. t.units ≡ length (layout.keys (its_cenv chain.now) (its_order chain.now))) }
+{
+    let mut namespaces = Vec::with_capacity(alloc, chain.namespaces.len())?;
+    let mut front = FirstFree {
+        slot: 0,
+        unit: 0,
+        default: 1,
+    };
+    for namespace in 0..chain.namespaces.len() {
+        let names = collected.take(alloc, &chain.namespaces[namespace]);
+        let placed = lay_chain(alloc, chain, namespace, names, front)?;
+        namespaces.push(placed.namespace_layout)?;
+        front = placed.behind;
+    }
+    Ok(Tables {
+        namespaces,
+        units: front.unit,
+    })
+}
+
+/// Lays out the chains and libraries. The entry's chain is selected.
+///
+/// # Errors
+///
+/// `NoMemory` if a growth is refused or a number overflows.
+pub fn lay_out(alloc: Global, chain: &Chain) -> Result<NamespaceTables<'_>, NoMemory>
+    ensures namespace_layout { IfOk result (λ tables. IsLaidOut tables) }
+    ensures chain { IfOk result (λ tables. tables.chain.now ≡ chain.now) }
+    ensures first { IfOk result (λ tables. tables.namespace ≡ 0) }
+    ensures all { IfOk result
+        (λ tables. length tables.namespaces.items ≡ length chain.now.namespaces.items) }
+{
+    let sources = NameIndex::of(alloc, &template_names(alloc, &chain.templates)?, 0)?;
+    let places = namespace_places(alloc, &chain.namespaces, false)?;
+    let libraries = namespace_places(alloc, &chain.namespaces, true)?;
+    let collected = gather(alloc, chain, &sources)?;
+    let tables = lay_chains(alloc, chain, collected)?;
+    Ok(NamespaceTables {
+        chain,
+        namespaces: tables.namespaces,
+        places,
+        libraries,
+        sources,
+        units: tables.units,
+        namespace: 0,
+    })
+}

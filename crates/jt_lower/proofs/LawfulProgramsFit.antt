@@ -1,0 +1,433 @@
+-- The program of lawful routines fits.
+use Rattle.std.proofs.Common.{◌≡◌, ℕ, zero, suc, ◌+◌, ◌<◌, ◌≤◌, Bool, true, false, List, [], ◌∷◌, ◌++◌, length, Option}
+use Rattle.std.proofs.Common.{Some, None, refl, sym, ap, subst, arith, append_assoc, length-append, rules}
+use Rattle.std.specs.Prelude.{slice_get}
+use Rattle.std.specs.List.{AllByRecursion}
+use Rattle.std.proofs.Math.Seq.{get_or-append_seam}
+use Rattle.std.proofs.lemmas.Option.{slice_get-get_or, slice_get_within}
+use Rattle.jt_value.specs.Tree as tree
+use Rattle.jt_value.specs.Tree.{Tree}
+use Rattle.jt_ast.specs.Expressions.{Text}
+use Rattle.jt_ir.specs.Slots as slots
+use Rattle.jt_ir.specs.Slots.{Slot, local, global, NaryOp, SlotExpr, SRow, Targets, SlotStmt, SBody, Routine, Program}
+use Rattle.jt_ir.specs.Locals.{slot_locals, slots_locals, targets_locals, expr_locals, row_locals, condition_locals}
+use Rattle.jt_ir.specs.Locals.{stmt_locals, body_locals}
+use Rattle.jt_ir.specs.Pool.{Constant, own, known, constant_values, expr_values, row_values, condition_values}
+use Rattle.jt_ir.specs.Pool.{stmt_values, body_values, routines_values, placed, placed_expr, placed_row}
+use Rattle.jt_ir.specs.Pool.{placed_condition, placed_stmt, placed_body, placed_routine, placed_routines}
+use Rattle.jt_ir.specs.Size.{row_count, expr_height, row_height, condition_height, stmt_height, body_height, expr_size}
+use Rattle.jt_ir.specs.Size.{row_size, condition_size, stmt_size, body_size, routines_size}
+use Rattle.jt_image.specs.Typed.{max_entries}
+use Rattle.jt_lower.specs.Fits.{OfSlots, OfTargets, NaryOpFits, TakesRow, IsBare, SlotFits, ExprFits, RowFits}
+use Rattle.jt_lower.specs.Fits.{ConditionFits, TextFits, StmtFits, BodyFits, RoutineFits, IsPooled, ProgramFits}
+use Rattle.jt_eval.specs.TheFilters.{the_filters}
+use Rattle.jt_ir.specs.Takes.{NaryOpTakes, HasParameters, ExprTakes, RowTakes, ConditionTakes, StmtTakes, BodyTakes}
+use Rattle.jt_lower.specs.Lawful.{ConstantLawful, TextLawful, SlotLawful, ExprLawful, RowLawful, ConditionLawful}
+use Rattle.jt_lower.specs.Lawful.{StmtLawful, BodyLawful, RoutineLawful, program_with, AreLawful, AreLow}
+
+-- ---- values in a pool
+
+abbrev pub PoolAt : List Tree → ℕ → List Tree → Type 0
+PoolAt pool n [] = Unit {0}
+PoolAt pool n (t ∷ ts) = (slice_get pool n ≡ Some t) × PoolAt pool (n + 1) ts
+
+pub pool_front : (pool : List Tree) (n : ℕ) (xs ys : List Tree) → PoolAt pool n (xs ++ ys) → PoolAt pool n xs
+pool_front pool n [] ys h = tt
+pool_front pool n (x ∷ xs) ys h = (h.0, pool_front pool (n + 1) xs ys h.1)
+
+pub pool_back : (pool : List Tree) (n : ℕ) (xs ys : List Tree) → PoolAt pool n (xs ++ ys)
+    → PoolAt pool (n + length xs) ys
+pool_back pool n [] ys h = let e : n ≡ n + 0 = omega arith in subst (λ m. PoolAt pool m ys) e h
+pool_back pool n (x ∷ xs) ys h = search (arith, rules, pool_back pool (n + 1) xs ys h.1)
+
+pub pool_whole : (ts before : List Tree) → PoolAt (before ++ ts) (length before) ts
+pool_whole [] before = tt
+pool_whole (t ∷ ts) before =
+    search (
+      arith,
+      rules,
+      length-append before (t ∷ ts),
+      slice_get-get_or (before ++ t ∷ ts) (length before) t,
+      get_or-append_seam before t ts t,
+      length-append before (t ∷ []),
+      pool_whole ts (before ++ t ∷ []),
+      append_assoc before (t ∷ []) ts,
+    )
+
+-- ---- lists
+
+pub all_append : {A : Type 0} (P : A → Type 0) (xs ys : List A) → AllByRecursion P xs → AllByRecursion P ys
+    → AllByRecursion P (xs ++ ys)
+all_append P [] ys h g = g
+all_append P (x ∷ xs) ys h g = (h.0, all_append P xs ys h.1 g)
+
+all_get : {A : Type 0} (P : A → Type 0) (xs : List A) (i : ℕ) (x : A) → AllByRecursion P xs → slice_get xs i ≡ Some x
+    → P x
+all_get P [] i x h e = absurd cc
+all_get P (y ∷ xs) zero x h e = let same : y ≡ x = cc in subst P same h.0
+all_get P (y ∷ xs) (suc i) x h e = all_get P xs i x h.1 e
+
+-- ---- routines
+
+-- A routine with places comes from one without places, and its values are in the pool.
+placed_was : (rs : List (Routine Constant)) (n u : ℕ) (q : Routine ℕ) (pool : List Tree)
+    → slice_get (placed_routines rs n) u ≡ Some q → PoolAt pool n (routines_values rs)
+    → (r : Routine Constant) × (m : ℕ) × (slice_get rs u ≡ Some r) × (placed_routine r m ≡ q)
+    × PoolAt pool m (body_values r.body)
+placed_was [] n u q pool e h = absurd cc
+placed_was (r ∷ rs) n zero q pool e h =
+    let same : placed_routine r n ≡ q = cc in
+    (r, n, refl, same, pool_front pool n (body_values r.body) (routines_values rs) h)
+placed_was (r ∷ rs) n (suc u) q pool e h =
+    placed_was rs (n + length (body_values r.body)) u q pool e
+    (pool_back pool n (body_values r.body) (routines_values rs) h)
+
+-- A routine without places becomes one with places.
+placed_is : (rs : List (Routine Constant)) (n u : ℕ) (r : Routine Constant) → slice_get rs u ≡ Some r
+    → (m : ℕ) × (slice_get (placed_routines rs n) u ≡ Some (placed_routine r m))
+placed_is [] n u r e = absurd cc
+placed_is (s ∷ rs) n zero r e = let same : s ≡ r = cc in (n, ap (λ x. Some (placed_routine x n)) same)
+placed_is (s ∷ rs) n (suc u) r e = placed_is rs (n + length (body_values s.body)) u r e
+
+bare_placed : (es : SRow Constant) (n : ℕ) → IsBare es → IsBare (placed_row es n)
+bare_placed (slots.item (slots.pooled k) es) n b = bare_placed es (n + length (constant_values k)) b
+bare_placed (slots.item (slots.variable s) es) n b = bare_placed es (n + 0) b
+bare_placed a0 n b = search (arith, rules)
+
+-- ---- heights and sizes
+
+mutual
+  expr_low : (e : SlotExpr Constant) (n : ℕ) → expr_height (placed_expr e n) ≡ expr_height e
+  expr_low (slots.made k es) n = omega (arith, row_low es n)
+  expr_low (slots.conjunction a b) n = omega (arith, expr_low a n, expr_low b (n + length (expr_values a)))
+  expr_low (slots.disjunction a b) n = omega (arith, expr_low a n, expr_low b (n + length (expr_values a)))
+  expr_low (slots.choice c a b) n =
+      omega (
+        arith,
+        expr_low c n,
+        expr_low a (n + length (expr_values c)),
+        expr_low b (n + length (expr_values c) + length (expr_values a)),
+      )
+  expr_low (slots.invoke u escaping es) n = omega (arith, row_low es n)
+  expr_low a0 n = refl
+
+  row_low : (es : SRow Constant) (n : ℕ) → row_height (placed_row es n) ≡ row_height es
+  row_low slots.none n = refl
+  row_low (slots.item e es) n = omega (arith, expr_low e n, row_low es (n + length (expr_values e)))
+  row_low (slots.aside i e es) n = omega (arith, expr_low e n, row_low es (n + length (expr_values e)))
+
+condition_low : (c : Option (SlotExpr Constant)) (n : ℕ) → condition_height (placed_condition c n) ≡ condition_height c
+condition_low None n = refl
+condition_low (Some c) n = expr_low c n
+
+mutual
+  stmt_low : (s : SlotStmt Constant) (n : ℕ) → stmt_height (placed_stmt s n) ≡ stmt_height s
+  stmt_low (slots.put_pooled k) n = refl
+  stmt_low (slots.print q escaping e) n = expr_low e n
+  stmt_low (slots.assign q xs e) n = omega (arith, expr_low e n)
+  stmt_low (slots.if_else q c a b) n =
+      omega (
+        arith,
+        expr_low c n,
+        body_low a (n + length (expr_values c)),
+        body_low b (n + length (expr_values c) + length (body_values a)),
+      )
+  stmt_low (slots.for_each q xs e c body other) n =
+      search (arith, rules, expr_low, condition_low, body_low body, body_low other)
+  stmt_low (slots.capture escaping s body) n = omega (arith, body_low body n)
+  stmt_low (slots.run u es) n = row_low es n
+
+  body_low : (b : SBody Constant) (n : ℕ) → body_height (placed_body b n) ≡ body_height b
+  body_low slots.end n = refl
+  body_low (slots.stmt s rest) n = omega (arith, stmt_low s n, body_low rest (n + length (stmt_values s)))
+
+mutual
+  expr_sized : (e : SlotExpr Constant) (n : ℕ) → expr_size (placed_expr e n) ≡ expr_size e
+  expr_sized (slots.made k es) n = omega (arith, row_sized es n)
+  expr_sized (slots.conjunction a b) n = omega (arith, expr_sized a n, expr_sized b (n + length (expr_values a)))
+  expr_sized (slots.disjunction a b) n = omega (arith, expr_sized a n, expr_sized b (n + length (expr_values a)))
+  expr_sized (slots.choice c a b) n =
+      omega (
+        arith,
+        expr_sized c n,
+        expr_sized a (n + length (expr_values c)),
+        expr_sized b (n + length (expr_values c) + length (expr_values a)),
+      )
+  expr_sized (slots.invoke u escaping es) n = omega (arith, row_sized es n)
+  expr_sized a0 n = refl
+
+  row_sized : (es : SRow Constant) (n : ℕ) → row_size (placed_row es n) ≡ row_size es
+  row_sized slots.none n = refl
+  row_sized (slots.item e es) n = omega (arith, expr_sized e n, row_sized es (n + length (expr_values e)))
+  row_sized (slots.aside i e es) n = omega (arith, expr_sized e n, row_sized es (n + length (expr_values e)))
+
+kept_sized : (xs : Targets) (c : Option (SlotExpr Constant)) (n : ℕ)
+    → condition_size xs (placed_condition c n) ≡ condition_size xs c
+kept_sized xs None n = refl
+kept_sized xs (Some c) n = omega (arith, expr_sized c n)
+
+mutual
+  stmt_sized : (s : SlotStmt Constant) (n : ℕ) → stmt_size (placed_stmt s n) ≡ stmt_size s
+  stmt_sized (slots.put_pooled k) n = refl
+  stmt_sized (slots.print q escaping e) n = omega (arith, expr_sized e n)
+  stmt_sized (slots.assign q xs e) n = omega (arith, expr_sized e n)
+  stmt_sized (slots.if_else q c a b) n =
+      omega (
+        arith,
+        expr_sized c n,
+        body_sized a (n + length (expr_values c)),
+        body_sized b (n + length (expr_values c) + length (body_values a)),
+      )
+  stmt_sized (slots.for_each q xs e c body other) n =
+      search (arith, rules, expr_sized, kept_sized, body_sized body, body_sized other)
+  stmt_sized (slots.capture escaping s body) n = omega (arith, body_sized body n)
+  stmt_sized (slots.run u es) n = omega (arith, row_sized es n)
+
+  body_sized : (b : SBody Constant) (n : ℕ) → body_size (placed_body b n) ≡ body_size b
+  body_sized slots.end n = refl
+  body_sized (slots.stmt s rest) n = omega (arith, stmt_sized s n, body_sized rest (n + length (stmt_values s)))
+
+-- Routines with places need the same number of entries as before.
+pub placed_low : (rs : List (Routine Constant)) (n : ℕ)
+    → AllByRecursion (λ r. body_height r.body ≤ max_entries) (placed_routines rs n) → AreLow rs
+placed_low [] n h = tt
+placed_low (r ∷ rs) n h = (omega (arith, h.0, body_low r.body n), placed_low rs (n + length (body_values r.body)) h.1)
+
+pub same_size : (rs : List (Routine Constant)) (n : ℕ) → routines_size (placed_routines rs n) ≡ routines_size rs
+same_size [] n = refl
+same_size (r ∷ rs) n = omega (arith, body_sized r.body n, same_size rs (n + length (body_values r.body)))
+
+module _ (names : List Text) (globals : ℕ) (front : List Tree) (rs : List (Routine Constant)) where
+  abbrev p : Program
+  p = program_with names globals front rs
+
+  abbrev before : ℕ
+  before = length front
+
+  -- ---- the values of a body can be constants
+
+  abbrev Pooled : List Tree → Type 0
+  Pooled ts = AllByRecursion IsPooled ts
+
+  constant_pooled : (k : Constant) → ConstantLawful before globals k → Pooled (constant_values k)
+  constant_pooled (own v) h = (h, tt)
+  constant_pooled (known i) h = tt
+
+  text_pooled : (k : Constant) → TextLawful before globals k → Pooled (constant_values k)
+  text_pooled k h = search (arith, rules)
+
+  mutual
+    expr_pooled : (e : SlotExpr Constant) → ExprLawful before globals e → Pooled (expr_values e)
+    expr_pooled (slots.pooled k) h = constant_pooled k h
+    expr_pooled (slots.variable s) h = tt
+    expr_pooled (slots.field f) h = tt
+    expr_pooled slots.absent h = tt
+    expr_pooled (slots.made k es) h = row_pooled es h
+    expr_pooled (slots.conjunction a b) h =
+        all_append IsPooled (expr_values a) (expr_values b) (expr_pooled a h.0) (expr_pooled b h.1)
+    expr_pooled (slots.disjunction a b) h =
+        all_append IsPooled (expr_values a) (expr_values b) (expr_pooled a h.0) (expr_pooled b h.1)
+    expr_pooled (slots.choice c a b) h =
+        all_append IsPooled (expr_values c) (expr_values a ++ expr_values b) (expr_pooled c h.0)
+        (all_append IsPooled (expr_values a) (expr_values b) (expr_pooled a h.1) (expr_pooled b h.2))
+    expr_pooled (slots.invoke u escaping es) h = row_pooled es h
+
+    row_pooled : (es : SRow Constant) → RowLawful before globals es → Pooled (row_values es)
+    row_pooled slots.none h = tt
+    row_pooled (slots.item e es) h =
+        all_append IsPooled (expr_values e) (row_values es) (expr_pooled e h.0) (row_pooled es h.1)
+    row_pooled (slots.aside i e es) h =
+        all_append IsPooled (expr_values e) (row_values es) (expr_pooled e h.0) (row_pooled es h.1)
+
+  condition_pooled : (c : Option (SlotExpr Constant)) → ConditionLawful before globals c → Pooled (condition_values c)
+  condition_pooled None h = tt
+  condition_pooled (Some c) h = expr_pooled c h
+
+  mutual
+    stmt_pooled : (s : SlotStmt Constant) → StmtLawful before globals s → Pooled (stmt_values s)
+    stmt_pooled (slots.put_pooled k) h = text_pooled k h
+    stmt_pooled (slots.print q escaping e) h = expr_pooled e h
+    stmt_pooled (slots.assign q xs e) h = expr_pooled e h.1
+    stmt_pooled (slots.if_else q c a b) h =
+        all_append IsPooled (expr_values c) (body_values a ++ body_values b) (expr_pooled c h.0)
+        (all_append IsPooled (body_values a) (body_values b) (body_pooled a h.1) (body_pooled b h.2))
+    stmt_pooled (slots.for_each q xs e c body other) h =
+        search (arith, rules, all_append, expr_pooled, condition_pooled, body_pooled body h.3, body_pooled other h.4)
+    stmt_pooled (slots.capture escaping s body) h = body_pooled body h.1
+    stmt_pooled (slots.run u es) h = row_pooled es h.0
+
+    body_pooled : (b : SBody Constant) → BodyLawful before globals b → Pooled (body_values b)
+    body_pooled slots.end h = tt
+    body_pooled (slots.stmt s rest) h =
+        all_append IsPooled (stmt_values s) (body_values rest) (stmt_pooled s h.0) (body_pooled rest h.1)
+
+  routines_pooled : (qs : List (Routine Constant)) → AllByRecursion (RoutineLawful before globals) qs
+      → Pooled (routines_values qs)
+  routines_pooled [] h = tt
+  routines_pooled (r ∷ qs) h =
+      all_append IsPooled (body_values r.body) (routines_values qs) (body_pooled r.body h.0.body)
+      (routines_pooled qs h.1)
+
+  -- ---- the trees fit a routine with `count` locals
+
+  module _ (count : ℕ) where
+    slot_fits : (s : Slot) → SlotLawful before globals s → slot_locals s ≤ count → SlotFits p count s
+    slot_fits (local i) h le = omega (arith, le)
+    slot_fits (global i) h le = h
+
+    constant_fits : (k : Constant) (n : ℕ) → ConstantLawful before globals k → PoolAt p.pool n (constant_values k)
+        → placed k n < length p.pool
+    constant_fits (own v) n h at = slice_get_within p.pool n v at.0
+    constant_fits (known i) n h at = omega (arith, h, length-append front (routines_values rs))
+
+    text_fits : (k : Constant) (n : ℕ) → TextLawful before globals k → PoolAt p.pool n (constant_values k)
+        → TextFits p count (placed k n)
+    text_fits (own (tree.text t)) n h at = (t, at.0)
+    text_fits (own v) n h at = absurd h
+    text_fits (known i) n h at = absurd h
+
+    called : (o : Option (Routine ℕ)) (u i : ℕ) → slice_get p.routines u ≡ o → HasParameters o i
+        → TakesRow p.routines u i
+    called None u i e t = absurd t
+    called (Some r) u i e t = record { routine = r; is = e; parameters = t }
+
+    call_fits : (u : ℕ) (es : SRow Constant) (n : ℕ)
+        → HasParameters (slice_get p.routines u) (row_count (placed_row es n))
+        → TakesRow p.routines u (row_count (placed_row es n))
+    call_fits u es n t = called (slice_get p.routines u) u (row_count (placed_row es n)) refl t
+
+    nary_op_fits : (k : NaryOp) (i : ℕ) → NaryOpTakes the_filters k i → NaryOpFits k i
+    unfolding the_filters
+    nary_op_fits k i t = search (arith, rules)
+
+    mutual
+      expr_fits : (e : SlotExpr Constant) (inside : Bool) (n : ℕ)
+          → ExprTakes the_filters p.routines inside (placed_expr e n) → ExprLawful before globals e
+          → PoolAt p.pool n (expr_values e) → expr_locals e ≤ count → ExprFits p count inside (placed_expr e n)
+      expr_fits (slots.pooled k) inside n t h at le = constant_fits k n h at
+      expr_fits (slots.variable s) inside n t h at le = slot_fits s h le
+      expr_fits (slots.field f) inside n t h at le = t
+      expr_fits slots.absent inside n t h at le = t
+      expr_fits (slots.made k es) inside n t h at le =
+          (nary_op_fits k (row_count (placed_row es n)) t.0, row_fits es inside n t.1 h at le)
+      expr_fits (slots.conjunction a b) inside n t h at le = (
+        expr_fits a inside n t.0 h.0 (pool_front p.pool n (expr_values a) (expr_values b) at) (omega (arith, le)),
+        expr_fits b inside (n + length (expr_values a)) t.1 h.1
+            (pool_back p.pool n (expr_values a) (expr_values b) at) (omega (arith, le)),
+      )
+      expr_fits (slots.disjunction a b) inside n t h at le = (
+        expr_fits a inside n t.0 h.0 (pool_front p.pool n (expr_values a) (expr_values b) at) (omega (arith, le)),
+        expr_fits b inside (n + length (expr_values a)) t.1 h.1
+            (pool_back p.pool n (expr_values a) (expr_values b) at) (omega (arith, le)),
+      )
+      expr_fits (slots.choice c a b) inside n t h at le =
+          search
+          (arith, rules, pool_back, expr_fits c inside n t.0 h.0, pool_front, expr_fits a inside, expr_fits b inside)
+      expr_fits (slots.invoke u escaping es) inside n t h at le =
+          (call_fits u es n t.0, row_fits es inside n t.1 h at le)
+
+      row_fits : (es : SRow Constant) (inside : Bool) (n : ℕ) → RowTakes the_filters p.routines inside (placed_row es n)
+          → RowLawful before globals es → PoolAt p.pool n (row_values es) → row_locals es ≤ count
+          → RowFits p count inside (placed_row es n)
+      row_fits slots.none inside n t h at le = tt
+      row_fits (slots.item e es) inside n t h at le = (
+        expr_fits e inside n t.0 h.0 (pool_front p.pool n (expr_values e) (row_values es) at) (omega (arith, le)),
+        row_fits es inside (n + length (expr_values e)) t.1 h.1
+            (pool_back p.pool n (expr_values e) (row_values es) at) (omega (arith, le)),
+      )
+      row_fits (slots.aside i e es) inside n t h at le =
+          search (
+            arith,
+            rules,
+            expr_fits e inside n t.0 h.0,
+            pool_front,
+            row_fits es inside (n + length (expr_values e)) t.1 h.1,
+            pool_back,
+          )
+
+    each_fits : (ss : List (Option Slot)) → OfSlots (SlotLawful before globals) ss → slots_locals ss ≤ count
+        → OfSlots (SlotFits p count) ss
+    each_fits [] h le = tt
+    each_fits (None ∷ ss) h le = (tt, each_fits ss h.1 le)
+    each_fits (Some s ∷ ss) h le = (slot_fits s h.0 (omega (arith, le)), each_fits ss h.1 (omega (arith, le)))
+
+    targets_fit : (xs : Targets) → OfTargets (SlotLawful before globals) xs → targets_locals xs ≤ count
+        → OfTargets (SlotFits p count) xs
+    targets_fit (slots.one s) h le = slot_fits s h le
+    targets_fit (slots.several ss) h le = each_fits ss h le
+
+    condition_fits : (c : Option (SlotExpr Constant)) (n : ℕ)
+        → ConditionTakes the_filters p.routines (placed_condition c n) → ConditionLawful before globals c
+        → PoolAt p.pool n (condition_values c) → condition_locals c ≤ count
+        → ConditionFits p count (placed_condition c n)
+    condition_fits None n t h at le = tt
+    condition_fits (Some c) n t h at le = expr_fits c false n t h at le
+
+    mutual
+      stmt_fits : (s : SlotStmt Constant) (inside : Bool) (n : ℕ)
+          → StmtTakes the_filters p.routines inside (placed_stmt s n) → StmtLawful before globals s
+          → PoolAt p.pool n (stmt_values s) → stmt_locals s ≤ count → StmtFits p count inside (placed_stmt s n)
+      stmt_fits (slots.put_pooled k) inside n t h at le = text_fits k n h at
+      stmt_fits (slots.print q escaping e) inside n t h at le = expr_fits e inside n t h at le
+      stmt_fits (slots.assign q xs e) inside n t h at le =
+          (targets_fit xs h.0 (omega (arith, le)), expr_fits e inside n t h.1 at (omega (arith, le)))
+      stmt_fits (slots.if_else q c a b) inside n t h at le =
+          search (arith, rules, pool_back, expr_fits, pool_front, body_fits a inside, body_fits b inside)
+      stmt_fits (slots.for_each q xs e c body other) inside n t h at le =
+          search (
+            arith,
+            rules,
+            pool_back,
+            targets_fit,
+            expr_fits,
+            pool_front,
+            condition_fits,
+            body_fits body true,
+            body_fits other inside,
+          )
+      stmt_fits (slots.capture escaping s body) inside n t h at le =
+          (slot_fits s h.0 (omega (arith, le)), body_fits body inside n t h.1 at (omega (arith, le)))
+      stmt_fits (slots.run u es) inside n t h at le =
+          (call_fits u es n t.0, row_fits es inside n t.1 h.0 at le, bare_placed es n h.1)
+
+      body_fits : (b : SBody Constant) (inside : Bool) (n : ℕ)
+          → BodyTakes the_filters p.routines inside (placed_body b n) → BodyLawful before globals b
+          → PoolAt p.pool n (body_values b) → body_locals b ≤ count → BodyFits p count inside (placed_body b n)
+      body_fits slots.end inside n t h at le = tt
+      body_fits (slots.stmt s rest) inside n t h at le = (
+        stmt_fits s inside n t.0 h.0 (pool_front p.pool n (stmt_values s) (body_values rest) at)
+            (omega (arith, le)),
+        body_fits rest inside (n + length (stmt_values s)) t.1 h.1
+            (pool_back p.pool n (stmt_values s) (body_values rest) at) (omega (arith, le)),
+      )
+
+  -- ---- the whole program
+
+  routine_fits : AreLawful names globals front rs → AreLow rs → (u : ℕ) (q : Routine ℕ)
+      → slice_get p.routines u ≡ Some q → RoutineFits p q
+  routine_fits lawful low u q e =
+      let x = placed_was rs before u q p.pool e (pool_whole (routines_values rs) front) in
+      let r = x.0 in
+      let law = all_get (RoutineLawful before globals) rs u r lawful.routines x.2 in
+      let takes = subst (λ (z : Routine ℕ). BodyTakes the_filters p.routines false z.body) (sym x.3)
+      (all_get (λ (z : Routine ℕ). BodyTakes the_filters p.routines false z.body) p.routines u q lawful.takes e) in
+      let below = all_get (λ (z : Routine Constant). body_height z.body ≤ max_entries) rs u r low x.2 in
+      let same : body_height (placed_body r.body x.1) ≡ body_height r.body = body_low r.body x.1 in
+      record {
+        body = subst (λ (z : Routine ℕ). BodyFits p z.locals false z.body) x.3
+            (body_fits r.locals r.body false x.1 takes law.body x.4 law.locals);
+        low = subst (λ (z : Routine ℕ). body_height z.body ≤ max_entries) x.3 (omega (arith, below, same));
+      }
+
+  pub lawful_fits : AreLawful names globals front rs → AreLow rs → ProgramFits p
+  lawful_fits lawful low =
+      let first = placed_is rs before 0 lawful.entry lawful.is_entry in
+      record {
+        routines = routine_fits lawful low;
+        entry = placed_routine lawful.entry first.0;
+        is_entry = first.1;
+        pooled =
+            λ i t e. all_get IsPooled p.pool i t
+            (all_append IsPooled front (routines_values rs) lawful.pooled (routines_pooled rs lawful.routines)) e;
+        names = lawful.few;
+      }

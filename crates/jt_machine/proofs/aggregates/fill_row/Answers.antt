@@ -1,0 +1,78 @@
+use Rattle.std.proofs.Common.{◌≡◌, ◌∙◌, ◌-◌, ◌+◌, ◌∷◌, ℕ, suc, Some, List, length, map, take, drop, refl, sym, ap}
+use Rattle.std.proofs.Common.{arith}
+use Rattle.std.specs.Prelude.{slice_set}
+use Rattle.std.proofs.Math.ListN.{length-set}
+use Rattle.jt_value.specs.View.{view}
+use Rattle.jt_value.specs.declared.value.Value.{Value}
+use Rattle.jt_image.specs.Config.{StackEntry, Caller, value}
+use Rattle.jt_machine.specs.Activations.{Activations, with_running}
+use Rattle.jt_machine.specs.View.{values_on}
+use Rattle.jt_machine.proofs.TopValues.{row_set, row_none}
+use Rattle.jt_machine.proofs.PoppedValues.{found, more_is, one_taken, values_are}
+use Rattle.jt_machine.proofs.aggregates.fill_row.Goals as goal
+
+pub pop-requires : goal.pop-requires
+pop-requires c =
+    let left : c.args.count - c.values.taken ≡ suc (c.args.count - (c.values.taken + 1)) =
+    omega (arith, c.values-test.true) in
+    more_is _ _ (map view (drop (c.args.count - c.values.taken) (take c.args.count c.values.row))) c.requires.has.values
+    c.values.stack.running c.requires.has.rest left (c.values.invariant.left ∙ c.requires.has.is)
+
+pub values-init : goal.values-init
+values-init c =
+    let n : c.args.count - 0 ≡ c.args.count = omega arith in
+    let row = take c.args.count c.args.row.now in
+    record {
+      left =
+          ap (λ (m : ℕ). found m (map view (drop m row)) c.args.stack.now.running) n
+          ∙ ap (λ (vs : List Value). found c.args.count (map view vs) c.args.stack.now.running)
+          (row_none c.args.count c.args.row.now);
+      callers = refl;
+      len = refl;
+    }
+
+pub values-preserved : goal.values-preserved
+values-preserved c =
+    let n = c.args.count in
+    let p = n - (c.values.taken + 1) in
+    let row = c.values.row in
+    let v = c.pop.result in
+    let left : n - c.values.taken ≡ suc p = omega (arith, c.values-test.true) in
+    let place : (n - 1) - c.values.taken ≡ p = omega arith in
+    let len : length row ≡ length c.args.row.now = c.values.invariant.len in
+    let top : c.values.stack.running ≡ value (view v) ∷ c.pop.new.self.running =
+    ap (λ (a : Activations). a.running) c.pop.ensures in
+    let same : c.values.stack.callers ≡ c.pop.new.self.callers = ap (λ (a : Activations). a.callers) c.pop.ensures in
+    let written : drop p (take n (slice_set row p v)) ≡ v ∷ drop (suc p) (take n row) =
+    row_set n p row v (omega (arith, c.values-test.true)) (omega (arith, len, c.requires.room)) in
+    let before : found (suc p) (map view (drop (suc p) (take n row))) c.values.stack.running
+    ≡ values_on n c.args.stack.now.running = rw left at c.values.invariant.left in
+    record {
+      left =
+          ap (λ (q : ℕ). found p (map view (drop p (take n (slice_set row q v)))) c.pop.new.self.running) place
+          ∙ ap (λ (vs : List Value). found p (map view vs) c.pop.new.self.running) written
+          ∙ sym (one_taken (suc p) p (map view (drop (suc p) (take n row))) c.values.stack.running
+          c.pop.new.self.running (view v) refl top)
+          ∙ before;
+      callers = sym same ∙ c.values.invariant.callers;
+      len = simp length-set len;
+    }
+
+pub returns-clause-values : goal.returns-clause-values
+returns-clause-values c =
+    let none : c.args.count - c.values.taken ≡ 0 = omega (arith, c.values-test.false) in
+    let vs = map view (take c.args.count c.values.row) in
+    let there : values_on c.args.count c.args.stack.now.running ≡ Some (vs, c.values.stack.running) =
+    sym (rw none at c.values.invariant.left) in
+    sym (values_are c.args.count c.args.stack.now.running vs c.values.stack.running there).0
+
+pub returns-clause-taken : goal.returns-clause-taken
+returns-clause-taken c =
+    let none : c.args.count - c.values.taken ≡ 0 = omega (arith, c.values-test.false) in
+    let vs = map view (take c.args.count c.values.row) in
+    let there : values_on c.args.count c.args.stack.now.running ≡ Some (vs, c.values.stack.running) =
+    sym (rw none at c.values.invariant.left) in
+    ap (λ (cs : List Caller). let a : Activations = record { running = c.values.stack.running; callers = cs } in a)
+    c.values.invariant.callers
+    ∙ ap (λ (es : List StackEntry). with_running es c.args.stack.now)
+    (sym (values_are c.args.count c.args.stack.now.running vs c.values.stack.running there).1)

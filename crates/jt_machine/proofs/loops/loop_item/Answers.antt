@@ -1,0 +1,12 @@
+use Rattle.std.proofs.Common.{◌≢◌}
+use Rattle.jt_machine.specs.Entries.{values_view}
+use Rattle.jt_machine.proofs.StepLemmas.{item_suc}
+use Rattle.jt_machine.proofs.loops.loop_item.Goals as goal
+
+pub returns-then-number-eq0 : goal.returns-then-number-eq0
+returns-then-number-eq0 c = rw c.if-number-eq0.true c.within.ensures
+
+pub returns : goal.returns
+returns c =
+    let some : c.args.number ≢ 0 = c.if-number-eq0.false in
+    rw (← item_suc c.args.number (values_view c.args.items.now) some) c.item_after.ensures

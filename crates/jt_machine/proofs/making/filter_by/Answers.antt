@@ -1,5 +1,0 @@
-use Rattle.jt_image.proofs.ById.{filter_is}
-use Rattle.jt_machine.proofs.making.filter_by.Goals as goal
-
-pub returns : goal.returns
-returns c = filter_is c.args.id c.by_id.result c.by_id.ensures.found c.by_id.ensures.only

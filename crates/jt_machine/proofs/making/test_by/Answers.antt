@@ -1,5 +1,0 @@
-use Rattle.jt_image.proofs.ById.{test_is}
-use Rattle.jt_machine.proofs.making.test_by.Goals as goal
-
-pub returns : goal.returns
-returns c = test_is c.args.id c.by_id.result c.by_id.ensures.found c.by_id.ensures.only

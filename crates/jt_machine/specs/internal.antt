@@ -1,0 +1,8 @@
+pub mod ConstantCache
+pub mod FastPath
+pub mod FilterCalls
+pub mod Iterating
+pub mod Making
+pub mod Members
+pub mod Numbers
+pub mod StackView

@@ -1,0 +1,396 @@
+//! Executes instructions that make one value from several: operators, filters, tests, lists and
+//! maps.
+ghost use Rattle.std.specs.Prelude.{◌≡◌, ◌≤◌, ◌+◌, ◌<◌, ◌^◌, ◌∷◌, [], true, length, map, take};
+ghost use Rattle.std.specs.Prelude.{List, Result, Some, None, IfOk};
+ghost use Rattle.jt_value.specs.Tree as tree;
+ghost use Rattle.jt_value.specs.Tree.{Tree};
+ghost use Rattle.jt_value.specs.View.{view};
+ghost use Rattle.jt_value.specs.declared.fault.Fault.{Fault};
+ghost use Rattle.jt_ops.specs.Limited.{limited, limited_by, Answers};
+ghost use Rattle.jt_op_semantics.specs.Operation.{operation};
+ghost use Rattle.jt_ids.specs.OpTable.{op_operands};
+ghost use Rattle.jt_op_semantics.specs.Testing.{tested as tested_of};
+ghost use Rattle.jt_ops.specs.Limited.{as_answer};
+ghost use Rattle.jt_ids.specs.TestTable.{test_values};
+ghost use Rattle.jt_image.specs.Ids.{operator_of, filter_of, test_of};
+ghost use Rattle.jt_image.specs.Step.{listed, mapped};
+ghost use Rattle.jt_image.specs.Run.{limit_of};
+ghost use Rattle.jt_machine.specs.Activations.{with_running};
+ghost use Rattle.jt_machine.specs.internal.FilterCalls.{IsCallable, called};
+ghost use Rattle.jt_machine.specs.InstructionSteps.{make, made, operate as operate_next};
+ghost use Rattle.jt_machine.specs.InstructionSteps.{apply_filter as filter_next};
+ghost use Rattle.jt_machine.specs.InstructionSteps.{apply_test as test_next, answering};
+ghost use Rattle.jt_machine.specs.InstructionSteps.{push as pushes, step_on as steps_on, values_at};
+ghost use Rattle.jt_machine.specs.InstructionSteps.{below};
+ghost use Rattle.jt_machine.specs.View.{budget_view, config_view, IsNext, continues, values_on};
+ghost use Rattle.jt_machine.specs.View.{HasValues, IsReady, IsBounded};
+
+use crate::charging::{charge_fuel, push, push_checked};
+use crate::limits::list_limit;
+use crate::maps::{map_of, map_refusal};
+use crate::measure::sizes;
+use crate::outcome::Outcome;
+use crate::stack::Stack;
+use crate::state::State;
+use jt_budget::{Budget, Spent};
+use jt_filters::{
+    FilterId, Limits, OpError, OpId, TestId, apply, binary_owned, range, test, unary,
+};
+use jt_value::{NoMemory, Value};
+use std::alloc::Global;
+use std::array::from_fn;
+
+// Pops `count` values and returns them, the deepest first.
+pub(crate) fn take_values(
+    alloc: Global,
+    stack: &mut Stack,
+    count: usize,
+) -> Result<Vec<Value>, NoMemory>
+    requires { HasValues count stack.old.running }
+    ensures taken { IfOk result
+        (λ vs. values_on count stack.old.running ≡ Some (map view vs.items, stack.new.running)) }
+    ensures callers { stack.new.callers ≡ stack.old.callers }
+{
+    let mut values = Vec::new(alloc);
+    'values: for _ in 0..count {
+        values.push(stack.pop())?;
+    }
+    values.reverse();
+    Ok(values)
+}
+
+// Charges the fuel for an instruction that reads the top `count` values whole. Returns the outcome
+// if the fuel does not suffice. The values stay on the stack.
+fn charge_for_values(state: &mut State, count: usize) -> Option<Outcome>
+    requires has { HasValues count state.old.stack.running }
+    requires bounded { IsBounded state.old }
+    ensures rest { (f : List Tree → Result Tree Fault)
+        → make count f (config_view state.old) ≡ continues result state.new (made count f) }
+    ensures same { state.new ≡ record state.old { left = state.new.left } }
+{
+    // Read only so that the prover knows that the limit has 32 bits: the sum of the sizes is then
+    // exact.
+    let _size = state.left.size;
+    let total = sizes(state.stack.top_entries(count));
+    charge_fuel(state, 1 + total / 64)
+}
+
+/// Pushes the result of an operation and goes on, or returns how the run ends.
+pub(crate) fn push_answer(
+    state: &mut State,
+    answer: Result<Value, OpError>,
+) -> Result<Option<Outcome>, NoMemory>
+    requires room { state.old.point + 1 < 2 ^ 64 }
+    requires fits { IfOk answer (λ v. limit_of (budget_view state.old.left) (view v) ≡ None) }
+    ensures { (r : Result Tree Fault)
+        → Answers answer (limited state.old.left.size state.old.left.nesting r)
+        → IsNext result state.new (answering r (λ t. pushes t (config_view state.old) steps_on)) }
+{
+    match answer {
+        Ok(value) => push_checked(state, value),
+        Err(OpError::Fault(fault)) => Ok(Some(Outcome::Fault(fault, None))),
+        Err(OpError::TooLarge) => Ok(Some(Outcome::Spent(Spent::Size))),
+        Err(OpError::TooDeep) => Ok(Some(Outcome::Spent(Spent::Nesting))),
+        Err(OpError::NoMemory) => Err(NoMemory),
+    }
+}
+
+// Pops the top value.
+fn pop_one(stack: &mut Stack) -> Value
+    requires { HasValues 1 stack.old.running }
+    ensures values { values_at 1 stack.old.running ≡ view result ∷ [] }
+    ensures taken { stack.new ≡ with_running (below 1 stack.old.running) stack.old }
+{
+    stack.pop()
+}
+
+// Pops two values and returns them, the deeper one first.
+fn pop_two(stack: &mut Stack) -> (Value, Value)
+    requires { HasValues 2 stack.old.running }
+    ensures values { values_at 2 stack.old.running ≡ view result.0 ∷ view result.1 ∷ [] }
+    ensures taken { stack.new ≡ with_running (below 2 stack.old.running) stack.old }
+{
+    let last = stack.pop();
+    let first = stack.pop();
+    (first, last)
+}
+
+// Pops three values and returns them, the deepest first.
+fn pop_three(stack: &mut Stack) -> (Value, Value, Value)
+    requires { HasValues 3 stack.old.running }
+    ensures values { values_at 3 stack.old.running
+        ≡ view result.0 ∷ view result.1 ∷ view result.2 ∷ [] }
+    ensures taken { stack.new ≡ with_running (below 3 stack.old.running) stack.old }
+{
+    let last = stack.pop();
+    let second = stack.pop();
+    let first = stack.pop();
+    (first, second, last)
+}
+
+// Pops the operands of an operator and returns its result.
+fn operated(
+    alloc: Global,
+    operator: OpId,
+    stack: &mut Stack,
+    limits: Limits,
+) -> Result<Value, OpError>
+    requires { HasValues (op_operands operator) stack.old.running }
+    ensures answers { Answers result (limited_by limits
+        (operation operator (values_at (op_operands operator) stack.old.running))) }
+    ensures taken { stack.new
+        ≡ with_running (below (op_operands operator) stack.old.running) stack.old }
+{
+    let count = operator.operands();
+    if count == 1 {
+        let operand = pop_one(stack);
+        return unary(alloc, operator, &operand, limits);
+    }
+    if count == 2 {
+        let (left, right) = pop_two(stack);
+        return binary_owned(alloc, operator, left, right, limits);
+    }
+    let (start, stop, step) = pop_three(stack);
+    range(alloc, &[start, stop, step], limits)
+}
+
+/// Returns the limits that a budget sets for values.
+pub(crate) fn limits_of(budget: &Budget) -> Limits
+    ensures size { result.size ≡ budget.now.size }
+    ensures nesting { result.nesting ≡ budget.now.nesting }
+{
+    Limits {
+        size: budget.size,
+        nesting: budget.nesting,
+    }
+}
+
+/// Pops the operands of an operator and pushes its result.
+pub(crate) fn operate(
+    alloc: Global,
+    state: &mut State,
+    operator: u8,
+) -> Result<Option<Outcome>, NoMemory>
+    requires ready { IsReady (operate_next operator (config_view state.old)) state.old }
+    requires bounded { IsBounded state.old }
+    // Allocates only if the result is within the limits.
+    ensures { IsNext result state.new (operate_next operator (config_view state.old)) }
+{
+    let Some(operator) = operator_by(operator) else {
+        unreachable!()
+    };
+    if let Some(outcome) = charge_for_values(state, operator.operands()) {
+        return Ok(Some(outcome));
+    }
+    let limits = limits_of(&state.left);
+    let answer = operated(alloc, operator, &mut state.stack, limits);
+    push_answer(state, answer)
+}
+
+// A call of a filter: the filter, its number of values, and whether it escapes.
+#[derive(Clone, Copy)]
+struct FilterCall {
+    filter: FilterId,
+    count: usize,
+    escaping: bool,
+}
+
+// Pops the values of a filter call and returns its result.
+fn filtered(
+    alloc: Global,
+    call: FilterCall,
+    stack: &mut Stack,
+    limits: Limits,
+) -> Result<Value, OpError>
+    requires { IsCallable call stack.old.running }
+    ensures answers { Answers result (limited_by limits (called call stack.old.running)) }
+    ensures taken { stack.new ≡ with_running (below call.count stack.old.running) stack.old }
+{
+    let FilterCall {
+        filter,
+        count,
+        escaping,
+    } = call;
+    if count == 1 {
+        let value = pop_one(stack);
+        return apply(alloc, filter, &[value], escaping, limits);
+    }
+    if count == 2 {
+        let (value, argument) = pop_two(stack);
+        return apply(alloc, filter, &[value, argument], escaping, limits);
+    }
+    if count == 3 {
+        let (value, first, second) = pop_three(stack);
+        return apply(alloc, filter, &[value, first, second], escaping, limits);
+    }
+    filtered_many(alloc, call, stack, limits)
+}
+
+// Applies a filter to any number of values. They are held in an array of the greatest arity, so
+// nothing is allocated for them.
+#[inline(never)]
+fn filtered_many(
+    alloc: Global,
+    call: FilterCall,
+    stack: &mut Stack,
+    limits: Limits,
+) -> Result<Value, OpError>
+    requires { IsCallable call stack.old.running }
+    ensures answers { Answers result (limited_by limits (called call stack.old.running)) }
+    ensures taken { stack.new ≡ with_running (below call.count stack.old.running) stack.old }
+{
+    let mut row: [Value; 255] = from_fn(|_| Value::Undefined);
+    fill_row(stack, &mut row, call.count);
+    apply(
+        alloc,
+        call.filter,
+        &row[..call.count],
+        call.escaping,
+        limits,
+    )
+}
+
+// Pops `count` values into the first elements of `row`, the deepest first.
+fn fill_row(stack: &mut Stack, row: &mut [Value], count: usize)
+    requires has { HasValues count stack.old.running }
+    requires room { count ≤ length row.old }
+    ensures values { map view (take count row.new) ≡ values_at count stack.old.running }
+    ensures taken { stack.new ≡ with_running (below count stack.old.running) stack.old }
+    ensures len { length row.new ≡ length row.old }
+{
+    'values: for taken in 0..count {
+        row[count - 1 - taken] = stack.pop();
+    }
+}
+
+/// Pops `count` values, the input deepest, and pushes the result of a filter. The filter escapes if
+/// `flag` is 1.
+pub(crate) fn apply_filter(
+    alloc: Global,
+    state: &mut State,
+    id: u8,
+    count: usize,
+    flag: u32,
+) -> Result<Option<Outcome>, NoMemory>
+    requires ready { IsReady (filter_next id count flag (config_view state.old)) state.old }
+    requires bounded { IsBounded state.old }
+    // Allocates only if the result is within the limits.
+    ensures { IsNext result state.new (filter_next id count flag (config_view state.old)) }
+{
+    let Some(filter) = filter_by(id) else {
+        unreachable!()
+    };
+    if let Some(outcome) = charge_for_values(state, count) {
+        return Ok(Some(outcome));
+    }
+    let call = FilterCall {
+        filter,
+        count,
+        escaping: flag == 1,
+    };
+    let limits = limits_of(&state.left);
+    let answer = filtered(alloc, call, &mut state.stack, limits);
+    push_answer(state, answer)
+}
+
+// Pops the values of a test and returns whether it holds.
+fn tested(id: TestId, stack: &mut Stack, count: usize) -> Result<bool, OpError>
+    requires has { HasValues count stack.old.running }
+    requires many { count ≡ test_values id }
+    ensures answer { result ≡ as_answer (tested_of id (values_at count stack.old.running)) }
+    ensures taken { stack.new ≡ with_running (below count stack.old.running) stack.old }
+{
+    if count == 1 {
+        let value = pop_one(stack);
+        return test(id, &[value]);
+    }
+    let (value, argument) = pop_two(stack);
+    test(id, &[value, argument])
+}
+
+/// Pops `count` values, the tested one deepest, and pushes whether the test holds.
+pub(crate) fn apply_test(
+    state: &mut State,
+    id: u8,
+    count: usize,
+) -> Result<Option<Outcome>, NoMemory>
+    requires ready { IsReady (test_next id count (config_view state.old)) state.old }
+    requires bounded { IsBounded state.old }
+    ensures { IsNext result state.new (test_next id count (config_view state.old)) }
+{
+    let Some(id) = test_by(id) else {
+        unreachable!()
+    };
+    if let Some(outcome) = charge_for_values(state, count) {
+        return Ok(Some(outcome));
+    }
+    match tested(id, &mut state.stack, count) {
+        Ok(truth) => push(state, Value::Bool(truth)),
+        Err(error) => push_answer(state, Err(error)),
+    }
+}
+
+/// Pops `count` values and pushes their list.
+pub(crate) fn make_list(
+    alloc: Global,
+    state: &mut State,
+    count: usize,
+) -> Result<Option<Outcome>, NoMemory>
+    requires ready { IsReady (make count listed (config_view state.old)) state.old }
+    requires bounded { IsBounded state.old }
+    // Allocates only if the list is within the limits.
+    ensures { IsNext result state.new (make count listed (config_view state.old)) }
+{
+    if let Some(outcome) = charge_for_values(state, count) {
+        return Ok(Some(outcome));
+    }
+    if let Some(spent) = list_limit(state.stack.top_entries(count), &state.left) {
+        return Ok(Some(Outcome::Spent(spent)));
+    }
+    let values = take_values(alloc, &mut state.stack, count)?;
+    let list = Value::list(alloc, values)?;
+    push_checked(state, list)
+}
+
+/// Pops `count` values, alternately a key and its value, and pushes their map.
+pub(crate) fn make_map(
+    alloc: Global,
+    state: &mut State,
+    count: usize,
+) -> Result<Option<Outcome>, NoMemory>
+    requires ready { IsReady (make count mapped (config_view state.old)) state.old }
+    requires bounded { IsBounded state.old }
+    // Allocates only if the map is within the limits.
+    ensures { IsNext result state.new (make count mapped (config_view state.old)) }
+{
+    if let Some(outcome) = charge_for_values(state, count) {
+        return Ok(Some(outcome));
+    }
+    if let Some(outcome) = map_refusal(state.stack.top_entries(count), &state.left) {
+        return Ok(Some(outcome));
+    }
+    let values = take_values(alloc, &mut state.stack, count)?;
+    let map = map_of(alloc, values)?;
+    push_checked(state, map)
+}
+
+/// Returns the operator of an id.
+pub(crate) fn operator_by(id: u8) -> Option<OpId>
+    ensures { result ≡ operator_of id }
+{
+    OpId::by_id(id)
+}
+
+// Returns the filter of an id.
+fn filter_by(id: u8) -> Option<FilterId>
+    ensures { result ≡ filter_of id }
+{
+    FilterId::by_id(id)
+}
+
+// Returns the test of an id.
+fn test_by(id: u8) -> Option<TestId>
+    ensures { result ≡ test_of id }
+{
+    TestId::by_id(id)
+}

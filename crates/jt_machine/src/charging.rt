@@ -1,0 +1,88 @@
+//! Charges the budget for what most instructions do: a step, a pushed value, and output.
+ghost use Rattle.std.specs.Prelude.{◌≡◌, ◌+◌, ◌/◌, ◌<◌, ◌≤◌, ◌^◌, None};
+ghost use Rattle.jt_value.specs.Tree.{size};
+ghost use Rattle.jt_value.specs.View.{view};
+ghost use Rattle.jt_image.specs.Config.{Config};
+ghost use Rattle.jt_image.specs.Run.{Next, limit_of};
+ghost use Rattle.jt_machine.specs.InstructionSteps.{step_on as steps_on, charge_fuel as pays};
+ghost use Rattle.jt_machine.specs.InstructionSteps.{push as pushes, put as puts};
+ghost use Rattle.jt_machine.specs.View.{budget_view, config_view, next_view, IsNext, continues};
+
+use crate::entries::StackEntry;
+use crate::limits::exceeded_limit;
+use crate::outcome::Outcome;
+use crate::state::State;
+use jt_value::{NoMemory, Value};
+
+/// Goes to the next instruction.
+#[inline(always)]
+pub(crate) fn step_on(state: &mut State) -> Option<Outcome>
+    requires { state.old.point + 1 < 2 ^ 64 }
+    ensures { steps_on (config_view state.old) ≡ next_view result state.new }
+{
+    state.point += 1;
+    None
+}
+
+/// Takes `cost` from the fuel, or returns the outcome if the fuel does not suffice.
+pub(crate) fn charge_fuel(state: &mut State, cost: u64) -> Option<Outcome>
+    ensures rest { (go : Config → Next)
+        → pays cost (config_view state.old) go ≡ continues result state.new go }
+    ensures same { state.new ≡ record state.old { left = state.new.left } }
+    ensures depth { state.new.left.depth ≡ state.old.left.depth }
+{
+    match state.left.charge(cost) {
+        Ok(()) => None,
+        Err(spent) => Some(Outcome::Spent(spent)),
+    }
+}
+
+/// Charges the fuel for an instruction that reads a whole value, or returns the outcome if the fuel
+/// does not suffice.
+pub(crate) fn charge_for(state: &mut State, value: &Value) -> Option<Outcome>
+    requires { size (view value.now) ≤ state.old.left.size }
+    ensures rest { (go : Config → Next)
+        → pays (1 + size (view value.now) / 64) (config_view state.old) go
+        ≡ continues result state.new go }
+    ensures same { state.new ≡ record state.old { left = state.new.left } }
+{
+    // Read only so that the prover knows that the limit has 32 bits: the counted size is then
+    // exact.
+    let _limit = state.left.size;
+    charge_fuel(state, 1 + value.size() / 64)
+}
+
+/// Pushes a value and goes on, or returns the outcome if the value exceeds a limit.
+pub(crate) fn push(state: &mut State, value: Value) -> Result<Option<Outcome>, NoMemory>
+    requires { state.old.point + 1 < 2 ^ 64 }
+    // Allocates only if the value is within the limits.
+    ensures { IsNext result state.new (pushes (view value) (config_view state.old) steps_on) }
+{
+    if let Some(spent) = exceeded_limit(&value, &state.left) {
+        return Ok(Some(Outcome::Spent(spent)));
+    }
+    push_checked(state, value)
+}
+
+/// Pushes a value that is within the limits, and goes on.
+pub(crate) fn push_checked(state: &mut State, value: Value) -> Result<Option<Outcome>, NoMemory>
+    requires room { state.old.point + 1 < 2 ^ 64 }
+    requires fits { limit_of (budget_view state.old.left) (view value) ≡ None }
+    ensures { IsNext result state.new (pushes (view value) (config_view state.old) steps_on) }
+{
+    state.stack.push(StackEntry::Value(value))?;
+    Ok(step_on(state))
+}
+
+/// Emits a text to the buffer and goes on, or returns the outcome if the text does not fit.
+pub(crate) fn put(state: &mut State, text: &str) -> Result<Option<Outcome>, NoMemory>
+    requires { state.old.point + 1 < 2 ^ 64 }
+    // Allocates only if the text fits.
+    ensures { IsNext result state.new (puts text.now (config_view state.old) steps_on) }
+{
+    if let Err(spent) = state.left.emit(text.len() as u64) {
+        return Ok(Some(Outcome::Spent(spent)));
+    }
+    state.buffer.push_str(text)?;
+    Ok(step_on(state))
+}

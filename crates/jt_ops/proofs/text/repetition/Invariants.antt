@@ -1,6 +1,0 @@
-use Rattle.std.proofs.Common.{◌≡◌, string_bytes}
-use Rattle.std.specs.List.{repeat}
-use Rattle.jt_ops.proofs.text.repetition.Given as goal
-
-abbrev pub invariant-loop : goal.invariant-loop
-invariant-loop l = string_bytes l.repeated ≡ repeat l.counter l.text

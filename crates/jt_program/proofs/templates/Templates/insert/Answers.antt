@@ -1,6 +1,0 @@
-use Rattle.std.proofs.Common.{string_bytes}
-use Rattle.jt_program.proofs.Taking.{others_stay}
-use Rattle.jt_program.proofs.templates.Templates.insert.Goals as goal
-
-pub returns-clause-others : goal.returns-clause-others
-returns-clause-others c = others_stay (string_bytes c.args.name) c.args.self.now.sources c.insert.new.self _ c.in_ok-insert.ensures.updates

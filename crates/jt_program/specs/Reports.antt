@@ -1,0 +1,91 @@
+-- The reports of an ending: its status, and what both outputs take.
+use Rattle.std.specs.Prelude.{◌≡◌, ◌≢◌, ◌⊎◌, ℕ, Bool, true, false, List, [], ◌∷◌, ◌++◌, Option, option_map, Result, Ok}
+use Rattle.std.specs.Prelude.{Err, codes, string_bytes}
+use Rattle.std.specs.Borrow.{Bor}
+use Rattle.std.specs.Io.KnownBytes.{Appends, Keeps}
+use Rattle.jt_ast.specs.Expressions.{Text}
+use Rattle.jt_value.specs.Place.{Place}
+use Rattle.jt_value.specs.declared.Fault.{Fault}
+use Rattle.jt_image.specs.Config.{Limit}
+use Rattle.jt_machine.specs.Sinks.{TookFront}
+use Rattle.jt_machine.specs.View.{limit_view, place_view}
+use Rattle.jt_turns.specs.Lines.{placed_fault, limit_name}
+use Rattle.jt_turns.specs.Shown.{one_line}
+use Rattle.jt_host.specs.declared.CallError.TheVariants as call_error
+use Rattle.jt_program.specs.declared.messages.Failure.{Failure}
+use Rattle.jt_program.specs.declared.messages.Failure.TheVariants as failure
+use Rattle.jt_program.specs.Commands.{Ending}
+use Rattle.jt_program.specs.Ending.{code_of, status_of}
+
+-- The status, and what standard output takes: the whole text of a command that succeeded, with
+-- status 0; a beginning of it, with status 5 and only if the sink has failed; nothing for a command
+-- that failed.
+abbrev pub Prints : Option (List ℕ) → Option (List ℕ) → Bool → Ending → ℕ → Type 0
+Prints old new sink_failed (Ok text) status =
+    ((status ≡ 0) × (sink_failed ≡ false) × Appends old new (string_bytes text))
+    ⊎ ((status ≡ 5) × (sink_failed ≡ true) × TookFront (string_bytes text) old new)
+Prints old new sink_failed (Err e) status = (status ≡ code_of (status_of e)) × Keeps old new
+
+-- ---- standard error
+
+-- The sink works and has taken all of these bytes, or it has failed and has taken a beginning of
+-- them.
+abbrev pub TookUnlessFailed : List ℕ → Option (List ℕ) → Option (List ℕ) → Bool → Type 0
+TookUnlessFailed all old new sink_failed =
+    ((sink_failed ≡ false) × Appends old new all) ⊎ ((sink_failed ≡ true) × TookFront all old new)
+
+-- The sink has taken all of these bytes on success. On an error it has failed, and has taken a
+-- beginning of them.
+abbrev pub Puts : {E : Type 0} → List ℕ → Option (List ℕ) → Option (List ℕ) → Bool
+    → Result (Unit {0}) E → Type 0
+Puts all old new sink_failed (Ok u) = (sink_failed ≡ false) × Appends old new all
+Puts all old new sink_failed (Err e) = (sink_failed ≡ true) × TookFront all old new
+
+-- The texts in order, as one text.
+abbrev pub texts_of : List (Bor Text) → Text
+texts_of [] = []
+texts_of (text ∷ []) = text.now
+texts_of (text ∷ next ∷ rest) = text.now ++ texts_of (next ∷ rest)
+
+-- The line of a fault, with its place if it has one.
+abbrev pub fault_line : Fault → Option Place → Text
+fault_line fault place = one_line (codes "jt: fault " ++ placed_fault fault place)
+
+-- The line of a number of the budget that was spent.
+abbrev pub spent_line : Limit → Text
+spent_line limit = one_line (codes "jt: spent " ++ limit_name limit)
+
+-- The line of a file.
+abbrev pub file_line : Text → Text
+file_line path = one_line (codes "jt: file " ++ path)
+
+-- The line of lack of memory.
+abbrev pub memory_line : Text
+memory_line = one_line (codes "jt: no memory")
+
+-- What standard error takes: the text of the usage, or the line of a fault, a spent number, a file
+-- or lack of memory. It takes only a beginning of that if the sink has failed. Nothing is stated of
+-- the lines of refusals.
+abbrev pub ReportsFailure : Option (List ℕ) → Option (List ℕ) → Bool → Failure → Type 0
+ReportsFailure old new sink_failed (failure.Usage text) =
+    TookUnlessFailed (string_bytes text) old new sink_failed
+ReportsFailure old new sink_failed failure.Words =
+    TookUnlessFailed (one_line (codes "jt: usage")) old new sink_failed
+ReportsFailure old new sink_failed (failure.Call (call_error.Fault fault place)) =
+    TookUnlessFailed (fault_line fault (option_map place_view place)) old new sink_failed
+ReportsFailure old new sink_failed (failure.Call (call_error.Spent spent)) =
+    TookUnlessFailed (spent_line (limit_view spent)) old new sink_failed
+ReportsFailure old new sink_failed (failure.File path) =
+    TookUnlessFailed (file_line (string_bytes path)) old new sink_failed
+ReportsFailure old new sink_failed failure.Output =
+    TookUnlessFailed (file_line (codes "-")) old new sink_failed
+ReportsFailure old new sink_failed (failure.Call call_error.NoMemory) =
+    TookUnlessFailed memory_line old new sink_failed
+ReportsFailure old new sink_failed e = Unit {0}
+
+-- What standard error takes for a command that failed, or for one that succeeded but whose text
+-- could not be written.
+abbrev pub Explains : Option (List ℕ) → Option (List ℕ) → Bool → Ending → ℕ → Type 0
+Explains old new sink_failed (Ok text) status =
+    status ≢ 0 → ReportsFailure old new sink_failed failure.Output
+Explains old new sink_failed (Err e) status = ReportsFailure old new sink_failed e

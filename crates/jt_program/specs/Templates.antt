@@ -1,8 +1,0 @@
--- What contracts see of templates.
-use Rattle.std.specs.Prelude.{ℕ, List, Option, option_map, string_bytes}
-use Rattle.std.specs.BTreeMap.{get_by_text}
-use Rattle.jt_program.specs.declared.templates.Templates.{Templates}
-
--- the source of the template of a name
-abbrev pub source_of : Templates → List ℕ → Option (List ℕ)
-source_of t name = option_map string_bytes (get_by_text t.sources name)

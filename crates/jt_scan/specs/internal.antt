@@ -1,0 +1,2 @@
+pub mod PartView
+pub mod Scanning

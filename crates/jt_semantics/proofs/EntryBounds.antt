@@ -1,0 +1,415 @@
+-- A resolved tree needs at most half an entry for each of its tokens, and in addition one for each
+-- parameter that a call loads.
+use Rattle.std.proofs.Common.{◌≡◌, ℕ, zero, suc, ◌+◌, ◌*◌, max, min, ◌≤◌, Bool, true, false, if◌then◌else◌, List, []}
+use Rattle.std.proofs.Common.{◌∷◌, length, Option, Some, None, arith, refl, sym, subst, rules}
+use Rattle.std.specs.List.{AllByRecursion}
+use Rattle.jt_ids.specs.declared.test_id.TestId.{TestId}
+use Rattle.jt_ast.specs.Expressions.{Expr, constant, name, group, list_of, map_of, attribute, item, call, filter, test}
+use Rattle.jt_ast.specs.Expressions.{unary, binary, when, choice, Exprs, no_exprs, expr, Pairs, no_pairs, pair, weight}
+use Rattle.jt_ast.specs.Expressions.{enclosed, perhaps_enclosed, exprs_weight, pairs_weight, Text}
+use Rattle.jt_semantics.specs.Operators.{OperatorForm, form}
+use Rattle.jt_value.specs.Place.{Place}
+use Rattle.jt_chains.specs.Uses.{count, keywords, set_in}
+use Rattle.jt_ast.specs.Statements.{Parameter, FilterCall, Stmt, choose, for_each, set_block, with_values, filter_block}
+use Rattle.jt_ast.specs.Statements.{autoescape, block, Body, end, stmt, Branches, no_branches, branch, condition_weight}
+use Rattle.jt_ast.specs.Statements.{filter_call_weight, stmt_bound, body_bound, branch_bound}
+use Rattle.jt_chains.specs.Chain.{Sources, Namespace, a_chain, MacroBody, macro_of, is_private, public_macro}
+use Rattle.jt_chains.specs.Chain.{Definition, given, given_to, Callee, a_macro, a_range, a_super, a_block, a_cycle}
+use Rattle.jt_chains.specs.Chain.{no_callee, named_alone, of_library, in_library, named_in, callee}
+use Rattle.jt_ids.specs.declared.loop_field.LoopField.{LoopField}
+use Rattle.jt_eval.specs.Filters.{default_value, some_given}
+use Rattle.jt_rules.specs.CompileEnv.{CompileEnv}
+use Rattle.jt_semantics.specs.Expressions.{filter_parameters}
+use Rattle.jt_semantics.specs.Layout.{Table, slot_in, names, numbered_of, globals, block_parameters, default_place}
+use Rattle.jt_semantics.specs.Layout.{first_slot, unit, of_chain}
+use Rattle.jt_ir.specs.Slots as slots
+use Rattle.jt_ir.specs.Slots.{Slot, local, SlotExpr, SRow, SBody, variable, run}
+use Rattle.jt_ir.specs.Pool.{Constant, own, known}
+use Rattle.jt_semantics.specs.Resolve.{value_or, turned_round, tested_by, filtered_by, in_form, field_from, followed}
+use Rattle.jt_semantics.specs.Resolve.{locals_from, fresh_targets, set_targets, filled, filled_some, first_locals}
+use Rattle.jt_semantics.specs.Resolve.{reads, handed_on, Part, StaticEnv, place, grown, bound_all, copied, scoped}
+use Rattle.jt_semantics.specs.Resolve.{first_body, invoked_body, invoked_super, invoked, resolved, resolved_row}
+use Rattle.jt_semantics.specs.Resolve.{resolved_asides, resolved_entries, resolved_condition, resolved_filters}
+use Rattle.jt_semantics.specs.Resolve.{resolved_values, placed_body, resolved_stmt, resolved_body, resolved_choice}
+use Rattle.jt_semantics.specs.Resolve.{left_out}
+use Rattle.jt_ir.specs.Size.{targets_height, expr_height, row_height, condition_height, body_height}
+use Rattle.jt_semantics.specs.Measure.{GivenFew, HasAtMost}
+use Rattle.jt_semantics.proofs.FreeNameWeights.{stmt_free, body_free, branch_free}
+use Rattle.jt_semantics.proofs.InstructionBounds.{expr_some, operator_some, is_some_weight, kept_len, fresh_len}
+
+-- ---- Parts
+
+either_low : (b : Bool) (x y : SlotExpr Constant) (n : ℕ) → 2 * expr_height x ≤ n → 2 * expr_height y ≤ n
+    → 2 * expr_height (if b then x else y) ≤ n
+either_low true x y n h k = h
+either_low false x y n h k = k
+
+value_low : (s : Option Slot) (k : Constant) → expr_height (value_or s k) ≡ 1
+value_low None k = refl
+value_low (Some s) k = refl
+
+field_low : (f : Option LoopField) → expr_height (field_from f) ≡ 1
+field_low None = refl
+field_low (Some f) = refl
+
+turned_low : (b : Bool) (e : SlotExpr Constant) → expr_height (turned_round b e) ≤ max 1 (expr_height e)
+turned_low false e = omega arith
+turned_low true e = omega arith
+
+tested_low : (t : Option TestId) (es : SRow Constant) → expr_height (tested_by t es) ≤ max 1 (row_height es)
+tested_low None es = omega arith
+tested_low (Some t) es = omega arith
+
+filtered_low : (f : Option ℕ) (b : Bool) (es : SRow Constant) → expr_height (filtered_by f b es) ≤ max 1 (row_height es)
+filtered_low None b es = omega arith
+filtered_low (Some f) b es = omega arith
+
+form_low : (f : OperatorForm) (a b : SlotExpr Constant)
+    → expr_height (in_form f a b) ≤ max (expr_height a) (max 2 (1 + expr_height b))
+form_low f a b = search (arith, rules)
+
+filled_low : (ps : List Parameter) (n d : ℕ) (ks : Table) → row_height (filled ps n d ks) ≤ length ps
+filled_low [] n d ks = omega arith
+filled_low (p ∷ ps) (suc n) d ks = omega (arith, filled_low ps n (suc d) ks)
+filled_low (p ∷ ps) zero d ks = omega (arith, value_low (slot_in p.name ks) (known d), filled_low ps zero (suc d) ks)
+
+none_given : (ps : List Parameter) → some_given ps [] ≡ false
+none_given [] = refl
+none_given (p ∷ ps) = none_given ps
+
+-- The row of the arguments by name needs at most one entry for each parameter, and no entry if no
+-- name is given.
+some_low : (ps : List Parameter) (n : ℕ) (xs : List Text) (ks : Table) → row_height (filled_some ps n xs ks) ≤ length ps
+some_low [] n xs ks = omega arith
+some_low (p ∷ ps) (suc n) xs ks = omega (arith, some_low ps n xs ks)
+some_low (p ∷ ps) zero xs ks = search (arith, rules, some_low ps zero xs ks, value_low)
+
+none_low : (ps : List Parameter) (n : ℕ) (ks : Table) → row_height (filled_some ps n [] ks) ≡ 0
+none_low [] n ks = refl
+none_low (p ∷ ps) (suc n) ks = none_low ps n ks
+none_low (p ∷ ps) zero ks =
+    subst (λ b. row_height (if b
+    then slots.item (value_or (slot_in p.name ks) (own (default_value p.default))) (filled_some ps zero [] ks)
+    else slots.none)
+    ≡ 0)
+    (sym (none_given (p ∷ ps))) refl
+
+few_low : (ps : List Parameter) (n : ℕ) (xs : List Text) (ks : Table) → length ps ≤ 3
+    → row_height (filled_some ps n xs ks) ≤ 3 * min 1 (length xs)
+few_low ps n [] ks h = omega (arith, none_low ps n ks)
+few_low ps n (x ∷ xs) ks h = omega (arith, h, some_low ps n (x ∷ xs) ks)
+
+names_weigh : (ps : Pairs) → 4 * min 1 (length (keywords ps)) ≤ pairs_weight 2 ps
+names_weigh no_pairs = omega arith
+names_weigh (pair k a ps) = omega (arith, expr_some a)
+
+first_low : (n : ℕ) (xs : List Text) → row_height (first_locals n xs) ≤ length xs
+first_low n [] = omega arith
+first_low n (x ∷ xs) = omega (arith, first_low (suc n) xs)
+
+reads_low : (t : Table) (xs : List Text) → row_height (reads t xs) ≤ length xs
+reads_low t [] = omega arith
+reads_low t (x ∷ xs) = omega (arith, value_low (slot_in x t) (known 0), reads_low t xs)
+
+fresh_low : (n : ℕ) (xs : List Text) → targets_height (fresh_targets n xs) ≤ max 1 (length xs)
+fresh_low n xs = search (arith, rules, fresh_len)
+
+set_low : (t : Table) (xs : List Text) → targets_height (set_targets t xs) ≤ max 1 (length xs)
+set_low t xs = search (arith, rules, kept_len)
+
+pub followed_low : (a b : SBody Constant) → body_height (followed a b) ≡ max (body_height a) (body_height b)
+followed_low slots.end b = omega arith
+followed_low (slots.stmt s rest) b = omega (arith, followed_low rest b)
+
+pub copied_low : (p : Place) (t : Table) (n : ℕ) (xs : List Text) (b : SBody Constant)
+    → body_height (copied p t n xs b) ≤ max 1 (body_height b)
+copied_low p t n [] b = omega arith
+copied_low p t n (x ∷ xs) b = omega (arith, value_low (slot_in x t) (known 0), copied_low p t (suc n) xs b)
+
+handed_low : (p : Place) (t : Table) (n : ℕ) (xs : List Text) → body_height (handed_on p t n xs) ≤ 1
+handed_low p t n [] = omega arith
+handed_low p t n (x ∷ xs) = omega (arith, value_low (slot_in x t) (known 0), handed_low p t (suc n) xs)
+
+-- ---- The callee: its parameters are few, and `loop.cycle` has three tokens
+
+abbrev CalleeLow : ℕ → ℕ → Callee → Type 0
+CalleeLow q w (a_macro k m) = length m.parameters ≤ q
+CalleeLow q w a_cycle = 3 ≤ w
+CalleeLow q w _ = Unit {0}
+
+module _ (q : ℕ) where
+  abbrev AllGivenLow : Sources → List (Text × Definition) → Type 0
+  AllGivenLow sources gs = AllByRecursion (λ g. GivenFew sources q g.1) gs
+
+  given_low : (sources : Sources) (gs : List (Text × Definition)) (x : Text) → AllGivenLow sources gs
+      → CalleeLow q 1 (named_alone sources (given_to x gs) x)
+  given_low sources [] x h = search (arith, rules)
+  given_low sources (g ∷ gs) x h = search (arith, rules, given_low sources gs x h.1)
+
+  of_low : (sources : Sources) (n x : Text) (ms : List MacroBody) → AllByRecursion (λ m. length m.parameters ≤ q) ms
+      → CalleeLow q 3 (of_library sources n (public_macro x ms))
+  of_low sources n x ms h = by (is_private x) (looked ms h)
+    where
+      looked : (ns : List MacroBody) → AllByRecursion (λ m. length m.parameters ≤ q) ns
+          → CalleeLow q 3 (of_library sources n (macro_of x ns))
+      looked [] f = tt
+      looked (m ∷ ns) f = search (arith, rules, looked ns f.1)
+
+      by : (b : Bool) → CalleeLow q 3 (of_library sources n (macro_of x ms))
+          → CalleeLow q 3 (of_library sources n (if b then None else macro_of x ms))
+      by true r = tt
+      by false r = r
+
+  library_low : (sources : Sources) (gs : List (Text × Definition)) (of x : Text) → AllGivenLow sources gs
+      → CalleeLow q 3 (in_library sources (given_to of gs) x)
+  library_low sources [] of x h = tt
+  library_low sources (g ∷ gs) of x h = search (arith, rules, library_low sources gs of x h.1, of_low sources)
+
+  in_low : (sources : Sources) (gs : List (Text × Definition)) (of x : Text) → AllGivenLow sources gs
+      → CalleeLow q 3 (named_in sources (given_to of gs) of x)
+  in_low sources gs of x h = search (arith, rules, library_low)
+
+  callee_low : (sources : Sources) (ms : List (Text × Definition)) (e : Expr) → AllGivenLow sources ms
+      → CalleeLow q (weight e) (callee sources ms e)
+  callee_low sources ms e h = search (arith, rules, given_low, in_low)
+
+module _ (cenv : CompileEnv) (order : List Namespace) (q : ℕ) where
+  body_low : (h : Namespace) (on : Bool) (i : Option ℕ) (es : SRow Constant) → row_height es ≤ q
+      → expr_height (invoked_body cenv order h on i es) ≤ 1 + q
+  body_low h on None es k = omega arith
+  body_low h on (Some i) es k = omega (arith, k)
+
+  super_low : (sp : StaticEnv) (p : Option Part)
+      → ((x : Text) → length (block_parameters cenv order sp.namespace x) ≤ q)
+      → expr_height (invoked_super cenv order sp p) ≤ 1 + q
+  super_low sp a1 k = search (arith, rules, body_low, first_low)
+
+  -- The bound of the entries of a part that comes before a row.
+  abbrev RowLow : ℕ → (SRow Constant → SRow Constant) → Type 0
+  RowLow w f = (b : SRow Constant) (z : ℕ) → 2 * q ≤ z → 2 * row_height b ≤ z → 2 * row_height (f b) ≤ w + z
+
+  abbrev AsidesLow : ℕ → (SRow Constant → SRow Constant) → Type 0
+  AsidesLow v f = (b : SRow Constant) → 2 * row_height (f b) ≤ max (v + 2 * q) (2 * row_height b)
+
+  invoked_low : (c : Callee) (sp : StaticEnv) (row asides : SRow Constant → SRow Constant) (n : ℕ) (ks : Table)
+      (u w v : ℕ)
+      → 1 ≤ u → CalleeLow q u c → ((x : Text) → length (block_parameters cenv order sp.namespace x) ≤ q) → RowLow w row
+      → AsidesLow v asides
+      → 2 * expr_height (invoked cenv order c sp row asides n ks) ≤ u + enclosed (w + v) + 1 + 2 * q
+  invoked_low (a_macro z m) sp row asides n ks u w v some f k r a =
+      let rest = filled m.parameters n (default_place cenv order z m.name) ks in
+      let low = filled_low m.parameters n (default_place cenv order z m.name) ks in
+      let hs : 2 * row_height (row (asides rest)) ≤ w + (v + 2 * q) =
+      r (asides rest) (v + 2 * q) (omega arith) (omega (arith, a rest, low, f)) in
+      omega (arith, some, hs)
+  invoked_low a_range sp row asides n ks u w v some f k r a =
+      omega (arith, some, r slots.none (2 * q) (omega arith) (omega arith))
+  invoked_low a_super sp row asides n ks u w v some f k r a = omega (arith, some, super_low sp sp.part k)
+  invoked_low (a_block x) sp row asides n ks u w v some f k r a =
+      let t = globals cenv order sp.namespace in
+      let xs = block_parameters cenv order sp.namespace x in
+      omega (
+        arith,
+        some,
+        body_low sp.namespace sp.escaping (first_body (numbered_of cenv sp.namespace x)) (reads t xs)
+            (omega (arith, reads_low t xs, k x)),
+      )
+  invoked_low a_cycle sp row asides n ks u w v some f k r a =
+      omega (arith, f, r slots.none (2 * q) (omega arith) (omega arith))
+  invoked_low no_callee sp row asides n ks u w v some f k r a = omega (arith, some)
+
+  filter_few : (f : Option ℕ) → ((i : ℕ) → length (cenv.filters.parameters i) ≤ 3)
+      → length (filter_parameters cenv.filters f) ≤ 3
+  filter_few None h = omega arith
+  filter_few (Some i) h = h i
+
+  -- The bound of the entries of a filter's arguments after its input, by their weight with
+  -- parentheses.
+  filter_row : (ts : Exprs) (ps : Pairs) (row asides : SRow Constant → SRow Constant) (rest : SRow Constant)
+      → RowLow (exprs_weight ts) row → AsidesLow (pairs_weight 2 ps) asides
+      → row_height rest ≤ 3 * min 1 (length (keywords ps))
+      → 2 + 2 * row_height (row (asides rest)) ≤ 3 + perhaps_enclosed (exprs_weight ts + pairs_weight 2 ps) + 2 * q
+  filter_row ts ps row asides rest r a low =
+      let v = pairs_weight 2 ps in
+      let z = max (v + 2 * q) (6 * min 1 (length (keywords ps))) in
+      let hs : 2 * row_height (row (asides rest)) ≤ exprs_weight ts + z =
+      r (asides rest) z (omega arith) (omega (arith, a rest, low)) in
+      omega (arith, hs, names_weigh ps)
+
+  mutual
+    pub resolved_low : (e : Expr) (sp : StaticEnv) → HasAtMost cenv order q sp.namespace
+        → 2 * expr_height (resolved cenv order e sp) ≤ weight e + 1 + 2 * q
+    resolved_low (constant l) sp k = omega (arith, expr_some (constant l))
+    resolved_low (name x) sp k = omega (arith, value_low (slot_in x sp.table) (known 0))
+    resolved_low (group a) sp k = omega (arith, resolved_low a sp k)
+    resolved_low (list_of ts) sp k = omega (arith, row_low ts sp k slots.none (2 * q) (omega arith) (omega arith))
+    resolved_low (map_of ps) sp k = omega (arith, entries_low ps sp k)
+    resolved_low (attribute a x) sp k = search (arith, rules, either_low, field_low, resolved_low a sp k, expr_some)
+    resolved_low (item a b) sp k = omega (arith, resolved_low a sp k, resolved_low b sp k, expr_some a)
+    resolved_low (call f ts ps) sp k =
+        invoked_low (callee cenv.sources (given cenv.sources sp.namespace) f) sp (resolved_row cenv order ts sp)
+        (resolved_asides cenv order ps sp) (count ts) (locals_from sp.free (keywords ps))
+        (weight f) (exprs_weight ts) (pairs_weight 2 ps) (expr_some f)
+        (callee_low q cenv.sources (given cenv.sources sp.namespace) f k.macros) k.blocks (λ b z. row_low ts sp k b z)
+        (λ b. asides_low ps sp k b)
+    resolved_low (filter a x ts ps) sp k =
+        search (
+          arith,
+          rules,
+          filtered_low,
+          resolved_low a sp k,
+          expr_some,
+          filter_row,
+          row_low ts sp k,
+          asides_low ps sp k,
+          few_low,
+          filter_few,
+        )
+    resolved_low (test a n x ts ps) sp k =
+        search (arith, rules, turned_low, tested_low, resolved_low a sp k, row_low ts sp k, is_some_weight, expr_some)
+    resolved_low (unary u a) sp k = omega (arith, resolved_low a sp k, expr_some a)
+    resolved_low (binary b x y) sp k =
+        omega (
+          arith,
+          form_low (form sp.escaping b) (resolved cenv order x sp) (resolved cenv order y sp),
+          resolved_low x sp k,
+          resolved_low y sp k,
+          operator_some b,
+          expr_some x,
+          expr_some y,
+        )
+    resolved_low (when c a) sp k = omega (arith, resolved_low c sp k, resolved_low a sp k, expr_some c, expr_some a)
+    resolved_low (choice c a b) sp k = omega (arith, resolved_low c sp k, resolved_low a sp k, resolved_low b sp k)
+
+    pub row_low : (ts : Exprs) (sp : StaticEnv) → HasAtMost cenv order q sp.namespace → (b : SRow Constant) (z : ℕ)
+        → 2 * q ≤ z → 2 * row_height b ≤ z → 2 * row_height (resolved_row cenv order ts sp b) ≤ exprs_weight ts + z
+    row_low no_exprs sp k b z h g = omega (arith, g)
+    row_low (expr a ts) sp k b z h g = omega (arith, h, resolved_low a sp k, row_low ts sp k b z h g, expr_some a)
+
+    pub asides_low : (ps : Pairs) (sp : StaticEnv) → HasAtMost cenv order q sp.namespace → (b : SRow Constant)
+        → 2 * row_height (resolved_asides cenv order ps sp b) ≤ max (pairs_weight 2 ps + 2 * q) (2 * row_height b)
+    asides_low no_pairs sp k b = omega arith
+    asides_low (pair x a ps) sp k b = omega (arith, resolved_low a sp k, asides_low ps (grown sp) k b)
+
+    entries_low : (ps : Pairs) (sp : StaticEnv) → HasAtMost cenv order q sp.namespace
+        → 2 * row_height (resolved_entries cenv order ps sp) ≤ pairs_weight 3 ps + 2 * q
+    entries_low no_pairs sp k = omega arith
+    entries_low (pair x a ps) sp k = omega (arith, resolved_low a sp k, entries_low ps sp k, expr_some a)
+
+  -- ---- Statements
+
+  condition_low : (c : Option Expr) (sp : StaticEnv) → HasAtMost cenv order q sp.namespace
+      → 2 * condition_height (resolved_condition cenv order c sp) ≤ condition_weight c + 2 * q
+  condition_low None sp k = omega arith
+  condition_low (Some c) sp k = omega (arith, resolved_low c sp k)
+
+  filters_low : (fs : List FilterCall) (sp : StaticEnv) (e : SlotExpr Constant) → HasAtMost cenv order q sp.namespace
+      → 2 * expr_height (resolved_filters cenv order fs sp e)
+      ≤ max (2 * expr_height e) (1 + filter_call_weight fs + 2 * q)
+  filters_low [] sp e k = omega arith
+  filters_low (f ∷ fs) sp e k =
+      let i = cenv.filters.named f.name f.arguments f.keywords in
+      let rest = filled_some (filter_parameters cenv.filters i) (count f.arguments) (keywords f.keywords)
+      (locals_from sp.free (keywords f.keywords)) in
+      let es = slots.item e (resolved_row cenv order f.arguments sp (resolved_asides cenv order f.keywords sp rest)) in
+      omega (
+        arith,
+        filters_low fs sp (filtered_by i sp.escaping es) k,
+        filtered_low i sp.escaping es,
+        filter_row f.arguments f.keywords (resolved_row cenv order f.arguments sp)
+            (resolved_asides cenv order f.keywords sp) rest (λ b z. row_low f.arguments sp k b z)
+            (λ b. asides_low f.keywords sp k b)
+            (few_low (filter_parameters cenv.filters i) (count f.arguments) (keywords f.keywords)
+            (locals_from sp.free (keywords f.keywords)) (filter_few i k.filters)),
+      )
+
+  values_low : (ps : Pairs) (sp : StaticEnv) (line : ℕ) (b : SBody Constant) → HasAtMost cenv order q sp.namespace
+      → 2 * body_height (resolved_values cenv order ps sp line b) ≤ max (pairs_weight 0 ps + 2 * q) (2 * body_height b)
+  values_low no_pairs sp line b k = omega arith
+  values_low (pair x e ps) sp line b k =
+      omega (arith, expr_some e, resolved_low e sp k, values_low ps (grown sp) line b k)
+
+  placed_low : (sp : StaticEnv) (i : Option ℕ) (x : Text) (t : Table)
+      → length (block_parameters cenv order sp.namespace x) ≤ q → body_height (placed_body cenv order sp i x t) ≤ 1 + q
+  placed_low sp None x t k = omega arith
+  placed_low sp (Some i) x t k = omega (arith, reads_low t (block_parameters cenv order sp.namespace x), k)
+
+  include_low : (sp : StaticEnv) (line : ℕ) (n : Text) (missing c : Bool) (b : Bool)
+      → body_height (if b then left_out sp line missing
+      else followed (handed_on (place sp line) (if c then sp.table else []) (first_slot cenv order (a_chain n))
+      (names cenv order (a_chain n)))
+      (slots.stmt (run (unit cenv order (of_chain n)) slots.none) slots.end))
+      ≤ 1
+  include_low sp line n missing c b = search (arith, rules, followed_low, handed_low)
+
+  -- The bound of the entries of a scope, whose copies come before the body.
+  pub scope_low : (b : Body) (sp : StaticEnv)
+      → 2 * body_height (resolved_body cenv order b (bound_all (set_in b) sp)) ≤ body_free b + 2 * q
+      → 2 * body_height (scoped (set_in b) sp (resolved_body cenv order b)) ≤ max 2 (body_free b + 2 * q)
+  scope_low b sp h =
+      omega (
+        arith,
+        h,
+        copied_low (place sp 1) sp.table sp.free (set_in b) (resolved_body cenv order b (bound_all (set_in b) sp)),
+      )
+
+  mutual
+    pub stmt_low : (s : Stmt) (sp : StaticEnv) → HasAtMost cenv order q sp.namespace → stmt_bound s ≤ q
+        → 2 * body_height (resolved_stmt cenv order s sp) ≤ stmt_free s + 2 * q
+    stmt_low (choose bs other) sp k g =
+        omega (
+          arith,
+          choice_low bs sp k (omega (arith, g)) (resolved_body cenv order other sp),
+          all_low other sp k (omega (arith, g)),
+        )
+    stmt_low (for_each line xs e c body other) sp k g =
+        search (
+          arith,
+          rules,
+          fresh_low,
+          resolved_low,
+          condition_low,
+          scope_low,
+          all_low body,
+          all_low other sp k (omega (arith, g)),
+        )
+    stmt_low (set_block line x body) sp k g =
+        omega (arith, scope_low body sp (all_low body (bound_all (set_in body) sp) k (omega (arith, g))))
+    stmt_low (with_values line ps body) sp k g = search (arith, rules, values_low, scope_low, all_low body)
+    stmt_low (filter_block line fs body) sp k g =
+        omega (
+          arith,
+          scope_low body (grown sp) (all_low body (bound_all (set_in body) (grown sp)) k (omega (arith, g))),
+          filters_low fs (grown sp) (variable (local sp.free)) k,
+        )
+    stmt_low (autoescape line on body) sp k g = search (arith, rules, scope_low, all_low body)
+    stmt_low (block line x is required body) sp k g =
+        omega (
+          arith,
+          placed_low sp (first_body (numbered_of cenv sp.namespace x)) x
+              (if is then sp.table else globals cenv order sp.namespace) (k.blocks x),
+        )
+    stmt_low a0 sp k g = search (arith, rules, resolved_low, set_low, include_low)
+
+    pub all_low : (b : Body) (sp : StaticEnv) → HasAtMost cenv order q sp.namespace → body_bound b ≤ q
+        → 2 * body_height (resolved_body cenv order b sp) ≤ body_free b + 2 * q
+    all_low end sp k g = omega arith
+    all_low (stmt s rest) sp k g =
+        omega (
+          arith,
+          stmt_low s sp k (omega (arith, g)),
+          all_low rest sp k (omega (arith, g)),
+          followed_low (resolved_stmt cenv order s sp) (resolved_body cenv order rest sp),
+        )
+
+    choice_low : (bs : Branches) (sp : StaticEnv) → HasAtMost cenv order q sp.namespace → branch_bound bs ≤ q
+        → (other : SBody Constant) → 2 * body_height (resolved_choice cenv order bs sp other)
+        ≤ max (branch_free bs + 2 * q) (2 * body_height other)
+    choice_low no_branches sp k g other = omega arith
+    choice_low (branch line c body rest) sp k g other =
+        omega (
+          arith,
+          resolved_low c sp k,
+          all_low body sp k (omega (arith, g)),
+          choice_low rest sp k (omega (arith, g)) other,
+        )

@@ -1,0 +1,471 @@
+-- No name of a program and no text of its pool is longer than the trees of its chains.
+use Rattle.std.proofs.Common.{◌≡◌, ℕ, suc, ◌≤◌, Bool, true, false, if◌then◌else◌, List, [], ◌∷◌, ◌++◌, length, map}
+use Rattle.std.proofs.Common.{Option, Some, None, refl, sym, subst, arith, inl, inr, rules}
+use Rattle.std.specs.Prelude.{flat_map, filter}
+use Rattle.std.specs.List.{AllByRecursion}
+use Rattle.std.specs.Str.{bytes_eq}
+use Rattle.jt_value.specs.Tree.{Tree}
+use Rattle.jt_ast.specs.Expressions as written
+use Rattle.jt_ast.specs.Expressions.{Expr, constant, name, group, list_of, map_of, attribute, item, call, test, unary}
+use Rattle.jt_ast.specs.Expressions.{binary, when, choice, Exprs, no_exprs, expr, Pairs, no_pairs, pair, Text}
+use Rattle.jt_ast.specs.Sizes.{expr_bytes, exprs_bytes, pairs_bytes, texts_bytes, condition_bytes, filter_call_bytes}
+use Rattle.jt_ast.specs.Sizes.{default_bytes, parameters_bytes, stmt_bytes, body_bytes, branch_bytes}
+use Rattle.jt_ast.specs.Statements.{Parameter, FilterCall, Stmt, data_of, print, choose, for_each, set, set_block}
+use Rattle.jt_ast.specs.Statements.{with_values, filter_block, autoescape, macro, include, import_as, import_from}
+use Rattle.jt_ast.specs.Statements.{extends, block, Body, end, stmt, Branches, no_branches, branch}
+use Rattle.jt_chains.specs.Chain.{Namespace, a_chain, a_library, Template, templates, BlockBody, blocks_of, blocks_in}
+use Rattle.jt_chains.specs.Chain.{blocks_under, MacroBody, macros_in, macros}
+use Rattle.jt_chains.specs.Uses.{keywords, set_in, expr_names, row_names, pair_names, condition_names}
+use Rattle.jt_chains.specs.Uses.{filter_call_names, stmt_names, body_names, branch_names, own_names}
+use Rattle.jt_eval.specs.Filters.{default_value}
+use Rattle.jt_ir.specs.Slots as slots
+use Rattle.jt_ir.specs.Slots.{SBody, Routine}
+use Rattle.jt_ir.specs.Pool.{Constant, stmt_values, body_values, routines_values}
+use Rattle.jt_ids.specs.declared.filter_id.FilterId.{FilterId}
+use Rattle.jt_chains.specs.View.{Seen, sources_of}
+use Rattle.jt_eval.specs.TheFilters.{the_filters, filter_of, filter_parameters, parameters_of}
+use Rattle.jt_rules.specs.CompileEnv.{CompileEnv, cenv_of}
+use Rattle.jt_semantics.specs.Bytes.{value_bytes, IsShort}
+use Rattle.jt_semantics.specs.Layout.{names, counted_from, block_parameters, defaults_of}
+use Rattle.jt_semantics.specs.Meaning.{is_set}
+use Rattle.jt_semantics.specs.Programs.{program, routines, entry_routines, chain_routines, body_routines}
+use Rattle.jt_semantics.specs.Resolve.{followed, Part, bound_all, resolved_stmt, resolved_body, resolved_sets, top_senv}
+use Rattle.jt_semantics.specs.Resolve.{resolved_chain, scoped, macro_routine}
+use Rattle.jt_semantics.proofs.Among.{Among, AllAmong}
+use Rattle.jt_semantics.proofs.TextBounds.{bytes_in, literal_is, Bare, Three, stmt_counted, all_counted, scope_counted}
+use Rattle.jt_semantics.proofs.NameCounts.{names_from}
+use Rattle.jt_semantics.proofs.FreeNameWeights.{all_append}
+
+-- ---- Values
+
+abbrev Shorts : ℕ → List Tree → Type 0
+Shorts n vs = AllByRecursion (λ v. value_bytes v ≤ n) vs
+
+each_short : (n : ℕ) (vs : List Tree) → bytes_in vs ≤ n → Shorts n vs
+each_short n [] h = tt
+each_short n (v ∷ vs) h = (omega (arith, h), each_short n vs (omega (arith, h)))
+
+followed_short : (n : ℕ) (a b : SBody Constant) → Shorts n (body_values a) → Shorts n (body_values b)
+    → Shorts n (body_values (followed a b))
+followed_short n slots.end b h g = g
+followed_short n (slots.stmt s rest) b h g =
+    let p = split (stmt_values s) (body_values rest) h in
+    all_append (λ v. value_bytes v ≤ n) (stmt_values s) (body_values (followed rest b)) p.0
+    (followed_short n rest b p.1 g)
+  where
+    split : (xs ys : List Tree) → Shorts n (xs ++ ys) → Shorts n xs × Shorts n ys
+    split [] ys a = (tt, a)
+    split (x ∷ xs) ys a = let r = split xs ys a.1 in ((a.0, r.0), r.1)
+
+-- ---- The bodies of a template are no longer than it
+
+abbrev BlocksShort : ℕ → List BlockBody → Type 0
+BlocksShort n bs = AllByRecursion (λ b. body_bytes b.body ≤ n) bs
+
+module _ (t : Text) (n : ℕ) where
+  mutual
+    stmt_blocks : (s : Stmt) (on : Bool) → stmt_bytes s ≤ n → BlocksShort n (blocks_of t s on)
+    stmt_blocks (block line x scoped required body) on h = (omega (arith, h), body_blocks body on (omega (arith, h)))
+    stmt_blocks (choose bs other) on h =
+        all_append (λ b. body_bytes b.body ≤ n) (blocks_under t bs on) (blocks_in t other on)
+        (branch_blocks bs on (omega (arith, h))) (body_blocks other on (omega (arith, h)))
+    stmt_blocks (for_each line xs e c body other) on h =
+        all_append (λ b. body_bytes b.body ≤ n) (blocks_in t body on) (blocks_in t other on)
+        (body_blocks body on (omega (arith, h))) (body_blocks other on (omega (arith, h)))
+    stmt_blocks (set_block line x body) on h = body_blocks body on (omega (arith, h))
+    stmt_blocks (with_values line ps body) on h = body_blocks body on (omega (arith, h))
+    stmt_blocks (filter_block line fs body) on h = body_blocks body on (omega (arith, h))
+    stmt_blocks (autoescape line now body) on h = body_blocks body now (omega (arith, h))
+    stmt_blocks (macro line x ps body) on h = body_blocks body on (omega (arith, h))
+    stmt_blocks a0 on h = tt
+
+    body_blocks : (b : Body) (on : Bool) → body_bytes b ≤ n → BlocksShort n (blocks_in t b on)
+    body_blocks end on h = tt
+    body_blocks (stmt s rest) on h =
+        all_append (λ b. body_bytes b.body ≤ n) (blocks_of t s on) (blocks_in t rest on)
+        (stmt_blocks s on (omega (arith, h))) (body_blocks rest on (omega (arith, h)))
+
+    branch_blocks : (bs : Branches) (on : Bool) → branch_bytes bs ≤ n → BlocksShort n (blocks_under t bs on)
+    branch_blocks no_branches on h = tt
+    branch_blocks (branch line c body rest) on h =
+        all_append (λ b. body_bytes b.body ≤ n) (blocks_in t body on) (blocks_under t rest on)
+        (body_blocks body on (omega (arith, h))) (branch_blocks rest on (omega (arith, h)))
+
+  abbrev MacroShort : MacroBody → Type 0
+  MacroShort m = (body_bytes m.body ≤ n) × (parameters_bytes m.parameters ≤ n)
+
+  top_macros : (b : Body) → body_bytes b ≤ n → AllByRecursion MacroShort (macros_in t b)
+  top_macros end h = tt
+  top_macros (stmt (macro line x ps body) rest) h =
+      ((omega (arith, h), omega (arith, h)), top_macros rest (omega (arith, h)))
+  top_macros (stmt (data_of d) rest) h = top_macros rest (omega (arith, h))
+  top_macros (stmt (print line e) rest) h = top_macros rest (omega (arith, h))
+  top_macros (stmt (choose bs other) rest) h = top_macros rest (omega (arith, h))
+  top_macros (stmt (for_each line xs e c body other) rest) h = top_macros rest (omega (arith, h))
+  top_macros (stmt (set line xs e) rest) h = top_macros rest (omega (arith, h))
+  top_macros (stmt (set_block line x body) rest) h = top_macros rest (omega (arith, h))
+  top_macros (stmt (with_values line ps body) rest) h = top_macros rest (omega (arith, h))
+  top_macros (stmt (filter_block line fs body) rest) h = top_macros rest (omega (arith, h))
+  top_macros (stmt (autoescape line on body) rest) h = top_macros rest (omega (arith, h))
+  top_macros (stmt (include line m i w) rest) h = top_macros rest (omega (arith, h))
+  top_macros (stmt (import_as line m new) rest) h = top_macros rest (omega (arith, h))
+  top_macros (stmt (import_from line m news) rest) h = top_macros rest (omega (arith, h))
+  top_macros (stmt (extends line m) rest) h = top_macros rest (omega (arith, h))
+  top_macros (stmt (block line x scoped required body) rest) h = top_macros rest (omega (arith, h))
+
+abbrev pub TemplatesShort : ℕ → List Template → Type 0
+TemplatesShort n ts = AllByRecursion (λ t. body_bytes t.body ≤ n) ts
+
+chain_blocks : (n : ℕ) (on : Bool) (ts : List Template) → TemplatesShort n ts
+    → BlocksShort n (flat_map (λ t. blocks_in t.name t.body on) ts)
+chain_blocks n on [] h = tt
+chain_blocks n on (t ∷ ts) h =
+    all_append (λ b. body_bytes b.body ≤ n) (blocks_in t.name t.body on) (flat_map (λ u. blocks_in u.name u.body on) ts)
+    (body_blocks t.name n t.body on h.0) (chain_blocks n on ts h.1)
+
+chain_macros : (n : ℕ) (ts : List Template) → TemplatesShort n ts
+    → AllByRecursion (λ m. (body_bytes m.body ≤ n) × (parameters_bytes m.parameters ≤ n))
+    (flat_map (λ t. macros_in t.name t.body) ts)
+chain_macros n [] h = tt
+chain_macros n (t ∷ ts) h =
+    all_append (λ m. (body_bytes m.body ≤ n) × (parameters_bytes m.parameters ≤ n)) (macros_in t.name t.body)
+    (flat_map (λ u. macros_in u.name u.body) ts) (top_macros t.name n t.body h.0) (chain_macros n ts h.1)
+
+-- ---- The values of a chain's routines
+
+values_append : (n : ℕ) (a b : List (Routine Constant)) → Shorts n (routines_values a) → Shorts n (routines_values b)
+    → Shorts n (routines_values (a ++ b))
+values_append n [] b h g = g
+values_append n (r ∷ a) b h g =
+    let p = split (body_values r.body) (routines_values a) h in
+    all_append (λ v. value_bytes v ≤ n) (body_values r.body) (routines_values (a ++ b)) p.0 (values_append n a b p.1 g)
+  where
+    split : (xs ys : List Tree) → Shorts n (xs ++ ys) → Shorts n xs × Shorts n ys
+    split [] ys a = (tt, a)
+    split (x ∷ xs) ys a = let r = split xs ys a.1 in ((a.0, r.0), r.1)
+
+module _ (cenv : CompileEnv) (order : List Namespace) (n : ℕ) (k : Three cenv order) (h : Namespace) where
+  sets_short : (b : Body) (t : Text) → body_bytes b ≤ n
+      → Shorts n (body_values (resolved_sets cenv order b (top_senv cenv order h t)))
+  sets_short end t g = tt
+  sets_short (stmt s rest) t g = through (is_set s) (sets_short rest t (omega (arith, g)))
+    where
+      through : (b : Bool) → Shorts n (body_values (resolved_sets cenv order rest (top_senv cenv order h t)))
+          → Shorts n (body_values (if b then followed (resolved_stmt cenv order s (top_senv cenv order h t))
+          (resolved_sets cenv order rest (top_senv cenv order h t))
+          else resolved_sets cenv order rest (top_senv cenv order h t)))
+      through true r =
+          let c = stmt_counted cenv order s (top_senv cenv order h t) k in
+          followed_short n (resolved_stmt cenv order s (top_senv cenv order h t))
+          (resolved_sets cenv order rest (top_senv cenv order h t))
+          (each_short n (body_values (resolved_stmt cenv order s (top_senv cenv order h t))) (omega (arith, c, g))) r
+      through false r = r
+
+  chain_short : (ts : List Template) → TemplatesShort n ts → Shorts n (body_values (resolved_chain cenv order h ts))
+  chain_short [] g = tt
+  chain_short (t ∷ []) g =
+      let c = all_counted cenv order t.body (top_senv cenv order h t.name) k in
+      let f = g.0 in
+      each_short n (body_values (resolved_body cenv order t.body (top_senv cenv order h t.name))) (omega (arith, c, f))
+  chain_short (t ∷ (u ∷ us)) g =
+      followed_short n (resolved_sets cenv order t.body (top_senv cenv order h t.name))
+      (resolved_chain cenv order h (u ∷ us)) (sets_short t.body t.name g.0) (chain_short (u ∷ us) g.1)
+
+  macros_short : (ms : List MacroBody)
+      → AllByRecursion (λ m. (body_bytes m.body ≤ n) × (parameters_bytes m.parameters ≤ n)) ms
+      → Shorts n (routines_values (map (macro_routine cenv order h) ms))
+  macros_short [] g = tt
+  macros_short (m ∷ ms) g =
+      let sp = bound_all (map (λ p. p.name) m.parameters) (top_senv cenv order h m.template) in
+      let c = scope_counted cenv order m.body sp (all_counted cenv order m.body (bound_all (set_in m.body) sp) k) in
+      let f = g.0.0 in
+      let r = macro_routine cenv order h m in
+      all_append (λ v. value_bytes v ≤ n) (body_values r.body) (routines_values (map (macro_routine cenv order h) ms))
+      (each_short n (body_values r.body) (omega (arith, c, f))) (macros_short ms g.1)
+
+  blocks_short : (i : ℕ) (bs : List BlockBody) → BlocksShort n bs
+      → Shorts n (routines_values (body_routines cenv order h (counted_from i bs)))
+  blocks_short i [] g = tt
+  blocks_short i (b ∷ bs) g =
+      let part : Part =
+      record { name = b.name; behind = filter (λ c. bytes_eq c.1.name b.name) (counted_from (suc i) bs) } in
+      let sp = bound_all (block_parameters cenv order h b.name)
+      (record (top_senv cenv order h b.template) { escaping = b.escaping; part = Some part }) in
+      let r = scoped (set_in b.body) sp (resolved_body cenv order b.body) in
+      let c = scope_counted cenv order b.body sp (all_counted cenv order b.body (bound_all (set_in b.body) sp) k) in
+      let f = g.0 in
+      all_append (λ v. value_bytes v ≤ n) (body_values r)
+      (routines_values (body_routines cenv order h (counted_from (suc i) bs)))
+      (each_short n (body_values r) (omega (arith, c, f))) (blocks_short (suc i) bs g.1)
+
+  entry_short : (g : Namespace) → Shorts n (body_values (resolved_chain cenv order g (templates cenv.sources g)))
+      → Shorts n (routines_values (entry_routines cenv order g))
+  entry_short (a_chain m) c =
+      all_append (λ v. value_bytes v ≤ n)
+      (body_values (resolved_chain cenv order (a_chain m) (templates cenv.sources (a_chain m)))) [] c tt
+  entry_short (a_library m) c = tt
+
+  in_chain : TemplatesShort n (templates cenv.sources h) → Shorts n (routines_values (chain_routines cenv order h))
+  in_chain g =
+      search
+      (arith, rules, values_append, entry_short, chain_short, macros_short, chain_macros, blocks_short, chain_blocks)
+
+-- ---- The defaults of macros
+
+default_is : (d : Option written.Literal) → value_bytes (default_value d) ≡ default_bytes d
+default_is None = refl
+default_is (Some l) = literal_is l
+
+parameters_short : (n : ℕ) (ps : List Parameter) → parameters_bytes ps ≤ n
+    → Shorts n (map (λ p. default_value p.default) ps)
+parameters_short n [] h = tt
+parameters_short n (p ∷ ps) h =
+    let e = default_is p.default in (omega (arith, h, e), parameters_short n ps (omega (arith, h)))
+
+defaults_short : (n : ℕ) (ms : List MacroBody)
+    → AllByRecursion (λ m. (body_bytes m.body ≤ n) × (parameters_bytes m.parameters ≤ n)) ms → Shorts n (defaults_of ms)
+defaults_short n [] h = tt
+defaults_short n (m ∷ ms) h =
+    all_append (λ v. value_bytes v ≤ n) (map (λ p. default_value p.default) m.parameters) (defaults_of ms)
+    (parameters_short n m.parameters h.0.1) (defaults_short n ms h.1)
+
+-- ---- Names
+
+abbrev Names : ℕ → List Text → Type 0
+Names n xs = AllByRecursion (λ x. length x ≤ n) xs
+
+names_append : (n : ℕ) (xs ys : List Text) → Names n xs → Names n ys → Names n (xs ++ ys)
+names_append n xs ys = all_append (λ x. length x ≤ n) xs ys
+
+module _ (n : ℕ) where
+  mutual
+    expr_short : (e : Expr) → expr_bytes e ≤ n → Names n (expr_names e)
+    expr_short (constant l) h = tt
+    expr_short (name x) h = (h, tt)
+    expr_short (group a) h = expr_short a h
+    expr_short (list_of ts) h = row_short ts h
+    expr_short (map_of ps) h = pairs_short ps h
+    expr_short (attribute a k) h = search (arith, rules, expr_short a (omega (arith, h)))
+    expr_short (item a b) h =
+        names_append n (expr_names a) (expr_names b) (expr_short a (omega (arith, h))) (expr_short b (omega (arith, h)))
+    expr_short (call a ts ps) h =
+        names_append n (row_names ts) (pair_names ps) (row_short ts (omega (arith, h)))
+        (pairs_short ps (omega (arith, h)))
+    expr_short (written.filter a x ts ps) h =
+        names_append n (expr_names a) (row_names ts ++ pair_names ps) (expr_short a (omega (arith, h)))
+        (names_append n (row_names ts) (pair_names ps) (row_short ts (omega (arith, h)))
+        (pairs_short ps (omega (arith, h))))
+    expr_short (test a m x ts ps) h =
+        names_append n (expr_names a) (row_names ts ++ pair_names ps) (expr_short a (omega (arith, h)))
+        (names_append n (row_names ts) (pair_names ps) (row_short ts (omega (arith, h)))
+        (pairs_short ps (omega (arith, h))))
+    expr_short (unary o a) h = expr_short a h
+    expr_short (binary o a b) h =
+        names_append n (expr_names a) (expr_names b) (expr_short a (omega (arith, h))) (expr_short b (omega (arith, h)))
+    expr_short (when c a) h =
+        names_append n (expr_names c) (expr_names a) (expr_short c (omega (arith, h))) (expr_short a (omega (arith, h)))
+    expr_short (choice c a b) h =
+        names_append n (expr_names c) (expr_names a ++ expr_names b) (expr_short c (omega (arith, h)))
+        (names_append n (expr_names a) (expr_names b) (expr_short a (omega (arith, h)))
+        (expr_short b (omega (arith, h))))
+
+    row_short : (ts : Exprs) → exprs_bytes ts ≤ n → Names n (row_names ts)
+    row_short no_exprs h = tt
+    row_short (expr a ts) h =
+        names_append n (expr_names a) (row_names ts) (expr_short a (omega (arith, h))) (row_short ts (omega (arith, h)))
+
+    pairs_short : (ps : Pairs) → pairs_bytes ps ≤ n → Names n (pair_names ps)
+    pairs_short no_pairs h = tt
+    pairs_short (pair k a ps) h =
+        names_append n (expr_names a) (pair_names ps) (expr_short a (omega (arith, h)))
+        (pairs_short ps (omega (arith, h)))
+
+  keys_short : (ps : Pairs) → pairs_bytes ps ≤ n → Names n (keywords ps)
+  keys_short no_pairs h = tt
+  keys_short (pair k a ps) h = (omega (arith, h), keys_short ps (omega (arith, h)))
+
+  texts_short : (xs : List Text) → texts_bytes xs ≤ n → Names n xs
+  texts_short [] h = tt
+  texts_short (x ∷ xs) h = (omega (arith, h), texts_short xs (omega (arith, h)))
+
+  condition_short : (c : Option Expr) → condition_bytes c ≤ n → Names n (condition_names c)
+  condition_short None h = tt
+  condition_short (Some c) h = expr_short c h
+
+  filter_call_short : (fs : List FilterCall) → filter_call_bytes fs ≤ n → Names n (filter_call_names fs)
+  filter_call_short [] h = tt
+  filter_call_short (f ∷ fs) h =
+      names_append n (row_names f.arguments) (pair_names f.keywords ++ filter_call_names fs)
+      (row_short f.arguments (omega (arith, h)))
+      (names_append n (pair_names f.keywords) (filter_call_names fs) (pairs_short f.keywords (omega (arith, h)))
+      (filter_call_short fs (omega (arith, h))))
+
+  given_short : (ps : List Parameter) → parameters_bytes ps ≤ n → Names n (map (λ p. p.name) ps)
+  given_short [] h = tt
+  given_short (p ∷ ps) h = (omega (arith, h), given_short ps (omega (arith, h)))
+
+  mutual
+    stmt_short : (s : Stmt) → stmt_bytes s ≤ n → Names n (stmt_names s)
+    stmt_short (data_of t) h = tt
+    stmt_short (print line e) h = expr_short e h
+    stmt_short (choose bs other) h =
+        names_append n (branch_names bs) (body_names other) (branches_short bs (omega (arith, h)))
+        (body_short other (omega (arith, h)))
+    stmt_short (for_each line xs e c body other) h =
+        search (
+          arith,
+          rules,
+          names_append,
+          expr_short e (omega (arith, h)),
+          texts_short xs (omega (arith, h)),
+          condition_short c (omega (arith, h)),
+          body_short body (omega (arith, h)),
+          body_short other (omega (arith, h)),
+        )
+    stmt_short (set line xs e) h =
+        names_append n (expr_names e) xs (expr_short e (omega (arith, h))) (texts_short xs (omega (arith, h)))
+    stmt_short (set_block line x body) h = (omega (arith, h), body_short body (omega (arith, h)))
+    stmt_short (with_values line ps body) h =
+        names_append n (pair_names ps) (keywords ps ++ body_names body) (pairs_short ps (omega (arith, h)))
+        (names_append n (keywords ps) (body_names body) (keys_short ps (omega (arith, h)))
+        (body_short body (omega (arith, h))))
+    stmt_short (filter_block line fs body) h =
+        names_append n (body_names body) (filter_call_names fs) (body_short body (omega (arith, h)))
+        (filter_call_short fs (omega (arith, h)))
+    stmt_short (autoescape line on body) h = body_short body h
+    stmt_short (macro line x ps body) h =
+        names_append n (map (λ p. p.name) ps) (body_names body) (given_short ps (omega (arith, h)))
+        (body_short body (omega (arith, h)))
+    stmt_short (include line m i w) h = tt
+    stmt_short (import_as line m new) h = tt
+    stmt_short (import_from line m news) h = tt
+    stmt_short (extends line m) h = tt
+    stmt_short (block line x scoped required body) h = body_short body (omega (arith, h))
+
+    body_short : (b : Body) → body_bytes b ≤ n → Names n (body_names b)
+    body_short end h = tt
+    body_short (stmt s rest) h =
+        names_append n (stmt_names s) (body_names rest) (stmt_short s (omega (arith, h)))
+        (body_short rest (omega (arith, h)))
+
+    branches_short : (bs : Branches) → branch_bytes bs ≤ n → Names n (branch_names bs)
+    branches_short no_branches h = tt
+    branches_short (branch line c body rest) h =
+        names_append n (expr_names c) (body_names body ++ branch_names rest) (expr_short c (omega (arith, h)))
+        (names_append n (body_names body) (branch_names rest) (body_short body (omega (arith, h)))
+        (branches_short rest (omega (arith, h))))
+
+  own_short : (ts : List Template) → TemplatesShort n ts → Names n (flat_map (λ t. body_names t.body) ts)
+  own_short [] h = tt
+  own_short (t ∷ ts) h =
+      names_append n (body_names t.body) (flat_map (λ u. body_names u.body) ts) (body_short t.body h.0)
+      (own_short ts h.1)
+
+-- Names that are among short names are short.
+among_short : (n : ℕ) (xs ns : List Text) → Names n ns → AllAmong xs ns → Names n xs
+among_short n [] ns h a = tt
+among_short n (x ∷ xs) ns h a = (at ns h a.0, among_short n xs ns h a.1)
+  where
+    at : (ns : List Text) → Names n ns → Among x ns → length x ≤ n
+    at [] h i = absurd i
+    at (y ∷ ys) h (inl e) = subst (λ z. length z ≤ n) e h.0
+    at (y ∷ ys) h (inr i) = at ys h.1 i
+
+-- ---- The program
+
+module _ (cenv : CompileEnv) (n : ℕ) where
+  abbrev pub ChainsShort : List Namespace → Type 0
+  ChainsShort hs = AllByRecursion (λ h. TemplatesShort n (templates cenv.sources h)) hs
+
+  module _ (order : List Namespace) (k : Three cenv order) where
+    chains_values : (hs : List Namespace) → ChainsShort hs
+        → Shorts n (routines_values (flat_map (chain_routines cenv order) hs))
+    chains_values [] h = tt
+    chains_values (g ∷ hs) h =
+        values_append n (chain_routines cenv order g) (flat_map (chain_routines cenv order) hs)
+        (in_chain cenv order n k g h.0) (chains_values hs h.1)
+
+  chains_defaults : (hs : List Namespace) → ChainsShort hs
+      → Shorts n (flat_map (λ h. defaults_of (macros cenv.sources h)) hs)
+  chains_defaults [] h = tt
+  chains_defaults (g ∷ hs) h =
+      all_append (λ v. value_bytes v ≤ n) (defaults_of (macros cenv.sources g))
+      (flat_map (λ h. defaults_of (macros cenv.sources h)) hs)
+      (defaults_short n (macros cenv.sources g) (chain_macros n (templates cenv.sources g) h.0))
+      (chains_defaults hs h.1)
+
+  chains_names : (hs : List Namespace) → ChainsShort hs → Names n (flat_map (own_names cenv.sources) hs)
+  chains_names [] h = tt
+  chains_names (g ∷ hs) h =
+      names_append n (own_names cenv.sources g) (flat_map (own_names cenv.sources) hs)
+      (own_short n (templates cenv.sources g) h.0) (chains_names hs h.1)
+
+among_left : (xs ys : List Text) → AllAmong xs (xs ++ ys)
+among_left xs ys = every xs (λ x i. front x xs i)
+  where
+    front : (x : Text) (zs : List Text) → Among x zs → Among x (zs ++ ys)
+    front x [] i = absurd i
+    front x (z ∷ zs) (inl e) = inl e
+    front x (z ∷ zs) (inr i) = inr (front x zs i)
+
+    every : (zs : List Text) → ((x : Text) → Among x zs → Among x (xs ++ ys)) → AllAmong zs (xs ++ ys)
+    every [] f = tt
+    every (z ∷ zs) f = (f z (inl refl), every zs (λ x i. f x (inr i)))
+
+among_right : (zs xs ys : List Text) → AllAmong zs ys → AllAmong zs (xs ++ ys)
+among_right [] xs ys a = tt
+among_right (z ∷ zs) xs ys a = (back xs a.0, among_right zs xs ys a.1)
+  where
+    back : (ws : List Text) → Among z ys → Among z (ws ++ ys)
+    back [] i = i
+    back (w ∷ ws) i = inr (back ws i)
+
+-- The names of each chain are among the names of all chains.
+own_among : (cenv : CompileEnv) (hs : List Namespace) (ns : List Text)
+    → ((zs : List Text) → AllAmong zs (flat_map (own_names cenv.sources) hs) → AllAmong zs ns)
+    → AllByRecursion (λ h. AllAmong (own_names cenv.sources h) ns) hs
+own_among cenv [] ns f = tt
+own_among cenv (h ∷ hs) ns f = (
+  f (own_names cenv.sources h) (among_left (own_names cenv.sources h) (flat_map (own_names cenv.sources) hs)),
+  own_among cenv hs ns
+      (λ zs a. f zs (among_right zs (own_names cenv.sources h) (flat_map (own_names cenv.sources) hs) a)),
+)
+
+pub program_short : (cenv : CompileEnv) (entry : Namespace) (rest : List Namespace) (n : ℕ) → Three cenv (entry ∷ rest)
+    → ChainsShort cenv n (entry ∷ rest) → IsShort n (program cenv (entry ∷ rest) entry)
+program_short cenv entry rest n k h =
+    let order = entry ∷ rest in
+    let all = flat_map (own_names cenv.sources) order in
+    record {
+      names =
+          among_short n (names cenv order entry) all (chains_names cenv n order h)
+          (names_from cenv all order (own_among cenv order all (λ zs a. a)) entry);
+      pool = (
+        omega arith,
+        all_append (λ v. value_bytes v ≤ n) (flat_map (λ g. defaults_of (macros cenv.sources g)) order)
+            (routines_values (routines cenv order)) (chains_defaults cenv n order h)
+            (chains_values cenv n order k order h),
+      );
+    }
+
+-- ---- The filters of the language
+
+defaults_bare : (i : FilterId) → Bare (filter_parameters i)
+defaults_bare i = search (arith, rules)
+
+filters_bare : (n : ℕ) → Bare (the_filters.parameters n)
+unfolding the_filters
+filters_bare n = through (filter_of n)
+  where
+    through : (o : Option FilterId) → Bare (parameters_of o)
+    through None = tt
+    through (Some i) = defaults_bare i
+
+pub chain_is_short : (c : Seen) (entry : Namespace) (rest : List Namespace) (n : ℕ) → c.order ≡ entry ∷ rest
+    → AllByRecursion (λ h. AllByRecursion (λ t. body_bytes t.body ≤ n) (templates (sources_of c) h)) c.order
+    → IsShort n (program (cenv_of c) c.order entry)
+chain_is_short c entry rest n e h =
+    subst (λ hs. IsShort n (program (cenv_of c) hs entry)) (sym e)
+    (program_short (cenv_of c) entry rest n filters_bare
+    (subst (λ hs. AllByRecursion (λ h. AllByRecursion (λ t. body_bytes t.body ≤ n) (templates (sources_of c) h)) hs) e
+    h))

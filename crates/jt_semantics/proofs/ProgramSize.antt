@@ -1,0 +1,742 @@
+-- The weight of its chains bounds the size of a program: each body is a part of one unit.
+use Rattle.std.proofs.Common.{◌≡◌, ℕ, suc, ◌+◌, ◌*◌, max, ◌≤◌, Bool, true, false, ◌||◌, if◌then◌else◌, List, [], ◌∷◌}
+use Rattle.std.proofs.Common.{◌++◌, length, Option, Some, None, arith, refl, subst, length-append, rules}
+use Rattle.std.proofs.lemmas.List.{length-map}
+use Rattle.std.specs.Prelude.{flat_map, filter, map}
+use Rattle.std.specs.List.{AllByRecursion}
+use Rattle.std.specs.Str.{bytes_eq}
+use Rattle.jt_ast.specs.Expressions.{Text}
+use Rattle.jt_ast.specs.Statements.{Parameter, parameters_weight, Stmt, data_of, print, choose, for_each, set}
+use Rattle.jt_ast.specs.Statements.{set_block, with_values, filter_block, autoescape, macro, include, import_as}
+use Rattle.jt_ast.specs.Statements.{import_from, extends, block, stmt_weight, Body, end, stmt, body_weight, Branches}
+use Rattle.jt_ast.specs.Statements.{no_branches, branch, branch_weight, body_bound}
+use Rattle.jt_chains.specs.Chain.{Sources, Namespace, a_chain, a_library, same_namespace, listed, Template, templates}
+use Rattle.jt_chains.specs.Chain.{BlockBody, blocks_of, blocks_in, blocks_under, all_bodies, MacroBody, macros_in}
+use Rattle.jt_chains.specs.Chain.{macros}
+use Rattle.jt_eval.specs.Filters.{default_value}
+use Rattle.jt_rules.specs.CompileEnv.{CompileEnv}
+use Rattle.jt_semantics.specs.Meaning.{is_set}
+use Rattle.jt_chains.specs.Uses.{set_in, scope_names}
+use Rattle.jt_semantics.specs.Layout.{first_slot, names, block_parameters, counted_from, numbered_bodies, shared}
+use Rattle.jt_semantics.specs.Layout.{defaults_of, scopes, is_scoped}
+use Rattle.jt_ir.specs.Slots as slots
+use Rattle.jt_ir.specs.Slots.{SlotExpr, SRow, SlotStmt, SBody, Routine}
+use Rattle.jt_ir.specs.Pool.{Constant, expr_values, condition_values, stmt_values, body_values, routines_values}
+use Rattle.jt_ir.specs.Pool.{placed_expr, placed_row, placed_condition, placed_stmt, placed_body, placed_routines}
+use Rattle.jt_semantics.specs.Resolve.{followed, Part, StaticEnv, bound_table, bound_all, scoped, resolved_stmt}
+use Rattle.jt_semantics.specs.Resolve.{resolved_body, resolved_sets, top_senv, resolved_chain, macro_routine}
+use Rattle.jt_semantics.specs.Programs.{body_routines, entry_routines, chain_routines, routines, count_globals, program}
+use Rattle.jt_ir.specs.Size.{expr_size, row_size, condition_size, stmt_size, body_size, routines_size, expr_height}
+use Rattle.jt_ir.specs.Size.{row_height, condition_height, stmt_height, body_height}
+use Rattle.jt_ir.specs.Locals.{body_locals}
+use Rattle.jt_semantics.specs.Measure.{stmt_own, body_own, branch_own, IsFew, HasAtMost, AreFew, IsSized}
+use Rattle.jt_chains.specs.Weights.{templates_weight, chains_weight}
+use Rattle.jt_semantics.proofs.InstructionBounds.{parameters_few, followed_size, stmt_sized, all_sized, scope_sized}
+use Rattle.jt_semantics.proofs.LocalBounds.{Below, globals_below, bound_below, scope_localed, stmt_localed, all_localed}
+use Rattle.jt_semantics.proofs.LocalBounds as locality
+use Rattle.jt_semantics.proofs.ConstantBounds.{followed_count, stmt_counted, all_counted, scope_counted}
+use Rattle.jt_semantics.proofs.EntryBounds.{followed_low, stmt_low, all_low, scope_low}
+use Rattle.jt_semantics.proofs.FreeNameWeights.{stmt_free, body_free, AllPaid, MacrosPaid, all_more, macros_more}
+use Rattle.jt_semantics.proofs.FreeNameWeights.{body_paid, templates_bound, templates_pay, chain_blocks, chain_macros}
+use Rattle.jt_semantics.proofs.FreeNameWeights.{scopes_few}
+use Rattle.jt_chains.specs.Includes.{InOrder}
+use Rattle.jt_semantics.proofs.EnvLookup.{namespace_same, namespace_is, no_both}
+use Rattle.jt_semantics.proofs.DefinedNames.{given_all, all_own}
+use Rattle.jt_semantics.proofs.ChainOrder.{libraries_stand}
+
+-- ---- Each body is counted once: in its template, or as the body of a block or a macro
+
+abbrev bodies_own : List BlockBody → ℕ
+bodies_own [] = 0
+bodies_own (b ∷ bs) = body_own b.body + 1 + bodies_own bs
+
+abbrev macros_own : List MacroBody → ℕ
+macros_own [] = 0
+macros_own (m ∷ ms) = body_own m.body + 2 * length m.parameters + 1 + macros_own ms
+
+bodies_append : (a b : List BlockBody) → bodies_own (a ++ b) ≡ bodies_own a + bodies_own b
+bodies_append [] b = omega arith
+bodies_append (x ∷ a) b = omega (arith, bodies_append a b)
+
+macros_append : (a b : List MacroBody) → macros_own (a ++ b) ≡ macros_own a + macros_own b
+macros_append [] b = omega arith
+macros_append (x ∷ a) b = omega (arith, macros_append a b)
+
+parameters_weigh : (ps : List Parameter) → 2 * length ps ≤ parameters_weight ps
+parameters_weigh [] = omega arith
+parameters_weigh (p ∷ ps) = omega (arith, parameters_weigh ps)
+
+module _ (t : Text) where
+  mutual
+    stmt_once : (s : Stmt) (on : Bool) → stmt_own s + bodies_own (blocks_of t s on) ≤ stmt_weight s
+    stmt_once (choose bs other) on =
+        omega
+        (arith, bodies_append (blocks_under t bs on) (blocks_in t other on), branch_once bs on, body_once other on)
+    stmt_once (for_each line xs e c body other) on =
+        omega (arith, bodies_append (blocks_in t body on) (blocks_in t other on), body_once body on, body_once other on)
+    stmt_once (set_block line x body) on = omega (arith, body_once body on)
+    stmt_once (with_values line ps body) on = omega (arith, body_once body on)
+    stmt_once (filter_block line fs body) on = omega (arith, body_once body on)
+    stmt_once (autoescape line now body) on = omega (arith, body_once body now)
+    stmt_once (macro line x ps body) on = omega (arith, body_once body on)
+    stmt_once (block line x is required body) on = omega (arith, body_once body on)
+    stmt_once a0 on = omega arith
+
+    body_once : (b : Body) (on : Bool) → body_own b + bodies_own (blocks_in t b on) ≤ body_weight b
+    body_once end on = omega arith
+    body_once (stmt s rest) on =
+        omega (arith, bodies_append (blocks_of t s on) (blocks_in t rest on), stmt_once s on, body_once rest on)
+
+    branch_once : (bs : Branches) (on : Bool) → branch_own bs + bodies_own (blocks_under t bs on) ≤ branch_weight bs
+    branch_once no_branches on = omega arith
+    branch_once (branch line c body rest) on =
+        omega
+        (arith, bodies_append (blocks_in t body on) (blocks_under t rest on), body_once body on, branch_once rest on)
+
+  -- A body weighs at least its own weight, the weight of its blocks and the weight of the macros at
+  -- its top.
+  top_once : (b : Body) (on : Bool)
+      → body_own b + bodies_own (blocks_in t b on) + macros_own (macros_in t b) ≤ body_weight b
+  top_once end on = omega arith
+  top_once (stmt (data_of x) rest) on = omega (arith, top_once rest on)
+  top_once (stmt (print line e) rest) on = omega (arith, top_once rest on)
+  top_once (stmt (choose bs other) rest) on =
+      omega (
+        arith,
+        top_once rest on,
+        stmt_once (choose bs other) on,
+        bodies_append (blocks_of t (choose bs other) on) (blocks_in t rest on),
+      )
+  top_once (stmt (for_each line xs e c body other) rest) on =
+      omega (
+        arith,
+        top_once rest on,
+        stmt_once (for_each line xs e c body other) on,
+        bodies_append (blocks_of t (for_each line xs e c body other) on) (blocks_in t rest on),
+      )
+  top_once (stmt (set line xs e) rest) on = omega (arith, top_once rest on)
+  top_once (stmt (set_block line x body) rest) on =
+      omega (arith, top_once rest on, body_once body on, bodies_append (blocks_in t body on) (blocks_in t rest on))
+  top_once (stmt (with_values line ps body) rest) on =
+      omega (arith, top_once rest on, body_once body on, bodies_append (blocks_in t body on) (blocks_in t rest on))
+  top_once (stmt (filter_block line fs body) rest) on =
+      omega (arith, top_once rest on, body_once body on, bodies_append (blocks_in t body on) (blocks_in t rest on))
+  top_once (stmt (autoescape line now body) rest) on =
+      omega (arith, top_once rest on, body_once body now, bodies_append (blocks_in t body now) (blocks_in t rest on))
+  top_once (stmt (macro line x ps body) rest) on =
+      omega (
+        arith,
+        top_once rest on,
+        body_once body on,
+        bodies_append (blocks_in t body on) (blocks_in t rest on),
+        parameters_weigh ps,
+      )
+  top_once (stmt (include line n missing with_context) rest) on = omega (arith, top_once rest on)
+  top_once (stmt (import_as line n new) rest) on = omega (arith, top_once rest on)
+  top_once (stmt (import_from line n news) rest) on = omega (arith, top_once rest on)
+  top_once (stmt (extends line n) rest) on = omega (arith, top_once rest on)
+  top_once (stmt (block line x is required body) rest) on =
+      omega (arith, top_once rest on, body_once body on, bodies_append (blocks_in t body on) (blocks_in t rest on))
+
+abbrev templates_own : List Template → ℕ
+templates_own [] = 0
+templates_own (t ∷ ts) = body_own t.body + templates_own ts
+
+chain_once : (on : Bool) (ts : List Template)
+    → templates_own ts + bodies_own (flat_map (λ t. blocks_in t.name t.body on) ts)
+    + macros_own (flat_map (λ t. macros_in t.name t.body) ts)
+    ≤ templates_weight ts
+chain_once on [] = omega arith
+chain_once on (t ∷ ts) = search (arith, rules, top_once, chain_once on ts, bodies_append, macros_append)
+
+-- ---- The instructions of a chain's routines
+
+routines_append : {K : Type 0} (a b : List (Routine K)) → routines_size (a ++ b) ≡ routines_size a + routines_size b
+routines_append [] b = omega arith
+routines_append (r ∷ a) b = omega (arith, routines_append a b)
+
+module _ (cenv : CompileEnv) (order : List Namespace) (h : Namespace) where
+  module _ (k : IsFew cenv order h) where
+    sets_sized : (b : Body) (t : Text)
+        → body_size (resolved_sets cenv order b (top_senv cenv order h t)) ≤ 100 * body_own b
+    sets_sized end t = omega arith
+    sets_sized (stmt s rest) t = search (arith, rules, sets_sized rest t, stmt_sized, followed_size)
+
+    chain_sized : (ts : List Template) → body_size (resolved_chain cenv order h ts) ≤ 100 * templates_own ts
+    chain_sized [] = omega arith
+    chain_sized (t ∷ []) = omega (arith, all_sized cenv order t.body (top_senv cenv order h t.name) k)
+    chain_sized (t ∷ (u ∷ us)) =
+        omega (
+          arith,
+          chain_sized (u ∷ us),
+          sets_sized t.body t.name,
+          followed_size (resolved_sets cenv order t.body (top_senv cenv order h t.name))
+              (resolved_chain cenv order h (u ∷ us)),
+        )
+
+    macros_sized : (ms : List MacroBody) → routines_size (map (macro_routine cenv order h) ms) ≤ 100 * macros_own ms
+    macros_sized [] = omega arith
+    macros_sized (m ∷ ms) = search (arith, rules, macros_sized ms, scope_sized, all_sized)
+
+    blocks_sized : (n : ℕ) (bs : List BlockBody)
+        → routines_size (body_routines cenv order h (counted_from n bs)) ≤ 100 * bodies_own bs
+    blocks_sized n [] = omega arith
+    blocks_sized n (b ∷ bs) = search (arith, rules, blocks_sized (suc n) bs, scope_sized, all_sized)
+
+    entry_sized : (g : Namespace) → body_size (resolved_chain cenv order g (templates cenv.sources g))
+        ≤ 100 * templates_own (templates cenv.sources g)
+        → routines_size (entry_routines cenv order g) ≤ 100 * templates_own (templates cenv.sources g) + 1
+    entry_sized (a_chain n) c = omega (arith, c)
+    entry_sized (a_library n) c = omega arith
+
+    all_in_chain : routines_size (chain_routines cenv order h) ≤ 100 * templates_weight (templates cenv.sources h) + 1
+    all_in_chain =
+        search (arith, rules, chain_once, entry_sized, chain_sized, macros_sized, blocks_sized, routines_append)
+
+-- ---- Indices into the pool change no size and no height
+
+mutual
+  expr_placed : (e : SlotExpr Constant) (n : ℕ)
+      → (expr_size (placed_expr e n) ≡ expr_size e) × (expr_height (placed_expr e n) ≡ expr_height e)
+  expr_placed (slots.made m es) n = let a = row_placed es n in (omega (arith, a.0), omega (arith, a.1))
+  expr_placed (slots.conjunction x y) n =
+      let a = expr_placed x n in
+      let b = expr_placed y (n + length (expr_values x)) in (omega (arith, a.0, b.0), omega (arith, a.1, b.1))
+  expr_placed (slots.disjunction x y) n =
+      let a = expr_placed x n in
+      let b = expr_placed y (n + length (expr_values x)) in (omega (arith, a.0, b.0), omega (arith, a.1, b.1))
+  expr_placed (slots.choice c x y) n =
+      search (
+        arith,
+        rules,
+        expr_placed c n,
+        expr_placed x (n + length (expr_values c)),
+        expr_placed y (n + length (expr_values c) + length (expr_values x)),
+      )
+  expr_placed (slots.invoke u on es) n = let a = row_placed es n in (omega (arith, a.0), omega (arith, a.1))
+  expr_placed a0 n = (refl, refl)
+
+  row_placed : (es : SRow Constant) (n : ℕ)
+      → (row_size (placed_row es n) ≡ row_size es) × (row_height (placed_row es n) ≡ row_height es)
+  row_placed slots.none n = (refl, refl)
+  row_placed (slots.item e es) n =
+      let a = expr_placed e n in
+      let b = row_placed es (n + length (expr_values e)) in (omega (arith, a.0, b.0), omega (arith, a.1, b.1))
+  row_placed (slots.aside i e es) n =
+      let a = expr_placed e n in
+      let b = row_placed es (n + length (expr_values e)) in (omega (arith, a.0, b.0), omega (arith, a.1, b.1))
+
+condition_placed : (xs : slots.Targets) (c : Option (SlotExpr Constant)) (n : ℕ)
+    → (condition_size xs (placed_condition c n) ≡ condition_size xs c)
+    × (condition_height (placed_condition c n) ≡ condition_height c)
+condition_placed xs None n = (refl, refl)
+condition_placed xs (Some c) n = let a = expr_placed c n in (omega (arith, a.0), a.1)
+
+mutual
+  stmt_placed : (s : SlotStmt Constant) (n : ℕ)
+      → (stmt_size (placed_stmt s n) ≡ stmt_size s) × (stmt_height (placed_stmt s n) ≡ stmt_height s)
+  stmt_placed (slots.put_pooled c) n = (refl, refl)
+  stmt_placed (slots.print p on e) n = let a = expr_placed e n in (omega (arith, a.0), a.1)
+  stmt_placed (slots.assign p xs e) n = let a = expr_placed e n in (omega (arith, a.0), omega (arith, a.1))
+  stmt_placed (slots.if_else p c x y) n =
+      search (
+        arith,
+        rules,
+        expr_placed,
+        body_placed x (n + length (expr_values c)),
+        body_placed y (n + length (expr_values c) + length (body_values x)),
+      )
+  stmt_placed (slots.for_each p xs e c body other) n =
+      search (
+        arith,
+        rules,
+        expr_placed e n,
+        condition_placed xs c (n + length (expr_values e)),
+        body_placed body (n + length (expr_values e) + length (condition_values c)),
+        body_placed other (n + length (expr_values e) + length (condition_values c) + length (body_values body)),
+      )
+  stmt_placed (slots.capture on s body) n = let a = body_placed body n in (omega (arith, a.0), omega (arith, a.1))
+  stmt_placed (slots.run u es) n = let a = row_placed es n in (omega (arith, a.0), a.1)
+
+  body_placed : (b : SBody Constant) (n : ℕ)
+      → (body_size (placed_body b n) ≡ body_size b) × (body_height (placed_body b n) ≡ body_height b)
+  body_placed slots.end n = (refl, refl)
+  body_placed (slots.stmt s rest) n =
+      let a = stmt_placed s n in
+      let b = body_placed rest (n + length (stmt_values s)) in (omega (arith, a.0, b.0), omega (arith, a.1, b.1))
+
+routines_placed : (rs : List (Routine Constant)) (n : ℕ) → routines_size (placed_routines rs n) ≡ routines_size rs
+routines_placed [] n = refl
+routines_placed (r ∷ rs) n =
+    let a = body_placed r.body n in omega (arith, a.0, routines_placed rs (n + length (body_values r.body)))
+
+heights_placed : (w : ℕ) (rs : List (Routine Constant)) (n : ℕ) → AllByRecursion (λ r. 2 * body_height r.body ≤ w) rs
+    → AllByRecursion (λ r. 2 * body_height r.body ≤ w) (placed_routines rs n)
+heights_placed w [] n h = tt
+heights_placed w (r ∷ rs) n h =
+    let a = body_placed r.body n in (omega (arith, a.1, h.0), heights_placed w rs (n + length (body_values r.body)) h.1)
+
+-- ---- The entries of a chain's routines: bound names pay for the parameters that calls load
+
+abbrev Low : ℕ → Routine Constant → Type 0
+Low w r = 2 * body_height r.body ≤ w
+
+low_append : (w : ℕ) (a b : List (Routine Constant)) → AllByRecursion (Low w) a → AllByRecursion (Low w) b
+    → AllByRecursion (Low w) (a ++ b)
+low_append w [] b h g = g
+low_append w (r ∷ a) b h g = (h.0, low_append w a b h.1 g)
+
+module _ (cenv : CompileEnv) (order : List Namespace) (h : Namespace) (q : ℕ) (k : HasAtMost cenv order q h) where
+  sets_low : (b : Body) (t : Text) → body_bound b ≤ q
+      → 2 * body_height (resolved_sets cenv order b (top_senv cenv order h t)) ≤ body_free b + 2 * q
+  sets_low end t g = omega arith
+  sets_low (stmt s rest) t g = through (is_set s) (sets_low rest t (omega (arith, g)))
+    where
+      through : (b : Bool)
+          → 2 * body_height (resolved_sets cenv order rest (top_senv cenv order h t)) ≤ body_free rest + 2 * q
+          → 2 * body_height (if b then followed (resolved_stmt cenv order s (top_senv cenv order h t))
+          (resolved_sets cenv order rest (top_senv cenv order h t))
+          else resolved_sets cenv order rest (top_senv cenv order h t))
+          ≤ stmt_free s + body_free rest + 2 * q
+      through true f =
+          omega (
+            arith,
+            f,
+            stmt_low cenv order q s (top_senv cenv order h t) k (omega (arith, g)),
+            followed_low (resolved_stmt cenv order s (top_senv cenv order h t))
+                (resolved_sets cenv order rest (top_senv cenv order h t)),
+          )
+      through false f = omega (arith, f)
+
+  -- The sequence of templates needs at most the entries of the template that needs most.
+  chain_low : (w : ℕ) (ts : List Template)
+      → AllByRecursion (λ t. (body_free t.body + 2 * q ≤ w) × (body_bound t.body ≤ q)) ts
+      → 2 * body_height (resolved_chain cenv order h ts) ≤ w
+  chain_low w [] g = omega arith
+  chain_low w (t ∷ []) g =
+      let f = g.0.0 in omega (arith, f, all_low cenv order q t.body (top_senv cenv order h t.name) k g.0.1)
+  chain_low w (t ∷ (u ∷ us)) g = search (arith, rules, chain_low w (u ∷ us) g.1, sets_low, followed_low)
+
+  blocks_low : (w n : ℕ) (bs : List BlockBody) → AllPaid w q bs
+      → AllByRecursion (Low (max 2 w)) (body_routines cenv order h (counted_from n bs))
+  blocks_low w n [] g = tt
+  blocks_low w n (b ∷ bs) g =
+      let part : Part =
+      record { name = b.name; behind = filter (λ c. bytes_eq c.1.name b.name) (counted_from (suc n) bs) } in
+      let sp = bound_all (block_parameters cenv order h b.name)
+      (record (top_senv cenv order h b.template) { escaping = b.escaping; part = Some part }) in
+      let f = g.0.free in (
+        omega (
+          arith,
+          f,
+          scope_low cenv order q b.body sp (all_low cenv order q b.body (bound_all (set_in b.body) sp) k g.0.bound),
+        ),
+        blocks_low w (suc n) bs g.1,
+      )
+
+  macros_low : (w : ℕ) (ms : List MacroBody) → MacrosPaid w q ms
+      → AllByRecursion (Low (max 2 w)) (map (macro_routine cenv order h) ms)
+  macros_low w [] g = tt
+  macros_low w (m ∷ ms) g =
+      let sp = bound_all (map (λ p. p.name) m.parameters) (top_senv cenv order h m.template) in
+      let f = g.0.body.free in (
+        omega (
+          arith,
+          f,
+          scope_low cenv order q m.body sp
+              (all_low cenv order q m.body (bound_all (set_in m.body) sp) k g.0.body.bound),
+        ),
+        macros_low w ms g.1,
+      )
+
+-- Each template of a chain is paid for, with the names that all templates bind.
+templates_each : (w n : ℕ) (ts : List Template) → templates_weight ts + 2 * n ≤ w + 2 * templates_bound ts
+    → templates_bound ts ≤ n → AllByRecursion (λ t. (body_free t.body + 2 * n ≤ w) × (body_bound t.body ≤ n)) ts
+templates_each w n [] e l = tt
+templates_each w n (t ∷ ts) e l = search (arith, rules, body_paid t.body, templates_pay ts, templates_each w n ts)
+
+macros_few : (w n : ℕ) (ms : List MacroBody) → MacrosPaid w n ms → AllByRecursion (λ m. length m.parameters ≤ n) ms
+macros_few w n [] p = tt
+macros_few w n (m ∷ ms) p = (p.0.parameters, macros_few w n ms p.1)
+
+-- ---- Chains and libraries together: the names that all of them bind pay for the calls of each
+
+abbrev chains_bound : Sources → List Namespace → ℕ
+chains_bound sources [] = 0
+chains_bound sources (h ∷ hs) = templates_bound (templates sources h) + chains_bound sources hs
+
+chains_pay : (sources : Sources) (hs : List Namespace) → 2 * chains_bound sources hs ≤ chains_weight sources hs
+chains_pay sources [] = omega arith
+chains_pay sources (h ∷ hs) = omega (arith, templates_pay (templates sources h), chains_pay sources hs)
+
+-- Holds if the templates are a part of a whole of weight w with q bound names.
+record IsPart (w q : ℕ) (ts : List Template) : Type 0 where
+  pub paid : templates_weight ts + 2 * q ≤ w + 2 * templates_bound ts
+  pub bound : templates_bound ts ≤ q
+
+is_part : (sources : Sources) (hs : List Namespace) (h : Namespace) → listed h hs ≡ true
+    → IsPart (chains_weight sources hs) (chains_bound sources hs) (templates sources h)
+is_part sources [] h i = absurd (no_both i refl)
+is_part sources (k ∷ ks) h i = through (same_namespace k h) refl i (λ j. is_part sources ks h j)
+  where
+    first : IsPart (chains_weight sources (k ∷ ks)) (chains_bound sources (k ∷ ks)) (templates sources k)
+    first = record { paid = omega (arith, chains_pay sources ks); bound = omega arith }
+
+    later : IsPart (chains_weight sources ks) (chains_bound sources ks) (templates sources h)
+        → IsPart (chains_weight sources (k ∷ ks)) (chains_bound sources (k ∷ ks)) (templates sources h)
+    later p =
+        let a = p.paid in
+        let b = p.bound in
+        record { paid = omega (arith, a, templates_pay (templates sources k)); bound = omega (arith, b) }
+
+    through : (b : Bool) → same_namespace k h ≡ b → (b || listed h ks) ≡ true
+        → (listed h ks ≡ true → IsPart (chains_weight sources ks) (chains_bound sources ks) (templates sources h))
+        → IsPart (chains_weight sources (k ∷ ks)) (chains_bound sources (k ∷ ks)) (templates sources h)
+    through true p q f =
+        subst (λ z. IsPart (chains_weight sources (k ∷ ks)) (chains_bound sources (k ∷ ks)) (templates sources z))
+        (namespace_same k h p) first
+    through false p q f = later (f q)
+
+module _ (cenv : CompileEnv) (order : List Namespace) (ordered : InOrder cenv.sources order)
+    (filters : (f : ℕ) → length (cenv.filters.parameters f) ≤ 3) where
+  abbrev w : ℕ
+  w = chains_weight cenv.sources order
+
+  abbrev q : ℕ
+  q = chains_bound cenv.sources order
+
+  namespace_macros : (h : Namespace) → listed h order ≡ true → MacrosPaid w q (macros cenv.sources h)
+  namespace_macros h known = search (arith, rules, is_part, macros_more, templates_bound, chain_macros)
+
+  at_most : (h : Namespace) → listed h order ≡ true → HasAtMost cenv order q h
+  at_most h known = record {
+    macros =
+        given_all cenv.sources (λ m. length m.parameters ≤ q) h
+        (macros_few w q (macros cenv.sources h) (namespace_macros h known))
+        (λ l j. let there = (libraries_stand cenv order ordered h known l j).known in
+        macros_few w q (macros cenv.sources (a_library l)) (namespace_macros (a_library l) there));
+    blocks = λ x. of_scopes (is_scoped cenv h x);
+    filters = filters;
+  }
+    where
+      few : templates_bound (templates cenv.sources h) ≤ q
+      few = (is_part cenv.sources order h known).bound
+
+      in_order : (b : Bool) → length (if b then scope_names cenv.sources h else []) ≤ q
+      in_order true = omega (arith, few, scopes_few (templates cenv.sources h))
+      in_order false = omega arith
+
+      of_scopes : (b : Bool) → length (if b then scopes cenv order h else []) ≤ q
+      of_scopes true = in_order (listed h order)
+      of_scopes false = omega arith
+
+  entry_low : (g : Namespace) → 2 * body_height (resolved_chain cenv order g (templates cenv.sources g)) ≤ w
+      → AllByRecursion (Low (max 2 w)) (entry_routines cenv order g)
+  entry_low (a_chain n) c = (omega (arith, c), tt)
+  entry_low (a_library n) c = tt
+
+  low_in_chain : (h : Namespace) → listed h order ≡ true → AllByRecursion (Low (max 2 w)) (chain_routines cenv order h)
+  low_in_chain h known =
+      let ts = templates cenv.sources h in
+      let p = is_part cenv.sources order h known in
+      let k = at_most h known in
+      low_append (max 2 w) (entry_routines cenv order h)
+      (map (macro_routine cenv order h) (macros cenv.sources h) ++ body_routines cenv order h (numbered_bodies cenv h))
+      (entry_low h (chain_low cenv order h q k w ts (templates_each w q ts p.paid p.bound)))
+      (low_append (max 2 w) (map (macro_routine cenv order h) (macros cenv.sources h))
+      (body_routines cenv order h (numbered_bodies cenv h))
+      (macros_low cenv order h q k w (macros cenv.sources h) (namespace_macros h known))
+      (blocks_low cenv order h q k w 0 (all_bodies cenv.sources cenv.escaping h)
+      (all_more (templates_weight ts) (templates_bound ts) w q p.bound p.paid (all_bodies cenv.sources cenv.escaping h)
+      (chain_blocks cenv.escaping ts))))
+
+  chains_low : (hs : List Namespace) → ((h : Namespace) → listed h hs ≡ true → listed h order ≡ true)
+      → AllByRecursion (Low (max 2 w)) (flat_map (chain_routines cenv order) hs)
+  chains_low [] i = tt
+  chains_low (h ∷ hs) i = search (arith, rules, low_append, low_in_chain, namespace_is, chains_low hs)
+
+-- ---- All chains
+
+chains_sized : (cenv : CompileEnv) (order hs : List Namespace) → AllByRecursion (IsFew cenv order) hs
+    → routines_size (flat_map (chain_routines cenv order) hs) ≤ 100 * chains_weight cenv.sources hs + length hs
+chains_sized cenv order [] k = omega arith
+chains_sized cenv order (h ∷ hs) k =
+    omega (
+      arith,
+      chains_sized cenv order hs k.1,
+      all_in_chain cenv order h k.0,
+      routines_append (chain_routines cenv order h) (flat_map (chain_routines cenv order) hs),
+    )
+
+-- ---- Constants: the constants of the routines, and the defaults of macros
+
+values_append : (a b : List (Routine Constant))
+    → length (routines_values (a ++ b)) ≡ length (routines_values a) + length (routines_values b)
+values_append [] b = omega arith
+values_append (r ∷ a) b =
+    omega (
+      arith,
+      values_append a b,
+      length-append (body_values r.body) (routines_values (a ++ b)),
+      length-append (body_values r.body) (routines_values a),
+    )
+
+module _ (cenv : CompileEnv) (order : List Namespace) (h : Namespace)
+    (k : (f : ℕ) → length (cenv.filters.parameters f) ≤ 3) where
+  sets_counted : (b : Body) (t : Text)
+      → length (body_values (resolved_sets cenv order b (top_senv cenv order h t))) ≤ body_own b
+  sets_counted end t = omega arith
+  sets_counted (stmt s rest) t = search (arith, rules, sets_counted rest t, stmt_counted, followed_count)
+
+  chain_counted : (ts : List Template) → length (body_values (resolved_chain cenv order h ts)) ≤ templates_own ts
+  chain_counted [] = omega arith
+  chain_counted (t ∷ []) = omega (arith, all_counted cenv order t.body (top_senv cenv order h t.name) k)
+  chain_counted (t ∷ (u ∷ us)) =
+      omega (
+        arith,
+        chain_counted (u ∷ us),
+        sets_counted t.body t.name,
+        followed_count (resolved_sets cenv order t.body (top_senv cenv order h t.name))
+            (resolved_chain cenv order h (u ∷ us)),
+      )
+
+  macros_counted : (ms : List MacroBody)
+      → length (routines_values (map (macro_routine cenv order h) ms)) + length (defaults_of ms) ≤ macros_own ms
+  macros_counted [] = omega arith
+  macros_counted (m ∷ ms) =
+      let sp = bound_all (map (λ p. p.name) m.parameters) (top_senv cenv order h m.template) in
+      let r = macro_routine cenv order h m in
+      omega (
+        arith,
+        macros_counted ms,
+        scope_counted cenv order m.body sp (all_counted cenv order m.body (bound_all (set_in m.body) sp) k),
+        length-append (body_values r.body) (routines_values (map (macro_routine cenv order h) ms)),
+        length-append (map (λ p. default_value p.default) m.parameters) (defaults_of ms),
+        length-map m.parameters (λ (p : Parameter). default_value p.default),
+      )
+
+  blocks_counted : (n : ℕ) (bs : List BlockBody)
+      → length (routines_values (body_routines cenv order h (counted_from n bs))) ≤ bodies_own bs
+  blocks_counted n [] = omega arith
+  blocks_counted n (b ∷ bs) =
+      let part : Part =
+      record { name = b.name; behind = filter (λ c. bytes_eq c.1.name b.name) (counted_from (suc n) bs) } in
+      let sp = bound_all (block_parameters cenv order h b.name)
+      (record (top_senv cenv order h b.template) { escaping = b.escaping; part = Some part }) in
+      let r = scoped (set_in b.body) sp (resolved_body cenv order b.body) in
+      omega (
+        arith,
+        blocks_counted (suc n) bs,
+        scope_counted cenv order b.body sp (all_counted cenv order b.body (bound_all (set_in b.body) sp) k),
+        length-append (body_values r) (routines_values (body_routines cenv order h (counted_from (suc n) bs))),
+      )
+
+  entry_counted : (g : Namespace) → length (body_values (resolved_chain cenv order g (templates cenv.sources g)))
+      ≤ templates_own (templates cenv.sources g)
+      → length (routines_values (entry_routines cenv order g)) ≤ templates_own (templates cenv.sources g)
+  entry_counted (a_chain n) c =
+      omega (
+        arith,
+        c,
+        length-append (body_values (resolved_chain cenv order (a_chain n) (templates cenv.sources (a_chain n)))) [],
+      )
+  entry_counted (a_library n) c = omega arith
+
+  counted_in_chain : length (routines_values (chain_routines cenv order h))
+      + length (defaults_of (macros cenv.sources h))
+      ≤ templates_weight (templates cenv.sources h)
+  counted_in_chain =
+      search (arith, rules, chain_once, entry_counted, chain_counted, macros_counted, blocks_counted, values_append)
+
+  -- A chain has one unit for itself, one for each macro, and one for each body.
+  macros_number : (ms : List MacroBody) → length (map (macro_routine cenv order h) ms) ≤ macros_own ms
+  macros_number [] = omega arith
+  macros_number (m ∷ ms) = omega (arith, macros_number ms)
+
+  bodies_number : (n : ℕ) (bs : List BlockBody)
+      → length (body_routines cenv order h (counted_from n bs)) ≤ bodies_own bs
+  bodies_number n [] = omega arith
+  bodies_number n (b ∷ bs) = omega (arith, bodies_number (suc n) bs)
+
+  entry_number : (g : Namespace) → length (entry_routines cenv order g) ≤ 1
+  entry_number (a_chain n) = omega arith
+  entry_number (a_library n) = omega arith
+
+  units_in_chain : length (chain_routines cenv order h) ≤ templates_weight (templates cenv.sources h) + 1
+  units_in_chain = search (arith, rules, chain_once, macros_number, bodies_number, entry_number, length-append)
+
+chains_counted : (cenv : CompileEnv) (order hs : List Namespace) (k : (f : ℕ) → length (cenv.filters.parameters f) ≤ 3)
+    → length (routines_values (flat_map (chain_routines cenv order) hs))
+    + length (flat_map (λ h. defaults_of (macros cenv.sources h)) hs)
+    ≤ chains_weight cenv.sources hs
+chains_counted cenv order [] k = omega arith
+chains_counted cenv order (h ∷ hs) k =
+    search (arith, rules, chains_counted cenv order hs k, counted_in_chain, values_append, length-append)
+
+units_counted : (cenv : CompileEnv) (order hs : List Namespace) (k : (f : ℕ) → length (cenv.filters.parameters f) ≤ 3)
+    → length (flat_map (chain_routines cenv order) hs) ≤ chains_weight cenv.sources hs + length hs
+units_counted cenv order [] k = omega arith
+units_counted cenv order (h ∷ hs) k =
+    omega (
+      arith,
+      units_counted cenv order hs k,
+      units_in_chain cenv order h k,
+      length-append (chain_routines cenv order h) (flat_map (chain_routines cenv order) hs),
+    )
+
+placed_len : (rs : List (Routine Constant)) (n : ℕ) → length (placed_routines rs n) ≡ length rs
+placed_len [] n = refl
+placed_len (r ∷ rs) n = omega (arith, placed_len rs (n + length (body_values r.body)))
+
+globals_counted : (cenv : CompileEnv) (order hs : List Namespace)
+    → ((k : Namespace) → length (names cenv order k) ≤ 200) → count_globals cenv order hs ≤ 200 * length hs
+globals_counted cenv order [] k = omega arith
+globals_counted cenv order (h ∷ hs) k = omega (arith, k h, globals_counted cenv order hs k)
+
+-- ---- Locals: a unit's parameters, and one for each token
+
+abbrev Holds : {K : Type 0} → ℕ → Routine K → Type 0
+Holds n r = r.locals ≤ n
+
+holds_append : (n : ℕ) (a b : List (Routine Constant)) → AllByRecursion (Holds n) a → AllByRecursion (Holds n) b
+    → AllByRecursion (Holds n) (a ++ b)
+holds_append n [] b h g = g
+holds_append n (r ∷ a) b h g = (h.0, holds_append n a b h.1 g)
+
+module _ (cenv : CompileEnv) (order : List Namespace) (n : ℕ) (some : 1 ≤ n)
+    (few : (h : Namespace) (x : Text) → length (block_parameters cenv order h x) ≤ n) (h : Namespace) where
+  top : (t : Text) → Below n some (top_senv cenv order h t).table
+  top t = globals_below n some (first_slot cenv order h) (names cenv order h)
+
+  sets_localed : (b : Body) (t : Text) → body_own b ≤ n
+      → body_locals (resolved_sets cenv order b (top_senv cenv order h t)) ≤ n
+  sets_localed end t k = omega arith
+  sets_localed (stmt s rest) t k = through (is_set s) (sets_localed rest t (omega (arith, k)))
+    where
+      through : (b : Bool) → body_locals (resolved_sets cenv order rest (top_senv cenv order h t)) ≤ n
+          → body_locals (if b then followed (resolved_stmt cenv order s (top_senv cenv order h t))
+          (resolved_sets cenv order rest (top_senv cenv order h t))
+          else resolved_sets cenv order rest (top_senv cenv order h t))
+          ≤ n
+      through true g =
+          omega (
+            arith,
+            g,
+            stmt_localed n some cenv order few s (top_senv cenv order h t) (top t) (omega (arith, k)),
+            locality.followed_local n some (resolved_stmt cenv order s (top_senv cenv order h t))
+                (resolved_sets cenv order rest (top_senv cenv order h t)),
+          )
+      through false g = g
+
+  chain_localed : (ts : List Template) → templates_own ts ≤ n → body_locals (resolved_chain cenv order h ts) ≤ n
+  chain_localed [] k = omega arith
+  chain_localed (t ∷ []) k =
+      all_localed n some cenv order few t.body (top_senv cenv order h t.name) (top t.name) (omega (arith, k))
+  chain_localed (t ∷ (u ∷ us)) k =
+      omega (
+        arith,
+        chain_localed (u ∷ us) (omega (arith, k)),
+        sets_localed t.body t.name (omega (arith, k)),
+        locality.followed_local n some (resolved_sets cenv order t.body (top_senv cenv order h t.name))
+            (resolved_chain cenv order h (u ∷ us)),
+      )
+
+  -- The bound of the locals of a body with parameters.
+  routine_localed : (ps : List Text) (b : Body) (sp : StaticEnv) → Below n some sp.table
+      → sp.free + length ps + body_own b ≤ n
+      → body_locals (scoped (set_in b) (bound_all ps sp) (resolved_body cenv order b)) ≤ n
+  routine_localed ps b sp t k =
+      let inner = bound_all ps sp in
+      let it : Below n some (bound_table ps sp.free sp.table) =
+      bound_below n some ps sp.free sp.table (omega (arith, k)) t in
+      scope_localed n some cenv order few b inner it (omega (arith, k))
+      (all_localed n some cenv order few b (bound_all (set_in b) inner)
+      (bound_below n some (set_in b) (sp.free + length ps) (bound_table ps sp.free sp.table)
+      (omega (arith, k, locality.in_few b)) it) (omega (arith, k)))
+
+  macros_localed : (ms : List MacroBody) → AllByRecursion (λ m. length m.parameters ≤ 200) ms → 200 + macros_own ms ≤ n
+      → AllByRecursion (Holds n) (map (macro_routine cenv order h) ms)
+  macros_localed [] f k = tt
+  macros_localed (m ∷ ms) f k =
+      let l = length-map m.parameters (λ (p : Parameter). p.name) in (
+        omega (
+          arith,
+          k,
+          f.0,
+          l,
+          routine_localed (map (λ p. p.name) m.parameters) m.body (top_senv cenv order h m.template) (top m.template)
+              (omega (arith, k, f.0, l)),
+        ),
+        macros_localed ms f.1 (omega (arith, k)),
+      )
+
+  blocks_localed : (i : ℕ) (bs : List BlockBody) → ((x : Text) → length (block_parameters cenv order h x) ≤ 200)
+      → 200 + bodies_own bs ≤ n → AllByRecursion (Holds n) (body_routines cenv order h (counted_from i bs))
+  blocks_localed i [] f k = tt
+  blocks_localed i (b ∷ bs) f k =
+      let part : Part =
+      record { name = b.name; behind = filter (λ c. bytes_eq c.1.name b.name) (counted_from (suc i) bs) } in
+      let sp = record (top_senv cenv order h b.template) { escaping = b.escaping; part = Some part } in
+      let ps = block_parameters cenv order h b.name in (
+        omega (arith, k, f b.name, routine_localed ps b.body sp (top b.template) (omega (arith, k, f b.name))),
+        blocks_localed (suc i) bs f (omega (arith, k)),
+      )
+
+  entry_localed : (g : Namespace) → body_locals (resolved_chain cenv order g (templates cenv.sources g)) ≤ n
+      → AllByRecursion (Holds n) (entry_routines cenv order g)
+  entry_localed (a_chain m) c = (c, tt)
+  entry_localed (a_library m) c = tt
+
+  localed_in_chain : IsFew cenv order h → 200 + templates_weight (templates cenv.sources h) ≤ n
+      → AllByRecursion (Holds n) (chain_routines cenv order h)
+  localed_in_chain k room =
+      let once = chain_once cenv.escaping (templates cenv.sources h) in
+      holds_append n (entry_routines cenv order h)
+      (map (macro_routine cenv order h) (macros cenv.sources h) ++ body_routines cenv order h (numbered_bodies cenv h))
+      (entry_localed h (chain_localed (templates cenv.sources h) (omega (arith, room, once))))
+      (holds_append n (map (macro_routine cenv order h) (macros cenv.sources h))
+      (body_routines cenv order h (numbered_bodies cenv h))
+      (macros_localed (macros cenv.sources h)
+      (all_own cenv.sources (λ m. length m.parameters ≤ 200) h (macros cenv.sources h) _ k.macros)
+      (omega (arith, room, once)))
+      (blocks_localed 0 (all_bodies cenv.sources cenv.escaping h) (λ x. parameters_few cenv order h x (k.names h))
+      (omega (arith, room, once))))
+
+chains_localed : (cenv : CompileEnv) (order hs : List Namespace) (n : ℕ) (some : 1 ≤ n)
+    (few : (h : Namespace) (x : Text) → length (block_parameters cenv order h x) ≤ n)
+    → AllByRecursion (IsFew cenv order) hs → 200 + chains_weight cenv.sources hs ≤ n
+    → AllByRecursion (Holds n) (flat_map (chain_routines cenv order) hs)
+chains_localed cenv order [] n some few k room = tt
+chains_localed cenv order (h ∷ hs) n some few k room =
+    holds_append n (chain_routines cenv order h) (flat_map (chain_routines cenv order) hs)
+    (localed_in_chain cenv order n some few h k.0 (omega (arith, room)))
+    (chains_localed cenv order hs n some few k.1 (omega (arith, room)))
+
+holds_placed : (n : ℕ) (rs : List (Routine Constant)) (i : ℕ) → AllByRecursion (Holds n) rs
+    → AllByRecursion (Holds n) (placed_routines rs i)
+holds_placed n [] i h = tt
+holds_placed n (r ∷ rs) i h = (h.0, holds_placed n rs (i + length (body_values r.body)) h.1)
+
+pub program_sized : (cenv : CompileEnv) (entry : Namespace) (rest : List Namespace)
+    → InOrder cenv.sources (entry ∷ rest) → AreFew cenv (entry ∷ rest)
+    → IsSized cenv (entry ∷ rest) (program cenv (entry ∷ rest) entry)
+program_sized cenv entry rest ordered k =
+    let order = entry ∷ rest in
+    let rs = routines cenv order in
+    let n = length (shared cenv order) in
+    record {
+      instructions = omega (arith, routines_placed rs n, chains_sized cenv order order k);
+      constants =
+          omega
+          (arith, chains_counted cenv order order k.0.filters, length-append (shared cenv order) (routines_values rs));
+      units = omega (arith, units_counted cenv order order k.0.filters, placed_len rs n);
+      names = (k.0.names entry).0;
+      globals = globals_counted cenv order order (λ h. (k.0.names h).0);
+      locals =
+          holds_placed (200 + chains_weight cenv.sources order) rs n
+          (chains_localed cenv order order (200 + chains_weight cenv.sources order) (omega arith)
+          (λ h x. omega (arith, parameters_few cenv order h x (k.0.names h))) k (omega arith));
+      entries =
+          heights_placed (max 2 (chains_weight cenv.sources order)) rs n
+          (chains_low cenv order ordered k.0.filters order (λ h i. i));
+    }

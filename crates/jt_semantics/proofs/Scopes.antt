@@ -1,0 +1,167 @@
+-- The names that scopes bind, and the blocks whose tags have `scoped`, in the order of the tree.
+use Rattle.std.proofs.Common.{◌≡◌, true, false, List, [], ◌∷◌, ◌++◌, map, refl, sym, ap, ◌∙◌, subst, ◌⊎◌, inl, inr}
+use Rattle.std.proofs.Common.{arith, rules}
+use Rattle.std.specs.Prelude.{flat_map}
+use Rattle.jt_ast.specs.Texts.{inserted, all_inserted, ascending}
+use Rattle.jt_ast.specs.Expressions.{Text}
+use Rattle.jt_ast.specs.Statements.{Stmt, choose, for_each, set_block, with_values, filter_block, autoescape, macro}
+use Rattle.jt_ast.specs.Statements.{block, Body, end, stmt, Branches, no_branches, branch}
+use Rattle.jt_chains.specs.Chain.{Namespace, Template, templates}
+use Rattle.jt_chains.specs.Uses.{keywords, filter_call_names, stmt_names, body_names, branch_names, set_in}
+use Rattle.jt_chains.specs.Uses.{scope_names_by, scope_names_in, scope_names_under, scope_names}
+use Rattle.jt_rules.specs.CompileEnv.{CompileEnv}
+use Rattle.jt_semantics.proofs.Among.{Among, AllAmong, all_ascending}
+use Rattle.jt_semantics.proofs.EnvLookup.{same_text, is_same, no_both, among_front, among_back, each_among}
+use Rattle.jt_semantics.proofs.StatementCorrect.{Scoping, a_tag, a_name, named, scoped_by, scoped_in, scoped_under}
+use Rattle.jt_semantics.proofs.StatementCorrect.{among_both, in_among}
+
+-- ---- The names alone
+
+abbrev pub names_of : List Scoping → List Text
+names_of [] = []
+names_of (a_tag x ∷ ss) = names_of ss
+names_of (a_name x ∷ ss) = x ∷ names_of ss
+
+names_behind : (xs : List Text) (ss : List Scoping) → names_of (named xs ++ ss) ≡ xs ++ names_of ss
+names_behind [] ss = refl
+names_behind (x ∷ xs) ss = ap (λ ys. x ∷ ys) (names_behind xs ss)
+
+names_append : (ss ts : List Scoping) → names_of (ss ++ ts) ≡ names_of ss ++ names_of ts
+names_append [] ts = refl
+names_append (a_tag x ∷ ss) ts = names_append ss ts
+names_append (a_name x ∷ ss) ts = ap (λ ys. x ∷ ys) (names_append ss ts)
+
+mutual
+  stmt_scopes : (s : Stmt) → names_of (scoped_by s) ≡ scope_names_by s
+  stmt_scopes (block line x true required body) = scope_scopes body
+  stmt_scopes (block line x false required body) = scope_scopes body
+  stmt_scopes (choose bs other) =
+      names_append (scoped_under bs) (scoped_in other)
+      ∙ ap (λ ys. ys ++ names_of (scoped_in other)) (branches_scopes bs)
+      ∙ ap (λ ys. scope_names_under bs ++ ys) (body_scopes other)
+  stmt_scopes (for_each line xs e c body other) =
+      search (arith, rules, names_behind, named, scoped_in, names_append, body_scopes body, body_scopes other)
+  stmt_scopes (set_block line x body) = scope_scopes body
+  stmt_scopes (with_values line ps body) =
+      names_behind (keywords ps) (named (set_in body) ++ scoped_in body)
+      ∙ ap (λ ys. keywords ps ++ ys) (scope_scopes body)
+  stmt_scopes (filter_block line fs body) = scope_scopes body
+  stmt_scopes (autoescape line on body) = scope_scopes body
+  stmt_scopes (macro line x ps body) =
+      names_behind (map (λ p. p.name) ps) (named (set_in body) ++ scoped_in body)
+      ∙ ap (λ ys. map (λ p. p.name) ps ++ ys) (scope_scopes body)
+  stmt_scopes a0 = refl
+
+  scope_scopes : (body : Body) → names_of (named (set_in body) ++ scoped_in body) ≡ set_in body ++ scope_names_in body
+  scope_scopes end = refl
+  scope_scopes (stmt s rest) =
+      names_behind (set_in (stmt s rest)) (scoped_by s ++ scoped_in rest)
+      ∙ ap (λ ys. set_in (stmt s rest) ++ ys) (names_append (scoped_by s) (scoped_in rest)
+      ∙ ap (λ ys. ys ++ names_of (scoped_in rest)) (stmt_scopes s)
+      ∙ ap (λ ys. scope_names_by s ++ ys) (body_scopes rest))
+
+  body_scopes : (body : Body) → names_of (scoped_in body) ≡ scope_names_in body
+  body_scopes end = refl
+  body_scopes (stmt s rest) =
+      names_append (scoped_by s) (scoped_in rest) ∙ ap (λ ys. ys ++ names_of (scoped_in rest)) (stmt_scopes s)
+      ∙ ap (λ ys. scope_names_by s ++ ys) (body_scopes rest)
+
+  branches_scopes : (bs : Branches) → names_of (scoped_under bs) ≡ scope_names_under bs
+  branches_scopes no_branches = refl
+  branches_scopes (branch line c body rest) =
+      names_append (scoped_in body) (scoped_under rest)
+      ∙ ap (λ ys. ys ++ names_of (scoped_under rest)) (body_scopes body)
+      ∙ ap (λ ys. scope_names_in body ++ ys) (branches_scopes rest)
+
+templates_scopes : (ts : List Template)
+    → names_of (flat_map (λ t. scoped_in t.body) ts) ≡ flat_map (λ t. scope_names_in t.body) ts
+templates_scopes [] = refl
+templates_scopes (t ∷ ts) =
+    names_append (scoped_in t.body) (flat_map (λ u. scoped_in u.body) ts)
+    ∙ ap (λ ys. ys ++ names_of (flat_map (λ u. scoped_in u.body) ts)) (body_scopes t.body)
+    ∙ ap (λ ys. scope_names_in t.body ++ ys) (templates_scopes ts)
+
+-- The scopes of a chain bind exactly the names that its templates bind in scopes.
+pub scopes_bound : (cenv : CompileEnv) (h : Namespace)
+    → AllAmong (names_of (flat_map (λ t. scoped_in t.body) (templates cenv.sources h))) (scope_names cenv.sources h)
+scopes_bound cenv h =
+    subst (λ ys. AllAmong ys (scope_names cenv.sources h)) (sym (templates_scopes (templates cenv.sources h)))
+    (all_ascending (flat_map (λ t. scope_names_in t.body) (templates cenv.sources h)))
+
+-- ---- The names that scopes bind are among the names of the templates
+
+mutual
+  stmt_binds : (s : Stmt) (ns : List Text) → AllAmong (stmt_names s) ns → AllAmong (scope_names_by s) ns
+  stmt_binds (block line x scoped required body) ns a = scope_binds body ns a
+  stmt_binds (choose bs other) ns a =
+      among_both (scope_names_under bs) (scope_names_in other) ns
+      (branches_bind bs ns (among_front (branch_names bs) (body_names other) ns a))
+      (body_binds other ns (among_back (branch_names bs) (body_names other) ns a))
+  stmt_binds (for_each line xs e c body other) ns a =
+      search (arith, rules, among_back, among_front, among_both, in_among, body_binds body ns, body_binds other ns)
+  stmt_binds (set_block line x body) ns a = scope_binds body ns a.1
+  stmt_binds (with_values line ps body) ns a =
+      search (arith, rules, among_back, among_both, among_front, scope_binds body ns)
+  stmt_binds (filter_block line fs body) ns a =
+      scope_binds body ns (among_front (body_names body) (filter_call_names fs) ns a)
+  stmt_binds (autoescape line on body) ns a = scope_binds body ns a
+  stmt_binds (macro line x ps body) ns a =
+      among_both (map (λ p. p.name) ps) (set_in body ++ scope_names_in body) ns
+      (among_front (map (λ p. p.name) ps) (body_names body) ns a)
+      (scope_binds body ns (among_back (map (λ p. p.name) ps) (body_names body) ns a))
+  stmt_binds a0 ns a = tt
+
+  scope_binds : (body : Body) (ns : List Text) → AllAmong (body_names body) ns
+      → AllAmong (set_in body ++ scope_names_in body) ns
+  scope_binds end ns a = tt
+  scope_binds (stmt s rest) ns a =
+      among_both (set_in (stmt s rest)) (scope_names_by s ++ scope_names_in rest) ns (in_among (stmt s rest) ns a)
+      (among_both (scope_names_by s) (scope_names_in rest) ns
+      (stmt_binds s ns (among_front (stmt_names s) (body_names rest) ns a))
+      (body_binds rest ns (among_back (stmt_names s) (body_names rest) ns a)))
+
+  body_binds : (body : Body) (ns : List Text) → AllAmong (body_names body) ns → AllAmong (scope_names_in body) ns
+  body_binds end ns a = tt
+  body_binds (stmt s rest) ns a =
+      among_both (scope_names_by s) (scope_names_in rest) ns
+      (stmt_binds s ns (among_front (stmt_names s) (body_names rest) ns a))
+      (body_binds rest ns (among_back (stmt_names s) (body_names rest) ns a))
+
+  branches_bind : (bs : Branches) (ns : List Text) → AllAmong (branch_names bs) ns → AllAmong (scope_names_under bs) ns
+  branches_bind no_branches ns a = tt
+  branches_bind (branch line c body rest) ns a =
+      search (arith, rules, among_back, among_both, body_binds body ns, among_front, branches_bind rest ns)
+
+pub templates_bind : (ts : List Template) (ns : List Text) → AllAmong (flat_map (λ t. body_names t.body) ts) ns
+    → AllAmong (flat_map (λ t. scope_names_in t.body) ts) ns
+templates_bind [] ns a = tt
+templates_bind (t ∷ ts) ns a =
+    among_both (scope_names_in t.body) (flat_map (λ u. scope_names_in u.body) ts) ns
+    (body_binds t.body ns (among_front (body_names t.body) (flat_map (λ u. body_names u.body) ts) ns a))
+    (templates_bind ts ns (among_back (body_names t.body) (flat_map (λ u. body_names u.body) ts) ns a))
+
+-- ---- The names in order are among the names before they were ordered
+
+inserted_from : (x z : Text) (ns : List Text) → Among z (inserted x ns) → (x ≡ z) ⊎ Among z ns
+inserted_from x z [] (inl e) = inl e
+inserted_from x z [] (inr i) = absurd i
+inserted_from x z (y ∷ ys) i = search (arith, rules, inserted_from x z ys)
+
+all_from : (xs : List Text) (z : Text) (ns : List Text) → Among z (all_inserted xs ns) → Among z xs ⊎ Among z ns
+all_from [] z ns i = inr i
+all_from (x ∷ xs) z ns i = search (arith, rules, all_from xs z (inserted x ns) i, inserted_from)
+
+pub ascending_from : (xs : List Text) (z : Text) → Among z (ascending xs) → Among z xs
+ascending_from xs z i = search (arith, rules, all_from xs z [] i)
+
+pub all_among : (ys zs : List Text) → ((y : Text) → Among y ys → Among y zs) → AllAmong ys zs
+all_among [] zs f = tt
+all_among (y ∷ ys) zs f = (f y (inl refl), all_among ys zs (λ z i. f z (inr i)))
+
+pub ascending_among : (xs ns : List Text) → AllAmong xs ns → AllAmong (ascending xs) ns
+ascending_among xs ns a = all_among (ascending xs) ns (λ y i. each_among xs ns a y (ascending_from xs y i))
+
+-- A name is among these names or it is not.
+pub among_or_not : (x : Text) (xs : List Text) → Among x xs ⊎ (Among x xs → ⊥)
+among_or_not x [] = inr (λ i. i)
+among_or_not x (y ∷ ys) = search (arith, rules, among_or_not x ys, same_text y x, no_both, is_same y x)

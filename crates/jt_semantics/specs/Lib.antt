@@ -1,0 +1,12 @@
+pub mod EvalContext
+pub mod Env
+pub mod Expressions
+pub mod Laws
+pub mod Layout
+pub mod Meaning
+pub mod Measure
+pub mod Operators
+pub mod Programs
+pub mod Resolve
+pub mod Ascends
+pub mod Bytes

@@ -1,0 +1,5 @@
+pub mod Arena
+pub mod Names
+pub mod Shapes
+pub mod Typing
+pub mod Working
