@@ -9,6 +9,6 @@ use Rattle.jt_value.specs.declared.key_search.KeySearch.TheVariants as search
 -- Holds if the search suits the entries: a binary search needs ascending keys, and an index has to
 -- map each key to its first entry.
 abbrev pub Finds : KeySearch → Entries → Type 0
-Finds search.Linear entries = Unit {0}
-Finds search.Binary entries = ascends entries ≡ true
-Finds (search.Indexed places) entries = (k : List ℕ) → get_by_text places k ≡ place_of k entries
+Finds search.Linear pairs = Unit {0}
+Finds search.Binary pairs = ascends pairs ≡ true
+Finds (search.Indexed places) pairs = (k : List ℕ) → get_by_text places k ≡ place_of k pairs
