@@ -21,7 +21,7 @@ use Rattle.jt_ir.proofs.StatementViews.{SBranch}
 use Rattle.jt_ir.proofs.ExpressionViews.{Entry}
 use Rattle.jt_ir.proofs.StatementViews.{view_If, view_For, view_Capture}
 
--- ---- the count does not depend on pool places
+-- ---- the count does not depend on pool indices
 
 both_counted : (a b c d : ℕ) → a ≡ b → c ≡ d → max a c ≡ max b d
 both_counted a b c d e f = ap (λ n. max n c) e ∙ ap (max b) f

@@ -63,8 +63,8 @@ impl<'t, 's, 'a> Resolver<'t, 's, 'a> {
             slots.none done.old done.new pool.old pool.new) }
     {
         let rest = behind(parameters, arguments.row.len());
-        for (place, parameter) in rest.iter().enumerate() {
-            let left = &rest[place..];
+        for (index, parameter) in rest.iter().enumerate() {
+            let left = &rest[index..];
             if !is_some_given(left, arguments.pairs) {
                 return Ok(());
             }

@@ -7,7 +7,7 @@ ghost use Rattle.jt_ast.specs.Expressions as trees;
 ghost use Rattle.jt_ast.specs.ExpressionView as written;
 ghost use Rattle.jt_chains.specs.Chain as chain;
 ghost use Rattle.jt_chains.specs.Named.{given_view};
-ghost use Rattle.jt_chains.specs.Places.{namespace_at};
+ghost use Rattle.jt_chains.specs.Indices.{namespace_at};
 ghost use Rattle.jt_bind.specs.internal.Callees.{IsCallee, IsLaidThere, library_of};
 ghost use Rattle.jt_bind.specs.internal.Scoped.{cenv_in, order_in, given_in, given_as, IsCalled};
 ghost use Rattle.jt_bind.specs.internal.Scoped.{IsMacroOf};
@@ -19,7 +19,7 @@ use jt_chains::{Definition, is_private};
 use jt_layout::checked_sum;
 use jt_value::NoMemory;
 
-/// The signature of a macro: its parameters, its unit, and the pool place of its first default.
+/// The signature of a macro: its parameters, its unit, and the pool index of its first default.
 #[derive(Clone, Copy)]
 pub(crate) struct Signature<'s> {
     pub parameters: &'s [Parameter],
@@ -69,8 +69,8 @@ impl<'a> Tables<'a> {
             ≡ chain.given_to name.now (given_in self.now) }
     {
         let here = self.here();
-        let place = here.given_places.place(name)?;
-        Some(here.given[place].given)
+        let index = here.given_indices.index_of(name)?;
+        Some(here.given[index].given)
     }
 
     /// Returns the callee of a name with this definition. A library itself cannot be called.
@@ -94,14 +94,14 @@ impl<'a> Tables<'a> {
             (λ k. IsMacroOf self.now (namespace_at (order_in self.now) namespace) name.now k) }
     {
         let there = self.at(namespace);
-        let Some(place) = there.called.place(name) else {
+        let Some(index) = there.called.index_of(name) else {
             return Ok(Callee::Unknown);
         };
-        let found = &there.macros[place];
+        let found = &there.macros[index];
         Ok(Callee::Macro(Signature {
             parameters: found.parameters,
-            unit: checked_sum(there.macro_unit, place)?,
-            first_default: there.defaults[place],
+            unit: checked_sum(there.macro_unit, index)?,
+            first_default: there.defaults[index],
         }))
     }
 
@@ -112,8 +112,8 @@ impl<'a> Tables<'a> {
             name.now
             → IsMacroOf self.now (chain.a_library library.now) name.now k) }
     {
-        match self.library_place(library) {
-            Some(place) => self.macro_at(place, name),
+        match self.library_index(library) {
+            Some(index) => self.macro_at(index, name),
             None => Ok(Callee::Unknown),
         }
     }

@@ -28,9 +28,9 @@ pub(crate) fn put_data(
         → Led templates (alone (slots.put_pooled (own (tree.text text.now)))) done.old.items
         done.new.items (values pool.old) (values pool.new)) }
 {
-    let place = pool.len();
+    let index = pool.len();
     pool.push(Value::text(alloc, text)?)?;
-    done.push(SlotStmt::PutPooled(place))?;
+    done.push(SlotStmt::PutPooled(index))?;
     Ok(())
 }
 

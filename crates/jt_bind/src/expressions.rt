@@ -1,4 +1,4 @@
-//! Resolves expressions: names to slots, and literals and keys to places of a pool.
+//! Resolves expressions: names to slots, and literals and keys to indices of a pool.
 
 ghost use Rattle.std.specs.Prelude.{false, length, List, IfOk, Some};
 ghost use Rattle.jt_value.specs.Tree.{Tree};
@@ -10,8 +10,8 @@ ghost use Rattle.jt_semantics.specs.Resolve as resolve;
 ghost use Rattle.jt_ids.specs.declared.op_id.OpId.TheVariants as op;
 ghost use Rattle.jt_ir.specs.Pool.{Constant};
 ghost use Rattle.jt_ir.specs.Slots as slots;
-ghost use Rattle.jt_bind.specs.internal.Resolving.{IsResolved, RowAdds, RowPuts, by_place, by_name};
-ghost use Rattle.jt_bind.specs.internal.Resolving.{expr_of};
+ghost use Rattle.jt_bind.specs.internal.Resolving.{IsResolved, RowAdds, RowPuts, by_position};
+ghost use Rattle.jt_bind.specs.internal.Resolving.{by_name, expr_of};
 ghost use Rattle.jt_bind.specs.internal.Resolving.{row_of, asides_of, given_of, called_of};
 ghost use Rattle.jt_bind.specs.internal.Resolving.{entries_of};
 ghost use Rattle.jt_bind.specs.internal.Resolving.{filtered_of};
@@ -131,8 +131,8 @@ impl<'t, 's, 'a> Resolver<'t, 's, 'a> {
             return Ok(told(LoopField::by_name(key)));
         }
         let whole = self.resolve_expression(value, pool)?;
-        let place = add_text(self.alloc, key, pool)?;
-        on_two(self.alloc, OpId::Item, whole, place)
+        let item_key = add_text(self.alloc, key, pool)?;
+        on_two(self.alloc, OpId::Item, whole, item_key)
     }
 
     /// Resolves an item.
@@ -149,8 +149,8 @@ impl<'t, 's, 'a> Resolver<'t, 's, 'a> {
             pool.new) }
     {
         let whole = self.resolve_expression(value, pool)?;
-        let place = self.resolve_expression(index, pool)?;
-        on_two(self.alloc, OpId::Item, whole, place)
+        let item_key = self.resolve_expression(index, pool)?;
+        on_two(self.alloc, OpId::Item, whole, item_key)
     }
 
     /// Resolves a unary operator.
@@ -286,7 +286,7 @@ impl<'t, 's, 'a> Resolver<'t, 's, 'a> {
         pool: &mut Vec<Value>,
     ) -> Result<SlotExpr, NoMemory>
         ensures { IfOk result (λ e. IsResolved self.now
-            (trees.filter (written.expr_view value.now) name.now (by_place arguments.entry)
+            (trees.filter (written.expr_view value.now) name.now (by_position arguments.entry)
             (by_name arguments.entry)) e pool.old pool.new) }
     {
         match filter_of(name, arguments.row, arguments.pairs) {
@@ -310,8 +310,8 @@ impl<'t, 's, 'a> Resolver<'t, 's, 'a> {
     ) -> Result<SlotExpr, NoMemory>
         ensures { IfOk result (λ e. (c : slots.SlotExpr Constant) (p : List Tree)
             → IsShown c value p (values pool.old)
-            → IsShown (filtered_of self.now (Some (filter_id filter)) c (by_place arguments.entry)
-            (by_name arguments.entry)) e p (values pool.new)) }
+            → IsShown (filtered_of self.now (Some (filter_id filter)) c
+            (by_position arguments.entry) (by_name arguments.entry)) e p (values pool.new)) }
     {
         let mut given = row_of(self.alloc, value)?;
         self.resolve_given(arguments, &mut given, pool)?;
@@ -336,7 +336,7 @@ impl<'t, 's, 'a> Resolver<'t, 's, 'a> {
         pool: &mut Vec<Value>,
     ) -> Result<SlotExpr, NoMemory>
         ensures { IfOk result (λ e. IsResolved self.now (trees.call (written.expr_view called.now)
-            (by_place arguments.entry) (by_name arguments.entry)) e pool.old pool.new) }
+            (by_position arguments.entry) (by_name arguments.entry)) e pool.old pool.new) }
     {
         match self.tables.callee_of(&*called)? {
             Callee::Macro(signature) => self.resolve_macro(signature, arguments, pool),
@@ -465,8 +465,8 @@ impl<'t, 's, 'a> Resolver<'t, 's, 'a> {
             slots.none done.old done.new pool.old pool.new) }
     {
         for (key, value) in pairs {
-            let place = add_text(self.alloc, key.as_str(), pool)?;
-            done.push((None, place))?;
+            let entry_key = add_text(self.alloc, key.as_str(), pool)?;
+            done.push((None, entry_key))?;
             let next = self.resolve_expression(value, pool)?;
             done.push((None, next))?;
         }

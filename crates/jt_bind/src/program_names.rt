@@ -2,7 +2,7 @@
 
 ghost use Rattle.std.specs.Prelude.{◌≡◌, map, IfOk, string_bytes};
 ghost use Rattle.jt_chains.specs.TemplateFiles.{files_view};
-ghost use Rattle.jt_chains.specs.Places.{namespace_at};
+ghost use Rattle.jt_chains.specs.Indices.{namespace_at};
 ghost use Rattle.jt_semantics.specs.Layout as layout;
 ghost use Rattle.jt_semantics.specs.Programs as programs;
 ghost use Rattle.jt_bind.specs.internal.Scoped.{cenv_in, order_in};

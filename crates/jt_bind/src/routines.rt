@@ -106,8 +106,8 @@ fn resolve_layers<'a>(
     ensures { IfOk result (λ u. BodyLed tables.now (layers_in tables.now layers.now) done.old
         done.new pool.old pool.new) }
 {
-    for (place, layer) in layers.iter().enumerate() {
-        let is_root = place + 1 == layers.len();
+    for (index, layer) in layers.iter().enumerate() {
+        let is_root = index + 1 == layers.len();
         let resolver = Resolver {
             alloc,
             tables,
@@ -193,11 +193,11 @@ fn resolve_blocks<'a>(
         pool.old pool.new) }
 {
     let here = tables.here();
-    for (place, block) in here.blocks.iter().enumerate() {
+    for (index, block) in here.blocks.iter().enumerate() {
         let senv = StaticEnv {
             template: block.template,
             escaping: block.escaping,
-            body: Some(place),
+            body: Some(index),
             name_scopes: &[],
             free: 0,
         };

@@ -1,4 +1,4 @@
-//! Resolves statements: names to slots, and literals and data to places of a pool.
+//! Resolves statements: names to slots, and literals and data to indices of a pool.
 
 ghost use Rattle.std.specs.Prelude.{ℕ, option_map, IfOk, if◌then◌else◌};
 ghost use Rattle.jt_ast.specs.ExpressionView as written;

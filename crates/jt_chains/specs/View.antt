@@ -8,7 +8,7 @@ use Rattle.jt_chains.specs.Along.{along}
 use Rattle.jt_chains.specs.Chain as chains
 use Rattle.jt_chains.specs.Chain.{Sources, Namespace, Template, imports_in, sources_in}
 use Rattle.jt_chains.specs.TemplateFiles.{files_view, namespace_view}
-use Rattle.jt_chains.specs.Places.{namespace_at}
+use Rattle.jt_chains.specs.Indices.{namespace_at}
 use Rattle.jt_chains.specs.declared.chain.Chain.{Chain}
 
 -- The chain of an entry, with the chains and libraries that its includes and imports reach.

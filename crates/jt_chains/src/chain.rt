@@ -31,7 +31,7 @@ pub struct Chain {
     /// Whether text outside `autoescape` tags is escaped.
     pub autoescape: bool,
     /// The index in `templates` of each template, by its name.
-    pub places: BTreeMap<String, usize>,
+    pub indices: BTreeMap<String, usize>,
     pub ghost once: { repeated (map (λ t. t.name) (files_view templates.items)) ≡ false },
     pub ghost some: { 0 < length namespaces.items },
     pub ghost begins: { begins_with_chain (map namespace_view namespaces.items) ≡ true },
@@ -41,6 +41,6 @@ pub struct Chain {
             (map namespace_view namespaces.items) },
     pub ghost whole: { AreWhole (files_view templates.items)
         namespaces.items } by { AreWhole-prop (files_view templates.items) namespaces.items },
-    pub ghost placed: { AreAt (files_view templates.items)
-        places } by { AreAt-prop (files_view templates.items) places },
+    pub ghost indexed: { AreAt (files_view templates.items)
+        indices } by { AreAt-prop (files_view templates.items) indices },
 }

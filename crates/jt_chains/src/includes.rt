@@ -17,7 +17,7 @@ use std::alloc::{AllocError, Global};
 /// An include or an import: the name of the template, whether the template may be missing, and
 /// whether it is a library.
 #[derive(Clone, Copy)]
-pub struct Include<'a> {
+pub struct NeededTemplate<'a> {
     pub name: &'a str,
     pub ignoring: bool,
     pub is_library: bool,
@@ -25,7 +25,7 @@ pub struct Include<'a> {
 
 /// Adds the includes in statements, in the order of the source.
 #[cycle(includes)]
-fn add_includes<'a>(found: &mut Vec<Include<'a>>, body: &'a [Stmt]) -> Result<(), AllocError>
+fn add_includes<'a>(found: &mut Vec<NeededTemplate<'a>>, body: &'a [Stmt]) -> Result<(), AllocError>
     ensures { IfOk result (λ _. AddsNeeds found.old.items found.new.items
         (includes_in include_need (body_view body.now))) }
 {
@@ -37,7 +37,10 @@ fn add_includes<'a>(found: &mut Vec<Include<'a>>, body: &'a [Stmt]) -> Result<()
 
 /// Adds the includes in a statement, in the order of the source.
 #[cycle(includes)]
-fn add_statement<'a>(found: &mut Vec<Include<'a>>, statement: &'a Stmt) -> Result<(), AllocError>
+fn add_statement<'a>(
+    found: &mut Vec<NeededTemplate<'a>>,
+    statement: &'a Stmt,
+) -> Result<(), AllocError>
     ensures { IfOk result (λ _. AddsNeeds found.old.items found.new.items
         (includes_by include_need (stmt_view statement.now))) }
 {
@@ -49,7 +52,7 @@ fn add_statement<'a>(found: &mut Vec<Include<'a>>, statement: &'a Stmt) -> Resul
         | Stmt::From { .. }
         | Stmt::Extends(_, _) => Ok(()),
         Stmt::Include { name, missing, .. } => {
-            found.push(Include {
+            found.push(NeededTemplate {
                 name: name.as_str(),
                 ignoring: missing.is_ignored(),
                 is_library: false,
@@ -77,18 +80,18 @@ fn add_statement<'a>(found: &mut Vec<Include<'a>>, statement: &'a Stmt) -> Resul
     }
 }
 
-/// Returns the includes of the templates at `places`. An index out of range adds none.
+/// Returns the includes of the templates at `indices`. An index out of range adds none.
 pub fn includes_at<'a>(
     alloc: Global,
     files: &'a [TemplateFile],
-    places: &[usize],
-) -> Result<Vec<Include<'a>>, AllocError>
+    indices: &[usize],
+) -> Result<Vec<NeededTemplate<'a>>, AllocError>
     ensures { IfOk result
-        (λ needs. needs_view needs.items ≡ includes_along (files_view files.now) places.now) }
+        (λ needs. needs_view needs.items ≡ includes_along (files_view files.now) indices.now) }
 {
     let mut found = Vec::new(alloc);
-    for place in places {
-        add_includes(&mut found, body_of_file(files, *place))?;
+    for index in indices {
+        add_includes(&mut found, body_of_file(files, *index))?;
     }
     Ok(found)
 }
@@ -96,7 +99,11 @@ pub fn includes_at<'a>(
 impl Chain {
     /// Returns the includes of a chain, once for each tag; those of the entry's template come
     /// first. Returns none if `namespace` is out of range.
-    pub fn includes(&self, alloc: Global, namespace: usize) -> Result<Vec<Include<'_>>, AllocError>
+    pub fn includes(
+        &self,
+        alloc: Global,
+        namespace: usize,
+    ) -> Result<Vec<NeededTemplate<'_>>, AllocError>
         ensures there { namespace < length self.now.namespaces.items → IfOk result (λ needs.
             needs_view needs.items ≡ flat_map (λ t. includes_in include_need t.body)
             (templates (its_sources self.now) (namespace_in self.now namespace))) }

@@ -3,7 +3,7 @@
 ghost use Rattle.std.specs.Prelude.{◌≡◌, option_and_then};
 ghost use Rattle.jt_ast.specs.Written.{literal_text};
 ghost use Rattle.jt_ast.specs.ExpressionView.{expr_view, exprs_view, pairs_view};
-ghost use Rattle.jt_ids.specs.FilterTable.{filter_of_name, named_at, place_of};
+ghost use Rattle.jt_ids.specs.FilterTable.{filter_of_name, named_at, position_of};
 ghost use Rattle.jt_eval.specs.Inside as inside;
 ghost use Rattle.jt_eval.specs.Tests.{test_named};
 
@@ -68,9 +68,9 @@ fn is_row_well(filter: FilterId, row: &[Expr]) -> bool
 
 /// Returns what a keyword argument names, if it names something.
 fn naming_of(filter: FilterId, name: &str) -> Option<ArgumentRole>
-    ensures { result ≡ option_and_then (named_at filter) (place_of filter name.now) }
+    ensures { result ≡ option_and_then (named_at filter) (position_of filter name.now) }
 {
-    filter.named_at(filter.place(name)?)
+    filter.named_at(filter.position(name)?)
 }
 
 /// Returns whether each keyword argument that names something names it correctly. A named filter or

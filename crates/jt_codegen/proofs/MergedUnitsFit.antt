@@ -5,7 +5,7 @@ use Rattle.jt_image.specs.Code.{Section}
 use Rattle.jt_image.specs.IsCode.{IsInstruction, max_locals, max_instructions}
 use Rattle.jt_image.specs.Parts.{IsWritable}
 use Rattle.jt_ir.specs.Slots.{Program}
-use Rattle.jt_constants.specs.Merged.{new_places, moved_unit}
+use Rattle.jt_constants.specs.Merged.{new_indices, moved_unit}
 use Rattle.jt_constants.proofs.MergeIsNoLarger.{units_len}
 use Rattle.jt_lower.specs.Compiles.{LowLaws}
 use Rattle.jt_lower.specs.Fits.{ProgramFits}
@@ -27,7 +27,7 @@ moved_before P places (u ∷ us) h = (h.0, moved_before P places us h.1)
 
 -- The places of a program's constants in the table.
 abbrev pub ps : Program → List ℕ
-ps p = new_places (lowered p).constants
+ps p = new_indices (lowered p).constants
 
 writable_before : (places : List ℕ) (us : List Section) → AllByRecursion IsWritable (map (moved_unit places) us)
     → AllByRecursion (λ u. AllByRecursion IsInstruction u.code) us → AllByRecursion IsWritable us

@@ -46,7 +46,7 @@ pub(crate) fn parts_of(alloc: Global, program: &Program) -> Result<Parts, EmitEr
     }
     let table = constant_table(alloc, &program.pool)?;
     let mut code = units_of(alloc, &program.routines)?;
-    move_constants(&mut code.units, &table.places);
+    move_constants(&mut code.units, &table.indices);
     let named = place_table(alloc, &program.templates, &code.places)?;
     Ok(Parts {
         version: Version::Two,

@@ -6,36 +6,36 @@ use Rattle.std.specs.Option.{option_and_then}
 use Rattle.std.proofs.lemmas.List.{length-map}
 use Rattle.std.proofs.lemmas.Option.{slice_get-map}
 use Rattle.jt_value.specs.Pairs.{Pairs}
-use Rattle.jt_value.specs.Place.{Place}
+use Rattle.jt_value.specs.Index.{Index}
 use Rattle.jt_image.specs.declared.instruction.Instruction.{Instruction}
 use Rattle.jt_image.specs.declared.instruction.Instruction.TheVariants as op
 use Rattle.jt_image.specs.Code.{Constant, Section, Code}
 use Rattle.jt_image.specs.IsCode.{total_len}
-use Rattle.jt_image.specs.Places.{place_of, place_at}
+use Rattle.jt_image.specs.Indices.{index_of, index_at}
 use Rattle.jt_image.specs.Config.{MachineState}
 use Rattle.jt_image.specs.Step.{Action, straight, push, put, constant_value, text_of, calls_unit, action, fetch}
 use Rattle.jt_image.specs.Run.{entry_locals}
 use Rattle.jt_image.specs.FreeRun.{Free, on_action, exec_at, exec, start_machine, ComesTo}
-use Rattle.jt_constants.specs.Merged.{new_places, with_places, moved_unit, merged}
+use Rattle.jt_constants.specs.Merged.{new_indices, with_indices, moved_unit, merged}
 use Rattle.jt_constants.proofs.UniqueConstants.{reads}
 
-pub total_taken : (places : List ℕ) (n : ℕ) (us : List Section)
-    → total_len (take n (map (moved_unit places) us)) ≡ total_len (take n us)
-total_taken places zero us = refl
-total_taken places (suc n) [] = refl
-total_taken places (suc n) (u ∷ us) = omega (arith, length-map u.code (with_places places), total_taken places n us)
+pub total_taken : (indices : List ℕ) (n : ℕ) (us : List Section)
+    → total_len (take n (map (moved_unit indices) us)) ≡ total_len (take n us)
+total_taken indices zero us = refl
+total_taken indices (suc n) [] = refl
+total_taken indices (suc n) (u ∷ us) = omega (arith, length-map u.code (with_indices indices), total_taken indices n us)
 
-entry_same : (places : List ℕ) (us : List Section) → entry_locals (map (moved_unit places) us) ≡ entry_locals us
-entry_same places [] = refl
-entry_same places (u ∷ us) = refl
+entry_same : (indices : List ℕ) (us : List Section) → entry_locals (map (moved_unit indices) us) ≡ entry_locals us
+entry_same indices [] = refl
+entry_same indices (u ∷ us) = refl
 
 module _ (k : Code) where
   abbrev ps : List ℕ
-  ps = new_places k.constants
+  ps = new_indices k.constants
 
-  place_same : (unit point : ℕ) → place_at (merged k) unit point ≡ place_at k unit point
-  place_same unit point =
-      ap (λ (n : ℕ). option_and_then (place_of k.templates) (slice_get k.places (n + point)))
+  index_same : (unit point : ℕ) → index_at (merged k) unit point ≡ index_at k unit point
+  index_same unit point =
+      ap (λ (n : ℕ). option_and_then (index_of k.templates) (slice_get k.indices (n + point)))
       (total_taken ps unit k.units)
 
   called_same : (n : ℕ) (o : Option Section) (m : MachineState)
@@ -44,7 +44,7 @@ module _ (k : Code) where
   called_same n (Some v) m = refl
 
   action_same : (u : Section) (i : Instruction) (m : MachineState)
-      → action (merged k) (moved_unit ps u) (with_places ps i) m ≡ action k u i m
+      → action (merged k) (moved_unit ps u) (with_indices ps i) m ≡ action k u i m
   action_same u (op.Const c) m =
       ap (λ (o : Option Constant). straight (push (constant_value o) m.state.entries m.state) m) (reads k.constants c)
   action_same u (op.Load c) m = refl
@@ -79,24 +79,24 @@ module _ (k : Code) where
   action_same u op.Return m = refl
 
   abbrev both : Section × Instruction → Section × Instruction
-  both x = (moved_unit ps x.0, with_places ps x.1)
+  both x = (moved_unit ps x.0, with_indices ps x.1)
 
   in_unit : (u : Section) (p : ℕ) → option_and_then (λ i. Some (moved_unit ps u, i))
-      (slice_get (map (with_places ps) u.code) p)
+      (slice_get (map (with_indices ps) u.code) p)
       ≡ option_map both (option_and_then (λ i. Some (u, i)) (slice_get u.code p))
   in_unit u p = search (arith, rules, slice_get-map)
 
   fetch_same : (n p : ℕ) → fetch (merged k) n p ≡ option_map both (fetch k n p)
   fetch_same n p = search (arith, rules, slice_get-map, in_unit)
 
-  then_same : (n : ℕ) (q : Option Place) (a : Action) → ((m : MachineState) → exec (merged k) n m ≡ exec k n m)
+  then_same : (n : ℕ) (q : Option Index) (a : Action) → ((m : MachineState) → exec (merged k) n m ≡ exec k n m)
       → on_action q a (exec (merged k) n) ≡ on_action q a (exec k n)
   then_same n q a2 h = search (arith, rules)
 
   at_same : (n : ℕ) (x : Option (Section × Instruction)) (m : MachineState)
       → ((d : MachineState) → exec (merged k) n d ≡ exec k n d)
       → exec_at (merged k) (option_map both x) m (exec (merged k) n) ≡ exec_at k x m (exec k n)
-  at_same n a1 m h = search (arith, rules, place_same, action_same, then_same)
+  at_same n a1 m h = search (arith, rules, index_same, action_same, then_same)
 
   exec_same : (n : ℕ) (m : MachineState) → exec (merged k) n m ≡ exec k n m
   exec_same zero m = refl

@@ -22,10 +22,10 @@ pub(crate) fn parent_of(body: &[Stmt]) -> Option<&str>
 }
 
 /// Returns the import of a library.
-fn imported(name: &str) -> Include<'_>
+fn imported(name: &str) -> NeededTemplate<'_>
     ensures { need_view result ≡ library_need name.now }
 {
-    Include {
+    NeededTemplate {
         name,
         ignoring: false,
         is_library: true,
@@ -34,7 +34,7 @@ fn imported(name: &str) -> Include<'_>
 
 /// Adds the imports of a template, in the order of the source.
 pub(crate) fn add_imports<'a>(
-    found: &mut Vec<Include<'a>>,
+    found: &mut Vec<NeededTemplate<'a>>,
     body: &'a [Stmt],
 ) -> Result<(), AllocError>
     ensures { IfOk result (λ _. AddsNeeds found.old.items found.new.items

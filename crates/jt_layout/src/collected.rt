@@ -10,7 +10,7 @@ ghost use Rattle.jt_chains.specs.TemplateFiles.{namespace_view};
 ghost use Rattle.jt_semantics.specs.Layout.{in_globals};
 ghost use Rattle.jt_chains.specs.View.{namespace_in};
 ghost use Rattle.jt_layout.specs.internal.Namespaces.{its_cenv, its_order, AreSources, AreNames};
-ghost use Rattle.jt_layout.specs.internal.Places.{all_names, names_at};
+ghost use Rattle.jt_layout.specs.internal.Indices.{all_names, names_at};
 
 use crate::index::NameIndex;
 use crate::lists::list_of;
@@ -98,7 +98,7 @@ fn names_of_chain<'a>(
     behind: &CollectedNames<'a>,
 ) -> Result<Vec<&'a str>, AllocError>
     requires stands { namespace < length chain.now.namespaces.items }
-    requires sources { AreSources chain.now sources.now.places }
+    requires sources { AreSources chain.now sources.now.indices }
     requires behind { AreNames chain.now (drop (namespace + 1) (its_order chain.now))
         behind.now.names }
     ensures { IfOk result (λ ns. texts ns.items ≡ all_names (its_cenv chain.now)
@@ -107,7 +107,7 @@ fn names_of_chain<'a>(
     let mut names = own_names(alloc, chain, namespace)?;
     let included = chain.includes(alloc, namespace)?;
     for include in &included {
-        if sources.place(include.name).is_none() {
+        if sources.index_of(include.name).is_none() {
             continue;
         }
         behind.add_to(&mut names, include.name)?;
@@ -122,7 +122,7 @@ pub(crate) fn gather<'a>(
     chain: &'a Chain,
     sources: &NameIndex<'a>,
 ) -> Result<CollectedNames<'a>, NoMemory>
-    requires { AreSources chain.now sources.now.places }
+    requires { AreSources chain.now sources.now.indices }
     ensures { IfOk result (λ g. AreNames chain.now (its_order chain.now) g.names) }
 {
     let mut collected = CollectedNames::new(alloc);

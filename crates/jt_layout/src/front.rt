@@ -1,6 +1,6 @@
 //! Defines the first free numbers at a chain.
 
-/// The first slot, the first unit and the first pool place of a default that the chains before do
+/// The first slot, the first unit and the first pool index of a default that the chains before do
 /// not use.
 #[derive(Clone, Copy)]
 pub(crate) struct FirstFree {

@@ -1,7 +1,7 @@
 //! Checks the rules of a chain and resolves it.
 
 ghost use Rattle.std.specs.Prelude.{◌≡◌, IfOk, OnOk, IfErr};
-ghost use Rattle.jt_chains.specs.Places.{namespace_at};
+ghost use Rattle.jt_chains.specs.Indices.{namespace_at};
 ghost use Rattle.jt_chains.specs.View.{chain_view};
 ghost use Rattle.jt_rules.specs.Rules.{KeepsRules, Breaks};
 ghost use Rattle.jt_rules.specs.CompileEnv.{cenv_of};

@@ -47,9 +47,9 @@ same_key (of_macro a x) (of_macro b y) = same_namespace a b && bytes_eq x y
 same_key (of_body a i) (of_body b j) = same_namespace a b && (i == j)
 same_key _ _ = false
 
-abbrev pub place_of : Key → List Key → ℕ
-place_of k [] = 0
-place_of k (j ∷ js) = if same_key j k then 0 else suc (place_of k js)
+abbrev pub index_of : Key → List Key → ℕ
+index_of k [] = 0
+index_of k (j ∷ js) = if same_key j k then 0 else suc (index_of k js)
 
 -- The names that are stored in globals: all names of a chain, and no name of a library.
 abbrev pub in_globals : Namespace → List Text → List Text
@@ -128,7 +128,7 @@ module _ (cenv : CompileEnv) where
     keys = flat_map chain_keys order
 
     abbrev pub unit : Key → ℕ
-    unit k = place_of k keys
+    unit k = index_of k keys
 
     -- The first values of the pool: undefined, and the defaults of all macros.
     abbrev pub shared : List Tree
@@ -142,5 +142,5 @@ module _ (cenv : CompileEnv) where
         else length (defaults_of (macros cenv.sources first)) + default_in rest namespace x
 
     -- The index in the pool of the default of a macro's first parameter.
-    abbrev pub default_place : Namespace → Text → ℕ
-    default_place namespace x = suc (default_in order namespace x)
+    abbrev pub default_index : Namespace → Text → ℕ
+    default_index namespace x = suc (default_in order namespace x)

@@ -10,7 +10,7 @@ ghost use Rattle.jt_verify.specs.internal.Arena.{shape_in, IsIn, kind_of, Holds}
 ghost use Rattle.jt_verify.specs.internal.Shapes.{Requires, PointIn, FindsFrame};
 
 use crate::arena::Arena;
-use crate::links::{NonValue, ShapeId};
+use crate::nodes::{NonValue, ShapeId};
 use jt_ids::{FilterId, OpId, TestId};
 use jt_image::{Code, ConstantRef, Flaw, Instruction, Kind, LoopField, MAX_ENTRIES, UnitHeader};
 

@@ -46,8 +46,8 @@ RowPuts whole before after old new =
     (left : SRow Constant) → RowAdds (whole left) left before after old new
 
 -- The positional and the keyword arguments of a call.
-abbrev pub by_place : Arguments → expressions.Exprs
-by_place a = exprs_view a.row.now
+abbrev pub by_position : Arguments → expressions.Exprs
+by_position a = exprs_view a.row.now
 
 abbrev pub by_name : Arguments → expressions.Pairs
 by_name a = pairs_view a.pairs.now
@@ -90,7 +90,7 @@ module _ (r : Resolver) where
 
   -- The positional arguments, followed by the keyword arguments.
   abbrev pub given_of : Arguments → SRow Constant → SRow Constant
-  given_of a left = row_of (by_place a) (asides_of (by_name a) left)
+  given_of a left = row_of (by_position a) (asides_of (by_name a) left)
 
   abbrev pub entries_of : expressions.Pairs → SRow Constant
   entries_of ps = entries_in r.tables.now ps r.senv

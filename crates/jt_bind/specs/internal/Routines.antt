@@ -1,4 +1,4 @@
--- The routines of chains, with the places of the pool that they fill. Only private clauses cite
+-- The routines of chains, with the indices of the pool that they fill. Only private clauses cite
 -- this module.
 use Rattle.std.specs.Prelude.{◌≡◌, List, ◌++◌, length, map, Vec}
 use Rattle.std.specs.declared.alloc.Global.{Global}

@@ -1,4 +1,4 @@
--- The resolved parts of a chain, by the layouts in the code and with the places of the pool that is
+-- The resolved parts of a chain, by the layouts in the code and with the indices of the pool that is
 -- filled. Only private clauses cite this module.
 use Rattle.std.specs.Prelude.{◌≡◌, ℕ, pos, ◌<◌, List, [], ◌∷◌, ◌++◌, map, drop, length, get_or, filter, Option, Some}
 use Rattle.std.specs.Prelude.{None, Vec}
@@ -18,7 +18,7 @@ use Rattle.jt_chains.specs.Named.{given_view}
 use Rattle.jt_chains.specs.declared.definitions.Definition as found
 use Rattle.jt_chains.specs.Parts.{name_at}
 use Rattle.jt_chains.specs.Uses.{count, keywords}
-use Rattle.jt_chains.specs.Places.{namespace_at}
+use Rattle.jt_chains.specs.Indices.{namespace_at}
 use Rattle.jt_chains.specs.View.{chain_view}
 use Rattle.jt_rules.specs.CompileEnv.{CompileEnv, cenv_of}
 use Rattle.jt_ir.specs.Pool.{Constant, own, expr_values, row_values, body_values, placed_expr, placed_row, placed_body}

@@ -19,7 +19,7 @@ use Rattle.jt_ast.specs.StatementView.{parameters_view}
 use Rattle.jt_chains.specs.Chain.{Namespace, a_chain, a_library, Definition, one_macro, library, given, given_to}
 use Rattle.jt_chains.specs.Chain.{bodies, libraries}
 use Rattle.jt_chains.specs.Uses.{own_names}
-use Rattle.jt_chains.specs.Places.{namespace_at}
+use Rattle.jt_chains.specs.Indices.{namespace_at}
 use Rattle.jt_chains.specs.View.{chain_view}
 use Rattle.jt_chains.specs.declared.chain.Chain.{Chain}
 use Rattle.jt_rules.specs.CompileEnv.{CompileEnv, cenv_of}

@@ -18,13 +18,13 @@ use Rattle.jt_inherit.specs.internal.RuleTests.{BreakOne, KeepAll}
 use Rattle.jt_chains.specs.Names.{IsName}
 use Rattle.jt_chains.specs.Needs.{Need, need_namespace, need_view, needed}
 use Rattle.jt_chains.specs.TemplateFiles.{files_view, namespace_view}
-use Rattle.jt_chains.specs.Places.{namespace_at}
+use Rattle.jt_chains.specs.Indices.{namespace_at}
 use Rattle.jt_chains.specs.Rules.{max_chains, Asks, Reaches}
 use Rattle.jt_inherit.specs.internal.Sets.{names_view, namespaces_view}
 use Rattle.jt_inherit.specs.internal.ExtendsPaths.{AreKnown, IsExtendsPath}
 use Rattle.jt_inherit.specs.declared.discovery.Discovery.{Discovery}
 use Rattle.jt_inherit.specs.declared.sets.Names.{Names}
-use Rattle.jt_chains.specs.declared.includes.Include.{Include}
+use Rattle.jt_chains.specs.declared.includes.NeededTemplate.{NeededTemplate}
 use Rattle.jt_chains.specs.declared.files.TemplateFile.{TemplateFile}
 use Rattle.jt_inherit.specs.declared.error.ChainError.{ChainError}
 use Rattle.jt_chains.specs.declared.chain.Namespace.{Namespace}
@@ -115,7 +115,7 @@ IsNeedRefusal given options ns e = (e ≡ error.NoMemory) ⊎ IsNeedFault given 
 
 -- The namespaces that one include or import leads to, and those that the templates at some indices
 -- lead to.
-abbrev pub leads_to : Names → Include → List chain.Namespace
+abbrev pub leads_to : Names → NeededTemplate → List chain.Namespace
 leads_to ks n = chosen (names_view ks) (need_view n ∷ [])
 
 abbrev pub lead_to : Names → List TemplateFile → List ℕ → List chain.Namespace

@@ -17,7 +17,7 @@ use Rattle.jt_verify.specs.Refusing.{HoldsAt}
 use Rattle.jt_verify.specs.declared.effect.Successors.{Successors}
 use Rattle.jt_verify.specs.declared.refusal.Refusal.{Refusal}
 use Rattle.jt_verify.specs.declared.refusal.Refusal.TheVariants as refusal
-use Rattle.jt_verify.specs.declared.links.ShapeId.{ShapeId}
+use Rattle.jt_verify.specs.declared.nodes.ShapeId.{ShapeId}
 use Rattle.jt_verify.specs.declared.verifier.WorkItem.{WorkItem as Waiting}
 use Rattle.jt_verify.specs.declared.verifier.OutState.{OutState}
 use Rattle.jt_verify.specs.declared.verifier.Dataflow.{Dataflow}
@@ -38,7 +38,7 @@ pub record WorkItem : Type 0 where
   pub point : ℕ
   pub shape : Shape
 
--- The known shapes, one place for each point.
+-- The known shapes, one index for each point.
 abbrev pub Table : Type 0
 Table = List (Option Shape)
 

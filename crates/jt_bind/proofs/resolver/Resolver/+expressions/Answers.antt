@@ -76,8 +76,9 @@ resolve_entries-loop-key-preserved t c =
     (of_whole _ _ _ _ _ _ _
     (ap (λ k. slots.item (slots.pooled (own (tree.text k))) (slots.item value rest)) c.as_str.ensures.value
     ∙ ap (λ r. entries_in scope r senv) (sym (pairs_left ps l.key-index x c.loop-key-test.true c.loop-key-item.is)))
-    (row_both _ _ _ _ _ _ _ _ _ (row_item _ (slots.item value rest) c.in_ok-place.place l.done.items _ (values l.pool) _
-    c.in_ok-place.ensures c.in_ok-push.ensures.items)
+    (row_both _ _ _ _ _ _ _ _ _ (row_item _ (slots.item value rest) c.in_ok-entry_key.entry_key l.done.items _
+    (values l.pool) _
+    c.in_ok-entry_key.ensures c.in_ok-push.ensures.items)
     (row_item value rest c.in_ok-next.next _ _ _ _ c.in_ok-next.ensures c.in_ok-push-2.ensures.items)))
 
 pub resolve_list-returns : goal.resolve_list-returns
@@ -103,7 +104,7 @@ resolve_attribute-returns t c =
     (if b then field_from (field_named key) else operation_of op.Item a (slots.pooled (own (tree.text key)))) (coded e)
     p r in
     subst P (sym c.if-is_loop_name.false ∙ c.is_loop_name.ensures)
-    (h _ _ _ _ _ c.in_ok-whole.ensures c.in_ok-place.ensures)) c.on_two.ensures
+    (h _ _ _ _ _ c.in_ok-whole.ensures c.in_ok-item_key.ensures)) c.on_two.ensures
 
 pub resolve_asides-returns : goal.resolve_asides-returns
 resolve_asides-returns t c = λ left.
@@ -132,7 +133,7 @@ resolve_asides-loop-value-preserved t c = λ left.
 
 pub resolve_item-returns : goal.resolve_item-returns
 resolve_item-returns t c =
-    IfOk-weaker c.on_two.result _ _ (λ e h. h _ _ _ _ _ c.in_ok-whole.ensures c.in_ok-place.ensures) c.on_two.ensures
+    IfOk-weaker c.on_two.result _ _ (λ e h. h _ _ _ _ _ c.in_ok-whole.ensures c.in_ok-item_key.ensures) c.on_two.ensures
 
 pub resolve_unary-returns : goal.resolve_unary-returns
 resolve_unary-returns t c =
