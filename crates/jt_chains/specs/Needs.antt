@@ -4,7 +4,7 @@ use Rattle.jt_ast.specs.Expressions.{Text}
 use Rattle.jt_chains.specs.Along.{along}
 use Rattle.jt_chains.specs.Chain.{Namespace, a_chain, a_library, Template}
 use Rattle.jt_chains.specs.Includes.{includes_in, need}
-use Rattle.jt_chains.specs.declared.includes.NeededTemplate.{NeededTemplate}
+use Rattle.jt_chains.specs.declared.include_tags.NeededTemplate.{NeededTemplate}
 
 -- The name of a template, whether it may be missing, and whether it is a library.
 pub record Need : Type 0 where

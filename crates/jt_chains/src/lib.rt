@@ -13,7 +13,7 @@
 mod chain;
 mod definitions;
 mod files;
-mod includes;
+mod include_tags;
 mod layers;
 mod parts;
 mod tables;
@@ -21,7 +21,7 @@ mod tables;
 pub use chain::{Chain, Namespace};
 pub use definitions::{DefinedName, Definition, holds_macros, is_private};
 pub use files::TemplateFile;
-pub use includes::{NeededTemplate, includes_at};
+pub use include_tags::{NeededTemplate, includes_at};
 pub use layers::Layer;
 pub use parts::{Block, Macro, blocks_at, blocks_of_file, macro_names, macros_at};
 pub use tables::indices_by_name;

@@ -16,7 +16,7 @@ use Rattle.jt_inherit.specs.internal.Found.{known_of, chosen, chains_of, twice}
 use Rattle.jt_chains.specs.Needs.{Need, needed, need_namespace, need_view, needs_view}
 use Rattle.jt_inherit.specs.declared.error.ChainError.{ChainError}
 use Rattle.jt_inherit.specs.declared.error.ChainError.TheVariants as error
-use Rattle.jt_chains.specs.declared.includes.NeededTemplate.{NeededTemplate}
+use Rattle.jt_chains.specs.declared.include_tags.NeededTemplate.{NeededTemplate}
 use Rattle.jt_inherit.proofs.NameMembership.{of_texts, reflexive}
 use Rattle.jt_inherit.proofs.NamespaceMembership.{chain_among, of_namespaces}
 use Rattle.jt_inherit.proofs.Membership.{among_behind, among_cases, among_front, both_false, once_more, only_among}

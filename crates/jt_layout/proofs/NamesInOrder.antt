@@ -15,7 +15,7 @@ use Rattle.jt_chains.specs.Includes.{included, needs_in, with_source}
 use Rattle.jt_chains.specs.Needs.{needed, needs_view}
 use Rattle.jt_chains.specs.Indices.{namespace_at}
 use Rattle.jt_chains.specs.Uses.{own_names}
-use Rattle.jt_chains.specs.declared.includes.NeededTemplate.{NeededTemplate}
+use Rattle.jt_chains.specs.declared.include_tags.NeededTemplate.{NeededTemplate}
 use Rattle.jt_rules.specs.CompileEnv.{CompileEnv}
 use Rattle.jt_semantics.specs.Layout.{in_globals, names_in}
 use Rattle.jt_layout.specs.internal.Indices.{all_names, texts_of}

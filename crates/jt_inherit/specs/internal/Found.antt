@@ -24,7 +24,7 @@ use Rattle.jt_inherit.specs.internal.Sets.{names_view, namespaces_view}
 use Rattle.jt_inherit.specs.internal.ExtendsPaths.{AreKnown, IsExtendsPath}
 use Rattle.jt_inherit.specs.declared.discovery.Discovery.{Discovery}
 use Rattle.jt_inherit.specs.declared.sets.Names.{Names}
-use Rattle.jt_chains.specs.declared.includes.NeededTemplate.{NeededTemplate}
+use Rattle.jt_chains.specs.declared.include_tags.NeededTemplate.{NeededTemplate}
 use Rattle.jt_chains.specs.declared.files.TemplateFile.{TemplateFile}
 use Rattle.jt_inherit.specs.declared.error.ChainError.{ChainError}
 use Rattle.jt_chains.specs.declared.chain.Namespace.{Namespace}

@@ -11,7 +11,7 @@ use Rattle.jt_chains.specs.Includes.{with_source}
 use Rattle.jt_chains.specs.Needs.{Need, needed, needs_view}
 use Rattle.jt_chains.specs.TemplateFiles.{namespace_view}
 use Rattle.jt_chains.specs.View.{namespace_in, its_sources}
-use Rattle.jt_chains.specs.declared.includes.NeededTemplate.{NeededTemplate}
+use Rattle.jt_chains.specs.declared.include_tags.NeededTemplate.{NeededTemplate}
 use Rattle.jt_chains.proofs.IncludeCollection.{by_templates}
 use Rattle.jt_semantics.specs.Layout.{names_in}
 use Rattle.jt_layout.specs.internal.Namespaces.{its_cenv, its_order}

@@ -6,7 +6,7 @@ use Rattle.jt_chains.specs.Chain.{a_chain}
 use Rattle.jt_chains.specs.Includes.{with_source}
 use Rattle.jt_chains.specs.Needs.{needed, needs_view}
 use Rattle.jt_chains.specs.View.{its_sources}
-use Rattle.jt_chains.specs.declared.includes.NeededTemplate.{NeededTemplate}
+use Rattle.jt_chains.specs.declared.include_tags.NeededTemplate.{NeededTemplate}
 use Rattle.jt_chains.specs.declared.chain.Chain.{Chain}
 use Rattle.jt_semantics.specs.Layout.{names_in}
 use Rattle.jt_layout.specs.internal.Namespaces.{its_cenv, its_order}

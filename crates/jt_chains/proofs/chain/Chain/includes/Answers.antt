@@ -7,7 +7,7 @@ use Rattle.jt_chains.specs.Needs.{Need, include_need, needs_view}
 use Rattle.jt_ast.specs.Expressions.{Text}
 use Rattle.jt_ast.specs.Statements.{Body}
 use Rattle.jt_chains.specs.TemplateFiles.{files_view}
-use Rattle.jt_chains.specs.declared.includes.NeededTemplate.{NeededTemplate}
+use Rattle.jt_chains.specs.declared.include_tags.NeededTemplate.{NeededTemplate}
 use Rattle.jt_chains.specs.declared.chain.Namespace.{Namespace}
 use Rattle.jt_chains.proofs.TemplatesByIndex.{namespace_along}
 use Rattle.jt_chains.proofs.chain.Chain.includes.Goals as goal

@@ -5,7 +5,7 @@ use Rattle.jt_chains.specs.Includes.{includes_by, includes_in, includes_under}
 use Rattle.jt_chains.specs.Needs.{include_need, needs_view}
 use Rattle.jt_ast.proofs.RemainingParts.{Branch}
 use Rattle.jt_ast.proofs.CollectedLists.{choice_added, loop_added}
-use Rattle.jt_chains.proofs.includes.+includes.Goals as goal
+use Rattle.jt_chains.proofs.include_tags.+includes.Goals as goal
 
 pub add_statement-returns-in_ok-add_includes-in-If-2 : goal.add_statement-returns-in_ok-add_includes-in-If-2
 add_statement-returns-in_ok-add_includes-in-If-2 t c =
