@@ -3,7 +3,7 @@
 //! - A chain with all that it reaches: `chain`.
 //! - Its templates: `layers` and `files`.
 //! - Its macros and the bodies of its blocks: `parts`.
-//! - Includes and imports: `includes`.
+//! - Includes and imports: `include_tags`.
 //! - The definitions of its names: `definitions`.
 //! - The tables that find templates and macros by name: `tables`.
 //!
