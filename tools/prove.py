@@ -37,7 +37,7 @@ class Task:
         words = self.crate.words(["--jobs", str(jobs)], tests=self.is_tests) + ["--incremental", self.kept, "--empty-contracts"]
         if self.makes_library:
             return [lib.RATTLE, "build", *words, "-o", self.crate.rlib]
-        return [lib.RATTLE, "check", *["--test"] * self.is_tests, *words]
+        return [lib.RATTLE, "check", *words]
 
     def stop(self, said):
         """Returns why a verdict would not pass what rattle accepted, if it would not."""
