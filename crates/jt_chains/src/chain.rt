@@ -1,4 +1,5 @@
-//! The chain of an entry, with the chains and libraries that its includes and imports reach.
+//! Defines the chain of an entry, with the chains and libraries that its includes and imports
+//! reach.
 
 ghost use Rattle.std.specs.Prelude.{◌≡◌, ◌<◌, true, false, length, map};
 ghost use Rattle.jt_chains.specs.Chain.{sources_in};

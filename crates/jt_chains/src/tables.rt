@@ -14,7 +14,7 @@ use jt_ast::Stmt;
 use std::alloc::{AllocError, Global};
 use std::collections::BTreeMap;
 
-/// Maps a name to a index and replaces an earlier entry of the name.
+/// Maps a name to an index and replaces an earlier entry of the name.
 fn put(
     alloc: Global,
     table: &mut BTreeMap<String, usize>,

@@ -1,4 +1,4 @@
-//! Checks how many stack entries the code of resolved statements needs.
+//! Checks the number of stack entries that the code of resolved statements needs.
 
 ghost use Rattle.std.specs.Prelude.{◌≡◌, ◌&&◌, ◌≤◌, ◌↔◌, nat_le, ℕ, List, Option, option_map, map};
 ghost use Rattle.std.specs.Prelude.{IsTrue};

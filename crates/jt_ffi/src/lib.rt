@@ -1,4 +1,4 @@
-//! `jt` for hosts in other languages: calls over numbers and bytes in a static library.
+//! Exports `jt` to hosts in other languages: calls over numbers and bytes in a static library.
 //! `bindings/c/jt.h` declares them.
 //!
 //! Four calls over bytes keep nothing, so calls of several threads do not affect each other. A

@@ -1,4 +1,4 @@
-//! Values that one handle holds, on one thread.
+//! Defines the values that one handle holds, on one thread.
 use crate::error::FfiError;
 use jt_host::Context;
 

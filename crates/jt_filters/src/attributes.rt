@@ -1,4 +1,4 @@
-//! The item of an operand at a text key. Nothing here allocates.
+//! Looks up the item of an operand at a text key. Nothing here allocates.
 ghost use Rattle.std.specs.Prelude.{◌≡◌, option_map, option_copied};
 ghost use Rattle.jt_value.specs.Tree as tree;
 ghost use Rattle.jt_value.specs.View.{view};

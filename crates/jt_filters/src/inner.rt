@@ -1,5 +1,5 @@
-//! The actions on each item: it is kept or dropped, or replaced by its attribute or by the result
-//! of a filter.
+//! Defines the actions on each item: it is kept, dropped, or replaced by its attribute or by a
+//! filter's result.
 ghost use Rattle.std.specs.Prelude.{◌≡◌, ◌+◌, [], ◌∷◌, ◌++◌, map, length, Ok, IfErr, OnOk};
 ghost use Rattle.std.specs.Prelude.{option_map};
 ghost use Rattle.jt_value.specs.View.{view, items_view};

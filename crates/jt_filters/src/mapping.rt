@@ -1,4 +1,5 @@
-//! Filters that call a filter or a test on each item of their input, or look up its attribute.
+//! Implements filters that call a filter or a test on each item of their input, or look up its
+//! attribute.
 ghost use Rattle.std.specs.Prelude.{◌≡◌, map, Ok, IfOk, IfErr, Some, option_map};
 ghost use Rattle.jt_value.specs.Payload.{text_of};
 ghost use Rattle.jt_value.specs.View.{view, items_view};
@@ -164,7 +165,8 @@ fn keeping<'a>(
     }))
 }
 
-/// As `keeping`, but the predicate tests an attribute of the item. Its key is the first argument.
+/// Returns the action that keeps items by a test of an attribute, or by the attribute's truth. The
+/// key of the attribute is the first argument.
 fn selecting_by(passes: bool, arguments: &[Value]) -> Result<ItemAction<'_>, Fault>
     ensures { Changes (the.selecting_by passes (map view arguments.now)) result }
 {

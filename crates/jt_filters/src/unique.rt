@@ -1,5 +1,5 @@
-//! Filter `unique`. Each item is looked up among the earlier ones, numbers by value and other items
-//! by their codes. So a list of n items takes time in proportion to n log n.
+//! Implements filter `unique`. Each item is looked up among the earlier ones, numbers by value and
+//! other items by their codes. So a list of n items takes time in proportion to n log n.
 ghost use Rattle.std.specs.Prelude.{◌≡◌, ℤ, ◌+◌, ◌-◌, ◌^◌, ◌||◌, min, max, IfOk, OnOk, Ok, Err};
 ghost use Rattle.std.specs.Prelude.{None};
 ghost use Rattle.std.specs.Ordering.{int_eq};

@@ -96,7 +96,7 @@ impl Namespaces {
         }
     }
 
-    /// Returns how many chains and libraries there are.
+    /// Returns the number of chains and libraries.
     pub(crate) fn len(&self) -> usize
         ensures len { result ≡ length self.now.items.items }
         ensures small { result < 2 ^ 63 }
@@ -141,7 +141,7 @@ impl Namespaces {
         Ok(())
     }
 
-    /// Returns how many of the namespaces are chains.
+    /// Returns the number of chains.
     pub(crate) fn count_chains(&self) -> usize
         ensures { result ≡ length (chains_of (namespaces_view self.now)) }
     {

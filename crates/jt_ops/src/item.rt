@@ -1,4 +1,4 @@
-//! Items of values: of a map by a key, of a list or a text by an index.
+//! Looks up items of values: of a map by a key, of a list or a text by an index.
 ghost use Rattle.std.specs.Prelude.{◌≡◌, length, IfOk, option_map, option_copied, slice_get};
 ghost use Rattle.std.specs.Prelude.{encode_utf8};
 ghost use Rattle.std.specs.Str.{chars};
@@ -119,7 +119,7 @@ fn nth_character(text: &str, index: i64) -> Option<char>
     }
 }
 
-/// Returns how many characters a text has.
+/// Returns the number of characters of a text.
 pub fn character_count(text: &str) -> usize
     ensures { result ≡ length (chars text.now) }
 {

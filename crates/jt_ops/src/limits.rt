@@ -1,4 +1,4 @@
-//! Limits of results, and the errors of operations.
+//! Defines the limits of results, and the errors of operations.
 ghost use Rattle.std.specs.Prelude.{◌≡◌, true, Result, Ok, Err, OnOk, IfOk, IfErr};
 ghost use Rattle.jt_value.specs.Payload.{has_payload};
 ghost use Rattle.jt_value.specs.Tree.{Tree};

@@ -1,4 +1,4 @@
-//! Operators of one and two operands.
+//! Applies operators of one and two operands.
 ghost use Rattle.std.specs.Prelude.{◌≡◌, ◌∷◌, []};
 ghost use Rattle.jt_value.specs.View.{view};
 ghost use Rattle.jt_ops.specs.Limited.{limited_by, Answers};

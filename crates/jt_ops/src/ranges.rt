@@ -1,4 +1,4 @@
-//! `range`: lists of numbers.
+//! Builds the lists of numbers of `range`.
 ghost use Rattle.std.specs.Prelude.{◌≡◌, ◌≢◌, ◌≤◌, ◌<◌, ◌∷◌, [], ℕ, map, pos, ◌+ℤ◌, ◌*ℤ◌, length};
 ghost use Rattle.std.specs.Prelude.{FitsSigned, Ok, IfOk};
 ghost use Rattle.std.specs.Int.{w64};
@@ -117,7 +117,7 @@ fn list_of(
     made(listed(alloc, start, step, count))
 }
 
-/// Returns how many of the numbers from `start` by `step` lie before `stop`.
+/// Returns the length of the list of the numbers from `start` by `step` to before `stop`.
 fn count(start: i64, stop: i64, step: i64) -> u64
     requires { pos 0 ≢ step }
     ensures { result ≡ range_count start stop step }

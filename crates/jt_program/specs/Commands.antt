@@ -158,14 +158,14 @@ module _ (files : Known) where
   AreStarts (p ∷ ps) [] = ⊥
   AreStarts (p ∷ ps) (s ∷ ss) = IsStart p s × AreStarts ps ss
 
-  -- A pair gives no session: one of its files fails, its context file spells no context, or its
+  -- A pair opens no session: one of its files fails, its context file spells no context, or its
   -- image file holds no accepted image.
   abbrev pub IsNoStart : Pair → Failure → Type 0
   IsNoStart p e = IsUnread files (IsPath (string_bytes p.image)) (Some p.context) (Err e)
       ⊎ ((bytes : List ℕ) × files.holds (string_bytes p.image) bytes × FailsAs (IsNoImage bytes) e)
 
   -- The pair after `before` is not opened: the host is full although the pair is good, or the pair
-  -- gives no session.
+  -- opens no session.
   abbrev pub IsNotOpened : List Pair → Pair → Failure → Type 0
   IsNotOpened before p (failure.Call call_error.NoMemory) = Unit {0}
   IsNotOpened before p (failure.Host e) =

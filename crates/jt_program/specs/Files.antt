@@ -6,9 +6,9 @@ use Rattle.jt_ast.specs.Expressions.{Text}
 
 -- What a host knows of its files: the results that calls on them may have.
 pub record Known : Type 1 where
-  -- The file at the path holds these bytes.
+  -- The file at the path holds the bytes.
   pub holds : Text → List ℕ → Type 0
-  -- These are the names of the files directly in the directory, in some order.
+  -- The names are exactly the names of the files directly in the directory, in some order.
   pub lists : Text → List Text → Type 0
   -- The file or directory at the path cannot be listed, read or written.
   pub fails : Text → Type 0
