@@ -26,7 +26,7 @@ pub struct Namespace {
 pub struct Chain {
     /// The templates that were read, each once.
     pub templates: Vec<TemplateFile>,
-    /// The chains and libraries, each before those that it leads to. The entry's chain is the
+    /// The chains and libraries, each before the ones that it leads to. The entry's chain is the
     /// first.
     pub namespaces: Vec<Namespace>,
     /// Whether text outside `autoescape` tags is escaped.

@@ -24,8 +24,8 @@ pub struct Macro<'a> {
     pub body: &'a [Stmt],
 }
 
-/// A body of a block: the index of its template, its name, whether its tag has `scoped` and
-/// `required`, the autoescape state at its tag, and its statements.
+/// A body of a block. `template` is the index of its template, and `escaping` the autoescape state
+/// at its tag.
 #[derive(Clone, Copy)]
 pub struct Block<'a> {
     pub template: usize,

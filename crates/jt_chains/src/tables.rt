@@ -30,7 +30,7 @@ fn put(
 }
 
 /// Returns a map from each macro name of a library to the index of its first macro statement.
-/// Returns `None` if the statements are not those of a library.
+/// Returns `None` if the statements are no library.
 pub(crate) fn macro_table(
     alloc: Global,
     body: &[Stmt],

@@ -35,8 +35,8 @@ abbrev pub Leads : {B : Type 0} → (B → Tokens → Type 0) → B → Tokens �
 Leads NestedForm b ts rest = (x : Tokens) × (ts ≡ x ++ rest) × NestedForm b x
 
 -- The tokens begin with the result, which has at most `limit` levels, and with no other form before
--- a place where `Ends` holds. `Syntax`: they begin with no form before such a place. `TooDeep`:
--- each form before such a place has more than `limit` levels.
+-- a position where `Ends` holds. `Syntax`: they begin with no form before such a position.
+-- `TooDeep`: each form before such a position has more than `limit` levels.
 abbrev pub Reads : {A B : Type 0} → (A → B) → (B → Tokens → Type 0) → (Tokens → Type 0) → (B → ℕ)
     → ℕ → Tokens → Result A ExprError → Tokens → Type 0
 Reads {B = B} view NestedForm Ends levels limit ts (Ok a) rest =

@@ -210,7 +210,7 @@ pub extern "C" fn jt_image_share(
     share(alloc, from, to)
 }
 
-/// Makes `to` a second handle of what `from` holds, and returns a status.
+/// Makes `to` a second handle of the value that `from` holds, and returns a status.
 fn share(alloc: Global, from: &mut SharedHandle, to: &mut SharedHandle) -> u32
     ensures same { from.new.held ≡ from.old.held }
     ensures done { result ≡ 0 → AreSame from.old.held to.new.held }

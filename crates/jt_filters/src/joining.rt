@@ -63,7 +63,7 @@ fn has_markup(items: ItemList<'_>) -> bool
 }
 
 /// Returns the length in bytes of the joined text, at most 2^64 - 1. A fault of the separator comes
-/// before those of the items.
+/// before the faults of the items.
 #[tactic(auto, using(crate::proofs::JoinLengths::joined_lengths))]
 fn joined_len(items: ItemList<'_>, separator: Operand<'_>, escaping: bool) -> Result<u64, Fault>
     ensures { result

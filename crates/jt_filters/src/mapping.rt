@@ -54,7 +54,7 @@ pub(crate) fn mapped(
     row_list(alloc, items, change)
 }
 
-/// Returns the measure of the list of what the action makes of the items.
+/// Returns the measure of the list of the action's results on the items.
 #[tactic(auto, using(crate::proofs::ItemResults::list_measures))]
 fn row_list_measure<'a>(
     alloc: Global,
@@ -68,8 +68,8 @@ fn row_list_measure<'a>(
     Ok((size.saturating_add(1), nesting.saturating_add(1)))
 }
 
-/// Returns the size, at most 2^64 - 1, and the nesting, at most 2^32 - 1, of what the action makes
-/// of the items.
+/// Returns the size, at most 2^64 - 1, and the nesting, at most 2^32 - 1, of the action's results
+/// on the items.
 #[tactic(auto, using(crate::proofs::ItemResults::rest_measures))]
 fn row_measure<'a>(
     alloc: Global,
@@ -94,7 +94,7 @@ fn row_measure<'a>(
     Ok((size, nesting))
 }
 
-/// Returns the list of what the action makes of the items.
+/// Returns the list of the action's results on the items.
 fn row_list<'a>(
     alloc: Global,
     items: ItemList<'a>,
@@ -107,7 +107,7 @@ fn row_list<'a>(
     Ok(Value::list(alloc, values)?)
 }
 
-/// Returns what the action makes of the items, in order.
+/// Returns the action's results on the items, in order.
 #[tactic(auto, using(crate::proofs::ItemResults::front_values))]
 fn row_values<'a>(
     alloc: Global,
@@ -147,8 +147,8 @@ pub(crate) fn change_of(
     }
 }
 
-/// Returns the action that keeps items by a test, given by its name and arguments, or by truth if
-/// there are no arguments.
+/// Returns the action that keeps items by a test, or by truth if there are no arguments. The test's
+/// name is the first of `arguments`.
 fn keeping<'a>(
     passes: bool,
     key: Option<&'a str>,
@@ -257,8 +257,8 @@ fn named_test(name: &Value) -> Option<TestId>
     }
 }
 
-/// Returns the predicate of a test, given by its name and arguments, or truth if there are no
-/// arguments.
+/// Returns the predicate of a test, or truth if there are no arguments. The test's name is the
+/// first of `arguments`.
 fn predicate_of(arguments: &[Value]) -> Result<Predicate<'_>, Fault>
     ensures { MakesPredicate (the.judgement (map view arguments.now)) result }
 {

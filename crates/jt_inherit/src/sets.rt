@@ -1,6 +1,6 @@
 //! Defines sets of names and of namespaces that keep the order of insertion. The names come from
-//! untrusted templates, so the sets use ordered maps: no choice of names makes these slow, as it
-//! could make a hash table.
+//! untrusted templates, so the sets use ordered maps. No choice of names makes an ordered map slow,
+//! as it could a hash table.
 
 ghost use Rattle.std.specs.Prelude.{◌≡◌, ◌^◌, ◌<◌, ◌++◌, ◌∷◌, [], false, length, slice_get, Some};
 ghost use Rattle.std.specs.Prelude.{OnOk, string_bytes};

@@ -54,8 +54,8 @@ fn keyed(alloc: Global, map: &ValueMap, name: &str, limits: Limits) -> Result<Va
     found(alloc, map.get(name), limits)
 }
 
-/// Returns the position that an index names among `count` items, if any. A negative index counts
-/// from the end.
+/// Returns the index from 0 that `index` names among `count` items, if any. A negative `index`
+/// counts from the end.
 fn place(index: i64, count: usize) -> Option<usize>
     ensures { result ≡ items.place index count }
 {
@@ -84,7 +84,7 @@ fn indexed(items: &[Value], index: i64) -> Option<&Value>
     }
 }
 
-/// Returns the item at a position, if any.
+/// Returns the item at an index from 0, if any.
 fn at(items: &[Value], place: usize) -> Option<&Value>
     ensures { option_map view (option_copied result) ≡ item_at (items_view items.now) place }
 {
@@ -126,7 +126,7 @@ pub fn character_count(text: &str) -> usize
     text.chars().count()
 }
 
-/// Returns the character at a position, if any.
+/// Returns the character at an index from 0, if any.
 fn character_at(text: &str, place: usize) -> Option<char>
     ensures { result ≡ slice_get (chars text.now) place }
 {

@@ -18,7 +18,7 @@ use jt_scan::{Token, is_word};
 use std::alloc::{AllocError, Global};
 use std::mem;
 
-/// The kind of an open statement, with what has been parsed of it.
+/// The kind of an open statement, with the parts of it that were parsed.
 #[derive(Drop)]
 pub enum OpenKind {
     /// A branch of an `if`.

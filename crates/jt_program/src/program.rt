@@ -30,8 +30,8 @@ use jt_scan::Options;
 use jt_value::Context;
 use std::alloc::Global;
 
-/// Performs `words`, the line without the program's name, and returns the status: 0 done, 1 fault,
-/// 2 usage, 3 refused, 4 spent, 5 file, 6 no memory.
+/// Performs `words`, the line without the program's name, and returns the status. It is 0 for done,
+/// 1 fault, 2 usage, 3 refused, 4 spent, 5 file and 6 no memory.
 ///
 /// The text goes to `out`, with nothing added. If the status is not 0, `out` receives nothing, or a
 /// beginning of the text if `out` failed. `errors` then receives the reason: the usage or one line,

@@ -1,4 +1,4 @@
-//! Tests lines over a disk: their statuses, what they print, and what they report.
+//! Tests lines over a disk: their statuses, outputs and reports.
 
 use jt_disk::{Disk, performed};
 use jt_machine::IoSink;
