@@ -170,8 +170,8 @@ IsFlag None given = given ≡ false
 IsFlag (Some text) given =
     ((text ≡ codes "true") × (given ≡ true)) ⊎ ((text ≡ codes "false") × (given ≡ false))
 
--- The options under which templates are read: those of the flags. Printed values are escaped unless
--- the flag forbids it.
+-- The options under which templates are read, from the flags. Printed values are escaped unless the
+-- flag forbids it.
 abbrev pub IsOptions : List Row → Options → Type 0
 IsOptions rows options = IsFlag (one_of (codes "trim-blocks") rows) options.trim_blocks
     × IsFlag (one_of (codes "lstrip-blocks") rows) options.lstrip_blocks

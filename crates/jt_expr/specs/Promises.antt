@@ -49,8 +49,8 @@ Reads {B = B} view NestedForm Ends levels limit ts (Err e.TooDeep) rest =
     (b : B) (v : Tokens) → Leads NestedForm b ts v → Ends v → limit < levels b
 Reads view NestedForm Ends levels limit ts (Err e.NoMemory) rest = Unit {0}
 
--- An expression of the level ends before these tokens: there are none, or they begin with a comma,
--- or they begin with `if` and the expression is no inline `if`.
+-- An expression of the level ends before the tokens. They are missing or begin with a comma, or
+-- they begin with `if` and the expression is no inline `if`.
 pub data EndsAt : Level → Tokens → Type 0 where
   the_end : {k : Level} → EndsAt k []
   a_comma : {k : Level} {ts : Tokens} → EndsAt k (cut.sign s.Comma ∷ ts)

@@ -24,8 +24,9 @@ use Rattle.jt_lower.specs.Fits.{ProgramFits}
 use Rattle.jt_lower.specs.Lawful.{program_with, AreLawful, AreLow}
 use Rattle.jt_ir.specs.Size.{body_height, routines_size}
 
--- The code of a program is correct. A text in which a run ends, or a fault with its place, is what
--- the program means with calls of some depth. For what the program means, some budget is enough.
+-- The code of a program agrees with the program's meaning. A text in which a run ends, or a fault
+-- with its place, is the meaning with calls of some depth. For each such meaning, some budget is
+-- enough.
 pub record DoesProgram (program : Program) : Type 0 where
   pub texts : (context : Pairs) (budget : Budget) (text : Text)
       → Run (compiled program) context budget (config.text text)
@@ -40,8 +41,8 @@ pub record DoesProgram (program : Program) : Type 0 where
       → Enough (compiled program) context (config.fault fault place)
 
 -- Programs of lawful routines fit. The code of each program that fits is typed; if it has a
--- spelling, it does what the program means. Each instruction has one place, and their number is the
--- program's size.
+-- spelling, it agrees with the program's meaning. Each instruction has one place, and their number
+-- is the program's size.
 pub record LowLaws : Type 0 where
   pub fits : (names : List Text) (globals : ℕ) (front : List Tree) (routines : List (Routine Constant))
       → AreLawful names globals front routines → AreLow routines

@@ -1,4 +1,4 @@
--- The commands: what each reads from the files, how it ends, and what it leaves.
+-- The commands: the files that each reads, how it ends, and the files that it leaves.
 use Rattle.std.specs.Prelude.{◌≡◌, ◌≢◌, ◌↔◌, ◌⊎◌, ◌≤◌, ℕ, List, [], ◌∷◌, ◌++◌, length, Option, Some, None, Result, Ok}
 use Rattle.std.specs.Prelude.{Err, String, codes, string_bytes}
 use Rattle.std.specs.Fmt.{decimal}
@@ -48,7 +48,7 @@ abbrev pub EndsAs : (Result (String Global) CallError → Type 0) → Ending →
 EndsAs IsSo (Ok text) = IsSo (Ok text)
 EndsAs IsSo (Err e) = FailsAs (λ error. IsSo (Err error)) e
 
--- ---- what is read
+-- ---- the files that are read
 
 -- The path is `asked`.
 abbrev pub IsPath : Text → Text → Type 0
@@ -72,8 +72,8 @@ module _ (files : Known) where
   HasNoContext (Some path) e =
       (bytes : List ℕ) × files.holds (string_bytes path) bytes × IsNoContext bytes e
 
-  -- The input of a command is missing: a file that it reads fails, or the file of the context fails
-  -- or spells no context, or memory ran out.
+  -- The input of a command is missing. A file that it reads fails, the file of the context spells
+  -- no context, or memory ran out.
   abbrev pub IsUnread : (Text → Type 0) → Option (String Global) → Ending → Type 0
   IsUnread asks context (Ok text) = ⊥
   IsUnread asks context (Err (failure.File path)) =
@@ -176,8 +176,8 @@ module _ (files : Known) where
   abbrev pub AreOpen : Budget → List Pair → World → Type 0
   AreOpen b ps w = (ss : List Start) × AreStarts ps ss × Stands (all_under (budget_view b) ss) w
 
-  -- The first pair that is not opened. The pairs before it are opened, and those after it do not
-  -- matter.
+  -- The first pair that is not opened. The pairs before it are opened, and the pairs after it do
+  -- not matter.
   pub record StopsAt (ps : List Pair) (e : Failure) : Type 0 where
     pub before : List Pair
     pub pair : Pair
@@ -219,7 +219,7 @@ module _ (files after : Known) where
   ChangesOnly path =
       (other bytes : List ℕ) → other ≢ path → (after.holds other bytes) ↔ (files.holds other bytes)
 
-  -- How a command ends, by what is known of the files before it and after it.
+  -- How a command ends, over the files before it and after it.
   abbrev pub CommandEnds : Command → Options → Budget → Ending → Type 0
   CommandEnds (command.Compile dir name out) o b e = ChangesOnly (string_bytes out)
       × (IsUnread files (IsOfDirectory files (string_bytes dir)) None e
