@@ -27,8 +27,8 @@ pub(crate) struct EnteredScope<'a> {
     pub free: usize,
 }
 
-/// Returns the scopes of the environment with one more, the innermost. It keeps `names` in locals
-/// from the first free one on.
+/// Returns the scopes of the environment with one more, the innermost. The added scope keeps
+/// `names` in locals from the first free one on.
 fn framed_by<'a>(
     alloc: Global,
     senv: &StaticEnv<'_, 'a>,

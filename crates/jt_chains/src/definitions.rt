@@ -1,4 +1,4 @@
-//! Defines the definitions of the names of a chain: its own macros, imported macros, or libraries.
+//! Collects the defined names of a chain: its own macros, imported macros, and libraries.
 
 ghost use Rattle.std.specs.Prelude.{◌≡◌, ◌<◌, ◌++◌, [], List, length, map, option_map, not};
 ghost use Rattle.std.specs.Prelude.{if◌then◌else◌, IfOk};

@@ -40,7 +40,7 @@ pub record IsOnlyChain (given : SourceTexts) (entry : Text) (options : Options) 
   pub only : (other : Seen) → IsChain given entry options other → cenv_of other ≡ cenv_of chain
 
 -- The entry's chain breaks no rule. The code is of version 2, so that it has the places of its
--- tags; it is typed and agrees with the meaning of the chain.
+-- tags. It is typed and agrees with the meaning of the chain.
 pub record IsCompiled (given : SourceTexts) (entry : Text) (options : Options) (code : Code) : Type 0 where
   pub chain : Seen
   pub is : IsOnlyChain given entry options chain

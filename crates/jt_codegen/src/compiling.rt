@@ -31,8 +31,7 @@ pub fn compile<L: Library>(
     library: &L,
     options: Options,
 ) -> Result<Image, CompileError>
-    // The code of version 2 is typed, and its runs agree with the meaning of the entry's lawful
-    // chain.
+    // The code of version 2 is typed and agrees with the meaning of the entry's lawful chain.
     ensures compiled { IfOk result
         (λ image. IsCompiled (L.sources library.now) entry.now options image) }
     // The refusal holds of the library and the entry.

@@ -1,6 +1,6 @@
 //! Reads a form without recursion: the forms that wait for a tree lie on a stack.
 //!
-//! specs/internal/Unwinding.antt states the tokens that are still to be read after each move. Read
+//! specs/internal/Unwinding.antt defines how the remaining tokens are read after each move. Read
 //! first: `read_within`.
 
 ghost use Rattle.std.specs.Prelude.{◌≡◌, ◌≤◌, ◌^◌, length};

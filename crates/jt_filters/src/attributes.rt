@@ -24,8 +24,8 @@ pub(crate) fn attribute<'a>(operand: Operand<'a>, key: &Value) -> Result<Operand
     }
 }
 
-/// Returns the item at a key: the value of the key if the operand is a map, or else undefined. It
-/// is the fault `Undefined` if the operand itself is undefined.
+/// Returns the value of a key if the operand is a map, and undefined for any other operand. Returns
+/// the fault `Undefined` if the operand is undefined itself.
 #[tactic(auto, using(crate::proofs::Payloads::map_is, crate::proofs::TextKeys::others_have_none))]
 pub(crate) fn item_of<'a>(operand: Operand<'a>, key: &str) -> Result<Operand<'a>, Fault>
     ensures { chosen result ≡ item_of (tree_of operand.entry) (tree.text key.now) }

@@ -188,9 +188,9 @@ module _ (files : Known) where
     pub few : length before ≤ max_sessions
     pub why : IsNotOpened before pair e
 
-  -- The images of at most 64 pairs run for their contexts in turns, each as if alone, and the text
-  -- has the line of each, whatever the turns are. Or the failure is that of the first pair that is
-  -- not opened.
+  -- The images of at most 64 pairs run for their contexts in turns, each as if alone. The text has
+  -- the line of each, whatever the turns are. Or the failure is that of the first pair that is not
+  -- opened.
   abbrev pub TakesTurns : List Pair → Budget → Ending → Type 0
   TakesTurns ps b (Ok text) = (length ps ≤ max_sessions)
       × ((ss : List Start)

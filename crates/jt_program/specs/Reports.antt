@@ -63,9 +63,9 @@ file_line path = one_line (codes "jt: file " ++ path)
 abbrev pub memory_line : Text
 memory_line = one_line (codes "jt: no memory")
 
--- The bytes that standard error takes: the text of the usage, or the line of a fault, a spent
--- number, a file or lack of memory. It takes only a beginning of that if the sink has failed.
--- Nothing is stated of the lines of refusals.
+-- The bytes that standard error takes: the usage, or the line of a fault, a spent number, a file or
+-- lack of memory. It takes only a beginning of that if the sink has failed. Nothing is stated of
+-- the lines of refusals.
 abbrev pub ReportsFailure : Option (List ℕ) → Option (List ℕ) → Bool → Failure → Type 0
 ReportsFailure old new sink_failed (failure.Usage text) =
     TookUnlessFailed (string_bytes text) old new sink_failed

@@ -46,8 +46,8 @@ fn status(
     Ok(performed(alloc, &words, disk, out, errors))
 }
 
-/// Performs two lines over a disk of three templates and a context. Returns the statuses, the text
-/// that a sink took which fails after `left` bytes, and the reported lines.
+/// Performs two lines over a disk of three templates and a context. Returns the statuses, the
+/// output of a sink that fails after `left` bytes, and the reported lines.
 fn ended(alloc: Global, left: usize, lines: &str) -> Result<String, Fail> {
     let mut disk = Disk::new(alloc);
     disk.put("d/a", b"x{{ 1 }}")?;

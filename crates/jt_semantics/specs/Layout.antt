@@ -1,5 +1,5 @@
--- The layout of the names, macros and bodies of chains and libraries in a program: slots of
--- globals, routines, and the first values of the pool.
+-- The layout of chains and libraries in a program: slots of globals, routines, and the first values
+-- of the pool.
 use Rattle.std.specs.Prelude.{ℕ, suc, ◌+◌, ◌==◌, ◌&&◌, Bool, false, List, [], ◌∷◌, ◌++◌, length, map, flat_map, filter}
 use Rattle.std.specs.Prelude.{Option, Some, None, if◌then◌else◌}
 use Rattle.std.specs.List.{list_any}
