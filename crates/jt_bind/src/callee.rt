@@ -33,7 +33,7 @@ pub(crate) enum Callee<'s> {
     Macro(Signature<'s>),
     Range,
     Super,
-    /// The block of this name.
+    /// A block, by its name.
     Block(&'s str),
     Cycle,
     /// An expression that cannot be called. No chain that keeps the rules has one.
@@ -87,7 +87,7 @@ impl<'a> Tables<'a> {
         }
     }
 
-    /// Returns the macro of this name in the chain or library at index `namespace`.
+    /// Returns the macro `name` of the chain or library at index `namespace`.
     fn macro_at<'s>(&'s self, namespace: usize, name: &str) -> Result<Callee<'s>, NoMemory>
         requires { namespace < length (order_in self.now) }
         ensures { IfOk result
@@ -105,7 +105,7 @@ impl<'a> Tables<'a> {
         }))
     }
 
-    /// Returns the macro of this name in a library, if the library is laid out.
+    /// Returns the macro `name` of a library, if the library is laid out.
     fn library_macro<'s>(&'s self, library: &str, name: &str) -> Result<Callee<'s>, NoMemory>
         ensures { IfOk result (λ k.
             IsLaidThere (cenv_in self.now) (order_in self.now) (chain.a_library library.now)

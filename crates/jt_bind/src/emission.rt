@@ -153,7 +153,7 @@ pub(crate) fn put_capture(
     Ok(())
 }
 
-/// Emits a run of a routine, which prints, with these arguments.
+/// Emits a run of the routine `unit`, which prints, with the arguments `row`.
 #[inline(never)]
 pub(crate) fn put_run(
     unit: usize,

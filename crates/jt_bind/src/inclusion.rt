@@ -39,8 +39,8 @@ fn put_missing(
     put_print(senv, line, absent(), done)
 }
 
-/// Returns the environment in which a block's arguments are read: that of its tag if the tag has
-/// `scoped`, or else one without scopes, so that names are globals.
+/// Returns the environment in which a block's arguments are read. It is the environment of the tag
+/// if `scoped` is true, or else one without scopes, so that names are globals.
 fn seen_by<'s, 'a>(senv: &StaticEnv<'s, 'a>, scoped: bool) -> StaticEnv<'s, 'a>
     ensures { (s : Chains)
         → (senv_in s result).table ≡ (if scoped then (senv_in s senv.now).table else globals_in s) }

@@ -13,7 +13,7 @@ use jt_ir::{Slot, SlotBranch, SlotExpr, SlotStmt, Targets};
 use jt_layout::checked_sum;
 use jt_value::NoMemory;
 
-/// Returns the larger of two numbers.
+/// Returns the greater of two numbers.
 pub(crate) fn larger(left: usize, right: usize) -> usize
     ensures { result ≡ max left right }
 {

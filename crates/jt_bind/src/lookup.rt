@@ -88,7 +88,7 @@ impl<'t, 's, 'a> Resolver<'t, 's, 'a> {
         self.tables.global_slot(name)
     }
 
-    /// Returns the local that holds the keyword argument of this name, if there is one.
+    /// Returns the local that holds the keyword argument of the name, if there is one.
     pub(crate) fn kept(
         &self,
         pairs: &[(String, Expr)],

@@ -10,8 +10,7 @@ use jt_layout::{NameIndex, checked_sum};
 use jt_value::NoMemory;
 use std::alloc::Global;
 
-/// Names in consecutive locals, from `first` on. Of a name that occurs twice the last occurrence
-/// counts.
+/// Names in consecutive locals, from `first` on. The last occurrence of a repeated name counts.
 #[derive(Drop)]
 pub(crate) struct NameScope<'a> {
     pub names: Vec<&'a str>,

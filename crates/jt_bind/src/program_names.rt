@@ -46,7 +46,7 @@ pub(crate) fn entry_names(alloc: Global, tables: &Tables<'_>) -> Result<Vec<Stri
     strings_of(alloc, &tables.at(0).names)
 }
 
-/// Returns how many globals the chains have.
+/// Returns the number of globals of the chains.
 pub(crate) fn count_globals(tables: &Tables<'_>) -> Result<usize, NoMemory>
     ensures { IfOk result (λ n. n ≡ programs.count_globals (cenv_in tables.now)
         (order_in tables.now) (order_in tables.now)) }

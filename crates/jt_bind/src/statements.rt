@@ -255,8 +255,8 @@ impl<'t, 's, 'a> Resolver<'t, 's, 'a> {
         put_print(&self.senv, line, shown, done)
     }
 
-    /// Resolves a body in a scope of its own, with these names in locals from the first free one
-    /// on, and appends it.
+    /// Resolves a body in a scope of its own and appends it. The scope keeps `names` in locals from
+    /// the first free one on.
     #[cycle(statements)]
     #[inline(never)]
     pub(crate) fn resolve_within(

@@ -91,21 +91,21 @@ impl<'a> Tables<'a> {
         &self.scope.namespaces[self.scope.namespace]
     }
 
-    /// Returns the index of the chain of this name.
+    /// Returns the index of the chain `name`.
     pub(crate) fn chain_index(&self, name: &str) -> Option<usize>
         ensures { IsNamespaceAt (order_in self.now) (a_chain name.now) result }
     {
         self.scope.indices.index_of(name)
     }
 
-    /// Returns the index of the library of this name.
+    /// Returns the index of the library `name`.
     pub(crate) fn library_index(&self, name: &str) -> Option<usize>
         ensures { IsNamespaceAt (order_in self.now) (a_library name.now) result }
     {
         self.scope.libraries.index_of(name)
     }
 
-    /// Returns whether no template of this name was read.
+    /// Returns whether no template `name` was read.
     pub(crate) fn is_missing(&self, name: &str) -> bool
         ensures { result ≡ is_none ((cenv_in self.now).sources name.now) }
     {

@@ -39,7 +39,7 @@ impl<'t, 's, 'a> Resolver<'t, 's, 'a> {
         }
     }
 
-    /// Returns the slots of names that are set. Of a name that occurs twice the last value counts.
+    /// Returns the slots of names that are set. The last value of a repeated name counts.
     fn kept_slots(&self, names: &[String]) -> Result<Vec<Option<Slot>>, NoMemory>
         ensures { IfOk result (λ ss. map (option_map slot_view) ss.items
             ≡ resolve.kept_slots (table_of self.now) (names_view names.now)) }

@@ -27,7 +27,7 @@ library_need library_name = record { name = library_name; ignoring = false; libr
 abbrev pub need_namespace : Need → Namespace
 need_namespace n = if n.library then a_library n.name else a_chain n.name
 
--- The names of all includes, or only those of templates that may not be missing.
+-- The names of all includes, or only the names of templates that may not be missing.
 abbrev pub needed : Bool → List Need → List Text
 needed all = flat_map (λ n. need all n.name n.ignoring)
 

@@ -15,7 +15,8 @@ use Rattle.jt_chains.specs.declared.chain.Chain.{Chain}
 pub record Seen : Type 0 where
   -- The templates that were read, each once.
   pub templates : List Template
-  -- The chains and libraries, each before those that it leads to; the entry's chain is the first.
+  -- The chains and libraries, each before the ones that it leads to; the entry's chain is the
+  -- first.
   pub order : List Namespace
   -- Whether text outside `autoescape` tags is escaped.
   pub escaping : Bool

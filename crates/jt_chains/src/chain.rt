@@ -1,4 +1,5 @@
-//! The chain of an entry, with the chains and libraries that its includes and imports reach.
+//! Defines the chain of an entry, with the chains and libraries that its includes and imports
+//! reach.
 
 ghost use Rattle.std.specs.Prelude.{◌≡◌, ◌<◌, true, false, length, map};
 ghost use Rattle.jt_chains.specs.Chain.{sources_in};
@@ -25,7 +26,7 @@ pub struct Namespace {
 pub struct Chain {
     /// The templates that were read, each once.
     pub templates: Vec<TemplateFile>,
-    /// The chains and libraries, each before those that it leads to. The entry's chain is the
+    /// The chains and libraries, each before the ones that it leads to. The entry's chain is the
     /// first.
     pub namespaces: Vec<Namespace>,
     /// Whether text outside `autoescape` tags is escaped.

@@ -1,4 +1,4 @@
-//! Defines what the names of a chain stand for: its own macros, imported macros, or libraries.
+//! Collects the defined names of a chain: its own macros, imported macros, and libraries.
 
 ghost use Rattle.std.specs.Prelude.{◌≡◌, ◌<◌, ◌++◌, [], List, length, map, option_map, not};
 ghost use Rattle.std.specs.Prelude.{if◌then◌else◌, IfOk};
@@ -22,8 +22,8 @@ use crate::parts::{Macro, body_of_file};
 use jt_ast::Stmt;
 use std::alloc::{AllocError, Global};
 
-/// The definition of a name: a macro of its own chain or library, a macro of another library with
-/// the name of that library, or a library.
+/// The definition of a name: a macro of its own chain or library, a macro of another library, by
+/// the library's name, or a library.
 #[derive(Clone, Copy)]
 pub enum Definition<'a> {
     Own(Macro<'a>),

@@ -97,8 +97,8 @@ pub fn includes_at<'a>(
 }
 
 impl Chain {
-    /// Returns the includes of a chain, once for each tag; those of the entry's template come
-    /// first. Returns none if `namespace` is out of range.
+    /// Returns the includes of a chain, once for each tag, the entry template's first. Returns an
+    /// empty list if `namespace` is out of range.
     pub fn includes(
         &self,
         alloc: Global,

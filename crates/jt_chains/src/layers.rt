@@ -40,8 +40,8 @@ fn layers_at<'a>(
 }
 
 impl Chain {
-    /// Returns the templates of a chain, from the entry to the root. Returns none if `namespace` is
-    /// out of range.
+    /// Returns the templates of a chain, from the entry to the root. Returns an empty list if
+    /// `namespace` is out of range.
     pub fn layers(&self, alloc: Global, namespace: usize) -> Result<Vec<Layer<'_>>, AllocError>
         ensures there { namespace < length self.now.namespaces.items → IfOk result (λ found.
             map (layer_view (its_templates self.now)) found.items

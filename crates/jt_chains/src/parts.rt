@@ -24,8 +24,8 @@ pub struct Macro<'a> {
     pub body: &'a [Stmt],
 }
 
-/// A body of a block: the index of its template, its name, whether its tag has `scoped` and
-/// `required`, the autoescape state at its tag, and its statements.
+/// A body of a block. `template` is the index of its template, and `escaping` the autoescape state
+/// at its tag.
 #[derive(Clone, Copy)]
 pub struct Block<'a> {
     pub template: usize,
@@ -249,7 +249,7 @@ pub fn blocks_at<'a>(
 }
 
 impl Chain {
-    /// Returns all macros of a chain; those of the entry's template come first. Returns none if
+    /// Returns all macros of a chain, the entry template's first. Returns an empty list if
     /// `namespace` is out of range.
     pub fn macros(&self, alloc: Global, namespace: usize) -> Result<Vec<Macro<'_>>, AllocError>
         ensures there { namespace < length self.now.namespaces.items → IfOk result (λ found.
@@ -263,8 +263,8 @@ impl Chain {
         }
     }
 
-    /// Returns the bodies of all blocks of a chain; those of the entry's template come first.
-    /// Returns none if `namespace` is out of range.
+    /// Returns the bodies of all blocks of a chain, the entry template's first. Returns an empty
+    /// list if `namespace` is out of range.
     pub fn blocks(&self, alloc: Global, namespace: usize) -> Result<Vec<Block<'_>>, AllocError>
         ensures there { namespace < length self.now.namespaces.items → IfOk result (λ bodies.
             blocks_view (its_templates self.now) bodies.items

@@ -14,7 +14,7 @@ use jt_ast::Stmt;
 use std::alloc::{AllocError, Global};
 use std::collections::BTreeMap;
 
-/// Maps a name to a index and replaces an earlier entry of the name.
+/// Maps a name to an index and replaces an earlier entry of the name.
 fn put(
     alloc: Global,
     table: &mut BTreeMap<String, usize>,
@@ -30,7 +30,7 @@ fn put(
 }
 
 /// Returns a map from each macro name of a library to the index of its first macro statement.
-/// Returns `None` if the statements are not those of a library.
+/// Returns `None` if the statements are no library.
 pub(crate) fn macro_table(
     alloc: Global,
     body: &[Stmt],

@@ -40,8 +40,8 @@ fn is_called_well(naming: ArgumentRole, name: &str, values: usize) -> bool
     }
 }
 
-/// Returns whether an argument that names something is a text literal, and what it names takes
-/// `values` values.
+/// Returns whether an argument that names something is a text literal. A named filter or test must
+/// also take `values` values.
 fn is_argument_well(naming: Option<ArgumentRole>, argument: &Expr, values: usize) -> bool
     ensures { result ≡ inside.argument_well naming (literal_text (expr_view argument.now)) values }
 {
@@ -66,7 +66,7 @@ fn is_row_well(filter: FilterId, row: &[Expr]) -> bool
     true
 }
 
-/// Returns what a keyword argument names, if it names something.
+/// Returns the role of a keyword argument, if it names something.
 fn naming_of(filter: FilterId, name: &str) -> Option<ArgumentRole>
     ensures { result ≡ option_and_then (named_at filter) (position_of filter name.now) }
 {

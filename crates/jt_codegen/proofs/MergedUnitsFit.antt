@@ -1,4 +1,4 @@
--- The units of a program that fits also fit after constants get their places in the table.
+-- The units of a program that fits also fit after constants get their indices into the table.
 use Rattle.std.proofs.Common.{◌≡◌, ℕ, ◌+◌, ◌*◌, ◌<◌, ◌≤◌, ◌^◌, List, [], ◌∷◌, length, map, refl, ap, arith}
 use Rattle.std.specs.List.{AllByRecursion}
 use Rattle.jt_image.specs.Code.{Section}
@@ -25,7 +25,7 @@ pub moved_before : (P : ℕ → ℕ → ℕ → Type 0) (places : List ℕ) (us 
 moved_before P places [] h = tt
 moved_before P places (u ∷ us) h = (h.0, moved_before P places us h.1)
 
--- The places of a program's constants in the table.
+-- The indices of a program's constants into the table.
 abbrev pub ps : Program → List ℕ
 ps p = new_indices (lowered p).constants
 

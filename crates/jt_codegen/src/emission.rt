@@ -73,7 +73,7 @@ pub(crate) struct Emitted {
     pub(crate) places: Vec<Option<Place>>,
 }
 
-/// Emits the unit of a routine: its statements, then the return. It has at most `left`
+/// Emits the unit of a routine: its statements, then the return. The unit has at most `left`
 /// instructions.
 ///
 /// # Errors

@@ -1,4 +1,4 @@
-//! Checks how many stack entries the code of resolved statements needs.
+//! Checks the number of stack entries that the code of resolved statements needs.
 
 ghost use Rattle.std.specs.Prelude.{◌≡◌, ◌&&◌, ◌≤◌, ◌↔◌, nat_le, ℕ, List, Option, option_map, map};
 ghost use Rattle.std.specs.Prelude.{IsTrue};
@@ -13,7 +13,7 @@ ghost use Rattle.jt_ir.specs.View.{routine_view};
 use jt_ir::{Routine, SlotBranch, SlotExpr, SlotStmt, Targets};
 use jt_lower::{fits_expression, fits_row};
 
-/// Returns whether storing into these targets needs at most `room` stack entries.
+/// Returns whether code that stores into the targets needs at most `room` stack entries.
 fn fits_targets(targets: &Targets, room: usize) -> bool
     ensures { result ≡ nat_le (targets_height (targets_view targets.now)) room }
 {

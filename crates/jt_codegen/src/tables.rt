@@ -66,8 +66,7 @@ struct Units {
     places: Vec<Option<Place>>,
 }
 
-/// Emits the units of routines. Each unit may have the instructions that the units before it leave
-/// of the limit.
+/// Emits the units of routines. All units together have at most `MAX_INSTRUCTIONS` instructions.
 fn units_of(alloc: Global, routines: &[Routine]) -> Result<Units, EmitError>
     ensures emitted { IfOk result (λ us. (templates : List Text)
         → each_of section_of_unit us.units.items ≡ Some (routine_units templates routines.now)) }

@@ -49,7 +49,7 @@ pub at_index : (cs : List Constant) (c : Constant) → Has cs c → slice_get cs
 at_index [] c h = absurd cc
 at_index (d ∷ ds) c h = search (arith, rules, at_index ds c, same_is)
 
--- A index stays if other constants are appended.
+-- An index stays if other constants are appended.
 pub index_kept : (cs ds : List Constant) (c : Constant) → Has cs c → index_in (cs ++ ds) c ≡ index_in cs c
 index_kept [] ds c h = absurd cc
 index_kept (d ∷ cs) ds c h = search (arith, rules, index_kept cs ds c)
@@ -66,7 +66,7 @@ no_fewer acc (c ∷ cs) = search (arith, rules, no_fewer (with_new acc c) cs, le
 pub fewer : (cs : List Constant) → length (each_once cs) ≤ length cs
 fewer cs = omega (arith, once_len [] cs)
 
--- ---- the constant at the new index of a index is the constant at that index
+-- ---- the constant at the new index of an index is the constant at that index
 
 past : (cs : List Constant) (n : ℕ) → slice_get cs n ≡ None → length cs ≤ n
 past [] n e = omega arith

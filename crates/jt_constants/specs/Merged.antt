@@ -51,7 +51,7 @@ index_in (first ∷ rest) constant = if same constant first then 0 else suc (ind
 abbrev pub new_indices : List Constant → List ℕ
 new_indices constants = map (index_in (each_once constants)) constants
 
--- The new index for a index; a index outside `indices` stays.
+-- The new index for an index; an index outside `indices` stays.
 abbrev pub moved : List ℕ → ℕ → ℕ
 moved indices index = unwrap_or (slice_get indices index) index
 

@@ -1,4 +1,4 @@
-//! Defines the refusals of a table of constants.
+//! Defines the errors of a table of constants.
 
 use std::alloc::{AllocError, AllocFailed};
 

@@ -59,7 +59,7 @@ fn moved_instruction(instruction: Instr, indices: &[u32]) -> Instr
     }
 }
 
-/// Returns the new index for a index. A index outside `indices` stays.
+/// Returns the new index for an index. An index outside `indices` stays.
 fn moved(index: u32, indices: &[u32]) -> u32
     ensures { result ≡ moved indices.now index }
 {

@@ -1,5 +1,5 @@
-//! Codes of items: bytes that tell items apart. Two items have the same code exactly if they are
-//! alike.
+//! Computes codes of items: bytes that distinguish items. Two items have the same code exactly if
+//! they are alike.
 ghost use Rattle.std.specs.Prelude.{◌≡◌, ◌∷◌, [], IfOk};
 ghost use Rattle.jt_value.specs.Tree as tree;
 ghost use Rattle.jt_value.specs.View.{view, items_view, entries_view};

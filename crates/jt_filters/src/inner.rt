@@ -1,5 +1,5 @@
-//! The actions on each item: it is kept or dropped, or replaced by its attribute or by the result
-//! of a filter.
+//! Defines the actions on each item: it is kept, dropped, or replaced by its attribute or by a
+//! filter's result.
 ghost use Rattle.std.specs.Prelude.{◌≡◌, ◌+◌, [], ◌∷◌, ◌++◌, map, length, Ok, IfErr, OnOk};
 ghost use Rattle.std.specs.Prelude.{option_map};
 ghost use Rattle.jt_value.specs.View.{view, items_view};
@@ -31,7 +31,7 @@ pub(crate) enum Predicate<'a> {
 /// The rule by which items are kept.
 #[derive(Clone, Copy)]
 pub(crate) struct Selection<'a> {
-    /// True to keep the items that pass the predicate, false to keep those that fail it.
+    /// `true` if the items that pass the predicate are kept, `false` if the items that fail it are.
     pub(crate) passes: bool,
     /// The key of the attribute that is tested. Without a key the item itself is tested.
     pub(crate) key: Option<&'a str>,
@@ -93,7 +93,7 @@ impl<'a> Selection<'a> {
         Ok(passes == self.passes)
     }
 
-    /// Returns what the predicate tests: the item itself, or its attribute.
+    /// Returns the operand that the predicate tests: the item itself, or its attribute.
     fn attribute_or_item(self, item: Operand<'a>) -> Result<Operand<'a>, Fault>
         ensures { chosen result
             ≡ attribute_or_item (option_map (λ k. k.now) self.entry.key) (tree_of item.entry) }
@@ -106,7 +106,7 @@ impl<'a> Selection<'a> {
 }
 
 impl<'a> ItemAction<'a> {
-    /// Returns the size and the nesting of what the action makes of an item.
+    /// Returns the size and the nesting of the action's result on an item, or zeros if it has none.
     #[tactic(auto, using(crate::proofs::ItemResults::action_measures))]
     pub(crate) fn measure(self, alloc: Global, item: Operand<'a>) -> Result<(u64, u32), Fault>
         requires { Gives self }
@@ -125,7 +125,7 @@ impl<'a> ItemAction<'a> {
         }
     }
 
-    /// Appends what the action makes of an item.
+    /// Appends the action's result on an item, if it has one.
     #[tactic(auto, using(crate::proofs::ItemResults::action_values))]
     pub(crate) fn push(
         self,

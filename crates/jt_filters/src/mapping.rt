@@ -1,4 +1,5 @@
-//! Filters that call a filter or a test on each item of their input, or look up its attribute.
+//! Implements filters that call a filter or a test on each item of their input, or look up its
+//! attribute.
 ghost use Rattle.std.specs.Prelude.{◌≡◌, map, Ok, IfOk, IfErr, Some, option_map};
 ghost use Rattle.jt_value.specs.Payload.{text_of};
 ghost use Rattle.jt_value.specs.View.{view, items_view};
@@ -53,7 +54,7 @@ pub(crate) fn mapped(
     row_list(alloc, items, change)
 }
 
-/// Returns the measure of the list of what the action makes of the items.
+/// Returns the measure of the list of the action's results on the items.
 #[tactic(auto, using(crate::proofs::ItemResults::list_measures))]
 fn row_list_measure<'a>(
     alloc: Global,
@@ -67,8 +68,8 @@ fn row_list_measure<'a>(
     Ok((size.saturating_add(1), nesting.saturating_add(1)))
 }
 
-/// Returns the size, at most 2^64 - 1, and the nesting, at most 2^32 - 1, of what the action makes
-/// of the items.
+/// Returns the size, at most 2^64 - 1, and the nesting, at most 2^32 - 1, of the action's results
+/// on the items.
 #[tactic(auto, using(crate::proofs::ItemResults::rest_measures))]
 fn row_measure<'a>(
     alloc: Global,
@@ -93,7 +94,7 @@ fn row_measure<'a>(
     Ok((size, nesting))
 }
 
-/// Returns the list of what the action makes of the items.
+/// Returns the list of the action's results on the items.
 fn row_list<'a>(
     alloc: Global,
     items: ItemList<'a>,
@@ -106,7 +107,7 @@ fn row_list<'a>(
     Ok(Value::list(alloc, values)?)
 }
 
-/// Returns what the action makes of the items, in order.
+/// Returns the action's results on the items, in order.
 #[tactic(auto, using(crate::proofs::ItemResults::front_values))]
 fn row_values<'a>(
     alloc: Global,
@@ -146,8 +147,8 @@ pub(crate) fn change_of(
     }
 }
 
-/// Returns the action that keeps items by a test, given by its name and arguments, or by truth if
-/// there are no arguments.
+/// Returns the action that keeps items by a test, or by truth if there are no arguments. The test's
+/// name is the first of `arguments`.
 fn keeping<'a>(
     passes: bool,
     key: Option<&'a str>,
@@ -164,7 +165,8 @@ fn keeping<'a>(
     }))
 }
 
-/// As `keeping`, but the predicate tests an attribute of the item. Its key is the first argument.
+/// Returns the action that keeps items by a test of an attribute, or by the attribute's truth. The
+/// key of the attribute is the first argument.
 fn selecting_by(passes: bool, arguments: &[Value]) -> Result<ItemAction<'_>, Fault>
     ensures { Changes (the.selecting_by passes (map view arguments.now)) result }
 {
@@ -255,8 +257,8 @@ fn named_test(name: &Value) -> Option<TestId>
     }
 }
 
-/// Returns the predicate of a test, given by its name and arguments, or truth if there are no
-/// arguments.
+/// Returns the predicate of a test, or truth if there are no arguments. The test's name is the
+/// first of `arguments`.
 fn predicate_of(arguments: &[Value]) -> Result<Predicate<'_>, Fault>
     ensures { MakesPredicate (the.judgement (map view arguments.now)) result }
 {

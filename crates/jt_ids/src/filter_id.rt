@@ -152,7 +152,7 @@ impl FilterId {
     }
 
     /// Returns the filter that a name means. `only` is the name of the only argument, if there is
-    /// exactly one and it is given by name: `map(attribute=key)` is another filter than `map`.
+    /// exactly one and it is passed by name: `map(attribute=key)` is another filter than `map`.
     pub fn named(name: &str, only: Option<&str>) -> Option<FilterId>
         ensures { result ≡ filter_meant name.now (option_map (λ s. s.now) only.entry) }
     {
@@ -162,8 +162,8 @@ impl FilterId {
         }
     }
 
-    /// Returns the filter that this one means. `only` is the name of the only argument, if there is
-    /// exactly one and it is given by name.
+    /// Returns the filter that `self` means. `only` is the name of the only argument, if there is
+    /// exactly one and it is passed by name.
     fn with_only(self, only: Option<&str>) -> FilterId
         ensures { Some result ≡ with_only (Some self) (option_map (λ s. s.now) only.entry) }
     {
@@ -189,8 +189,8 @@ impl FilterId {
         least <= values && values <= most
     }
 
-    /// Returns the position among the values of an argument that is given by name, or `None` if the
-    /// filter has no such argument. The input has position 0.
+    /// Returns the position among the values of an argument that is passed by name, or `None` if
+    /// the filter has no such argument. The input has position 0.
     pub fn position(self, argument: &str) -> Option<usize>
         ensures { result ≡ position_of self argument.now }
     {

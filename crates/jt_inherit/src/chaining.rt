@@ -30,8 +30,8 @@ use jt_graph::order;
 use jt_scan::Options;
 use std::alloc::{AllocError, Global};
 
-/// Returns the chain of the entry: its templates up to the root, read from the library, and the
-/// chains and libraries that their includes and imports reach.
+/// Returns the chain of the entry, read from the library. It has the templates up to the root, and
+/// the chains and libraries that their includes and imports reach.
 ///
 /// # Errors
 ///
@@ -104,7 +104,7 @@ fn check_chains(alloc: Global, found: &Discovery, escaping: bool) -> Result<(), 
     Ok(())
 }
 
-/// Returns the chains and libraries of these numbers, in this order.
+/// Returns the chains and libraries of the numbers `order`, in order.
 fn namespaces_in(
     alloc: Global,
     found: &Discovery,

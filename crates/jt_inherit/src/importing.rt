@@ -25,7 +25,7 @@ fn library_file<'a>(store: TemplateStore<'a>, library: &str) -> Option<&'a Templ
     Some(&store.files[index])
 }
 
-/// Returns whether a template does not offer all of these macros to importers.
+/// Returns whether a template does not offer all macros of `names` to importers.
 fn has_not(file: &TemplateFile, names: &[(String, String)]) -> bool
     ensures { result ≡ spec.has_not (macros_held file.now) (given_view names.now) }
 {
@@ -33,7 +33,7 @@ fn has_not(file: &TemplateFile, names: &[(String, String)]) -> bool
 }
 
 /// Returns whether a `from` tag names a macro that the library does not offer. A template that was
-/// not read, or is no library, lacks none.
+/// not read, or is no library, lacks no macro.
 fn lacks_one(store: TemplateStore<'_>, library: &str, names: &[(String, String)]) -> bool
     ensures { result
         ≡ rules.lacks_one (its_sources store.entry) library.now (given_view names.now) }

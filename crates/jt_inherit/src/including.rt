@@ -207,7 +207,7 @@ fn add_number(
 }
 
 /// Returns the numbers of the chains and libraries that the templates at `extends_path` lead to.
-/// New ones are appended to `namespaces`.
+/// New chains and libraries are appended to `namespaces`.
 pub(crate) fn next_namespaces(
     alloc: Global,
     names: &Names,

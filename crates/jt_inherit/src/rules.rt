@@ -128,8 +128,8 @@ fn any_double(
     Ok(false)
 }
 
-/// Refuses a chain or library, given by its templates, whose blocks, macros or imports break a
-/// rule.
+/// Refuses a chain or library whose blocks, macros or imports break a rule. `indices` are its
+/// templates.
 pub(crate) fn check_rules(
     alloc: Global,
     store: TemplateStore<'_>,

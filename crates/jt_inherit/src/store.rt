@@ -43,7 +43,7 @@ pub(crate) fn add_file(
     Ok(())
 }
 
-/// Returns the index of the template of this name, and reads the template if it was not read yet.
+/// Returns the index of the template `name`, and reads the template if it was not read yet.
 pub(crate) fn read_index<L: Library>(
     alloc: Global,
     names: &mut Names,

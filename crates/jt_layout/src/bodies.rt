@@ -76,7 +76,7 @@ pub(crate) struct Bodies<'a> {
     pub(crate) nexts: Vec<Option<usize>>,
     /// The names that the chain's scopes bind.
     pub(crate) scope_names: Vec<&'a str>,
-    /// The blocks that have these names as parameters.
+    /// The blocks that have `scope_names` as parameters.
     pub(crate) scoped: NameIndex<'a>,
 }
 

@@ -58,8 +58,8 @@ impl<'a> CollectedNames<'a> {
         }
     }
 
-    /// Removes and returns the names of a chain. Returns none for a library, or if no names are
-    /// stored.
+    /// Removes and returns the names of a chain. Returns an empty list for a library, or if no
+    /// names are stored.
     pub(crate) fn take(&mut self, alloc: Global, namespace: &Namespace) -> Vec<&'a str>
         ensures taken { texts result.items ≡ in_globals (namespace_view namespace.now)
             (names_at self.old.names (string_bytes namespace.now.name)) }
@@ -115,8 +115,8 @@ fn names_of_chain<'a>(
     list_of(alloc, names)
 }
 
-/// Returns the names of all chains. Each chain comes before those that it includes, so the loop
-/// runs from the last chain to the first.
+/// Returns the names of all chains. Each chain comes before the chains that it includes, so the
+/// loop runs from the last chain to the first.
 pub(crate) fn gather<'a>(
     alloc: Global,
     chain: &'a Chain,

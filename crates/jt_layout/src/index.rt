@@ -1,4 +1,4 @@
-//! Defines an index from names to numbers.
+//! Defines a map from names to indices.
 
 ghost use Rattle.std.specs.Prelude.{◌≡◌, IfOk, Some, None, if◌then◌else◌};
 ghost use Rattle.jt_ast.specs.Texts.{texts};
@@ -12,14 +12,14 @@ use jt_value::NoMemory;
 use std::alloc::Global;
 use std::collections::BTreeMap;
 
-/// A number for each name of a set.
+/// An index for each name of a set.
 #[derive(Drop)]
 pub struct NameIndex<'a> {
     pub indices: BTreeMap<&'a str, usize>,
 }
 
 impl<'a> NameIndex<'a> {
-    /// Returns an empty index.
+    /// Returns a map without names.
     pub fn new(alloc: Global) -> Self
         ensures { (x : Text) → index_in result.indices x ≡ None }
     {
@@ -28,8 +28,8 @@ impl<'a> NameIndex<'a> {
         }
     }
 
-    /// Returns the index that numbers the names from `first` on; the first occurrence of a name
-    /// counts.
+    /// Returns the map from names to consecutive indices from `first` on. The first occurrence of a
+    /// repeated name counts.
     pub(crate) fn of(alloc: Global, names: &[&'a str], first: usize) -> Result<Self, NoMemory>
         ensures { IfOk result (λ i. AreIndices first (texts names.now) i.indices) }
     {
@@ -42,7 +42,7 @@ impl<'a> NameIndex<'a> {
         Ok(index)
     }
 
-    /// Maps a name to a number and replaces an earlier entry of the name.
+    /// Maps `name` to `index`, replacing its earlier entry.
     pub fn put(&mut self, name: &'a str, index: usize) -> Result<(), NoMemory>
         ensures { IfOk result (λ u. (x : Text)
             → index_in self.new.indices x
@@ -52,7 +52,7 @@ impl<'a> NameIndex<'a> {
         Ok(())
     }
 
-    /// Returns the number of a name.
+    /// Returns the index of a name.
     pub fn index_of(&self, name: &str) -> Option<usize>
         ensures { result ≡ index_in self.now.indices name.now }
     {

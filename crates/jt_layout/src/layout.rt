@@ -58,7 +58,7 @@ fn entries_of(namespace: &Namespace) -> usize
     if namespace.is_library { 0 } else { 1 }
 }
 
-/// Returns the indices of a chain with these counts; `end` is the first pool index after its
+/// Returns the unit layout of a chain from its counts. `end` is the first pool index after its
 /// defaults.
 fn unit_layout(front: FirstFree, counts: Counts, end: usize) -> Result<UnitLayout, NoMemory>
     ensures macro_unit { IfOk result (λ p. p.macro_unit ≡ front.unit + counts.entries) }

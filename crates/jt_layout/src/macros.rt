@@ -1,4 +1,4 @@
-//! Indexes the macros of a chain and indices their defaults in the pool.
+//! Indexes the macros of a chain, and their defaults in the pool.
 
 ghost use Rattle.std.specs.Prelude.{◌≡◌, ◌<◌, ◌+◌, List, length, map, IfOk};
 ghost use Rattle.jt_chains.specs.Chain.{Template};

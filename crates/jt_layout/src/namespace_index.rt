@@ -11,8 +11,8 @@ use jt_chains::Namespace;
 use jt_value::NoMemory;
 use std::alloc::Global;
 
-/// Returns the indices of the chains, or those of the libraries, by name. A chain and a library may
-/// have the same name.
+/// Returns the indices by name of the libraries if `libraries` is true, or of the chains otherwise.
+/// A chain and a library may have the same name.
 pub(crate) fn namespace_index<'a>(
     alloc: Global,
     namespaces: &'a [Namespace],

@@ -36,6 +36,6 @@ pub struct NamespaceLayout<'a> {
     pub next_bodies: Vec<Option<usize>>,
     /// The names that the scopes bind.
     pub scope_names: Vec<&'a str>,
-    /// The blocks that have these names as parameters.
+    /// The blocks that have `scope_names` as parameters.
     pub scoped: NameIndex<'a>,
 }

@@ -1,4 +1,4 @@
-//! Checks how many stack entries the code of expressions needs above the existing ones.
+//! Checks the number of stack entries that the code of expressions needs above the existing ones.
 
 ghost use Rattle.std.specs.Prelude.{◌≡◌, nat_le};
 ghost use Rattle.jt_ir.specs.Size.{expr_height, row_height};

@@ -1,4 +1,4 @@
-//! Defines the code of resolved programs, proves that it does what they mean, and emits
+//! Defines the code of resolved programs, proves that its runs agree with their meaning, and emits
 //! expressions.
 //!
 //! Instructions are appended and jumps are patched in `emitter`. Expressions are emitted in

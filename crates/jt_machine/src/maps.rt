@@ -26,7 +26,7 @@ use jt_value::{Fault, NoMemory, Value};
 use std::alloc::Global;
 
 /// Returns the map of alternating keys and values; each key is a text. A repeated key keeps its
-/// place and takes the later value.
+/// index and takes the later value.
 pub(crate) fn map_of(alloc: Global, values: Vec<Value>) -> Result<Value, NoMemory>
     requires { list_all is_text (keys_of (map view values.items)) ≡ true }
     ensures { IfOk result (λ v. mapped (map view values.items) ≡ Ok (view v)) }
@@ -137,7 +137,7 @@ fn place_of(entries: &[(String, Value)], key: &str) -> Option<usize>
     None
 }
 
-// Sets the value of a key. A key that exists keeps its place.
+// Sets the value of a key. A key that exists keeps its index.
 fn put_pair(
     alloc: Global,
     entries: &mut Vec<(String, Value)>,

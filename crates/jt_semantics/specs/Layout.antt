@@ -1,5 +1,5 @@
--- The layout of the names, macros and bodies of chains and libraries in a program: slots of
--- globals, routines, and the first values of the pool.
+-- The layout of chains and libraries in a program: slots of globals, routines, and the first values
+-- of the pool.
 use Rattle.std.specs.Prelude.{ℕ, suc, ◌+◌, ◌==◌, ◌&&◌, Bool, false, List, [], ◌∷◌, ◌++◌, length, map, flat_map, filter}
 use Rattle.std.specs.Prelude.{Option, Some, None, if◌then◌else◌}
 use Rattle.std.specs.List.{list_any}
@@ -34,8 +34,8 @@ abbrev pub counted_from : {A : Type 0} → ℕ → List A → List (ℕ × A)
 counted_from n [] = []
 counted_from n (x ∷ xs) = (n, x) ∷ counted_from (suc n) xs
 
--- The source of a routine: a chain, a macro of a chain or a library, or a block's body by its index
--- among all bodies of its chain.
+-- The source of a routine: a chain, a macro of a chain or a library, or a block's body. The body
+-- has its index among all bodies of its chain.
 pub data Key : Type 0 where
   of_chain : Text → Key
   of_macro : Namespace → Text → Key

@@ -98,7 +98,7 @@ abbrev pub fresh_targets : ℕ → List Text → Targets
 fresh_targets n (x ∷ []) = one (local n)
 fresh_targets n xs = several (fresh n xs)
 
--- The slots of names that are set. Of a repeated name only the last one has a slot.
+-- The slots of names that are set. Only the last occurrence of a repeated name has a slot.
 abbrev pub kept_slots : Table → List Text → List (Option Slot)
 kept_slots table [] = []
 kept_slots table (x ∷ xs) = (if among x xs then None else slot_in x table) ∷ kept_slots table xs

@@ -162,7 +162,8 @@ fn has_all_keys(map: &ValueMap, others: &[(String, Value)]) -> bool
     true
 }
 
-/// As `are_first_values_equal`, but in one pass, for maps with equal keys at each index.
+/// Returns whether the first value of each key of `map` equals the key's first value in `others`.
+/// The keys at each index are equal, so one pass suffices.
 #[cycle(equality)]
 fn are_values_equal_in_place(map: &ValueMap, others: &[(String, Value)]) -> bool
     requires { same_keys map.now (entries_view others.now) ≡ true }

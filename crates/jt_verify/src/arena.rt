@@ -63,7 +63,7 @@ impl Arena {
         requires right { IsIn self.now right }
         ensures { TellsEqual (shape_in self.now left) (shape_in self.now right) result }
     {
-        // Read only so that the prover knows the arena's invariant here.
+        // The prover needs this read, which shows the arena's invariant.
         let _nodes = &self.nodes;
         is_same(left, right)
     }
@@ -95,7 +95,7 @@ impl Arena {
         requires { IsIn self.now shape }
         ensures { PopsMany self.now count (shape_in self.now shape) result }
     {
-        // Read only so that the prover knows the arena's invariant here.
+        // The prover needs this read, which shows the arena's invariant.
         let _nodes = &self.nodes;
         if count <= shape.values as usize {
             return Ok(ShapeId {

@@ -1,4 +1,4 @@
-//! Computes what an instruction does to a shape, and where it leads.
+//! Computes the effect of an instruction on a shape, and its successors.
 ghost use Rattle.std.specs.Prelude.{◌≡◌, ◌+◌, ◌^◌, ◌<◌, ◌≤◌, ◌&&◌, [], ◌∷◌, nat_lt, Ok, length};
 ghost use Rattle.std.specs.Prelude.{false, option_map, slice_get};
 ghost use Rattle.jt_image.specs.Code.{is_text as is_text_of};

@@ -1,5 +1,5 @@
 //! Defines shapes as values for hosts: the kinds of the entries of an activation. The verifier
-//! compares those of arena.rt.
+//! compares the shapes of arena.rt.
 ghost use Rattle.std.specs.Prelude.{◌≡◌, [], ◌∷◌, length, OnOk, OnErr, MatchResult};
 ghost use Rattle.jt_verify.specs.Differing.{Differ};
 

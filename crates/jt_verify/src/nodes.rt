@@ -146,8 +146,8 @@ fn is_entry(node: Node, wanted: NonValueEntry) -> bool
     node.mark == wanted.mark && is_same(node.below, wanted.below)
 }
 
-/// Returns the binary digits by which an entry is looked up among those on one node. The lowest
-/// digit is its kind; the other digits are the number of values between.
+/// Returns the binary digits by which an entry is looked up among the entries on one node. The
+/// lowest digit is its kind; the other digits are the number of values between.
 pub(crate) fn digits(mark: NonValue, values: u32) -> usize
     ensures { result ≡ 2 * values + digit_of mark }
 {

@@ -165,8 +165,8 @@ module _ (r : Resolver) where
   routine_of xs b =
       resolve.resolved_routine (cenv_in r.tables.now) (order_in r.tables.now) xs b senv_of
 
-  -- A template of a chain: all statements of the root, and only those that set names of any other
-  -- template.
+  -- A template of a chain: all its statements if it is the root, or only the statements that set
+  -- names.
   abbrev pub layer_of : trees.Body → Bool → SBody Constant
   layer_of b is_root = layer_at r.tables.now senv_of b is_root
 

@@ -215,7 +215,7 @@ module _ (s : Chains) where
   abbrev pub entries_in : trees.Pairs → StaticEnv → SRow Constant
   entries_in ps p = resolve.resolved_entries cenv_in order_in ps (senv_in p)
 
-  -- A filter, by its number, of a resolved value, with the arguments of the call.
+  -- The resolved call of a filter on a resolved value.
   abbrev pub filtered_in : Option ℕ → slots.SlotExpr Constant → trees.Exprs → trees.Pairs → StaticEnv
       → slots.SlotExpr Constant
   filtered_in f c ts ps p =

@@ -108,8 +108,8 @@ module _ (s : Chains) where
   abbrev pub scoped_in : trees.Body → resolve.StaticEnv → SBody Constant
   scoped_in b sp = resolve.scoped (set_in b) sp (resolve.resolved_body (cenv_in s) (order_in s) b)
 
-  -- A template of a chain at its top: all statements of the root, and only those that set names of
-  -- any other template.
+  -- A template of a chain at its top: all its statements if it is the root, or only the statements
+  -- that set names.
   abbrev pub layer_at : resolve.StaticEnv → trees.Body → Bool → SBody Constant
   layer_at top b is_root =
       if is_root

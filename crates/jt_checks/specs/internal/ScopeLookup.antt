@@ -1,5 +1,5 @@
--- The names that a scope knows. They are those of macros, with their parameters, of libraries, and
--- of blocks. Only private clauses cite this module.
+-- The names that a scope knows: the names of macros, with their parameters, of libraries, and of
+-- blocks. Only private clauses cite this module.
 use Rattle.std.specs.Prelude.{◌≡◌, ◌⊎◌, ℕ, ◌+◌, ℤ, Bool, not, nat_lt, List, length, Option, Some, None, option_map}
 use mathlib.Core.Path.{refl}
 use mathlib.Core.Logic.{inl, inr}
@@ -64,8 +64,8 @@ namespace_in c i = namespace_at (chain_view c).order i
 abbrev pub is_block : CompileEnv → Namespace → Text → Bool
 is_block cenv namespace x = not (nat_lt (length (bodies cenv.sources cenv.escaping namespace x)) 1)
 
--- The number of names that a chain reads or binds, with those of the libraries that it imports. The
--- names of a library count only there.
+-- The number of names that a chain reads or binds, with the names of the libraries that it imports.
+-- The names of a library count only there.
 abbrev pub names_of : CompileEnv → Namespace → ℕ
 names_of cenv (a_chain n) =
     length (ascending (own_names cenv.sources (a_chain n)))

@@ -36,7 +36,7 @@ judging (Err fault) = Err fault
 abbrev pub MakesPredicate : Result (Tree → Result Bool Fault) Fault → Result Predicate Fault → Type 0
 MakesPredicate wanted made = (judging made ≡ wanted) × IfOk made Judges
 
--- True if an item is kept.
+-- Whether the selection keeps an item, or its fault.
 abbrev pub kept : Selection → Tree → Result Bool Fault
 kept s t = passing s.passes (judged (judges s.predicate) (attribute_or_item (option_map (λ k. k.now) s.key) t))
 

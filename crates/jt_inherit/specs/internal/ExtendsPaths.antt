@@ -95,8 +95,8 @@ AddsNames old new xs =
     → IsTrue (among n (names_view new))
     → IsTrue (among n (names_view old)) ⊎ IsTrue (among n xs)
 
--- The templates of a chain or a library were read: the invariant holds, the new names are on the
--- path, and the path is at these indices.
+-- The templates of a chain or a library were read. The invariant holds, the new names are on the
+-- path, and the path is at the indices.
 pub record HasRead (given : SourceTexts) (options : Options) (before after : List TemplateFile) (old new : Names)
     (h : Namespace) (is : List ℕ) : Type 0 where
   pub known : KnowTemplateFiles given options after new

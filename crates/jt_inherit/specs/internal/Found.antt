@@ -94,7 +94,7 @@ TooMany old names =
     → IsTrue (among n ns)
     → IsTrue (listed (a_chain n) old) ⊎ IsTrue (listed (a_chain n) names))
 
--- The numbers are appended to those before.
+-- The numbers are appended to the numbers before.
 abbrev pub AddsNext : List chain.Namespace → List chain.Namespace → List chain.Namespace → List ℕ → List ℕ → Type 0
 AddsNext old new names before after =
     (numbers : List ℕ) × (after ≡ before ++ numbers) × AreNext old new names numbers
@@ -113,8 +113,8 @@ IsPutFault old h n e =
 abbrev pub IsNeedRefusal : SourceTexts → Options → List Need → ChainError → Type 0
 IsNeedRefusal given options ns e = (e ≡ error.NoMemory) ⊎ IsNeedFault given options ns e
 
--- The namespaces that one include or import leads to, and those that the templates at some indices
--- lead to.
+-- The namespaces that one include or import leads to, and the namespaces that the templates at some
+-- indices lead to.
 abbrev pub leads_to : Names → NeededTemplate → List chain.Namespace
 leads_to ks n = chosen (names_view ks) (need_view n ∷ [])
 

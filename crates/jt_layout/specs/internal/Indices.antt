@@ -36,7 +36,7 @@ abbrev pub first_namespace : Namespace → ℕ → List Namespace → Option ℕ
 first_namespace h n [] = None
 first_namespace h n (k ∷ ks) = if same_namespace k h then Some n else first_namespace h (suc n) ks
 
--- The names of a chain and of those that it leads to, which come after it.
+-- The names of a chain and of the chains that it leads to, which come after it.
 abbrev pub all_names : CompileEnv → List Namespace → Namespace → List Text
 all_names cenv behind h =
     ascending

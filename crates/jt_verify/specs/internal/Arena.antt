@@ -85,7 +85,8 @@ abbrev pub IsAt : List Node → ℕ → Node → Type 0
 IsAt ns zero n = (n.height ≡ 0) × (n.jump.to ≡ 0)
 IsAt ns (suc i) n = slice_get ns i ≡ Some n
 
--- Skip links lead to older nodes, whose shapes lie below those of the nodes that have the links.
+-- Skip links lead to older nodes, whose shapes lie below the shapes of the nodes that have the
+-- links.
 abbrev pub AreJumps : List Node → Type 0
 AreJumps ns = (i : ℕ) (n : Node) → slice_get ns i ≡ Some n
     → (n.jump.to ≤ i) × IsUnder (lists_of ns) n.jump.to (get_or (lists_of ns) (suc i) [])
