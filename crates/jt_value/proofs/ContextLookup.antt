@@ -1,7 +1,7 @@
 -- The table of a context: look-ups and changes of its entries are those of its pairs.
-use Rattle.std.proofs.Common.{◌≡◌, ℕ, zero, suc, ◌+◌, ◌-◌, ◌<◌, ◌≤◌, min, Bool, true, false, cond, ◌&&◌, List, [], ◌∷◌, ◌++◌}
-use Rattle.std.proofs.Common.{length, map, get_or, set, Option, Some, None, String, Global, nat_cmp, is_eq, string_bytes}
-use Rattle.std.proofs.Common.{refl, sym, ap, ◌∙◌, subst, true≢false, arith}
+use Rattle.std.proofs.Common.{◌≡◌, ℕ, zero, suc, ◌+◌, ◌<◌, ◌≤◌, Bool, true, false, cond, ◌&&◌, List, [], ◌∷◌, ◌++◌}
+use Rattle.std.proofs.Common.{map, get_or, set, Option, Some, None, String, Global, nat_cmp, is_eq, string_bytes, refl}
+use Rattle.std.proofs.Common.{sym, ap, ◌∙◌, subst, true≢false, arith}
 use Rattle.std.specs.Prelude.{option_map, is_some, OnOk, Result, Ok, Err}
 use Rattle.std.specs.Result.{is_err}
 use Rattle.std.specs.Str.{bytes_eq}

@@ -1,7 +1,7 @@
 -- The laws of maps whose entries are visited in the order of their keys.
-use Rattle.std.proofs.Common.{Bor, ◌≡◌, ℕ, zero, suc, Bool, true, false, cond, ◌&&◌, List, [], ◌∷◌, length, drop, get_or}
-use Rattle.std.proofs.Common.{Option, Some, None, String, Global, string_bytes, string_cmp, refl, sym, ap, ◌∙◌, subst}
-use Rattle.std.proofs.Common.{true≢false, arith}
+use Rattle.std.proofs.Common.{Bor, ◌≡◌, ℕ, zero, suc, Bool, true, false, cond, ◌&&◌, List, [], ◌∷◌, length, drop}
+use Rattle.std.proofs.Common.{get_or, Option, Some, None, String, Global, string_bytes, string_cmp, refl, sym, ap}
+use Rattle.std.proofs.Common.{◌∙◌, subst, true≢false, arith}
 use Rattle.std.specs.Prelude.{◌<◌, not, is_some, option_map, IfSome}
 use Rattle.std.specs.Slice.{IsItemAt}
 use Rattle.std.specs.Str.{bytes_eq}
@@ -240,7 +240,7 @@ kept_in_order xs places s h = (
     whole None = refl
     whole (Some t) = refl
 
--- The stored indices are as many as the different keys.
+-- The number of stored indices is that of the different keys.
 count_of : (xs : List Pair) (ms : List (String Global × ℕ)) → Keeps xs ms
     → length (keys (entries_at xs (values_of ms))) ≡ length ms
 count_of xs [] h = refl

@@ -1,6 +1,6 @@
 -- One more entry, whose key is new: the indices of keys, and ascending keys.
-use Rattle.std.proofs.Common.{◌≡◌, ℕ, zero, suc, ◌+◌, ◌-◌, ◌<◌, Bool, true, false, cond, ◌&&◌, List, [], ◌∷◌, length}
-use Rattle.std.proofs.Common.{get_or, Option, Some, None, String, Global, string_bytes, nat_cmp, refl, sym, ap, ◌∙◌, subst}
+use Rattle.std.proofs.Common.{◌≡◌, ℕ, zero, suc, ◌+◌, Bool, true, false, cond, ◌&&◌, List, [], ◌∷◌, length}
+use Rattle.std.proofs.Common.{get_or, Option, Some, None, String, Global, string_bytes, nat_cmp, refl, sym, ap, ◌∙◌}
 use Rattle.std.proofs.Common.{true≢false, arith}
 use Rattle.std.specs.Prelude.{option_map, is_some}
 use Rattle.std.specs.Str.{bytes_eq}
@@ -57,7 +57,7 @@ kept_one_more xs l u i old new at free before put k =
     ∙ ap (λ n. cond (bytes_eq l k) (Some n) (place_of k (entries_view xs))) at
     ∙ sym (place_of-more xs l u k free)
 
--- Ascending keys still ascend with a key at the end that follows the last one.
+-- If keys ascend, they still ascend with a key at the end that follows the last one.
 pub ascends-more : (xs : List Pair) (i : ℕ) (e : Pair) (l : List ℕ) (u : Tree) → length xs ≡ i + 1
     → e ≡ get_or xs i e → is_lt (slice_cmp nat_cmp (string_bytes e.0) l) ≡ true
     → ascends (entries_view xs) ≡ true → ascends (more_entries (entries_view xs) l u) ≡ true

@@ -59,8 +59,8 @@ pub(crate) fn ascend(entries: &[(String, Value)]) -> bool
     true
 }
 
-/// Returns whether a key follows the last entry's key in byte order, or there are no entries. If the
-/// keys ascend, they then still ascend with this key at the end.
+/// Returns whether a key follows the last entry's key in byte order, or there are no entries.
+/// Ascending keys then still ascend with this key at the end.
 pub(crate) fn stays_ascending(entries: &[(String, Value)], key: &str) -> bool
     ensures { IsTrue result → ascends (entries_view entries.now) ≡ true → (value : Tree)
         → ascends (more_entries (entries_view entries.now) key.now value) ≡ true }

@@ -59,7 +59,8 @@ impl KeySearch {
     /// Returns the first value of a key, or `None` if the key does not occur.
     pub(crate) fn get<'a>(&self, entries: &'a [(String, Value)], key: &str) -> Option<&'a Value>
         requires { Finds self.now (entries_view entries.now) }
-        ensures { option_map view (option_copied result) ≡ entry_of key.now (entries_view entries.now) }
+        ensures { option_map view (option_copied result)
+            ≡ entry_of key.now (entries_view entries.now) }
     {
         match self.place(entries, key) {
             Some(place) => Some(&entries[place].1),

@@ -3,8 +3,8 @@ use Rattle.std.proofs.Common.{arith}
 use Rattle.jt_value.specs.KeySearch.{Finds}
 use Rattle.jt_value.specs.Pairs.{Pairs, pairs, look, put, HasDistinctNames}
 use Rattle.jt_value.specs.View.{view, entries_view}
-use Rattle.jt_value.proofs.ContextLookup.{absent, distinct_put, finds_new, look-put, moved, put_at, put_new, still_finds}
-use Rattle.jt_value.proofs.ContextLookup.{unless_failed}
+use Rattle.jt_value.proofs.ContextLookup.{absent, distinct_put, finds_new, look-put, moved, put_at, put_new}
+use Rattle.jt_value.proofs.ContextLookup.{still_finds, unless_failed}
 use Rattle.jt_value.proofs.KeyPlaces.{placed}
 use Rattle.jt_value.proofs.Lists.{Pair}
 use Rattle.jt_value.proofs.context.Context.insert.Goals as goal
