@@ -56,23 +56,25 @@ pub put_at : (n : List ℕ) (es : List Pair) (i : ℕ) (v : Value) (d : Pair) �
     → d ≡ get_or es i d → pairs (set es i (d.0, v)) ≡ put n (view v) (pairs es)
 put_at n [] i v d at is = absurd (true≢false (ap is_some at))
 put_at n (x ∷ es) i v d at is =
-    by (bytes_eq (string_bytes x.0) n) at
+    by (bytes_eq (string_bytes x.0) n) at (λ j. put_at n es j v d)
   where
     by : (b : Bool) → Some i ≡ cond b (Some 0) (option_map suc (place_of n (entries_view es)))
+        → ((j : ℕ) → Some j ≡ place_of n (entries_view es) → d ≡ get_or es j d
+        → pairs (set es j (d.0, v)) ≡ put n (view v) (pairs es))
         → pairs (set (x ∷ es) i (d.0, v))
         ≡ cond b ((string_bytes x.0, view v) ∷ pairs es)
         ((string_bytes x.0, view x.1) ∷ put n (view v) (pairs es))
-    by true h =
+    by true h rest =
         let zeroth = at_first (place_of n (entries_view es)) i h in
         let first : d ≡ x = subst (λ j. d ≡ get_or (x ∷ es) j d) (sym zeroth) is in
         subst (λ j. pairs (set (x ∷ es) j (d.0, v)) ≡ (string_bytes x.0, view v) ∷ pairs es) zeroth
         (ap (λ (y : Pair). (string_bytes y.0, view v) ∷ pairs es) first)
-    by false h =
+    by false h rest =
         let next = at_later (place_of n (entries_view es)) i h in
         let later : d ≡ get_or es next.0 d = subst (λ j. d ≡ get_or (x ∷ es) j d) (sym next.2) is in
         subst (λ j. pairs (set (x ∷ es) j (d.0, v))
         ≡ (string_bytes x.0, view x.1) ∷ put n (view v) (pairs es)) next.2
-        (ap (λ ps. (string_bytes x.0, view x.1) ∷ ps) (put_at n es next.0 v d next.1 later))
+        (ap (λ ps. (string_bytes x.0, view x.1) ∷ ps) (rest next.0 next.1 later))
 
 -- A written value changes no key, so the search still finds each.
 same_places : (k : List ℕ) (es : List Pair) (i : ℕ) (v : Value) (d : Pair) → d ≡ get_or es i d
@@ -110,14 +112,15 @@ still_finds (search.Indexed places) es i v d is h = λ k. h k ∙ sym (same_plac
 put_last : (n : List ℕ) (t : Tree) (es : List Pair) → place_of n (entries_view es) ≡ None
     → put n t (pairs es) ≡ pairs es ++ (n, t) ∷ []
 put_last n t [] h = refl
-put_last n t (x ∷ es) h = by (bytes_eq (string_bytes x.0) n) (place_of n (entries_view es)) refl h
+put_last n t (x ∷ es) h = by (bytes_eq (string_bytes x.0) n) (place_of n (entries_view es)) (put_last n t es) refl h
   where
-    by : (b : Bool) (o : Option ℕ) → place_of n (entries_view es) ≡ o → cond b (Some 0) (option_map suc o) ≡ None
+    by : (b : Bool) (o : Option ℕ) → (place_of n (entries_view es) ≡ None → put n t (pairs es) ≡ pairs es ++ (n, t) ∷ [])
+        → place_of n (entries_view es) ≡ o → cond b (Some 0) (option_map suc o) ≡ None
         → cond b ((string_bytes x.0, t) ∷ pairs es) ((string_bytes x.0, view x.1) ∷ put n t (pairs es))
         ≡ (string_bytes x.0, view x.1) ∷ pairs es ++ (n, t) ∷ []
-    by true o e h = absurd (true≢false (ap is_some h))
-    by false None e h = ap (λ ps. (string_bytes x.0, view x.1) ∷ ps) (put_last n t es e)
-    by false (Some p) e h = absurd (true≢false (ap is_some h))
+    by true o rest e h = absurd (true≢false (ap is_some h))
+    by false None rest e h = ap (λ ps. (string_bytes x.0, view x.1) ∷ ps) (rest e)
+    by false (Some p) rest e h = absurd (true≢false (ap is_some h))
 
 pub put_new : (k : String Global) (v : Value) (es : List Pair) → place_of (string_bytes k) (entries_view es) ≡ None
     → pairs (es ++ (k, v) ∷ []) ≡ put (string_bytes k) (view v) (pairs es)
