@@ -1,7 +1,7 @@
 -- The laws of maps whose entries are visited in the order of their keys.
-use Rattle.std.proofs.Common.{Bor, ◌≡◌, ℕ, zero, suc, Bool, true, false, cond, ◌&&◌, List, [], ◌∷◌, drop, get_or}
-use Rattle.std.proofs.Common.{Option, Some, None, String, Global, string_bytes, string_cmp, refl, sym, ap, ◌∙◌, subst}
-use Rattle.std.proofs.Common.{true≢false, arith}
+use Rattle.std.proofs.Common.{Bor, ◌≡◌, ℕ, zero, suc, Bool, true, false, cond, ◌&&◌, List, [], ◌∷◌, length, drop}
+use Rattle.std.proofs.Common.{get_or, Option, Some, None, String, Global, string_bytes, string_cmp, refl, sym, ap}
+use Rattle.std.proofs.Common.{◌∙◌, subst, true≢false, arith}
 use Rattle.std.specs.Prelude.{◌<◌, not, is_some, option_map, IfSome}
 use Rattle.std.specs.Slice.{IsItemAt}
 use Rattle.std.specs.Str.{bytes_eq}
@@ -16,9 +16,9 @@ use Rattle.std.specs.String.{string_eq, string_cmp_total}
 use Rattle.std.proofs.lemmas.Map.Views.{All-found}
 use Rattle.jt_value.specs.Tree as tree
 use Rattle.jt_value.specs.Tree.{Tree, Entries, no_entries, entry, size, entries_size}
-use Rattle.jt_value.specs.Entries.{entry_of, place_of, has_key, stands_before, ascends}
+use Rattle.jt_value.specs.Entries.{entry_of, place_of, has_key, keys, stands_before, ascends}
 use Rattle.jt_value.specs.Equality.{equal, agree, AgreeAtEachKey}
-use Rattle.jt_value.specs.internal.InOrder.{IsInOrder, first_and, entries_at}
+use Rattle.jt_value.specs.internal.InOrder.{IsInOrder, HasKeyCount, first_and, entries_at}
 use Rattle.jt_value.specs.View.{view, entries_view}
 use Rattle.jt_value.proofs.AscendingKeys.{before_all, not_itself, firsts_same, own}
 use Rattle.jt_value.proofs.EntryLaws.{has_key-entry_of, entry_of-own, missing, equal-agree, agree-equal}
@@ -220,23 +220,42 @@ kept_entry xs (m ∷ ms) h k =
     by true e t is rest = sym is ∙ ap (λ n. entry_of n (entries_view xs)) (same_text (string_bytes m.0) k (sym e))
     by false e t is rest = rest
 
+keeps : (xs : List Pair) (places : BTreeMap (String Global) ℕ) → IsOrdered string_cmp places
+    → ((k : List ℕ) → get_by_text places k ≡ place_of k (entries_view xs)) → Keeps xs places.entries
+keeps xs places s h i d l =
+    sym (h (string_bytes (get_or places.entries i d).0)) ∙ All-found string_cmp_total places s i d l
+
 pub kept_in_order : (xs : List Pair) (places : BTreeMap (String Global) ℕ) → IsOrdered string_cmp places
     → ((k : List ℕ) → get_by_text places k ≡ place_of k (entries_view xs))
     → IsInOrder (entries_at xs (values places)) (entries_view xs)
 kept_in_order xs places s h = (
-  kept_ascends xs places.entries keeps s,
-  λ k. kept_entry xs places.entries keeps k
+  kept_ascends xs places.entries (keeps xs places s h) s,
+  λ k. kept_entry xs places.entries (keeps xs places s h) k
       ∙ ap (λ b. cond b (entry_of k (entries_view xs)) None)
       (ap is_some (h k) ∙ sym (has_key-place_of k (entries_view xs)) ∙ has_key-entry_of k (entries_view xs))
       ∙ whole (entry_of k (entries_view xs)),
 )
   where
-    keeps : Keeps xs places.entries
-    keeps i d l = sym (h (string_bytes (get_or places.entries i d).0)) ∙ All-found string_cmp_total places s i d l
-
     whole : (o : Option Tree) → cond (is_some o) o None ≡ o
     whole None = refl
     whole (Some t) = refl
+
+-- The number of stored indices is that of the different keys.
+count_of : (xs : List Pair) (ms : List (String Global × ℕ)) → Keeps xs ms
+    → length (keys (entries_at xs (values_of ms))) ≡ length ms
+count_of xs [] h = refl
+count_of xs (m ∷ ms) h =
+    ap (λ es. length (keys es)) ((first_kept xs m ms h).1 (entries_at xs (values_of ms)))
+    ∙ ap suc (count_of xs ms (behind xs m ms h))
+
+pub kept_count : (xs : List Pair) (places : BTreeMap (String Global) ℕ) → IsOrdered string_cmp places
+    → ((k : List ℕ) → get_by_text places k ≡ place_of k (entries_view xs))
+    → HasKeyCount (length places.entries) (entries_view xs)
+kept_count xs places s h = (
+  entries_at xs (values places),
+  kept_in_order xs places s h,
+  count_of xs places.entries (keeps xs places s h),
+)
 
 -- ---- The value that comes next is smaller than the map
 

@@ -3,7 +3,7 @@ ghost use Rattle.std.specs.Prelude.{◌≡◌, ◌+◌, ◌-◌, ◌^◌, min, f
 ghost use Rattle.std.specs.Prelude.{nat_lt, option_map, option_copied};
 ghost use Rattle.std.specs.Option.{option_map_or};
 ghost use Rattle.jt_value.specs.Entries.{entry_of, has_key, place_of};
-ghost use Rattle.jt_value.specs.internal.InOrder.{to_come, IsInOrder};
+ghost use Rattle.jt_value.specs.internal.InOrder.{to_come, IsInOrder, HasKeyCount};
 ghost use Rattle.jt_value.specs.Tree.{items_size, items_nesting, entries_size, entries_nesting};
 ghost use Rattle.jt_value.specs.Payload.{more_items, joined_items};
 ghost use Rattle.jt_value.specs.View.{view, items_view, entries_view};
@@ -202,10 +202,7 @@ impl ValueMap {
     pub fn get(&self, key: &str) -> Option<&Value>
         ensures { option_map view (option_copied result) ≡ entry_of key.now self.now }
     {
-        match self.place(key) {
-            Some(place) => Some(&self.entries()[place].1),
-            None => None,
-        }
+        self.search.get(&self.entries, key)
     }
 
     /// Returns whether the map has the key.
@@ -233,6 +230,13 @@ impl ValueMap {
         ensures in_order { IfSome result (λ order. IsInOrder (to_come order) self.now) }
     {
         InOrder::new(&self.entries, &self.search)
+    }
+
+    /// Returns the number of different keys, or `None` if the map has few entries.
+    pub(crate) fn key_count(&self) -> Option<usize>
+        ensures { IfSome result (λ count. HasKeyCount count self.now) }
+    {
+        self.search.key_count(&self.entries)
     }
 
     /// Returns the index of a key's first entry, or `None` if the key does not occur.
