@@ -14,7 +14,7 @@ use Rattle.std.proofs.lemmas.List.{map-append}
 use Rattle.std.proofs.lemmas.Map.Text.{is_eq-slice_cmp}
 use Rattle.jt_value.specs.ContextTable.{room}
 use Rattle.jt_value.specs.Tree.{Tree, entry}
-use Rattle.jt_value.specs.Entries.{entry_of, place_of, stands_before, ascends}
+use Rattle.jt_value.specs.Entries.{entry_of, index_of, stands_before, ascends}
 use Rattle.jt_value.specs.KeySearch.{Finds}
 use Rattle.jt_value.specs.View.{view, entries_view}
 use Rattle.jt_value.specs.Pairs.{Pairs, pairs, look, put, HasDistinctNames}
@@ -22,7 +22,7 @@ use Rattle.jt_value.specs.internal.MoreEntries.{more_entries, IsLinear}
 use Rattle.jt_value.specs.declared.key_search.KeySearch.{KeySearch}
 use Rattle.jt_value.specs.declared.key_search.KeySearch.TheVariants as search
 use Rattle.jt_value.specs.declared.value.Value.{Value}
-use Rattle.jt_value.proofs.KeyPlaces.{unplaced}
+use Rattle.jt_value.proofs.KeyIndices.{not_indexed}
 use Rattle.jt_value.proofs.Lists.{Pair, entries_view-push}
 
 -- A name is found at a key in a tree map exactly if the two are equal.
@@ -36,10 +36,10 @@ look-entries n (e ∷ es) =
     ap (λ o. cond (bytes_eq (string_bytes e.0) n) (Some (view e.1)) o) (look-entries n es)
 
 -- The index of a name among entries, for an equal name and equal entries.
-pub moved : (o : Option ℕ) (k n : List ℕ) (xs es : List Pair) → o ≡ place_of k (entries_view xs) → k ≡ n → xs ≡ es
-    → o ≡ place_of n (entries_view es)
+pub moved : (o : Option ℕ) (k n : List ℕ) (xs es : List Pair) → o ≡ index_of k (entries_view xs) → k ≡ n → xs ≡ es
+    → o ≡ index_of n (entries_view es)
 moved o k n xs es h name same =
-    h ∙ ap (λ m. place_of m (entries_view xs)) name ∙ ap (λ (ys : List Pair). place_of n (entries_view ys)) same
+    h ∙ ap (λ m. index_of m (entries_view xs)) name ∙ ap (λ (ys : List Pair). index_of n (entries_view ys)) same
 
 -- ---- The value of a name that exists
 
@@ -52,38 +52,38 @@ at_later None i h = absurd (true≢false (ap is_some h))
 at_later (Some p) i h = (p, refl, cc)
 
 -- A value that is written at the index of its name is put at the name.
-pub put_at : (n : List ℕ) (es : List Pair) (i : ℕ) (v : Value) (d : Pair) → Some i ≡ place_of n (entries_view es)
+pub put_at : (n : List ℕ) (es : List Pair) (i : ℕ) (v : Value) (d : Pair) → Some i ≡ index_of n (entries_view es)
     → d ≡ get_or es i d → pairs (set es i (d.0, v)) ≡ put n (view v) (pairs es)
 put_at n [] i v d at is = absurd (true≢false (ap is_some at))
 put_at n (x ∷ es) i v d at is =
     by (bytes_eq (string_bytes x.0) n) at (λ j. put_at n es j v d)
   where
-    by : (b : Bool) → Some i ≡ cond b (Some 0) (option_map suc (place_of n (entries_view es)))
-        → ((j : ℕ) → Some j ≡ place_of n (entries_view es) → d ≡ get_or es j d
+    by : (b : Bool) → Some i ≡ cond b (Some 0) (option_map suc (index_of n (entries_view es)))
+        → ((j : ℕ) → Some j ≡ index_of n (entries_view es) → d ≡ get_or es j d
         → pairs (set es j (d.0, v)) ≡ put n (view v) (pairs es))
         → pairs (set (x ∷ es) i (d.0, v))
         ≡ cond b ((string_bytes x.0, view v) ∷ pairs es)
         ((string_bytes x.0, view x.1) ∷ put n (view v) (pairs es))
     by true h rest =
-        let zeroth = at_first (place_of n (entries_view es)) i h in
+        let zeroth = at_first (index_of n (entries_view es)) i h in
         let first : d ≡ x = subst (λ j. d ≡ get_or (x ∷ es) j d) (sym zeroth) is in
         subst (λ j. pairs (set (x ∷ es) j (d.0, v)) ≡ (string_bytes x.0, view v) ∷ pairs es) zeroth
         (ap (λ (y : Pair). (string_bytes y.0, view v) ∷ pairs es) first)
     by false h rest =
-        let next = at_later (place_of n (entries_view es)) i h in
+        let next = at_later (index_of n (entries_view es)) i h in
         let later : d ≡ get_or es next.0 d = subst (λ j. d ≡ get_or (x ∷ es) j d) (sym next.2) is in
         subst (λ j. pairs (set (x ∷ es) j (d.0, v))
         ≡ (string_bytes x.0, view x.1) ∷ put n (view v) (pairs es)) next.2
         (ap (λ ps. (string_bytes x.0, view x.1) ∷ ps) (rest next.0 next.1 later))
 
 -- A written value changes no key, so the search still finds each.
-same_places : (k : List ℕ) (es : List Pair) (i : ℕ) (v : Value) (d : Pair) → d ≡ get_or es i d
-    → place_of k (entries_view (set es i (d.0, v))) ≡ place_of k (entries_view es)
-same_places k [] i v d is = refl
-same_places k (x ∷ es) zero v d is =
-    ap (λ (y : Pair). cond (bytes_eq (string_bytes y.0) k) (Some 0) (option_map suc (place_of k (entries_view es)))) is
-same_places k (x ∷ es) (suc i) v d is =
-    ap (λ o. cond (bytes_eq (string_bytes x.0) k) (Some 0) (option_map suc o)) (same_places k es i v d is)
+same_indices : (k : List ℕ) (es : List Pair) (i : ℕ) (v : Value) (d : Pair) → d ≡ get_or es i d
+    → index_of k (entries_view (set es i (d.0, v))) ≡ index_of k (entries_view es)
+same_indices k [] i v d is = refl
+same_indices k (x ∷ es) zero v d is =
+    ap (λ (y : Pair). cond (bytes_eq (string_bytes y.0) k) (Some 0) (option_map suc (index_of k (entries_view es)))) is
+same_indices k (x ∷ es) (suc i) v d is =
+    ap (λ o. cond (bytes_eq (string_bytes x.0) k) (Some 0) (option_map suc o)) (same_indices k es i v d is)
 
 same_first : (k : List ℕ) (es : List Pair) (i : ℕ) (v : Value) (d : Pair) → d ≡ get_or es i d
     → stands_before k (entries_view (set es i (d.0, v))) ≡ stands_before k (entries_view es)
@@ -104,25 +104,26 @@ pub still_finds : (s : KeySearch) (es : List Pair) (i : ℕ) (v : Value) (d : Pa
     → Finds s (entries_view es) → Finds s (entries_view (set es i (d.0, v)))
 still_finds search.Linear es i v d is h = tt
 still_finds search.Binary es i v d is h = same_ascends es i v d is ∙ h
-still_finds (search.Indexed places) es i v d is h = λ k. h k ∙ sym (same_places k es i v d is)
+still_finds (search.Indexed indices) es i v d is h = λ k. h k ∙ sym (same_indices k es i v d is)
 
 -- ---- A new name
 
 -- A new name is put after all pairs.
-put_last : (n : List ℕ) (t : Tree) (es : List Pair) → place_of n (entries_view es) ≡ None
+put_last : (n : List ℕ) (t : Tree) (es : List Pair) → index_of n (entries_view es) ≡ None
     → put n t (pairs es) ≡ pairs es ++ (n, t) ∷ []
 put_last n t [] h = refl
-put_last n t (x ∷ es) h = by (bytes_eq (string_bytes x.0) n) (place_of n (entries_view es)) (put_last n t es) refl h
+put_last n t (x ∷ es) h = by (bytes_eq (string_bytes x.0) n) (index_of n (entries_view es)) (put_last n t es) refl h
   where
-    by : (b : Bool) (o : Option ℕ) → (place_of n (entries_view es) ≡ None → put n t (pairs es) ≡ pairs es ++ (n, t) ∷ [])
-        → place_of n (entries_view es) ≡ o → cond b (Some 0) (option_map suc o) ≡ None
+    by : (b : Bool) (o : Option ℕ) → (index_of n (entries_view es) ≡ None → put n t (pairs es) ≡ pairs es ++ (n, t) ∷
+        [])
+        → index_of n (entries_view es) ≡ o → cond b (Some 0) (option_map suc o) ≡ None
         → cond b ((string_bytes x.0, t) ∷ pairs es) ((string_bytes x.0, view x.1) ∷ put n t (pairs es))
         ≡ (string_bytes x.0, view x.1) ∷ pairs es ++ (n, t) ∷ []
     by true o rest e h = absurd (true≢false (ap is_some h))
     by false None rest e h = ap (λ ps. (string_bytes x.0, view x.1) ∷ ps) (rest e)
     by false (Some p) rest e h = absurd (true≢false (ap is_some h))
 
-pub put_new : (k : String Global) (v : Value) (es : List Pair) → place_of (string_bytes k) (entries_view es) ≡ None
+pub put_new : (k : String Global) (v : Value) (es : List Pair) → index_of (string_bytes k) (entries_view es) ≡ None
     → pairs (es ++ (k, v) ∷ []) ≡ put (string_bytes k) (view v) (pairs es)
 put_new k v es h =
     map-append (λ (e : Pair). (string_bytes e.0, view e.1)) es ((k, v) ∷ [])
@@ -138,8 +139,8 @@ finds_new s k v es xs n same name h =
     (h (view v))
 
 -- A name without an index has no value.
-pub absent : (n : List ℕ) (es : List Pair) → None ≡ place_of n (entries_view es) → look n (pairs es) ≡ None
-absent n es h = sym (look-entries n es) ∙ unplaced n (entries_view es) h
+pub absent : (n : List ℕ) (es : List Pair) → None ≡ index_of n (entries_view es) → look n (pairs es) ≡ None
+absent n es h = sym (look-entries n es) ∙ not_indexed n (entries_view es) h
 
 -- If a call did not fail, the promise of its success holds.
 pub unless_failed : {T E : Type 0} (r : Result T E) (P : Type 0) → false ≡ is_err r → OnOk r P → P
@@ -218,13 +219,13 @@ distinct-pairs (e ∷ es) h = (apart e.0 es h.0, distinct-pairs es h.1)
 pub has_room : (s : KeySearch) (n p : ℕ) → 0 < room s n p → IsLinear s × (n < p) × (n < 8)
 has_room search.Linear n p h = (tt, omega arith, omega arith)
 has_room search.Binary n p h = absurd (omega arith)
-has_room (search.Indexed places) n p h = absurd (omega arith)
+has_room (search.Indexed indices) n p h = absurd (omega arith)
 
 none : (m : ℕ) → (0 < m → ⊥) → m ≤ 0 + 1
 none zero h = omega arith
 none (suc m) h = absurd (h (omega arith))
 
--- One more name takes at most one place.
+-- One more name takes at most one index.
 pub room_left : (s r : KeySearch) (n p q : ℕ) → (0 < room s n p → IsLinear r) → p ≤ q
     → room s n p ≤ room r (n + 1) q + 1
 room_left s search.Linear n p q few le = linear s few
@@ -233,6 +234,6 @@ room_left s search.Linear n p q few le = linear s few
         → room s n p ≤ room search.Linear (n + 1) q + 1
     linear search.Linear few = omega (arith, le)
     linear search.Binary few = omega arith
-    linear (search.Indexed places) few = omega arith
+    linear (search.Indexed indices) few = omega arith
 room_left s search.Binary n p q few le = none (room s n p) (λ h. few h)
-room_left s (search.Indexed places) n p q few le = none (room s n p) (λ h. few h)
+room_left s (search.Indexed indices) n p q few le = none (room s n p) (λ h. few h)

@@ -8,12 +8,12 @@ use Rattle.jt_value.specs.declared.context.Context.TheInside.{Inside}
 use Rattle.jt_value.specs.declared.key_search.KeySearch.{KeySearch}
 use Rattle.jt_value.specs.declared.key_search.KeySearch.TheVariants as search
 
--- The number of new names that fit without a growth: the free places of the table while it has at
+-- The number of new names that fit without a growth: the free indices of the table while it has at
 -- most 8 names and so no index; else nothing is promised.
 abbrev pub room : KeySearch → ℕ → ℕ → ℕ
-room search.Linear names places = min places 8 - names
-room search.Binary names places = 0
-room (search.Indexed index) names places = 0
+room search.Linear names indices = min indices 8 - names
+room search.Binary names indices = 0
+room (search.Indexed index) names indices = 0
 
 abbrev pub context_view : Inside → Pairs × ℕ
 context_view inside =

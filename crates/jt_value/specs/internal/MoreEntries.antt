@@ -12,4 +12,4 @@ more_entries (entry l t es) k u = entry l t (more_entries es k u)
 abbrev pub IsLinear : KeySearch → Type 0
 IsLinear search.Linear = Unit {0}
 IsLinear search.Binary = ⊥
-IsLinear (search.Indexed places) = ⊥
+IsLinear (search.Indexed indices) = ⊥

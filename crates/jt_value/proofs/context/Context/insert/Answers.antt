@@ -5,7 +5,7 @@ use Rattle.jt_value.specs.Pairs.{Pairs, pairs, look, put, HasDistinctNames}
 use Rattle.jt_value.specs.View.{view, entries_view}
 use Rattle.jt_value.proofs.ContextLookup.{absent, distinct_put, finds_new, look-put, moved, put_at, put_new}
 use Rattle.jt_value.proofs.ContextLookup.{still_finds, unless_failed}
-use Rattle.jt_value.proofs.KeyPlaces.{placed}
+use Rattle.jt_value.proofs.KeyIndices.{indexed}
 use Rattle.jt_value.proofs.Lists.{Pair}
 use Rattle.jt_value.proofs.context.Context.insert.Goals as goal
 
@@ -13,20 +13,20 @@ pub index_mut-requires : goal.index_mut-requires
 index_mut-requires c =
     let es = c.self.inside.entries.items in
     let name = string_bytes c.args.name in
-    let here = moved (Some c.in-Some.place) c.deref-2.result.now name c.deref.result.now es c.in-Some.ensures
+    let here = moved (Some c.in-Some.index) c.deref-2.result.now name c.deref.result.now es c.in-Some.ensures
     c.deref-2.ensures c.deref.ensures.value in
-    let lt : c.in-Some.place < length es = (placed es name c.in-Some.place here).0 in
+    let lt : c.in-Some.index < length es = (indexed es name c.in-Some.index here).0 in
     omega (arith, lt, c.self.inside.entries.ok.0)
 
 pub invariant_of-self : goal.invariant_of-self
 invariant_of-self c =
     let es = c.self.inside.entries.items in
     let name = string_bytes c.args.name in
-    let here = moved (Some c.in-Some.place) c.deref-2.result.now name c.deref.result.now es c.in-Some.ensures
+    let here = moved (Some c.in-Some.index) c.deref-2.result.now name c.deref.result.now es c.in-Some.ensures
     c.deref-2.ensures c.deref.ensures.value in
-    let changed = put_at name es c.in-Some.place c.args.value c.index_mut.result.now here c.index_mut.ensures.value in (
+    let changed = put_at name es c.in-Some.index c.args.value c.index_mut.result.now here c.index_mut.ensures.value in (
       subst HasDistinctNames (sym changed) (distinct_put name (view c.args.value) (pairs es) c.self.invariant.0),
-      still_finds c.self.inside.search es c.in-Some.place c.args.value c.index_mut.result.now c.index_mut.ensures.value
+      still_finds c.self.inside.search es c.in-Some.index c.args.value c.index_mut.result.now c.index_mut.ensures.value
           c.self.invariant.1,
     )
 
@@ -34,18 +34,18 @@ pub returns-in-Some-clause-ok : goal.returns-in-Some-clause-ok
 returns-in-Some-clause-ok c =
     let es = c.self.inside.entries.items in
     let name = string_bytes c.args.name in
-    let here = moved (Some c.in-Some.place) c.deref-2.result.now name c.deref.result.now es c.in-Some.ensures
+    let here = moved (Some c.in-Some.index) c.deref-2.result.now name c.deref.result.now es c.in-Some.ensures
     c.deref-2.ensures c.deref.ensures.value in
-    let changed = put_at name es c.in-Some.place c.args.value c.index_mut.result.now here c.index_mut.ensures.value in
+    let changed = put_at name es c.in-Some.index c.args.value c.index_mut.result.now here c.index_mut.ensures.value in
     changed ∙ ap (λ (t : Pairs × ℕ). put name (view c.args.value) t.0) c.self.view_is
 
 pub returns-in-Some-clause-found : goal.returns-in-Some-clause-found
 returns-in-Some-clause-found c = λ other.
     let es = c.self.inside.entries.items in
     let name = string_bytes c.args.name in
-    let here = moved (Some c.in-Some.place) c.deref-2.result.now name c.deref.result.now es c.in-Some.ensures
+    let here = moved (Some c.in-Some.index) c.deref-2.result.now name c.deref.result.now es c.in-Some.ensures
     c.deref-2.ensures c.deref.ensures.value in
-    let changed = put_at name es c.in-Some.place c.args.value c.index_mut.result.now here c.index_mut.ensures.value in
+    let changed = put_at name es c.in-Some.index c.args.value c.index_mut.result.now here c.index_mut.ensures.value in
     ap (look other) (changed ∙ ap (λ (t : Pairs × ℕ). put name (view c.args.value) t.0) c.self.view_is)
     ∙ look-put name (view c.args.value) c.args.self.now.0 other
 
@@ -53,9 +53,9 @@ pub returns-in-Some-clause-distinct : goal.returns-in-Some-clause-distinct
 returns-in-Some-clause-distinct c =
     let es = c.self.inside.entries.items in
     let name = string_bytes c.args.name in
-    let here = moved (Some c.in-Some.place) c.deref-2.result.now name c.deref.result.now es c.in-Some.ensures
+    let here = moved (Some c.in-Some.index) c.deref-2.result.now name c.deref.result.now es c.in-Some.ensures
     c.deref-2.ensures c.deref.ensures.value in
-    let changed = put_at name es c.in-Some.place c.args.value c.index_mut.result.now here c.index_mut.ensures.value in
+    let changed = put_at name es c.in-Some.index c.args.value c.index_mut.result.now here c.index_mut.ensures.value in
     subst HasDistinctNames (sym changed) (distinct_put name (view c.args.value) (pairs es) c.self.invariant.0)
 
 pub returns-then-is_err-clause-absent : goal.returns-then-is_err-clause-absent

@@ -14,5 +14,5 @@ returns-in-Binary c =
 pub returns-in-Indexed : goal.returns-in-Indexed
 returns-in-Indexed c =
     let es = entries_view c.args.entries.now in
-    subst (λ n. HasKeyCount n es) (sym c.len.ensures.len) (kept_count c.args.entries.now c.in-Indexed.places
+    subst (λ n. HasKeyCount n es) (sym c.len.ensures.len) (kept_count c.args.entries.now c.in-Indexed.indices
     c.len.ensures.ordered (subst (λ s. Finds s es) c.in-Indexed.is c.requires))

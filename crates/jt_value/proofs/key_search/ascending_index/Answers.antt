@@ -1,7 +1,7 @@
 use Rattle.std.proofs.Common.{rules, of_calls, ◌∙◌}
 use Rattle.std.proofs.lemmas.Fn.{always_returns_same}
 use Rattle.jt_value.proofs.BinarySearch.{against, halved}
-use Rattle.jt_value.proofs.key_search.ascending_place.Goals as goal
+use Rattle.jt_value.proofs.key_search.ascending_index.Goals as goal
 
 pub returns : goal.returns
 returns c =

@@ -12,20 +12,20 @@ use Rattle.std.proofs.Math.Seq.{drop-length}
 use Rattle.std.proofs.lemmas.List.{drop_more}
 use Rattle.std.proofs.lemmas.Bool.Decides.{nat_tests}
 use Rattle.jt_value.specs.Tree.{Entries, no_entries, entry, size, entries_size}
-use Rattle.jt_value.specs.Entries.{place_of, entry_of, has_key}
+use Rattle.jt_value.specs.Entries.{index_of, entry_of, has_key}
 use Rattle.jt_value.specs.View.{view, entries_view}
 use Rattle.jt_value.proofs.Lists.{Pair}
 use Rattle.jt_value.proofs.EntryLaws.{missing, has_key-entry_of}
 
 -- A key occurs exactly if it has an index.
-pub has_key-place_of : (k : List ℕ) (es : Entries) → has_key k es ≡ is_some (place_of k es)
-has_key-place_of k no_entries = refl
-has_key-place_of k (entry l t es) = by (bytes_eq l k) (has_key-place_of k es)
+pub has_key-index_of : (k : List ℕ) (es : Entries) → has_key k es ≡ is_some (index_of k es)
+has_key-index_of k no_entries = refl
+has_key-index_of k (entry l t es) = by (bytes_eq l k) (has_key-index_of k es)
   where
-    by : (b : Bool) → has_key k es ≡ is_some (place_of k es)
-        → cond b true (has_key k es) ≡ is_some (cond b (Some 0) (option_map suc (place_of k es)))
+    by : (b : Bool) → has_key k es ≡ is_some (index_of k es)
+        → cond b true (has_key k es) ≡ is_some (cond b (Some 0) (option_map suc (index_of k es)))
     by true rest = refl
-    by false rest = rest ∙ mapped (place_of k es)
+    by false rest = rest ∙ mapped (index_of k es)
       where
         mapped : (o : Option ℕ) → is_some o ≡ is_some (option_map suc o)
         mapped None = refl
@@ -36,9 +36,9 @@ abbrev At : List Pair → List ℕ → Option ℕ → Type 0
 At xs k None = entry_of k (entries_view xs) ≡ None
 At xs k (Some i) = (i < length xs) × ((d : Pair) → entry_of k (entries_view xs) ≡ Some (view (get_or xs i d).1))
 
-pub at_place : (xs : List Pair) (k : List ℕ) → At xs k (place_of k (entries_view xs))
-at_place [] k = refl
-at_place (x ∷ xs) k = by (bytes_eq (string_bytes x.0) k) refl (place_of k (entries_view xs)) (at_place xs k)
+pub at_index : (xs : List Pair) (k : List ℕ) → At xs k (index_of k (entries_view xs))
+at_index [] k = refl
+at_index (x ∷ xs) k = by (bytes_eq (string_bytes x.0) k) refl (index_of k (entries_view xs)) (at_index xs k)
   where
     by : (b : Bool) → bytes_eq (string_bytes x.0) k ≡ b → (o : Option ℕ) → At xs k o
         → At (x ∷ xs) k (cond b (Some 0) (option_map suc o))
@@ -47,24 +47,24 @@ at_place (x ∷ xs) k = by (bytes_eq (string_bytes x.0) k) refl (place_of k (ent
     by false e (Some i) rest =
         (omega (arith, rest.0), λ d. ap (λ b. cond b (Some (view x.1)) (entry_of k (entries_view xs))) e ∙ rest.1 d)
 
-pub placed : (xs : List Pair) (k : List ℕ) (i : ℕ) → Some i ≡ place_of k (entries_view xs) → At xs k (Some i)
-placed xs k i e = subst (At xs k) (sym e) (at_place xs k)
+pub indexed : (xs : List Pair) (k : List ℕ) (i : ℕ) → Some i ≡ index_of k (entries_view xs) → At xs k (Some i)
+indexed xs k i e = subst (At xs k) (sym e) (at_index xs k)
 
-pub unplaced : (k : List ℕ) (es : Entries) → None ≡ place_of k es → entry_of k es ≡ None
-unplaced k es e = missing (entry_of k es) (sym (has_key-entry_of k es) ∙ has_key-place_of k es ∙ ap is_some (sym e))
+pub not_indexed : (k : List ℕ) (es : Entries) → None ≡ index_of k es → entry_of k es ≡ None
+not_indexed k es e = missing (entry_of k es) (sym (has_key-entry_of k es) ∙ has_key-index_of k es ∙ ap is_some (sym e))
 
 -- A key occurs in the first entries exactly if its index is less than their number.
 pub stands_among : (xs : List Pair) (k : List ℕ) (i : ℕ)
-    → has_key k (entries_view (take i xs)) ≡ option_map_or (λ p. nat_lt p i) (place_of k (entries_view xs)) false
+    → has_key k (entries_view (take i xs)) ≡ option_map_or (λ p. nat_lt p i) (index_of k (entries_view xs)) false
 stands_among [] k zero = refl
 stands_among [] k (suc i) = refl
-stands_among (x ∷ xs) k zero = none (place_of k (entries_view (x ∷ xs)))
+stands_among (x ∷ xs) k zero = none (index_of k (entries_view (x ∷ xs)))
   where
     none : (o : Option ℕ) → false ≡ option_map_or (λ p. nat_lt p 0) o false
     none None = refl
     none (Some p) = grind (arith, nat_tests)
 stands_among (x ∷ xs) k (suc i) =
-    by (bytes_eq (string_bytes x.0) k) (place_of k (entries_view xs)) (stands_among xs k i)
+    by (bytes_eq (string_bytes x.0) k) (index_of k (entries_view xs)) (stands_among xs k i)
   where
     by : (b : Bool) (o : Option ℕ) → has_key k (entries_view (take i xs)) ≡ option_map_or (λ p. nat_lt p i) o false
         → cond b true (has_key k (entries_view (take i xs)))
@@ -75,13 +75,13 @@ stands_among (x ∷ xs) k (suc i) =
 
 -- `stands_among` in the form that the proof of `has_before` uses.
 pub seen : (k m : List ℕ) (xs : List Pair) (es : Entries) → entries_view xs ≡ es → (i j : ℕ) (b : Bool)
-    → b ≡ option_map_or (λ p. nat_lt p j) (place_of k es) false → k ≡ m → j ≡ i
+    → b ≡ option_map_or (λ p. nat_lt p j) (index_of k es) false → k ≡ m → j ≡ i
     → has_key m (entries_view (take i xs)) ≡ b
 seen k m xs es same i j b h p q =
     stands_among xs m i
-    ∙ ap (λ fs. option_map_or (λ o. nat_lt o i) (place_of m fs) false) same
-    ∙ ap (λ n. option_map_or (λ o. nat_lt o i) (place_of n es) false) (sym p)
-    ∙ ap (λ n. option_map_or (λ o. nat_lt o n) (place_of k es) false) (sym q)
+    ∙ ap (λ fs. option_map_or (λ o. nat_lt o i) (index_of m fs) false) same
+    ∙ ap (λ n. option_map_or (λ o. nat_lt o i) (index_of n es) false) (sym p)
+    ∙ ap (λ n. option_map_or (λ o. nat_lt o n) (index_of k es) false) (sym q)
     ∙ sym h
 
 -- The value of an entry is smaller than the map of the entries.
@@ -96,14 +96,14 @@ size_lt (x ∷ xs) (suc i) e lt is = omega (arith, size_lt xs i e (omega arith) 
 
 -- Holds if the stored index maps each key to its first entry among the entries from i on.
 abbrev pub IsKept : List Pair → ℕ → BTreeMap (String Global) ℕ → Type 0
-IsKept xs i places =
-    (k : List ℕ) → get_by_text places k ≡ option_map (λ p. i + p) (place_of k (entries_view (drop i xs)))
+IsKept xs i indices =
+    (k : List ℕ) → get_by_text indices k ≡ option_map (λ p. i + p) (index_of k (entries_view (drop i xs)))
 
-pub kept_none : (xs : List Pair) (i : ℕ) (places : BTreeMap (String Global) ℕ) → i ≡ length xs → places.entries ≡ []
-    → IsKept xs i places
-kept_none xs i places e none k =
+pub kept_none : (xs : List Pair) (i : ℕ) (indices : BTreeMap (String Global) ℕ) → i ≡ length xs → indices.entries ≡ []
+    → IsKept xs i indices
+kept_none xs i indices e none k =
     ap (λ (es : List (String Global × ℕ)). lookup (is_at (λ n. slice_cmp nat_cmp k (string_bytes n))) es) none
-    ∙ sym (ap (λ (l : List Pair). option_map (λ p. i + p) (place_of k (entries_view l)))
+    ∙ sym (ap (λ (l : List Pair). option_map (λ p. i + p) (index_of k (entries_view l)))
     (ap (λ n. drop n xs) e ∙ drop-length xs))
 
 pub kept_more : (xs : List Pair) (i j : ℕ) (e : Pair) (n : List ℕ) (old new : BTreeMap (String Global) ℕ) → j ≡ i + 1
@@ -112,8 +112,8 @@ pub kept_more : (xs : List Pair) (i j : ℕ) (e : Pair) (n : List ℕ) (old new 
 kept_more xs i j e n old new is lt at name before put k =
     put k
     ∙ ap (λ (m : List ℕ). cond (bytes_eq m k) (Some i) (get_by_text old k)) name
-    ∙ by (bytes_eq (string_bytes e.0) k) (place_of k (entries_view (drop j xs))) (before k)
-    ∙ sym (ap (λ (l : List Pair). option_map (λ p. i + p) (place_of k (entries_view l)))
+    ∙ by (bytes_eq (string_bytes e.0) k) (index_of k (entries_view (drop j xs))) (before k)
+    ∙ sym (ap (λ (l : List Pair). option_map (λ p. i + p) (index_of k (entries_view l)))
     (drop_more xs i e lt ∙ ap (λ (y : Pair). y ∷ drop (i + 1) xs) (sym at) ∙ ap (λ m. e ∷ drop m xs) (sym is)))
   where
     by : (b : Bool) (o : Option ℕ) → get_by_text old k ≡ option_map (λ p. j + p) o
@@ -122,11 +122,11 @@ kept_more xs i j e n old new is lt at name before put k =
     by false None h = h
     by false (Some p) h = h ∙ ap Some (omega (arith, is))
 
-pub kept_all : (xs : List Pair) (i : ℕ) (places : BTreeMap (String Global) ℕ) → i ≡ 0 → IsKept xs i places
-    → (k : List ℕ) → get_by_text places k ≡ place_of k (entries_view xs)
-kept_all xs i places e h k =
-    h k ∙ ap (λ n. option_map (λ p. n + p) (place_of k (entries_view (drop n xs)))) e
-    ∙ same (place_of k (entries_view xs))
+pub kept_all : (xs : List Pair) (i : ℕ) (indices : BTreeMap (String Global) ℕ) → i ≡ 0 → IsKept xs i indices
+    → (k : List ℕ) → get_by_text indices k ≡ index_of k (entries_view xs)
+kept_all xs i indices e h k =
+    h k ∙ ap (λ n. option_map (λ p. n + p) (index_of k (entries_view (drop n xs)))) e
+    ∙ same (index_of k (entries_view xs))
   where
     same : (o : Option ℕ) → option_map (λ p. 0 + p) o ≡ o
     same None = refl

@@ -1,14 +1,14 @@
 use Rattle.std.proofs.Common.{◌-◌, Some, string_bytes, sym, ap, ◌∙◌, arith}
 use Rattle.std.proofs.lemmas.Map.Text.{btree_map_updates_text}
-use Rattle.jt_value.proofs.KeyPlaces.{kept_more}
+use Rattle.jt_value.proofs.KeyIndices.{kept_more}
 use Rattle.jt_value.proofs.Lists.{Pair}
-use Rattle.jt_value.proofs.key_search.first_places.Goals as goal
+use Rattle.jt_value.proofs.key_search.first_indices.Goals as goal
 
 pub loop-left-preserved : goal.loop-left-preserved
 loop-left-preserved c =
     let i = c.loop-left.left - 1 in
     let name = string_bytes c.in_ok-clone.field-0 in
-    let old = c.loop-left.places in
+    let old = c.loop-left.indices in
     let new = c.insert.new.self in
     record {
       left = omega (arith, c.loop-left.invariant.left);
