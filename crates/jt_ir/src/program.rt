@@ -69,6 +69,22 @@ pub enum SlotExpr {
     },
 }
 
+/// A filter of a tag: the filter, whether escaping is on, and the arguments after its value.
+#[derive(Drop)]
+pub struct SlotFilter {
+    pub filter: FilterId,
+    pub escaping: bool,
+    pub row: Vec<(Option<usize>, SlotExpr)>,
+}
+
+/// A value and the filters of a tag, which are applied to it in order. There may be any number of
+/// them, so they are a list: no walk over them needs more stack for more filters.
+#[derive(Drop)]
+pub struct Filtered {
+    pub value: SlotExpr,
+    pub filters: Vec<SlotFilter>,
+}
+
 /// The target of an assignment.
 #[derive(Debug, Drop)]
 pub enum Targets {
@@ -97,6 +113,12 @@ pub enum SlotStmt {
         place: Place,
         escaping: bool,
         value: SlotExpr,
+    },
+    /// A statement that prints a value after the filters of a tag, escaped if escaping is on.
+    PrintFiltered {
+        place: Place,
+        escaping: bool,
+        filtered: Filtered,
     },
     /// A statement that assigns a value to targets.
     Assign {
