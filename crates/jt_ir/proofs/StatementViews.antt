@@ -74,15 +74,10 @@ module _ (templates : List Text) where
       → stmt_view templates (s.PutPooled i) behind ≡ slots.stmt (slots.put_pooled i) behind
   view_PutPooled i behind = search (rules, the_lemmas)
 
-  pub view_Print : (p : Place) (escaping : Bool) (e : SlotExpr) (behind : SBody ℕ)
-      → stmt_view templates (s.Print p escaping e) behind
-      ≡ slots.stmt (slots.print (place_view templates p) escaping (expr_view e)) behind
-  view_Print p escaping e behind = search (rules, the_lemmas)
-
-  pub view_PrintFiltered : (p : Place) (escaping : Bool) (v : Filtered) (behind : SBody ℕ)
-      → stmt_view templates (s.PrintFiltered p escaping v) behind
+  pub view_Print : (p : Place) (escaping : Bool) (v : Filtered) (behind : SBody ℕ)
+      → stmt_view templates (s.Print p escaping v) behind
       ≡ slots.stmt (slots.print (place_view templates p) escaping (filtered_view v)) behind
-  view_PrintFiltered p escaping v behind = search (rules, the_lemmas)
+  view_Print p escaping v behind = search (rules, the_lemmas)
 
   pub view_Assign : (p : Place) (xs : Targets) (e : SlotExpr) (behind : SBody ℕ)
       → stmt_view templates (s.Assign p xs e) behind

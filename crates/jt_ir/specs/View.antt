@@ -106,9 +106,7 @@ module _ (templates : List Text) where
   -- The view of a statement, from the views of its parts.
   abbrev pub stmt_step : SlotStmt-F Front → Front
   stmt_step (SlotStmt-F.PutPooled i) behind = slots.stmt (slots.put_pooled i) behind
-  stmt_step (SlotStmt-F.Print p escaping e) behind =
-      slots.stmt (slots.print (place_view p) escaping (expr_view e)) behind
-  stmt_step (SlotStmt-F.PrintFiltered p escaping v) behind =
+  stmt_step (SlotStmt-F.Print p escaping v) behind =
       slots.stmt (slots.print (place_view p) escaping (filtered_view v)) behind
   stmt_step (SlotStmt-F.Assign p xs e) behind =
       slots.stmt (slots.assign (place_view p) (targets_view xs) (expr_view e)) behind

@@ -77,8 +77,8 @@ pub struct SlotFilter {
     pub row: Vec<(Option<usize>, SlotExpr)>,
 }
 
-/// A value and the filters of a tag, which are applied to it in order. There may be any number of
-/// them, so they are a list: no walk over them needs more stack for more filters.
+/// A printed expression: a value and the filters of its tag, which are applied in order. A tag may
+/// have any number of filters, so they are a list, and no walk needs more stack for more of them.
 #[derive(Drop)]
 pub struct Filtered {
     pub value: SlotExpr,
@@ -112,13 +112,7 @@ pub enum SlotStmt {
     Print {
         place: Place,
         escaping: bool,
-        value: SlotExpr,
-    },
-    /// A statement that prints a value after the filters of a tag, escaped if escaping is on.
-    PrintFiltered {
-        place: Place,
-        escaping: bool,
-        filtered: Filtered,
+        value: Filtered,
     },
     /// A statement that assigns a value to targets.
     Assign {
