@@ -1,4 +1,4 @@
-use Rattle.std.proofs.Common.{◌&&◌, ◌-◌, sym, ap, ◌∙◌, arith, rules}
+use Rattle.std.proofs.Common.{◌&&◌, ◌-◌, sym, ap, ◌∙◌}
 use Rattle.jt_ir.specs.View.{expr_view}
 use Rattle.jt_lower.proofs.HeightsDecided.{some_left}
 use Rattle.jt_lower.proofs.FilterCode.{filters_low, rows_low}
