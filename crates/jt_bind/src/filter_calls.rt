@@ -41,8 +41,8 @@ impl<'t, 's, 'a> Resolver<'t, 's, 'a> {
         Ok(resolved)
     }
 
-    /// Appends a filter. For an unknown filter, cuts the pool back to `start`, and the value becomes
-    /// absent and loses its filters.
+    /// Appends a filter. For an unknown filter, cuts the pool back to `start`, and the value
+    /// becomes absent and loses its filters.
     fn resolve_filter_call(
         &self,
         filter_call: &FilterCall,

@@ -148,8 +148,8 @@ fn emit_printed(
     filtered: &Filtered,
     above: usize,
 ) -> Result<(), AllocError>
-    ensures { PutsAt above code.old (λ templates h. stmt_asm
-        (slots.print (place_view templates tag) escaping (filtered_view filtered.now)) h) result code.new }
+    ensures { PutsAt above code.old (λ templates h. stmt_asm (slots.print
+        (place_view templates tag) escaping (filtered_view filtered.now)) h) result code.new }
 {
     let printed = flag(escaping);
     emit_filtered(code, Some(tag), filtered, above)?;

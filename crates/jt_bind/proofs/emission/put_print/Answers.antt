@@ -1,4 +1,4 @@
-use Rattle.std.proofs.Common.{sym, ap, subst, List}
+use Rattle.std.proofs.Common.{sym, subst, List}
 use Rattle.std.proofs.lemmas.Result.{IfOk-weaker}
 use Rattle.jt_ir.specs.View.{expr_view, filters_after}
 use Rattle.jt_ir.specs.declared.program.SlotFilter.{SlotFilter}

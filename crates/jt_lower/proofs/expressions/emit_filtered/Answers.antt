@@ -50,6 +50,7 @@ pub returns : goal.returns
 returns c = λ ts h s.
     let l = c.loop-filter in
     let v = c.args.filtered.now in
-    subst (λ (fs : List SlotFilter). Puts ts c.args.code.now (expr_asm (tag_view ts c.args.tag) (filters_after fs (expr_view v.value)) h) l.code)
+    subst (λ (fs : List SlotFilter). Puts ts c.args.code.now
+    (expr_asm (tag_view ts c.args.tag) (filters_after fs (expr_view v.value)) h) l.code)
     (take_all l.filter-index v.filters.items (omega (arith, ap length c.deref-filter-items.ensures.value)))
     (l.invariant ts h c.args.code.now s (c.in_ok-emit_expression.ensures ts h s))

@@ -304,7 +304,8 @@ resolve_filter-returns-in-None t c =
     λ o. IsPlaced (filtered_in s o a ts ps c.args.self.now.senv) (coded c.absent.result) p p in
     subst P (sym named) (c.absent.ensures p)
 
-pub resolve_filter-returns-in_ok-resolve_filter_row-in-Some : goal.resolve_filter-returns-in_ok-resolve_filter_row-in-Some
+pub resolve_filter-returns-in_ok-resolve_filter_row-in-Some :
+    goal.resolve_filter-returns-in_ok-resolve_filter_row-in-Some
 resolve_filter-returns-in_ok-resolve_filter_row-in-Some t c =
     let s = c.args.self.now.tables.now in
     let senv = c.args.self.now.senv in
