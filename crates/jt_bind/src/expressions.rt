@@ -14,8 +14,8 @@ ghost use Rattle.jt_bind.specs.internal.Resolving.{IsResolved, RowAdds, RowPuts,
 ghost use Rattle.jt_bind.specs.internal.Resolving.{by_name, expr_of};
 ghost use Rattle.jt_bind.specs.internal.Resolving.{row_of, asides_of, given_of, called_of};
 ghost use Rattle.jt_bind.specs.internal.Resolving.{entries_of};
-ghost use Rattle.jt_bind.specs.internal.Resolving.{filtered_of};
-ghost use Rattle.jt_bind.specs.internal.Scoped.{values, IsShown, IsAdded, turn_in};
+ghost use Rattle.jt_bind.specs.internal.Resolving.{filter_row_of};
+ghost use Rattle.jt_bind.specs.internal.Scoped.{IsAdded, turn_in};
 
 use crate::callee::{Callee, Signature};
 use crate::lookup::{absent, no_value, reading, told};
@@ -293,37 +293,36 @@ impl<'t, 's, 'a> Resolver<'t, 's, 'a> {
             None => Ok(absent()),
             Some(filter) => {
                 let first = self.resolve_expression(value, pool)?;
-                self.resolve_filtered(filter, first, arguments, pool)
+                let mut given = row_of(self.alloc, first)?;
+                self.resolve_filter_row(filter, arguments, &mut given, pool)?;
+                Ok(SlotExpr::Made(
+                    NaryOp::Filter {
+                        filter,
+                        escaping: self.senv.escaping,
+                    },
+                    given,
+                ))
             }
         }
     }
 
-    /// Resolves a filter of a resolved value.
+    /// Resolves the arguments of a filter after its value and appends them.
     #[cycle(expressions)]
     #[inline(never)]
-    pub(crate) fn resolve_filtered(
+    pub(crate) fn resolve_filter_row(
         &self,
         filter: FilterId,
-        value: SlotExpr,
         arguments: Arguments<'_>,
+        done: &mut Vec<(Option<usize>, SlotExpr)>,
         pool: &mut Vec<Value>,
-    ) -> Result<SlotExpr, NoMemory>
-        ensures { IfOk result (λ e. (c : slots.SlotExpr Constant) (p : List Tree)
-            → IsShown c value p (values pool.old)
-            → IsShown (filtered_of self.now (Some (filter_id filter)) c
-            (by_position arguments.entry) (by_name arguments.entry)) e p (values pool.new)) }
+    ) -> Result<(), NoMemory>
+        ensures { IfOk result (λ u. RowAdds (filter_row_of self.now (Some (filter_id filter))
+            (by_position arguments.entry) (by_name arguments.entry)) slots.none done.old done.new
+            pool.old pool.new) }
     {
-        let mut given = row_of(self.alloc, value)?;
-        self.resolve_given(arguments, &mut given, pool)?;
+        self.resolve_given(arguments, done, pool)?;
         let parameters = filter_parameters(self.alloc, filter)?;
-        self.fill_some(&parameters, arguments, &mut given, pool)?;
-        Ok(SlotExpr::Made(
-            NaryOp::Filter {
-                filter,
-                escaping: self.senv.escaping,
-            },
-            given,
-        ))
+        self.fill_some(&parameters, arguments, done, pool)
     }
 
     /// Resolves a call.

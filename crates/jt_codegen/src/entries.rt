@@ -11,7 +11,7 @@ ghost use Rattle.jt_ir.specs.View.{targets_view, expr_view, stmt_view, body_view
 ghost use Rattle.jt_ir.specs.View.{routine_view};
 
 use jt_ir::{Routine, SlotBranch, SlotExpr, SlotStmt, Targets};
-use jt_lower::{fits_expression, fits_row};
+use jt_lower::{fits_expression, fits_filtered, fits_row};
 
 /// Returns whether code that stores into the targets needs at most `room` stack entries.
 fn fits_targets(targets: &Targets, room: usize) -> bool
@@ -42,7 +42,10 @@ fn fits_statement(statement: &SlotStmt, room: usize) -> bool
 {
     match statement {
         SlotStmt::PutPooled(_) => true,
-        SlotStmt::Print { value: expr, .. } => fits_expression(expr, room),
+        SlotStmt::Print {
+            value: filtered,
+            ..
+        } => fits_filtered(filtered, room),
         SlotStmt::Assign {
             targets,
             value: expr,

@@ -14,7 +14,7 @@ mod instructions;
 mod laws;
 
 pub use emitter::Emitter;
-pub use expressions::{emit_expression, emit_row};
-pub use heights::{fits_expression, fits_row};
+pub use expressions::{emit_expression, emit_filtered, emit_row};
+pub use heights::{fits_expression, fits_filtered, fits_row};
 pub use instructions::{call_of, data_of, flag, store_of, unpack_of};
 pub use laws::low_laws;

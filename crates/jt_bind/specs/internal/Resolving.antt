@@ -29,7 +29,7 @@ use Rattle.jt_bind.specs.declared.emission.Turns.{Turns}
 use Rattle.jt_bind.specs.declared.resolver.Arguments.{Arguments}
 use Rattle.jt_bind.specs.declared.resolver.Resolver.{Resolver}
 use Rattle.jt_bind.specs.internal.Scoped.{values, IsAdded, PutsNone, RowLeads, cenv_in, order_in, senv_in, templates_in}
-use Rattle.jt_bind.specs.internal.Scoped.{expr_in, row_in, asides_in, entries_in, filtered_in}
+use Rattle.jt_bind.specs.internal.Scoped.{expr_in, row_in, asides_in, entries_in, filter_row_in, filtered_in}
 use Rattle.jt_bind.specs.internal.Stated.{IsBody, IsBranch, AreTurns, Puts, BodyLed, line_in, stmt_in, body_in}
 use Rattle.jt_bind.specs.internal.Stated.{scoped_in, layer_at, values_in, condition_in}
 
@@ -125,6 +125,9 @@ module _ (r : Resolver) where
   abbrev pub filtered_of : Option ℕ → slots.SlotExpr Constant → expressions.Exprs
       → expressions.Pairs → slots.SlotExpr Constant
   filtered_of f c ts ps = filtered_in r.tables.now f c ts ps r.senv
+
+  abbrev pub filter_row_of : Option ℕ → expressions.Exprs → expressions.Pairs → SRow Constant
+  filter_row_of f ts ps = filter_row_in r.tables.now f ts ps r.senv
 
   -- One filter of a filter tag, and all of them.
   abbrev pub filter_call_of : trees.FilterCall → slots.SlotExpr Constant → slots.SlotExpr Constant

@@ -215,13 +215,17 @@ module _ (s : Chains) where
   abbrev pub entries_in : trees.Pairs → StaticEnv → SRow Constant
   entries_in ps p = resolve.resolved_entries cenv_in order_in ps (senv_in p)
 
+  -- The arguments of a filter, by its number, after its value.
+  abbrev pub filter_row_in : Option ℕ → trees.Exprs → trees.Pairs → StaticEnv → SRow Constant
+  filter_row_in f ts ps p =
+      row_in ts p (asides_in ps p (filled_some (filter_parameters cenv_in.filters f) (count ts)
+      (keywords ps) (locals_from (senv_in p).free (keywords ps))))
+
   -- The resolved call of a filter on a resolved value.
   abbrev pub filtered_in : Option ℕ → slots.SlotExpr Constant → trees.Exprs → trees.Pairs → StaticEnv
       → slots.SlotExpr Constant
   filtered_in f c ts ps p =
-      resolve.filtered_by f (senv_in p).escaping (slots.item c (row_in ts p (asides_in ps p
-      (filled_some (filter_parameters cenv_in.filters f) (count ts) (keywords ps)
-      (locals_from (senv_in p).free (keywords ps))))))
+      resolve.filtered_by f (senv_in p).escaping (slots.item c (filter_row_in f ts ps p))
 
 -- The environment inside an entered scope, whose names are in locals.
 abbrev pub Enters : StaticEnv → List Text → EnteredScope → Type 0

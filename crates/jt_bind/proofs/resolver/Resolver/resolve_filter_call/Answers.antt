@@ -10,9 +10,12 @@ use Rattle.jt_ast.specs.Expressions.{Text}
 use Rattle.jt_ast.specs.StatementView.{filter_call_view}
 use Rattle.jt_ir.specs.Pool.{expr_values}
 use Rattle.jt_eval.specs.TheFilters as the
-use Rattle.jt_ir.specs.View.{expr_view}
+use Rattle.jt_ir.specs.View.{expr_view, filters_after}
+use Rattle.jt_ir.specs.declared.program.SlotFilter.{SlotFilter}
+use Rattle.jt_ir.proofs.ExpressionViews.{filters_push}
 use Rattle.jt_bind.specs.internal.Scoped.{values, IsPlaced, cenv_in, filtered_in}
 use Rattle.jt_bind.proofs.FilterIds.{named_is}
+use Rattle.jt_bind.proofs.FilterTags.{filter_placed}
 use Rattle.jt_bind.proofs.resolver.Resolver.resolve_filter_call.Goals as goal
 
 -- Filter calls with equal names and equal arguments are equal.
@@ -31,13 +34,15 @@ returns-in_default c = λ k p n h.
     let named : (cenv_in s).filters.named f.name f.arguments f.keywords ≡ None = named_is f.name f.arguments f.keywords
     ∙ ap (option_map filter_id) (sym written ∙ sym c.filter_of.ensures ∙ c.in_default.is) in
     let P : Option ℕ → Type 0 = λ o. IsPlaced (filtered_in s o k f.arguments f.keywords c.args.self.now.senv)
-    (expr_view c.absent.result) p (values c.truncate.new.self) in
-    let Q : List Tree → Type 0 =
-    λ r. IsPlaced (filtered_in s None k f.arguments f.keywords c.args.self.now.senv) (expr_view c.absent.result) p r in
+    (filters_after c.clear.new.self.items (expr_view c.absent.result)) p (values c.truncate.new.self) in
+    let Q : List Tree → Type 0 = λ r. IsPlaced (filtered_in s None k f.arguments f.keywords c.args.self.now.senv)
+    (filters_after c.clear.new.self.items (expr_view c.absent.result)) p r in
+    let R : List SlotFilter → Type 0 = λ fs. IsPlaced (filtered_in s None k f.arguments f.keywords c.args.self.now.senv)
+    (filters_after fs (expr_view c.absent.result)) p p in
     let cut : p ≡ values c.truncate.new.self =
     sym (take_at p (expr_values k) c.args.start n) ∙ ap (take c.args.start) (sym h.pooled)
     ∙ take-map view c.args.start c.args.pool.now.items ∙ ap (map view) (sym c.truncate.ensures.items) in
-    subst P (sym named) (subst Q cut (c.absent.ensures p))
+    subst P (sym named) (subst Q cut (subst R (sym c.clear.ensures.items) (c.absent.ensures p)))
 
 pub returns : goal.returns
-returns c = search (arith, rules, written_as, named_is)
+returns c = search (arith, rules, written_as, named_is, filter_placed, filters_push)
