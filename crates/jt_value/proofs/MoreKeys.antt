@@ -1,16 +1,16 @@
 -- One more entry, whose key is new: the indices of keys, and ascending keys.
-use Rattle.std.proofs.Common.{◌≡◌, ℕ, zero, suc, ◌+◌, Bool, true, false, cond, ◌&&◌, List, [], ◌∷◌, length}
+use Rattle.std.proofs.Common.{◌≡◌, ℕ, zero, suc, ◌+◌, Bool, true, false, cond, List, [], ◌∷◌, length}
 use Rattle.std.proofs.Common.{get_or, Option, Some, None, String, Global, string_bytes, nat_cmp, refl, sym, ap, ◌∙◌}
 use Rattle.std.proofs.Common.{true≢false, arith}
 use Rattle.std.specs.Prelude.{option_map, is_some}
 use Rattle.std.specs.Str.{bytes_eq}
 use Rattle.std.specs.Ordering.{is_lt}
 use Rattle.std.specs.Map.{update}
-use Rattle.std.specs.Cmp.Lexicographic.{slice_cmp, same_text, nat_list_eq_equiv}
+use Rattle.std.specs.Cmp.Lexicographic.{slice_cmp, same_text}
 use Rattle.std.specs.BTreeMap.{BTreeMap, get_by_text}
-use Rattle.jt_value.specs.Tree.{Tree, Entries, no_entries, entry}
-use Rattle.jt_value.specs.Entries.{place_of, stands_before, ascends}
-use Rattle.jt_value.specs.View.{view, entries_view}
+use Rattle.jt_value.specs.Tree.{Tree}
+use Rattle.jt_value.specs.Entries.{place_of, ascends}
+use Rattle.jt_value.specs.View.{entries_view}
 use Rattle.jt_value.specs.internal.MoreEntries.{more_entries}
 use Rattle.jt_value.proofs.Equalities.{left_true, right_true, both_true}
 use Rattle.jt_value.proofs.Lists.{Pair}

@@ -1,4 +1,4 @@
-use Rattle.std.proofs.Common.{◌≡◌, Some, length, string_bytes, refl, ap, ◌∙◌}
+use Rattle.std.proofs.Common.{Some, length, string_bytes, refl, ap, ◌∙◌}
 use Rattle.std.specs.Prelude.{List, ℕ}
 use Rattle.std.specs.Str.{bytes_eq}
 use Rattle.std.specs.Map.{update}
