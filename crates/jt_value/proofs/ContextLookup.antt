@@ -114,8 +114,8 @@ put_last : (n : List ℕ) (t : Tree) (es : List Pair) → index_of n (entries_vi
 put_last n t [] h = refl
 put_last n t (x ∷ es) h = by (bytes_eq (string_bytes x.0) n) (index_of n (entries_view es)) (put_last n t es) refl h
   where
-    by : (b : Bool) (o : Option ℕ) → (index_of n (entries_view es) ≡ None → put n t (pairs es) ≡ pairs es ++ (n, t) ∷
-        [])
+    by : (b : Bool) (o : Option ℕ)
+        → (index_of n (entries_view es) ≡ None → put n t (pairs es) ≡ pairs es ++ (n, t) ∷ [])
         → index_of n (entries_view es) ≡ o → cond b (Some 0) (option_map suc o) ≡ None
         → cond b ((string_bytes x.0, t) ∷ pairs es) ((string_bytes x.0, view x.1) ∷ put n t (pairs es))
         ≡ (string_bytes x.0, view x.1) ∷ pairs es ++ (n, t) ∷ []
