@@ -3,12 +3,13 @@ use Rattle.std.proofs.Common.{◌≡◌, ℕ, zero, suc, ℤ, ◌+◌, ◌<◌, 
 use Rattle.std.proofs.Common.{get_or, Some, None, refl, sym, ap, ◌∙◌, subst, true≢false, arith, rules}
 use Rattle.std.proofs.lemmas.Cmp.{int_eq_equiv, nat_list_cmp_total}
 use Rattle.std.proofs.lemmas.List.{at_drop_more}
-use Rattle.std.specs.BTreeMap.{BTreeMap}
+use Rattle.std.specs.BTreeMap.{BTreeMap, insert_entry, is_at}
+use Rattle.std.specs.Map.{lookup}
 use Rattle.std.specs.Cmp.{tied_itself, signed_Decides}
 use Rattle.std.specs.Cmp.Lexicographic.{slice_cmp}
 use Rattle.std.specs.Option.{IsSome, is_some}
 use Rattle.std.specs.Ordering.{int_eq, is_eq, nat_cmp}
-use Rattle.std.specs.Prelude.{Option, Vec, Ok}
+use Rattle.std.specs.Prelude.{Option, Vec, Result, Ok, Err, OnOk}
 use Rattle.std.specs.declared.alloc.Global.{Global}
 use Rattle.jt_ids.specs.declared.test_id.TestId.TheVariants as test
 use Rattle.jt_op_semantics.specs.Membership.{has_item, is_in}
@@ -23,6 +24,7 @@ use Rattle.jt_filters.specs.internal.Codes.{code}
 use Rattle.jt_filters.specs.internal.PlacesOf.{at_number, at_code, place_by, place, Covers}
 use Rattle.jt_filters.specs.internal.Seen.{number_like}
 use Rattle.jt_filters.proofs.SameCodes.{same_code}
+use Rattle.jt_filters.proofs.SortedInsertion.{cmp, lookup-inserted}
 
 either : (a b : Bool) {P : Type 0} → (a || b) ≡ true → (a ≡ true → P) → (b ≡ true → P) → P
 either true b e f g = f refl
@@ -110,6 +112,11 @@ some_or : (b : Bool) (n : ℕ) (o : Option ℕ) → IsSome o → IsSome (cond b 
 some_or true n o there = refl
 some_or false n o there = there
 
+-- The place of a value that equals a number is that of the number.
+pub number_found : (p : Places) (t : Tree) (z x : ℤ) → x ≡ z → Some z ≡ number_like t → at_number p.numbers x ≡ place p t
+number_found p t z x same is =
+    ap (λ (y : ℤ). at_number p.numbers y) same ∙ ap (λ (o : Option ℤ). place_by p o (code t)) is
+
 -- A number that was stored has a place.
 pub number_there : (p q : Places) (t : Tree) (z : ℤ) (n : ℕ) → Some z ≡ number_like t
     → ((y : ℤ) → at_number q.numbers y ≡ cond (int_eq z y) (Some n) (at_number p.numbers y)) → IsSome (place q t)
@@ -126,6 +133,14 @@ number_kept p q z n u same put = by (number_like u)
     by (Some y) there = ap is_some (put y) ∙ some_or (int_eq z y) n (at_number p.numbers y) there
     by None there = ap (λ (m : BTreeMap (Vec ℕ Global) ℕ). is_some (at_code m (code u))) same ∙ there
 
+-- The place at each code, after a code is stored.
+pub code_put : (m n : BTreeMap (Vec ℕ Global) ℕ) (k : Vec ℕ Global) (v : ℕ) (c : List ℕ)
+    → n.entries ≡ insert_entry (λ x y. cmp x.items y.items) m.entries k v
+    → at_code n c ≡ cond (is_eq (cmp c k.items)) (Some v) (at_code m c)
+code_put m n k v c put =
+    ap (λ (es : List (Vec ℕ Global × ℕ)). lookup (is_at (λ x. cmp c x.items)) es) put
+    ∙ lookup-inserted (λ (x : Vec ℕ Global). x.items) k v c m.entries
+
 -- A code that was stored has a place.
 pub code_there : (p q : Places) (t : Tree) (k : List ℕ) (n : ℕ) → None ≡ number_like t → k ≡ code t
     → ((c : List ℕ) → at_code q.codes c ≡ cond (is_eq (slice_cmp nat_cmp c k)) (Some n) (at_code p.codes c))
@@ -136,6 +151,13 @@ code_there p q t k n none is put =
     ∙ ap (λ (c : List ℕ). is_some (cond (is_eq (slice_cmp nat_cmp c k)) (Some n) (at_code p.codes (code t)))) (sym is)
     ∙ ap (λ (b : Bool). is_some (cond b (Some n) (at_code p.codes (code t))))
     (ap is_eq (tied_itself nat_list_cmp_total k)))
+
+pub code_stored : {A E : Type 0} (r : Result A E) (p q : Places) (t : Tree) (k : List ℕ) (n : ℕ) → None ≡ number_like t
+    → k ≡ code t
+    → OnOk r ((c : List ℕ) → at_code q.codes c ≡ cond (is_eq (slice_cmp nat_cmp c k)) (Some n) (at_code p.codes c))
+    → OnOk r (IsSome (place q t))
+code_stored (Ok a) p q t k n none is put = code_there p q t k n none is put
+code_stored (Err e) p q t k n none is put = tt
 
 pub code_kept : (p q : Places) (k : List ℕ) (n : ℕ) (u : Tree) → q.numbers ≡ p.numbers
     → ((c : List ℕ) → at_code q.codes c ≡ cond (is_eq (slice_cmp nat_cmp c k)) (Some n) (at_code p.codes c))
