@@ -42,11 +42,7 @@ pub(crate) fn row_list_under<'a>(
 
 /// Returns the members of the list in which the action looks up each item. Returns `None` if it
 /// looks up none, if a comparison with each member is faster, or if memory is refused.
-fn members_of<'a>(
-    alloc: Global,
-    items: ItemList<'a>,
-    change: ItemAction<'a>,
-) -> Option<Members<'a>>
+fn members_of<'a>(alloc: Global, items: ItemList<'a>, change: ItemAction<'a>) -> Option<Members<'a>>
     ensures { IfSome result (λ m. IsSought (items_view m.items.now) change.entry) }
 {
     let list = change.sought()?;

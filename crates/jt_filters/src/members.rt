@@ -79,16 +79,16 @@ fn put_place(alloc: Global, places: &mut Places, item: &Value, at: usize) -> Res
 {
     match number_like(Operand::Value(item)) {
         Some(number) => put_number(&mut places.numbers, number, at),
-        None => put_code(&mut places.codes, exact_code_of(alloc, Operand::Value(item))?, at),
+        None => put_code(
+            &mut places.codes,
+            exact_code_of(alloc, Operand::Value(item))?,
+            at,
+        ),
     }
 }
 
 /// Stores the place of a number.
-fn put_number(
-    numbers: &mut BTreeMap<i64, usize>,
-    number: i64,
-    at: usize,
-) -> Result<(), NoMemory>
+fn put_number(numbers: &mut BTreeMap<i64, usize>, number: i64, at: usize) -> Result<(), NoMemory>
     ensures { OnOk result ((z : ℤ)
         → at_number numbers.new z
         ≡ (if int_eq number z then Some at else at_number numbers.old z)) }
@@ -98,11 +98,7 @@ fn put_number(
 }
 
 /// Stores the place of a code.
-fn put_code(
-    codes: &mut BTreeMap<Vec<u8>, usize>,
-    code: Vec<u8>,
-    at: usize,
-) -> Result<(), NoMemory>
+fn put_code(codes: &mut BTreeMap<Vec<u8>, usize>, code: Vec<u8>, at: usize) -> Result<(), NoMemory>
     ensures { OnOk result ((c : List ℕ)
         → at_code codes.new c
         ≡ (if is_eq (slice_cmp nat_cmp c code.items) then Some at else at_code codes.old c)) }
@@ -112,11 +108,7 @@ fn put_code(
 }
 
 /// Returns the place of an item that may equal an operand, if there is one.
-fn place_of(
-    alloc: Global,
-    places: &Places,
-    operand: Operand<'_>,
-) -> Result<Option<usize>, NoMemory>
+fn place_of(alloc: Global, places: &Places, operand: Operand<'_>) -> Result<Option<usize>, NoMemory>
     ensures { IfOk result (λ o. o ≡ place places.now (tree_of operand.entry)) }
 {
     match number_like(operand) {
@@ -142,5 +134,7 @@ fn has_at(operand: Operand<'_>, items: &[Value], place: usize) -> bool
 fn has_equal(operand: Operand<'_>, items: &[Value]) -> bool
     ensures { result ≡ has_item (tree_of operand.entry) (items_view items.now) }
 {
-    items.iter().any(|item| are_equal(operand, Operand::Value(item)))
+    items
+        .iter()
+        .any(|item| are_equal(operand, Operand::Value(item)))
 }
