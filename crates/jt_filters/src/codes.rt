@@ -27,6 +27,15 @@ pub(crate) fn code_of(alloc: Global, item: Operand<'_>) -> Result<Vec<u8>, NoMem
     Ok(bytes)
 }
 
+/// Returns the code of an item in which letter case counts. Items that are equal have the same one.
+pub(crate) fn exact_code_of(alloc: Global, item: Operand<'_>) -> Result<Vec<u8>, NoMemory>
+    ensures { IfOk result (λ v. v.items ≡ code (tree_of item.entry)) }
+{
+    let mut bytes = Vec::new(alloc);
+    push_operand(alloc, &mut bytes, item)?;
+    Ok(bytes)
+}
+
 /// Appends the code of a text's fold.
 #[tactic(auto, using(crate::proofs::FoldedCodes::folded_codes))]
 fn push_folded(bytes: &mut Vec<u8>, text: &str) -> Result<(), NoMemory>

@@ -19,6 +19,7 @@ mod kinds;
 mod listing;
 mod mapping;
 mod measuring;
+mod members;
 mod operand;
 mod replacing;
 mod scalars;

@@ -263,7 +263,7 @@ fn was_seen<'a>(
 }
 
 /// Returns the number that an item equals, if any: its own, or 0 or 1 for a truth value.
-fn number_like(item: Operand<'_>) -> Option<i64>
+pub(crate) fn number_like(item: Operand<'_>) -> Option<i64>
     ensures { result ≡ seen.number_like (tree_of item.entry) }
 {
     match item {
@@ -354,7 +354,7 @@ fn are_alike(left: Operand<'_>, right: Operand<'_>) -> bool
 }
 
 /// Returns whether two items are equal.
-fn are_equal(left: Operand<'_>, right: Operand<'_>) -> bool
+pub(crate) fn are_equal(left: Operand<'_>, right: Operand<'_>) -> bool
     ensures { result ≡ equal (tree_of left.entry) (tree_of right.entry) }
 {
     match left {
